@@ -11,7 +11,7 @@ use Rattle.drv_syntax.specs.Tree.{Asked, HasResult, HasSwitch, Items, Pattern, S
 use Rattle.std.proofs.Common.{◌≡◌, ◌≤◌, ◌++◌, ◌⊎◌, Bool, false, true, List, [], ◌∷◌, length, ℕ}
 use Rattle.std.specs.Prelude.{◌==◌, None, Option, Some}
 
--- What is left of a text that ends inside the directive that a place is in.
+-- What is left of a text that ends inside the directive that a place is in. It serves the law `unrefused_is_front`.
 
 -- after a backslash in such bytes
 abbrev pub Escaped : (ℕ → Bool) → List ℕ → Type 0
@@ -53,11 +53,13 @@ module _ (size : ℕ) where
   abbrev pub choice_cut : ListContext → Tests → List ℕ → Type 0
   choice_cut c tests end =
       (mid : List ℕ) × (end ≡ 58 ∷ mid)
-      × (AreFrontItems size (in_x c tests) mid ⊎ ((items : Items) × (next : List ℕ) × AreItems size (in_x c tests) mid items (59 ∷ next) × CutsLater size c next))
+      × (AreFrontItems size (in_x c tests) mid ⊎ ((items : Items) × (next : List ℕ) × AreItems size (in_x c tests) mid items (59 ∷ next)
+      × CutsLater size c next))
 
   -- where a test is due, after these tests
   abbrev pub tests_cut : ListContext → Tests → List ℕ → Type 0
-  tests_cut c tests text = ((others : Tests) × (end : List ℕ) × AreTests size c text others end × choice_cut c (join_tests tests others) end) ⊎ CutsTests size c text
+  tests_cut c tests text = ((others : Tests) × (end : List ℕ) × AreTests size c text others end
+      × choice_cut c (join_tests tests others) end) ⊎ CutsTests size c text
 
   -- after the last of these tests
   abbrev pub after_tests : ListContext → Tests → List ℕ → Type 0
@@ -79,16 +81,19 @@ module _ (size : ℕ) where
       CutsAsked size (in_braces h.here.context) text
       ⊎ (((asked : Asked) × (mid : List ℕ) × (m : ℕ) × IsAsked size (in_braces h.here.context) text asked mid × At size m mid
       × Of (λ tests. after_tests (in_braces h.here.context) tests mid) (tested h begun m negated asked))
-      ⊎ ((p : Pattern) × (mid : List ℕ) × (m : ℕ) × IsPattern text p mid × At size m mid × Of (λ _. after_patterns mid) (emitted h begun m negated p)))
+      ⊎ ((p : Pattern) × (mid : List ℕ) × (m : ℕ) × IsPattern text p mid × At size m mid
+      × Of (λ _. after_patterns mid) (emitted h begun m negated p)))
 
   abbrev pub word_cut : Head → ℕ → Bool → List ℕ → List ℕ → Type 0
   word_cut h begun negated word text =
       RunsOut is_word text
-      ⊎ ((p : Pattern) × (mid : List ℕ) × (m : ℕ) × IsPatternRest word text p mid × At size m mid × some_after h (emitted h begun m negated p) (tested h begun m negated (HasSwitch p)) mid)
+      ⊎ ((p : Pattern) × (mid : List ℕ) × (m : ℕ) × IsPatternRest word text p mid × At size m mid
+      × some_after h (emitted h begun m negated p) (tested h begun m negated (HasSwitch p)) mid)
 
   abbrev pub starred_cut : Head → ℕ → Bool → ℕ → List ℕ → List ℕ → Type 0
   starred_cut h begun negated mark word mid =
-      (rest : List ℕ) × (m : ℕ) × (mid ≡ 42 ∷ rest) × At size m rest × Of (λ _. after_patterns rest) (emitted h begun m negated (pattern (mark ∷ word) true))
+      (rest : List ℕ) × (m : ℕ) × (mid ≡ 42 ∷ rest) × At size m rest × Of (λ _. after_patterns rest)
+      (emitted h begun m negated (pattern (mark ∷ word) true))
 
   abbrev pub marked_after : Head → ℕ → Bool → ℕ → List ℕ → List ℕ → Type 0
   marked_after h begun negated mark word mid =
@@ -97,25 +102,29 @@ module _ (size : ℕ) where
       ⊎ starred_cut h begun negated mark word mid
 
   abbrev pub marked_cut : Head → ℕ → Bool → ℕ → List ℕ → List ℕ → Type 0
-  marked_cut h begun negated mark word text = RunsOut is_word text ⊎ ((run : List ℕ) × (mid : List ℕ) × IsQuoted is_word text run mid × marked_after h begun negated mark (word ++ run) mid)
+  marked_cut h begun negated mark word text = RunsOut is_word text ⊎ ((run : List ℕ) × (mid : List ℕ) × IsQuoted is_word text run mid
+      × marked_after h begun negated mark (word ++ run) mid)
 
   abbrev pub mark_cut : Head → ℕ → Bool → ℕ → List ℕ → Type 0
   mark_cut h begun negated mark text =
       RunsOut is_word text
       ⊎ (((b : ℕ) × (run : List ℕ) × (mid : List ℕ) × IsQuoted is_word text (b ∷ run) mid × marked_after h begun negated mark (b ∷ run) mid)
-      ⊎ (((m : ℕ) × At size m text × IsQuoted is_word text [] text × Stops (λ b. b == 42) text × Of (λ _. after_patterns text) (emitted h begun m negated (pattern (mark ∷ []) false)))
+      ⊎ (((m : ℕ) × At size m text × IsQuoted is_word text [] text × Stops (λ b. b == 42) text
+      × Of (λ _. after_patterns text) (emitted h begun m negated (pattern (mark ∷ []) false)))
       ⊎ starred_cut h begun negated mark [] text))
 
   abbrev pub call_cut : ListContext → List ℕ → List ℕ → (List ℕ → Items → List ℕ → Type 0) → Type 0
   call_cut c name text following =
       (is_function_front (name ++ text) ≡ true)
       ⊎ ((others : List ℕ) × (mid : List ℕ) × (text ≡ others ++ 40 ∷ mid) × (is_function (name ++ others) ≡ true)
-      × (AreFrontItems size (in_arguments c) mid ⊎ ((arguments : Items) × (rest : List ℕ) × AreItems size (in_arguments c) mid arguments (41 ∷ rest) × following (name ++ others) arguments rest)))
+      × (AreFrontItems size (in_arguments c) mid ⊎ ((arguments : Items) × (rest : List ℕ)
+      × AreItems size (in_arguments c) mid arguments (41 ∷ rest) × following (name ++ others) arguments rest)))
 
   abbrev pub test_call_cut : Head → ℕ → Bool → List ℕ → List ℕ → Type 0
   test_call_cut h begun negated name text =
       call_cut (in_braces h.here.context) name text
-      (λ n arguments rest. (m : ℕ) × At size m rest × Of (λ tests. after_tests (in_braces h.here.context) tests rest) (tested h begun m negated (HasResult n arguments)))
+      (λ n arguments rest. (m : ℕ) × At size m rest × Of (λ tests. after_tests (in_braces h.here.context) tests rest)
+      (tested h begun m negated (HasResult n arguments)))
 
   abbrev pub next_cut : List ℕ → (ℕ → List ℕ → Type 0) → Type 0
   next_cut text P = (text ≡ []) ⊎ ((b : ℕ) × (rest : List ℕ) × (text ≡ b ∷ rest) × P b rest)
@@ -143,19 +152,24 @@ module _ (size : ℕ) where
   Cut (o.TestNegated h begun) text = h.patterns ≡ [] → (mid : List ℕ) × AreSpaces text mid × asked_cut h begun true mid
   Cut (o.PatternDue h) text = Bare h × Filled h.patterns → CutsPatterns text
   Cut (o.TestWord h begun negated word) text = Fine h negated → word_cut h begun negated word text
-  Cut (o.TestWordEscape h begun negated word) text = Fine h negated → next_cut text (λ b rest. word_cut h begun negated (word ++ b ∷ []) rest)
+  Cut (o.TestWordEscape h begun negated word) text = Fine h negated → next_cut text
+      (λ b rest. word_cut h begun negated (word ++ b ∷ []) rest)
   Cut (o.TestMark h begun negated mark) text = Fine h negated → mark_cut h begun negated mark text
   Cut (o.MarkedWord h begun negated mark word) text = Fine h negated → marked_cut h begun negated mark word text
-  Cut (o.MarkedEscape h begun negated mark word) text = Fine h negated → next_cut text (λ b rest. marked_cut h begun negated mark (word ++ b ∷ []) rest)
-  Cut (o.TestPercent h begun negated at) text = h.patterns ≡ [] → (text ≡ []) ⊎ ((rest : List ℕ) × (text ≡ 58 ∷ rest) × test_call_cut h begun negated [] rest)
-  Cut (o.TestFunction h begun negated at name) text = h.patterns ≡ [] → is_function_front name ≡ true → test_call_cut h begun negated name text
+  Cut (o.MarkedEscape h begun negated mark word) text = Fine h negated
+      → next_cut text (λ b rest. marked_cut h begun negated mark (word ++ b ∷ []) rest)
+  Cut (o.TestPercent h begun negated at) text = h.patterns ≡ [] → (text ≡ [])
+      ⊎ ((rest : List ℕ) × (text ≡ 58 ∷ rest) × test_call_cut h begun negated [] rest)
+  Cut (o.TestFunction h begun negated at name) text = h.patterns ≡ [] → is_function_front name ≡ true
+      → test_call_cut h begun negated name text
   Cut (o.AfterTest h ps ts bare) text = Possible h ps ts → some_after h ps ts text
 
 -- around a list for whose end a directive waits: the text ends in the list, or the directive goes on after it
 abbrev pub Beyond : ℕ → Outside → Waiting → Outside
 Beyond size K w c all end =
     AreFrontItems size c end
-    ⊎ ((b : ℕ) × (rest : List ℕ) × (q : Place) × (k : ℕ) × (end ≡ b ∷ rest) × (is_end c.kind b ≡ true) × At size k end × (resume w all k b ≡ On q) × (Wanted size K q rest ⊎ Cut size q rest))
+    ⊎ ((b : ℕ) × (rest : List ℕ) × (q : Place) × (k : ℕ) × (end ≡ b ∷ rest) × (is_end c.kind b ≡ true) × At size k end
+    × (resume w all k b ≡ On q) × (Wanted size K q rest ⊎ Cut size q rest))
 
 -- around the lists for whose ends these directives wait, innermost first
 abbrev pub FrontAround : ℕ → List Waiting → Outside
@@ -166,7 +180,8 @@ FrontAround size (w ∷ ws) c all rest = Beyond size (FrontAround size ws) w c a
 abbrev pub InsideCut : ℕ → Waiting → ListContext → List ℕ → Type 0
 InsideCut size w c text =
     AreFrontItems size c text
-    ⊎ ((items : Items) × (b : ℕ) × (rest : List ℕ) × (q : Place) × (k : ℕ) × AreItems size c text items (b ∷ rest) × (is_end c.kind b ≡ true) × At size k (b ∷ rest) × (resume w items k b ≡ On q)
+    ⊎ ((items : Items) × (b : ℕ) × (rest : List ℕ) × (q : Place) × (k : ℕ) × AreItems size c text items (b ∷ rest)
+    × (is_end c.kind b ≡ true) × At size k (b ∷ rest) × (resume w items k b ≡ On q)
     × Cut size q rest)
 
 -- what is left after a byte that does this, where the text ends in the directive that the byte is in

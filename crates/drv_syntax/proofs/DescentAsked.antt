@@ -1,6 +1,6 @@
 use Rattle.drv_words.specs.Bytes as ascii
 use Rattle.drv_syntax.specs.Descent as d
-use Rattle.drv_syntax.specs.Descent.{Ends, Lists, Operand, Read, Stops, Took, Tried, past, pattern_at, quoted, switch_operand, then_read}
+use Rattle.drv_syntax.specs.Descent.{Lists, Operand, Stops, Took, Tried, past, pattern_at, quoted, switch_operand, then_read}
 use Rattle.drv_syntax.specs.Refusals.{AtBar, AtFront, AtNext, Order, may_emit}
 use Rattle.drv_syntax.proofs.DescentLeads.{alike, ends, out, out_moved, out_same, out_then, prefix_stops, spaces_go, stays, step}
 use Rattle.drv_syntax.proofs.DescentLeads.{stop, stops_there}
@@ -20,7 +20,7 @@ use Rattle.std.proofs.Common.{◌≡◌, ◌∙◌, ◌+◌, ◌-◌, Bool, fals
 use Rattle.std.specs.List.{prefix_len}
 use Rattle.std.specs.Prelude.{◌==◌, Option}
 
--- A test up to the byte after it, as the places of braces read it.
+-- A test up to the byte after it, as the places of braces read it. It serves the law `descent_is_read`.
 
 -- where what a test asks is due at the place n, for bytes that meet a test of their own
 pub record Asks (h : Head) (start : ℕ) (negated : Bool) (first : Place) (n : ℕ) (Ok : ℕ → Type 0) : Type 0 where

@@ -1,6 +1,6 @@
 use Rattle.drv_words.specs.Bytes as ascii
 use Rattle.drv_syntax.specs.Descent as d
-use Rattle.drv_syntax.specs.Descent.{Alternative, Ends, Form, Lists, Patterns, Read, Stops, Took, descent, levels, past, then_read, within}
+use Rattle.drv_syntax.specs.Descent.{Alternative, Form, Lists, Patterns, Read, Stops, Took, levels, past, then_read, within}
 use Rattle.drv_syntax.specs.Refusals.{AtBar, AtFront, AtNext, Order}
 use Rattle.drv_syntax.proofs.DescentLeads.{moved, out, out_moved, out_past, out_same, out_then, spaces_go}
 use Rattle.drv_syntax.proofs.DescentParts.{item_out}
@@ -13,9 +13,9 @@ use Rattle.drv_syntax.specs.Bytes.{is_white}
 use Rattle.drv_syntax.specs.Contexts.{in_braces, in_x}
 use Rattle.drv_syntax.specs.Directives.{braced}
 use Rattle.drv_syntax.specs.Outcome as o
-use Rattle.drv_syntax.specs.Outcome.{Bad, Cut, Goes, Got, Head, Here, Out, Place, Refused, Resumed, Turn, WaitsX, Waiting, after}
-use Rattle.drv_syntax.specs.Outcome.{chosen_item, closed, end_of, finish, fresh, join, join_choices, list_in, placed, read, resume}
-use Rattle.drv_syntax.specs.Outcome.{resume_x, resumed, run, turn, turn_item, with_tests}
+use Rattle.drv_syntax.specs.Outcome.{Head, Here, Out, Place, WaitsX, Waiting, after}
+use Rattle.drv_syntax.specs.Outcome.{chosen_item, fresh, join_choices, list_in, placed, read}
+use Rattle.drv_syntax.specs.Outcome.{resume_x, resumed, run, with_tests}
 use Rattle.drv_syntax.specs.Tree.{Brace, Choices, Choose, Emit, Items, Span}
 use Rattle.drv_syntax.specs.Tree.{Tests, alternative, choice, no_choice, no_test, test}
 use Rattle.drv_syntax.specs.declared.directives.BraceKind.{BraceKind}
@@ -25,7 +25,7 @@ use Rattle.std.proofs.Common.{drop-drop, refl, subst, suc, sym, zero, ℕ}
 use Rattle.std.specs.List.{prefix_len}
 use Rattle.std.specs.Prelude.{◌==◌}
 
--- Braces, as their places read them.
+-- Braces, as their places read them. It serves the law `descent_is_read`.
 
 -- alternatives
 

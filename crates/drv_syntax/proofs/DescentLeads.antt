@@ -10,7 +10,7 @@ use Rattle.std.proofs.Common.{drop, drop-drop, refl, subst, suc, sym, take, ℕ}
 use Rattle.std.specs.List.{prefix_len}
 use Rattle.std.specs.Prelude.{◌==◌}
 
--- What the parts of a text give, read byte by byte. Nothing here knows the table of places.
+-- What the parts of a text give, read byte by byte. Nothing here knows the table of places. It serves the law `descent_is_read`.
 
 -- the place of what is origin where a text ends, among directives that wait
 abbrev pub cut_at : List Waiting → ℕ → ℕ

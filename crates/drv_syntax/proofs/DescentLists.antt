@@ -1,7 +1,7 @@
 use Rattle.drv_words.specs.Bytes as ascii
 use Rattle.drv_syntax.specs.Descent as d
 use Rattle.drv_syntax.specs.Descent.{After, Alternative, Asks, Bars, Emits, Ends, Fails, Form, Joins, Lists, Patterns, Read, Stops, Took}
-use Rattle.drv_syntax.specs.Descent.{Tried, past, pattern_at, then_read, within}
+use Rattle.drv_syntax.specs.Descent.{Tried, past, pattern_at, then_read}
 use Rattle.drv_syntax.specs.Refusals.{AtBar, AtFront, AtNext, Order, may_emit}
 use Rattle.drv_syntax.proofs.DescentLeads.{alike, ends, out, out_moved, out_same, out_then, prefix_stops}
 use Rattle.drv_syntax.proofs.DescentLeads.{spaces_go, stays}
@@ -13,8 +13,8 @@ use Rattle.drv_syntax.proofs.Words.{at_front, test_word}
 use Rattle.drv_syntax.specs.Bytes.{is_white}
 use Rattle.drv_syntax.specs.Contexts.{in_braces, in_x}
 use Rattle.drv_syntax.specs.Outcome as o
-use Rattle.drv_syntax.specs.Outcome.{Bad, Cut, Goes, Head, Here, Opens, Out, Place, Refused, Turn, WaitsX, Waiting, after, after_pattern}
-use Rattle.drv_syntax.specs.Outcome.{emitted_item, finish, fresh, join_tests, list_in, run, tested, turn, turn_after, with_patterns}
+use Rattle.drv_syntax.specs.Outcome.{Cut, Goes, Head, Here, Opens, Out, Place, Refused, Turn, WaitsX, Waiting, after, after_pattern}
+use Rattle.drv_syntax.specs.Outcome.{emitted_item, finish, fresh, join_tests, list_in, run, tested, turn, with_patterns}
 use Rattle.drv_syntax.specs.Outcome.{with_tests}
 use Rattle.drv_syntax.specs.Spelling as s
 use Rattle.drv_syntax.specs.Spelling.{span}
@@ -26,7 +26,7 @@ use Rattle.std.proofs.Common.{drop-drop, refl, subst, suc, sym, zero, ℕ}
 use Rattle.std.specs.List.{prefix_len}
 use Rattle.std.specs.Prelude.{◌==◌, None, Option, Some}
 
--- The patterns and the tests of braces, as their places read them.
+-- The patterns and the tests of braces, as their places read them. It serves the law `descent_is_read`.
 
 -- what follows the byte so many bytes on, by the text after the first one
 pub tail : {X : Type 0} (f : ℕ → List ℕ → X) (n k b : ℕ) (text : List ℕ)

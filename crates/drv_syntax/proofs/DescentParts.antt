@@ -1,6 +1,6 @@
 use Rattle.drv_words.specs.Bytes as ascii
 use Rattle.drv_syntax.specs.Descent as d
-use Rattle.drv_syntax.specs.Descent.{Ends, Hangs, Quoted, Read, Run, Stops, Took, past, quoted}
+use Rattle.drv_syntax.specs.Descent.{Ends, Hangs, Quoted, Run, Stops, Took, past, quoted}
 use Rattle.drv_syntax.proofs.DescentLeads.{Stopped, after_byte, alike, ends, moved, out, out_moved}
 use Rattle.drv_syntax.proofs.DescentLeads.{prefix_goes, prefix_stops, quoted_goes, quoted_out, stays, step, stop, stopped}
 use Rattle.drv_syntax.proofs.Leads.{same}
@@ -9,7 +9,7 @@ use Rattle.drv_syntax.specs.Bytes.{is_name_byte, is_option, is_suffix}
 use Rattle.drv_syntax.specs.Contexts.{is_said}
 use Rattle.drv_syntax.specs.Directives.{said}
 use Rattle.drv_syntax.specs.Outcome as o
-use Rattle.drv_syntax.specs.Outcome.{Bad, Cut, Goes, Here, Out, Place, Refused, Turn, Waiting, end_of, placed, run, turn}
+use Rattle.drv_syntax.specs.Outcome.{Bad, Goes, Here, Out, Refused, Waiting, placed, run, turn}
 use Rattle.drv_syntax.specs.Spelling as s
 use Rattle.drv_syntax.specs.Tree.{AddOption, Item, NamedText, TempName}
 use Rattle.drv_syntax.specs.declared.directives.SayKind.{SayKind}
@@ -20,7 +20,7 @@ use Rattle.std.proofs.Common.{take, ℕ}
 use Rattle.std.specs.List.{prefix_len}
 use Rattle.std.specs.Prelude.{◌==◌, codes, nat_le}
 
--- The parts of a list that have nothing inside, as the table of places reads them.
+-- The parts of a list that have nothing inside, as the table of places reads them. It serves the law `descent_is_read`.
 
 -- after an item that begins at the place at and ends at this one
 abbrev pub item_out : List Waiting → Here → ℕ → Item → ℕ → List ℕ → Out

@@ -1,6 +1,6 @@
 use Rattle.drv_words.specs.Bytes as ascii
 use Rattle.drv_syntax.specs.Descent as d
-use Rattle.drv_syntax.specs.Descent.{Ends, Hangs, Quoted, Read, Run, Stops, Took, past, pattern_at, quoted, with_byte}
+use Rattle.drv_syntax.specs.Descent.{Hangs, Quoted, Run, Stops, Took, pattern_at, quoted, with_byte}
 use Rattle.drv_syntax.proofs.DescentLeads.{Stopped, after_byte, alike, ends, out, quoted_goes, quoted_out}
 use Rattle.drv_syntax.proofs.DescentLeads.{stays, step, stop, stopped}
 use Rattle.drv_syntax.proofs.DescentParts.{item_out}
@@ -15,7 +15,7 @@ use Rattle.drv_syntax.specs.declared.fault.SyntaxFault.TheVariants.{EmptyTest}
 use Rattle.std.proofs.Common.{◌≡◌, ◌∙◌, ◌+◌, Bool, false, true, if◌then◌else◌, List, [], ◌∷◌, ap, drop, refl, sym, ℕ}
 use Rattle.std.specs.Prelude.{◌==◌}
 
--- A pattern, as the places of directives and of braces read it.
+-- A pattern, as the places of directives and of braces read it. It serves the law `descent_is_read`.
 
 -- Where a pattern is due at the place n of a text, in a directive whose % has the place at: P for each word so far, E after a backslash in
 -- it, S after the pattern. A first byte that doesn't meet the test is read otherwise.

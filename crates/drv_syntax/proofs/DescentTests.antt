@@ -1,7 +1,7 @@
 use Rattle.drv_words.specs.Bytes as ascii
 use Rattle.drv_syntax.specs.Descent as d
 use Rattle.drv_syntax.specs.Descent.{Ends, Hangs, Lists, Operand, Quoted, Read, Run, Stops, Took, bare_operand, function_from}
-use Rattle.drv_syntax.specs.Descent.{marked_operand, past, pattern_at, quoted, result_operand, starred_operand, switch_operand, then_read}
+use Rattle.drv_syntax.specs.Descent.{marked_operand, past, quoted, result_operand, starred_operand, then_read}
 use Rattle.drv_syntax.specs.Descent.{within}
 use Rattle.drv_syntax.specs.Refusals.{AtBar, AtFront, AtNext, Order, may_emit}
 use Rattle.drv_syntax.proofs.DescentLeads.{Stopped, after_byte, alike, ends, moved, out, out_moved, out_same}
@@ -12,9 +12,9 @@ use Rattle.drv_syntax.proofs.Words.{marked_word}
 use Rattle.drv_syntax.specs.Bytes.{is_function, is_function_front, is_white, is_word}
 use Rattle.drv_syntax.specs.Contexts.{InArguments, InX, ListContext, in_arguments, in_braces}
 use Rattle.drv_syntax.specs.Outcome as o
-use Rattle.drv_syntax.specs.Outcome.{Bad, Cut, Goes, Head, Here, Opens, Out, Place, Refused, Turn, WaitsCall, WaitsTest, Waiting, after}
-use Rattle.drv_syntax.specs.Outcome.{after_pattern, emitted, finish, fresh, list_in, outermost, place_of, placed, resume, resumed, run}
-use Rattle.drv_syntax.specs.Outcome.{tested, turn, turn_asked, turn_function}
+use Rattle.drv_syntax.specs.Outcome.{Cut, Goes, Head, Here, Opens, Out, Place, Refused, Turn, WaitsCall, WaitsTest, Waiting, after}
+use Rattle.drv_syntax.specs.Outcome.{emitted, finish, fresh, list_in, place_of, placed, resume, resumed, run}
+use Rattle.drv_syntax.specs.Outcome.{tested, turn, turn_function}
 use Rattle.drv_syntax.specs.Spelling as s
 use Rattle.drv_syntax.specs.Spelling.{span}
 use Rattle.drv_syntax.specs.Tree.{Asked, Choices, Function, Items, Pattern, Span, Tests, choice, no_choice, no_test}
@@ -25,7 +25,7 @@ use Rattle.std.proofs.Common.{◌≡◌, ◌⊎◌, ◌∙◌, inr, ◌+◌, ◌
 use Rattle.std.proofs.Common.{arith, drop, refl, sym, ℕ}
 use Rattle.std.specs.Prelude.{◌==◌, None, Option, Some}
 
--- What a test asks, as the places of braces read it.
+-- What a test asks, as the places of braces read it. It serves the law `descent_is_read`.
 
 -- a list in braces or arguments is read as the table of places reads it, up to the byte that ends it
 abbrev pub Meets : ℕ → Lists → Type 0

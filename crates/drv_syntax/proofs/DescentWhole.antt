@@ -1,6 +1,6 @@
 use Rattle.drv_words.specs.Bytes as ascii
 use Rattle.drv_syntax.specs.Descent as d
-use Rattle.drv_syntax.specs.Descent.{Alternative, Ends, Form, Lists, Patterns, Read, Stops, Took, descent, levels, past, then_read, within}
+use Rattle.drv_syntax.specs.Descent.{Ends, Lists, Read, Stops, Took, descent, levels, past, then_read, within}
 use Rattle.drv_syntax.proofs.DescentLeads.{ends, out, out_moved, out_same, out_then}
 use Rattle.drv_syntax.proofs.DescentLeads.{stays, step, stop}
 use Rattle.drv_syntax.proofs.DescentParts.{item_out, name_goes, option_goes, saying_goes, suffix_goes, then_item}
@@ -15,9 +15,9 @@ use Rattle.drv_syntax.specs.Contexts.{InArguments, InX, Kind, ListContext, Mixed
 use Rattle.drv_syntax.specs.Contexts.{is_end, newline_in, top}
 use Rattle.drv_syntax.specs.Directives.{directive_of, is_allowed, text_of}
 use Rattle.drv_syntax.specs.Outcome as o
-use Rattle.drv_syntax.specs.Outcome.{Bad, Cut, Goes, Got, Head, Here, Out, Place, Refused, Resumed, Turn, WaitsX, Waiting, after}
-use Rattle.drv_syntax.specs.Outcome.{chosen_item, closed, end_of, finish, fresh, join, join_choices, list_in, placed, read, resume}
-use Rattle.drv_syntax.specs.Outcome.{resume_x, resumed, run, turn, turn_item, with_tests}
+use Rattle.drv_syntax.specs.Outcome.{Got, Here, Out, Turn, Waiting, after}
+use Rattle.drv_syntax.specs.Outcome.{closed, end_of, fresh, join, list_in, placed, read, resume}
+use Rattle.drv_syntax.specs.Outcome.{resumed, run, turn, turn_item}
 use Rattle.drv_syntax.specs.Spelling.{span}
 use Rattle.drv_syntax.specs.Tree.{Blank, BuiltinText, Hide, Item, Items, Leaf, Plain}
 use Rattle.drv_syntax.specs.Tree.{Star, more, none}
@@ -32,7 +32,7 @@ use Rattle.std.proofs.Common.{◌≡◌, ◌⊎◌, ◌∙◌, inl, inr, ◌+◌
 use Rattle.std.proofs.Common.{◌≤◌, drop-drop, length, refl, subst, suc, sym, zero, ℕ}
 use Rattle.std.specs.Prelude.{◌==◌}
 
--- Directives and lists, as their places read them; and a whole text.
+-- Directives and lists, as their places read them; and a whole text: the law `descent_is_read`.
 
 -- directives
 
@@ -353,3 +353,19 @@ descent_is_read text = from_top 63 refl text
 
 pub descent_is_parsed : (text : List ℕ) → length text ≤ o.text_limit → o.parsed text ≡ o.judged (descent text)
 descent_is_parsed text h = kinds.within text (descent text) h (sym (descent_is_read text))
+
+-- the same after these items
+from_there : (level : ℕ) → level ≡ 63 → (items : Items) (n : ℕ) (text : List ℕ)
+    → run [] (o.AtItem (record { context = top; done = items })) n text
+    ≡ out [] ((levels (suc level)).0 top n text) (λ l size. Got (join items l.0))
+from_there level e items n text =
+    let i : n ≡ n + 0 = omega arith in
+    ap (λ (j : ℕ). run [] (o.AtItem (record { context = top; done = items })) j text) i
+    ∙ items_go (levels level).0 (levels level).1 [] top (λ h. subst (λ (l : ℕ). Meets l (levels level).0) e (levels_meet level).0)
+    (λ h. subst (λ (l : ℕ). Meets (l - 1) (levels level).1) e (levels_meet level).1) (λ past b j rest. Got past)
+    (λ done m b rest f. absurd cc)
+    (λ done j m. ap Got (sym (join_none done))) text items n 0
+
+pub continues : (items : Items) (n : ℕ) (text : List ℕ)
+    → run [] (o.AtItem (record { context = top; done = items })) n text ≡ out [] ((levels 64).0 top n text) (λ l size. Got (join items l.0))
+continues items n text = from_there 63 refl items n text

@@ -6,7 +6,8 @@ use Rattle.std.proofs.Common.{◌≡◌, ◌∙◌, ◌+◌, Bool, false, true, 
 use Rattle.std.proofs.lemmas.Bool.Decides.{nat_tests}
 use Rattle.std.specs.Prelude.{◌==◌}
 
--- Steps of a run, and facts on classes of bytes. Nothing here knows the table.
+-- Steps of a run, and facts on classes of bytes. Nothing here knows the table. It serves the laws `spelled_is_read` and
+-- `front_is_unrefused`.
 
 -- a text leads from a place to another, where the rest begins; that one may hold the place of the rest
 pub record Leads (ws : List Waiting) (p : Place) (n : ℕ) (text : List ℕ) (vs : List Waiting) (q : ℕ → Place) (rest : List ℕ) : Type 0 where
@@ -18,20 +19,25 @@ pub stays : (ws : List Waiting) (q : ℕ → Place) (n : ℕ) (text : List ℕ) 
 stays ws q n text = record { at = n; fits = refl; is = refl }
 
 -- without a byte
-pub same_run : {ws vs : List Waiting} {p : Place} {q : ℕ → Place} {n : ℕ} {text : List ℕ} → run ws p n text ≡ run vs (q n) n text → Leads ws p n text vs q text
+pub same_run : {ws vs : List Waiting} {p : Place} {q : ℕ → Place} {n : ℕ} {text : List ℕ} → run ws p n text ≡ run vs (q n) n text
+    → Leads ws p n text vs q text
 same_run {n = n} e = record { at = n; fits = refl; is = e }
 
-pub goes : {ws vs : List Waiting} {p p' : Place} {q : ℕ → Place} {n b : ℕ} {text rest : List ℕ} → turn p n b ≡ Goes p' → Leads ws p' (n + 1) text vs q rest → Leads ws p n (b ∷ text) vs q rest
+pub goes : {ws vs : List Waiting} {p p' : Place} {q : ℕ → Place} {n b : ℕ} {text rest : List ℕ} → turn p n b ≡ Goes p'
+    → Leads ws p' (n + 1) text vs q rest → Leads ws p n (b ∷ text) vs q rest
 goes e l = record { at = l.at; fits = omega (arith, l.fits); is = rw e l.is }
 
-pub one : {ws : List Waiting} {p : Place} {q : ℕ → Place} {n b : ℕ} {text : List ℕ} → turn p n b ≡ Goes (q (n + 1)) → Leads ws p n (b ∷ text) ws q text
+pub one : {ws : List Waiting} {p : Place} {q : ℕ → Place} {n b : ℕ} {text : List ℕ} → turn p n b ≡ Goes (q (n + 1))
+    → Leads ws p n (b ∷ text) ws q text
 one {n = n} e = record { at = n + 1; fits = omega arith; is = rw e refl }
 
-pub opens : {ws vs : List Waiting} {w : Waiting} {p p' : Place} {q : ℕ → Place} {n b : ℕ} {text rest : List ℕ} → turn p n b ≡ Opens p' w → Leads (w ∷ ws) p' (n + 1) text vs q rest
+pub opens : {ws vs : List Waiting} {w : Waiting} {p p' : Place} {q : ℕ → Place} {n b : ℕ} {text rest : List ℕ} → turn p n b ≡ Opens p' w
+    → Leads (w ∷ ws) p' (n + 1) text vs q rest
     → Leads ws p n (b ∷ text) vs q rest
 opens e l = record { at = l.at; fits = omega (arith, l.fits); is = rw e l.is }
 
-pub closes : {ws : List Waiting} {w : Waiting} {p : Place} {q : ℕ → Place} {n b c : ℕ} {items : Items} {text : List ℕ} → turn p n b ≡ Closes items c → resume w items n c ≡ On (q (n + 1))
+pub closes : {ws : List Waiting} {w : Waiting} {p : Place} {q : ℕ → Place} {n b c : ℕ} {items : Items} {text : List ℕ}
+    → turn p n b ≡ Closes items c → resume w items n c ≡ On (q (n + 1))
     → Leads (w ∷ ws) p n (b ∷ text) ws q text
 closes {n = n} e f = record { at = n + 1; fits = omega arith; is = rw (e, f) refl }
 
@@ -41,7 +47,8 @@ and_then l k =
     let r = k l.at l.fits in
     record { at = r.at; fits = l.fits ∙ r.fits; is = l.is ∙ r.is }
 
-pub to : {ws vs : List Waiting} {p : Place} {q r : ℕ → Place} {n : ℕ} {text rest : List ℕ} → ((m : ℕ) → n + length text ≡ m + length rest → q m ≡ r m) → Leads ws p n text vs q rest
+pub to : {ws vs : List Waiting} {p : Place} {q r : ℕ → Place} {n : ℕ} {text rest : List ℕ}
+    → ((m : ℕ) → n + length text ≡ m + length rest → q m ≡ r m) → Leads ws p n text vs q rest
     → Leads ws p n text vs r rest
 to {vs = vs} {rest = rest} e l = record { at = l.at; fits = l.fits; is = l.is ∙ ap (λ (x : Place). run vs x l.at rest) (e l.at l.fits) }
 
@@ -57,9 +64,6 @@ further size n m text rest h e = sym e ∙ h
 
 pub same : (a b : ℕ) → (a == b) ≡ true → a ≡ b
 same a b h = grind (arith, nat_tests)
-
-pub equal : (a : ℕ) → (a == a) ≡ true
-equal a = grind (arith, nat_tests)
 
 pub differs : {A : Type 0} → true ≡ false → A
 differs h = absurd cc

@@ -1,8 +1,6 @@
-mod CountSamples
-mod FrontSamples
-mod LabelSamples
-mod RefusalSamples
-mod Samples
+pub mod AskedResults
+pub mod ChoicesGiven
+pub mod Continued
 pub mod Covers
 pub mod CutDue
 pub mod CutPlaces
@@ -18,23 +16,37 @@ pub mod DescentPatterns
 pub mod DescentTests
 pub mod DescentWhole
 pub mod Emits
+pub mod FlatNodes
+pub mod FormsGiven
 pub mod FrontLeads
 pub mod FrontsRead
+pub mod FunctionNames
+pub mod GivenParts
+pub mod HoldersGiven
+pub mod Kept
 pub mod Leads
+pub mod ListsGiven
 pub mod MarkedWords
 pub mod Misfits
 pub mod Names
-pub mod Parts
+pub mod NotWhite
+pub mod Onward
+pub mod OwnedGiven
 pub mod ParsedGrammar
+pub mod Parts
 pub mod Patterns
+pub mod PatternsGiven
+pub mod PercentGiven
+pub mod PlainTokens
 pub mod RefusalBytes
 pub mod RefusalEnds
+pub mod RefusalKinds
 pub mod Refusals
 pub mod RefusalsRead
-pub mod RefusalKinds
+pub mod ResultsGiven
+pub mod RootContext
 pub mod Rows
 pub mod RowsBraces
-pub mod Resuming
 pub mod RowsDue
 pub mod RowsTests
 pub mod Shortest
@@ -44,22 +56,12 @@ pub mod StuckDue
 pub mod StuckRows
 pub mod StuckRuns
 pub mod StuckTests
-pub mod WalkHeadRows
-pub mod WalkHeads
-pub mod WalkListRows
-pub mod WalkLists
-pub mod WalkMeaning
-pub mod WalkNames
-pub mod WalkNodes
-pub mod WalkReads
-pub mod WalkShows
-pub mod WalkStars
-pub mod WalkTests
-pub mod Trims
+pub mod TestsGiven
+pub mod TreeLists
+pub mod TrimmedItems
 pub mod Unrefused
 pub mod Wanted
-pub mod RunLengths
-pub mod Runs
-pub mod TestTurns
+pub mod WholeGiven
 pub mod Words
-pub mod BraceTurns
+pub mod Writing
+pub mod Wrote

@@ -4,17 +4,20 @@ use Rattle.drv_syntax.specs.Marks.{Within, marked_label, marked_labels}
 use Rattle.drv_syntax.specs.declared.labels.LabelMark.{LabelMark}
 use Rattle.drv_syntax.specs.declared.token.TestKind.TheVariants as asking
 use Rattle.drv_syntax.specs.declared.token.TestKind.{TestKind}
-use Rattle.std.proofs.Common.{◌≡◌, ℕ, ◌+◌, ◌-◌, ◌<◌, ◌≤◌, Bool, false, List, [], ◌∷◌, ◌++◌, length, take, drop, get_or, set, refl, subst, suc, sym, zero, ap, ◌∙◌, arith, append_assoc, length-append}
+use Rattle.std.proofs.Common.{◌≡◌, ℕ, ◌+◌, ◌-◌, ◌<◌, ◌≤◌, Bool, false, List, [], ◌∷◌, ◌++◌, length, take, drop, get_or, set, refl}
+use Rattle.std.proofs.Common.{subst, suc}
+use Rattle.std.proofs.Common.{sym, zero, ap, ◌∙◌, arith, append_assoc, length-append}
 use Rattle.std.proofs.Math.Seq.{drop-append_seam, take-length}
 use Rattle.std.proofs.lemmas.List.{drop-append-le, drop_more, length-drop, length-map, map-append, map-set, take-append-le, take-map}
 
--- Labels whose words follow one another.
+-- Labels whose words follow one another. It serves `Labels`, where the reader writes them.
 
 pub within_more : (n m : ℕ) (marks : List LabelMark) → n ≤ m → Within n marks → Within m marks
 within_more n m [] h w = tt
 within_more n m (x ∷ marks) h w = ((w.0.0, omega arith), within_more n m marks h w.1)
 
-pub within_push : (n : ℕ) (marks : List LabelMark) (m : LabelMark) → Within n marks → m.start ≤ m.end → m.end ≤ n → Within n (marks ++ m ∷ [])
+pub within_push : (n : ℕ) (marks : List LabelMark) (m : LabelMark) → Within n marks → m.start ≤ m.end → m.end ≤ n
+    → Within n (marks ++ m ∷ [])
 within_push n [] m w a b = ((a, b), tt)
 within_push n (x ∷ marks) m w a b = (w.0, within_push n marks m w.1 a b)
 
@@ -23,36 +26,44 @@ within_take n zero marks w = tt
 within_take n (suc k) [] w = tt
 within_take n (suc k) (x ∷ marks) w = (w.0, within_take n k marks w.1)
 
-pub within_set : (n k : ℕ) (marks : List LabelMark) (m : LabelMark) → Within n marks → m.start ≤ m.end → m.end ≤ n → Within n (set marks k m)
+pub within_set : (n k : ℕ) (marks : List LabelMark) (m : LabelMark) → Within n marks → m.start ≤ m.end → m.end ≤ n
+    → Within n (set marks k m)
 within_set n k [] m w a b = tt
 within_set n zero (x ∷ marks) m w a b = ((a, b), w.1)
 within_set n (suc k) (x ∷ marks) m w a b = (w.0, within_set n k marks m w.1 a b)
 
-within_get : (n : ℕ) (marks : List LabelMark) (place : ℕ) (d : LabelMark) → Within n marks → place < length marks → ((get_or marks place d).start ≤ (get_or marks place d).end) × ((get_or marks place d).end ≤ n)
+within_get : (n : ℕ) (marks : List LabelMark) (place : ℕ) (d : LabelMark) → Within n marks → place < length marks
+    → ((get_or marks place d).start ≤ (get_or marks place d).end) × ((get_or marks place d).end ≤ n)
 within_get n [] place d w h = absurd (omega arith)
 within_get n (x ∷ marks) zero d w h = w.0
 within_get n (x ∷ marks) (suc place) d w h = within_get n marks place d w.1 (omega arith)
 
 -- where the word of the label at this place is
-pub within_at : (words : List ℕ) (marks : List LabelMark) (now : List Label) (place : ℕ) (d : LabelMark) → marked_labels words marks ≡ now → Within (length words) marks → place < length now
+pub within_at : (words : List ℕ) (marks : List LabelMark) (now : List Label) (place : ℕ) (d : LabelMark) → marked_labels words marks ≡ now
+    → Within (length words) marks → place < length now
     → ((get_or marks place d).start ≤ (get_or marks place d).end) × ((get_or marks place d).end ≤ length words)
 within_at words marks now place d e w h =
-    within_get (length words) marks place d w (subst (λ (n : ℕ). place < n) (sym (ap (λ ls. length ls) e) ∙ length-map marks (λ x. marked_label words x)) h)
+    within_get (length words) marks place d w (subst (λ (n : ℕ). place < n)
+    (sym (ap (λ ls. length ls) e) ∙ length-map marks (λ x. marked_label words x)) h)
 
 -- a word within the words stays what it is when words are added
-pub part_kept : (words more : List ℕ) (a b : ℕ) → a ≤ b → b ≤ length words → take (b - a) (drop a (words ++ more)) ≡ take (b - a) (drop a words)
+pub part_kept : (words more : List ℕ) (a b : ℕ) → a ≤ b → b ≤ length words
+    → take (b - a) (drop a (words ++ more)) ≡ take (b - a) (drop a words)
 part_kept words more a b h k =
     ap (λ xs. take (b - a) xs) (drop-append-le a words more (omega arith))
     ∙ take-append-le (b - a) (drop a words) more (omega (arith, length-drop a words))
 
-pub labels_kept : (words more : List ℕ) (marks : List LabelMark) → Within (length words) marks → marked_labels (words ++ more) marks ≡ marked_labels words marks
+pub labels_kept : (words more : List ℕ) (marks : List LabelMark) → Within (length words) marks
+    → marked_labels (words ++ more) marks ≡ marked_labels words marks
 labels_kept words more [] w = refl
 labels_kept words more (m ∷ marks) w =
-    ap (λ word. record { word = word; starred = m.starred; negated = m.negated; asks = m.asks; holds_star = m.holds_star } ∷ marked_labels (words ++ more) marks) (part_kept words more m.start m.end w.0.0 w.0.1)
+    ap (λ word. record { word = word; starred = m.starred; negated = m.negated; asks = m.asks; holds_star = m.holds_star }
+    ∷ marked_labels (words ++ more) marks) (part_kept words more m.start m.end w.0.0 w.0.1)
     ∙ ap (λ ls. marked_label words m ∷ ls) (labels_kept words more marks w.1)
 
 -- the word at the end of the words
-pub last_part : (words more : List ℕ) (a b : ℕ) → a ≡ length words → b ≡ length (words ++ more) → take (b - a) (drop a (words ++ more)) ≡ more
+pub last_part : (words more : List ℕ) (a b : ℕ) → a ≡ length words → b ≡ length (words ++ more)
+    → take (b - a) (drop a (words ++ more)) ≡ more
 last_part words more a b h k =
     ap (λ n. take (b - n) (drop n (words ++ more))) h
     ∙ ap (λ xs. take (b - length words) xs) (drop-append_seam words more)
@@ -63,85 +74,105 @@ last_part words more a b h k =
     size = omega (arith, length-append words more)
 
 -- one label more
-pub labels_push : (words more : List ℕ) (marks : List LabelMark) (start end : ℕ) (starred negated : Bool) (asks : TestKind) → Within (length words) marks
+pub labels_push : (words more : List ℕ) (marks : List LabelMark) (start end : ℕ) (starred negated : Bool) (asks : TestKind)
+    → Within (length words) marks
     → start ≡ length words → end ≡ length (words ++ more)
-    → marked_labels (words ++ more) (marks ++ record { start = start; end = end; starred = starred; negated = negated; asks = asks; holds_star = false } ∷ [])
+    → marked_labels (words ++ more) (marks ++ record {
+      start = start;
+      end = end;
+      starred = starred;
+      negated = negated;
+      asks =
+          asks;
+      holds_star = false;
+    } ∷ [])
     ≡ marked_labels words marks ++ part_label more starred negated asks ∷ []
 labels_push words more marks start end starred negated asks w h k =
-    map-append (λ m. marked_label (words ++ more) m) marks (record { start = start; end = end; starred = starred; negated = negated; asks = asks; holds_star = false } ∷ [])
-    ∙ ap (λ ls. ls ++ part_label (take (end - start) (drop start (words ++ more))) starred negated asks ∷ []) (labels_kept words more marks w)
+    map-append (λ m. marked_label (words ++ more) m) marks (record {
+      start = start;
+      end = end;
+      starred = starred;
+      negated = negated;
+      asks =
+          asks;
+      holds_star = false;
+    } ∷ [])
+    ∙ ap (λ ls. ls ++ part_label (take (end - start) (drop start (words ++ more))) starred negated asks ∷ [])
+    (labels_kept words more marks w)
     ∙ ap (λ word. marked_labels words marks ++ part_label word starred negated asks ∷ []) (last_part words more start end h k)
 
 -- the same, where the word comes in two parts
-pub labels_pushed : (words first second front word : List ℕ) (marks all : List LabelMark) (now : List Label) (start end : ℕ) (starred negated : Bool) (asks : TestKind)
-    → now ≡ marked_labels words marks → Within (length words) marks → first ≡ words ++ front → second ≡ first ++ word → start ≡ length words → end ≡ length second
+pub labels_pushed : (words first second front word : List ℕ) (marks all : List LabelMark) (now : List Label) (start end : ℕ)
+    (starred negated : Bool) (asks : TestKind)
+    → now ≡ marked_labels words marks → Within (length words) marks → first ≡ words ++ front → second ≡ first ++ word → start ≡ length words
+    → end ≡ length second
     → all ≡ marks ++ record { start = start; end = end; starred = starred; negated = negated; asks = asks; holds_star = false } ∷ []
     → now ++ part_label (front ++ word) starred negated asks ∷ [] ≡ marked_labels second all
 labels_pushed words first second front word marks all now start end starred negated asks e w f g h k a =
     ap (λ ls. ls ++ part_label (front ++ word) starred negated asks ∷ []) e
     ∙ sym (labels_push words (front ++ word) marks start end starred negated asks w h (k ∙ ap (λ ws. length ws) whole))
-    ∙ ap (λ ws. marked_labels ws (marks ++ record { start = start; end = end; starred = starred; negated = negated; asks = asks; holds_star = false } ∷ [])) (sym whole)
+    ∙ ap (λ ws. marked_labels ws (marks ++ record {
+      start = start;
+      end = end;
+      starred = starred;
+      negated = negated;
+      asks =
+          asks;
+      holds_star = false;
+    } ∷ [])) (sym whole)
     ∙ ap (λ ms. marked_labels second ms) (sym a)
   where
     whole : second ≡ words ++ (front ++ word)
     whole = g ∙ ap (λ ws. ws ++ word) f ∙ append_assoc words front word
 
-pub labels_marked : (words first second word : List ℕ) (mark : ℕ) (marks all : List LabelMark) (now : List Label) (start end : ℕ) (starred negated : Bool) (asks : TestKind)
-    → now ≡ marked_labels words marks → Within (length words) marks → first ≡ words ++ mark ∷ [] → second ≡ first ++ word → start ≡ length words → end ≡ length second
+pub labels_marked : (words first second word : List ℕ) (mark : ℕ) (marks all : List LabelMark) (now : List Label) (start end : ℕ)
+    (starred negated : Bool) (asks : TestKind)
+    → now ≡ marked_labels words marks → Within (length words) marks → first ≡ words ++ mark ∷ [] → second ≡ first ++ word
+    → start ≡ length words → end ≡ length second
     → all ≡ marks ++ record { start = start; end = end; starred = starred; negated = negated; asks = asks; holds_star = false } ∷ []
     → now ++ part_label (mark ∷ word) starred negated asks ∷ [] ≡ marked_labels second all
 labels_marked words first second word mark marks all now start end starred negated asks e w f g h k a =
     labels_pushed words first second (mark ∷ []) word marks all now start end starred negated asks e w f g h k a
 
-pub labels_added : (words second word : List ℕ) (marks all : List LabelMark) (now : List Label) (start end : ℕ) (starred negated : Bool) (asks : TestKind)
+pub labels_added : (words second word : List ℕ) (marks all : List LabelMark) (now : List Label) (start end : ℕ) (starred negated : Bool)
+    (asks : TestKind)
     → now ≡ marked_labels words marks → Within (length words) marks → second ≡ words ++ word → start ≡ length words → end ≡ length second
     → all ≡ marks ++ record { start = start; end = end; starred = starred; negated = negated; asks = asks; holds_star = false } ∷ []
     → now ++ part_label word starred negated asks ∷ [] ≡ marked_labels second all
 labels_added words second word marks all now start end starred negated asks e w f h k a =
     ap (λ ls. ls ++ part_label word starred negated asks ∷ []) e
     ∙ sym (labels_push words word marks start end starred negated asks w h (k ∙ ap (λ ws. length ws) f))
-    ∙ ap (λ ws. marked_labels ws (marks ++ record { start = start; end = end; starred = starred; negated = negated; asks = asks; holds_star = false } ∷ [])) (sym f)
+    ∙ ap (λ ws. marked_labels ws (marks ++ record {
+      start = start;
+      end = end;
+      starred = starred;
+      negated = negated;
+      asks =
+          asks;
+      holds_star = false;
+    } ∷ [])) (sym f)
     ∙ ap (λ ms. marked_labels second ms) (sym a)
 
 pub labels_none : (words : List ℕ) (marks all : List LabelMark) (now : List Label) → now ≡ marked_labels words marks
-    → all ≡ marks ++ record { start = 0; end = 0; starred = false; negated = false; asks = asking.Switch; holds_star = false } ∷ [] → now ++ no_label ∷ [] ≡ marked_labels words all
+    → all ≡ marks ++ record { start = 0; end = 0; starred = false; negated = false; asks = asking.Switch; holds_star = false } ∷ []
+    → now ++ no_label ∷ [] ≡ marked_labels words all
 labels_none words marks all now e a =
     ap (λ ls. ls ++ no_label ∷ []) e
-    ∙ sym (map-append (λ m. marked_label words m) marks (record { start = 0; end = 0; starred = false; negated = false; asks = asking.Switch; holds_star = false } ∷ []))
+    ∙ sym (map-append (λ m. marked_label words m) marks
+    (record { start = 0; end = 0; starred = false; negated = false; asks = asking.Switch; holds_star = false } ∷ []))
     ∙ ap (λ ms. marked_labels words ms) (sym a)
 
-within_none : (n : ℕ) (marks all : List LabelMark) → Within n marks → all ≡ marks ++ record { start = 0; end = 0; starred = false; negated = false; asks = asking.Switch; holds_star = false } ∷ [] → Within n all
-within_none n marks all w f = subst (λ (ms : List LabelMark). Within n ms) (sym f) (within_push n marks (record { start = 0; end = 0; starred = false; negated = false; asks = asking.Switch; holds_star = false }) w (omega arith) (omega arith))
-
--- a label more, after one or two that name nothing
-pub labels_filled : (words second word : List ℕ) (marks held first all : List LabelMark) (now : List Label) (start end : ℕ) (starred negated : Bool) (asks : TestKind)
-    → now ≡ marked_labels words marks → Within (length words) marks → held ≡ marks
-    → first ≡ held ++ record { start = 0; end = 0; starred = false; negated = false; asks = asking.Switch; holds_star = false } ∷ []
-    → second ≡ words ++ word → start ≡ length words → end ≡ length second
-    → all ≡ first ++ record { start = start; end = end; starred = starred; negated = negated; asks = asks; holds_star = false } ∷ []
-    → (now ++ no_label ∷ []) ++ part_label word starred negated asks ∷ [] ≡ marked_labels second all
-labels_filled words second word marks held first all now start end starred negated asks e w g f s h k a =
-    labels_added words second word first all (now ++ no_label ∷ []) start end starred negated asks (labels_none words held first now (e ∙ ap (λ ms. marked_labels words ms) (sym g)) f)
-    (within_none (length words) held first (subst (λ (ms : List LabelMark). Within (length words) ms) (sym g) w) f) s h k a
-
-pub labels_asked : (words second word : List ℕ) (marks held once first all : List LabelMark) (now : List Label) (start end : ℕ) (starred negated : Bool) (asks : TestKind)
-    → now ≡ marked_labels words marks → Within (length words) marks → held ≡ marks
-    → once ≡ held ++ record { start = 0; end = 0; starred = false; negated = false; asks = asking.Switch; holds_star = false } ∷ []
-    → first ≡ once ++ record { start = 0; end = 0; starred = false; negated = false; asks = asking.Switch; holds_star = false } ∷ []
-    → second ≡ words ++ word → start ≡ length words → end ≡ length second
-    → all ≡ first ++ record { start = start; end = end; starred = starred; negated = negated; asks = asks; holds_star = false } ∷ []
-    → ((now ++ no_label ∷ []) ++ no_label ∷ []) ++ part_label word starred negated asks ∷ [] ≡ marked_labels second all
-labels_asked words second word marks held once first all now start end starred negated asks e w g o f s h k a =
-    labels_filled words second word once once first all (now ++ no_label ∷ []) start end starred negated asks (labels_none words held once now (e ∙ ap (λ ms. marked_labels words ms) (sym g)) o)
-    (within_none (length words) held once (subst (λ (ms : List LabelMark). Within (length words) ms) (sym g) w) o) refl f s h k a
-
-pub labels_take : (words : List ℕ) (n : ℕ) (marks : List LabelMark) → marked_labels words (take n marks) ≡ take n (marked_labels words marks)
+pub labels_take : (words : List ℕ) (n : ℕ) (marks : List LabelMark) → marked_labels words (take n marks)
+    ≡ take n (marked_labels words marks)
 labels_take words n marks = sym (take-map (λ m. marked_label words m) n marks)
 
 -- the label of an alternative in the place of another
 pub labels_set : (words : List ℕ) (place : ℕ) (holds : Bool) (marks : List LabelMark)
-    → marked_labels words (set marks place (record { start = 0; end = 0; starred = false; negated = false; asks = asking.Switch; holds_star = holds })) ≡ set (marked_labels words marks) place (star_label holds)
-labels_set words place holds marks = map-set (λ m. marked_label words m) marks place (record { start = 0; end = 0; starred = false; negated = false; asks = asking.Switch; holds_star = holds })
+    → marked_labels words
+    (set marks place (record { start = 0; end = 0; starred = false; negated = false; asks = asking.Switch; holds_star = holds }))
+    ≡ set (marked_labels words marks) place (star_label holds)
+labels_set words place holds marks = map-set (λ m. marked_label words m) marks place
+    (record { start = 0; end = 0; starred = false; negated = false; asks = asking.Switch; holds_star = holds })
 
 -- bytes that name themselves
 within_on : (n start : ℕ) (run : List ℕ) → start + length run ≤ n → Within n (byte_marks start run)
@@ -152,11 +183,13 @@ within_both : (n : ℕ) (marks others : List LabelMark) → Within n marks → W
 within_both n [] others w h = h
 within_both n (m ∷ marks) others w h = (w.0, within_both n marks others w.1 h)
 
-pub within_run : (words second run : List ℕ) (start : ℕ) (marks all : List LabelMark) → second ≡ words ++ run → start ≡ length words → all ≡ marks ++ byte_marks start run → Within (length words) marks
+pub within_run : (words second run : List ℕ) (start : ℕ) (marks all : List LabelMark) → second ≡ words ++ run → start ≡ length words
+    → all ≡ marks ++ byte_marks start run → Within (length words) marks
     → Within (length second) all
 within_run words second run start marks all e f a w =
     subst (λ (ms : List LabelMark). Within (length second) ms) (sym a)
-    (within_both (length second) marks (byte_marks start run) (within_more (length words) (length second) marks (omega (arith, size)) w) (within_on (length second) start run (omega (arith, size, f))))
+    (within_both (length second) marks (byte_marks start run) (within_more (length words) (length second) marks (omega (arith, size)) w)
+    (within_on (length second) start run (omega (arith, size, f))))
   where
     size : length second ≡ length words + length run
     size = ap (λ xs. length xs) e ∙ length-append words run
@@ -165,15 +198,18 @@ run_at : (words run : List ℕ) (start : ℕ) → start ≡ length words → mar
 run_at words [] start h = refl
 run_at words (b ∷ run) start h =
     ap (λ word. word_label word ∷ marked_labels (words ++ b ∷ run) (byte_marks (start + 1) run)) first
-    ∙ ap (λ ls. word_label (b ∷ []) ∷ ls) (ap (λ ws. marked_labels ws (byte_marks (start + 1) run)) (sym (append_assoc words (b ∷ []) run)) ∙ run_at (words ++ b ∷ []) run (start + 1) (omega (arith, h, length-append words (b ∷ []))))
+    ∙ ap (λ ls. word_label (b ∷ []) ∷ ls) (ap (λ ws. marked_labels ws (byte_marks (start + 1) run)) (sym (append_assoc words (b ∷ []) run))
+    ∙ run_at (words ++ b ∷ []) run (start + 1) (omega (arith, h, length-append words (b ∷ []))))
   where
     first : take (start + 1 - start) (drop start (words ++ b ∷ run)) ≡ b ∷ []
-    first = ap (λ n. take n (drop start (words ++ b ∷ run))) one ∙ ap (λ n. take 1 (drop n (words ++ b ∷ run))) h ∙ ap (λ xs. take 1 xs) (drop-append_seam words (b ∷ run))
+    first = ap (λ n. take n (drop start (words ++ b ∷ run))) one ∙ ap (λ n. take 1 (drop n (words ++ b ∷ run))) h
+        ∙ ap (λ xs. take 1 xs) (drop-append_seam words (b ∷ run))
       where
         one : start + 1 - start ≡ 1
         one = omega arith
 
-pub labels_run : (words second run : List ℕ) (start : ℕ) (marks all : List LabelMark) (now : List Label) → now ≡ marked_labels words marks → Within (length words) marks → second ≡ words ++ run → start ≡ length words
+pub labels_run : (words second run : List ℕ) (start : ℕ) (marks all : List LabelMark) (now : List Label) → now ≡ marked_labels words marks
+    → Within (length words) marks → second ≡ words ++ run → start ≡ length words
     → all ≡ marks ++ byte_marks start run → now ++ byte_labels run ≡ marked_labels second all
 labels_run words second run start marks all now e w f h a =
     ap (λ ls. ls ++ byte_labels run) e
@@ -184,10 +220,19 @@ labels_run words second run start marks all now e w f h a =
     ∙ ap (λ ms. marked_labels second ms) (sym a)
 
 pub marks_step : (old new all : List LabelMark) (place i : ℕ) (run : List ℕ) → i < length run
-    → new ≡ old ++ record { start = place; end = place + 1; starred = false; negated = false; asks = asking.Switch; holds_star = false } ∷ []
+    → new ≡ old ++ record { start = place; end = place + 1; starred = false; negated = false; asks = asking.Switch; holds_star = false }
+    ∷ []
     → old ++ byte_marks place (drop i run) ≡ all → new ++ byte_marks (place + 1) (drop (i + 1) run) ≡ all
 marks_step old new all place i run h e f =
     ap (λ ms. ms ++ byte_marks (place + 1) (drop (i + 1) run)) e
-    ∙ append_assoc old (record { start = place; end = place + 1; starred = false; negated = false; asks = asking.Switch; holds_star = false } ∷ []) (byte_marks (place + 1) (drop (i + 1) run))
+    ∙ append_assoc old (record {
+      start = place;
+      end = place + 1;
+      starred = false;
+      negated = false;
+      asks = asking.Switch;
+      holds_star =
+          false;
+    } ∷ []) (byte_marks (place + 1) (drop (i + 1) run))
     ∙ ap (λ bs. old ++ byte_marks place bs) (sym (drop_more run i 0 h))
     ∙ f

@@ -5,7 +5,7 @@ use Rattle.drv_syntax.specs.Outcome.{Bad, read}
 use Rattle.drv_syntax.specs.declared.fault.SyntaxFault.{SyntaxFault}
 use Rattle.std.proofs.Common.{◌≡◌, ◌+◌, ◌++◌, ◌<◌, ◌≤◌, ◌⊎◌, List, arith, drop, inl, inr, length, subst, suc, take, zero, ℕ}
 
--- The byte of a refusal is the one after the longest prefix that is a front.
+-- The byte of a refusal is the one after the longest prefix that is a front: the law `refused_at_misfit`.
 
 at_most_or_more : (j k : ℕ) → (j ≤ k) ⊎ (k + 1 ≤ j)
 at_most_or_more zero k = inl (omega arith)
@@ -19,7 +19,8 @@ at_most_or_more (suc j) (suc k) = by (at_most_or_more j k)
 pub misfit_at : (text : List ℕ) (place : ℕ) (fault : SyntaxFault) → read text ≡ Bad place fault → IsMisfit text place
 misfit_at text place fault h = record { inside = refused.0; front = refused.1 place (omega arith); longest = longest }
   where
-    refused : (place < length text) × ((j : ℕ) → j ≤ place → Front (take j text)) × ((rest : List ℕ) → Front (take (place + 1) text ++ rest) → ⊥)
+    refused : (place < length text) × ((j : ℕ) → j ≤ place → Front (take j text))
+        × ((rest : List ℕ) → Front (take (place + 1) text ++ rest) → ⊥)
         × ((rest : List ℕ) → read (take (place + 1) text ++ rest) ≡ Bad place fault)
     refused = refused_fronts text place fault h
 

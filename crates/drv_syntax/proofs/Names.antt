@@ -4,14 +4,16 @@ use Rattle.drv_syntax.specs.Outcome.{Place, Turn, Waiting, run, turn, turn_funct
 use Rattle.std.proofs.Common.{◌≡◌, ◌∙◌, ◌+◌, ◌++◌, Bool, false, true, List, [], ◌∷◌, ap, append-nil, append_assoc, refl, sym, ℕ}
 use Rattle.std.specs.Prelude.{◌==◌}
 
--- The names of functions: each front of one is a front, and none has a bracket.
+-- The names of functions: each front of one is a front, and none has a bracket. It serves the laws `spelled_is_read` and
+-- `front_is_unrefused`.
 
 pub is_same_front : (p more f : List ℕ) → is_same (p ++ more) f ≡ true → is_front p f ≡ true
 is_same_front [] more f h = refl
 is_same_front (b ∷ p) more [] h = differs (sym h)
 is_same_front (b ∷ p) more (c ∷ q) h = by (b == c) refl h (is_same_front p more q)
   where
-    by : (z : Bool) → (b == c) ≡ z → is_same ((b ∷ p) ++ more) (c ∷ q) ≡ true → (is_same (p ++ more) q ≡ true → is_front p q ≡ true) → is_front (b ∷ p) (c ∷ q) ≡ true
+    by : (z : Bool) → (b == c) ≡ z → is_same ((b ∷ p) ++ more) (c ∷ q) ≡ true → (is_same (p ++ more) q ≡ true → is_front p q ≡ true)
+        → is_front (b ∷ p) (c ∷ q) ≡ true
     by true e h k = rw e (k (rw e at h))
     by false e h k = differs (sym (rw e at h))
 
@@ -20,7 +22,8 @@ is_front_front [] more f h = refl
 is_front_front (b ∷ p) more [] h = differs (sym h)
 is_front_front (b ∷ p) more (c ∷ q) h = by (b == c) refl h (is_front_front p more q)
   where
-    by : (z : Bool) → (b == c) ≡ z → is_front ((b ∷ p) ++ more) (c ∷ q) ≡ true → (is_front (p ++ more) q ≡ true → is_front p q ≡ true) → is_front (b ∷ p) (c ∷ q) ≡ true
+    by : (z : Bool) → (b == c) ≡ z → is_front ((b ∷ p) ++ more) (c ∷ q) ≡ true → (is_front (p ++ more) q ≡ true → is_front p q ≡ true)
+        → is_front (b ∷ p) (c ∷ q) ≡ true
     by true e h k = rw e (k (rw e at h))
     by false e h k = differs (sym (rw e at h))
 
@@ -53,7 +56,8 @@ no_front [] (c ∷ q) h = by (40 == c) refl h
     by false e h = rw e refl
 no_front (b ∷ p) (c ∷ q) h = by (40 == c) refl (b == c) refl h (no_front p q)
   where
-    by : (y : Bool) → (40 == c) ≡ y → (z : Bool) → (b == c) ≡ z → is_of (c ∷ q) 40 ≡ false → (is_of q 40 ≡ false → is_front (p ++ 40 ∷ []) q ≡ false) → is_front ((b ∷ p) ++ 40 ∷ []) (c ∷ q) ≡ false
+    by : (y : Bool) → (40 == c) ≡ y → (z : Bool) → (b == c) ≡ z → is_of (c ∷ q) 40 ≡ false
+        → (is_of q 40 ≡ false → is_front (p ++ 40 ∷ []) q ≡ false) → is_front ((b ∷ p) ++ 40 ∷ []) (c ∷ q) ≡ false
     by true e z g h k = differs (rw e at h)
     by false e true g h k = rw g (k (rw e at h))
     by false e false g h k = rw g refl
@@ -71,14 +75,17 @@ bracket_ends name = none_front name functions (refl, (refl, (refl, (refl, (refl,
 
 -- a place for each front of a name
 
-pub name_read : (at : ℕ) (P : List ℕ → Place) (opened : List ℕ → Turn) → ((w : List ℕ) (n b : ℕ) → turn (P w) n b ≡ turn_function at w b (opened w) (P (w ++ b ∷ []))) → (ws : List Waiting)
-    (w more : List ℕ) (n : ℕ) (text : List ℕ) → is_function (w ++ more) ≡ true → Leads ws (P w) n (more ++ 40 ∷ text) ws (λ _. P (w ++ more)) (40 ∷ text)
+pub name_read : (at : ℕ) (P : List ℕ → Place) (opened : List ℕ → Turn)
+    → ((w : List ℕ) (n b : ℕ) → turn (P w) n b ≡ turn_function at w b (opened w) (P (w ++ b ∷ []))) → (ws : List Waiting)
+    (w more : List ℕ) (n : ℕ) (text : List ℕ) → is_function (w ++ more) ≡ true
+    → Leads ws (P w) n (more ++ 40 ∷ text) ws (λ _. P (w ++ more)) (40 ∷ text)
 name_read at P opened e ws w [] n text h = same_run (ap (λ (x : List ℕ). run ws (P x) n (40 ∷ text)) (sym (append-nil w)))
 name_read at P opened e ws w (b ∷ more) n text h =
     let g : is_function ((w ++ b ∷ []) ++ more) ≡ true = ap is_function (append_assoc w (b ∷ []) more) ∙ h in
     goes (e w n b ∙ rw (function_front (w ++ b ∷ []) more g) refl)
     (to (λ m f. ap P (append_assoc w (b ∷ []) more)) (name_read at P opened e ws (w ++ b ∷ []) more (n + 1) text g))
 
-pub name_end : (at : ℕ) (P : List ℕ → Place) (opened : List ℕ → Turn) → ((w : List ℕ) (n b : ℕ) → turn (P w) n b ≡ turn_function at w b (opened w) (P (w ++ b ∷ []))) → (name : List ℕ) (n : ℕ)
+pub name_end : (at : ℕ) (P : List ℕ → Place) (opened : List ℕ → Turn) →
+    ((w : List ℕ) (n b : ℕ) → turn (P w) n b ≡ turn_function at w b (opened w) (P (w ++ b ∷ []))) → (name : List ℕ) (n : ℕ)
     → is_function name ≡ true → turn (P name) n 40 ≡ opened name
 name_end at P opened e name n h = e name n 40 ∙ rw (bracket_ends name, h) refl

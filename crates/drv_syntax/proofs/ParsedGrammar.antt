@@ -1,28 +1,22 @@
 use Rattle.drv_syntax.proofs.CutPlaces.{cut_at}
 use Rattle.drv_syntax.proofs.CutRows.{le_true}
 use Rattle.drv_syntax.proofs.Misfits.{misfit_at}
-use Rattle.drv_syntax.proofs.Resuming.{fault_first, tree_first}
 use Rattle.drv_syntax.proofs.Sound.{read_is_spelled}
 use Rattle.drv_syntax.proofs.StuckRuns.{refused_kinds}
 use Rattle.drv_syntax.specs.Faults.{MemoryOrRefused, Refused, cut_short, misfit, too_long}
-use Rattle.drv_syntax.specs.Labels.{Label}
 use Rattle.drv_syntax.specs.Outcome.{Bad, Cut, Got, Out, judged, parsed, read, text_limit}
-use Rattle.drv_syntax.specs.Parsed.{listed, tree_in, tree_of}
+use Rattle.drv_syntax.specs.Parsed.{tree_of}
 use Rattle.drv_syntax.specs.Spelling.{Spells}
 use Rattle.drv_syntax.specs.Tree.{Items}
-use Rattle.drv_syntax.specs.Code.Resuming.{IsEnded}
-use Rattle.drv_syntax.specs.Code.States.{state}
-use Rattle.drv_syntax.specs.Code.Steps.{started, walk}
-use Rattle.drv_syntax.specs.declared.reader.ending.Ended.{Ended}
 use Rattle.drv_syntax.specs.declared.fault.SyntaxFault.TheVariants.{Memory, TextTooLong, Unclosed}
 use Rattle.drv_syntax.specs.declared.fault.SyntaxFault.{SyntaxFault}
-use Rattle.drv_syntax.specs.declared.token.Token.{Token}
 use Rattle.drv_words.specs.Gives.{Gives}
 use Rattle.std.proofs.Common.{◌≡◌, ◌∙◌, ◌<◌, ◌≤◌, Bool, List, false, true, ap, arith, inl, inr, length, refl, subst, sym, ℕ}
 use Rattle.std.proofs.lemmas.Bool.Decides.{nat_tests}
 use Rattle.std.specs.Prelude.{Err, IfErr, Ok, Result, if◌then◌else◌, nat_le}
 
--- What a text is parsed to, by the grammar: a tree spells it, and a fault is that of its case.
+-- What a text is parsed to, by the grammar: a tree spells it, and a fault is that of its case. It serves the laws `parsed_by_grammar` and
+-- `refused_by_grammar`, and by them `parse`.
 
 abbrev failed : SyntaxFault → Result Items SyntaxFault
 failed fault = Err fault
@@ -63,7 +57,8 @@ module _ (text : List ℕ) where
       given : length text ≤ text_limit → (out : Out) → read text ≡ out → judged out ≡ Err fault → Refused text fault
       given short (Got items) e d = absurd cc
       given short (Cut at) e d = is_fault (err_is (Unclosed at) fault d) (cut_short short (cut_at text at e))
-      given short (Bad place other) e d = is_fault (err_is other fault d) (misfit short (misfit_at text place other e) (refused_kinds text place other e))
+      given short (Bad place other) e d = is_fault (err_is other fault d)
+          (misfit short (misfit_at text place other e) (refused_kinds text place other e))
 
       by : (fits : Bool) → nat_le (length text) text_limit ≡ fits → Refused text fault
       by true e = given (le_true e) (read text) refl (sym (ap by_size e) ∙ h)
@@ -71,21 +66,6 @@ module _ (text : List ℕ) where
 
   pub long_refused : 1048576 < length text → Refused text TextTooLong
   long_refused h = too_long h
-
-  -- of what the code read
-  pub first_spelled : (e : Ended) → length text ≤ 1048576 → walk started 0 text ≡ Ok (state e.walk) → Spells text (tree_of text)
-  first_spelled e h is = parsed_spelled (tree_of text) (tree_first text e h is)
-
-  pub first_refused : (fault : SyntaxFault) → length text ≤ 1048576 → walk started 0 text ≡ Err fault → Refused text fault
-  first_refused fault h is = parsed_refused fault (fault_first text fault h is)
-
-  listed_spelled : {parts : List Token × List Label} (r : Result Items SyntaxFault) → parsed text ≡ r → listed r ≡ Ok parts → Spells text (tree_in r)
-  listed_spelled (Ok items) e d = parsed_spelled items e
-  listed_spelled (Err fault) e d = absurd cc
-
-  -- of what the code keeps
-  pub ended_spelled : (e : Ended) → IsEnded text e → Spells text (tree_of text)
-  ended_spelled e is = listed_spelled (parsed text) refl is.0
 
   -- of what a call gives
   pub given_refused : (given : Result (List ℕ) SyntaxFault) → Gives Memory tree_of given (parsed text) → IfErr given (MemoryOrRefused text)

@@ -6,15 +6,19 @@ use Rattle.drv_syntax.specs.Directives.{said}
 use Rattle.drv_syntax.specs.declared.directives.SayKind.{SayKind}
 use Rattle.drv_syntax.specs.Contexts.{ListContext, InArguments, InX, Kind, Top, bar_in, is_end, is_said, newline_in}
 use Rattle.drv_syntax.specs.Outcome as o
-use Rattle.drv_syntax.specs.Outcome.{Goes, Head, Here, On, Place, Waiting, emitted, join, join_choices, join_tests, placed, resume_x, run, tested, then_item, turn, turn_item}
+use Rattle.drv_syntax.specs.Outcome.{Goes, Head, Here, On, Place, Waiting, emitted, join, join_choices, join_tests, placed, resume_x, run}
+use Rattle.drv_syntax.specs.Outcome.{tested, then_item, turn, turn_item}
 use Rattle.drv_syntax.specs.Spelling as s
 use Rattle.drv_syntax.specs.Spelling.{AreSpaces, AreTests, IsQuoted, IsRun, Stops}
-use Rattle.drv_syntax.specs.Tree.{Asked, Blank, Choices, HasLanguage, HasResult, HasSuffix, HasSwitch, Items, Pattern, Plain, Span, Tests, choice, more, no_choice, no_test, none, pattern, test}
-use Rattle.std.proofs.Common.{◌≡◌, ◌≤◌, ◌+◌, ◌++◌, Bool, false, true, List, [], ◌∷◌, ap, append-nil, append_assoc, arith, length, length-append, refl, sym, ℕ}
+use Rattle.drv_syntax.specs.Tree.{Asked, Blank, Choices, HasLanguage, HasResult, HasSuffix, HasSwitch, Items, Pattern, Plain, Span, Tests}
+use Rattle.drv_syntax.specs.Tree.{choice, more, no_choice, no_test, none, pattern, test}
+use Rattle.std.proofs.Common.{◌≡◌, ◌≤◌, ◌+◌, ◌++◌, Bool, false, true, List, [], ◌∷◌, ap, append-nil, append_assoc, arith, length}
+use Rattle.std.proofs.Common.{length-append}
+use Rattle.std.proofs.Common.{refl, sym, ℕ}
 use Rattle.std.proofs.lemmas.Bool.Decides.{nat_tests}
 use Rattle.std.specs.Prelude.{◌==◌, None, Option, Some, nat_le}
 
--- Single bytes, texts and names of directives, and lists that grow at their end.
+-- Single bytes, texts and names of directives, and lists that grow at their end. It serves the law `spelled_is_read`.
 
 -- lists that grow at their end
 
@@ -60,12 +64,18 @@ newline_said Top = refl
 newline_said InX = refl
 newline_said InArguments = refl
 
-plain_differs : (b x : ℕ) → is_plain b ≡ true → is_plain x ≡ false → (b == x) ≡ false
-plain_differs b x e f = other is_plain b x e f
-
-pub plain_turn : (here : Here) (n b : ℕ) → is_plain b ≡ true → is_end here.context.kind b ≡ false → turn_item here n b ≡ then_item here n (n + 1) (Plain b)
+pub plain_turn : (here : Here) (n b : ℕ) → is_plain b ≡ true → is_end here.context.kind b ≡ false
+    → turn_item here n b ≡ then_item here n (n + 1) (Plain b)
 plain_turn here n b e f =
-    rw (other is_plain b 92 e refl, other is_plain b 37 e refl, f, none_of is_plain (32 ∷ 9 ∷ []) b e (refl, (refl, tt)), other is_plain b 10 e refl, other is_plain b 124 e refl) refl
+    rw (
+      other is_plain b 92 e refl,
+      other is_plain b 37 e refl,
+      f,
+      none_of is_plain (32 ∷ 9 ∷ []) b e (refl, (refl, tt)),
+      other is_plain b
+          10 e refl,
+      other is_plain b 124 e refl,
+    ) refl
 
 pub blank_turn : (here : Here) (n b : ℕ) → is_blank b ≡ true → turn_item here n b ≡ then_item here n (n + 1) Blank
 blank_turn here n b e = rw (other is_blank b 92 e refl, other is_blank b 37 e refl, blank_end here.context.kind b e, e) refl
@@ -78,26 +88,33 @@ bar_turn here n = rw (bar_end here.context.kind) refl
 
 -- texts and names
 
-pub saying_read : {text words mid rest : List ℕ} (ws : List Waiting) (here : Here) (at : ℕ) (kind : SayKind) (n : ℕ) → IsQuoted (is_said here.context.kind) text words mid → s.EndsSaying mid rest
+pub saying_read : {text words mid rest : List ℕ} (ws : List Waiting) (here : Here) (at : ℕ) (kind : SayKind) (n : ℕ)
+    → IsQuoted (is_said here.context.kind) text words mid → s.EndsSaying mid rest
     → Leads ws (o.SayingText here at kind []) n text ws (λ m. o.AtItem (placed here at m (said kind words))) rest
-saying_read {words = words} ws here at kind n q (s.by_newline {rest}) = and_then (quoted (saying_text here at kind) ws [] n q) (λ m f. one (rw (newline_said here.context.kind) refl))
+saying_read {words = words} ws here at kind n q (s.by_newline {rest}) =
+    and_then (quoted (saying_text here at kind) ws [] n q) (λ m f. one (rw (newline_said here.context.kind) refl))
 saying_read {words = words} {rest = rest} ws here at kind n q (s.by_other e) =
-    and_then (quoted (saying_text here at kind) ws [] n q) (λ m f. same_run (alike ws (o.SayingText here at kind words) (o.AtItem (placed here at m (said kind words))) m rest refl
+    and_then (quoted (saying_text here at kind) ws [] n q) (λ m f. same_run
+    (alike ws (o.SayingText here at kind words) (o.AtItem (placed here at m (said kind words))) m rest refl
     (λ c r g. rw (at_front c r (stops_at q) g, at_front c r (stops q) g, at_front c r e g) refl)))
 
-name_byte : (here : Here) (at : ℕ) (w : List ℕ) (n b : ℕ) → is_name_byte b ≡ true → length (w ++ b ∷ []) ≤ 255 → turn (o.NameText here at w) n b ≡ Goes (o.NameText here at (w ++ b ∷ []))
+name_byte : (here : Here) (at : ℕ) (w : List ℕ) (n b : ℕ) → is_name_byte b ≡ true → length (w ++ b ∷ []) ≤ 255
+    → turn (o.NameText here at w) n b ≡ Goes (o.NameText here at (w ++ b ∷ []))
 name_byte here at [] n b e f = rw e refl
 name_byte here at (x ∷ xs) n b e f =
     let g : nat_le (length (x ∷ xs ++ b ∷ [])) 255 ≡ true = grind (arith, nat_tests) in
     rw (e, g) refl
 
-pub name_text : {text run rest : List ℕ} (ws : List Waiting) (here : Here) (at : ℕ) (w : List ℕ) (n : ℕ) → IsRun is_name_byte text run rest → length (w ++ run) ≤ 255
+pub name_text : {text run rest : List ℕ} (ws : List Waiting) (here : Here) (at : ℕ) (w : List ℕ) (n : ℕ) → IsRun is_name_byte text run rest
+    → length (w ++ run) ≤ 255
     → Leads ws (o.NameText here at w) n text ws (λ _. o.NameText here at (w ++ run)) rest
-name_text {text = text} ws here at w n (s.run_ends e) h = same_run (ap (λ (x : List ℕ). run ws (o.NameText here at x) n text) (sym (append-nil w)))
+name_text {text = text} ws here at w n (s.run_ends e) h =
+    same_run (ap (λ (x : List ℕ). run ws (o.NameText here at x) n text) (sym (append-nil w)))
 name_text ws here at w n (s.run_goes {b} {run = others} e q) h =
     let f : length (w ++ b ∷ []) ≤ 255 = omega (arith, length-append w (b ∷ []), length-append w (b ∷ others), h) in
     let g : length ((w ++ b ∷ []) ++ others) ≤ 255 = rw (append_assoc w (b ∷ []) others) h in
-    goes (name_byte here at w n b e f) (to (λ m k. ap (o.NameText here at) (append_assoc w (b ∷ []) others)) (name_text ws here at (w ++ b ∷ []) (n + 1) q g))
+    goes (name_byte here at w n b e f) (to (λ m k. ap (o.NameText here at) (append_assoc w (b ∷ []) others))
+    (name_text ws here at (w ++ b ∷ []) (n + 1) q g))
 
 -- tests
 
@@ -111,13 +128,17 @@ patterns_of h start end negated (HasResult name arguments) = None
 abbrev pub after_asked : Head → ℕ → ℕ → Bool → Asked → Place
 after_asked h start end negated asked = o.AfterTest h (patterns_of h start end negated asked) (tested h start end negated asked) false
 
-pub marked_read : {p : Place} {n start x : ℕ} {h : Head} {negated : Bool} {text word rest : List ℕ} (ws : List Waiting) (mark : ℕ) → is_mark mark ≡ true → Asks p n h start negated
+pub marked_read : {p : Place} {n start x : ℕ} {h : Head} {negated : Bool} {text word rest : List ℕ} (ws : List Waiting) (mark : ℕ)
+    → is_mark mark ≡ true → Asks p n h start negated
     → IsQuoted is_word text (x ∷ word) rest → Stops (λ b. b == 42) rest
-    → Leads ws p n (mark ∷ text) ws (λ m. o.AfterTest h (emitted h start m negated (pattern (mark ∷ x ∷ word) false)) (tested h start m negated (o.marked mark (x ∷ word))) false) rest
+    → Leads ws p n (mark ∷ text) ws (λ m. o.AfterTest h (emitted h start m negated (pattern (mark ∷ x ∷ word) false))
+    (tested h start m negated (o.marked mark (x ∷ word))) false) rest
 marked_read {start = start} {x} {h} {negated} {word = word} {rest} ws mark e a q f =
-    and_then (goes (asks_mark a mark e) (quoted_from (marked_word h start negated mark) ws (record { byte = λ c g k. rw (g, k) refl; escape = refl }) q))
+    and_then (goes (asks_mark a mark e) (quoted_from (marked_word h start negated mark) ws
+    (record { byte = λ c g k. rw (g, k) refl; escape = refl }) q))
     (λ m fits. same_run (alike ws (o.MarkedWord h start negated mark (x ∷ word))
-    (o.AfterTest h (emitted h start m negated (pattern (mark ∷ x ∷ word) false)) (tested h start m negated (o.marked mark (x ∷ word))) false) m rest refl
+    (o.AfterTest h (emitted h start m negated (pattern (mark ∷ x ∷ word) false)) (tested h start m negated (o.marked mark (x ∷ word)))
+    false) m rest refl
     (λ c r k. rw (at_front c r (stops_at q) k, at_front c r (stops q) k, at_front c r f k) refl)))
 
 -- no star precedes white space and a byte that is none
@@ -138,7 +159,8 @@ abbrev pub HasChoice : Choices → Type 0
 HasChoice no_choice = ⊥
 HasChoice (choice x tests items choices) = Unit {0}
 
-pub has_choice : (before : Choices) (x : Span) (tests : Tests) (items : Items) (others : Choices) → HasChoice (join_choices before (choice x tests items others))
+pub has_choice : (before : Choices) (x : Span) (tests : Tests) (items : Items) (others : Choices)
+    → HasChoice (join_choices before (choice x tests items others))
 has_choice no_choice x tests items others = tt
 has_choice (choice y t i c) x tests items others = tt
 
@@ -149,11 +171,13 @@ default_turn h n e = by h.choices e
     by no_choice e = absurd e
     by (choice x t i c) e = refl
 
-pub brace_resumes : (h : Head) (colon : ℕ) (tests : Tests) (items : Items) (n : ℕ) → resume_x h colon tests items n 125 ≡ On (o.AtItem (o.chosen_item h (n + 1) (o.with_choice h colon items)))
+pub brace_resumes : (h : Head) (colon : ℕ) (tests : Tests) (items : Items) (n : ℕ)
+    → resume_x h colon tests items n 125 ≡ On (o.AtItem (o.chosen_item h (n + 1) (o.with_choice h colon items)))
 brace_resumes h colon no_test items n = refl
 brace_resumes h colon (test x negated asked tests) items n = refl
 
-pub next_resumes : {size : ℕ} {c : ListContext} {text end : List ℕ} {tests : Tests} (h : Head) (colon : ℕ) (items : Items) (n : ℕ) → AreTests size c text tests end
+pub next_resumes : {size : ℕ} {c : ListContext} {text end : List ℕ} {tests : Tests} (h : Head) (colon : ℕ) (items : Items) (n : ℕ)
+    → AreTests size c text tests end
     → resume_x h colon tests items n 59 ≡ On (o.ChoiceStart (o.next_head h colon items))
 next_resumes h colon items n (s.last_test a b c d e f) = refl
 next_resumes h colon items n (s.next_test a b c d e f g) = refl

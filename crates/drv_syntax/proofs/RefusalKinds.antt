@@ -10,14 +10,17 @@ use Rattle.drv_syntax.specs.Spelling.{Spells}
 use Rattle.drv_syntax.specs.Tree.{Items}
 use Rattle.drv_syntax.specs.declared.fault.SyntaxFault.{SyntaxFault}
 use Rattle.drv_syntax.specs.declared.fault.SyntaxFault.TheVariants.{TextTooLong, Unclosed}
-use Rattle.std.proofs.Common.{◌≡◌, ◌<◌, ◌≤◌, ◌∙◌, ◌+◌, ◌-◌, ◌++◌, List, false, true, ap, arith, drop, length, refl, subst, sym, take, take-append-drop, ℕ}
+use Rattle.std.proofs.Common.{◌≡◌, ◌<◌, ◌≤◌, ◌∙◌, ◌+◌, ◌-◌, ◌++◌, List, false, true, ap, arith, drop, length, refl, subst, sym, take}
+use Rattle.std.proofs.Common.{take-append-drop, ℕ}
 use Rattle.std.proofs.Math.Seq.{take-length}
 use Rattle.std.proofs.lemmas.Bool.Decides.{nat_tests}
 use Rattle.std.specs.Prelude.{Err, Ok, nat_le}
 
--- A text that ends in the byte that no longer fits is refused at that byte, whatever follows; and what is parsed, by the grammar.
+-- A text that ends in the byte that no longer fits is refused at that byte, whatever follows: the law `refusal_kinds`. And what is parsed,
+-- by the grammar.
 
-at_end : (text : List ℕ) (k : ℕ) (fault : SyntaxFault) → read text ≡ Bad k fault → k + 1 ≡ length text → (rest : List ℕ) → read (text ++ rest) ≡ Bad (length text - 1) fault
+at_end : (text : List ℕ) (k : ℕ) (fault : SyntaxFault) → read text ≡ Bad k fault → k + 1 ≡ length text → (rest : List ℕ)
+    → read (text ++ rest) ≡ Bad (length text - 1) fault
 at_end text k fault e f rest =
     let whole : take (k + 1) text ≡ text = ap (λ (j : ℕ). take j text) f ∙ take-length text in
     let last : k ≡ length text - 1 = omega (arith, f) in
@@ -36,10 +39,12 @@ within text out h e =
 pub parsed_tree : (text : List ℕ) (items : Items) → length text ≤ text_limit → Spells text items → parsed text ≡ Ok items
 parsed_tree text items h d = within text _ h (spelled_is_read text items d)
 
-pub parsed_refusal : (text rest : List ℕ) (fault : SyntaxFault) → length (text ++ rest) ≤ text_limit → IsRefused text fault → parsed (text ++ rest) ≡ Err fault
+pub parsed_refusal : (text rest : List ℕ) (fault : SyntaxFault) → length (text ++ rest) ≤ text_limit → IsRefused text fault
+    → parsed (text ++ rest) ≡ Err fault
 parsed_refusal text rest fault h x = within (text ++ rest) _ h (refusal_kinds text rest fault x)
 
-pub parsed_cut : (text : List ℕ) → length text ≤ text_limit → Front text → ((items : Items) → Spells text items → ⊥) → (place : ℕ) × IsCutAt text place × (parsed text ≡ Err (Unclosed place))
+pub parsed_cut : (text : List ℕ) → length text ≤ text_limit → Front text → ((items : Items) → Spells text items → ⊥) → (place : ℕ)
+    × IsCutAt text place × (parsed text ≡ Err (Unclosed place))
 parsed_cut text h f g = let y = fronts.cut_front text f g in (y.0, cut_at text y.0 y.1, within text _ h y.1)
 
 pub parsed_long : (text : List ℕ) → text_limit < length text → parsed text ≡ Err TextTooLong

@@ -7,10 +7,12 @@ use Rattle.drv_syntax.specs.Outcome.{Bad, Cut, Got, Out, read}
 use Rattle.drv_syntax.specs.Spelling.{Spells}
 use Rattle.drv_syntax.specs.Tree.{Items}
 use Rattle.drv_syntax.specs.declared.fault.SyntaxFault.{SyntaxFault}
-use Rattle.std.proofs.Common.{◌≡◌, ◌∙◌, ◌+◌, ◌++◌, ◌<◌, ◌≤◌, ◌⊎◌, List, [], ◌∷◌, ap, append_assoc, arith, drop, inl, inr, length, refl, subst, suc, sym, take, zero, ℕ}
+use Rattle.std.proofs.Common.{◌≡◌, ◌∙◌, ◌+◌, ◌++◌, ◌<◌, ◌≤◌, ◌⊎◌, List, [], ◌∷◌, ap, append_assoc, arith, drop, inl, inr, length}
+use Rattle.std.proofs.Common.{refl, subst}
+use Rattle.std.proofs.Common.{suc, sym, take, zero, ℕ}
 use Rattle.std.proofs.lemmas.List.{length-take-le, take-append-drop}
 
--- A refusal, its place and a cut text by the fronts alone.
+-- A refusal, its place and a cut text by the fronts alone. It serves the laws `refused_after_front`, `front_prefix` and `cut_front`.
 
 take_within : (j k : ℕ) (xs : List ℕ) → j ≤ k → take j (take k xs) ≡ take j xs
 take_within zero k xs h = refl
@@ -34,27 +36,43 @@ less_or_same (suc j) (suc k) h = by (less_or_same j k (omega arith))
 
 -- each prefix before the byte of the refusal is a front, and no text that begins with that byte's prefix
 pub refused_fronts : (text : List ℕ) (k : ℕ) (fault : SyntaxFault) → read text ≡ Bad k fault
-    → (k < length text) × ((j : ℕ) → j ≤ k → Front (take j text)) × ((rest : List ℕ) → Front (take (k + 1) text ++ rest) → ⊥) × ((rest : List ℕ) → read (take (k + 1) text ++ rest) ≡ Bad k fault)
-refused_fronts text k fault h =
-    ((shortest text k fault h).0, λ j l. unrefused_is_front (take j text) ((shortest text k fault h).1 j l), no_front text k fault h, (shortest text k fault h).2)
+    → (k < length text) × ((j : ℕ) → j ≤ k → Front (take j text)) × ((rest : List ℕ) → Front (take (k + 1) text ++ rest) → ⊥)
+    × ((rest : List ℕ) → read (take (k + 1) text ++ rest) ≡ Bad k fault)
+refused_fronts text k fault h = (
+  (shortest text k fault h).0,
+  λ j l. unrefused_is_front (take j text) ((shortest text k fault h).1 j l),
+  no_front text k fault h,
+  (shortest text k fault h).2,
+)
 
 -- a text is refused at the byte after its longest front
-pub refused_after : (text : List ℕ) (k : ℕ) → k < length text → Front (take k text) → (Front (take (k + 1) text) → ⊥) → (fault : SyntaxFault) × (read text ≡ Bad k fault)
+pub refused_after : (text : List ℕ) (k : ℕ) → k < length text → Front (take k text) → (Front (take (k + 1) text) → ⊥)
+    → (fault : SyntaxFault) × (read text ≡ Bad k fault)
 refused_after text k h f g = by (read (take (k + 1) text)) refl
   where
-    at_place : (j : ℕ) (fault : SyntaxFault) → read (take (k + 1) text) ≡ Bad j fault → j ≡ k → (fault : SyntaxFault) × (read text ≡ Bad k fault)
+    at_place : (j : ℕ) (fault : SyntaxFault) → read (take (k + 1) text) ≡ Bad j fault → j ≡ k → (fault : SyntaxFault)
+        × (read text ≡ Bad k fault)
     at_place j fault e i =
-        let d : take (j + 1) (take (k + 1) text) ≡ take (k + 1) text = ap (λ (n : ℕ). take (n + 1) (take (k + 1) text)) i ∙ take_within (k + 1) (k + 1) text (omega arith) in
-        let r : read (take (k + 1) text ++ drop (k + 1) text) ≡ Bad j fault = subst (λ (ys : List ℕ). read (ys ++ drop (k + 1) text) ≡ Bad j fault) d ((shortest (take (k + 1) text) j fault e).2 (drop (k + 1) text)) in
-        (fault, subst (λ (n : ℕ). read text ≡ Bad n fault) i (subst (λ (ys : List ℕ). read ys ≡ Bad j fault) (take-append-drop (k + 1) text) r))
+        let d : take (j + 1) (take (k + 1) text) ≡ take (k + 1) text = ap (λ (n : ℕ). take (n + 1) (take (k + 1) text)) i
+        ∙ take_within (k + 1) (k + 1) text (omega arith) in
+        let r : read (take (k + 1) text ++ drop (k + 1) text) ≡ Bad j fault =
+        subst (λ (ys : List ℕ). read (ys ++ drop (k + 1) text) ≡ Bad j fault) d
+        ((shortest (take (k + 1) text) j fault e).2 (drop (k + 1) text)) in (
+          fault,
+          subst (λ (n : ℕ). read text ≡ Bad n fault) i (subst (λ (ys : List ℕ). read ys ≡ Bad j fault) (take-append-drop (k + 1) text)
+              r),
+        )
 
-    before : (j : ℕ) (fault : SyntaxFault) → read (take (k + 1) text) ≡ Bad j fault → j < k → (fault : SyntaxFault) × (read text ≡ Bad k fault)
+    before : (j : ℕ) (fault : SyntaxFault) → read (take (k + 1) text) ≡ Bad j fault → j < k → (fault : SyntaxFault)
+        × (read text ≡ Bad k fault)
     before j fault e i =
         let d : take k text ≡ take (j + 1) (take (k + 1) text) ++ drop (j + 1) (take k text)
-        = taken_on (j + 1) k text (omega arith) ∙ ap (λ (ys : List ℕ). ys ++ drop (j + 1) (take k text)) (sym (take_within (j + 1) (k + 1) text (omega arith))) in
+        = taken_on (j + 1) k text (omega arith) ∙ ap (λ (ys : List ℕ). ys ++ drop (j + 1) (take k text))
+        (sym (take_within (j + 1) (k + 1) text (omega arith))) in
         absurd (no_front (take (k + 1) text) j fault e (drop (j + 1) (take k text)) (subst Front d f))
 
-    decide : (j : ℕ) (fault : SyntaxFault) → read (take (k + 1) text) ≡ Bad j fault → j < k + 1 → (fault : SyntaxFault) × (read text ≡ Bad k fault)
+    decide : (j : ℕ) (fault : SyntaxFault) → read (take (k + 1) text) ≡ Bad j fault → j < k + 1 → (fault : SyntaxFault)
+        × (read text ≡ Bad k fault)
     decide j fault e m = either (less_or_same j k m)
       where
         either : (j < k) ⊎ (j ≡ k) → (fault : SyntaxFault) × (read text ≡ Bad k fault)
@@ -64,7 +82,8 @@ refused_after text k h f g = by (read (take (k + 1) text)) refl
     by : (r : Out) → read (take (k + 1) text) ≡ r → (fault : SyntaxFault) × (read text ≡ Bad k fault)
     by (Got items) e = absurd (g (unrefused_is_front (take (k + 1) text) (inl (items, e))))
     by (Cut at) e = absurd (g (unrefused_is_front (take (k + 1) text) (inr (at, e))))
-    by (Bad j fault) e = decide j fault e (omega (arith, (shortest (take (k + 1) text) j fault e).0, length-take-le (k + 1) text (omega (arith, h))))
+    by (Bad j fault) e =
+        decide j fault e (omega (arith, (shortest (take (k + 1) text) j fault e).0, length-take-le (k + 1) text (omega (arith, h))))
 
 -- what a front begins with is a front
 pub front_prefix : (text rest : List ℕ) → Front (text ++ rest) → Front text
@@ -75,7 +94,8 @@ front_prefix text rest f = by (read text) refl
     by (Cut at) e = unrefused_is_front text (inr (at, e))
     by (Bad k fault) e =
         let d : text ++ rest ≡ take (k + 1) text ++ (drop (k + 1) text ++ rest)
-        = ap (λ (ys : List ℕ). ys ++ rest) (sym (take-append-drop (k + 1) text)) ∙ append_assoc (take (k + 1) text) (drop (k + 1) text) rest in
+        = ap (λ (ys : List ℕ). ys ++ rest) (sym (take-append-drop (k + 1) text))
+        ∙ append_assoc (take (k + 1) text) (drop (k + 1) text) rest in
         absurd (no_front text k fault e (drop (k + 1) text ++ rest) (subst Front d f))
 
 -- a front that has no tree is cut short

@@ -1,11 +1,12 @@
 use Rattle.drv_syntax.specs.Outcome as o
-use Rattle.drv_syntax.specs.Outcome.{Bad, Closes, Cut, Goes, Got, Not, On, Opens, Out, Place, Refused, Resumed, Turn, Unrefused, Waiting, after, closed, end_of, finish, outermost, read, resume, resumed, run, turn}
+use Rattle.drv_syntax.specs.Outcome.{Bad, Closes, Cut, Goes, Got, Not, On, Opens, Out, Place, Refused, Resumed, Turn, Unrefused, Waiting}
+use Rattle.drv_syntax.specs.Outcome.{after, end_of, finish, outermost, read, resume, resumed, run, turn}
 use Rattle.drv_syntax.specs.Contexts.{top}
 use Rattle.drv_syntax.specs.Tree.{Items}
 use Rattle.drv_syntax.specs.declared.fault.SyntaxFault.{SyntaxFault}
 use Rattle.std.proofs.Common.{◌≡◌, ◌⊎◌, ◌+◌, ◌++◌, ◌<◌, ◌≤◌, List, [], ◌∷◌, add-one, arith, inl, inr, length, refl, suc, take, zero, ℕ}
 
--- A refused text is refused at the end of its shortest prefix that is no front. Nothing here knows the table.
+-- A refused text is refused at the end of its shortest prefix that is no front: the law `shortest_prefix`. Nothing here knows the table.
 
 abbrev pub IsFront : Out → Type 0
 IsFront out = ((items : Items) × (out ≡ Got items)) ⊎ ((at : ℕ) × (out ≡ Cut at))
@@ -64,7 +65,8 @@ not_bad out k fault (inl (items, e)) h = absurd cc
 not_bad out k fault (inr (at, e)) h = absurd cc
 
 -- a byte after which the text goes on, from a place that may be another
-deeper : (ws vs : List Waiting) (p q : Place) (n b k : ℕ) (fault : SyntaxFault) (text : List ℕ) → ((rest : List ℕ) → run ws p n (b ∷ rest) ≡ run vs q (n + 1) rest)
+deeper : (ws vs : List Waiting) (p q : Place) (n b k : ℕ) (fault : SyntaxFault) (text : List ℕ)
+    → ((rest : List ℕ) → run ws p n (b ∷ rest) ≡ run vs q (n + 1) rest)
     → Fails vs q (n + 1) text k fault → Fails ws p n (b ∷ text) k fault
 deeper ws vs p q n b k fault text e r = record {
   j = suc r.j;
@@ -79,7 +81,8 @@ deeper ws vs p q n b k fault text e r = record {
     before (suc i) h = rw (e (take i text)) (r.before i (omega arith))
 
 -- the byte that doesn't fit
-here_fails : (ws : List Waiting) (p : Place) (n b k : ℕ) (fault : SyntaxFault) (text : List ℕ) → ((rest : List ℕ) → run ws p n (b ∷ rest) ≡ Bad k fault) → k ≡ n → Fails ws p n (b ∷ text) k fault
+here_fails : (ws : List Waiting) (p : Place) (n b k : ℕ) (fault : SyntaxFault) (text : List ℕ)
+    → ((rest : List ℕ) → run ws p n (b ∷ rest) ≡ Bad k fault) → k ≡ n → Fails ws p n (b ∷ text) k fault
 here_fails ws p n b k fault text e h = record { j = 0; is = omega arith; inside = omega arith; before = before; again = λ more. e more }
   where
     before : (i : ℕ) → i ≤ 0 → IsFront (run ws p n (take i (b ∷ text)))
@@ -89,20 +92,24 @@ here_fails ws p n b k fault text e h = record { j = 0; is = omega arith; inside 
 bad_place : (n k : ℕ) (f g : SyntaxFault) → Bad n f ≡ Bad k g → k ≡ n
 bad_place n k f g h = cc
 
-module _ (b k : ℕ) (fault : SyntaxFault) (text : List ℕ) (IH : (ws : List Waiting) (p : Place) (n : ℕ) → run ws p n text ≡ Bad k fault → Fails ws p n text k fault) where
-  by_resumed : (w : Waiting) (ws : List Waiting) (p : Place) (n c : ℕ) (items : Items) → turn p n b ≡ Closes items c → (r : Resumed) → resume w items n c ≡ r
+module _ (b k : ℕ) (fault : SyntaxFault) (text : List ℕ) (IH : (ws : List Waiting) (p : Place) (n : ℕ) → run ws p n text ≡ Bad k fault
+    → Fails ws p n text k fault) where
+  by_resumed : (w : Waiting) (ws : List Waiting) (p : Place) (n c : ℕ) (items : Items) → turn p n b ≡ Closes items c → (r : Resumed)
+      → resume w items n c ≡ r
       → resumed r (λ q. run ws q (n + 1) text) n ≡ Bad k fault → Fails (w ∷ ws) p n (b ∷ text) k fault
   by_resumed w ws p n c items e (On q) g h = deeper (w ∷ ws) ws p q n b k fault text (λ rest. rw (e, g) refl) (IH ws q (n + 1) h)
   by_resumed w ws p n c items e (Not f) g h = here_fails (w ∷ ws) p n b k fault text (λ rest. rw (e, g) h) (bad_place n k f fault h)
 
-  by_turn : (ws : List Waiting) (p : Place) (n : ℕ) (t : Turn) → turn p n b ≡ t → after t ws (λ w q. run w q (n + 1) text) n ≡ Bad k fault → Fails ws p n (b ∷ text) k fault
+  by_turn : (ws : List Waiting) (p : Place) (n : ℕ) (t : Turn) → turn p n b ≡ t → after t ws (λ w q. run w q (n + 1) text) n ≡ Bad k fault
+      → Fails ws p n (b ∷ text) k fault
   by_turn ws p n (Goes q) e h = deeper ws ws p q n b k fault text (λ rest. rw e refl) (IH ws q (n + 1) h)
   by_turn ws p n (Opens q w) e h = deeper ws (w ∷ ws) p q n b k fault text (λ rest. rw e refl) (IH (w ∷ ws) q (n + 1) h)
   by_turn [] p n (Closes items c) e h = absurd cc
   by_turn (w ∷ ws) p n (Closes items c) e h = by_resumed w ws p n c items e (resume w items n c) refl h
   by_turn ws p n (Refused f) e h = here_fails ws p n b k fault text (λ rest. rw e h) (bad_place n k f fault h)
 
-fails : (text : List ℕ) (k : ℕ) (fault : SyntaxFault) (ws : List Waiting) (p : Place) (n : ℕ) → run ws p n text ≡ Bad k fault → Fails ws p n text k fault
+fails : (text : List ℕ) (k : ℕ) (fault : SyntaxFault) (ws : List Waiting) (p : Place) (n : ℕ) → run ws p n text ≡ Bad k fault
+    → Fails ws p n text k fault
 fails [] k fault ws p n h = not_bad (end_of ws p n) k fault (ends ws p n) h
 fails (b ∷ text) k fault ws p n h = by_turn b k fault text (λ vs q m. fails text k fault vs q m) ws p n (turn p n b) refl h
 

@@ -8,13 +8,17 @@ use Rattle.drv_syntax.specs.declared.fault.SyntaxFault.TheVariants.{BadDirective
 use Rattle.drv_syntax.specs.Contexts.{ListContext, Top, in_arguments, in_braces, in_x, is_end}
 use Rattle.drv_syntax.specs.Outcome as o
 use Rattle.drv_syntax.specs.Outcome.{Head, Not, On, Place, Turn, Waiting, emitted, fresh, join_tests, resume, tested}
-use Rattle.drv_syntax.specs.Refusals.{AWord, AnEnd, AtBar, AtFront, AtNext, AfterMark, Breaks, Due, Empty, IsNoFunction, Order, PastMark, Reaches, ReachesAsked, ReachesEmits, ReachesLater, ReachesPatterns, ReachesTests, Refuses, ends_either, ends_pattern, ends_test}
+use Rattle.drv_syntax.specs.Refusals.{AWord, AnEnd, AtBar, AtFront, AtNext, AfterMark, Breaks, Due, Empty, IsNoFunction, Order, PastMark}
+use Rattle.drv_syntax.specs.Refusals.{Reaches, ReachesAsked, ReachesEmits, ReachesLater, ReachesPatterns, ReachesTests, Refuses}
+use Rattle.drv_syntax.specs.Refusals.{ends_either, ends_pattern, ends_test}
 use Rattle.drv_syntax.specs.Spelling.{AreItems, AreSpaces, AreTests, At, IsAsked, IsQuoted, IsRun, Stops}
-use Rattle.drv_syntax.specs.Tree.{Asked, Choices, HasResult, HasSwitch, Items, Pattern, Span, Tests, choice, no_choice, no_test, pattern, test}
+use Rattle.drv_syntax.specs.Tree.{Asked, Choices, HasResult, HasSwitch, Items, Pattern, Span, Tests, choice, no_choice, no_test, pattern}
+use Rattle.drv_syntax.specs.Tree.{test}
 use Rattle.std.proofs.Common.{◌≡◌, ◌≤◌, ◌++◌, ◌⊎◌, Bool, false, true, List, [], ◌∷◌, length, ℕ}
 use Rattle.std.specs.Prelude.{◌==◌, None, Option, Some}
 
--- What is left of a text that ends in the byte that no longer fits, inside the directive that a place is in.
+-- What is left of a text that ends in the byte that no longer fits, inside the directive that a place is in. It serves the law
+-- `refused_kinds`.
 
 abbrev pub Absent : {X : Type 0} → Option X → Type 0
 Absent (Some x) = ⊥
@@ -66,7 +70,8 @@ module _ (size : ℕ) (F : SyntaxFault) where
   abbrev pub choice_stuck : ListContext → ℕ → Tests → List ℕ → Type 0
   choice_stuck c n tests end =
       (mid : List ℕ) × (end ≡ 58 ∷ mid)
-      × (list_stuck (in_x c tests) mid ⊎ ((items : Items) × (next : List ℕ) × AreItems size (in_x c tests) mid items (59 ∷ next) × later_stuck c n next))
+      × (list_stuck (in_x c tests) mid ⊎ ((items : Items) × (next : List ℕ) × AreItems size (in_x c tests) mid items (59 ∷ next)
+      × later_stuck c n next))
 
   -- after a test
   abbrev pub after_patterns : ℕ → List ℕ → Type 0
@@ -82,11 +87,13 @@ module _ (size : ℕ) (F : SyntaxFault) where
 
   abbrev pub some_stuck : Head → Option (List (Span × Pattern)) → Option Tests → Bool → List ℕ → Type 0
   some_stuck h ps ts bare text =
-      Of (λ _. after_patterns h.at text) ps ⊎ (Of (λ tests. after_tests (in_braces h.here.context) h.at tests text) ts ⊎ end_stuck (end_due bare h.at ps ts) text)
+      Of (λ _. after_patterns h.at text) ps ⊎ (Of (λ tests. after_tests (in_braces h.here.context) h.at tests text) ts
+      ⊎ end_stuck (end_due bare h.at ps ts) text)
 
   -- where a test is due
   abbrev pub tests_left : ListContext → ℕ → Order → Tests → List ℕ → Type 0
-  tests_left c n order tests text = ((others : Tests) × (end : List ℕ) × AreTests size c text others end × choice_stuck c n (join_tests tests others) end) ⊎ tests_stuck c n order text
+  tests_left c n order tests text = ((others : Tests) × (end : List ℕ) × AreTests size c text others end
+      × choice_stuck c n (join_tests tests others) end) ⊎ tests_stuck c n order text
 
   abbrev pub due_stuck : Head → List ℕ → Type 0
   due_stuck h text = tests_left (in_braces h.here.context) h.at (order_of h) h.tests text ⊎ (Bare h × emits_stuck h.at text)
@@ -103,16 +110,19 @@ module _ (size : ℕ) (F : SyntaxFault) where
 
   abbrev pub word_stuck : Head → ℕ → Bool → List ℕ → List ℕ → Type 0
   word_stuck h begun negated word text =
-      (p : Pattern) × (mid : List ℕ) × (m : ℕ) × IsPatternRest word text p mid × At size m mid × some_stuck h (emitted h begun m negated p) (tested h begun m negated (HasSwitch p)) false mid
+      (p : Pattern) × (mid : List ℕ) × (m : ℕ) × IsPatternRest word text p mid × At size m mid
+      × some_stuck h (emitted h begun m negated p) (tested h begun m negated (HasSwitch p)) false mid
 
   -- words after a mark
   abbrev pub starred_stuck : Head → ℕ → Bool → ℕ → List ℕ → List ℕ → Type 0
   starred_stuck h begun negated mark word mid =
       (rest : List ℕ) × (m : ℕ) × (mid ≡ 42 ∷ rest)
-      × Of (λ _. after_patterns h.at rest ⊎ end_stuck (AnEnd h.at ends_pattern) rest) (emitted h begun m negated (pattern (mark ∷ word) true))
+      × Of (λ _. after_patterns h.at rest ⊎ end_stuck (AnEnd h.at ends_pattern) rest)
+      (emitted h begun m negated (pattern (mark ∷ word) true))
 
   abbrev pub star_stuck : Head → ℕ → Bool → ℕ → List ℕ → List ℕ → Type 0
-  star_stuck h begun negated mark word mid = (m : ℕ) × (mid ≡ 42 ∷ []) × Absent (emitted h begun m negated (pattern (mark ∷ word) true)) × (BadDirective h.at ≡ F)
+  star_stuck h begun negated mark word mid = (m : ℕ) × (mid ≡ 42 ∷ []) × Absent (emitted h begun m negated (pattern (mark ∷ word) true))
+      × (BadDirective h.at ≡ F)
 
   abbrev pub marked_after : Head → ℕ → Bool → ℕ → List ℕ → List ℕ → Type 0
   marked_after h begun negated mark word mid =
@@ -121,10 +131,12 @@ module _ (size : ℕ) (F : SyntaxFault) where
       ⊎ (starred_stuck h begun negated mark word mid ⊎ star_stuck h begun negated mark word mid)
 
   abbrev pub marked_stuck : Head → ℕ → Bool → ℕ → List ℕ → List ℕ → Type 0
-  marked_stuck h begun negated mark word text = (run : List ℕ) × (mid : List ℕ) × IsQuoted is_word text run mid × marked_after h begun negated mark (word ++ run) mid
+  marked_stuck h begun negated mark word text = (run : List ℕ) × (mid : List ℕ) × IsQuoted is_word text run mid
+      × marked_after h begun negated mark (word ++ run) mid
 
   abbrev pub alone_stuck : ℕ → List ℕ → Type 0
-  alone_stuck n text = Refuses size (AfterMark n) text F ⊎ ((b : ℕ) × (rest : List ℕ) × (text ≡ b ∷ rest) × (is_white b ≡ true) × end_stuck (PastMark n) rest)
+  alone_stuck n text = Refuses size (AfterMark n) text F ⊎ ((b : ℕ) × (rest : List ℕ) × (text ≡ b ∷ rest) × (is_white b ≡ true)
+      × end_stuck (PastMark n) rest)
 
   abbrev pub mark_stuck : Head → ℕ → Bool → ℕ → List ℕ → Type 0
   mark_stuck h begun negated mark text =
@@ -139,12 +151,15 @@ module _ (size : ℕ) (F : SyntaxFault) where
   call_stuck at c name text following =
       (IsNoFunction (name ++ text) × (UnknownFunction at ≡ F))
       ⊎ ((others : List ℕ) × (mid : List ℕ) × (text ≡ others ++ 40 ∷ mid) × (is_function (name ++ others) ≡ true)
-      × (list_stuck (in_arguments c) mid ⊎ ((arguments : Items) × (rest : List ℕ) × AreItems size (in_arguments c) mid arguments (41 ∷ rest) × following (name ++ others) arguments rest)))
+      × (list_stuck (in_arguments c) mid ⊎ ((arguments : Items) × (rest : List ℕ) × AreItems size (in_arguments c) mid arguments (41 ∷ rest)
+      × following (name ++ others) arguments rest)))
 
   -- after a function in a test
   abbrev pub result_stuck : Head → ℕ → Bool → List ℕ → Items → List ℕ → Type 0
   result_stuck h begun negated name arguments rest =
-      (m : ℕ) × At size m rest × (Of (λ tests. after_tests (in_braces h.here.context) h.at tests rest) (tested h begun m negated (HasResult name arguments)) ⊎ end_stuck (AnEnd h.at ends_test) rest)
+      (m : ℕ) × At size m rest
+      × (Of (λ tests. after_tests (in_braces h.here.context) h.at tests rest) (tested h begun m negated (HasResult name arguments))
+      ⊎ end_stuck (AnEnd h.at ends_test) rest)
 
   abbrev pub test_call_stuck : Head → ℕ → Bool → ℕ → List ℕ → List ℕ → Type 0
   test_call_stuck h begun negated at name text = call_stuck at (in_braces h.here.context) name text (result_stuck h begun negated)
@@ -174,19 +189,24 @@ module _ (size : ℕ) (F : SyntaxFault) where
   Stuck (o.HideEscape here at word) text = ⊥
   Stuck (o.FunctionName here at name) text = is_function_front name ≡ true → call_stuck at here.context name text (λ n arguments rest. ⊥)
   Stuck (o.BraceOpen here at kind) text =
-      ((b : ℕ) × (text ≡ b ∷ []) × ((b == 123) ≡ false) × (BadDirective at ≡ F)) ⊎ ((rest : List ℕ) × (text ≡ 123 ∷ rest) × start_stuck (fresh here at kind) rest)
+      ((b : ℕ) × (text ≡ b ∷ []) × ((b == 123) ≡ false) × (BadDirective at ≡ F))
+      ⊎ ((rest : List ℕ) × (text ≡ 123 ∷ rest) × start_stuck (fresh here at kind) rest)
   Stuck (o.ChoiceStart h) text = (h.patterns ≡ []) × (h.tests ≡ no_test) → start_stuck h text
   Stuck (o.TestDue h) text = (h.patterns ≡ []) × Tested h.tests → due_stuck h text
   Stuck (o.TestNegated h begun) text = h.patterns ≡ [] → (mid : List ℕ) × AreSpaces text mid × asked_stuck h begun true mid
   Stuck (o.PatternDue h) text = Bare h × Filled h.patterns → patterns_stuck h.at text
   Stuck (o.TestWord h begun negated word) text = Fine h negated → word_stuck h begun negated word text
-  Stuck (o.TestWordEscape h begun negated word) text = Fine h negated → next_byte text (λ b rest. word_stuck h begun negated (word ++ b ∷ []) rest)
+  Stuck (o.TestWordEscape h begun negated word) text = Fine h negated → next_byte text
+      (λ b rest. word_stuck h begun negated (word ++ b ∷ []) rest)
   Stuck (o.TestMark h begun negated mark) text = h.patterns ≡ [] → mark_stuck h begun negated mark text
   Stuck (o.MarkedWord h begun negated mark word) text = h.patterns ≡ [] → marked_stuck h begun negated mark word text
-  Stuck (o.MarkedEscape h begun negated mark word) text = h.patterns ≡ [] → next_byte text (λ b rest. marked_stuck h begun negated mark (word ++ b ∷ []) rest)
+  Stuck (o.MarkedEscape h begun negated mark word) text = h.patterns ≡ []
+      → next_byte text (λ b rest. marked_stuck h begun negated mark (word ++ b ∷ []) rest)
   Stuck (o.TestPercent h begun negated at) text =
-      h.patterns ≡ [] → ((b : ℕ) × (text ≡ b ∷ []) × ((b == 58) ≡ false) × (BadDirective at ≡ F)) ⊎ ((rest : List ℕ) × (text ≡ 58 ∷ rest) × test_call_stuck h begun negated at [] rest)
-  Stuck (o.TestFunction h begun negated at name) text = h.patterns ≡ [] → is_function_front name ≡ true → test_call_stuck h begun negated at name text
+      h.patterns ≡ [] → ((b : ℕ) × (text ≡ b ∷ []) × ((b == 58) ≡ false) × (BadDirective at ≡ F))
+      ⊎ ((rest : List ℕ) × (text ≡ 58 ∷ rest) × test_call_stuck h begun negated at [] rest)
+  Stuck (o.TestFunction h begun negated at name) text = h.patterns ≡ [] → is_function_front name ≡ true
+      → test_call_stuck h begun negated at name text
   Stuck (o.AfterTest h ps ts bare) text = Possible h ps ts × (bare ≡ true → There ps) → some_stuck h ps ts bare text
 
   -- around a list for whose end a directive waits: the text ends in the list, or at its end, or the directive goes on after it
@@ -205,7 +225,8 @@ module _ (size : ℕ) (F : SyntaxFault) where
   abbrev pub InsideStuck : Waiting → ListContext → List ℕ → Type 0
   InsideStuck w c text =
       list_stuck c text
-      ⊎ ((items : Items) × (b : ℕ) × (rest : List ℕ) × (k : ℕ) × AreItems size c text items (b ∷ rest) × (is_end c.kind b ≡ true) × At size k (b ∷ rest)
+      ⊎ ((items : Items) × (b : ℕ) × (rest : List ℕ) × (k : ℕ) × AreItems size c text items (b ∷ rest) × (is_end c.kind b ≡ true)
+      × At size k (b ∷ rest)
       × (((q : Place) × (resume w items k b ≡ On q) × Stuck q rest) ⊎ ((resume w items k b ≡ Not F) × (rest ≡ []))))
 
   -- what is left after a byte that does this, where the text ends in the directive that the byte is in

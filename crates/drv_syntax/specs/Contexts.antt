@@ -1,6 +1,7 @@
 use Rattle.drv_words.specs.Bytes as ascii
 use Rattle.drv_syntax.specs.Bytes.{is_of}
-use Rattle.drv_syntax.specs.Tree.{Blank, Item, HasLanguage, Newline, Pipe, Plain, HasResult, HasSuffix, HasSwitch, Tests, no_test, pattern, test}
+use Rattle.drv_syntax.specs.Tree.{Blank, Item, HasLanguage, Newline, Pipe, Plain, HasResult, HasSuffix, HasSwitch, Tests, no_test, pattern}
+use Rattle.drv_syntax.specs.Tree.{test}
 use Rattle.std.specs.Prelude.{◌-◌, ◌==◌, Bool, false, true, if◌then◌else◌, [], ◌∷◌, codes, ℕ}
 
 -- Where a list of items is, and what that means for its bytes and directives (this project's profile).

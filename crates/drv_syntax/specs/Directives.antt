@@ -2,13 +2,18 @@ use Rattle.drv_syntax.specs.Bytes.{is_of}
 use Rattle.drv_syntax.specs.Tree.{ArgumentsFile, Brace, Braces, FailureFile, Item, Notice, UserError}
 use Rattle.drv_syntax.specs.declared.directives.BraceKind.TheVariants.{InPlace, IntoArgumentsFile, IntoFailureFile}
 use Rattle.drv_syntax.specs.declared.directives.BraceKind.{BraceKind}
-use Rattle.drv_syntax.specs.declared.directives.BuiltinName.TheVariants.{Assembler, AssemblerFinal, Compiler, CompilerPlus, EndFiles, Libraries, Linker, Preprocessor, StartFiles, Support}
+use Rattle.drv_syntax.specs.declared.directives.BuiltinName.TheVariants.{Assembler, AssemblerFinal, Compiler, CompilerPlus, EndFiles}
+use Rattle.drv_syntax.specs.declared.directives.BuiltinName.TheVariants.{Libraries, Linker, Preprocessor, StartFiles, Support}
 use Rattle.drv_syntax.specs.declared.directives.BuiltinName.{BuiltinName}
-use Rattle.drv_syntax.specs.declared.directives.Directive.TheVariants.{Named, Nowhere, OfStar, Whole, WithBraces, WithCall, WithMarkedBraces, WithName, WithOption, WithPattern, WithSaying, WithSuffix}
+use Rattle.drv_syntax.specs.declared.directives.Directive.TheVariants.{Named, Nowhere, OfStar, Whole, WithBraces, WithCall}
+use Rattle.drv_syntax.specs.declared.directives.Directive.TheVariants.{WithMarkedBraces, WithName, WithOption, WithPattern, WithSaying}
+use Rattle.drv_syntax.specs.declared.directives.Directive.TheVariants.{WithSuffix}
 use Rattle.drv_syntax.specs.declared.directives.Directive.{Directive}
 use Rattle.drv_syntax.specs.declared.directives.SayKind.TheVariants.{AsError, AsNotice}
 use Rattle.drv_syntax.specs.declared.directives.SayKind.{SayKind}
-use Rattle.drv_syntax.specs.declared.token.Leaf.TheVariants.{AssemblerOptions, BaseName, BaseStem, Directories, FoundFile, FoundScript, InputName, LinkerOptions, NoOutput, ObjectSuffix, Output, Outputs, Percent, PreprocessorOptions, Removed}
+use Rattle.drv_syntax.specs.declared.token.Leaf.TheVariants.{AssemblerOptions, BaseName, BaseStem, Directories, FoundFile, FoundScript}
+use Rattle.drv_syntax.specs.declared.token.Leaf.TheVariants.{InputName, LinkerOptions, NoOutput, ObjectSuffix, Output, Outputs, Percent}
+use Rattle.drv_syntax.specs.declared.token.Leaf.TheVariants.{PreprocessorOptions, Removed}
 use Rattle.drv_syntax.specs.declared.token.TempKind.TheVariants.{Last, New, PipedIn, PipedOut, Shared}
 use Rattle.std.specs.Prelude.{◌==◌, Bool, false, true, if◌then◌else◌, List, [], ◌∷◌, codes, ℕ}
 

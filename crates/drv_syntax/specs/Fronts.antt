@@ -3,7 +3,8 @@ use Rattle.drv_syntax.specs.Bytes.{is_function, is_function_front, is_mark, is_n
 use Rattle.drv_syntax.specs.Directives.{directive_of, is_allowed}
 use Rattle.drv_syntax.specs.declared.directives.BraceKind.{BraceKind}
 use Rattle.drv_syntax.specs.declared.directives.Directive.{Directive}
-use Rattle.drv_syntax.specs.declared.directives.Directive.TheVariants.{WithBraces, WithCall, WithMarkedBraces, WithName, WithOption, WithPattern, WithSaying, WithSuffix}
+use Rattle.drv_syntax.specs.declared.directives.Directive.TheVariants.{WithBraces, WithCall, WithMarkedBraces, WithName, WithOption}
+use Rattle.drv_syntax.specs.declared.directives.Directive.TheVariants.{WithPattern, WithSaying, WithSuffix}
 use Rattle.drv_syntax.specs.declared.directives.SayKind.{SayKind}
 use Rattle.drv_syntax.specs.Contexts.{ListContext, in_arguments, in_braces, in_x, is_said, top}
 use Rattle.drv_syntax.specs.Spelling.{AreItems, AreSpaces, AreTests, IsAsked, IsItem, IsPattern, IsRun, IsSign, Stops}
@@ -26,38 +27,46 @@ pub data RunsOut (f : ℕ → Bool) : List ℕ → Type 0 where
 pub data CutsPatterns : List ℕ → Type 0 where
   in_pattern : {t u : List ℕ} → AreSpaces t u → RunsOut is_word u → CutsPatterns t
   after_pattern : {t u v : List ℕ} {p : Pattern} → AreSpaces t u → IsPattern u p v → AreSpaces v [] → CutsPatterns t
-  after_and : {t u v w : List ℕ} {p : Pattern} → AreSpaces t u → IsPattern u p v → AreSpaces v (ascii.ampersand ∷ w) → CutsPatterns w → CutsPatterns t
+  after_and : {t u v w : List ℕ} {p : Pattern} → AreSpaces t u → IsPattern u p v → AreSpaces v (ascii.ampersand ∷ w) → CutsPatterns w
+      → CutsPatterns t
 
 mutual
   -- items, of which the last may be cut
   pub data AreFrontItems (size : ℕ) : ListContext → List ℕ → Type 0 where
     items_end : {c : ListContext} → AreFrontItems size c []
-    whole_item : {c : ListContext} {text rest : List ℕ} {item : Item} → IsItem size c text item rest → AreFrontItems size c rest → AreFrontItems size c text
+    whole_item : {c : ListContext} {text rest : List ℕ} {item : Item} → IsItem size c text item rest → AreFrontItems size c rest
+        → AreFrontItems size c text
     cut_item : {c : ListContext} {text : List ℕ} → CutsItem size c text → AreFrontItems size c text
 
   -- an item without its end
   pub data CutsItem (size : ℕ) : ListContext → List ℕ → Type 0 where
     cut_escape : {c : ListContext} → CutsItem size c (ascii.backslash ∷ [])
     cut_percent : {c : ListContext} → CutsItem size c (ascii.percent ∷ [])
-    cut_directive : {c : ListContext} {b : ℕ} {text : List ℕ} → is_allowed c.in_arguments b ≡ true → CutsDirective size c (directive_of b) text → CutsItem size c (ascii.percent ∷ b ∷ text)
+    cut_directive : {c : ListContext} {b : ℕ} {text : List ℕ} → is_allowed c.in_arguments b ≡ true
+        → CutsDirective size c (directive_of b) text → CutsItem size c (ascii.percent ∷ b ∷ text)
 
   -- after the byte of a directive
   pub data CutsDirective (size : ℕ) : ListContext → Directive → List ℕ → Type 0 where
     cut_suffix : {c : ListContext} {kind : TempKind} → CutsDirective size c (WithSuffix kind) (ascii.percent ∷ [])
     cut_option : {c : ListContext} → CutsDirective size c WithOption []
-    cut_option_text : {c : ListContext} {text : List ℕ} → RunsOut is_option text → CutsDirective size c WithOption (ascii.opening_brace ∷ text)
-    cut_saying : {c : ListContext} {kind : SayKind} {text : List ℕ} → RunsOut (is_said c.kind) text → CutsDirective size c (WithSaying kind) text
-    cut_name : {c : ListContext} {text name : List ℕ} → IsRun is_name_byte text name [] → length name ≤ 255 → CutsDirective size c WithName text
+    cut_option_text : {c : ListContext} {text : List ℕ} → RunsOut is_option text
+        → CutsDirective size c WithOption (ascii.opening_brace ∷ text)
+    cut_saying : {c : ListContext} {kind : SayKind} {text : List ℕ} → RunsOut (is_said c.kind) text
+        → CutsDirective size c (WithSaying kind) text
+    cut_name : {c : ListContext} {text name : List ℕ} → IsRun is_name_byte text name [] → length name ≤ 255
+        → CutsDirective size c WithName text
     cut_hide : {c : ListContext} {text : List ℕ} → RunsOut is_word text → CutsDirective size c WithPattern text
     cut_function : {c : ListContext} {text : List ℕ} → CutsCall size c text → CutsDirective size c WithCall text
     cut_braces : {c : ListContext} {text : List ℕ} → CutsBrace size c text → CutsDirective size c WithBraces text
     cut_mark : {c : ListContext} {kind : BraceKind} → (c.levels == 0) ≡ false → CutsDirective size c (WithMarkedBraces kind) []
-    cut_marked_braces : {c : ListContext} {kind : BraceKind} {text : List ℕ} → CutsBrace size c text → CutsDirective size c (WithMarkedBraces kind) (ascii.opening_brace ∷ text)
+    cut_marked_braces : {c : ListContext} {kind : BraceKind} {text : List ℕ} → CutsBrace size c text
+        → CutsDirective size c (WithMarkedBraces kind) (ascii.opening_brace ∷ text)
 
   -- a function's name, or its name and arguments without the parenthesis that closes them
   pub data CutsCall (size : ℕ) : ListContext → List ℕ → Type 0 where
     in_function : {c : ListContext} {text : List ℕ} → (c.levels == 0) ≡ false → is_function_front text ≡ true → CutsCall size c text
-    in_function_arguments : {c : ListContext} {text : List ℕ} (name : List ℕ) → (c.levels == 0) ≡ false → is_function name ≡ true → AreFrontItems size (in_arguments c) text
+    in_function_arguments : {c : ListContext} {text : List ℕ} (name : List ℕ) → (c.levels == 0) ≡ false → is_function name ≡ true
+        → AreFrontItems size (in_arguments c) text
         → CutsCall size c (name ++ ascii.opening_parenthesis ∷ text)
 
   -- the inside of braces, without the brace that closes them
@@ -68,20 +77,25 @@ mutual
   -- alternatives
   pub data CutsChoices (size : ℕ) : ListContext → List ℕ → Type 0 where
     in_tests : {c : ListContext} {text : List ℕ} → CutsTests size c text → CutsChoices size c text
-    in_choice : {c : ListContext} {text mid : List ℕ} {tests : Tests} → AreTests size c text tests (ascii.colon ∷ mid) → AreFrontItems size (in_x c tests) mid → CutsChoices size c text
+    in_choice : {c : ListContext} {text mid : List ℕ} {tests : Tests} → AreTests size c text tests (ascii.colon ∷ mid)
+        → AreFrontItems size (in_x c tests) mid → CutsChoices size c text
     in_others : {c : ListContext} {text mid next : List ℕ} {tests : Tests} {items : Items} → AreTests size c text tests (ascii.colon ∷ mid)
         → AreItems size (in_x c tests) mid items (ascii.semicolon ∷ next) → CutsLater size c next → CutsChoices size c text
 
   -- alternatives after the first, of which the last may be the default
   pub data CutsLater (size : ℕ) : ListContext → List ℕ → Type 0 where
     in_next : {c : ListContext} {text : List ℕ} → CutsChoices size c text → CutsLater size c text
-    in_default : {c : ListContext} {text mid : List ℕ} → AreSpaces text (ascii.colon ∷ mid) → AreFrontItems size (in_x c no_test) mid → CutsLater size c text
+    in_default : {c : ListContext} {text mid : List ℕ} → AreSpaces text (ascii.colon ∷ mid) → AreFrontItems size (in_x c no_test) mid
+        → CutsLater size c text
 
   -- tests, without their colon
   pub data CutsTests (size : ℕ) : ListContext → List ℕ → Type 0 where
-    in_asked : {c : ListContext} {t u v : List ℕ} {negated : Bool} → AreSpaces t u → IsSign u negated v → CutsAsked size c v → CutsTests size c t
-    after_asked : {c : ListContext} {t u v w : List ℕ} {negated : Bool} {asked : Asked} → AreSpaces t u → IsSign u negated v → IsAsked size c v asked w → AreSpaces w [] → CutsTests size c t
-    after_bar : {c : ListContext} {t u v w x : List ℕ} {negated : Bool} {asked : Asked} → AreSpaces t u → IsSign u negated v → IsAsked size c v asked w → AreSpaces w (ascii.bar ∷ x)
+    in_asked : {c : ListContext} {t u v : List ℕ} {negated : Bool} → AreSpaces t u → IsSign u negated v → CutsAsked size c v
+        → CutsTests size c t
+    after_asked : {c : ListContext} {t u v w : List ℕ} {negated : Bool} {asked : Asked} → AreSpaces t u → IsSign u negated v
+        → IsAsked size c v asked w → AreSpaces w [] → CutsTests size c t
+    after_bar : {c : ListContext} {t u v w x : List ℕ} {negated : Bool} {asked : Asked} → AreSpaces t u → IsSign u negated v
+        → IsAsked size c v asked w → AreSpaces w (ascii.bar ∷ x)
         → CutsTests size c x → CutsTests size c t
 
   -- what a test asks

@@ -90,7 +90,8 @@ abbrev mutual
 
   pub choice_nodes : Choices → Nodes
   choice_nodes tree.no_choice = no_node
-  choice_nodes (tree.choice s tests items choices) = node kinds.Alternative (alternative_label items) s (both (test_nodes tests) (nodes_of items)) (choice_nodes choices)
+  choice_nodes (tree.choice s tests items choices) = node kinds.Alternative (alternative_label items) s
+      (both (test_nodes tests) (nodes_of items)) (choice_nodes choices)
 
   pub test_nodes : Tests → Nodes
   test_nodes tree.no_test = no_node

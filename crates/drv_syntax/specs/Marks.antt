@@ -5,7 +5,14 @@ use Rattle.std.specs.Prelude.{◌-◌, ◌≤◌, List, [], ◌∷◌, drop, map
 -- Labels whose words follow one another (this project's profile).
 
 abbrev pub marked_label : List ℕ → LabelMark → Label
-marked_label words m = record { word = take (m.end - m.start) (drop m.start words); starred = m.starred; negated = m.negated; asks = m.asks; holds_star = m.holds_star }
+marked_label words m = record {
+  word = take (m.end - m.start) (drop m.start words);
+  starred = m.starred;
+  negated = m.negated;
+  asks =
+      m.asks;
+  holds_star = m.holds_star;
+}
 
 abbrev pub marked_labels : List ℕ → List LabelMark → List Label
 marked_labels words marks = map (λ m. marked_label words m) marks

@@ -4,15 +4,22 @@ use Rattle.drv_syntax.specs.Directives.{braced, directive_of, is_allowed, said, 
 use Rattle.drv_syntax.specs.declared.directives.BraceKind.{BraceKind}
 use Rattle.drv_syntax.specs.declared.directives.BraceKind.TheVariants.{InPlace}
 use Rattle.drv_syntax.specs.declared.directives.Directive.{Directive}
-use Rattle.drv_syntax.specs.declared.directives.Directive.TheVariants.{Named, Nowhere, OfStar, Whole, WithBraces, WithCall, WithMarkedBraces, WithName, WithOption, WithPattern, WithSaying, WithSuffix}
+use Rattle.drv_syntax.specs.declared.directives.Directive.TheVariants.{Named, Nowhere, OfStar, Whole, WithBraces, WithCall}
+use Rattle.drv_syntax.specs.declared.directives.Directive.TheVariants.{WithMarkedBraces, WithName, WithOption, WithPattern, WithSaying}
+use Rattle.drv_syntax.specs.declared.directives.Directive.TheVariants.{WithSuffix}
 use Rattle.drv_syntax.specs.declared.directives.SayKind.{SayKind}
-use Rattle.drv_syntax.specs.Contexts.{ListContext, Mixed, Nobody, Owner, Starred, bar_in, in_arguments, in_braces, in_x, is_end, is_said, newline_in, top}
-use Rattle.drv_syntax.specs.Tree.{AddOption, Asked, Blank, BuiltinText, Choices, Choose, Emit, Escape, Function, Hide, Item, Items, HasLanguage, Leaf, NamedText, Pattern, Plain, HasResult, Span, Star, HasSuffix, HasSwitch, TempName, Tests, alternative, choice, more, no_choice, no_test, none, pattern, test}
+use Rattle.drv_syntax.specs.Contexts.{ListContext, Mixed, Nobody, Owner, Starred, bar_in, in_arguments, in_braces, in_x, is_end, is_said}
+use Rattle.drv_syntax.specs.Contexts.{newline_in, top}
+use Rattle.drv_syntax.specs.Tree.{AddOption, Asked, Blank, BuiltinText, Choices, Choose, Emit, Escape, Function, Hide, Item, Items}
+use Rattle.drv_syntax.specs.Tree.{HasLanguage, Leaf, NamedText, Pattern, Plain, HasResult, Span, Star, HasSuffix, HasSwitch, TempName}
+use Rattle.drv_syntax.specs.Tree.{Tests, alternative, choice, more, no_choice, no_test, none, pattern, test}
 use Rattle.drv_syntax.specs.Spelling.{span}
 use Rattle.drv_syntax.specs.declared.fault.SyntaxFault.{SyntaxFault}
-use Rattle.drv_syntax.specs.declared.fault.SyntaxFault.TheVariants.{BadDirective, EmptyTest, MixedStar, StarOutside, TextTooLong, TooNested, Unclosed, UnknownFunction}
+use Rattle.drv_syntax.specs.declared.fault.SyntaxFault.TheVariants.{BadDirective, EmptyTest, MixedStar, StarOutside, TextTooLong, TooNested}
+use Rattle.drv_syntax.specs.declared.fault.SyntaxFault.TheVariants.{Unclosed, UnknownFunction}
 use Rattle.drv_syntax.specs.declared.token.TempKind.{TempKind}
-use Rattle.std.specs.Prelude.{◌≡◌, ◌⊎◌, ◌+◌, ◌-◌, ◌==◌, Bool, false, true, if◌then◌else◌, List, [], ◌∷◌, ◌++◌, length, nat_le, Option, None, Some, Result, Err, Ok, codes, ℕ}
+use Rattle.std.specs.Prelude.{◌≡◌, ◌⊎◌, ◌+◌, ◌-◌, ◌==◌, Bool, false, true, if◌then◌else◌, List, [], ◌∷◌, ◌++◌, length, nat_le, Option, None}
+use Rattle.std.specs.Prelude.{Some, Result, Err, Ok, codes, ℕ}
 
 -- What a text gives, byte after byte: a tree, that it is cut short, or the first byte that no longer fits (this
 -- project's profile).
@@ -63,7 +70,15 @@ abbrev pub with_choice : Head → ℕ → Items → Choices
 with_choice h colon items = join_choices h.choices (alternative colon h.tests items no_choice)
 
 abbrev pub next_head : Head → ℕ → Items → Head
-next_head h colon items = record { here = h.here; at = h.at; kind = h.kind; choices = with_choice h colon items; tests = no_test; patterns = [] }
+next_head h colon items = record {
+  here = h.here;
+  at = h.at;
+  kind = h.kind;
+  choices = with_choice h colon items;
+  tests = no_test;
+  patterns =
+      [];
+}
 
 -- after braces that end at this place
 abbrev pub emitted_item : Head → ℕ → List (Span × Pattern) → Here
@@ -102,7 +117,8 @@ pub data Place : Type 0 where
   MarkedEscape : Head → ℕ → Bool → ℕ → List ℕ → Place
   TestPercent : Head → ℕ → Bool → ℕ → Place  -- start, with a !, at
   TestFunction : Head → ℕ → Bool → ℕ → List ℕ → Place
-  AfterTest : Head → Option (List (Span × Pattern)) → Option Tests → Bool → Place  -- after a test: the patterns so far if they can be that, the tests so far if they can, and whether a . or , stands alone there
+  -- after a test: the patterns so far if they can be that, the tests so far if they can, and whether it is a . or , alone
+  AfterTest : Head → Option (List (Span × Pattern)) → Option Tests → Bool → Place
 
 -- a directive that waits for the end of a list in it
 pub data Waiting : Type 0 where
@@ -157,7 +173,8 @@ turn_directive here at end (WithMarkedBraces kind) = nested here.context.levels 
 
 -- after the % of an item
 abbrev pub turn_percent : Here → ℕ → ℕ → ℕ → Turn
-turn_percent here at n b = if is_allowed here.context.in_arguments b then turn_directive here at (n + 1) (directive_of b) else Refused (BadDirective at)
+turn_percent here at n b = if is_allowed here.context.in_arguments b then turn_directive here at (n + 1) (directive_of b)
+    else Refused (BadDirective at)
 
 abbrev pub turn_suffix : Here → ℕ → TempKind → ℕ → ℕ → Turn
 turn_suffix here at kind n b =
@@ -171,10 +188,12 @@ turn_suffix_run here at kind suffix n b =
 
 abbrev pub turn_suffix_percent : Here → ℕ → TempKind → ℕ → ℕ → ℕ → Turn
 turn_suffix_percent here at kind percent n b =
-    if b == ascii.capital_o then then_item here at (n + 1) (TempName kind (codes ".o")) else turn_percent (placed here at percent (TempName kind [])) percent n b
+    if b == ascii.capital_o then then_item here at (n + 1) (TempName kind (codes ".o"))
+    else turn_percent (placed here at percent (TempName kind [])) percent n b
 
 abbrev pub turn_option : Here → ℕ → List ℕ → ℕ → ℕ → Turn
-turn_option here at [] n b = if b == ascii.backslash then Goes (OptionEscape here at []) else if b == ascii.closing_brace then Refused (BadDirective at) else Goes (OptionText here at (b ∷ []))
+turn_option here at [] n b = if b == ascii.backslash then Goes (OptionEscape here at []) else if b == ascii.closing_brace
+    then Refused (BadDirective at) else Goes (OptionText here at (b ∷ []))
 turn_option here at (x ∷ xs) n b =
     if b == ascii.backslash then Goes (OptionEscape here at (x ∷ xs))
     else if b == ascii.closing_brace then then_item here at (n + 1) (AddOption (x ∷ xs))
@@ -190,7 +209,8 @@ turn_saying here at kind words n b =
 abbrev pub turn_name : Here → ℕ → List ℕ → ℕ → ℕ → Turn
 turn_name here at [] n b = if is_name_byte b then Goes (NameText here at (b ∷ [])) else Refused (BadDirective at)
 turn_name here at (x ∷ xs) n b =
-    if is_name_byte b then (if nat_le (length (x ∷ xs ++ b ∷ [])) 255 then Goes (NameText here at (x ∷ xs ++ b ∷ [])) else Refused (BadDirective at))
+    if is_name_byte b then (if nat_le (length (x ∷ xs ++ b ∷ [])) 255 then Goes (NameText here at (x ∷ xs ++ b ∷ []))
+    else Refused (BadDirective at))
     else if b == ascii.closing_parenthesis then then_item here at (n + 1) (NamedText (x ∷ xs))
     else Refused (BadDirective at)
 
@@ -290,7 +310,8 @@ abbrev pub turn_mark : Head → ℕ → Bool → ℕ → ℕ → ℕ → Turn
 turn_mark h start negated mark n b =
     if b == ascii.backslash then Goes (MarkedEscape h start negated mark [])
     else if is_word b then Goes (MarkedWord h start negated mark (b ∷ []))
-    else turn_bare h (emitted h start n negated (pattern (mark ∷ []) false)) (emitted h start (n + 1) negated (pattern (mark ∷ []) true)) n b
+    else turn_bare h (emitted h start n negated (pattern (mark ∷ []) false)) (emitted h start (n + 1) negated (pattern (mark ∷ []) true)) n
+    b
 
 abbrev pub turn_starred_mark : Head → Option (List (Span × Pattern)) → Turn
 turn_starred_mark h (Some patterns) = Goes (AfterTest h (Some patterns) None false)
@@ -314,7 +335,8 @@ turn_asked h start negated n b =
     else Refused (EmptyTest h.at)
 
 abbrev pub turn_due : Head → Place → ℕ → ℕ → Turn
-turn_due h same n b = if is_white b then Goes same else if b == ascii.exclamation_mark then Goes (TestNegated h n) else turn_asked h n false n b
+turn_due h same n b = if is_white b then Goes same else if b == ascii.exclamation_mark then Goes (TestNegated h n)
+    else turn_asked h n false n b
 
 abbrev pub turn_pattern : Head → ℕ → ℕ → Turn
 turn_pattern h n b =
@@ -327,7 +349,8 @@ turn_pattern h n b =
 -- where an alternative begins, which may be a default
 abbrev pub turn_start : Head → Choices → ℕ → ℕ → Turn
 turn_start h no_choice n b = turn_due h (ChoiceStart h) n b
-turn_start h (choice s tests items choices) n b = if b == ascii.colon then turn_colon h (Some no_test) false n else turn_due h (ChoiceStart h) n b
+turn_start h (choice s tests items choices) n b = if b == ascii.colon then turn_colon h (Some no_test) false n
+    else turn_due h (ChoiceStart h) n b
 
 abbrev pub turn : Place → ℕ → ℕ → Turn
 turn (AtItem here) n b = turn_item here n b
@@ -345,7 +368,8 @@ turn (NameText here at name) n b = turn_name here at name n b
 turn (HideStart here at) n b = turn_hide here at n b
 turn (HideWord here at word) n b = turn_hide_word here at word n b
 turn (HideEscape here at word) n b = Goes (HideWord here at (word ++ b ∷ []))
-turn (FunctionName here at name) n b = turn_function at name b (Opens (list_in (in_arguments here.context)) (WaitsCall here at name)) (FunctionName here at (name ++ b ∷ []))
+turn (FunctionName here at name) n b = turn_function at name b (Opens (list_in (in_arguments here.context)) (WaitsCall here at name))
+    (FunctionName here at (name ++ b ∷ []))
 turn (BraceOpen here at kind) n b = if b == ascii.opening_brace then Goes (ChoiceStart (fresh here at kind)) else Refused (BadDirective at)
 turn (ChoiceStart h) n b = turn_start h h.choices n b
 turn (TestDue h) n b = turn_due h (TestDue h) n b
@@ -356,9 +380,11 @@ turn (TestWordEscape h start negated word) n b = Goes (TestWord h start negated 
 turn (TestMark h start negated mark) n b = turn_mark h start negated mark n b
 turn (MarkedWord h start negated mark word) n b = turn_marked_word h start negated mark word n b
 turn (MarkedEscape h start negated mark word) n b = Goes (MarkedWord h start negated mark (word ++ b ∷ []))
-turn (TestPercent h start negated at) n b = if b == ascii.colon then Goes (TestFunction h start negated at []) else Refused (BadDirective at)
+turn (TestPercent h start negated at) n b = if b == ascii.colon then Goes (TestFunction h start negated at [])
+    else Refused (BadDirective at)
 turn (TestFunction h start negated at name) n b =
-    turn_function at name b (Opens (list_in (in_arguments (in_braces h.here.context))) (WaitsTest h start negated name)) (TestFunction h start negated at (name ++ b ∷ []))
+    turn_function at name b (Opens (list_in (in_arguments (in_braces h.here.context))) (WaitsTest h start negated name))
+    (TestFunction h start negated at (name ++ b ∷ []))
 turn (AfterTest h patterns tests bare) n b = turn_after h patterns tests bare n b
 
 -- how a directive goes on after the list in it, and after the byte b at the place n that ended it
@@ -367,9 +393,11 @@ pub data Resumed : Type 0 where
   Not : SyntaxFault → Resumed
 
 abbrev pub resume_x : Head → ℕ → Tests → Items → ℕ → ℕ → Resumed
-resume_x h colon no_test items n b = if b == ascii.closing_brace then On (AtItem (chosen_item h (n + 1) (with_choice h colon items))) else Not (EmptyTest h.at)
+resume_x h colon no_test items n b = if b == ascii.closing_brace then On (AtItem (chosen_item h (n + 1) (with_choice h colon items)))
+    else Not (EmptyTest h.at)
 resume_x h colon (test s negated asked tests) items n b =
-    On (if b == ascii.closing_brace then AtItem (chosen_item h (n + 1) (with_choice h colon items)) else ChoiceStart (next_head h colon items))
+    On (if b == ascii.closing_brace then AtItem (chosen_item h (n + 1) (with_choice h colon items))
+    else ChoiceStart (next_head h colon items))
 
 abbrev pub resume : Waiting → Items → ℕ → ℕ → Resumed
 resume (WaitsX h colon) items n b = resume_x h colon h.tests items n b

@@ -3,9 +3,11 @@ use Rattle.drv_syntax.specs.Bytes.{is_function, is_function_front, is_mark, is_n
 use Rattle.drv_syntax.specs.Directives.{directive_of, is_allowed}
 use Rattle.drv_syntax.specs.declared.directives.BraceKind.{BraceKind}
 use Rattle.drv_syntax.specs.declared.directives.Directive.{Directive}
-use Rattle.drv_syntax.specs.declared.directives.Directive.TheVariants.{Nowhere, OfStar, WithBraces, WithCall, WithMarkedBraces, WithName, WithOption, WithPattern}
+use Rattle.drv_syntax.specs.declared.directives.Directive.TheVariants.{Nowhere, OfStar, WithBraces, WithCall, WithMarkedBraces, WithName}
+use Rattle.drv_syntax.specs.declared.directives.Directive.TheVariants.{WithOption, WithPattern}
 use Rattle.drv_syntax.specs.declared.fault.SyntaxFault.{SyntaxFault}
-use Rattle.drv_syntax.specs.declared.fault.SyntaxFault.TheVariants.{BadDirective, EmptyTest, MixedStar, StarOutside, TooNested, UnknownFunction}
+use Rattle.drv_syntax.specs.declared.fault.SyntaxFault.TheVariants.{BadDirective, EmptyTest, MixedStar, StarOutside, TooNested}
+use Rattle.drv_syntax.specs.declared.fault.SyntaxFault.TheVariants.{UnknownFunction}
 use Rattle.drv_syntax.specs.Contexts.{ListContext, Mixed, Nobody, in_arguments, in_braces, in_x, top}
 use Rattle.drv_syntax.specs.Spelling.{AreItems, AreSpaces, AreTests, At, IsAsked, IsItem, IsPattern, IsQuoted, IsRun, IsSign, Stops}
 use Rattle.drv_syntax.specs.Tree.{Asked, HasResult, Item, Items, Pattern, Tests, no_test, pattern}
@@ -58,74 +60,104 @@ ends_either = codes ":|}&"
 -- after an & of patterns, in braces whose % has the place n
 pub data ReachesPatterns (n : ℕ) : List ℕ → Due → List ℕ → Type 0 where
   pattern_due : {text rest : List ℕ} → AreSpaces text rest → ReachesPatterns n text (APattern n) rest
-  pattern_ends : {t u v rest : List ℕ} {p : Pattern} → AreSpaces t u → IsPattern u p v → AreSpaces v rest → ReachesPatterns n t (AnEnd n ends_pattern) rest
-  after_and : {t u v w rest : List ℕ} {p : Pattern} {due : Due} → AreSpaces t u → IsPattern u p v → AreSpaces v (ascii.ampersand ∷ w) → ReachesPatterns n w due rest → ReachesPatterns n t due rest
+  pattern_ends : {t u v rest : List ℕ} {p : Pattern} → AreSpaces t u → IsPattern u p v → AreSpaces v rest
+      → ReachesPatterns n t (AnEnd n ends_pattern) rest
+  after_and : {t u v w rest : List ℕ} {p : Pattern} {due : Due} → AreSpaces t u → IsPattern u p v → AreSpaces v (ascii.ampersand ∷ w)
+      → ReachesPatterns n w due rest → ReachesPatterns n t due rest
 
 -- in braces that are patterns, or are not alternatives yet
 pub data ReachesEmits (n : ℕ) : List ℕ → Due → List ℕ → Type 0 where
-  starred_ends : {mark : ℕ} {t u v word rest : List ℕ} → AreSpaces t (mark ∷ u) → is_mark mark ≡ true → IsPattern (mark ∷ u) (pattern word true) v → AreSpaces v rest
+  starred_ends : {mark : ℕ} {t u v word rest : List ℕ} → AreSpaces t (mark ∷ u) → is_mark mark ≡ true
+      → IsPattern (mark ∷ u) (pattern word true) v → AreSpaces v rest
       → ReachesEmits n t (AnEnd n ends_pattern) rest
-  after_mark : {mark : ℕ} {t rest : List ℕ} → AreSpaces t (mark ∷ rest) → is_mark mark ≡ true → IsPattern (mark ∷ rest) (pattern (mark ∷ []) false) rest → ReachesEmits n t (AfterMark n) rest
-  past_mark : {mark b : ℕ} {t u rest : List ℕ} → AreSpaces t (mark ∷ b ∷ u) → is_mark mark ≡ true → is_white b ≡ true → AreSpaces u rest → ReachesEmits n t (PastMark n) rest
-  after_first : {t u v w rest : List ℕ} {p : Pattern} {due : Due} → AreSpaces t u → IsPattern u p v → AreSpaces v (ascii.ampersand ∷ w) → ReachesPatterns n w due rest → ReachesEmits n t due rest
+  after_mark : {mark : ℕ} {t rest : List ℕ} → AreSpaces t (mark ∷ rest) → is_mark mark ≡ true
+      → IsPattern (mark ∷ rest) (pattern (mark ∷ []) false) rest → ReachesEmits n t (AfterMark n) rest
+  past_mark : {mark b : ℕ} {t u rest : List ℕ} → AreSpaces t (mark ∷ b ∷ u) → is_mark mark ≡ true → is_white b ≡ true → AreSpaces u rest
+      → ReachesEmits n t (PastMark n) rest
+  after_first : {t u v w rest : List ℕ} {p : Pattern} {due : Due} → AreSpaces t u → IsPattern u p v → AreSpaces v (ascii.ampersand ∷ w)
+      → ReachesPatterns n w due rest → ReachesEmits n t due rest
 
 mutual
   -- a list leads to a place where this is due, and to the rest of the text there
   pub data Reaches (size : ℕ) : ListContext → List ℕ → Due → List ℕ → Type 0 where
     item_due : {c : ListContext} {rest : List ℕ} → Reaches size c rest (AnItem c) rest
-    after_item : {c : ListContext} {text mid rest : List ℕ} {item : Item} {due : Due} → IsItem size c text item mid → Reaches size c mid due rest → Reaches size c text due rest
-    in_directive : {c : ListContext} {n b : ℕ} {text rest : List ℕ} {due : Due} → At size n (ascii.percent ∷ b ∷ text) → is_allowed c.in_arguments b ≡ true → ReachesIn size c n (directive_of b) text due rest
+    after_item : {c : ListContext} {text mid rest : List ℕ} {item : Item} {due : Due} → IsItem size c text item mid
+        → Reaches size c mid due rest → Reaches size c text due rest
+    in_directive : {c : ListContext} {n b : ℕ} {text rest : List ℕ} {due : Due} → At size n (ascii.percent ∷ b ∷ text)
+        → is_allowed c.in_arguments b ≡ true → ReachesIn size c n (directive_of b) text due rest
         → Reaches size c (ascii.percent ∷ b ∷ text) due rest
 
   -- after the byte of a directive, whose % has this place
   pub data ReachesIn (size : ℕ) : ListContext → ℕ → Directive → List ℕ → Due → List ℕ → Type 0 where
-    in_call : {c : ListContext} {n : ℕ} {text rest : List ℕ} {due : Due} (name : List ℕ) → (c.levels == 0) ≡ false → is_function name ≡ true → Reaches size (in_arguments c) text due rest
+    in_call : {c : ListContext} {n : ℕ} {text rest : List ℕ} {due : Due} (name : List ℕ) → (c.levels == 0) ≡ false → is_function name ≡ true
+        → Reaches size (in_arguments c) text due rest
         → ReachesIn size c n WithCall (name ++ ascii.opening_parenthesis ∷ text) due rest
-    in_place : {c : ListContext} {n : ℕ} {text rest : List ℕ} {due : Due} → (c.levels == 0) ≡ false → ReachesBrace size (in_braces c) n text due rest → ReachesIn size c n WithBraces text due rest
-    in_marked : {c : ListContext} {n : ℕ} {kind : BraceKind} {text rest : List ℕ} {due : Due} → (c.levels == 0) ≡ false → ReachesBrace size (in_braces c) n text due rest
+    in_place : {c : ListContext} {n : ℕ} {text rest : List ℕ} {due : Due} → (c.levels == 0) ≡ false
+        → ReachesBrace size (in_braces c) n text due rest → ReachesIn size c n WithBraces text due rest
+    in_marked : {c : ListContext} {n : ℕ} {kind : BraceKind} {text rest : List ℕ} {due : Due} → (c.levels == 0) ≡ false
+        → ReachesBrace size (in_braces c) n text due rest
         → ReachesIn size c n (WithMarkedBraces kind) (ascii.opening_brace ∷ text) due rest
 
   -- inside braces
   pub data ReachesBrace (size : ℕ) : ListContext → ℕ → List ℕ → Due → List ℕ → Type 0 where
-    in_emits : {c : ListContext} {n : ℕ} {text rest : List ℕ} {due : Due} → ReachesEmits n text due rest → ReachesBrace size c n text due rest
-    in_choices : {c : ListContext} {n : ℕ} {text rest : List ℕ} {due : Due} → ReachesChoices size c n AtFront text due rest → ReachesBrace size c n text due rest
+    in_emits : {c : ListContext} {n : ℕ} {text rest : List ℕ} {due : Due} → ReachesEmits n text due rest
+        → ReachesBrace size c n text due rest
+    in_choices : {c : ListContext} {n : ℕ} {text rest : List ℕ} {due : Due} → ReachesChoices size c n AtFront text due rest
+        → ReachesBrace size c n text due rest
 
   -- in alternatives, at the first
   pub data ReachesChoices (size : ℕ) : ListContext → ℕ → Order → List ℕ → Due → List ℕ → Type 0 where
-    to_tests : {c : ListContext} {n : ℕ} {order : Order} {text rest : List ℕ} {due : Due} → ReachesTests size c n order text due rest → ReachesChoices size c n order text due rest
-    to_x : {c : ListContext} {n : ℕ} {order : Order} {text mid rest : List ℕ} {tests : Tests} {due : Due} → AreTests size c text tests (ascii.colon ∷ mid) → Reaches size (in_x c tests) mid due rest
+    to_tests : {c : ListContext} {n : ℕ} {order : Order} {text rest : List ℕ} {due : Due} → ReachesTests size c n order text due rest
         → ReachesChoices size c n order text due rest
-    after_x : {c : ListContext} {n : ℕ} {order : Order} {text mid next rest : List ℕ} {tests : Tests} {items : Items} {due : Due} → AreTests size c text tests (ascii.colon ∷ mid)
-        → AreItems size (in_x c tests) mid items (ascii.semicolon ∷ next) → ReachesLater size c n next due rest → ReachesChoices size c n order text due rest
+    to_x : {c : ListContext} {n : ℕ} {order : Order} {text mid rest : List ℕ} {tests : Tests} {due : Due}
+        → AreTests size c text tests (ascii.colon ∷ mid) → Reaches size (in_x c tests) mid due rest
+        → ReachesChoices size c n order text due rest
+    after_x : {c : ListContext} {n : ℕ} {order : Order} {text mid next rest : List ℕ} {tests : Tests} {items : Items} {due : Due}
+        → AreTests size c text tests (ascii.colon ∷ mid)
+        → AreItems size (in_x c tests) mid items (ascii.semicolon ∷ next) → ReachesLater size c n next due rest
+        → ReachesChoices size c n order text due rest
 
   -- in alternatives after the first
   pub data ReachesLater (size : ℕ) : ListContext → ℕ → List ℕ → Due → List ℕ → Type 0 where
-    to_next : {c : ListContext} {n : ℕ} {text rest : List ℕ} {due : Due} → ReachesChoices size c n AtNext text due rest → ReachesLater size c n text due rest
-    to_default : {c : ListContext} {n : ℕ} {text mid rest : List ℕ} {due : Due} → AreSpaces text (ascii.colon ∷ mid) → Reaches size (in_x c no_test) mid due rest → ReachesLater size c n text due rest
-    after_default : {c : ListContext} {n : ℕ} {text mid rest : List ℕ} {items : Items} → AreSpaces text (ascii.colon ∷ mid) → AreItems size (in_x c no_test) mid items (ascii.semicolon ∷ rest)
+    to_next : {c : ListContext} {n : ℕ} {text rest : List ℕ} {due : Due} → ReachesChoices size c n AtNext text due rest
+        → ReachesLater size c n text due rest
+    to_default : {c : ListContext} {n : ℕ} {text mid rest : List ℕ} {due : Due} → AreSpaces text (ascii.colon ∷ mid)
+        → Reaches size (in_x c no_test) mid due rest → ReachesLater size c n text due rest
+    after_default : {c : ListContext} {n : ℕ} {text mid rest : List ℕ} {items : Items} → AreSpaces text (ascii.colon ∷ mid)
+        → AreItems size (in_x c no_test) mid items (ascii.semicolon ∷ rest)
         → ReachesLater size c n text (NoMore n) (ascii.semicolon ∷ rest)
 
   -- in tests, at the first
   pub data ReachesTests (size : ℕ) : ListContext → ℕ → Order → List ℕ → Due → List ℕ → Type 0 where
-    in_test : {c : ListContext} {n : ℕ} {order : Order} {t u v rest : List ℕ} {negated : Bool} {due : Due} → AreSpaces t u → IsSign u negated v → ReachesAsked size c n order negated v due rest
+    in_test : {c : ListContext} {n : ℕ} {order : Order} {t u v rest : List ℕ} {negated : Bool} {due : Due} → AreSpaces t u
+        → IsSign u negated v → ReachesAsked size c n order negated v due rest
         → ReachesTests size c n order t due rest
-    after_bar : {c : ListContext} {n : ℕ} {order : Order} {t u v w x rest : List ℕ} {negated : Bool} {asked : Asked} {due : Due} → AreSpaces t u → IsSign u negated v → IsAsked size c v asked w
+    after_bar : {c : ListContext} {n : ℕ} {order : Order} {t u v w x rest : List ℕ} {negated : Bool} {asked : Asked} {due : Due}
+        → AreSpaces t u → IsSign u negated v → IsAsked size c v asked w
         → AreSpaces w (ascii.bar ∷ x) → ReachesTests size c n AtBar x due rest → ReachesTests size c n order t due rest
 
   -- in a test and after it
   pub data ReachesAsked (size : ℕ) : ListContext → ℕ → Order → Bool → List ℕ → Due → List ℕ → Type 0 where
-    asked_due : {c : ListContext} {n : ℕ} {order : Order} {negated : Bool} {rest : List ℕ} → ReachesAsked size c n order negated rest (ATest c n order negated) rest
-    word_due : {c : ListContext} {n mark : ℕ} {order : Order} {negated : Bool} {rest : List ℕ} → may_emit order negated ≡ false → is_mark mark ≡ true
+    asked_due : {c : ListContext} {n : ℕ} {order : Order} {negated : Bool} {rest : List ℕ}
+        → ReachesAsked size c n order negated rest (ATest c n order negated) rest
+    word_due : {c : ListContext} {n mark : ℕ} {order : Order} {negated : Bool} {rest : List ℕ} → may_emit order negated ≡ false
+        → is_mark mark ≡ true
         → ReachesAsked size c n order negated (mark ∷ rest) (AWord n) rest
-    in_function : {c : ListContext} {n : ℕ} {order : Order} {negated : Bool} {text rest : List ℕ} {due : Due} (name : List ℕ) → (c.levels == 0) ≡ false → is_function name ≡ true
-        → Reaches size (in_arguments c) text due rest → ReachesAsked size c n order negated (ascii.percent ∷ ascii.colon ∷ name ++ ascii.opening_parenthesis ∷ text) due rest
-    test_ends : {c : ListContext} {n : ℕ} {order : Order} {negated : Bool} {text mid rest : List ℕ} {asked : Asked} → may_emit order negated ≡ false → IsAsked size c text asked mid → AreSpaces mid rest
+    in_function : {c : ListContext} {n : ℕ} {order : Order} {negated : Bool} {text rest : List ℕ} {due : Due} (name : List ℕ)
+        → (c.levels == 0) ≡ false → is_function name ≡ true
+        → Reaches size (in_arguments c) text due rest → ReachesAsked size c n order negated
+        (ascii.percent ∷ ascii.colon ∷ name ++ ascii.opening_parenthesis ∷ text) due rest
+    test_ends : {c : ListContext} {n : ℕ} {order : Order} {negated : Bool} {text mid rest : List ℕ} {asked : Asked}
+        → may_emit order negated ≡ false → IsAsked size c text asked mid → AreSpaces mid rest
         → ReachesAsked size c n order negated text (AnEnd n ends_test) rest
-    call_ends : {c : ListContext} {n : ℕ} {order : Order} {negated : Bool} {text mid name rest : List ℕ} {arguments : Items} → IsAsked size c text (HasResult name arguments) mid → AreSpaces mid rest
+    call_ends : {c : ListContext} {n : ℕ} {order : Order} {negated : Bool} {text mid name rest : List ℕ} {arguments : Items}
+        → IsAsked size c text (HasResult name arguments) mid → AreSpaces mid rest
         → ReachesAsked size c n order negated text (AnEnd n ends_test) rest
-    switch_ends : {c : ListContext} {n : ℕ} {text mid rest : List ℕ} {p : Pattern} → Stops is_mark text → IsPattern text p mid → AreSpaces mid rest
+    switch_ends : {c : ListContext} {n : ℕ} {text mid rest : List ℕ} {p : Pattern} → Stops is_mark text → IsPattern text p mid
+        → AreSpaces mid rest
         → ReachesAsked size c n AtFront false text (AnEnd n ends_either) rest
-    marked_ends : {c : ListContext} {n mark b : ℕ} {text mid word rest : List ℕ} → is_mark mark ≡ true → IsQuoted is_word text (b ∷ word) mid → Stops (λ x. x == ascii.asterisk) mid → AreSpaces mid rest
+    marked_ends : {c : ListContext} {n mark b : ℕ} {text mid word rest : List ℕ} → is_mark mark ≡ true
+        → IsQuoted is_word text (b ∷ word) mid → Stops (λ x. x == ascii.asterisk) mid → AreSpaces mid rest
         → ReachesAsked size c n AtFront false (mark ∷ text) (AnEnd n ends_either) rest
 
 -- a directive that opens braces or arguments
@@ -141,39 +173,50 @@ Empty b = ((b == ascii.backslash) ≡ false) × (is_word b ≡ false) × ((b == 
 
 -- after %: the front of a function's name and a byte that it can't go on with, or a ( after a front that is no name
 pub data IsNoFunction : List ℕ → Type 0 where
-  not_a_front : (name : List ℕ) (b : ℕ) → is_function_front name ≡ true → is_function_front (name ++ b ∷ []) ≡ false → (b == ascii.opening_parenthesis) ≡ false → IsNoFunction (name ++ b ∷ [])
-  not_a_name : (name : List ℕ) → is_function_front name ≡ true → is_function name ≡ false → IsNoFunction (name ++ ascii.opening_parenthesis ∷ [])
+  not_a_front : (name : List ℕ) (b : ℕ) → is_function_front name ≡ true → is_function_front (name ++ b ∷ []) ≡ false
+      → (b == ascii.opening_parenthesis) ≡ false → IsNoFunction (name ++ b ∷ [])
+  not_a_name : (name : List ℕ) → is_function_front name ≡ true → is_function name ≡ false
+      → IsNoFunction (name ++ ascii.opening_parenthesis ∷ [])
 
 -- after the byte of a directive, up to a byte with which it can't be whole any more
 pub data Breaks : ListContext → Directive → List ℕ → Type 0 where
   no_option : {c : ListContext} {b : ℕ} → (b == ascii.opening_brace) ≡ false → Breaks c WithOption (b ∷ [])
   empty_option : {c : ListContext} → Breaks c WithOption (codes "{}")
   no_name : {c : ListContext} {b : ℕ} → is_name_byte b ≡ false → Breaks c WithName (b ∷ [])
-  open_name : {c : ListContext} {b : ℕ} {text name : List ℕ} → IsRun is_name_byte text name (b ∷ []) → length name ≤ 255 → (b == ascii.closing_parenthesis) ≡ false → Breaks c WithName text
+  open_name : {c : ListContext} {b : ℕ} {text name : List ℕ} → IsRun is_name_byte text name (b ∷ []) → length name ≤ 255
+      → (b == ascii.closing_parenthesis) ≡ false → Breaks c WithName text
   long_name : {c : ListContext} {text name : List ℕ} → IsRun is_name_byte text name [] → length name ≡ 256 → Breaks c WithName text
-  no_brace : {c : ListContext} {kind : BraceKind} {b : ℕ} → (c.levels == 0) ≡ false → (b == ascii.opening_brace) ≡ false → Breaks c (WithMarkedBraces kind) (b ∷ [])
+  no_brace : {c : ListContext} {kind : BraceKind} {b : ℕ} → (c.levels == 0) ≡ false → (b == ascii.opening_brace) ≡ false
+      → Breaks c (WithMarkedBraces kind) (b ∷ [])
 
 -- where this is due, a text ends in the byte that no longer fits, and this is its fault
 pub data Refuses (size : ℕ) : Due → List ℕ → SyntaxFault → Type 0 where
   -- %* in no X, and in an X without tests, or with a test that is no starred pattern or has a !
-  star_outside : {c : ListContext} {n b : ℕ} → At size n (ascii.percent ∷ b ∷ []) → is_allowed c.in_arguments b ≡ true → directive_of b ≡ OfStar → c.owner ≡ Nobody
+  star_outside : {c : ListContext} {n b : ℕ} → At size n (ascii.percent ∷ b ∷ []) → is_allowed c.in_arguments b ≡ true
+      → directive_of b ≡ OfStar → c.owner ≡ Nobody
       → Refuses size (AnItem c) (ascii.percent ∷ b ∷ []) (StarOutside n)
-  mixed_star : {c : ListContext} {n b : ℕ} → At size n (ascii.percent ∷ b ∷ []) → is_allowed c.in_arguments b ≡ true → directive_of b ≡ OfStar → c.owner ≡ Mixed
+  mixed_star : {c : ListContext} {n b : ℕ} → At size n (ascii.percent ∷ b ∷ []) → is_allowed c.in_arguments b ≡ true
+      → directive_of b ≡ OfStar → c.owner ≡ Mixed
       → Refuses size (AnItem c) (ascii.percent ∷ b ∷ []) (MixedStar n)
   -- braces or arguments within 64 others: the {, W, @ or : after a %, where that is allowed, or the % of a test
-  item_within_all : {c : ListContext} {n b : ℕ} → At size n (ascii.percent ∷ b ∷ []) → is_allowed c.in_arguments b ≡ true → nests (directive_of b) ≡ true → (c.levels == 0) ≡ true
+  item_within_all : {c : ListContext} {n b : ℕ} → At size n (ascii.percent ∷ b ∷ []) → is_allowed c.in_arguments b ≡ true
+      → nests (directive_of b) ≡ true → (c.levels == 0) ≡ true
       → Refuses size (AnItem c) (ascii.percent ∷ b ∷ []) (TooNested n)
   test_within_all : {c : ListContext} {at n : ℕ} {order : Order} {negated : Bool} → At size n (ascii.percent ∷ []) → (c.levels == 0) ≡ true
       → Refuses size (ATest c at order negated) (ascii.percent ∷ []) (TooNested n)
   -- the name of no function
-  item_no_function : {c : ListContext} {n b : ℕ} {last : List ℕ} → At size n (ascii.percent ∷ b ∷ last) → is_allowed c.in_arguments b ≡ true → directive_of b ≡ WithCall → (c.levels == 0) ≡ false
+  item_no_function : {c : ListContext} {n b : ℕ} {last : List ℕ} → At size n (ascii.percent ∷ b ∷ last) → is_allowed c.in_arguments b ≡ true
+      → directive_of b ≡ WithCall → (c.levels == 0) ≡ false
       → IsNoFunction last → Refuses size (AnItem c) (ascii.percent ∷ b ∷ last) (UnknownFunction n)
-  test_no_function : {c : ListContext} {at n : ℕ} {order : Order} {negated : Bool} {last : List ℕ} → At size n (ascii.percent ∷ ascii.colon ∷ last) → (c.levels == 0) ≡ false → IsNoFunction last
+  test_no_function : {c : ListContext} {at n : ℕ} {order : Order} {negated : Bool} {last : List ℕ}
+      → At size n (ascii.percent ∷ ascii.colon ∷ last) → (c.levels == 0) ≡ false → IsNoFunction last
       → Refuses size (ATest c at order negated) (ascii.percent ∷ ascii.colon ∷ last) (UnknownFunction n)
   -- a pattern or a test without a word and a star: after %< and %>, in braces, after a . or , and after &
-  hides_nothing : {c : ListContext} {n b x : ℕ} → At size n (ascii.percent ∷ b ∷ x ∷ []) → is_allowed c.in_arguments b ≡ true → directive_of b ≡ WithPattern → Empty x
+  hides_nothing : {c : ListContext} {n b x : ℕ} → At size n (ascii.percent ∷ b ∷ x ∷ []) → is_allowed c.in_arguments b ≡ true
+      → directive_of b ≡ WithPattern → Empty x
       → Refuses size (AnItem c) (ascii.percent ∷ b ∷ x ∷ []) (EmptyTest n)
-  no_test_there : {c : ListContext} {at b : ℕ} {order : Order} {negated : Bool} → Empty b → is_white b ≡ false → (b == ascii.percent) ≡ false → is_default order negated b ≡ false
+  no_test_there : {c : ListContext} {at b : ℕ} {order : Order} {negated : Bool} → Empty b → is_white b ≡ false
+      → (b == ascii.percent) ≡ false → is_default order negated b ≡ false
       → Refuses size (ATest c at order negated) (b ∷ []) (EmptyTest at)
   no_word : {at b : ℕ} → (b == ascii.backslash) ≡ false → is_word b ≡ false → Refuses size (AWord at) (b ∷ []) (EmptyTest at)
   no_pattern : {at b : ℕ} → Empty b → is_white b ≡ false → Refuses size (APattern at) (b ∷ []) (EmptyTest at)
@@ -182,12 +225,16 @@ pub data Refuses (size : ℕ) : Due → List ℕ → SyntaxFault → Type 0 wher
   -- a default that is not last
   default_goes_on : {at : ℕ} → Refuses size (NoMore at) (ascii.semicolon ∷ []) (EmptyTest at)
   -- no such directive, or not allowed at its place; inside one; after the % of a test no colon; after a test or a pattern
-  not_allowed : {c : ListContext} {n b : ℕ} → At size n (ascii.percent ∷ b ∷ []) → is_allowed c.in_arguments b ≡ false → Refuses size (AnItem c) (ascii.percent ∷ b ∷ []) (BadDirective n)
-  no_directive : {c : ListContext} {n b : ℕ} → At size n (ascii.percent ∷ b ∷ []) → is_allowed c.in_arguments b ≡ true → directive_of b ≡ Nowhere
+  not_allowed : {c : ListContext} {n b : ℕ} → At size n (ascii.percent ∷ b ∷ []) → is_allowed c.in_arguments b ≡ false
       → Refuses size (AnItem c) (ascii.percent ∷ b ∷ []) (BadDirective n)
-  breaks_off : {c : ListContext} {n b : ℕ} {last : List ℕ} → At size n (ascii.percent ∷ b ∷ last) → is_allowed c.in_arguments b ≡ true → Breaks c (directive_of b) last
+  no_directive : {c : ListContext} {n b : ℕ} → At size n (ascii.percent ∷ b ∷ []) → is_allowed c.in_arguments b ≡ true
+      → directive_of b ≡ Nowhere
+      → Refuses size (AnItem c) (ascii.percent ∷ b ∷ []) (BadDirective n)
+  breaks_off : {c : ListContext} {n b : ℕ} {last : List ℕ} → At size n (ascii.percent ∷ b ∷ last) → is_allowed c.in_arguments b ≡ true
+      → Breaks c (directive_of b) last
       → Refuses size (AnItem c) (ascii.percent ∷ b ∷ last) (BadDirective n)
-  no_call : {c : ListContext} {at n b : ℕ} {order : Order} {negated : Bool} → At size n (ascii.percent ∷ b ∷ []) → (c.levels == 0) ≡ false → (b == ascii.colon) ≡ false
+  no_call : {c : ListContext} {at n b : ℕ} {order : Order} {negated : Bool} → At size n (ascii.percent ∷ b ∷ []) → (c.levels == 0) ≡ false
+      → (b == ascii.colon) ≡ false
       → Refuses size (ATest c at order negated) (ascii.percent ∷ b ∷ []) (BadDirective n)
   no_end : {at b : ℕ} {ends : List ℕ} → is_white b ≡ false → is_of ends b ≡ false → Refuses size (AnEnd at ends) (b ∷ []) (BadDirective at)
   no_end_past_mark : {at b : ℕ} → is_white b ≡ false → is_of ends_either b ≡ false → Refuses size (PastMark at) (b ∷ []) (BadDirective at)

@@ -4,10 +4,14 @@ use Rattle.drv_syntax.specs.Directives.{braced, directive_of, is_allowed, said, 
 use Rattle.drv_syntax.specs.declared.directives.BraceKind.{BraceKind}
 use Rattle.drv_syntax.specs.declared.directives.BraceKind.TheVariants.{InPlace}
 use Rattle.drv_syntax.specs.declared.directives.Directive.{Directive}
-use Rattle.drv_syntax.specs.declared.directives.Directive.TheVariants.{Named, OfStar, Whole, WithBraces, WithCall, WithMarkedBraces, WithName, WithOption, WithPattern, WithSaying, WithSuffix}
+use Rattle.drv_syntax.specs.declared.directives.Directive.TheVariants.{Named, OfStar, Whole, WithBraces, WithCall, WithMarkedBraces}
+use Rattle.drv_syntax.specs.declared.directives.Directive.TheVariants.{WithName, WithOption, WithPattern, WithSaying, WithSuffix}
 use Rattle.drv_syntax.specs.declared.directives.SayKind.{SayKind}
-use Rattle.drv_syntax.specs.Contexts.{ListContext, Kind, Starred, Top, bar_in, in_arguments, in_braces, in_x, is_end, is_said, newline_in, top}
-use Rattle.drv_syntax.specs.Tree.{AddOption, Asked, Blank, Brace, BuiltinText, Choices, Choose, Emit, Escape, Function, HasLanguage, HasResult, HasSuffix, HasSwitch, Hide, Item, Items, Leaf, NamedText, Pattern, Plain, Span, Star, TempName, Tests, alternative, more, no_choice, no_test, none, pattern, test}
+use Rattle.drv_syntax.specs.Contexts.{ListContext, Kind, Starred, Top, bar_in, in_arguments, in_braces, in_x, is_end, is_said, newline_in}
+use Rattle.drv_syntax.specs.Contexts.{top}
+use Rattle.drv_syntax.specs.Tree.{AddOption, Asked, Blank, Brace, BuiltinText, Choices, Choose, Emit, Escape, Function, HasLanguage}
+use Rattle.drv_syntax.specs.Tree.{HasResult, HasSuffix, HasSwitch, Hide, Item, Items, Leaf, NamedText, Pattern, Plain, Span, Star, TempName}
+use Rattle.drv_syntax.specs.Tree.{Tests, alternative, more, no_choice, no_test, none, pattern, test}
 use Rattle.drv_syntax.specs.declared.directives.BuiltinName.{BuiltinName}
 use Rattle.drv_syntax.specs.declared.token.Leaf as leaf
 use Rattle.drv_syntax.specs.declared.token.TempKind.{TempKind}
@@ -31,11 +35,13 @@ pub data IsQuoted (f : ℕ → Bool) : List ℕ → List ℕ → List ℕ → Ty
   quoted_end : IsQuoted f [] [] []
   quoted_stop : {b : ℕ} {rest : List ℕ} → (b == ascii.backslash) ≡ false → f b ≡ false → IsQuoted f (b ∷ rest) [] (b ∷ rest)
   quoted_escape : {b : ℕ} {text run rest : List ℕ} → IsQuoted f text run rest → IsQuoted f (ascii.backslash ∷ b ∷ text) (b ∷ run) rest
-  quoted_byte : {b : ℕ} {text run rest : List ℕ} → (b == ascii.backslash) ≡ false → f b ≡ true → IsQuoted f text run rest → IsQuoted f (b ∷ text) (b ∷ run) rest
+  quoted_byte : {b : ℕ} {text run rest : List ℕ} → (b == ascii.backslash) ≡ false → f b ≡ true → IsQuoted f text run rest
+      → IsQuoted f (b ∷ text) (b ∷ run) rest
 
 -- a pattern: a word, a word with a star, or a star alone
 pub data IsPattern : List ℕ → Pattern → List ℕ → Type 0 where
-  unstarred : {b : ℕ} {text word rest : List ℕ} → IsQuoted is_word text (b ∷ word) rest → Stops (λ c. c == ascii.asterisk) rest → IsPattern text (pattern (b ∷ word) false) rest
+  unstarred : {b : ℕ} {text word rest : List ℕ} → IsQuoted is_word text (b ∷ word) rest → Stops (λ c. c == ascii.asterisk) rest
+      → IsPattern text (pattern (b ∷ word) false) rest
   starred : {text word rest : List ℕ} → IsQuoted is_word text word (ascii.asterisk ∷ rest) → IsPattern text (pattern word true) rest
 
 -- white space, or none
@@ -49,7 +55,8 @@ pub data IsSuffix : List ℕ → List ℕ → List ℕ → Type 0 where
   suffix_object : {rest : List ℕ} → IsSuffix (ascii.percent ∷ ascii.capital_o ∷ rest) (codes ".o") rest
   suffix_none : IsSuffix [] [] []
   suffix_other : {b : ℕ} {rest : List ℕ} → is_suffix b ≡ false → (b == ascii.percent) ≡ false → IsSuffix (b ∷ rest) [] (b ∷ rest)
-  suffix_directive : {b : ℕ} {rest : List ℕ} → (b == ascii.capital_o) ≡ false → IsSuffix (ascii.percent ∷ b ∷ rest) [] (ascii.percent ∷ b ∷ rest)
+  suffix_directive : {b : ℕ} {rest : List ℕ} → (b == ascii.capital_o) ≡ false
+      → IsSuffix (ascii.percent ∷ b ∷ rest) [] (ascii.percent ∷ b ∷ rest)
 
 -- after the text of %e and %n: its newline, or what else ends it
 pub data EndsSaying : List ℕ → List ℕ → Type 0 where
@@ -75,82 +82,109 @@ span start end = record { start = start; end = end }
 
 -- patterns, up to the brace that closes them
 pub data ArePatterns (size : ℕ) : List ℕ → List (Span × Pattern) → List ℕ → Type 0 where
-  last_pattern : {n m : ℕ} {t u v rest : List ℕ} {p : Pattern} → AreSpaces t u → At size n u → IsPattern u p v → At size m v → AreSpaces v (ascii.closing_brace ∷ rest)
+  last_pattern : {n m : ℕ} {t u v rest : List ℕ} {p : Pattern} → AreSpaces t u → At size n u → IsPattern u p v → At size m v
+      → AreSpaces v (ascii.closing_brace ∷ rest)
       → ArePatterns size t ((span n m, p) ∷ []) rest
-  next_pattern : {n m : ℕ} {t u v w rest : List ℕ} {p : Pattern} {ps : List (Span × Pattern)} → AreSpaces t u → At size n u → IsPattern u p v → At size m v → AreSpaces v (ascii.ampersand ∷ w)
+  next_pattern : {n m : ℕ} {t u v w rest : List ℕ} {p : Pattern} {ps : List (Span × Pattern)} → AreSpaces t u → At size n u
+      → IsPattern u p v → At size m v → AreSpaces v (ascii.ampersand ∷ w)
       → ArePatterns size w ps rest → ArePatterns size t ((span n m, p) ∷ ps) rest
 
 mutual
   pub data AreItems (size : ℕ) : ListContext → List ℕ → Items → List ℕ → Type 0 where
     no_item : {c : ListContext} {rest : List ℕ} → EndsList c.kind rest → AreItems size c rest none rest
-    next_item : {c : ListContext} {n m : ℕ} {text mid rest : List ℕ} {item : Item} {items : Items} → At size n text → IsItem size c text item mid → At size m mid
+    next_item : {c : ListContext} {n m : ℕ} {text mid rest : List ℕ} {item : Item} {items : Items} → At size n text
+        → IsItem size c text item mid → At size m mid
         → AreItems size c mid items rest → AreItems size c text (more (span n m) item items) rest
 
   pub data IsItem (size : ℕ) : ListContext → List ℕ → Item → List ℕ → Type 0 where
-    plain : {c : ListContext} {b : ℕ} {rest : List ℕ} → is_plain b ≡ true → is_end c.kind b ≡ false → IsItem size c (b ∷ rest) (Plain b) rest
+    plain : {c : ListContext} {b : ℕ} {rest : List ℕ} → is_plain b ≡ true → is_end c.kind b ≡ false
+        → IsItem size c (b ∷ rest) (Plain b) rest
     escape : {c : ListContext} {b : ℕ} {rest : List ℕ} → IsItem size c (ascii.backslash ∷ b ∷ rest) (Escape b) rest
     blank : {c : ListContext} {b : ℕ} {rest : List ℕ} → is_blank b ≡ true → IsItem size c (b ∷ rest) Blank rest
     newline : {c : ListContext} {rest : List ℕ} → IsItem size c (ascii.newline ∷ rest) (newline_in c.in_arguments) rest
     pipe : {c : ListContext} {rest : List ℕ} → IsItem size c (ascii.bar ∷ rest) (bar_in c.in_arguments) rest
-    directive : {c : ListContext} {b : ℕ} {text rest : List ℕ} {item : Item} → is_allowed c.in_arguments b ≡ true → IsDirective size c (directive_of b) text item rest
+    directive : {c : ListContext} {b : ℕ} {text rest : List ℕ} {item : Item} → is_allowed c.in_arguments b ≡ true
+        → IsDirective size c (directive_of b) text item rest
         → IsItem size c (ascii.percent ∷ b ∷ text) item rest
 
   -- what follows the byte of a directive
   pub data IsDirective (size : ℕ) : ListContext → Directive → List ℕ → Item → List ℕ → Type 0 where
     whole : {c : ListContext} {rest : List ℕ} {leaf : leaf.Leaf} → IsDirective size c (Whole leaf) rest (Leaf leaf) rest
     named : {c : ListContext} {rest : List ℕ} {name : BuiltinName} → IsDirective size c (Named name) rest (BuiltinText (text_of name)) rest
-    temp_name : {c : ListContext} {kind : TempKind} {text suffix rest : List ℕ} → IsSuffix text suffix rest → IsDirective size c (WithSuffix kind) text (TempName kind suffix) rest
+    temp_name : {c : ListContext} {kind : TempKind} {text suffix rest : List ℕ} → IsSuffix text suffix rest
+        → IsDirective size c (WithSuffix kind) text (TempName kind suffix) rest
     add_option : {c : ListContext} {b : ℕ} {text option rest : List ℕ} → IsQuoted is_option text (b ∷ option) (ascii.closing_brace ∷ rest)
         → IsDirective size c WithOption (ascii.opening_brace ∷ text) (AddOption (b ∷ option)) rest
-    saying : {c : ListContext} {kind : SayKind} {text words mid rest : List ℕ} → IsQuoted (is_said c.kind) text words mid → EndsSaying mid rest
+    saying : {c : ListContext} {kind : SayKind} {text words mid rest : List ℕ} → IsQuoted (is_said c.kind) text words mid
+        → EndsSaying mid rest
         → IsDirective size c (WithSaying kind) text (said kind words) rest
-    named_text : {c : ListContext} {b : ℕ} {text name rest : List ℕ} → IsRun is_name_byte text (b ∷ name) (ascii.closing_parenthesis ∷ rest) → length (b ∷ name) ≤ 255
+    named_text : {c : ListContext} {b : ℕ} {text name rest : List ℕ} → IsRun is_name_byte text (b ∷ name) (ascii.closing_parenthesis ∷ rest)
+        → length (b ∷ name) ≤ 255
         → IsDirective size c WithName text (NamedText (b ∷ name)) rest
     hide : {c : ListContext} {text rest : List ℕ} {p : Pattern} → IsPattern text p rest → IsDirective size c WithPattern text (Hide p) rest
     star : {c : ListContext} {rest : List ℕ} → c.owner ≡ Starred → IsDirective size c OfStar rest Star rest
-    function : {c : ListContext} {text name rest : List ℕ} {arguments : Items} → IsCall size c text name arguments rest → IsDirective size c WithCall text (Function name arguments) rest
-    braces : {c : ListContext} {text rest : List ℕ} {brace : Brace} → IsBrace size c text brace rest → IsDirective size c WithBraces text (braced InPlace brace) rest
+    function : {c : ListContext} {text name rest : List ℕ} {arguments : Items} → IsCall size c text name arguments rest
+        → IsDirective size c WithCall text (Function name arguments) rest
+    braces : {c : ListContext} {text rest : List ℕ} {brace : Brace} → IsBrace size c text brace rest
+        → IsDirective size c WithBraces text (braced InPlace brace) rest
     marked_braces : {c : ListContext} {kind : BraceKind} {text rest : List ℕ} {brace : Brace} → IsBrace size c text brace rest
         → IsDirective size c (WithMarkedBraces kind) (ascii.opening_brace ∷ text) (braced kind brace) rest
 
   -- a function's name and its arguments
   pub data IsCall (size : ℕ) : ListContext → List ℕ → List ℕ → Items → List ℕ → Type 0 where
-    call : {c : ListContext} {text name rest : List ℕ} {arguments : Items} → (c.levels == 0) ≡ false → is_function name ≡ true → AreItems size (in_arguments c) text arguments (ascii.closing_parenthesis ∷ rest)
+    call : {c : ListContext} {text name rest : List ℕ} {arguments : Items} → (c.levels == 0) ≡ false → is_function name ≡ true
+        → AreItems size (in_arguments c) text arguments (ascii.closing_parenthesis ∷ rest)
         → IsCall size c (name ++ ascii.opening_parenthesis ∷ text) name arguments rest
 
   -- the inside of braces, and the brace that closes them
   pub data IsBrace (size : ℕ) : ListContext → List ℕ → Brace → List ℕ → Type 0 where
-    emits : {c : ListContext} {text rest : List ℕ} {ps : List (Span × Pattern)} → (c.levels == 0) ≡ false → ArePatterns size text ps rest → IsBrace size c text (Emit ps) rest
-    chooses : {c : ListContext} {text rest : List ℕ} {choices : Choices} → (c.levels == 0) ≡ false → AreChoices size (in_braces c) text choices rest
+    emits : {c : ListContext} {text rest : List ℕ} {ps : List (Span × Pattern)} → (c.levels == 0) ≡ false → ArePatterns size text ps rest
+        → IsBrace size c text (Emit ps) rest
+    chooses : {c : ListContext} {text rest : List ℕ} {choices : Choices} → (c.levels == 0) ≡ false
+        → AreChoices size (in_braces c) text choices rest
         → IsBrace size c text (Choose choices) rest
 
   -- alternatives
   pub data AreChoices (size : ℕ) : ListContext → List ℕ → Choices → List ℕ → Type 0 where
-    last_choice : {c : ListContext} (colon : ℕ) {text mid rest : List ℕ} {tests : Tests} {items : Items} → AreTests size c text tests (ascii.colon ∷ mid) → At size colon (ascii.colon ∷ mid)
-        → AreItems size (in_x c tests) mid items (ascii.closing_brace ∷ rest) → AreChoices size c text (alternative colon tests items no_choice) rest
-    next_choice : {c : ListContext} (colon : ℕ) {text mid next rest : List ℕ} {tests : Tests} {items : Items} {choices : Choices} → AreTests size c text tests (ascii.colon ∷ mid)
-        → At size colon (ascii.colon ∷ mid) → AreItems size (in_x c tests) mid items (ascii.semicolon ∷ next) → AreLater size c next choices rest
+    last_choice : {c : ListContext} (colon : ℕ) {text mid rest : List ℕ} {tests : Tests} {items : Items}
+        → AreTests size c text tests (ascii.colon ∷ mid) → At size colon (ascii.colon ∷ mid)
+        → AreItems size (in_x c tests) mid items (ascii.closing_brace ∷ rest)
+        → AreChoices size c text (alternative colon tests items no_choice) rest
+    next_choice : {c : ListContext} (colon : ℕ) {text mid next rest : List ℕ} {tests : Tests} {items : Items} {choices : Choices}
+        → AreTests size c text tests (ascii.colon ∷ mid)
+        → At size colon (ascii.colon ∷ mid) → AreItems size (in_x c tests) mid items (ascii.semicolon ∷ next)
+        → AreLater size c next choices rest
         → AreChoices size c text (alternative colon tests items choices) rest
 
   -- alternatives after the first, of which the last may be the default
   pub data AreLater (size : ℕ) : ListContext → List ℕ → Choices → List ℕ → Type 0 where
-    with_tests : {c : ListContext} {text rest : List ℕ} {choices : Choices} → AreChoices size c text choices rest → AreLater size c text choices rest
-    default : {c : ListContext} (colon : ℕ) {text mid rest : List ℕ} {items : Items} → AreSpaces text (ascii.colon ∷ mid) → At size colon (ascii.colon ∷ mid)
-        → AreItems size (in_x c no_test) mid items (ascii.closing_brace ∷ rest) → AreLater size c text (alternative colon no_test items no_choice) rest
+    with_tests : {c : ListContext} {text rest : List ℕ} {choices : Choices} → AreChoices size c text choices rest
+        → AreLater size c text choices rest
+    default : {c : ListContext} (colon : ℕ) {text mid rest : List ℕ} {items : Items} → AreSpaces text (ascii.colon ∷ mid)
+        → At size colon (ascii.colon ∷ mid)
+        → AreItems size (in_x c no_test) mid items (ascii.closing_brace ∷ rest)
+        → AreLater size c text (alternative colon no_test items no_choice) rest
 
   -- tests, up to their colon
   pub data AreTests (size : ℕ) : ListContext → List ℕ → Tests → List ℕ → Type 0 where
-    last_test : {c : ListContext} {n m : ℕ} {t u v w rest : List ℕ} {negated : Bool} {asked : Asked} → AreSpaces t u → At size n u → IsSign u negated v → IsAsked size c v asked w
+    last_test : {c : ListContext} {n m : ℕ} {t u v w rest : List ℕ} {negated : Bool} {asked : Asked} → AreSpaces t u → At size n u
+        → IsSign u negated v → IsAsked size c v asked w
         → At size m w → AreSpaces w (ascii.colon ∷ rest) → AreTests size c t (test (span n m) negated asked no_test) (ascii.colon ∷ rest)
-    next_test : {c : ListContext} {n m : ℕ} {t u v w x rest : List ℕ} {negated : Bool} {asked : Asked} {tests : Tests} → AreSpaces t u → At size n u → IsSign u negated v
-        → IsAsked size c v asked w → At size m w → AreSpaces w (ascii.bar ∷ x) → AreTests size c x tests rest → AreTests size c t (test (span n m) negated asked tests) rest
+    next_test : {c : ListContext} {n m : ℕ} {t u v w x rest : List ℕ} {negated : Bool} {asked : Asked} {tests : Tests} → AreSpaces t u
+        → At size n u → IsSign u negated v
+        → IsAsked size c v asked w → At size m w → AreSpaces w (ascii.bar ∷ x) → AreTests size c x tests rest
+        → AreTests size c t (test (span n m) negated asked tests) rest
 
   -- what a test asks: of a switch, a suffix, a language or a function's result
   pub data IsAsked (size : ℕ) : ListContext → List ℕ → Asked → List ℕ → Type 0 where
-    switch : {c : ListContext} {text rest : List ℕ} {p : Pattern} → Stops is_mark text → IsPattern text p rest → IsAsked size c text (HasSwitch p) rest
-    suffix : {c : ListContext} {b : ℕ} {text word rest : List ℕ} → IsQuoted is_word text (b ∷ word) rest → IsAsked size c (ascii.period ∷ text) (HasSuffix (b ∷ word)) rest
-    language : {c : ListContext} {b : ℕ} {text word rest : List ℕ} → IsQuoted is_word text (b ∷ word) rest → IsAsked size c (ascii.comma ∷ text) (HasLanguage (b ∷ word)) rest
-    result : {c : ListContext} {text name rest : List ℕ} {arguments : Items} → IsCall size c text name arguments rest → IsAsked size c (ascii.percent ∷ ascii.colon ∷ text) (HasResult name arguments) rest
+    switch : {c : ListContext} {text rest : List ℕ} {p : Pattern} → Stops is_mark text → IsPattern text p rest
+        → IsAsked size c text (HasSwitch p) rest
+    suffix : {c : ListContext} {b : ℕ} {text word rest : List ℕ} → IsQuoted is_word text (b ∷ word) rest
+        → IsAsked size c (ascii.period ∷ text) (HasSuffix (b ∷ word)) rest
+    language : {c : ListContext} {b : ℕ} {text word rest : List ℕ} → IsQuoted is_word text (b ∷ word) rest
+        → IsAsked size c (ascii.comma ∷ text) (HasLanguage (b ∷ word)) rest
+    result : {c : ListContext} {text name rest : List ℕ} {arguments : Items} → IsCall size c text name arguments rest
+        → IsAsked size c (ascii.percent ∷ ascii.colon ∷ text) (HasResult name arguments) rest
 
 -- a text has this tree
 abbrev pub Spells : List ℕ → Items → Type 0

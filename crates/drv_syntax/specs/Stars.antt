@@ -1,4 +1,5 @@
-use Rattle.drv_syntax.specs.Tree.{ArgumentsFile, Asked, Brace, Braces, Choices, Choose, Emit, FailureFile, Function, HasResult, Item, Items, Star, Tests, choice, more, no_choice, no_test, none, test}
+use Rattle.drv_syntax.specs.Tree.{ArgumentsFile, Asked, Brace, Braces, Choices, Choose, Emit, FailureFile, Function, HasResult, Item, Items}
+use Rattle.drv_syntax.specs.Tree.{Star, Tests, choice, more, no_choice, no_test, none, test}
 use Rattle.std.specs.Prelude.{◌||◌, Bool, false, true}
 
 -- Which %* belong to an X (GCC manual, "Spec Files"; this project's profile).

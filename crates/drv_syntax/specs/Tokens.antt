@@ -58,7 +58,8 @@ abbrev mutual
   pub choice_tokens : ℕ → Choices → List Token
   choice_tokens n tree.no_choice = []
   choice_tokens n (tree.choice span tests items choices) =
-      token n kinds.Alternative span (test_tokens (n + 1) tests ++ item_tokens (n + 1 + length (test_tokens (n + 1) tests)) items) (λ m. choice_tokens m choices)
+      token n kinds.Alternative span (test_tokens (n + 1) tests ++ item_tokens (n + 1 + length (test_tokens (n + 1) tests)) items)
+      (λ m. choice_tokens m choices)
 
   pub test_tokens : ℕ → Tests → List Token
   test_tokens n tree.no_test = []

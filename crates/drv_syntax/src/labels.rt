@@ -198,54 +198,6 @@ impl Labels {
         Ok(())
     }
 
-    /// One more that names nothing, and one that names this word.
-    #[tactic(auto, using(crate::proofs::MarkedWords::within_more, crate::proofs::MarkedWords::within_push, crate::proofs::MarkedWords::labels_filled))]
-    #[inline(always)]
-    pub fn push_filled(&mut self, word: &[u8], starred: bool) -> Result<(), SyntaxFault>
-        ensures { Gives SyntaxFault.Memory (λ _. self.new) result (Ok ((self.old
-            ++ no_label ∷ []) ++ part_label word.now starred false TestKind.Switch ∷ [])) }
-    {
-        self.marks.reserve(2)?;
-        self.marks.push_reserved(UNNAMED);
-        let start = self.words.len();
-        self.words.extend_from_slice(word)?;
-        let end = self.words.len();
-        self.marks.push_reserved(LabelMark {
-            start,
-            end,
-            starred,
-            negated: false,
-            asks: TestKind::Switch,
-            holds_star: false,
-        });
-        Ok(())
-    }
-
-    /// Two more that name nothing, and one that names this word.
-    #[tactic(auto, using(crate::proofs::MarkedWords::within_more, crate::proofs::MarkedWords::within_push, crate::proofs::MarkedWords::labels_asked))]
-    #[inline(always)]
-    pub fn push_asked(&mut self, word: &[u8], negated: bool) -> Result<(), SyntaxFault>
-        ensures { Gives SyntaxFault.Memory (λ _. self.new) result (Ok (((self.old
-            ++ no_label ∷ []) ++ no_label ∷ [])
-            ++ part_label word.now false negated TestKind.Switch ∷ [])) }
-    {
-        self.marks.reserve(3)?;
-        self.marks.push_reserved(UNNAMED);
-        self.marks.push_reserved(UNNAMED);
-        let start = self.words.len();
-        self.words.extend_from_slice(word)?;
-        let end = self.words.len();
-        self.marks.push_reserved(LabelMark {
-            start,
-            end,
-            starred: false,
-            negated,
-            asks: TestKind::Switch,
-            holds_star: false,
-        });
-        Ok(())
-    }
-
     /// The one at this place becomes that of an alternative, whose X has a `%*` of its own or has
     /// none.
     #[tactic(auto, using(crate::proofs::MarkedWords::within_set, crate::proofs::MarkedWords::labels_set))]

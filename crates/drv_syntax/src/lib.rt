@@ -1,12 +1,12 @@
 //! The grammar of spec texts: a text's tree, or its first fault.
 #![tactic(auto)]
 
+mod descent;
 mod directives;
 mod fault;
 mod labels;
 mod laws;
 mod lent;
-mod reader;
 mod token;
 mod tree;
 mod written;

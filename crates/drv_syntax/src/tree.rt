@@ -10,10 +10,10 @@ ghost use Rattle.drv_syntax.specs.Written.{IsTree};
 ghost use Rattle.drv_words.specs.Gives.{Gives};
 ghost use Rattle.std.specs.Prelude.{◌≡◌, ◌<◌, ◌++◌, [], IfErr, IfOk, length};
 
+use crate::descent::{TextParts, ending_in, read_more, read_nothing, read_text};
 use crate::fault::SyntaxFault;
 use crate::labels::Labels;
 use crate::lent::LentLabels;
-use crate::reader::{Ended, read_after, read_nothing, read_text};
 use crate::token::{TestKind, Token};
 use crate::written::WrittenTree;
 use std::alloc::{AllocError, Global};
@@ -26,7 +26,7 @@ const TEXT_LIMIT: usize = 1_048_576;
 #[derive(Drop)]
 enum Parts {
     /// What the text gave, as it was read.
-    Read(Ended),
+    Read(TextParts),
     /// Constants of the code.
     Written(WrittenTree),
 }
@@ -63,7 +63,7 @@ impl SpecTree {
     }
 
     /// The tree of a text without bytes. The call allocates nothing.
-    #[tactic(auto, using(crate::proofs::Resuming::ended_nothing))]
+    #[tactic(auto, using(crate::proofs::Kept::nothing_kept))]
     pub fn empty(alloc: Global) -> SpecTree
         ensures { result ≡ [] }
     {
@@ -81,22 +81,22 @@ impl SpecTree {
     }
 
     /// Its items, alternatives, tests and patterns of braces, by their start, outer ones first.
-    #[tactic(auto, using(crate::proofs::WalkNames::listed_tokens))]
+    #[tactic(auto, using(crate::proofs::TreeLists::listed_tokens))]
     pub fn tokens(&self) -> &[Token]
         ensures { result.now ≡ tokens_of (tree_of self.now) }
     {
         match &self.parts {
-            Parts::Read(ended) => ended.walk.tokens.as_slice(),
+            Parts::Read(read) => read.tokens.as_slice(),
             Parts::Written(tree) => tree.tokens,
         }
     }
 
-    #[tactic(auto, using(crate::proofs::WalkNames::listed_labels))]
+    #[tactic(auto, using(crate::proofs::TreeLists::listed_labels))]
     fn labels(&self) -> LentLabels<'_>
         ensures { result ≡ labels_of (tree_of self.now) }
     {
         let tree = match &self.parts {
-            Parts::Read(ended) => return ended.walk.labels.lent(),
+            Parts::Read(read) => return read.labels.lent(),
             Parts::Written(tree) => tree,
         };
         LentLabels::new(tree.words, tree.marks)
@@ -145,9 +145,9 @@ impl SpecTree {
     }
 
     /// The tree of the text with more after it, or its first fault. What was read of the text isn't
-    /// read again where an item ends with it, or where a blank follows that ends the last one:
-    /// where it doesn't end in a text for the user.
-    #[tactic(auto, using(crate::proofs::WalkReads::parsed_long, crate::proofs::Resuming::tree_more, crate::proofs::Resuming::fault_more, crate::proofs::Resuming::ended_more, crate::proofs::Resuming::short_kept))]
+    /// read again, unless its last bytes are a suffix, a hidden pattern or a text for the user. After
+    /// the first two a blank suffices.
+    #[tactic(auto, using(crate::proofs::Kept::parsed_long, crate::proofs::Kept::tree_more, crate::proofs::Kept::fault_more, crate::proofs::Kept::more_kept, crate::proofs::Kept::short_kept))]
     pub fn extended(self, alloc: Global, more: &[u8]) -> Result<SpecTree, SyntaxFault>
         ensures tree { Gives SyntaxFault.Memory tree_of result (parsed (self ++ more.now)) }
         ensures text { IfOk result (λ t. t ≡ self ++ more.now) }
@@ -160,22 +160,22 @@ impl SpecTree {
         }
         let SpecTree { mut text, parts } = self;
         text.extend_from_slice(more)?;
-        let Parts::Read(ended) = parts else {
+        let Parts::Read(old) = parts else {
             return parse(alloc, &text);
         };
-        if !ended.ending.goes_on(more) {
+        if !ending_in(start, old.tokens.as_slice()).goes_on(more) {
             return parse(alloc, text.as_slice());
         }
-        let ended = read_after(start as u32, more, ended.walk)?;
+        let read = read_more(alloc, start as u32, more, old)?;
         Ok(SpecTree {
             text,
-            parts: Parts::Read(ended),
+            parts: Parts::Read(read),
         })
     }
 }
 
 /// The tree of a text, or its first fault.
-#[tactic(auto, using(crate::proofs::WalkReads::parsed_long, crate::proofs::Resuming::tree_first, crate::proofs::Resuming::fault_first, crate::proofs::Resuming::ended_first, crate::proofs::ParsedGrammar::long_refused, crate::proofs::ParsedGrammar::first_spelled, crate::proofs::ParsedGrammar::first_refused))]
+#[tactic(auto, using(crate::proofs::Kept::parsed_long, crate::proofs::Kept::tree_whole, crate::proofs::Kept::fault_whole, crate::proofs::Kept::whole_kept, crate::proofs::ParsedGrammar::long_refused, crate::proofs::Kept::whole_spelled, crate::proofs::Kept::whole_refused))]
 pub fn parse(alloc: Global, text: &[u8]) -> Result<SpecTree, SyntaxFault>
     ensures tree { Gives SyntaxFault.Memory tree_of result (parsed text.now) }
     ensures text { IfOk result (λ t. t ≡ text.now) }
@@ -185,10 +185,10 @@ pub fn parse(alloc: Global, text: &[u8]) -> Result<SpecTree, SyntaxFault>
     if text.len() > TEXT_LIMIT {
         return Err(SyntaxFault::TextTooLong);
     }
-    let ended = read_text(alloc, text)?;
+    let read = read_text(alloc, text)?;
     let text = Vec::from_slice(alloc, text)?;
     Ok(SpecTree {
         text,
-        parts: Parts::Read(ended),
+        parts: Parts::Read(read),
     })
 }

@@ -11,4 +11,12 @@ byte_labels (b ∷ run) = word_label (b ∷ []) ∷ byte_labels run
 
 abbrev pub byte_marks : ℕ → List ℕ → List LabelMark
 byte_marks start [] = []
-byte_marks start (b ∷ run) = record { start = start; end = start + 1; starred = false; negated = false; asks = asking.Switch; holds_star = false } ∷ byte_marks (start + 1) run
+byte_marks start (b ∷ run) = record {
+  start = start;
+  end = start + 1;
+  starred = false;
+  negated = false;
+  asks = asking.Switch;
+  holds_star =
+      false;
+} ∷ byte_marks (start + 1) run

@@ -5,7 +5,8 @@ use Rattle.std.proofs.Common.{arith, ◌∙◌}
 pub loop-byte-preserved : goal.loop-byte-preserved
 loop-byte-preserved c =
     record {
-      same = marks_step c.loop-byte.marks.items c.push_reserved.new.self.items _ c.loop-byte.place c.loop-byte._byte-index c.args.run.now c.loop-byte-test.true c.push_reserved.ensures.items c.loop-byte.invariant.same;
+      same = marks_step c.loop-byte.marks.items c.push_reserved.new.self.items _ c.loop-byte.place c.loop-byte._byte-index c.args.run.now
+          c.loop-byte-test.true c.push_reserved.ensures.items c.loop-byte.invariant.same;
       place = omega (arith, c.loop-byte.invariant.place);
       size = omega (arith, c.push_reserved.ensures.len, c.loop-byte.invariant.size);
       room = c.push_reserved.ensures.capacity ∙ c.loop-byte.invariant.room;

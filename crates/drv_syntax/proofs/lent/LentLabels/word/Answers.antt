@@ -2,10 +2,13 @@ use Rattle.drv_syntax.proofs.MarkedWords.{within_at}
 use Rattle.drv_syntax.proofs.lent.LentLabels.word.Goals as goal
 
 pub slice_bounds-result-count : goal.slice_bounds-result-count
-slice_bounds-result-count c = (within_at c.self.inside.words.now c.self.inside.marks.now c.args.self.now c.args.place _ c.self.view_is c.self.invariant c.requires).0
+slice_bounds-result-count c =
+    (within_at c.self.inside.words.now c.self.inside.marks.now c.args.self.now c.args.place _ c.self.view_is c.self.invariant c.requires).0
 
 pub slice_bounds-result-start : goal.slice_bounds-result-start
-slice_bounds-result-start c = (within_at c.self.inside.words.now c.self.inside.marks.now c.args.self.now c.args.place _ c.self.view_is c.self.invariant c.requires).0
+slice_bounds-result-start c =
+    (within_at c.self.inside.words.now c.self.inside.marks.now c.args.self.now c.args.place _ c.self.view_is c.self.invariant c.requires).0
 
 pub slice_bounds-result-end : goal.slice_bounds-result-end
-slice_bounds-result-end c = (within_at c.self.inside.words.now c.self.inside.marks.now c.args.self.now c.args.place _ c.self.view_is c.self.invariant c.requires).1
+slice_bounds-result-end c =
+    (within_at c.self.inside.words.now c.self.inside.marks.now c.args.self.now c.args.place _ c.self.view_is c.self.invariant c.requires).1

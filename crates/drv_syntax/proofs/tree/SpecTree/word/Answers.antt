@@ -1,4 +1,4 @@
-use Rattle.drv_syntax.proofs.WalkNames.{label_within}
+use Rattle.drv_syntax.proofs.TreeLists.{label_within}
 use Rattle.drv_syntax.proofs.tree.SpecTree.word.Goals as goal
 use Rattle.drv_syntax.specs.Parsed.{tree_of}
 

@@ -1,0 +1,238 @@
+use Rattle.drv_words.specs.Bytes as ascii
+use Rattle.drv_syntax.proofs.GivenParts.{given_parts, given_stops, given_then, ok_same, some_left}
+use Rattle.drv_syntax.proofs.Writing.{after_after, given_past}
+use Rattle.drv_syntax.proofs.Wrote.{closed_is, list_wrote}
+use Rattle.drv_syntax.specs.Code.Left.{Left, after, first_of}
+use Rattle.drv_syntax.specs.Code.Lists.{around, closed_at, closed_here, list_written, listed_given, opened_here, result_given, result_on}
+use Rattle.drv_syntax.specs.Code.Lists.{tail_at, tail_on, with_end}
+use Rattle.drv_syntax.specs.Code.Tests.{added, choice_here, choice_open, is_starred, opened, test_written}
+use Rattle.drv_syntax.specs.Code.Writing.{Parts, Reading, at_rest, given, named_given, open_at}
+use Rattle.drv_syntax.specs.Contexts.{ListContext, in_arguments, in_braces}
+use Rattle.drv_syntax.specs.Descent as d
+use Rattle.drv_syntax.specs.Descent.{Ends, Lists, Operand, Read, Stops, Took, function_from, levels, result, result_in, then_read, within}
+use Rattle.drv_syntax.specs.Labels.{Label, nodes_of, part_label}
+use Rattle.drv_syntax.specs.Spelling.{span}
+use Rattle.drv_syntax.specs.Stars.{has_star}
+use Rattle.drv_syntax.specs.Tree.{HasResult, Items}
+use Rattle.drv_syntax.specs.declared.descent.parts.Choice.{Choice}
+use Rattle.drv_syntax.specs.declared.descent.simple.Tail.{Tail}
+use Rattle.drv_syntax.specs.declared.fault.SyntaxFault.{SyntaxFault}
+use Rattle.drv_syntax.specs.declared.descent.tokens.Open.{Open}
+use Rattle.drv_syntax.specs.declared.token.TestKind.TheVariants as asking
+use Rattle.drv_syntax.specs.declared.token.TokenKind.TheVariants as kinds
+use Rattle.std.proofs.Common.{◌≡◌, ◌∙◌, ◌+◌, ◌-◌, ◌≤◌, Bool, false, true, List, [], ◌∷◌, ap, arith, drop, length, refl, suc, sym, zero, ℕ}
+use Rattle.std.specs.Prelude.{◌&&◌, Err, Ok, Option, Result, Some}
+
+-- What is given of a test of a function's result, from its percent sign on. It serves the reader's `result`.
+
+-- the lists in braces in a list of so many levels
+deeper_is : (level : ℕ) → 2 ≤ level → (c : ListContext) (n : ℕ) (text : List ℕ) → (around level).1 c n text
+    ≡ (levels (level - 1 - 1)).0 c n text
+deeper_is zero h c n text = absurd (omega (arith, h))
+deeper_is (suc zero) h c n text = absurd (omega (arith, h))
+deeper_is (suc (suc level)) h c n text =
+    let e : level ≡ suc (suc level) - 1 - 1 = omega arith in
+    ap (λ (l : ℕ). (levels l).0 c n text) e
+
+within_given : {X Y : Type 0} (outer : Option ℕ) (at : ℕ) (rest : Left) (g : X → Left → Y) (r : Read X)
+    → given outer rest g (within at r) ≡ given (Some (open_at outer at)) rest g r
+within_given outer at rest g (Took x size) = refl
+within_given outer at rest g (Ends n) = refl
+within_given outer at rest g (Stops n fault) = refl
+
+never_starred : (b negated : Bool) (name : List ℕ) (list : Items) → (b && is_starred negated (HasResult name list)) ≡ false
+never_starred true true name list = refl
+never_starred true false name list = refl
+never_starred false negated name list = refl
+
+module _ (outer : Option ℕ) (at : ℕ) (so_far : Option Choice) (start : ℕ) (negated : Bool) (c : ListContext) (v : Reading) where
+  abbrev deep : Lists
+  deep = (around c.levels).1
+
+  abbrev inner : Option ℕ
+  inner = Some (open_at outer at)
+
+  abbrev on : Operand → Left → Choice × Reading
+  on o rest = result_on so_far start negated v.parts o.as_test rest
+
+  abbrev reads : Result (Choice × Reading) SyntaxFault
+  reads = result_given outer so_far start negated v (result deep c at v.rest.at (drop 1 v.rest.bytes))
+
+  abbrev label : List ℕ → Label
+  label name = part_label name false negated asking.Result
+
+  -- the colon
+  module _ (colon : ℕ) (one two : Left) (one_is : one ≡ after 1 v.rest) (first : Some colon ≡ first_of one.bytes) (is : colon ≡ ascii.colon)
+      (two_is : two ≡ after 1 one) where
+    abbrev front : Left
+    front = after 1 v.rest
+
+    text_is : front.bytes ≡ ascii.colon ∷ drop 1 front.bytes
+    text_is =
+        ap (λ (x : Left). x.bytes) (sym one_is) ∙ some_left one.bytes colon first ∙ ap (λ b. b ∷ drop 1 one.bytes) is
+        ∙ ap (λ (x : Left). ascii.colon ∷ drop 1 x.bytes) one_is
+
+    after_colon : reads ≡ given inner two on (then_read (function_from v.rest.at two.at [] two.bytes) (result_in deep c two.at two.bytes))
+    after_colon =
+        let n : v.rest.at + 2 ≡ v.rest.at + 1 + 1 = omega arith in
+        ap (λ bs. given outer front on (result deep c at v.rest.at bs)) text_is
+        ∙ given_past outer front on 1 (within at (then_read (function_from v.rest.at (v.rest.at + 2) [] (drop 1 front.bytes))
+        (result_in deep c (v.rest.at + 2) (drop 1 front.bytes))))
+        ∙ within_given outer at (after 1 front) on (then_read (function_from v.rest.at (v.rest.at + 2) [] (drop 1 front.bytes))
+        (result_in deep c (v.rest.at + 2) (drop 1 front.bytes)))
+        ∙ ap (λ (i : ℕ). given inner (after 1 front) on (then_read (function_from v.rest.at i [] (drop 1 front.bytes))
+        (result_in deep c i (drop 1 front.bytes)))) n
+        ∙ ap (λ (x : Left). given inner x on (then_read (function_from v.rest.at x.at [] x.bytes) (result_in deep c x.at x.bytes)))
+        (ap (λ (x : Left). after 1 x) (sym one_is) ∙ sym two_is)
+
+    -- the name
+    module _ (o : Option ℕ) (o_is : o ≡ inner) (n : ℕ) (n_is : n ≡ v.rest.at) (name : List ℕ) (u : Reading)
+        (named : named_given o (at_rest two v) (function_from n two.at [] two.bytes) ≡ Ok (name, u)) where
+      named_is : named_given inner (at_rest two v) (function_from v.rest.at two.at [] two.bytes) ≡ Ok (name, u)
+      named_is =
+          ap (λ x. named_given x (at_rest two v) (function_from v.rest.at two.at [] two.bytes)) (sym o_is)
+          ∙ ap (λ (i : ℕ). named_given o (at_rest two v) (function_from i two.at [] two.bytes)) (sym n_is)
+          ∙ named
+
+      abbrev arguments : List ℕ → ℕ → List ℕ → Read Operand
+      arguments x n text = then_read (deep (in_arguments (in_braces c)) n text) (λ list size. Took (d.result_operand x list.0) (size + 1))
+
+      arguments_at : (x : List ℕ) (k : ℕ)
+          → given inner two on (result_in deep c two.at two.bytes x k)
+          ≡ given inner (after k two) on (arguments x (two.at + k) (drop k two.bytes))
+      arguments_at x k = by (deep (in_arguments (in_braces c)) (two.at + k) (drop k two.bytes))
+        where
+          by : (r : Read (Items × ℕ))
+              → given inner two on (then_read r (λ list size. Took (d.result_operand x list.0) (k + (size + 1))))
+              ≡ given inner (after k two) on (then_read r (λ list size. Took (d.result_operand x list.0) (size + 1)))
+          by (Took list size) = ap (λ (l : Left). Ok (on (d.result_operand x list.0) l)) (after_after k (size + 1) two)
+          by (Ends n) = refl
+          by (Stops n fault) = refl
+
+      after_name : reads ≡ given inner u.rest on (arguments name u.rest.at u.rest.bytes)
+      after_name =
+          after_colon
+          ∙ given_then inner (at_rest two v) u name on (function_from v.rest.at two.at [] two.bytes) (result_in deep c two.at two.bytes)
+          (λ x i text. arguments x i text) (λ x k. arguments_at x k) named_is
+
+      -- the parts that open
+      module _ (choice : Choice) (q w : Reading) (part : Open) (opens : choice_open so_far start u.parts ≡ (choice, q.parts))
+          (stays : q.rest ≡ u.rest)
+          (opened_is : opened_here kinds.Test (label name) start q ≡ (part, w)) (ctx : ListContext)
+          (ctx_is : ctx ≡ in_arguments (in_braces c))
+          (enough : 2 ≤ c.levels) where
+        abbrev list : Read (Items × ℕ)
+        list = deep (in_arguments (in_braces c)) u.rest.at u.rest.bytes
+
+        abbrev begun : Reading
+        begun = record { rest = u.rest; parts = opened kinds.Test (label name) start (choice_open so_far start u.parts).1 }
+
+        w_is : w ≡ begun
+        w_is =
+            sym (ap (λ (x : Open × Reading). x.1) opened_is)
+            ∙ ap (λ (l : Left). record { rest = l; parts = opened kinds.Test (label name) start q.parts }) stays
+            ∙ ap (λ (x : Choice × Parts). record { rest = u.rest; parts = opened kinds.Test (label name) start x.1 }) (sym opens)
+
+        part_is : part ≡ record { token = length (choice_open so_far start u.parts).1.tokens; start = start }
+        part_is =
+            sym (ap (λ (x : Open × Reading). x.0) opened_is)
+            ∙ ap (λ (x : Choice × Parts). record { token = length x.1.tokens; start = start }) (sym opens)
+
+        -- the code reads this list
+        list_is : listed_given o (tail_at w) w ((levels ctx.levels).0 ctx w.rest.at w.rest.bytes)
+            ≡ listed_given inner (tail_at begun) begun list
+        list_is =
+            ap (λ x. listed_given x (tail_at w) w ((levels ctx.levels).0 ctx w.rest.at w.rest.bytes)) o_is
+            ∙ ap (λ (x : Reading). listed_given inner (tail_at x) x ((levels ctx.levels).0 ctx x.rest.at x.rest.bytes)) w_is
+            ∙ ap (λ (x : ListContext). listed_given inner (tail_at begun) begun ((levels x.levels).0 x u.rest.at u.rest.bytes)) ctx_is
+            ∙ ap (λ r. listed_given inner (tail_at begun) begun r)
+            (sym (deeper_is c.levels enough (in_arguments (in_braces c)) u.rest.at u.rest.bytes))
+
+        pub asked_stop : (fault : SyntaxFault) → listed_given o (tail_at w) w ((levels ctx.levels).0 ctx w.rest.at w.rest.bytes) ≡ Err fault
+            → reads ≡ Err fault
+        asked_stop fault h =
+            after_name
+            ∙ given_stops inner u.rest
+            (λ (x : Items × ℕ) rest. (
+              with_end (tail_on (tail_at begun) x.0 begun.parts) x.1,
+              record
+                  { rest = rest; parts = list_written x.0 begun.parts },
+            )) on
+            list (λ x size. Took (d.result_operand name x.0) (size + 1)) fault (sym list_is ∙ h)
+
+        pub asked_done : (tail : Tail) (x : Reading) (end : Left)
+            → listed_given o (tail_at w) w ((levels ctx.levels).0 ctx w.rest.at w.rest.bytes) ≡ Ok (tail, x)
+            → end ≡ after 1 x.rest
+            → reads ≡ Ok (
+              record { part = choice.part; label = choice.label; starred = false },
+              closed_here kinds.Test part end.at (record { rest = end; parts = x.parts }),
+            )
+        asked_done tail x end h e =
+            after_name
+            ∙ by list (sym list_is ∙ h)
+            ∙ ap (λ (k : Open). Ok (
+              record { part = choice.part; label = choice.label; starred = false },
+              closed_here kinds.Test k end.at (record { rest = end; parts = x.parts }),
+            )) (sym part_is)
+          where
+            by : (r : Read (Items × ℕ)) → listed_given inner (tail_at begun) begun r ≡ Ok (tail, x)
+                → given inner u.rest on (then_read r (λ y size. Took (d.result_operand name y.0) (size + 1)))
+                ≡ Ok (
+                  record { part = choice.part; label = choice.label; starred = false },
+                  closed_here kinds.Test (record { token = length (choice_open so_far start u.parts).1.tokens; start = start }) end.at
+                      (record { rest = end; parts = x.parts }),
+                )
+            by (Ends n) g = absurd cc
+            by (Stops n fault) g = absurd cc
+            by (Took y size) g =
+                let p : record { rest = after size u.rest; parts = list_written y.0 begun.parts }
+                ≡ x = ap (λ (k : Tail × Reading). k.1) (ok_same g) in
+                let l : after (size + 1) u.rest ≡ end = after_after size 1 u.rest ∙ ap (λ (k : Reading). after 1 k.rest) p ∙ sym e in
+                ap (λ (k : Left). Ok (on (d.result_operand name y.0) k)) l
+                ∙ ap (λ (k : Parts). Ok (choice_here (added so_far k (span start end.at) negated (HasResult name y.0)) end))
+                (given_parts inner (at_rest two v) u name (function_from v.rest.at two.at [] two.bytes) named_is)
+                ∙ ap (λ (b : Bool). Ok (
+                  record {
+                    part = (choice_open so_far start u.parts).0.part;
+                    label = (choice_open so_far start u.parts).0.label;
+                    starred = b;
+                  },
+                  record {
+                    rest = end;
+                    parts = test_written (span start end.at) negated (HasResult name y.0)
+                        (choice_open so_far start u.parts).1;
+                  },
+                ))
+                (never_starred (choice_open so_far start u.parts).0.starred negated name y.0)
+                ∙ ap (λ (k : Choice × Parts). Ok (
+                  record { part = k.0.part; label = k.0.label; starred = false },
+                  record {
+                    rest = end;
+                    parts = test_written (span start end.at) negated (HasResult name y.0)
+                        (choice_open so_far start u.parts).1;
+                  },
+                )) opens
+                ∙ ap (λ (k : Parts). Ok (
+                  record { part = choice.part; label = choice.label; starred = false },
+                  record
+                      { rest = end; parts = k },
+                ))
+                (sym (closed_is kinds.Test kinds.Test (label name) start end.at (nodes_of y.0) (has_star y.0)
+                (choice_open so_far start u.parts).1))
+                ∙ ap (λ (k : Parts). Ok (
+                  record { part = choice.part; label = choice.label; starred = false },
+                  record {
+                    rest = end;
+                    parts = closed_at kinds.Test (record
+                        { token = length (choice_open so_far start u.parts).1.tokens; start = start }) end.at k;
+                  },
+                ))
+                (sym (list_wrote y.0 begun.parts))
+                ∙ ap (λ (k : Reading). Ok (
+                  record { part = choice.part; label = choice.label; starred = false },
+                  record {
+                    rest = end;
+                    parts = closed_at kinds.Test (record
+                        { token = length (choice_open so_far start u.parts).1.tokens; start = start }) end.at k.parts;
+                  },
+                )) p

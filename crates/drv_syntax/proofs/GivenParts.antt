@@ -1,0 +1,469 @@
+use Rattle.drv_words.specs.Bytes as ascii
+use Rattle.drv_syntax.proofs.Writing.{after_after, after_none, differs, given_past, leaf_is, quoted_took}
+use Rattle.drv_syntax.specs.Bytes.{is_function, is_function_front, is_option, is_word}
+use Rattle.drv_syntax.specs.Code.Left.{Left, after, begins_with, first_of, past_byte}
+use Rattle.drv_syntax.specs.Code.Writing.{Parts, Reading, at_rest, front_size, function_end, given, hidden, is_empty, item_given}
+use Rattle.drv_syntax.specs.Code.Writing.{item_written, leaf_here}
+use Rattle.drv_syntax.specs.Code.Writing.{named_given, open_at, quoted_to, said_kind, spelled, star_after, words_seen}
+use Rattle.drv_syntax.specs.declared.descent.reader.Spelled.{Spelled}
+use Rattle.drv_syntax.specs.Code.Tests.{pattern_given}
+use Rattle.drv_syntax.specs.Contexts.{Kind, is_said}
+use Rattle.drv_syntax.specs.Descent.{Ends, Hangs, Quoted, Read, Run, Stops, Took, function_from, option, option_end, option_text, past}
+use Rattle.drv_syntax.specs.Descent.{pattern_at, pattern_end}
+use Rattle.drv_syntax.specs.Descent.{pattern_text, quoted, saying, saying_end, saying_text, then_read}
+use Rattle.drv_syntax.specs.Directives.{said}
+use Rattle.drv_syntax.specs.Labels.{part_label, word_label}
+use Rattle.drv_syntax.specs.Tree.{AddOption, Hide, Item, Pattern, pattern}
+use Rattle.drv_syntax.specs.declared.directives.SayKind.TheVariants.{AsError, AsNotice}
+use Rattle.drv_syntax.specs.declared.directives.SayKind.{SayKind}
+use Rattle.drv_syntax.specs.declared.fault.SyntaxFault.TheVariants.{BadDirective, EmptyTest, Unclosed, UnknownFunction}
+use Rattle.drv_syntax.specs.declared.fault.SyntaxFault.{SyntaxFault}
+use Rattle.drv_syntax.specs.declared.token.TestKind.TheVariants as asking
+use Rattle.drv_syntax.specs.declared.token.TokenKind.TheVariants as kinds
+use Rattle.std.proofs.Common.{◌≡◌, ◌⊎◌, ◌∙◌, ◌+◌, ◌++◌, Bool, false, true, if◌then◌else◌, List, [], ◌∷◌, ap, append-nil}
+use Rattle.std.proofs.Common.{append_assoc, arith}
+use Rattle.std.proofs.Common.{drop, inl, inr, refl}
+use Rattle.std.proofs.Common.{◌≤◌, length, suc, sym, take, ℕ}
+use Rattle.std.proofs.lemmas.List.{length-drop}
+use Rattle.drv_words.specs.Gives.{Gives}
+use Rattle.std.specs.Prelude.{◌==◌, Err, None, Ok, Option, Result, Some}
+use Rattle.std.specs.Result.{IsErrAnd}
+
+-- What is given of parts that follow one another. It serves all of the reader's functions that read one part after another.
+
+-- of a result and of a choice
+
+pub ok_same : {X E : Type 0} {x y : X} → ◌≡◌ {A = Result X E} (Ok x) (Ok y) → x ≡ y
+ok_same e = cc
+
+pub err_same : {X E : Type 0} {x y : E} → ◌≡◌ {A = Result X E} (Err x) (Err y) → x ≡ y
+err_same e = cc
+
+pub none_left : (bs : List ℕ) → None ≡ first_of bs → bs ≡ []
+none_left [] e = refl
+none_left (b ∷ bs) e = absurd cc
+
+pub some_left : (bs : List ℕ) (b : ℕ) → Some b ≡ first_of bs → bs ≡ b ∷ drop 1 bs
+some_left [] b e = absurd cc
+some_left (c ∷ bs) b e =
+    let p : c ≡ b = cc in
+    ap (λ (x : ℕ). x ∷ bs) p
+
+pub err_gives : {X Y : Type 0} (memory fault : SyntaxFault) (view : X → Y) (result : Result X SyntaxFault) (whole : Result Y SyntaxFault)
+    → IsErrAnd result (λ e. e ≡ fault) → whole ≡ Err fault → Gives memory view result whole
+err_gives memory fault view (Ok x) whole e h = absurd e
+err_gives memory fault view (Err f) whole e h = inr (h ∙ ap (λ x. Err x) (sym e))
+
+-- the same for a fault of a part
+pub gives_err : {X Y Z : Type 0} (memory fault : SyntaxFault) (view : X → Y) (result : Result X SyntaxFault) (part : Result Z SyntaxFault)
+    (whole : Result Y SyntaxFault)
+    → (part ≡ Err fault → whole ≡ Err fault) → (fault ≡ memory) ⊎ (part ≡ Err fault) → IsErrAnd result (λ e. e ≡ fault)
+    → Gives memory view result whole
+gives_err memory fault view (Ok x) part whole on h e = absurd e
+gives_err memory fault view (Err f) part whole on (inl g) e = inl (e ∙ g)
+gives_err memory fault view (Err f) part whole on (inr g) e = inr (on g ∙ ap (λ x. Err x) (sym e))
+
+-- parts
+
+pub given_stops : {X Y Z W : Type 0} (outer : Option ℕ) (rest : Left) (f : X → Left → Z) (g : Y → Left → W) (r : Read X)
+    (goes : X → ℕ → Read Y)
+    (e : SyntaxFault) → given outer rest f r ≡ Err e → given outer rest g (then_read r goes) ≡ Err e
+given_stops outer rest f g (Took x size) goes e h = absurd cc
+given_stops outer rest f g (Ends at) goes e h =
+    let p : Unclosed (open_at outer at) ≡ e = err_same h in
+    ap (λ (x : SyntaxFault). Err x) p
+given_stops outer rest f g (Stops n fault) goes e h =
+    let p : fault ≡ e = err_same h in
+    ap (λ (x : SyntaxFault). Err x) p
+
+pub given_then : {X Y Z : Type 0} (outer : Option ℕ) (v u : Reading) (x : X) (g : Y → Left → Z) (r : Read X) (goes : X → ℕ → Read Y)
+    (next : X → ℕ → List ℕ → Read Y)
+    → ((y : X) (k : ℕ) → given outer v.rest g (goes y k) ≡ given outer (after k v.rest) g (next y (v.rest.at + k) (drop k v.rest.bytes)))
+    → given {Y = X × Reading} outer v.rest (λ y rest. (y, at_rest rest v)) r ≡ Ok (x, u)
+    → given outer v.rest g (then_read r goes) ≡ given outer u.rest g (next x u.rest.at u.rest.bytes)
+given_then {X = X} outer v u x g (Took y size) goes next is h =
+    let p : ◌≡◌ {A = X × Reading} (y, at_rest (after size v.rest) v) (x, u) = ok_same h in
+    is y size
+    ∙ ap (λ (z : X). given outer (after size v.rest) g (next z (v.rest.at + size) (drop size v.rest.bytes))) (ap (λ z. z.0) p)
+    ∙ ap (λ (z : Reading). given outer z.rest g (next x z.rest.at z.rest.bytes)) (ap (λ z. z.1) p)
+given_then {X = X} outer v u x g (Ends at) goes next is h = absurd cc
+given_then {X = X} outer v u x g (Stops n fault) goes next is h = absurd cc
+
+pub given_map : {X Y Z : Type 0} (outer : Option ℕ) (v u : Reading) (x : X) (g : Y → Left → Z) (r : Read X) (to : X → Y)
+    → given {Y = X × Reading} outer v.rest (λ y rest. (y, at_rest rest v)) r ≡ Ok (x, u)
+    → given outer v.rest g (then_read r (λ y k. Took (to y) k)) ≡ Ok (g (to x) u.rest)
+given_map {X = X} outer v u x g (Took y size) to h =
+    let p : ◌≡◌ {A = X × Reading} (y, at_rest (after size v.rest) v) (x, u) = ok_same h in
+    ap (λ z. Ok (g (to z) (after size v.rest))) (ap (λ z. z.0) p)
+    ∙ ap (λ (z : Reading). Ok (g (to x) z.rest)) (ap (λ z. z.1) p)
+given_map {X = X} outer v u x g (Ends at) to h = absurd cc
+given_map {X = X} outer v u x g (Stops n fault) to h = absurd cc
+
+-- the parts so far stay as they are
+pub given_parts : {X : Type 0} (outer : Option ℕ) (v u : Reading) (x : X) (r : Read X)
+    → given {Y = X × Reading} outer v.rest (λ y rest. (y, at_rest rest v)) r ≡ Ok (x, u) → v.parts ≡ u.parts
+given_parts {X = X} outer v u x (Took y size) h =
+    let p : ◌≡◌ {A = X × Reading} (y, at_rest (after size v.rest) v) (x, u) = ok_same h in
+    ap (λ z. z.1.parts) p
+given_parts {X = X} outer v u x (Ends at) h = absurd cc
+given_parts {X = X} outer v u x (Stops n fault) h = absurd cc
+
+-- what is left is no longer
+pub given_shorter : {X : Type 0} (outer : Option ℕ) (v u : Reading) (x : X) (r : Read X)
+    → given {Y = X × Reading} outer v.rest (λ y rest. (y, at_rest rest v)) r ≡ Ok (x, u) → length u.rest.bytes ≤ length v.rest.bytes
+given_shorter {X = X} outer v u x (Took y size) h =
+    let p : ◌≡◌ {A = X × Reading} (y, at_rest (after size v.rest) v) (x, u) = ok_same h in
+    let q : length u.rest.bytes ≡ length (drop size v.rest.bytes) = ap (λ z. length z.1.rest.bytes) (sym p) in
+    omega (arith, q, length-drop size v.rest.bytes)
+given_shorter outer v u x (Ends at) h = absurd cc
+given_shorter outer v u x (Stops n fault) h = absurd cc
+
+-- words with escapes
+
+-- the text ends in an escape
+pub quoted_hung : {Y Z : Type 0} (outer : Option ℕ) (v u : Reading) (g : Y → Left → Z) (q : Quoted) (goes : Quoted → Read Y) (place : ℕ → ℕ)
+    → ((size : ℕ) → goes (Hangs size) ≡ Ends (place (v.rest.at + size))) → quoted_to [] v q ≡ (None, u)
+    → given outer v.rest g (goes q) ≡ Err (Unclosed (open_at outer (place u.rest.at)))
+quoted_hung outer v u g (Run w size) goes place is e =
+    let n : Some w ≡ None = ap (λ (z : Option (List ℕ) × Reading). z.0) e in
+    absurd cc
+quoted_hung outer v u g (Hangs size) goes place is e =
+    let p : after size v.rest ≡ u.rest = ap (λ (z : Option (List ℕ) × Reading). z.1.rest) e in
+    ap (λ x. given outer v.rest g x) (is size)
+    ∙ ap (λ (r : Left). Err (Unclosed (open_at outer (place r.at)))) p
+
+-- a part that ends with such a run
+
+module _ {Y Z : Type 0} (outer : Option ℕ) (g : Y → Left → Z) where
+  took_none : (rest : Left) (size : ℕ) (x : Y) → given outer rest g (Took x size) ≡ given outer (after size rest) g (Took x 0)
+  took_none rest size x = ap (λ (r : Left). Ok (g x r)) (sym (after_none (after size rest)))
+
+  took_more : (rest : Left) (size : ℕ) (x : Y) → given outer rest g (Took x (size + 1)) ≡ given outer (after size rest) g (Took x 1)
+  took_more rest size x = ap (λ (r : Left). Ok (g x r)) (after_after size 1 rest)
+
+-- %x{..}
+
+option_shift : {Z : Type 0} (outer : Option ℕ) (rest : Left) (g : Item → Left → Z) (at n : ℕ) (w : List ℕ) (size : ℕ) (bs : List ℕ)
+    → given outer rest g (option_end at n w size bs) ≡ given outer (after size rest) g (option_end at n w 0 bs)
+option_shift outer rest g at n w size [] = refl
+option_shift outer rest g at n [] size (b ∷ bs) = refl
+option_shift outer rest g at n (x ∷ w) size (b ∷ bs) = took_more outer g rest size (AddOption (x ∷ w))
+
+module _ (outer : Option ℕ) (at : ℕ) (v : Reading) where
+  abbrev reads : List ℕ → Result Reading SyntaxFault
+  reads bs = item_given outer at v (option at v.rest.at bs)
+
+  abbrev inside : Left → Result Reading SyntaxFault
+  inside rest = item_given outer at (at_rest rest v) (option_text at rest.at (quoted is_option rest.bytes) rest.bytes)
+
+  past_brace : (bs : List ℕ) → bs ≡ ascii.opening_brace ∷ drop 1 bs → v.rest.bytes ≡ bs → reads bs ≡ inside (after 1 v.rest)
+  past_brace bs e g =
+      ap (λ z. reads z) e
+      ∙ given_past_here (option_text at (v.rest.at + 1) (quoted is_option (drop 1 bs)) (drop 1 bs))
+      ∙ ap (λ z. item_given outer at (at_rest (after 1 v.rest) v) (option_text at (v.rest.at + 1) (quoted is_option (drop 1 z)) (drop 1 z)))
+      (sym g)
+    where
+      given_past_here : (r : Read Item) → item_given outer at v (past 1 r) ≡ item_given outer at (at_rest (after 1 v.rest) v) r
+      given_past_here (Took x size) = ap (λ (l : Left). Ok (record { rest = l; parts = item_written at x l.at v.parts }))
+          (after_after 1 size v.rest)
+      given_past_here (Ends n) = refl
+      given_past_here (Stops n fault) = refl
+
+  pub option_opens : (b : ℕ) (rest : Left) → Some b ≡ first_of v.rest.bytes → b ≡ ascii.opening_brace → rest ≡ after 1 v.rest
+      → reads v.rest.bytes ≡ inside rest
+  option_opens b rest e g h =
+      past_brace v.rest.bytes (some_left v.rest.bytes b e ∙ ap (λ x. x ∷ drop 1 v.rest.bytes) g) refl
+      ∙ ap (λ (l : Left). inside l) (sym h)
+
+  pub option_hung : (rest : Left) (u : Reading) → quoted_to [] (at_rest rest v) (quoted is_option rest.bytes) ≡ (None, u)
+      → inside rest ≡ Err (Unclosed (open_at outer at))
+  option_hung rest u e = quoted_hung outer (at_rest rest v) u
+      (λ x l. record { rest = l; parts = item_written at x l.at v.parts }) (quoted is_option rest.bytes)
+      (λ q. option_text at rest.at q rest.bytes)
+      (λ i. at) (λ size. refl) e
+
+  abbrev option_left : Reading → List ℕ → List ℕ → Result Reading SyntaxFault
+  option_left u w bs = given outer u.rest (λ x l. record { rest = l; parts = item_written at x l.at v.parts })
+      (option_end at u.rest.at w 0 bs)
+
+  pub option_word : (rest : Left) (u : Reading) (word : List ℕ) → quoted_to [] (at_rest rest v) (quoted is_option rest.bytes)
+      ≡ (Some word, u)
+      → inside rest ≡ option_left u word u.rest.bytes
+  option_word rest u word e =
+      quoted_took outer (at_rest rest v) u (λ x l. record { rest = l; parts = item_written at x l.at v.parts })
+      (quoted is_option rest.bytes) word
+      (λ q. option_text at rest.at q rest.bytes) (λ w size bs. option_end at rest.at w size bs) (λ w size. refl)
+      (λ w size bs. option_shift outer rest (λ x l. record { rest = l; parts = item_written at x l.at v.parts }) at rest.at w size bs) e
+      ∙ by word u.rest.bytes
+    where
+      by : (w bs : List ℕ)
+          → given outer u.rest (λ x l. record { rest = l; parts = item_written at x l.at v.parts }) (option_end at rest.at w 0 bs)
+          ≡ option_left u w bs
+      by w [] = refl
+      by [] (b ∷ bs) = refl
+      by (x ∷ w) (b ∷ bs) = refl
+
+  pub option_end_cut : (u : Reading) (word : List ℕ) → None ≡ first_of u.rest.bytes
+      → option_left u word u.rest.bytes ≡ Err (Unclosed (open_at outer at))
+  option_end_cut u word e = ap (λ bs. option_left u word bs) (none_left u.rest.bytes e)
+
+  pub option_empty : (u : Reading) (word : List ℕ) (b : ℕ) → Some b ≡ first_of u.rest.bytes → true ≡ is_empty word
+      → option_left u word u.rest.bytes ≡ Err (BadDirective at)
+  option_empty u [] b e g = ap (λ bs. option_left u [] bs) (some_left u.rest.bytes b e)
+  option_empty u (x ∷ word) b e g = absurd cc
+
+  pub option_done : (u : Reading) (word : List ℕ) (b : ℕ) (end : Left) → Some b ≡ first_of u.rest.bytes → false ≡ is_empty word
+      → end ≡ after 1 u.rest
+      → v.parts ≡ u.parts → option_left u word u.rest.bytes ≡ Ok (leaf_here kinds.AddOption (word_label word) at (at_rest end u))
+  option_done u [] b end e g h k = absurd cc
+  option_done u (x ∷ word) b end e g h k =
+      ap (λ bs. option_left u (x ∷ word) bs) (some_left u.rest.bytes b e)
+      ∙ ap (λ (l : Left). Ok (record { rest = l; parts = item_written at (AddOption (x ∷ word)) l.at v.parts })) (sym h)
+      ∙ ap (λ (z : Parts). Ok (record { rest = end; parts = item_written at (AddOption (x ∷ word)) end.at z })) k
+      ∙ ap (λ (z : Parts). Ok (record { rest = end; parts = z })) (leaf_is kinds.AddOption (word_label (x ∷ word)) at end.at u.parts)
+
+-- %e and %n
+
+saying_shift : {Z : Type 0} (outer : Option ℕ) (rest : Left) (g : Item → Left → Z) (kind : SayKind) (w : List ℕ) (size : ℕ) (bs : List ℕ)
+    → given outer rest g (saying_end kind w size bs) ≡ given outer (after size rest) g (saying_end kind w 0 bs)
+saying_shift outer rest g kind w size [] = took_none outer g rest size (said kind w)
+saying_shift outer rest g kind w size (b ∷ bs) = by (b == ascii.newline)
+  where
+    by : (t : Bool) → given outer rest g (if t then Took (said kind w) (size + 1) else Took (said kind w) size)
+        ≡ given outer (after size rest) g (if t then Took (said kind w) (0 + 1) else Took (said kind w) 0)
+    by true = took_more outer g rest size (said kind w)
+    by false = took_none outer g rest size (said kind w)
+
+saying_ends : {Z : Type 0} (outer : Option ℕ) (rest : Left) (g : Item → Left → Z) (kind : SayKind) (w : List ℕ)
+    → given outer rest g (saying_end kind w 0 rest.bytes) ≡ Ok (g (said kind w) (past_byte ascii.newline rest))
+saying_ends outer rest g kind w = by rest.bytes
+  where
+    at_byte : (t : Bool) → given outer rest g (if t then Took (said kind w) (0 + 1) else Took (said kind w) 0)
+        ≡ Ok (g (said kind w) (if t then after 1 rest else rest))
+    at_byte true = refl
+    at_byte false = ap (λ (l : Left). Ok (g (said kind w) l)) (after_none rest)
+
+    by : (bs : List ℕ) → given outer rest g (saying_end kind w 0 bs) ≡ Ok
+        (g (said kind w) (if begins_with ascii.newline bs then after 1 rest else rest))
+    by [] = ap (λ (l : Left). Ok (g (said kind w) l)) (after_none rest)
+    by (b ∷ bs) = at_byte (b == ascii.newline)
+
+module _ (outer : Option ℕ) (list : Kind) (kind : SayKind) (at : ℕ) (v : Reading) where
+  abbrev said_at : Item → Left → Reading
+  said_at x l = record { rest = l; parts = item_written at x l.at v.parts }
+
+  pub saying_hung : (u : Reading) → quoted_to [] v (quoted (is_said list) v.rest.bytes) ≡ (None, u)
+      → item_given outer at v (saying list kind v.rest.at v.rest.bytes) ≡ Err (Unclosed (open_at outer u.rest.at))
+  saying_hung u e = quoted_hung outer v u said_at (quoted (is_said list) v.rest.bytes) (λ q. saying_text kind v.rest.at q v.rest.bytes)
+      (λ i. i) (λ size. refl) e
+
+  pub saying_done : (u : Reading) (word : List ℕ) (end : Left) → quoted_to [] v (quoted (is_said list) v.rest.bytes) ≡ (Some word, u)
+      → end ≡ past_byte ascii.newline u.rest → v.parts ≡ u.parts
+      → item_given outer at v (saying list kind v.rest.at v.rest.bytes)
+      ≡ Ok (leaf_here (said_kind kind) (word_label word) at (at_rest end u))
+  saying_done u word end e g h =
+      quoted_took outer v u said_at (quoted (is_said list) v.rest.bytes) word (λ q. saying_text kind v.rest.at q v.rest.bytes)
+      (λ w size bs. saying_end kind w size bs) (λ w size. refl) (λ w size bs. saying_shift outer v.rest said_at kind w size bs) e
+      ∙ saying_ends outer u.rest said_at kind word
+      ∙ ap (λ (l : Left). Ok (said_at (said kind word) l)) (sym g)
+      ∙ ap (λ (z : Parts). Ok (record { rest = end; parts = item_written at (said kind word) end.at z })) h
+      ∙ by kind
+    where
+      by : (k : SayKind)
+          → ◌≡◌ {A = Result Reading SyntaxFault} (Ok (record { rest = end; parts = item_written at (said k word) end.at u.parts }))
+          (Ok (leaf_here (said_kind k) (word_label word) at (at_rest end u)))
+      by AsError = ap (λ (z : Parts). Ok (record { rest = end; parts = z })) (leaf_is kinds.UserError (word_label word) at end.at u.parts)
+      by AsNotice = ap (λ (z : Parts). Ok (record { rest = end; parts = z })) (leaf_is kinds.Notice (word_label word) at end.at u.parts)
+
+-- patterns
+
+pattern_shift : {Z : Type 0} (outer : Option ℕ) (rest : Left) (g : Pattern → Left → Z) (at n : ℕ) (w : List ℕ) (size : ℕ) (bs : List ℕ)
+    → given outer rest g (pattern_end at n w size bs) ≡ given outer (after size rest) g (pattern_end at n w 0 bs)
+pattern_shift outer rest g at n [] size [] = refl
+pattern_shift outer rest g at n (x ∷ w) size [] = took_none outer g rest size (pattern (x ∷ w) false)
+pattern_shift outer rest g at n [] size (b ∷ bs) = by (b == ascii.asterisk)
+  where
+    by : (t : Bool) → given outer rest g (if t then Took (pattern [] true) (size + 1) else Stops (n + size) (EmptyTest at))
+        ≡ given outer (after size rest) g (if t then Took (pattern [] true) (0 + 1) else Stops (n + 0) (EmptyTest at))
+    by true = took_more outer g rest size (pattern [] true)
+    by false = refl
+pattern_shift outer rest g at n (x ∷ w) size (b ∷ bs) = by (b == ascii.asterisk)
+  where
+    by : (t : Bool) → given outer rest g (if t then Took (pattern (x ∷ w) true) (size + 1) else Took (pattern (x ∷ w) false) size)
+        ≡ given outer (after size rest) g (if t then Took (pattern (x ∷ w) true) (0 + 1) else Took (pattern (x ∷ w) false) 0)
+    by true = took_more outer g rest size (pattern (x ∷ w) true)
+    by false = took_none outer g rest size (pattern (x ∷ w) false)
+
+abbrev star_then : {Z : Type 0} → Result Bool SyntaxFault → (Bool → Z) → Result Z SyntaxFault
+star_then (Ok star) f = Ok (f star)
+star_then (Err fault) f = Err fault
+
+pattern_ends : {Z : Type 0} (outer : Option ℕ) (rest : Left) (g : Pattern → Left → Z) (at n : ℕ) (word : List ℕ)
+    → given outer rest g (pattern_end at n word 0 rest.bytes)
+    ≡ star_then (star_after outer at (is_empty word) (first_of rest.bytes)) (λ star. g (pattern word star) (past_byte ascii.asterisk rest))
+pattern_ends outer rest g at n word = by word rest.bytes
+  where
+    empty : (t : Bool) → given outer rest g (if t then Took (pattern [] true) (0 + 1) else Stops (n + 0) (EmptyTest at))
+        ≡ star_then (if t then Ok true else Err (EmptyTest at)) (λ star. g (pattern [] star) (if t then after 1 rest else rest))
+    empty true = refl
+    empty false = refl
+
+    some : (x : ℕ) (w : List ℕ) (t : Bool)
+        → given outer rest g (if t then Took (pattern (x ∷ w) true) (0 + 1) else Took (pattern (x ∷ w) false) 0)
+        ≡ star_then (if t then Ok true else Ok false) (λ star. g (pattern (x ∷ w) star) (if t then after 1 rest else rest))
+    some x w true = refl
+    some x w false = ap (λ (l : Left). Ok (g (pattern (x ∷ w) false) l)) (after_none rest)
+
+    by : (w bs : List ℕ) → given outer rest g (pattern_end at n w 0 bs)
+        ≡ star_then (star_after outer at (is_empty w) (first_of bs))
+        (λ star. g (pattern w star) (if begins_with ascii.asterisk bs then after 1 rest else rest))
+    by [] [] = refl
+    by (x ∷ w) [] = ap (λ (l : Left). Ok (g (pattern (x ∷ w) false) l)) (after_none rest)
+    by [] (b ∷ bs) = empty (b == ascii.asterisk)
+    by (x ∷ w) (b ∷ bs) = some x w (b == ascii.asterisk)
+
+module _ (outer : Option ℕ) (at : ℕ) (v : Reading) where
+  abbrev as_pattern : Pattern → Left → Pattern × Reading
+  as_pattern p l = (p, at_rest l v)
+
+  pub pattern_hung : (u : Reading) → quoted_to [] v (quoted is_word v.rest.bytes) ≡ (None, u)
+      → pattern_given outer v (pattern_at at v.rest.at v.rest.bytes) ≡ Err (Unclosed (open_at outer at))
+  pattern_hung u e = quoted_hung outer v u as_pattern (quoted is_word v.rest.bytes) (λ q. pattern_text at v.rest.at q v.rest.bytes)
+      (λ i. at) (λ size. refl) e
+
+  pattern_word : (u : Reading) (word : List ℕ) → quoted_to [] v (quoted is_word v.rest.bytes) ≡ (Some word, u)
+      → pattern_given outer v (pattern_at at v.rest.at v.rest.bytes)
+      ≡ star_then (star_after outer at (is_empty word) (first_of u.rest.bytes))
+      (λ star. as_pattern (pattern word star) (past_byte ascii.asterisk u.rest))
+  pattern_word u word e =
+      quoted_took outer v u as_pattern (quoted is_word v.rest.bytes) word (λ q. pattern_text at v.rest.at q v.rest.bytes)
+      (λ w size bs. pattern_end at v.rest.at w size bs) (λ w size. refl)
+      (λ w size bs. pattern_shift outer v.rest as_pattern at v.rest.at w size bs) e
+      ∙ pattern_ends outer u.rest as_pattern at v.rest.at word
+
+  pub pattern_stops : (u : Reading) (word : List ℕ) (none : Bool) (first : Option ℕ) (e : SyntaxFault)
+      → quoted_to [] v (quoted is_word v.rest.bytes) ≡ (Some word, u)
+      → none ≡ is_empty word → first ≡ first_of u.rest.bytes → star_after outer at none first ≡ Err e
+      → pattern_given outer v (pattern_at at v.rest.at v.rest.bytes) ≡ Err e
+  pattern_stops u word none first e q g h k =
+      pattern_word u word q
+      ∙ ap (λ x. star_then x (λ star. as_pattern (pattern word star) (past_byte ascii.asterisk u.rest)))
+      (ap (λ x. star_after outer at x (first_of u.rest.bytes)) (sym g) ∙ ap (λ x. star_after outer at none x) (sym h) ∙ k)
+
+  pub pattern_done : (u : Reading) (word : List ℕ) (none : Bool) (first : Option ℕ) (star : Bool) (end : Left)
+      → quoted_to [] v (quoted is_word v.rest.bytes) ≡ (Some word, u)
+      → none ≡ is_empty word → first ≡ first_of u.rest.bytes → star_after outer at none first ≡ Ok star
+      → end ≡ past_byte ascii.asterisk u.rest
+      → v.parts ≡ u.parts → pattern_given outer v (pattern_at at v.rest.at v.rest.bytes) ≡ Ok (pattern word star, at_rest end u)
+  pattern_done u word none first star end q g h k l p =
+      pattern_word u word q
+      ∙ ap (λ x. star_then x (λ s. as_pattern (pattern word s) (past_byte ascii.asterisk u.rest)))
+      (ap (λ x. star_after outer at x (first_of u.rest.bytes)) (sym g) ∙ ap (λ x. star_after outer at none x) (sym h) ∙ k)
+      ∙ ap (λ (r : Left). Ok (as_pattern (pattern word star) r)) (sym l)
+      ∙ ap (λ (z : Parts). Ok (pattern word star, record { rest = end; parts = z })) p
+
+-- %< and %>
+
+pub hidden_done : (outer : Option ℕ) (at : ℕ) (v u : Reading) (word : List ℕ) (star : Bool)
+    → pattern_given outer v (pattern_at at v.rest.at v.rest.bytes) ≡ Ok (pattern word star, u)
+    → item_given outer at v (hidden at v.rest.at v.rest.bytes) ≡ Ok (leaf_here kinds.Hide (part_label word star false asking.Switch) at u)
+hidden_done outer at v u word star h =
+    given_map outer v u (pattern word star) (λ x l. record { rest = l; parts = item_written at x l.at v.parts })
+    (pattern_at at v.rest.at v.rest.bytes) (λ p. Hide p) h
+    ∙ ap (λ (z : Parts). Ok (record { rest = u.rest; parts = item_written at (Hide (pattern word star)) u.rest.at z }))
+    (given_parts outer v u (pattern word star) (pattern_at at v.rest.at v.rest.bytes) h)
+    ∙ ap (λ (z : Parts). Ok (record { rest = u.rest; parts = z })) (leaf_is kinds.Hide (part_label word star false asking.Switch) at
+    u.rest.at u.parts)
+
+-- what the code has of a run
+
+pub seen_some : {E : Type 0} (w : Option Spelled) (word : Spelled) (copied : List ℕ) (u : Reading) (x : Option (List ℕ) × Reading)
+    → ◌≡◌ {A = Result (Option (List ℕ) × Reading) E} (Ok x) (Ok (words_seen w copied u)) → w ≡ Some word
+    → x ≡ (Some (spelled word copied), u)
+seen_some w word copied u x e is = ok_same e ∙ ap (λ (z : Option Spelled). words_seen z copied u) is
+
+pub seen_none : {E : Type 0} (w : Option Spelled) (copied : List ℕ) (u : Reading) (x : Option (List ℕ) × Reading)
+    → ◌≡◌ {A = Result (Option (List ℕ) × Reading) E} (Ok x) (Ok (words_seen w copied u)) → w ≡ None → x ≡ (None, u)
+seen_none w copied u x e is = ok_same e ∙ ap (λ (z : Option Spelled). words_seen z copied u) is
+
+-- what a run leaves of the parts so far
+pub quoted_parts : {x : Option (List ℕ)} (v u : Reading) (q : Quoted) → quoted_to [] v q ≡ (x, u) → v.parts ≡ u.parts
+quoted_parts v u (Run w size) e = ap (λ (z : Option (List ℕ) × Reading). z.1.parts) e
+quoted_parts v u (Hangs size) e = ap (λ (z : Option (List ℕ) × Reading). z.1.parts) e
+
+-- names of functions
+
+function_goes : {Z : Type 0} (outer : Option ℕ) (rest : Left) (g : List ℕ → Left → Z) (at n : ℕ) (p text : List ℕ)
+    → given outer rest g (function_from at n p text)
+    ≡ given outer (after (front_size p text) rest) g
+    (function_end at (n + front_size p text) (p ++ take (front_size p text) text) (drop (front_size p text) text))
+function_goes outer rest g at n p [] = refl
+function_goes outer rest g at n p (b ∷ text) =
+    by (is_function_front (p ++ b ∷ [])) (function_goes outer (after 1 rest) g at (n + 1) (p ++ b ∷ []) text)
+  where
+    k : ℕ
+    k = front_size (p ++ b ∷ []) text
+
+    by : (t : Bool)
+        → given outer (after 1 rest) g (function_from at (n + 1) (p ++ b ∷ []) text)
+        ≡ given outer (after k (after 1 rest)) g (function_end at (n + 1 + k) ((p ++ b ∷ []) ++ take k text) (drop k text))
+        → given outer rest g (if t then past 1 (function_from at (n + 1) (p ++ b ∷ []) text) else function_end at n p (b ∷ text))
+        ≡ given outer (after (if t then 1 + k else 0) rest) g
+        (function_end at (n + (if t then 1 + k else 0)) (p ++ take (if t then 1 + k else 0) (b ∷ text))
+        (drop (if t then 1 + k else 0) (b ∷ text)))
+    by false ih =
+        let i : n ≡ n + 0 = omega arith in
+        ap (λ (j : ℕ). given outer rest g (function_end at j p (b ∷ text))) i
+        ∙ ap (λ (q : List ℕ). given outer rest g (function_end at (n + 0) q (b ∷ text))) (sym (append-nil p))
+        ∙ ap (λ (r : Left). given outer r g (function_end at (n + 0) (p ++ []) (b ∷ text))) (sym (after_none rest))
+    by true ih =
+        let i : n + 1 + k ≡ n + (1 + k) = omega arith in
+        let one : 1 + k ≡ suc k = omega arith in
+        given_past outer rest g 1 (function_from at (n + 1) (p ++ b ∷ []) text)
+        ∙ ih
+        ∙ ap (λ (r : Left). given outer r g (function_end at (n + 1 + k) ((p ++ b ∷ []) ++ take k text) (drop k text)))
+        (sym (after_after 1 k rest))
+        ∙ ap (λ (j : ℕ). given outer (after (1 + k) rest) g (function_end at j ((p ++ b ∷ []) ++ take k text) (drop k text))) i
+        ∙ ap (λ (q : List ℕ). given outer (after (1 + k) rest) g (function_end at (n + (1 + k)) q (drop k text)))
+        (append_assoc p (b ∷ []) (take k text))
+        ∙ ap (λ (j : ℕ). given outer (after (1 + k) rest) g (function_end at (n + (1 + k)) (p ++ take j (b ∷ text)) (drop j (b ∷ text))))
+        (sym one)
+
+module _ (outer : Option ℕ) (at : ℕ) (v : Reading) (k : ℕ) (name : List ℕ) (rest : Left) (whole : k ≡ front_size [] v.rest.bytes)
+    (left : rest ≡ after k v.rest) (taken : name ≡ take k v.rest.bytes) where
+  abbrev as_name : List ℕ → Left → List ℕ × Reading
+  as_name w l = (w, at_rest l v)
+
+  abbrev name_ends : List ℕ → Result (List ℕ × Reading) SyntaxFault
+  name_ends bs = given outer rest as_name (function_end at rest.at name bs)
+
+  function_at : named_given outer v (function_from at v.rest.at [] v.rest.bytes) ≡ name_ends rest.bytes
+  function_at =
+      function_goes outer v.rest as_name at v.rest.at [] v.rest.bytes
+      ∙ ap (λ (i : ℕ). given outer (after i v.rest) as_name (function_end at (v.rest.at + i) (take i v.rest.bytes) (drop i v.rest.bytes)))
+      (sym whole)
+      ∙ ap (λ (q : List ℕ). given outer (after k v.rest) as_name (function_end at (v.rest.at + k) q (drop k v.rest.bytes))) (sym taken)
+      ∙ ap (λ (r : Left). given outer r as_name (function_end at r.at name r.bytes)) (sym left)
+
+  pub function_cut : None ≡ first_of rest.bytes
+      → named_given outer v (function_from at v.rest.at [] v.rest.bytes) ≡ Err (Unclosed (open_at outer at))
+  function_cut e = function_at ∙ ap (λ bs. name_ends bs) (none_left rest.bytes e)
+
+  pub function_bad : (b : ℕ) → Some b ≡ first_of rest.bytes → (b ≡ ascii.opening_parenthesis → ⊥)
+      → named_given outer v (function_from at v.rest.at [] v.rest.bytes) ≡ Err (UnknownFunction at)
+  function_bad b e g =
+      let other : (b == ascii.opening_parenthesis) ≡ false = differs b ascii.opening_parenthesis g in
+      function_at ∙ ap (λ bs. name_ends bs) (some_left rest.bytes b e) ∙ rw other refl
+
+  opens : (b : ℕ) → Some b ≡ first_of rest.bytes → b ≡ ascii.opening_parenthesis
+      → named_given outer v (function_from at v.rest.at [] v.rest.bytes)
+      ≡ given outer rest as_name (if is_function name then Took name 1 else Stops rest.at (UnknownFunction at))
+  opens b e g = function_at ∙ ap (λ bs. name_ends bs) (some_left rest.bytes b e ∙ ap (λ x. x ∷ drop 1 rest.bytes) g)
+
+  pub function_unknown : (b : ℕ) → Some b ≡ first_of rest.bytes → b ≡ ascii.opening_parenthesis → is_function name ≡ false
+      → named_given outer v (function_from at v.rest.at [] v.rest.bytes) ≡ Err (UnknownFunction at)
+  function_unknown b e g h = opens b e g ∙ rw h refl
+
+  pub function_done : (b : ℕ) (end : Left) → Some b ≡ first_of rest.bytes → b ≡ ascii.opening_parenthesis → is_function name ≡ true
+      → end ≡ after 1 rest → named_given outer v (function_from at v.rest.at [] v.rest.bytes) ≡ Ok (name, at_rest end v)
+  function_done b end e g h l = opens b e g ∙ rw h refl ∙ ap (λ (r : Left). Ok (as_name name r)) (sym l)

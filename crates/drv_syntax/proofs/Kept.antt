@@ -1,0 +1,163 @@
+use Rattle.drv_syntax.proofs.Continued.{rest_is}
+use Rattle.drv_syntax.proofs.CutRows.{le_true}
+use Rattle.drv_syntax.proofs.DescentWhole.{descent_is_parsed}
+use Rattle.drv_syntax.proofs.ParsedGrammar.{parsed_refused, parsed_spelled}
+use Rattle.drv_syntax.specs.Code.Ending.{ending_in, goes_on}
+use Rattle.drv_syntax.specs.Code.Parts.{IsKept, IsRead}
+use Rattle.drv_syntax.specs.Code.Whole.{rest_given, whole_given}
+use Rattle.drv_syntax.specs.Faults.{MemoryOrRefused, Refused}
+use Rattle.drv_syntax.specs.Labels.{Label}
+use Rattle.drv_syntax.specs.Marks.{marked_labels}
+use Rattle.drv_syntax.specs.Outcome.{judged, parsed, read}
+use Rattle.drv_syntax.specs.Parsed.{listed, tree_in, tree_of}
+use Rattle.drv_syntax.specs.Spelling.{Spells}
+use Rattle.drv_syntax.specs.Tree.{Items}
+use Rattle.drv_syntax.specs.declared.descent.reading.TextParts.{TextParts}
+use Rattle.drv_syntax.specs.declared.fault.SyntaxFault.TheVariants.{Memory, TextTooLong}
+use Rattle.drv_syntax.specs.declared.fault.SyntaxFault.{SyntaxFault}
+use Rattle.drv_syntax.specs.declared.token.Token.{Token}
+use Rattle.drv_syntax.specs.declared.tree.Parts.TheVariants as kept
+use Rattle.drv_syntax.specs.declared.tree.Parts.{Parts}
+use Rattle.drv_words.specs.Gives.{Gives}
+use Rattle.std.proofs.Common.{◌≡◌, ◌∙◌, ◌⊎◌, ◌+◌, ◌-◌, ◌<◌, ◌≤◌, ◌++◌, Bool, false, true, if◌then◌else◌, List, [], ap, arith, inl}
+use Rattle.std.proofs.Common.{inr, length}
+use Rattle.std.proofs.Common.{length-append, refl, subst, sym, ℕ}
+use Rattle.std.proofs.lemmas.Bool.Decides.{nat_tests}
+use Rattle.std.specs.Prelude.{Err, IfErr, IsErrAnd, Ok, Result, nat_le}
+
+-- What is kept of a text. It serves `parse` and `SpecTree::extended`.
+
+pub beyond : (a b : ℕ) → b < a → nat_le a b ≡ false
+beyond a b h = grind (arith, nat_tests)
+
+pub parsed_long : (text : List ℕ) → 1048576 < length text → parsed text ≡ Err TextTooLong
+parsed_long text h = ap (λ t. if t then judged (read text) else Err TextTooLong) (beyond (length text) 1048576 h)
+
+module _ (text : List ℕ) (short : length text ≤ 1048576) where
+  listed_is : listed (parsed text) ≡ whole_given text
+  listed_is = ap (λ r. listed r) (descent_is_parsed text short)
+
+  pub tree_whole : (p : TextParts) → whole_given text ≡ Ok (p.tokens, p.labels) → parsed text ≡ Ok (tree_of text)
+  tree_whole p h = by (parsed text) (listed_is ∙ h)
+    where
+      by : (r : Result Items SyntaxFault) → listed r ≡ Ok (p.tokens, p.labels) → r ≡ Ok (tree_in r)
+      by (Ok items) e = refl
+      by (Err fault) e = absurd cc
+
+  pub fault_whole : (fault : SyntaxFault) → whole_given text ≡ Err fault → parsed text ≡ Err fault
+  fault_whole fault h = by (parsed text) (listed_is ∙ h)
+    where
+      by : (r : Result Items SyntaxFault) → listed r ≡ Err fault → r ≡ Err fault
+      by (Ok items) e = absurd cc
+      by (Err other) e = cc
+
+  pub whole_kept : (p : TextParts) → whole_given text ≡ Ok (p.tokens, p.labels) → IsRead text p
+  whole_kept p h = (listed_is ∙ h, short)
+
+  pub whole_spelled : (p : TextParts) → whole_given text ≡ Ok (p.tokens, p.labels) → Spells text (tree_of text)
+  whole_spelled p h = parsed_spelled text (tree_of text) (tree_whole p h)
+
+  pub whole_refused : (fault : SyntaxFault) → whole_given text ≡ Err fault → Refused text fault
+  whole_refused fault h = parsed_refused text fault (fault_whole fault h)
+
+  pub first_refused : (given : Result (List ℕ) SyntaxFault) (fault : SyntaxFault) → IsErrAnd given (λ e. e ≡ fault)
+      → (fault ≡ Memory) ⊎ (whole_given text ≡ Err fault) → IfErr given (MemoryOrRefused text)
+  first_refused (Ok x) fault d h = tt
+  first_refused (Err e) fault d (inl m) = inl (d ∙ m)
+  first_refused (Err e) fault d (inr h) = inr (subst (λ (f : SyntaxFault). Refused text f) (sym d) (whole_refused fault h))
+
+pub nothing_kept : (text : List ℕ) (p : TextParts) → text ≡ [] → p.tokens ≡ [] → p.labels ≡ [] → IsRead text p
+nothing_kept text p none tokens labels =
+    subst (λ (t : List ℕ). IsRead t p) (sym none)
+    (ap (λ ts. ok_parts ts []) (sym tokens) ∙ ap (λ ls. ok_parts p.tokens ls) (sym labels), omega arith)
+  where
+    ok_parts : List Token → List Label → Result (List Token × List Label) SyntaxFault
+    ok_parts ts ls = Ok (ts, ls)
+
+-- and of more after it
+module _ (text more : List ℕ) (old : TextParts) (is : IsRead text old) (short : length text + length more ≤ 1048576)
+    (goes : goes_on (ending_in (length text) old.tokens) more ≡ true) where
+  both_short : length (text ++ more) ≤ 1048576
+  both_short = omega (arith, length-append text more, short)
+
+  whole_is : whole_given (text ++ more) ≡ rest_given (length text) more old.tokens old.labels
+  whole_is = rest_is text more old.tokens old.labels (sym (listed_is text is.1) ∙ is.0) goes
+
+  pub tree_more : (p : TextParts) → rest_given (length text) more old.tokens old.labels ≡ Ok (p.tokens, p.labels)
+      → parsed (text ++ more) ≡ Ok (tree_of (text ++ more))
+  tree_more p h = tree_whole (text ++ more) both_short p (whole_is ∙ h)
+
+  pub fault_more : (fault : SyntaxFault) → rest_given (length text) more old.tokens old.labels ≡ Err fault → parsed (text ++ more)
+      ≡ Err fault
+  fault_more fault h = fault_whole (text ++ more) both_short fault (whole_is ∙ h)
+
+  pub more_kept : (p : TextParts) → rest_given (length text) more old.tokens old.labels ≡ Ok (p.tokens, p.labels) → IsRead (text ++ more) p
+  more_kept p h = whole_kept (text ++ more) both_short p (whole_is ∙ h)
+
+-- the same where the text is seen as this list, and the place after it is this
+module _ (text self more all : List ℕ) (n : ℕ) (old : TextParts) (is : IsRead text old) (seen : text ≡ self) (place : n ≡ length self)
+    (short : length more ≤ 1048576 - n) (goes : goes_on (ending_in n old.tokens) more ≡ true) where
+  here : n ≡ length text
+  here = place ∙ ap (λ (t : List ℕ). length t) (sym seen)
+
+  within : length text + length more ≤ 1048576
+  within = omega (arith, short, is.1, here)
+
+  goes_here : goes_on (ending_in (length text) old.tokens) more ≡ true
+  goes_here = ap (λ (i : ℕ). goes_on (ending_in i old.tokens) more) (sym here) ∙ goes
+
+  there : (r : Result (List Token × List Label) SyntaxFault) → rest_given n more old.tokens old.labels ≡ r
+      → rest_given (length text) more old.tokens old.labels ≡ r
+  there r h = ap (λ (i : ℕ). rest_given i more old.tokens old.labels) (sym here) ∙ h
+
+  pub refused_more : (given : Result (List ℕ) SyntaxFault) (fault : SyntaxFault) → IsErrAnd given (λ e. e ≡ fault)
+      → (fault ≡ Memory) ⊎ (rest_given n more old.tokens old.labels ≡ Err fault) → Gives Memory tree_of given (parsed (self ++ more))
+  refused_more (Ok x) fault d h = absurd d
+  refused_more (Err e) fault d (inl m) = inl (d ∙ m)
+  refused_more (Err e) fault d (inr h) =
+      inr (ap (λ (t : List ℕ). parsed (t ++ more)) (sym seen) ∙ fault_more text more old is within goes_here fault (there (Err fault) h)
+      ∙ ap (λ (x : SyntaxFault). failed x) (sym d))
+    where
+      failed : SyntaxFault → Result Items SyntaxFault
+      failed x = Err x
+
+  pub tree_there : (p : TextParts) → all ≡ text ++ more → rest_given n more old.tokens old.labels ≡ Ok (p.tokens, p.labels)
+      → parsed (self ++ more) ≡ Ok (tree_of all)
+  tree_there p e h =
+      ap (λ (t : List ℕ). parsed (t ++ more)) (sym seen)
+      ∙ tree_more text more old is within goes_here p (there (Ok (p.tokens, p.labels)) h)
+      ∙ ap (λ (t : List ℕ). made t) (sym e)
+    where
+      made : List ℕ → Result Items SyntaxFault
+      made t = Ok (tree_of t)
+
+  pub kept_there : (p : TextParts) → all ≡ text ++ more → rest_given n more old.tokens old.labels ≡ Ok (p.tokens, p.labels) → IsRead all p
+  kept_there p e h =
+      subst (λ (t : List ℕ). IsRead t p) (sym e) (more_kept text more old is within goes_here p (there (Ok (p.tokens, p.labels)) h))
+
+-- a text that has a tree is no longer than a text may be
+short_listed : (text : List ℕ) (parts : List Token × List Label) → listed (parsed text) ≡ Ok parts → length text ≤ 1048576
+short_listed text parts h = by (nat_le (length text) 1048576) refl
+  where
+    refused : listed (Err TextTooLong) ≡ Ok parts → length text ≤ 1048576
+    refused e = absurd cc
+
+    by : (fits : Bool) → nat_le (length text) 1048576 ≡ fits → length text ≤ 1048576
+    by true e = le_true e
+    by false e = refused (sym (ap (λ t. listed (if t then judged (read text) else Err TextTooLong)) e) ∙ h)
+
+-- and so is one of which anything is kept
+pub short_kept : (text : List ℕ) (parts : Parts) → IsKept text parts → length text ≤ 1048576
+short_kept text (kept.Read p) is = is.1
+short_kept text (kept.Written tree) is = short_listed text (tree.tokens.now, marked_labels tree.words.now tree.marks.now) is.0
+
+-- what is kept of a text that was read
+pub read_of : (text : List ℕ) {parts : Parts} {p : TextParts} → parts ≡ kept.Read p → IsKept text parts → IsRead text p
+read_of text h is = subst (λ (x : Parts). IsKept text x) h is
+
+pub read_spelled : (text : List ℕ) (p : TextParts) → IsRead text p → Spells text (tree_of text)
+read_spelled text p is = by (parsed text) refl is.0
+  where
+    by : (r : Result Items SyntaxFault) → parsed text ≡ r → listed r ≡ Ok (p.tokens, p.labels) → Spells text (tree_in r)
+    by (Ok items) e d = parsed_spelled text items e
+    by (Err fault) e d = absurd cc

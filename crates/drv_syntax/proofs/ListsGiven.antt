@@ -1,0 +1,461 @@
+use Rattle.drv_words.specs.Bytes as ascii
+use Rattle.drv_syntax.proofs.GivenParts.{err_same, none_left, ok_same}
+use Rattle.drv_syntax.proofs.Leads.{same}
+use Rattle.drv_syntax.proofs.NotWhite.{NotWhite, directive_white}
+use Rattle.drv_syntax.proofs.Writing.{after_after, after_none, leaf_is}
+use Rattle.drv_syntax.specs.Bytes.{is_blank, is_of}
+use Rattle.drv_syntax.specs.Code.Left.{Left, after, first_of}
+use Rattle.drv_syntax.specs.Code.Lists.{Opened, byte_given, byte_here, end_given}
+use Rattle.drv_syntax.specs.Code.Lists.{is_white_item, list_written, listed_given, plains_after, plains_on, run_after, second_given}
+use Rattle.drv_syntax.specs.Code.Lists.{tail_after, tail_at, tail_on, with_end, with_tail}
+use Rattle.drv_syntax.specs.Code.Writing.{Parts, Reading, given, item_written, kind_seen, leafed, open_at}
+use Rattle.drv_syntax.specs.Code.Marks.{byte_labels}
+use Rattle.drv_syntax.specs.Code.Runs.{runs, stops}
+use Rattle.drv_syntax.specs.Code.Tokens.{plain_tokens, whole_token}
+use Rattle.drv_syntax.specs.declared.descent.contexts.ListKind.TheVariants as list_kinds
+use Rattle.drv_syntax.specs.declared.token.Token.{Token}
+use Rattle.drv_syntax.specs.declared.descent.contexts.ListKind.{ListKind}
+use Rattle.drv_syntax.specs.declared.token.TokenKind.{TokenKind}
+use Rattle.drv_syntax.specs.Contexts.{InArguments, InX, Kind, ListContext, Top, bar_in, newline_in}
+use Rattle.drv_syntax.specs.Descent as d
+use Rattle.drv_syntax.specs.Descent.{Ends, Lists, Read, Stops, Took, ends_list, escape, item, item_go, items_with, list_end, then_read}
+use Rattle.drv_syntax.specs.Labels.{Label, no_label, word_label}
+use Rattle.drv_syntax.specs.Tokens.{kind_of}
+use Rattle.drv_syntax.specs.Tree as tree
+use Rattle.drv_syntax.specs.Tree.{Blank, Item, Items, Newline, Plain, none}
+use Rattle.drv_syntax.specs.declared.descent.simple.Tail.{Tail}
+use Rattle.drv_syntax.specs.declared.fault.SyntaxFault.TheVariants.{Unclosed}
+use Rattle.drv_syntax.specs.declared.fault.SyntaxFault.{SyntaxFault}
+use Rattle.drv_syntax.specs.declared.token.TokenKind.TheVariants as kinds
+use Rattle.std.proofs.Common.{◌≡◌, ◌∙◌, ◌+◌, ◌≤◌, ◌<◌, ◌++◌, Bool, false, true, if◌then◌else◌, List, [], ◌∷◌, ap, append-nil, append_assoc}
+use Rattle.std.proofs.Common.{arith}
+use Rattle.std.proofs.Common.{drop, length, length-append, refl, take}
+use Rattle.std.proofs.Common.{subst, suc, sym, zero, ℕ}
+use Rattle.std.proofs.lemmas.List.{length-drop}
+use Rattle.std.specs.List.{prefix_len}
+use Rattle.std.specs.Prelude.{◌==◌, not, Err, None, Ok, Option, Result, Some}
+
+-- What is given of a list of items, from one of its items on. It serves the reader's `items`.
+
+abbrev list_on : Tail → Parts → Items × ℕ → Left → Tail × Reading
+list_on tail z list rest = (with_end (tail_on tail list.0 z) list.1, record { rest = rest; parts = list_written list.0 z })
+
+-- plain bytes
+
+abbrev plain_here : ℕ → Reading → Reading
+plain_here b v = byte_here kinds.Plain (word_label (b ∷ [])) v
+
+abbrev Apart : List ℕ → ℕ → Type 0
+Apart [] b = Unit {0}
+Apart (x ∷ xs) b = ((b == x) ≡ false) × Apart xs b
+
+apart : (xs : List ℕ) (b : ℕ) → not (is_of xs b) ≡ true → Apart xs b
+apart [] b e = tt
+apart (x ∷ xs) b e = by (b == x) refl e (λ h. apart xs b h)
+  where
+    by : (t : Bool) → (b == x) ≡ t → not (if t then true else is_of xs b) ≡ true → (not (is_of xs b) ≡ true → Apart xs b) → Apart (x ∷ xs) b
+    by true g h ih = absurd cc
+    by false g h ih = (g, ih h)
+
+record PlainByte (kind : ListKind) (b : ℕ) : Type 0 where
+  pub stays : ends_list (kind_seen kind) b ≡ false
+  pub other : (b == ascii.percent) ≡ false
+  pub given : (outer : Option ℕ) (t : Bool) (tail : Tail) (v : Reading)
+      → byte_given outer t b tail v ≡ Ok (tail_at (plain_here b v), plain_here b v)
+
+plain_byte : (kind : ListKind) (b : ℕ) → runs kind b ≡ true → PlainByte kind b
+plain_byte list_kinds.Top b e =
+    let a : Apart (stops list_kinds.Top) b = apart (stops list_kinds.Top) b e in
+    record {
+      stays = rw (a.0, a.1.0) refl;
+      other = a.1.0;
+      given = λ outer t tail v. rw (a.0, a.1.1.0, a.1.1.1.0, a.1.1.1.1.0, a.1.1.1.1.1.0) refl;
+    }
+plain_byte list_kinds.InX b e =
+    let a : Apart (stops list_kinds.InX) b = apart (stops list_kinds.InX) b e in
+    record {
+      stays = rw (a.0, a.1.0, a.1.1.1.1.1.1.0, a.1.1.1.1.1.1.1.0) refl;
+      other = a.1.0;
+      given = λ outer t tail v. rw (a.0, a.1.1.0, a.1.1.1.0, a.1.1.1.1.0, a.1.1.1.1.1.0) refl;
+    }
+plain_byte list_kinds.InArguments b e =
+    let a : Apart (stops list_kinds.InArguments) b = apart (stops list_kinds.InArguments) b e in
+    record {
+      stays = rw (a.0, a.1.0, a.1.1.1.1.1.1.0) refl;
+      other = a.1.0;
+      given = λ outer t tail v. rw (a.0, a.1.1.0, a.1.1.1.0, a.1.1.1.1.0, a.1.1.1.1.1.0) refl;
+    }
+
+abbrev parts_of : List Token → List Label → Bool → Parts
+parts_of tokens names holds = record { tokens = tokens; labels = names; holds = holds }
+
+run_none : (v : Reading) → run_after 0 v ≡ v
+run_none v =
+    ap (λ (r : Left). record { rest = r; parts = parts_of (v.parts.tokens ++ []) (v.parts.labels ++ []) v.parts.holds }) (after_none v.rest)
+    ∙ ap (λ ts. record { rest = v.rest; parts = parts_of ts (v.parts.labels ++ []) v.parts.holds }) (append-nil v.parts.tokens)
+    ∙ ap (λ ls. record { rest = v.rest; parts = parts_of v.parts.tokens ls v.parts.holds }) (append-nil v.parts.labels)
+
+run_more : (k : ℕ) (v : Reading) (b : ℕ) (text : List ℕ) → v.rest.bytes ≡ b ∷ text → run_after k (plain_here b v) ≡ run_after (suc k) v
+run_more k v b text e =
+    let t : Token = whole_token kinds.Plain v.rest.at (v.rest.at + 1) (length v.parts.tokens + 1) in
+    let one : 1 + k ≡ suc k = omega arith in
+    let next : length (v.parts.tokens ++ t ∷ []) + 1 ≡ length v.parts.tokens + 1 + 1 =
+    omega (arith, length-append v.parts.tokens (t ∷ [])) in
+    let rest : after k (after 1 v.rest) ≡ after (suc k) v.rest = sym (after_after 1 k v.rest) ∙ ap (λ (i : ℕ). after i v.rest) one in
+    let bytes : take k (drop 1 v.rest.bytes) ≡ take k text = ap (λ bs. take k (drop 1 bs)) e in
+    let whole : b ∷ take k text ≡ take (suc k) v.rest.bytes = ap (λ bs. take (suc k) bs) (sym e) in
+    ap (λ (r : Left). record { rest = r; parts = (run_after k (plain_here b v)).parts }) rest
+    ∙ ap (λ bs. record {
+      rest = after (suc k) v.rest;
+      parts = parts_of
+          ((v.parts.tokens ++ t ∷ []) ++ plain_tokens (v.rest.at + 1) (length (v.parts.tokens ++ t ∷ []) + 1) bs)
+          ((v.parts.labels ++ word_label (b ∷ []) ∷ []) ++ byte_labels bs) v.parts.holds;
+    }) bytes
+    ∙ ap (λ (i : ℕ). record {
+      rest = after (suc k) v.rest;
+      parts = parts_of
+          ((v.parts.tokens ++ t ∷ []) ++ plain_tokens (v.rest.at + 1) i (take k text))
+          ((v.parts.labels ++ word_label (b ∷ []) ∷ []) ++ byte_labels (take k text)) v.parts.holds;
+    }) next
+    ∙ ap (λ ts. record {
+      rest = after (suc k) v.rest;
+      parts = parts_of ts
+          ((v.parts.labels ++ word_label (b ∷ []) ∷ []) ++ byte_labels (take k text)) v.parts.holds;
+    })
+    (append_assoc v.parts.tokens (t ∷ []) (plain_tokens (v.rest.at + 1) (length v.parts.tokens + 1 + 1) (take k text)))
+    ∙ ap (λ ls. record {
+      rest = after (suc k) v.rest;
+      parts = parts_of
+          (v.parts.tokens ++ plain_tokens v.rest.at (length v.parts.tokens + 1) (b ∷ take k text)) ls v.parts.holds;
+    })
+    (append_assoc v.parts.labels (word_label (b ∷ []) ∷ []) (byte_labels (take k text)))
+    ∙ ap (λ bs. record {
+      rest = after (suc k) v.rest;
+      parts = parts_of
+          (v.parts.tokens ++ plain_tokens v.rest.at (length v.parts.tokens + 1) bs) (v.parts.labels ++ byte_labels bs) v.parts.holds;
+    }) whole
+
+plains_more : (k : ℕ) (tail : Tail) (v : Reading) (b : ℕ) (text : List ℕ) → v.rest.bytes ≡ b ∷ text
+    → plains_after k (tail_at (plain_here b v)) (plain_here b v) ≡ plains_after (suc k) tail v
+plains_more zero tail v b text e =
+    ap (λ (w : Reading). (tail_at w, w)) (sym (run_none (plain_here b v)) ∙ run_more 0 v b text e)
+plains_more (suc k) tail v b text e = ap (λ (w : Reading). (tail_at w, w)) (run_more (suc k) v b text e)
+
+module _ (lists deep : Lists) (c : ListContext) (outer : Option ℕ) (inside : Opened c.kind outer) where
+  -- the list from here on
+  abbrev pub items_at : Tail → Reading → Result (Tail × Reading) SyntaxFault
+  items_at tail v = listed_given outer tail v (items_with lists deep c v.rest.at 0 v.rest.bytes)
+
+  -- the end of a text, wherever it is
+  end_same : {Z : Type 0} (kind : Kind) → Opened kind outer → (rest : Left) (g : Items × ℕ → Left → Z) (n m : ℕ)
+      → given outer rest g (list_end kind n) ≡ given outer rest g (list_end kind m)
+  end_same kind o rest g n m = by kind outer o
+    where
+      by : (kind : Kind) (outer : Option ℕ) → Opened kind outer → given outer rest g (list_end kind n)
+          ≡ given outer rest g (list_end kind m)
+      by Top outer o = refl
+      by InX None o = absurd o
+      by InX (Some at) o = refl
+      by InArguments None o = absurd o
+      by InArguments (Some at) o = refl
+
+  -- so many bytes on
+  skip_same : {Z : Type 0} (rest : Left) (g : Items × ℕ → Left → Z) (n k : ℕ) (text : List ℕ)
+      → given outer rest g (items_with lists deep c n k text) ≡ given outer rest g (items_with lists deep c (n + k) 0 (drop k text))
+  skip_same rest g n zero [] = end_same c.kind inside rest g n (n + 0)
+  skip_same rest g n (suc k) [] = end_same c.kind inside rest g n (n + suc k)
+  skip_same rest g n zero (b ∷ text) =
+      let i : n ≡ n + 0 = omega arith in
+      ap (λ (j : ℕ). given outer rest g (items_with lists deep c j 0 (b ∷ text))) i
+  skip_same rest g n (suc k) (b ∷ text) =
+      let i : n + 1 + k ≡ n + suc k = omega arith in
+      skip_same rest g (n + 1) k text ∙ ap (λ (j : ℕ). given outer rest g (items_with lists deep c j 0 (drop k text))) i
+
+  -- after an item
+  abbrev item_after : ℕ → Item → Left → Reading → Reading
+  item_after n one rest v = record { rest = rest; parts = item_written n one rest.at v.parts }
+
+  abbrev stepped : Tail → Reading → Read Item → Result (Tail × Reading) SyntaxFault
+  stepped tail v (Took one k) =
+      items_at (tail_after one tail (after k (after 1 v.rest)).at (item_after v.rest.at one (after k (after 1 v.rest)) v).parts)
+      (item_after v.rest.at one (after k (after 1 v.rest)) v)
+  stepped tail v (Ends at) = Err (Unclosed (open_at outer at))
+  stepped tail v (Stops n fault) = Err fault
+
+  go_on : (tail : Tail) (v : Reading) (one : Item) (k : ℕ) (r : Read (Items × ℕ))
+      → listed_given outer tail v (item_go v.rest.at one k r)
+      ≡ listed_given outer (tail_after one tail (after k (after 1 v.rest)).at (item_after v.rest.at one (after k (after 1 v.rest)) v).parts)
+      (item_after v.rest.at one (after k (after 1 v.rest)) v) r
+  go_on tail v one k (Ends at) = refl
+  go_on tail v one k (Stops n fault) = refl
+  go_on tail v one k (Took list size) =
+      let z : Parts = item_written v.rest.at one (v.rest.at + 1 + k) v.parts in
+      let rest : after (1 + k + size) v.rest ≡ after size (after k (after 1 v.rest)) = after_after (1 + k) size v.rest ∙ ap
+      (λ (r : Left). after size r) (after_after 1 k v.rest) in
+      ap (λ (r : Left). Ok (list_on (tail_after one tail (v.rest.at + 1 + k) z) z list r)) rest
+
+  pub item_steps : (tail : Tail) (v : Reading) (b : ℕ) (text : List ℕ) → v.rest.bytes ≡ b ∷ text → ends_list c.kind b ≡ false
+      → items_at tail v ≡ stepped tail v (item lists deep c v.rest.at b text)
+  item_steps tail v b text e g =
+      ap (λ bs. listed_given outer tail v (items_with lists deep c v.rest.at 0 bs)) e
+      ∙ rw g refl
+      ∙ by (item lists deep c v.rest.at b text)
+    where
+      by : (r : Read Item)
+          → listed_given outer tail v (then_read r (λ one k. item_go v.rest.at one k (items_with lists deep c (v.rest.at + 1) k text)))
+          ≡ stepped tail v r
+      by (Ends at) = refl
+      by (Stops n fault) = refl
+      by (Took one k) =
+          let z : Parts = item_written v.rest.at one (v.rest.at + 1 + k) v.parts in
+          let next : Reading = item_after v.rest.at one (after k (after 1 v.rest)) v in
+          go_on tail v one k (items_with lists deep c (v.rest.at + 1) k text)
+          ∙ skip_same next.rest (list_on (tail_after one tail (v.rest.at + 1 + k) z) z) (v.rest.at + 1) k text
+          ∙ ap (λ bs. listed_given outer (tail_after one tail (v.rest.at + 1 + k) z) next
+          (items_with lists deep c (v.rest.at + 1 + k) 0 (drop k bs))) (sym (ap (λ bs. drop 1 bs) e))
+
+  -- the byte that ends the list
+  pub items_end : (tail : Tail) (v : Reading) (b : ℕ) (text : List ℕ) → v.rest.bytes ≡ b ∷ text → ends_list c.kind b ≡ true
+      → items_at tail v ≡ Ok (with_end tail b, v)
+  items_end tail v b text e g =
+      ap (λ bs. listed_given outer tail v (items_with lists deep c v.rest.at 0 bs)) e
+      ∙ rw g refl
+      ∙ ap (λ (r : Left). Ok (list_on tail v.parts (none, b) r)) (after_none v.rest)
+
+  -- the end of the text
+  abbrev at_last : Reading → Result Tail SyntaxFault → Result (Tail × Reading) SyntaxFault
+  at_last v (Ok tail) = Ok (tail, v)
+  at_last v (Err fault) = Err fault
+
+  pub items_last : (tail : Tail) (v : Reading) → v.rest.bytes ≡ [] → items_at tail v ≡ at_last v (end_given outer c.kind tail v.rest.at)
+  items_last tail v e = ap (λ bs. listed_given outer tail v (items_with lists deep c v.rest.at 0 bs)) e ∙ by c.kind
+    where
+      by : (kind : Kind) → listed_given outer tail v (list_end kind v.rest.at) ≡ at_last v (end_given outer kind tail v.rest.at)
+      by Top = ap (λ (r : Left). Ok (list_on tail v.parts (none, 0) r)) (after_none v.rest)
+      by InX = refl
+      by InArguments = refl
+
+  -- an item that is a directive
+
+  abbrev directed : Reading → Read Item → Result Reading SyntaxFault
+  directed v r = given outer (after 1 v.rest) (λ one rest. item_after v.rest.at one rest v) r
+
+  stepped_ok : (tail : Tail) (v u : Reading) (r : Read Item) → NotWhite r → directed v r ≡ Ok u → stepped tail v r ≡ items_at (tail_at u) u
+  stepped_ok tail v u (Took one k) white h =
+      let p : item_after v.rest.at one (after k (after 1 v.rest)) v ≡ u = ok_same h in
+      ap (λ t. items_at (if t then tail else tail_at (item_after v.rest.at one (after k (after 1 v.rest)) v))
+      (item_after v.rest.at one (after k (after 1 v.rest)) v)) white
+      ∙ ap (λ (x : Reading). items_at (tail_at x) x) p
+  stepped_ok tail v u (Ends at) white h = absurd cc
+  stepped_ok tail v u (Stops n fault) white h = absurd cc
+
+  stepped_err : (tail : Tail) (v : Reading) (e : SyntaxFault) (r : Read Item) → directed v r ≡ Err e → stepped tail v r ≡ Err e
+  stepped_err tail v e (Took one k) h = absurd cc
+  stepped_err tail v e (Ends at) h =
+      let p : Unclosed (open_at outer at) ≡ e = err_same h in
+      ap (λ x. Err x) p
+  stepped_err tail v e (Stops n fault) h =
+      let p : fault ≡ e = err_same h in
+      ap (λ x. Err x) p
+
+  pub directed_goes : (tail : Tail) (v u : Reading) (text : List ℕ) → v.rest.bytes ≡ ascii.percent ∷ text
+      → directed v (d.directive lists deep c v.rest.at (drop 1 v.rest.bytes)) ≡ Ok u → items_at tail v ≡ items_at (tail_at u) u
+  directed_goes tail v u text e h =
+      item_steps tail v ascii.percent text e refl
+      ∙ stepped_ok tail v u (d.directive lists deep c v.rest.at text) (directive_white lists deep c v.rest.at text)
+      (ap (λ bs. directed v (d.directive lists deep c v.rest.at (drop 1 bs))) (sym e) ∙ h)
+
+  pub directed_stops : (tail : Tail) (v : Reading) (fault : SyntaxFault) (text : List ℕ) → v.rest.bytes ≡ ascii.percent ∷ text
+      → directed v (d.directive lists deep c v.rest.at (drop 1 v.rest.bytes)) ≡ Err fault → items_at tail v ≡ Err fault
+  directed_stops tail v fault text e h =
+      item_steps tail v ascii.percent text e refl
+      ∙ stepped_err tail v fault (d.directive lists deep c v.rest.at text)
+      (ap (λ bs. directed v (d.directive lists deep c v.rest.at (drop 1 bs))) (sym e) ∙ h)
+
+  -- an item that is no directive
+
+  abbrev as_items : Result (Tail × Reading) SyntaxFault → Result (Tail × Reading) SyntaxFault
+  as_items (Ok x) = items_at x.0 x.1
+  as_items (Err fault) = Err fault
+
+  step_one : (tail : Tail) (v : Reading) (one : Item) (kind : TokenKind) (label : Label)
+      → ((end : ℕ) (z : Parts) → item_written v.rest.at one end z ≡ leafed kind label v.rest.at end z)
+      → stepped tail v (Took one 0) ≡ items_at (if is_white_item one then tail else tail_at (byte_here kind label v))
+      (byte_here kind label v)
+  step_one tail v one kind label h =
+      let r1 : Left = after 1 v.rest in
+      ap (λ (r : Left). items_at (tail_after one tail r.at (item_after v.rest.at one r v).parts) (item_after v.rest.at one r v))
+      (after_none r1)
+      ∙ ap (λ (z : Parts). items_at (tail_after one tail r1.at z) (record { rest = r1; parts = z })) (h r1.at v.parts)
+
+  step_escape : (tail : Tail) (v : Reading) (text : List ℕ)
+      → stepped tail v (escape v.rest.at text) ≡ as_items (with_tail (second_given outer v text))
+  step_escape tail v [] = refl
+  step_escape tail v (b ∷ text) =
+      ap (λ (r : Left). items_at (tail_after (tree.Escape b) tail r.at (item_after v.rest.at (tree.Escape b) r v).parts)
+      (item_after v.rest.at (tree.Escape b) r v)) (sym (after_after 1 1 v.rest))
+      ∙ ap (λ (z : Parts). items_at (tail_after (tree.Escape b) tail (v.rest.at + 2) z) (record { rest = after 2 v.rest; parts = z }))
+      (leaf_is kinds.Escape (word_label (b ∷ [])) v.rest.at (v.rest.at + 2) v.parts)
+
+  step_byte : (tail : Tail) (v : Reading) (b : ℕ) (text : List ℕ) → v.rest.bytes ≡ b ∷ text → (b == ascii.percent) ≡ false
+      → stepped tail v (item lists deep c v.rest.at b text) ≡ as_items (byte_given outer c.in_arguments b tail v)
+  step_byte tail v b text is other =
+      by (b == ascii.backslash) (is_blank b) (b == ascii.newline) (b == ascii.bar) refl refl refl refl
+    where
+      n : ℕ
+      n = v.rest.at
+
+      newlines : (t : Bool) → stepped tail v (Took (newline_in t) 0) ≡ items_at tail (byte_here (kind_of (newline_in t)) no_label v)
+      newlines true = step_one tail v Blank kinds.Blank no_label (λ end z. leaf_is kinds.Blank no_label n end z)
+      newlines false = step_one tail v Newline kinds.Newline no_label (λ end z. leaf_is kinds.Newline no_label n end z)
+
+      bars : (t : Bool) → stepped tail v (Took (bar_in t) 0)
+          ≡ as_items (with_tail (Ok (if t then byte_here kinds.Plain (word_label (ascii.bar ∷ [])) v else byte_here kinds.Pipe no_label v)))
+      bars true = step_one tail v (Plain ascii.bar) kinds.Plain (word_label (ascii.bar ∷ []))
+          (λ end z. leaf_is kinds.Plain (word_label (ascii.bar ∷ [])) n end z)
+      bars false = step_one tail v tree.Pipe kinds.Pipe no_label (λ end z. leaf_is kinds.Pipe no_label n end z)
+
+      by : (p q r s : Bool) → (b == ascii.backslash) ≡ p → is_blank b ≡ q → (b == ascii.newline) ≡ r → (b == ascii.bar) ≡ s
+          → stepped tail v (item lists deep c n b text) ≡ as_items (byte_given outer c.in_arguments b tail v)
+      by true q r s e f g h =
+          let i : b ≡ ascii.backslash = same b ascii.backslash e in
+          ap (λ (x : ℕ). stepped tail v (item lists deep c n x text)) i
+          ∙ step_escape tail v text
+          ∙ ap (λ bs. as_items (with_tail (second_given outer v (drop 1 bs)))) (sym is)
+          ∙ ap (λ (x : ℕ). as_items (byte_given outer c.in_arguments x tail v)) (sym i)
+      by false true r s e f g h =
+          rw (e, other, f) (step_one tail v Blank kinds.Blank no_label (λ end z. leaf_is kinds.Blank no_label n end z))
+      by false false true s e f g h = rw (e, other, f, g) (newlines c.in_arguments)
+      by false false false true e f g h =
+          let i : b ≡ ascii.bar = same b ascii.bar h in
+          ap (λ (x : ℕ). stepped tail v (item lists deep c n x text)) i
+          ∙ bars c.in_arguments
+          ∙ ap (λ (x : ℕ). as_items (byte_given outer c.in_arguments x tail v)) (sym i)
+      by false false false false e f g h = rw (e, other, f, g, h)
+          (step_one tail v (Plain b) kinds.Plain (word_label (b ∷ [])) (λ end z. leaf_is kinds.Plain (word_label (b ∷ [])) n end z))
+
+  pub byte_goes : (tail next : Tail) (v u : Reading) (b : ℕ) (text : List ℕ) → v.rest.bytes ≡ b ∷ text → ends_list c.kind b ≡ false
+      → (b == ascii.percent) ≡ false → byte_given outer c.in_arguments b tail v ≡ Ok (next, u) → items_at tail v ≡ items_at next u
+  byte_goes tail next v u b text e g other h =
+      item_steps tail v b text e g ∙ step_byte tail v b text e other ∙ ap (λ x. as_items x) h
+
+  pub byte_stops : (tail : Tail) (v : Reading) (fault : SyntaxFault) (b : ℕ) (text : List ℕ) → v.rest.bytes ≡ b ∷ text
+      → ends_list c.kind b ≡ false
+      → (b == ascii.percent) ≡ false → byte_given outer c.in_arguments b tail v ≡ Err fault → items_at tail v ≡ Err fault
+  byte_stops tail v fault b text e g other h =
+      item_steps tail v b text e g ∙ step_byte tail v b text e other ∙ ap (λ x. as_items x) h
+
+  -- plain bytes
+
+  plain_step : (kind : ListKind) (tail : Tail) (v : Reading) (b : ℕ) (text : List ℕ) → kind_seen kind ≡ c.kind → runs kind b ≡ true
+      → v.rest.bytes ≡ b ∷ text
+      → items_at tail v ≡ items_at (tail_at (plain_here b v)) (plain_here b v)
+  plain_step kind tail v b text same_kind run is =
+      let f : PlainByte kind b = plain_byte kind b run in
+      let e : ends_list c.kind b ≡ false = subst (λ (k : Kind). ends_list k b ≡ false) same_kind f.stays in
+      byte_goes tail (tail_at (plain_here b v)) v (plain_here b v) b text is e f.other (f.given outer c.in_arguments tail v)
+
+  plains_from : (kind : ListKind) → kind_seen kind ≡ c.kind → (text : List ℕ) (tail : Tail) (v : Reading) → v.rest.bytes ≡ text
+      → items_at tail v ≡ as_items (Ok (plains_after (prefix_len (runs kind) text) tail v))
+  plains_from kind same_kind [] tail v e = refl
+  plains_from kind same_kind (b ∷ text) tail v e =
+      by (runs kind b) refl (plains_from kind same_kind text (tail_at (plain_here b v)) (plain_here b v) (ap (λ bs. drop 1 bs) e))
+    where
+      k : ℕ
+      k = prefix_len (runs kind) text
+
+      by : (t : Bool) → runs kind b ≡ t → items_at (tail_at (plain_here b v)) (plain_here b v)
+          ≡ as_items (Ok (plains_after k (tail_at (plain_here b v)) (plain_here b v)))
+          → items_at tail v ≡ as_items (Ok (plains_after (if t then 1 + k else 0) tail v))
+      by false g ih = refl
+      by true g ih =
+          let one : suc k ≡ 1 + k = omega arith in
+          plain_step kind tail v b text same_kind g e
+          ∙ ih
+          ∙ ap (λ (x : Tail × Reading). as_items (Ok x)) (plains_more k tail v b text e)
+          ∙ ap (λ (i : ℕ). as_items (Ok (plains_after i tail v))) one
+
+  pub plains_go : (kind : ListKind) (tail next : Tail) (v u : Reading) → kind_seen kind ≡ c.kind → plains_on kind tail v ≡ (next, u)
+      → items_at tail v ≡ items_at next u
+  plains_go kind tail next v u same_kind h =
+      plains_from kind same_kind v.rest.bytes tail v refl ∙ ap (λ (x : Tail × Reading). as_items (Ok x)) h
+
+  -- what is left gets shorter
+
+  shorter_after : (k : ℕ) (r : Left) (b : ℕ) (text : List ℕ) → r.bytes ≡ b ∷ text → length (after k (after 1 r)).bytes < length r.bytes
+  shorter_after k r b text e =
+      let rest : length (drop k (drop 1 r.bytes)) ≤ length (drop 1 r.bytes) = omega (arith, length-drop k (drop 1 r.bytes)) in
+      let one : length (drop 1 r.bytes) ≡ length text = ap (λ bs. length (drop 1 bs)) e in
+      let whole : length r.bytes ≡ suc (length text) = ap (λ bs. length bs) e in
+      omega (arith, rest, one, whole)
+
+  pub directed_shorter : (v u : Reading) (text : List ℕ) → v.rest.bytes ≡ ascii.percent ∷ text
+      → directed v (d.directive lists deep c v.rest.at (drop 1 v.rest.bytes)) ≡ Ok u → length u.rest.bytes < length v.rest.bytes
+  directed_shorter v u text e h = by (d.directive lists deep c v.rest.at (drop 1 v.rest.bytes)) h
+    where
+      by : (r : Read Item) → directed v r ≡ Ok u → length u.rest.bytes < length v.rest.bytes
+      by (Took one k) g =
+          let p : item_after v.rest.at one (after k (after 1 v.rest)) v ≡ u = ok_same g in
+          subst (λ (x : Reading). length x.rest.bytes < length v.rest.bytes) p (shorter_after k v.rest ascii.percent text e)
+      by (Ends at) g = absurd cc
+      by (Stops n fault) g = absurd cc
+
+  pub items_finish : (tail last : Tail) (v : Reading) (n : ℕ) → None ≡ first_of v.rest.bytes → n ≡ v.rest.at
+      → end_given outer c.kind tail n ≡ Ok last
+      → items_at tail v ≡ Ok (last, v)
+  items_finish tail last v n e g h =
+      items_last tail v (none_left v.rest.bytes e)
+      ∙ ap (λ x. at_last v x) (ap (λ (i : ℕ). end_given outer c.kind tail i) (sym g) ∙ h)
+
+  pub items_cut : (tail : Tail) (v : Reading) (n : ℕ) (fault : SyntaxFault) → None ≡ first_of v.rest.bytes → n ≡ v.rest.at
+      → end_given outer c.kind tail n ≡ Err fault → items_at tail v ≡ Err fault
+  items_cut tail v n fault e g h =
+      items_last tail v (none_left v.rest.bytes e)
+      ∙ ap (λ x. at_last v x) (ap (λ (i : ℕ). end_given outer c.kind tail i) (sym g) ∙ h)
+
+  pub plains_shorter : (kind : ListKind) (tail next : Tail) (v u : Reading) → plains_on kind tail v ≡ (next, u)
+      → length u.rest.bytes ≤ length v.rest.bytes
+  plains_shorter kind tail next v u h = by (prefix_len (runs kind) v.rest.bytes) h
+    where
+      by : (k : ℕ) → plains_after k tail v ≡ (next, u) → length u.rest.bytes ≤ length v.rest.bytes
+      by zero g =
+          let p : length v.rest.bytes ≡ length u.rest.bytes = ap (λ z. length z.1.rest.bytes) g in
+          omega (arith, p)
+      by (suc k) g =
+          let p : length (drop (suc k) v.rest.bytes) ≡ length u.rest.bytes = ap (λ z. length z.1.rest.bytes) g in
+          omega (arith, p, length-drop (suc k) v.rest.bytes)
+
+  left_shorter : (k : ℕ) (v u : Reading) (b : ℕ) (text : List ℕ) → v.rest.bytes ≡ b ∷ text → 0 < k → u.rest ≡ after k v.rest
+      → length u.rest.bytes < length v.rest.bytes
+  left_shorter k v u b text e some h =
+      let p : length u.rest.bytes ≡ length (drop k v.rest.bytes) = ap (λ (r : Left). length r.bytes) h in
+      let q : length v.rest.bytes ≡ suc (length text) = ap (λ bs. length bs) e in
+      omega (arith, p, q, some, length-drop k v.rest.bytes)
+
+  pub byte_shorter : (t : Bool) (tail next : Tail) (v u : Reading) (b : ℕ) (text : List ℕ) → v.rest.bytes ≡ b ∷ text
+      → byte_given outer t b tail v ≡ Ok (next, u) → length u.rest.bytes < length v.rest.bytes
+  byte_shorter t tail next v u b text e h = by (is_blank b) (b == ascii.newline) (b == ascii.backslash) (b == ascii.bar) t
+      (drop 1 v.rest.bytes) h
+    where
+      one : (x : Tail) (w : Reading) → w.rest ≡ after 1 v.rest → ◌≡◌ {A = Result (Tail × Reading) SyntaxFault} (Ok (x, w)) (Ok (next, u))
+          → length u.rest.bytes < length v.rest.bytes
+      one x w l g =
+          let p : w.rest ≡ u.rest = ap (λ z. z.1.rest) (ok_same g) in
+          let some : 0 < 1 = omega arith in
+          left_shorter 1 v u b text e some (sym p ∙ l)
+
+      by : (p q r s t : Bool) (rest : List ℕ)
+          → (if p then Ok (tail, byte_here kinds.Blank no_label v) else if q then Ok (tail, byte_here (kind_of (newline_in t)) no_label v)
+          else with_tail (if r then second_given outer v rest else if s then Ok (if t then byte_here kinds.Plain (word_label (b ∷ [])) v
+          else byte_here kinds.Pipe no_label v) else Ok (byte_here kinds.Plain (word_label (b ∷ [])) v))) ≡ Ok (next, u)
+          → length u.rest.bytes < length v.rest.bytes
+      by true q r s t rest g = one tail (byte_here kinds.Blank no_label v) refl g
+      by false true r s t rest g = one tail (byte_here (kind_of (newline_in t)) no_label v) refl g
+      by false false true s t [] g = absurd cc
+      by false false true s t (x ∷ rest) g =
+          let p : after 2 v.rest ≡ u.rest = ap (λ z. z.1.rest) (ok_same g) in
+          let some : 0 < 2 = omega arith in
+          left_shorter 2 v u b text e some (sym p)
+      by false false false true true rest g = one _ (byte_here kinds.Plain (word_label (b ∷ [])) v) refl g
+      by false false false true false rest g = one _ (byte_here kinds.Pipe no_label v) refl g
+      by false false false false t rest g = one _ (byte_here kinds.Plain (word_label (b ∷ [])) v) refl g

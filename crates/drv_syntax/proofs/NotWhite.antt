@@ -1,0 +1,175 @@
+use Rattle.drv_words.specs.Bytes as ascii
+use Rattle.drv_syntax.specs.Bytes.{is_name_byte, is_option, is_suffix}
+use Rattle.drv_syntax.specs.Code.Lists.{is_white_item}
+use Rattle.drv_syntax.specs.Contexts.{Kind, ListContext, Mixed, Nobody, Owner, Starred, in_arguments, is_said}
+use Rattle.drv_syntax.specs.Descent as d
+use Rattle.drv_syntax.specs.Descent.{Ends, Hangs, Lists, Quoted, Read, Run, Stops, Took, past, quoted, then_read, within}
+use Rattle.drv_syntax.specs.Refusals.{AtFront}
+use Rattle.drv_syntax.specs.Directives.{braced, directive_of, is_allowed, said}
+use Rattle.drv_syntax.specs.Tree.{Brace, Function, Hide, Item, NamedText, TempName}
+use Rattle.drv_syntax.specs.declared.directives.BraceKind.TheVariants.{InPlace, IntoArgumentsFile, IntoFailureFile}
+use Rattle.drv_syntax.specs.declared.directives.BraceKind.{BraceKind}
+use Rattle.drv_syntax.specs.declared.directives.Directive.TheVariants as directives
+use Rattle.drv_syntax.specs.declared.directives.Directive.{Directive}
+use Rattle.drv_syntax.specs.declared.directives.SayKind.TheVariants.{AsError, AsNotice}
+use Rattle.drv_syntax.specs.declared.directives.SayKind.{SayKind}
+use Rattle.drv_syntax.specs.declared.fault.SyntaxFault.TheVariants.{BadDirective, TooNested}
+use Rattle.drv_syntax.specs.declared.token.TempKind.{TempKind}
+use Rattle.std.proofs.Common.{◌≡◌, ◌+◌, ◌++◌, Bool, false, true, if◌then◌else◌, List, [], ◌∷◌, drop, length, refl, take, ℕ}
+use Rattle.std.specs.List.{prefix_len}
+use Rattle.std.specs.Prelude.{◌==◌, codes, nat_le}
+
+-- A directive is no white space. It serves the reader's `items`, which leaves white space out at the end of an X.
+
+abbrev pub NotWhite : Read Item → Type 0
+NotWhite (Took one k) = is_white_item one ≡ false
+NotWhite (Ends at) = Unit {0}
+NotWhite (Stops n fault) = Unit {0}
+
+past_white : (k : ℕ) (r : Read Item) → NotWhite r → NotWhite (past k r)
+past_white k (Took one size) h = h
+past_white k (Ends at) h = tt
+past_white k (Stops n fault) h = tt
+
+within_white : (at : ℕ) (r : Read Item) → NotWhite r → NotWhite (within at r)
+within_white at (Took one size) h = h
+within_white at (Ends n) h = tt
+within_white at (Stops n fault) h = tt
+
+then_white : {X : Type 0} (r : Read X) (goes : X → ℕ → Read Item) → ((x : X) (k : ℕ) → NotWhite (goes x k)) → NotWhite (then_read r goes)
+then_white (Took x size) goes h = h x size
+then_white (Ends at) goes h = tt
+then_white (Stops n fault) goes h = tt
+
+suffix_white : (kind : TempKind) (n : ℕ) (text : List ℕ) → NotWhite (d.suffix kind n text)
+suffix_white kind n [] = refl
+suffix_white kind n (b ∷ text) = by (is_suffix b)
+  where
+    object : (t : Bool) (bs : List ℕ) → (b == ascii.percent) ≡ t → NotWhite (d.suffix_object kind n b bs)
+    object true [] e = rw e tt
+    object false [] e = rw e refl
+    object false (c ∷ bs) e = rw e refl
+    object true (c ∷ bs) e = rw e (by_o (c == ascii.capital_o))
+      where
+        by_o : (u : Bool) → NotWhite (if u then Took (TempName kind (codes ".o")) 2 else Took (TempName kind []) 0)
+        by_o true = refl
+        by_o false = refl
+
+    by : (t : Bool) → NotWhite (if t then Took (TempName kind (b ∷ take (prefix_len is_suffix text) text)) (1 + prefix_len is_suffix text)
+        else d.suffix_object kind n b text)
+    by true = refl
+    by false = object (b == ascii.percent) text refl
+
+option_white : (at n : ℕ) (text : List ℕ) → NotWhite (d.option at n text)
+option_white at n [] = tt
+option_white at n (b ∷ text) = by (b == ascii.opening_brace)
+  where
+    ended : (m : ℕ) (word : List ℕ) (size : ℕ) (bs : List ℕ) → NotWhite (d.option_end at m word size bs)
+    ended m word size [] = tt
+    ended m [] size (c ∷ bs) = tt
+    ended m (x ∷ word) size (c ∷ bs) = refl
+
+    inside : (q : Quoted) → NotWhite (d.option_text at (n + 1) q text)
+    inside (Hangs size) = tt
+    inside (Run word size) = ended (n + 1) word size (drop size text)
+
+    by : (t : Bool) → NotWhite (if t then past 1 (d.option_text at (n + 1) (quoted is_option text) text) else Stops n (BadDirective at))
+    by true = past_white 1 (d.option_text at (n + 1) (quoted is_option text) text) (inside (quoted is_option text))
+    by false = tt
+
+saying_white : (list : Kind) (kind : SayKind) (n : ℕ) (text : List ℕ) → NotWhite (d.saying list kind n text)
+saying_white list kind n text = by (quoted (is_said list) text)
+  where
+    said_white : (k : SayKind) (word : List ℕ) → is_white_item (said k word) ≡ false
+    said_white AsError word = refl
+    said_white AsNotice word = refl
+
+    ended : (word : List ℕ) (size : ℕ) (bs : List ℕ) → NotWhite (d.saying_end kind word size bs)
+    ended word size [] = said_white kind word
+    ended word size (b ∷ bs) = newline (b == ascii.newline)
+      where
+        newline : (t : Bool) → NotWhite (if t then Took (said kind word) (size + 1) else Took (said kind word) size)
+        newline true = said_white kind word
+        newline false = said_white kind word
+
+    by : (q : Quoted) → NotWhite (d.saying_text kind n q text)
+    by (Hangs size) = tt
+    by (Run word size) = ended word size (drop size text)
+
+name_white : (at n : ℕ) (name text : List ℕ) → NotWhite (d.name_from at n name text)
+name_white at n name [] = tt
+name_white at n name (b ∷ text) = by (is_name_byte b) (nat_le (length (name ++ b ∷ [])) 255) (name_white at (n + 1) (name ++ b ∷ []) text)
+  where
+    ended : (q : List ℕ) → NotWhite (d.name_end at n q 0 (b ∷ text))
+    ended [] = tt
+    ended (x ∷ q) = close (b == ascii.closing_parenthesis)
+      where
+        close : (t : Bool) → NotWhite (if t then Took (NamedText (x ∷ q)) (0 + 1) else Stops (n + 0) (BadDirective at))
+        close true = refl
+        close false = tt
+
+    by : (t u : Bool) → NotWhite (d.name_from at (n + 1) (name ++ b ∷ []) text)
+        → NotWhite (if t then (if u then past 1 (d.name_from at (n + 1) (name ++ b ∷ []) text) else Stops n (BadDirective at))
+        else d.name_end at n name 0 (b ∷ text))
+    by true true ih = past_white 1 (d.name_from at (n + 1) (name ++ b ∷ []) text) ih
+    by true false ih = tt
+    by false u ih = ended name
+
+module _ (lists deep : Lists) (c : ListContext) (at : ℕ) where
+  nested_white : (n : ℕ) (r : Read Item) → NotWhite r → NotWhite (d.nested c.levels at n r)
+  nested_white n r h = by (c.levels == 0)
+    where
+      by : (t : Bool) → NotWhite (if t then Stops n (TooNested at) else r)
+      by true = tt
+      by false = h
+
+  braced_white : (kind : BraceKind) (n : ℕ) (text : List ℕ) → NotWhite (d.braces lists deep c at kind n text)
+  braced_white kind n text = then_white (d.choices lists deep c at AtFront n 0 text) (λ brace size. Took (braced kind brace) size)
+      (λ brace size. by kind brace)
+    where
+      by : (k : BraceKind) (brace : Brace) → is_white_item (braced k brace) ≡ false
+      by InPlace brace = refl
+      by IntoFailureFile brace = refl
+      by IntoArgumentsFile brace = refl
+
+  marked_white : (kind : BraceKind) (n : ℕ) (text : List ℕ) → NotWhite (d.marked_braces lists deep c at kind n text)
+  marked_white kind n [] = tt
+  marked_white kind n (b ∷ text) = by (b == ascii.opening_brace)
+    where
+      by : (t : Bool) → NotWhite (if t then past 1 (d.braces lists deep c at kind (n + 1) text) else Stops n (BadDirective at))
+      by true = past_white 1 (d.braces lists deep c at kind (n + 1) text) (braced_white kind (n + 1) text)
+      by false = tt
+
+  star_white : (n : ℕ) (owner : Owner) → NotWhite (d.star at n owner)
+  star_white n Nobody = tt
+  star_white n Mixed = tt
+  star_white n Starred = refl
+
+  by_white : (n : ℕ) (x : Directive) (text : List ℕ) → NotWhite (d.directive_by lists deep c at n x text)
+  by_white n directives.Nowhere text = tt
+  by_white n (directives.Whole leaf) text = refl
+  by_white n (directives.Named letter) text = refl
+  by_white n (directives.WithSuffix kind) text = suffix_white kind (n + 1) text
+  by_white n directives.WithOption text = option_white at (n + 1) text
+  by_white n (directives.WithSaying kind) text = saying_white c.kind kind (n + 1) text
+  by_white n directives.WithName text = name_white at (n + 1) [] text
+  by_white n directives.WithPattern text = then_white (d.pattern_at at (n + 1) text) (λ p size. Took (Hide p) size) (λ p size. refl)
+  by_white n directives.OfStar text = star_white n c.owner
+  by_white n directives.WithCall text = nested_white n (d.call lists c at (n + 1) text)
+      (within_white at (then_read (d.function_from at (n + 1) [] text) (d.call_in lists c (n + 1) text))
+      (then_white (d.function_from at (n + 1) [] text) (d.call_in lists c (n + 1) text) (λ called k.
+      then_white (lists (in_arguments c) (n + 1 + k) (drop k text)) (λ list size. Took (Function called list.0) (k + (size + 1)))
+      (λ list size. refl))))
+  by_white n directives.WithBraces text = nested_white n (d.braces lists deep c at InPlace (n + 1) text) (braced_white InPlace (n + 1) text)
+  by_white n (directives.WithMarkedBraces kind) text = nested_white n (d.marked_braces lists deep c at kind (n + 1) text)
+      (marked_white kind (n + 1) text)
+
+pub directive_white : (lists deep : Lists) (c : ListContext) (at : ℕ) (text : List ℕ) → NotWhite (d.directive lists deep c at text)
+directive_white lists deep c at [] = tt
+directive_white lists deep c at (b ∷ text) = by (is_allowed c.in_arguments b)
+  where
+    by : (t : Bool) → NotWhite (if t then past 1 (d.directive_by lists deep c at (at + 1) (directive_of b) text)
+        else Stops (at + 1) (BadDirective at))
+    by true = past_white 1 (d.directive_by lists deep c at (at + 1) (directive_of b) text)
+        (by_white lists deep c at (at + 1) (directive_of b) text)
+    by false = tt

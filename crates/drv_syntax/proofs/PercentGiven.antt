@@ -1,0 +1,137 @@
+use Rattle.drv_words.specs.Bytes as ascii
+use Rattle.drv_syntax.proofs.GivenParts.{some_left}
+use Rattle.drv_syntax.proofs.Writing.{after_none, given_past, leaf_is}
+use Rattle.drv_syntax.specs.Code.Left.{Left, after, first_of}
+use Rattle.drv_syntax.specs.Code.Lists.{directive_given, is_simple, simple_given, star_given}
+use Rattle.drv_syntax.specs.Code.Tokens.{whole_token}
+use Rattle.drv_syntax.specs.Code.Writing.{Reading, at_rest, given, item_given, item_written, leaf_here}
+use Rattle.drv_syntax.specs.Contexts.{ListContext, Mixed, Nobody, Owner, Starred}
+use Rattle.drv_syntax.specs.Descent as d
+use Rattle.drv_syntax.specs.Descent.{Lists, Took, directive_by}
+use Rattle.drv_syntax.specs.Directives.{directive_of, is_allowed, text_of}
+use Rattle.drv_syntax.specs.Labels.{no_label, word_label}
+use Rattle.drv_syntax.specs.Tree as tree
+use Rattle.drv_syntax.specs.Tree.{BuiltinText, Item, Leaf, Star}
+use Rattle.drv_syntax.specs.declared.directives.BraceKind.TheVariants.{InPlace}
+use Rattle.drv_syntax.specs.declared.directives.BraceKind.{BraceKind}
+use Rattle.drv_syntax.specs.declared.directives.Directive.TheVariants as directives
+use Rattle.drv_syntax.specs.declared.directives.Directive.{Directive}
+use Rattle.drv_syntax.specs.declared.fault.SyntaxFault.TheVariants.{BadDirective}
+use Rattle.drv_syntax.specs.declared.fault.SyntaxFault.{SyntaxFault}
+use Rattle.drv_syntax.specs.declared.token.TokenKind.TheVariants as kinds
+use Rattle.std.proofs.Common.{◌≡◌, ◌∙◌, ◌+◌, ◌++◌, ◌||◌, Bool, false, true, [], ◌∷◌, ap, arith, drop, length, refl, sym, ℕ}
+use Rattle.std.specs.Prelude.{◌==◌, Err, Ok, Option, Result, Some}
+
+-- What is given of a directive, from its percent sign on. It serves the reader's `percent`.
+
+module _ (lists : Lists × Lists) (c : ListContext) (outer : Option ℕ) (v : Reading) (at : ℕ) where
+  abbrev as_item : Item → Left → Reading
+  as_item x l = record { rest = l; parts = item_written at x l.at v.parts }
+
+  -- after its byte
+  abbrev pub goes_on : Left → Directive → Result Reading SyntaxFault
+  goes_on r x = given outer r as_item (directive_by lists.0 lists.1 c at (at + 1) x r.bytes)
+
+  pub percent_opens : (b : ℕ) (r1 r2 : Left) (x : Directive) → at ≡ v.rest.at → r1 ≡ after 1 v.rest → Some b ≡ first_of r1.bytes
+      → is_allowed c.in_arguments b ≡ true
+      → r2 ≡ after 1 r1 → x ≡ directive_of b → directive_given outer c lists v ≡ goes_on r2 x
+  percent_opens b r1 r2 x here e f g h k =
+      ap (λ (i : ℕ). given outer (after 1 v.rest) (λ y l. record { rest = l; parts = item_written i y l.at v.parts })
+      (d.directive lists.0 lists.1 c i (drop 1 v.rest.bytes))) (sym here)
+      ∙ ap (λ (r : Left). given outer r as_item (d.directive lists.0 lists.1 c at r.bytes)) (sym e)
+      ∙ ap (λ bs. given outer r1 as_item (d.directive lists.0 lists.1 c at bs)) (some_left r1.bytes b f)
+      ∙ rw g refl
+      ∙ given_past outer r1 as_item 1 (directive_by lists.0 lists.1 c at (at + 1) (directive_of b) (drop 1 r1.bytes))
+      ∙ ap (λ (r : Left). goes_on r (directive_of b)) (sym h)
+      ∙ ap (λ (y : Directive). goes_on r2 y) (sym k)
+
+  -- one that holds no parts
+
+  took_leaf : (r : Left) (x : Item) (y : Reading) → as_item x r ≡ y → given outer r as_item (Took x 0) ≡ Ok y
+  took_leaf r x y e = ap (λ (l : Left). Ok (as_item x l)) (after_none r) ∙ ap (λ z. Ok z) e
+
+  or_true : (b : Bool) → (b || true) ≡ true
+  or_true true = refl
+  or_true false = refl
+
+  star_is : (r : Left) → ◌≡◌ {A = Result Reading SyntaxFault} (Ok (as_item Star r)) (star_given Starred at (at_rest r v))
+  star_is r =
+      let m : length v.parts.tokens + 1 + 0 ≡ length v.parts.tokens + 1 = omega arith in
+      ap (λ (i : ℕ). Ok (record {
+        rest = r;
+        parts = record {
+          tokens = v.parts.tokens ++ whole_token kinds.Star at r.at i ∷ [];
+          labels = v.parts.labels ++ no_label ∷ [];
+          holds = v.parts.holds || true;
+        };
+      })) m
+      ∙ ap (λ (b : Bool). Ok (record {
+        rest = r;
+        parts = record {
+          tokens = v.parts.tokens ++ whole_token kinds.Star at r.at (length v.parts.tokens + 1) ∷ [];
+          labels = v.parts.labels ++ no_label ∷ [];
+          holds = b;
+        };
+      })) (or_true v.parts.holds)
+
+  star_goes : (r : Left) (owner : Owner) → given outer r as_item (d.star at (at + 1) owner) ≡ star_given owner at (at_rest r v)
+  star_goes r Nobody = refl
+  star_goes r Mixed = refl
+  star_goes r Starred = ap (λ (l : Left). Ok (as_item Star l)) (after_none r) ∙ star_is r
+
+  pub places : (r1 r2 : Left) → at ≡ v.rest.at → r1 ≡ after 1 v.rest → r2 ≡ after 1 r1 → r2.at ≡ at + 1 + 1
+  places r1 r2 here e g =
+      ap (λ (r : Left). r.at) g ∙ ap (λ (r : Left). r.at + 1) e ∙ ap (λ (i : ℕ). i + 1 + 1) (sym here)
+
+  pub simple_goes : (r : Left) (x : Directive) → r.at ≡ at + 1 + 1 → is_simple x ≡ true
+      → goes_on r x ≡ simple_given outer c at x (at_rest r v)
+  simple_goes r directives.Nowhere e s = refl
+  simple_goes r (directives.Whole leaf) e s = took_leaf r (Leaf leaf) (leaf_here (kinds.Leaf leaf) no_label at (at_rest r v))
+      (ap (λ z. record { rest = r; parts = z }) (leaf_is (kinds.Leaf leaf) no_label at r.at v.parts))
+  simple_goes r (directives.Named letter) e s =
+      took_leaf r (BuiltinText (text_of letter)) (leaf_here kinds.BuiltinText (word_label (text_of letter)) at (at_rest r v))
+      (ap (λ z. record { rest = r; parts = z }) (leaf_is kinds.BuiltinText (word_label (text_of letter)) at r.at v.parts))
+  simple_goes r (directives.WithSuffix kind) e s = ap (λ (n : ℕ). given outer r as_item (d.suffix kind n r.bytes)) (sym e)
+  simple_goes r directives.WithOption e s = ap (λ (n : ℕ). given outer r as_item (d.option at n r.bytes)) (sym e)
+  simple_goes r (directives.WithSaying kind) e s = ap (λ (n : ℕ). given outer r as_item (d.saying c.kind kind n r.bytes)) (sym e)
+  simple_goes r directives.WithName e s = ap (λ (n : ℕ). given outer r as_item (d.name_from at n [] r.bytes)) (sym e)
+  simple_goes r directives.WithPattern e s =
+      ap (λ (n : ℕ). given outer r as_item (d.then_read (d.pattern_at at n r.bytes) (λ p size. Took (tree.Hide p) size))) (sym e)
+  simple_goes r directives.OfStar e s = star_goes r c.owner
+  simple_goes r directives.WithCall e s = absurd cc
+  simple_goes r directives.WithBraces e s = absurd cc
+  simple_goes r (directives.WithMarkedBraces kind) e s = absurd cc
+
+  -- one that holds parts
+
+  pub call_goes : (r : Left) (x : Directive) → x ≡ directives.WithCall → r.at ≡ at + 1 + 1 → (c.levels == 0) ≡ false
+      → goes_on r x ≡ item_given outer at (at_rest r v) (d.call lists.0 c at r.at r.bytes)
+  call_goes r x e g h =
+      ap (λ (y : Directive). goes_on r y) e ∙ rw h refl ∙ ap (λ (n : ℕ). given outer r as_item (d.call lists.0 c at n r.bytes)) (sym g)
+
+  pub braces_go : (r : Left) (x : Directive) → x ≡ directives.WithBraces → r.at ≡ at + 1 + 1 → (c.levels == 0) ≡ false
+      → goes_on r x ≡ item_given outer at (at_rest r v) (d.braces lists.0 lists.1 c at InPlace r.at r.bytes)
+  braces_go r x e g h =
+      ap (λ (y : Directive). goes_on r y) e ∙ rw h refl
+      ∙ ap (λ (n : ℕ). given outer r as_item (d.braces lists.0 lists.1 c at InPlace n r.bytes)) (sym g)
+
+  pub marked_go : (r : Left) (x : Directive) (kind : BraceKind) → x ≡ directives.WithMarkedBraces kind → r.at ≡ at + 1 + 1
+      → (c.levels == 0) ≡ false
+      → goes_on r x ≡ given outer r as_item (d.marked_braces lists.0 lists.1 c at kind r.at r.bytes)
+  marked_go r x kind e g h =
+      ap (λ (y : Directive). goes_on r y) e ∙ rw h refl
+      ∙ ap (λ (n : ℕ). given outer r as_item (d.marked_braces lists.0 lists.1 c at kind n r.bytes)) (sym g)
+
+  pub marked_bad : (r : Left) (kind : BraceKind) (b : ℕ) → Some b ≡ first_of r.bytes → (b == ascii.opening_brace) ≡ false
+      → given outer r as_item (d.marked_braces lists.0 lists.1 c at kind r.at r.bytes) ≡ Err (BadDirective at)
+  marked_bad r kind b e g =
+      ap (λ bs. given outer r as_item (d.marked_braces lists.0 lists.1 c at kind r.at bs)) (some_left r.bytes b e) ∙ rw g refl
+
+  pub marked_opens : (r r3 : Left) (kind : BraceKind) (b : ℕ) → Some b ≡ first_of r.bytes → b ≡ ascii.opening_brace → r3 ≡ after 1 r
+      → given outer r as_item (d.marked_braces lists.0 lists.1 c at kind r.at r.bytes)
+      ≡ item_given outer at (at_rest r3 v) (d.braces lists.0 lists.1 c at kind r3.at r3.bytes)
+  marked_opens r r3 kind b e g h =
+      ap (λ bs. given outer r as_item (d.marked_braces lists.0 lists.1 c at kind r.at bs))
+      (some_left r.bytes b e ∙ ap (λ x. x ∷ drop 1 r.bytes) g)
+      ∙ given_past outer r as_item 1 (d.braces lists.0 lists.1 c at kind (r.at + 1) (drop 1 r.bytes))
+      ∙ ap (λ (l : Left). given outer l as_item (d.braces lists.0 lists.1 c at kind l.at l.bytes)) (sym h)

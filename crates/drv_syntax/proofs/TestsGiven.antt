@@ -1,0 +1,265 @@
+use Rattle.drv_words.specs.Bytes as ascii
+use Rattle.drv_words.specs.Gives.{Gives}
+use Rattle.drv_syntax.proofs.GivenParts.{given_stops, ok_same, some_left}
+use Rattle.drv_syntax.proofs.Writing.{after_after, after_none, given_past}
+use Rattle.drv_syntax.specs.Bytes.{is_mark, is_white, is_word}
+use Rattle.drv_syntax.specs.Code.Left.{Left, after, begins_with, first_of, past_byte}
+use Rattle.drv_syntax.specs.Code.Tests.{after_given, mark_form, marked_as, operand_given, operand_of, pattern_given, spaced, tried_given}
+use Rattle.drv_syntax.specs.Code.Tests.{tried_seen}
+use Rattle.drv_syntax.specs.Code.Writing.{Parts, Reading, at_rest, given, is_empty, open_at, quoted_to}
+use Rattle.drv_syntax.specs.Contexts.{ListContext}
+use Rattle.drv_syntax.specs.Descent as d
+use Rattle.drv_syntax.specs.Descent.{Ends, Hangs, Lists, Operand, Quoted, Read, Run, Stops, Took, mark_end, mark_text, past}
+use Rattle.drv_syntax.specs.Descent.{pattern_at, quoted, switch_operand, then_read, with_byte}
+use Rattle.drv_syntax.specs.Refusals.{Order, may_emit}
+use Rattle.drv_syntax.specs.Spelling.{span}
+use Rattle.drv_syntax.specs.declared.descent.parts.Choice.{Choice}
+use Rattle.drv_syntax.specs.declared.descent.tests.Asked.{Asked}
+use Rattle.drv_syntax.specs.declared.descent.tests.MarkForm.TheVariants as marks
+use Rattle.drv_syntax.specs.declared.descent.tests.MarkForm.{MarkForm}
+use Rattle.drv_syntax.specs.declared.descent.tests.Next.{Next}
+use Rattle.drv_syntax.specs.declared.fault.SyntaxFault.TheVariants.{BadDirective, EmptyTest, Unclosed}
+use Rattle.drv_syntax.specs.declared.fault.SyntaxFault.{SyntaxFault}
+use Rattle.std.proofs.Common.{◌≡◌, ◌∙◌, ◌+◌, Bool, false, true, if◌then◌else◌, List, [], ◌∷◌, ap, arith, drop, refl, subst, sym, ℕ}
+use Rattle.std.specs.List.{prefix_len}
+use Rattle.std.specs.Prelude.{◌==◌, Err, None, Ok, Option, Result, Some}
+
+-- What is given of the tests of braces. It serves the reader's `plain_operand`, `plain_test` and what they call.
+
+pub gives_same : {X Y : Type 0} (memory : SyntaxFault) (view : X → Y) (result : Result X SyntaxFault) (a b : Result Y SyntaxFault)
+    → a ≡ b → Gives memory view result b → Gives memory view result a
+gives_same memory view result a b e h = subst (λ x. Gives memory view result x) (sym e) h
+
+-- a run without a byte has none of the text
+quoted_none : (f : ℕ → Bool) (text : List ℕ) (size : ℕ) → quoted f text ≡ Run [] size → size ≡ 0
+quoted_none f [] size e =
+    let p : 0 ≡ size = cc in
+    sym p
+quoted_none f (b ∷ []) size e = by (b == ascii.backslash) (f b) e
+  where
+    by : (t u : Bool) → (if t then Hangs 0 else if u then Run (b ∷ []) 1 else Run [] 0) ≡ Run [] size → size ≡ 0
+    by true u g = absurd cc
+    by false true g = absurd cc
+    by false false g =
+        let p : 0 ≡ size = cc in
+        sym p
+quoted_none f (b ∷ c ∷ text) size e = by (b == ascii.backslash) (f b) (quoted f text) (quoted f (c ∷ text)) e
+  where
+    by : (t u : Bool) (q r : Quoted) → (if t then with_byte c 2 q else if u then with_byte b 1 r else Run [] 0) ≡ Run [] size → size ≡ 0
+    by true u (Run w k) r g = absurd cc
+    by true u (Hangs k) r g = absurd cc
+    by false true q (Run w k) g = absurd cc
+    by false true q (Hangs k) g = absurd cc
+    by false false q r g =
+        let p : 0 ≡ size = cc in
+        sym p
+
+-- after a mark
+
+abbrev form_then : {Z : Type 0} → Result MarkForm SyntaxFault → (MarkForm → Z) → Result Z SyntaxFault
+form_then (Ok form) f = Ok (f form)
+form_then (Err fault) f = Err fault
+
+module _ (outer : Option ℕ) (at : ℕ) (emits : Bool) (mark : ℕ) (v : Reading) where
+  abbrev as_operand : Operand → Left → Operand × Reading
+  as_operand o l = (o, at_rest l v)
+
+  abbrev marked_reads : Result (Operand × Reading) SyntaxFault
+  marked_reads = operand_given outer v (mark_text at emits mark v.rest.at (quoted is_word v.rest.bytes) v.rest.bytes)
+
+  mark_shift : (n : ℕ) (rest : Left) (w : List ℕ) (size : ℕ) (bs : List ℕ) → (w ≡ [] → size ≡ 0)
+      → given outer rest as_operand (mark_end at emits mark n w size bs)
+      ≡ given outer (after size rest) as_operand (mark_end at emits mark n w 0 bs)
+  mark_shift n rest [] size [] h = refl
+  mark_shift n rest (x ∷ w) size [] h =
+      ap (λ (r : Left). Ok (as_operand (d.marked_operand mark (x ∷ w)) r)) (sym (after_none (after size rest)))
+  mark_shift n rest [] size (b ∷ bs) h =
+      let zero : size ≡ 0 = h refl in
+      ap (λ (r : Left). given outer r as_operand (mark_end at emits mark n [] 0 (b ∷ bs))) (sym (after_none rest))
+      ∙ ap (λ (i : ℕ). given outer (after i rest) as_operand (mark_end at emits mark n [] 0 (b ∷ bs))) (sym zero)
+  mark_shift n rest (x ∷ w) size (b ∷ bs) h = by (b == ascii.asterisk) emits
+    where
+      by : (t u : Bool)
+          → given outer rest as_operand
+          (if t then (if u then Took (d.starred_operand mark (x ∷ w)) (size + 1) else Stops (n + size) (BadDirective at))
+          else Took (d.marked_operand mark (x ∷ w)) size)
+          ≡ given outer (after size rest) as_operand
+          (if t then (if u then Took (d.starred_operand mark (x ∷ w)) (0 + 1) else Stops (n + 0) (BadDirective at))
+          else Took (d.marked_operand mark (x ∷ w)) 0)
+      by true true = ap (λ (r : Left). Ok (as_operand (d.starred_operand mark (x ∷ w)) r)) (after_after size 1 rest)
+      by true false = refl
+      by false u = ap (λ (r : Left). Ok (as_operand (d.marked_operand mark (x ∷ w)) r)) (sym (after_none (after size rest)))
+
+  mark_took : (u : Reading) (q : Quoted) (word : List ℕ) → ((w : List ℕ) (size : ℕ) → q ≡ Run w size → w ≡ [] → size ≡ 0)
+      → quoted_to [] v q ≡ (Some word, u)
+      → operand_given outer v (mark_text at emits mark v.rest.at q v.rest.bytes)
+      ≡ given outer u.rest as_operand (mark_end at emits mark v.rest.at word 0 u.rest.bytes)
+  mark_took u (Run w size) word full e =
+      let p : Some w ≡ Some word = ap (λ (z : Option (List ℕ) × Reading). z.0) e in
+      let same : w ≡ word = cc in
+      let r : after size v.rest ≡ u.rest = ap (λ (z : Option (List ℕ) × Reading). z.1.rest) e in
+      mark_shift v.rest.at v.rest w size (drop size v.rest.bytes) (full w size refl)
+      ∙ ap (λ (x : List ℕ). given outer (after size v.rest) as_operand (mark_end at emits mark v.rest.at x 0 (drop size v.rest.bytes))) same
+      ∙ ap (λ (l : Left). given outer l as_operand (mark_end at emits mark v.rest.at word 0 l.bytes)) r
+  mark_took u (Hangs size) word full e =
+      let n : None ≡ Some word = ap (λ (z : Option (List ℕ) × Reading). z.0) e in
+      absurd cc
+
+  mark_ends : (n : ℕ) (rest : Left) (word : List ℕ)
+      → given outer rest as_operand (mark_end at emits mark n word 0 rest.bytes)
+      ≡ form_then (mark_form outer at emits (is_empty word) (first_of rest.bytes))
+      (λ form. as_operand (operand_of (marked_as form mark) word) (past_byte ascii.asterisk rest))
+  mark_ends n rest word = by word rest.bytes
+    where
+      bare : (t e x y z : Bool)
+          → given outer rest as_operand (if e then (if t then Took (d.starred_operand mark []) 1 else if x then Took (d.bare_operand mark) 0
+          else if y then Took (d.bare_operand mark) 0 else if z then Took (d.bare_operand mark) 0 else Stops n (EmptyTest at))
+          else Stops n (EmptyTest at))
+          ≡ form_then (if t then (if e then Ok marks.Star else Err (EmptyTest at)) else if e then (if x then Ok marks.Bare
+          else if y then Ok marks.Bare else if z then Ok marks.Bare else Err (EmptyTest at)) else Err (EmptyTest at))
+          (λ form. as_operand (operand_of (marked_as form mark) []) (if t then after 1 rest else rest))
+      bare true true x y z = refl
+      bare true false x y z = refl
+      bare false false x y z = refl
+      bare false true true y z = ap (λ (r : Left). Ok (as_operand (d.bare_operand mark) r)) (after_none rest)
+      bare false true false true z = ap (λ (r : Left). Ok (as_operand (d.bare_operand mark) r)) (after_none rest)
+      bare false true false false true = ap (λ (r : Left). Ok (as_operand (d.bare_operand mark) r)) (after_none rest)
+      bare false true false false false = refl
+
+      some : (x : ℕ) (w : List ℕ) (t e : Bool)
+          → given outer rest as_operand
+          (if t then (if e then Took (d.starred_operand mark (x ∷ w)) (0 + 1) else Stops (n + 0) (BadDirective at))
+          else Took (d.marked_operand mark (x ∷ w)) 0)
+          ≡ form_then (if t then (if e then Ok marks.Star else Err (BadDirective at)) else Ok marks.Word)
+          (λ form. as_operand (operand_of (marked_as form mark) (x ∷ w)) (if t then after 1 rest else rest))
+      some x w true true = refl
+      some x w true false = refl
+      some x w false e = ap (λ (r : Left). Ok (as_operand (d.marked_operand mark (x ∷ w)) r)) (after_none rest)
+
+      by : (w bs : List ℕ) → given outer rest as_operand (mark_end at emits mark n w 0 bs)
+          ≡ form_then (mark_form outer at emits (is_empty w) (first_of bs))
+          (λ form. as_operand (operand_of (marked_as form mark) w) (if begins_with ascii.asterisk bs then after 1 rest else rest))
+      by [] [] = refl
+      by (x ∷ w) [] = ap (λ (r : Left). Ok (as_operand (d.marked_operand mark (x ∷ w)) r)) (after_none rest)
+      by [] (b ∷ bs) = bare (b == ascii.asterisk) emits (b == ascii.closing_brace) (b == ascii.ampersand) (is_white b)
+      by (x ∷ w) (b ∷ bs) = some x w (b == ascii.asterisk) emits
+
+  pub marked_hung : (u : Reading) → quoted_to [] v (quoted is_word v.rest.bytes) ≡ (None, u)
+      → marked_reads ≡ Err (Unclosed (open_at outer at))
+  marked_hung u e = by (quoted is_word v.rest.bytes) e
+    where
+      by : (q : Quoted) → quoted_to [] v q ≡ (None, u) → operand_given outer v (mark_text at emits mark v.rest.at q v.rest.bytes)
+          ≡ Err (Unclosed (open_at outer at))
+      by (Hangs size) g = refl
+      by (Run w size) g =
+          let n : Some w ≡ None = ap (λ (z : Option (List ℕ) × Reading). z.0) g in
+          absurd cc
+
+  marked_at : (u : Reading) (word : List ℕ) (none : Bool) (first : Option ℕ) → quoted_to [] v (quoted is_word v.rest.bytes) ≡ (Some word, u)
+      → none ≡ is_empty word → first ≡ first_of u.rest.bytes
+      → marked_reads ≡ form_then (mark_form outer at emits none first)
+      (λ form. as_operand (operand_of (marked_as form mark) word) (past_byte ascii.asterisk u.rest))
+  marked_at u word none first q g h =
+      mark_took u (quoted is_word v.rest.bytes) word (λ w size e z. quoted_none is_word v.rest.bytes size (e ∙ ap (λ x. Run x size) z)) q
+      ∙ mark_ends v.rest.at u.rest word
+      ∙ ap (λ x. form_then (mark_form outer at emits x (first_of u.rest.bytes))
+      (λ form. as_operand (operand_of (marked_as form mark) word) (past_byte ascii.asterisk u.rest))) (sym g)
+      ∙ ap (λ x. form_then (mark_form outer at emits none x)
+      (λ form. as_operand (operand_of (marked_as form mark) word) (past_byte ascii.asterisk u.rest))) (sym h)
+
+  pub marked_stops : (u : Reading) (word : List ℕ) (none : Bool) (first : Option ℕ) (e : SyntaxFault)
+      → quoted_to [] v (quoted is_word v.rest.bytes) ≡ (Some word, u)
+      → none ≡ is_empty word → first ≡ first_of u.rest.bytes → mark_form outer at emits none first ≡ Err e → marked_reads ≡ Err e
+  marked_stops u word none first e q g h k =
+      marked_at u word none first q g h
+      ∙ ap (λ x. form_then x (λ form. as_operand (operand_of (marked_as form mark) word) (past_byte ascii.asterisk u.rest))) k
+
+  pub marked_done : (u : Reading) (word : List ℕ) (none : Bool) (first : Option ℕ) (form : MarkForm) (asked : Asked) (end : Left)
+      → quoted_to [] v (quoted is_word v.rest.bytes) ≡ (Some word, u)
+      → none ≡ is_empty word → first ≡ first_of u.rest.bytes → mark_form outer at emits none first ≡ Ok form → asked ≡ marked_as form mark
+      → end ≡ past_byte ascii.asterisk u.rest → v.parts ≡ u.parts → marked_reads ≡ Ok (operand_of asked word, at_rest end u)
+  marked_done u word none first form asked end q g h k l m p =
+      marked_at u word none first q g h
+      ∙ ap (λ x. form_then x (λ f. as_operand (operand_of (marked_as f mark) word) (past_byte ascii.asterisk u.rest))) k
+      ∙ ap (λ (a : Asked). Ok (as_operand (operand_of a word) (past_byte ascii.asterisk u.rest))) (sym l)
+      ∙ ap (λ (r : Left). Ok (as_operand (operand_of asked word) r)) (sym m)
+      ∙ ap (λ (z : Parts). Ok (operand_of asked word, record { rest = end; parts = z })) p
+
+-- what a test asks that asks for no function's result
+
+module _ (deep : Lists) (c : ListContext) (outer : Option ℕ) (at : ℕ) (emits : Bool) (v : Reading) (b : ℕ)
+    (is : first_of v.rest.bytes ≡ Some b) where
+  abbrev asked_reads : List ℕ → Result (Operand × Reading) SyntaxFault
+  asked_reads bs = operand_given outer v (d.asked deep c at emits v.rest.at bs)
+
+  pub asked_mark : (rest : Left) → is_mark b ≡ true → rest ≡ after 1 v.rest
+      → asked_reads v.rest.bytes ≡ operand_given outer (at_rest rest v)
+      (mark_text at emits b rest.at (quoted is_word rest.bytes) rest.bytes)
+  asked_mark rest e g =
+      ap (λ bs. asked_reads bs) (some_left v.rest.bytes b (sym is))
+      ∙ rw e refl
+      ∙ given_past outer v.rest (λ o l. (o, at_rest l v)) 1
+      (mark_text at emits b (v.rest.at + 1) (quoted is_word (drop 1 v.rest.bytes)) (drop 1 v.rest.bytes))
+      ∙ ap (λ (r : Left). operand_given outer (at_rest r v) (mark_text at emits b r.at (quoted is_word r.bytes) r.bytes)) (sym g)
+
+  asked_switch : is_mark b ≡ false → (b == ascii.percent) ≡ false
+      → asked_reads v.rest.bytes ≡ operand_given outer v (then_read (pattern_at at v.rest.at v.rest.bytes)
+      (λ p size. Took (switch_operand p) size))
+  asked_switch e g =
+      ap (λ bs. asked_reads bs) (some_left v.rest.bytes b (sym is))
+      ∙ rw (e, g) refl
+      ∙ ap (λ bs. operand_given outer v (then_read (pattern_at at v.rest.at bs) (λ p size. Took (switch_operand p) size)))
+      (sym (some_left v.rest.bytes b (sym is)))
+
+  pub switch_stops : (fault : SyntaxFault) → is_mark b ≡ false → (b == ascii.percent) ≡ false
+      → pattern_given outer v (pattern_at at v.rest.at v.rest.bytes) ≡ Err fault → asked_reads v.rest.bytes ≡ Err fault
+  switch_stops fault e g h =
+      asked_switch e g
+      ∙ given_stops outer v.rest (λ p l. (p, at_rest l v)) (λ o l. (o, at_rest l v)) (pattern_at at v.rest.at v.rest.bytes)
+      (λ p size. Took (switch_operand p) size) fault h
+
+-- a test and the byte after it
+
+module _ (deep : Lists) (c : ListContext) (outer : Option ℕ) (at : ℕ) (order : Order) (so_far : Option Choice) (start : ℕ) (negated : Bool)
+    (v : Reading) where
+  abbrev tried_at : Operand → Reading → List ℕ → Result (Next × Reading) SyntaxFault
+  tried_at o u [] = Err (Unclosed (open_at outer at))
+  tried_at o u (b ∷ text) = after_given so_far (at_rest (spaced u.rest) u) (d.after at order (tried_seen start u.rest.at negated o b))
+
+  tried_from : (o : Operand) (u : Reading) (r : Read Operand) → operand_given outer v r ≡ Ok (o, u)
+      → tried_given outer at order so_far v
+      (then_read r (λ operand k. past k (d.ended at (span start (v.rest.at + k)) negated operand (drop k v.rest.bytes))))
+      ≡ tried_at o u (spaced u.rest).bytes
+  tried_from o u (Ends n) h = absurd cc
+  tried_from o u (Stops n fault) h = absurd cc
+  tried_from o u (Took operand k) h =
+      let p : ◌≡◌ {A = Operand × Reading} (operand, at_rest (after k v.rest) v) (o, u) = ok_same h in
+      by (drop white (drop k v.rest.bytes))
+      ∙ ap (λ z. tried_at z.0 z.1 (spaced z.1.rest).bytes) p
+    where
+      white : ℕ
+      white = prefix_len is_white (drop k v.rest.bytes)
+
+      rest : after (k + (white + 0)) v.rest ≡ after white (after k v.rest)
+      rest =
+          let i : white + 0 ≡ white = omega arith in
+          ap (λ (j : ℕ). after (k + j) v.rest) i ∙ after_after k white v.rest
+
+      by : (bs : List ℕ)
+          → tried_given outer at order so_far v (past k (past white (d.end_byte at (span start (v.rest.at + k)) negated operand bs)))
+          ≡ tried_at operand (at_rest (after k v.rest) v) bs
+      by [] = refl
+      by (b ∷ bs) = ap (λ (r : Left). after_given so_far (at_rest r v)
+          (d.after at order (tried_seen start (v.rest.at + k) negated operand b))) rest
+
+  pub tried_some : (emits : Bool) (o : Operand) (u : Reading) (rest : Left) (end b : ℕ) → emits ≡ may_emit order negated
+      → operand_given outer v (d.asked deep c at emits v.rest.at v.rest.bytes) ≡ Ok (o, u) → rest ≡ spaced u.rest → end ≡ u.rest.at
+      → Some b ≡ first_of rest.bytes
+      → tried_given outer at order so_far v (d.asked_from deep c at order start negated v.rest.at v.rest.bytes)
+      ≡ after_given so_far (at_rest rest u) (d.after at order (tried_seen start end negated o b))
+  tried_some emits o u rest end b e h g k f =
+      tried_from o u (d.asked deep c at (may_emit order negated) v.rest.at v.rest.bytes)
+      (ap (λ (t : Bool). operand_given outer v (d.asked deep c at t v.rest.at v.rest.bytes)) (sym e) ∙ h)
+      ∙ ap (λ (bs : List ℕ). tried_at o u bs) (ap (λ (r : Left). r.bytes) (sym g) ∙ some_left rest.bytes b f)
+      ∙ ap (λ (r : Left). after_given so_far (at_rest r u) (d.after at order (tried_seen start u.rest.at negated o b))) (sym g)
+      ∙ ap (λ (i : ℕ). after_given so_far (at_rest rest u) (d.after at order (tried_seen start i negated o b))) (sym k)

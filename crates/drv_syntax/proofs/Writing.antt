@@ -1,0 +1,429 @@
+use Rattle.drv_words.specs.Bytes as ascii
+use Rattle.drv_syntax.proofs.Leads.{same}
+use Rattle.drv_syntax.specs.Bytes.{is_name_byte}
+use Rattle.drv_syntax.specs.Code.Left.{Left, after}
+use Rattle.drv_syntax.specs.Code.Tokens.{whole_token}
+use Rattle.drv_syntax.specs.Code.Writing.{Parts, Reading, at_rest, given, in_class, item_given, item_written}
+use Rattle.drv_syntax.specs.Code.Left.{begins_with}
+use Rattle.drv_syntax.specs.Code.Left.{first_of}
+use Rattle.drv_syntax.specs.Code.Writing.{leaf_here, leafed, open_at, quoted_to, runs_in, wrote}
+use Rattle.drv_syntax.specs.Code.Left.{second_of}
+use Rattle.drv_syntax.specs.Descent.{Ends, Hangs, Quoted, Read, Run, Stops, Took, name_end, name_from, past, quoted, with_byte}
+use Rattle.drv_syntax.specs.Labels.{Label, no_node, node, word_label}
+use Rattle.drv_syntax.specs.Spelling.{span}
+use Rattle.drv_syntax.specs.Tree.{Item}
+use Rattle.drv_syntax.specs.declared.descent.words.Class.{Class}
+use Rattle.drv_syntax.specs.declared.fault.SyntaxFault.TheVariants.{BadDirective, Unclosed}
+use Rattle.drv_syntax.specs.declared.fault.SyntaxFault.{SyntaxFault}
+use Rattle.drv_syntax.specs.declared.token.Token.{Token}
+use Rattle.drv_syntax.specs.declared.token.TokenKind.TheVariants as kinds
+use Rattle.drv_syntax.specs.declared.token.TokenKind.{TokenKind}
+use Rattle.std.proofs.Common.{◌≡◌, ◌∙◌, ◌+◌, ◌++◌, ◌<◌, ◌≤◌, Bool, false, true, if◌then◌else◌, List, [], ◌∷◌, ap, append-nil, append_assoc}
+use Rattle.std.proofs.Common.{arith}
+use Rattle.std.proofs.Common.{drop, drop-drop, length, length-append, refl, subst, suc, sym, take, zero, ℕ}
+use Rattle.std.proofs.lemmas.Bool.Decides.{nat_tests}
+use Rattle.std.specs.List.{prefix_len}
+use Rattle.std.specs.Prelude.{◌==◌, ◌||◌, Err, None, Ok, Option, Result, Some, nat_le}
+
+-- What is written of a part, where the grammar as functions reads it. It serves the reader's leaves: suffixes, options, names and words.
+
+pub after_after : (k size : ℕ) (r : Left) → after (k + size) r ≡ after size (after k r)
+after_after k size r =
+    let e : r.at + (k + size) ≡ r.at + k + size = omega arith in
+    ap (λ (i : ℕ). record { at = i; bytes = drop (k + size) r.bytes }) e
+    ∙ ap (λ (bs : List ℕ). record { at = r.at + k + size; bytes = bs }) (sym (drop-drop size k r.bytes))
+
+pub after_none : (r : Left) → after 0 r ≡ r
+after_none r =
+    let e : r.at + 0 ≡ r.at = omega arith in
+    ap (λ (i : ℕ). record { at = i; bytes = r.bytes }) e
+
+pub given_past : {X Y : Type 0} (outer : Option ℕ) (rest : Left) (f : X → Left → Y) (k : ℕ) (r : Read X)
+    → given outer rest f (past k r) ≡ given outer (after k rest) f r
+given_past outer rest f k (Took x size) = ap (λ (i : Left). Ok (f x i)) (after_after k size rest)
+given_past outer rest f k (Ends at) = refl
+given_past outer rest f k (Stops n fault) = refl
+
+-- words with escapes
+
+quoted_more : (f : ℕ → Bool) (b : ℕ) (text : List ℕ) → (b == ascii.backslash) ≡ false → f b ≡ true
+    → quoted f (b ∷ text) ≡ with_byte b 1 (quoted f text)
+quoted_more f b [] e g = rw (e, g) refl
+quoted_more f b (c ∷ text) e g = rw (e, g) refl
+
+quoted_stop : (f : ℕ → Bool) (b : ℕ) (text : List ℕ) → (b == ascii.backslash) ≡ false → f b ≡ false → quoted f (b ∷ text) ≡ Run [] 0
+quoted_stop f b [] e g = rw (e, g) refl
+quoted_stop f b (c ∷ text) e g = rw (e, g) refl
+
+abbrev found : List ℕ → Left → Reading → Option (List ℕ) × Reading
+found word rest v = (Some word, at_rest rest v)
+
+abbrev hangs : Left → Reading → Option (List ℕ) × Reading
+hangs rest v = (None, at_rest rest v)
+
+quoted_byte : (w : List ℕ) (v : Reading) (b k : ℕ) (q : Quoted)
+    → quoted_to w v (with_byte b k q) ≡ quoted_to (w ++ b ∷ []) (at_rest (after k v.rest) v) q
+quoted_byte w v b k (Run word size) =
+    ap (λ (x : List ℕ). found x (after (k + size) v.rest) v) (sym (append_assoc w (b ∷ []) word))
+    ∙ ap (λ (r : Left). found ((w ++ b ∷ []) ++ word) r v) (after_after k size v.rest)
+quoted_byte w v b k (Hangs size) = ap (λ (r : Left). hangs r v) (after_after k size v.rest)
+
+quoted_end : (w : List ℕ) (v : Reading) → quoted_to w v (Run [] 0) ≡ found w v.rest v
+quoted_end w v =
+    ap (λ (x : List ℕ). found x (after 0 v.rest) v) (append-nil w)
+    ∙ ap (λ (r : Left). found w r v) (after_none v.rest)
+
+pub escape_step : (class : Class) (w : List ℕ) (v : Reading) (b : ℕ) (text : List ℕ) → v.rest.bytes ≡ ascii.backslash ∷ b ∷ text
+    → quoted_to (w ++ b ∷ []) (at_rest (after 2 v.rest) v) (quoted (in_class class) (drop 2 v.rest.bytes))
+    ≡ quoted_to w v (quoted (in_class class) v.rest.bytes)
+escape_step class w v b text e =
+    ap (λ (bs : List ℕ). quoted_to (w ++ b ∷ []) (at_rest (after 2 v.rest) v) (quoted (in_class class) (drop 2 bs))) e
+    ∙ sym (quoted_byte w v b 2 (quoted (in_class class) text))
+    ∙ ap (λ (bs : List ℕ). quoted_to w v (quoted (in_class class) bs)) (sym e)
+
+pub plain_step : (class : Class) (w : List ℕ) (v : Reading) (b : ℕ) (text : List ℕ) → v.rest.bytes ≡ b ∷ text
+    → (b == ascii.backslash) ≡ false → in_class class b ≡ true
+    → quoted_to (w ++ b ∷ []) (at_rest (after 1 v.rest) v) (quoted (in_class class) (drop 1 v.rest.bytes))
+    ≡ quoted_to w v (quoted (in_class class) v.rest.bytes)
+plain_step class w v b text e g h =
+    ap (λ (bs : List ℕ). quoted_to (w ++ b ∷ []) (at_rest (after 1 v.rest) v) (quoted (in_class class) (drop 1 bs))) e
+    ∙ sym (quoted_byte w v b 1 (quoted (in_class class) text))
+    ∙ ap (λ (q : Quoted). quoted_to w v q) (sym (quoted_more (in_class class) b text g h))
+    ∙ ap (λ (bs : List ℕ). quoted_to w v (quoted (in_class class) bs)) (sym e)
+
+-- a run without escapes
+
+no_backslash : (class : Class) (b : ℕ) → runs_in class b ≡ true → (b == ascii.backslash) ≡ false
+no_backslash class b e = by (b == ascii.backslash) refl e
+  where
+    by : (t : Bool) → (b == ascii.backslash) ≡ t → (if t then false else in_class class b) ≡ true → (b == ascii.backslash) ≡ false
+    by true g h = absurd cc
+    by false g h = g
+
+of_class : (class : Class) (b : ℕ) (t : Bool) → (b == ascii.backslash) ≡ false → runs_in class b ≡ t → in_class class b ≡ t
+of_class class b t e g = ap (λ (u : Bool). if u then false else in_class class b) (sym e) ∙ g
+
+run_none : (class : Class) (w : List ℕ) (v : Reading) (text : List ℕ)
+    → quoted_to (w ++ []) (at_rest (after 0 v.rest) v) (quoted (in_class class) text) ≡ quoted_to w v (quoted (in_class class) text)
+run_none class w v text =
+    ap (λ (x : List ℕ). quoted_to x (at_rest (after 0 v.rest) v) (quoted (in_class class) text)) (append-nil w)
+    ∙ ap (λ (r : Left). quoted_to w (at_rest r v) (quoted (in_class class) text)) (after_none v.rest)
+
+one_more : (k : ℕ) → 1 + k ≡ suc k
+one_more k = omega arith
+
+run_from : (class : Class) (w : List ℕ) (v : Reading) (text : List ℕ)
+    → quoted_to (w ++ take (prefix_len (runs_in class) text) text) (at_rest (after (prefix_len (runs_in class) text) v.rest) v)
+    (quoted (in_class class) (drop (prefix_len (runs_in class) text) text))
+    ≡ quoted_to w v (quoted (in_class class) text)
+run_from class w v [] = run_none class w v []
+run_from class w v (b ∷ text) = by (runs_in class b) refl (run_from class (w ++ b ∷ []) (at_rest (after 1 v.rest) v) text)
+  where
+    k : ℕ
+    k = prefix_len (runs_in class) text
+
+    by : (t : Bool) → runs_in class b ≡ t
+        → quoted_to ((w ++ b ∷ []) ++ take k text) (at_rest (after k (after 1 v.rest)) v) (quoted (in_class class) (drop k text))
+        ≡ quoted_to (w ++ b ∷ []) (at_rest (after 1 v.rest) v) (quoted (in_class class) text)
+        → quoted_to (w ++ take (if t then 1 + k else 0) (b ∷ text)) (at_rest (after (if t then 1 + k else 0) v.rest) v)
+        (quoted (in_class class) (drop (if t then 1 + k else 0) (b ∷ text)))
+        ≡ quoted_to w v (quoted (in_class class) (b ∷ text))
+    by false e ih = run_none class w v (b ∷ text)
+    by true e ih =
+        ap (λ (i : ℕ). quoted_to (w ++ take i (b ∷ text)) (at_rest (after (1 + k) v.rest) v) (quoted (in_class class) (drop i (b ∷ text))))
+        (one_more k)
+        ∙ ap (λ (x : List ℕ). quoted_to x (at_rest (after (1 + k) v.rest) v) (quoted (in_class class) (drop k text)))
+        (sym (append_assoc w (b ∷ []) (take k text)))
+        ∙ ap (λ (r : Left). quoted_to ((w ++ b ∷ []) ++ take k text) (at_rest r v) (quoted (in_class class) (drop k text)))
+        (after_after 1 k v.rest)
+        ∙ ih
+        ∙ sym (quoted_byte w v b 1 (quoted (in_class class) text))
+        ∙ ap (λ (q : Quoted). quoted_to w v q)
+        (sym (quoted_more (in_class class) b text (no_backslash class b e) (of_class class b true (no_backslash class b e) e)))
+
+pub run_takes : (class : Class) (v : Reading) (k : ℕ) → k ≡ prefix_len (runs_in class) v.rest.bytes
+    → quoted_to (take k v.rest.bytes) (at_rest (after k v.rest) v) (quoted (in_class class) (drop k v.rest.bytes))
+    ≡ quoted_to [] v (quoted (in_class class) v.rest.bytes)
+run_takes class v k e =
+    ap (λ (i : ℕ). quoted_to (take i v.rest.bytes) (at_rest (after i v.rest) v) (quoted (in_class class) (drop i v.rest.bytes))) e
+    ∙ run_from class [] v v.rest.bytes
+
+run_stops : (class : Class) (text : List ℕ) → begins_with ascii.backslash (drop (prefix_len (runs_in class) text) text) ≡ false
+    → quoted (in_class class) (drop (prefix_len (runs_in class) text) text) ≡ Run [] 0
+run_stops class [] e = refl
+run_stops class (b ∷ text) e = by (runs_in class b) refl e (λ g. run_stops class text g)
+  where
+    k : ℕ
+    k = prefix_len (runs_in class) text
+
+    by : (t : Bool) → runs_in class b ≡ t → begins_with ascii.backslash (drop (if t then 1 + k else 0) (b ∷ text)) ≡ false
+        → (begins_with ascii.backslash (drop k text) ≡ false → quoted (in_class class) (drop k text) ≡ Run [] 0)
+        → quoted (in_class class) (drop (if t then 1 + k else 0) (b ∷ text)) ≡ Run [] 0
+    by true g h ih =
+        ap (λ (i : ℕ). quoted (in_class class) (drop i (b ∷ text))) (one_more k)
+        ∙ ih (ap (λ (i : ℕ). begins_with ascii.backslash (drop i (b ∷ text))) (sym (one_more k)) ∙ h)
+    by false g h ih = quoted_stop (in_class class) b text h (of_class class b false h g)
+
+-- a word without escapes
+pub run_is : (class : Class) (v : Reading) (k : ℕ) → k ≡ prefix_len (runs_in class) v.rest.bytes
+    → begins_with ascii.backslash (drop k v.rest.bytes) ≡ false
+    → quoted_to [] v (quoted (in_class class) v.rest.bytes) ≡ found (take k v.rest.bytes) (after k v.rest) v
+run_is class v k e g =
+    sym (run_takes class v k e)
+    ∙ ap (λ (q : Quoted). quoted_to (take k v.rest.bytes) (at_rest (after k v.rest) v) q) (stops k e g)
+    ∙ quoted_end (take k v.rest.bytes) (at_rest (after k v.rest) v)
+  where
+    stops : (i : ℕ) → i ≡ prefix_len (runs_in class) v.rest.bytes → begins_with ascii.backslash (drop i v.rest.bytes) ≡ false
+        → quoted (in_class class) (drop i v.rest.bytes) ≡ Run [] 0
+    stops i h s =
+        ap (λ (j : ℕ). quoted (in_class class) (drop j v.rest.bytes)) h
+        ∙ run_stops class v.rest.bytes (ap (λ (j : ℕ). begins_with ascii.backslash (drop j v.rest.bytes)) (sym h) ∙ s)
+
+pub run_found : (class : Class) (v : Reading) (k : ℕ) (run : List ℕ) (rest : Left) → k ≡ prefix_len (runs_in class) v.rest.bytes
+    → rest ≡ after k v.rest → run ≡ take k v.rest.bytes → begins_with ascii.backslash rest.bytes ≡ false
+    → quoted_to [] v (quoted (in_class class) v.rest.bytes) ≡ found run rest v
+run_found class v k run rest e f g h =
+    run_is class v k e (ap (λ (r : Left). begins_with ascii.backslash r.bytes) (sym f) ∙ h)
+    ∙ ap (λ (x : List ℕ). found x (after k v.rest) v) (sym g)
+    ∙ ap (λ (r : Left). found run r v) (sym f)
+
+pub run_goes : (class : Class) (v : Reading) (k : ℕ) (run : List ℕ) (rest : Left) → k ≡ prefix_len (runs_in class) v.rest.bytes
+    → rest ≡ after k v.rest → run ≡ take k v.rest.bytes
+    → quoted_to [] v (quoted (in_class class) v.rest.bytes) ≡ quoted_to run (at_rest rest v) (quoted (in_class class) rest.bytes)
+run_goes class v k run rest e f g =
+    sym (run_takes class v k e)
+    ∙ ap (λ (x : List ℕ). quoted_to x (at_rest (after k v.rest) v) (quoted (in_class class) (drop k v.rest.bytes))) (sym g)
+    ∙ ap (λ (r : Left). quoted_to run (at_rest r v) (quoted (in_class class) r.bytes)) (sym f)
+
+-- bytes that aren't the same
+pub differs : (b c : ℕ) → (b ≡ c → ⊥) → (b == c) ≡ false
+differs b c h = by (b == c) refl
+  where
+    by : (t : Bool) → (b == c) ≡ t → t ≡ false
+    by true e = absurd (h (same b c e))
+    by false e = refl
+
+-- a byte more of a word with escapes
+pub escape_kept : (class : Class) (w more : List ℕ) (v : Reading) (rest : Left) (b e : ℕ) (whole : Option (List ℕ) × Reading)
+    → first_of v.rest.bytes ≡ Some b → b ≡ ascii.backslash → second_of v.rest.bytes ≡ Some e
+    → more ≡ w ++ e ∷ [] → rest ≡ after 2 v.rest → quoted_to w v (quoted (in_class class) v.rest.bytes) ≡ whole
+    → quoted_to more (at_rest rest v) (quoted (in_class class) rest.bytes) ≡ whole
+escape_kept class w more v rest b e whole f g h i j k =
+    ap (λ (x : List ℕ). quoted_to x (at_rest rest v) (quoted (in_class class) rest.bytes)) i
+    ∙ ap (λ (r : Left). quoted_to (w ++ e ∷ []) (at_rest r v) (quoted (in_class class) r.bytes)) j
+    ∙ by v.rest.bytes refl f h
+    ∙ k
+  where
+    by : (bs : List ℕ) → v.rest.bytes ≡ bs → first_of bs ≡ Some b → second_of bs ≡ Some e
+        → quoted_to (w ++ e ∷ []) (at_rest (after 2 v.rest) v) (quoted (in_class class) (drop 2 v.rest.bytes))
+        ≡ quoted_to w v (quoted (in_class class) v.rest.bytes)
+    by [] is x y = absurd cc
+    by (c ∷ []) is x y = absurd cc
+    by (c ∷ d ∷ text) is x y =
+        let p : c ≡ b = cc in
+        let q : d ≡ e = cc in
+        escape_step class w v e text
+        (is ∙ ap (λ (z : ℕ). z ∷ d ∷ text) (p ∙ g) ∙ ap (λ (z : ℕ). ascii.backslash ∷ z ∷ text) q)
+
+pub plain_kept : (class : Class) (w more : List ℕ) (v : Reading) (rest : Left) (b : ℕ) (whole : Option (List ℕ) × Reading)
+    → first_of v.rest.bytes ≡ Some b → (b ≡ ascii.backslash → ⊥) → in_class class b ≡ true
+    → more ≡ w ++ b ∷ [] → rest ≡ after 1 v.rest → quoted_to w v (quoted (in_class class) v.rest.bytes) ≡ whole
+    → quoted_to more (at_rest rest v) (quoted (in_class class) rest.bytes) ≡ whole
+plain_kept class w more v rest b whole f g h i j k =
+    ap (λ (x : List ℕ). quoted_to x (at_rest rest v) (quoted (in_class class) rest.bytes)) i
+    ∙ ap (λ (r : Left). quoted_to (w ++ b ∷ []) (at_rest r v) (quoted (in_class class) r.bytes)) j
+    ∙ by v.rest.bytes refl f
+    ∙ k
+  where
+    by : (bs : List ℕ) → v.rest.bytes ≡ bs → first_of bs ≡ Some b
+        → quoted_to (w ++ b ∷ []) (at_rest (after 1 v.rest) v) (quoted (in_class class) (drop 1 v.rest.bytes))
+        ≡ quoted_to w v (quoted (in_class class) v.rest.bytes)
+    by [] is x = absurd cc
+    by (c ∷ text) is x =
+        let p : c ≡ b = cc in
+        plain_step class w v b text (is ∙ ap (λ (z : ℕ). z ∷ text) p) (differs b ascii.backslash g) h
+
+-- names
+
+within : (n m : ℕ) → n ≤ m → nat_le n m ≡ true
+within n m h = grind (arith, nat_tests)
+
+name_long_from : {Y : Type 0} (outer : Option ℕ) (rest : Left) (f : Item → Left → Y) (at n : ℕ) (p text : List ℕ) → length p ≤ 255
+    → 255 < length p + prefix_len is_name_byte text → given outer rest f (name_from at n p text) ≡ Err (BadDirective at)
+name_long_from outer rest f at n p [] h g = absurd (omega (arith, h, g))
+name_long_from outer rest f at n p (b ∷ text) h g =
+    by (is_name_byte b) (nat_le (length (p ++ b ∷ [])) 255) refl refl g
+    (λ i j. name_long_from outer (after 1 rest) f at (n + 1) (p ++ b ∷ []) text i j)
+  where
+    by : (t u : Bool) → is_name_byte b ≡ t → nat_le (length (p ++ b ∷ [])) 255 ≡ u
+        → 255 < length p + (if t then 1 + prefix_len is_name_byte text else 0)
+        → (length (p ++ b ∷ []) ≤ 255 → 255 < length (p ++ b ∷ []) + prefix_len is_name_byte text
+        → given outer (after 1 rest) f (name_from at (n + 1) (p ++ b ∷ []) text) ≡ Err (BadDirective at))
+        → given outer rest f (if t then (if u then past 1 (name_from at (n + 1) (p ++ b ∷ []) text) else Stops n (BadDirective at)) else
+        name_end at n p 0 (b ∷ text)) ≡ Err (BadDirective at)
+    by false u e d x ih = absurd (omega (arith, h, x))
+    by true false e d x ih = refl
+    by true true e d x ih =
+        let l : length (p ++ b ∷ []) ≤ 255 = grind (arith, nat_tests) in
+        given_past outer rest f 1 (name_from at (n + 1) (p ++ b ∷ []) text)
+        ∙ ih l (omega (arith, x, length-append p (b ∷ [])))
+
+name_short_from : {Y : Type 0} (outer : Option ℕ) (rest : Left) (f : Item → Left → Y) (at n : ℕ) (p text : List ℕ)
+    → length p + prefix_len is_name_byte text ≤ 255
+    → given outer rest f (name_from at n p text)
+    ≡ given outer (after (prefix_len is_name_byte text) rest) f
+    (name_end at (n + prefix_len is_name_byte text) (p ++ take (prefix_len is_name_byte text) text) 0
+    (drop (prefix_len is_name_byte text) text))
+name_short_from outer rest f at n p [] h = refl
+name_short_from outer rest f at n p (b ∷ text) h =
+    by (is_name_byte b) (nat_le (length (p ++ b ∷ [])) 255) refl refl h
+    (λ i. name_short_from outer (after 1 rest) f at (n + 1) (p ++ b ∷ []) text i)
+  where
+    k : ℕ
+    k = prefix_len is_name_byte text
+
+    by : (t u : Bool) → is_name_byte b ≡ t → nat_le (length (p ++ b ∷ [])) 255 ≡ u
+        → length p + (if t then 1 + k else 0) ≤ 255
+        → (length (p ++ b ∷ []) + k ≤ 255
+        → given outer (after 1 rest) f (name_from at (n + 1) (p ++ b ∷ []) text)
+        ≡ given outer (after k (after 1 rest)) f (name_end at (n + 1 + k) ((p ++ b ∷ []) ++ take k text) 0 (drop k text)))
+        → given outer rest f (if t then (if u then past 1 (name_from at (n + 1) (p ++ b ∷ []) text) else Stops n (BadDirective at)) else
+        name_end at n p 0 (b ∷ text))
+        ≡ given outer (after (if t then 1 + k else 0) rest) f
+        (name_end at (n + (if t then 1 + k else 0)) (p ++ take (if t then 1 + k else 0) (b ∷ text)) 0
+        (drop (if t then 1 + k else 0) (b ∷ text)))
+    by false u e d x ih =
+        let i : n ≡ n + 0 = omega arith in
+        ap (λ (j : ℕ). given outer rest f (name_end at j p 0 (b ∷ text))) i
+        ∙ ap (λ (q : List ℕ). given outer rest f (name_end at (n + 0) q 0 (b ∷ text))) (sym (append-nil p))
+        ∙ ap (λ (r : Left). given outer r f (name_end at (n + 0) (p ++ []) 0 (b ∷ text))) (sym (after_none rest))
+    by true false e d x ih =
+        let l : nat_le (length (p ++ b ∷ [])) 255 ≡ true = within (length (p ++ b ∷ [])) 255 (omega (arith, x, length-append p (b ∷ []))) in
+        absurd cc
+    by true true e d x ih =
+        let i : n + 1 + k ≡ n + (1 + k) = omega arith in
+        given_past outer rest f 1 (name_from at (n + 1) (p ++ b ∷ []) text)
+        ∙ ih (omega (arith, x, length-append p (b ∷ [])))
+        ∙ ap (λ (r : Left). given outer r f (name_end at (n + 1 + k) ((p ++ b ∷ []) ++ take k text) 0 (drop k text)))
+        (sym (after_after 1 k rest))
+        ∙ ap (λ (j : ℕ). given outer (after (1 + k) rest) f (name_end at j ((p ++ b ∷ []) ++ take k text) 0 (drop k text))) i
+        ∙ ap (λ (q : List ℕ). given outer (after (1 + k) rest) f (name_end at (n + (1 + k)) q 0 (drop k text)))
+        (append_assoc p (b ∷ []) (take k text))
+        ∙ ap (λ (j : ℕ). given outer (after (1 + k) rest) f (name_end at (n + (1 + k)) (p ++ take j (b ∷ text)) 0 (drop j (b ∷ text))))
+        (sym (one_more k))
+
+abbrev item_to : ℕ → Item → Left → Reading → Reading
+item_to start x r v = record { rest = r; parts = item_written start x r.at v.parts }
+
+pub name_long : (outer : Option ℕ) (at start : ℕ) (v : Reading) (k : ℕ) → k ≡ prefix_len is_name_byte v.rest.bytes → 255 < k
+    → item_given outer start v (name_from at v.rest.at [] v.rest.bytes) ≡ Err (BadDirective at)
+name_long outer at start v k e h = name_long_from outer v.rest (λ x r. item_to start x r v) at v.rest.at [] v.rest.bytes (omega arith)
+    (omega (arith, e, h))
+
+pub name_short : (outer : Option ℕ) (at start : ℕ) (v : Reading) (k : ℕ) (name : List ℕ) (rest : Left)
+    → k ≡ prefix_len is_name_byte v.rest.bytes → k ≤ 255 → rest ≡ after k v.rest → name ≡ take k v.rest.bytes
+    → item_given outer start v (name_from at v.rest.at [] v.rest.bytes)
+    ≡ item_given outer start (at_rest rest v) (name_end at rest.at name 0 rest.bytes)
+name_short outer at start v k name rest e h f g =
+    name_short_from outer v.rest (λ x r. item_to start x r v) at v.rest.at [] v.rest.bytes (omega (arith, e, h))
+    ∙ ap (λ (i : ℕ). item_given outer start (at_rest (after i v.rest) v)
+    (name_end at (v.rest.at + i) (take i v.rest.bytes) 0 (drop i v.rest.bytes))) (sym e)
+    ∙ ap (λ (q : List ℕ). item_given outer start (at_rest (after k v.rest) v) (name_end at (v.rest.at + k) q 0 (drop k v.rest.bytes)))
+    (sym g)
+    ∙ ap (λ (r : Left). item_given outer start (at_rest r v) (name_end at r.at name 0 r.bytes)) (sym f)
+
+-- an item without parts inside it
+
+pub or_none : (b : Bool) → (b || false) ≡ b
+or_none true = refl
+or_none false = refl
+
+abbrev parts_of : List Token → List Label → Bool → Parts
+parts_of tokens labels holds = record { tokens = tokens; labels = labels; holds = holds }
+
+pub leaf_is : (kind : TokenKind) (label : Label) (start end : ℕ) (z : Parts)
+    → wrote (node kind label (span start end) no_node no_node) false z ≡ leafed kind label start end z
+leaf_is kind label start end z =
+    let m : length z.tokens + 1 + 0 ≡ length z.tokens + 1 = omega arith in
+    ap (λ (i : ℕ). parts_of (z.tokens ++ whole_token kind start end i ∷ []) (z.labels ++ label ∷ []) (z.holds || false)) m
+    ∙ ap (λ (h : Bool). parts_of (z.tokens ++ whole_token kind start end (length z.tokens + 1) ∷ []) (z.labels ++ label ∷ []) h)
+    (or_none z.holds)
+
+-- after the name of a text
+
+module _ (outer : Option ℕ) (at start : ℕ) (v : Reading) (k : ℕ) (name : List ℕ) (rest : Left)
+    (whole : k ≡ prefix_len is_name_byte v.rest.bytes)
+    (short : k ≤ 255) (left : rest ≡ after k v.rest) (taken : name ≡ take k v.rest.bytes) where
+  abbrev ended : List ℕ → List ℕ → Result Reading SyntaxFault
+  ended word bytes = item_given outer start (at_rest rest v) (name_end at rest.at word 0 bytes)
+
+  pub name_cut : first_of rest.bytes ≡ None → item_given outer start v (name_from at v.rest.at [] v.rest.bytes)
+      ≡ Err (Unclosed (open_at outer at))
+  name_cut e = name_short outer at start v k name rest whole short left taken ∙ by rest.bytes e
+    where
+      by : (bs : List ℕ) → first_of bs ≡ None → ended name bs ≡ Err (Unclosed (open_at outer at))
+      by [] g = refl
+      by (c ∷ text) g = absurd cc
+
+  pub name_bad : (b : ℕ) → first_of rest.bytes ≡ Some b → (b ≡ ascii.closing_parenthesis → ⊥)
+      → item_given outer start v (name_from at v.rest.at [] v.rest.bytes) ≡ Err (BadDirective at)
+  name_bad b e g = name_short outer at start v k name rest whole short left taken ∙ by name rest.bytes e
+    where
+      other : (b == ascii.closing_parenthesis) ≡ false
+      other = differs b ascii.closing_parenthesis g
+
+      by : (q bs : List ℕ) → first_of bs ≡ Some b → ended q bs ≡ Err (BadDirective at)
+      by q [] h = absurd cc
+      by [] (c ∷ text) h = refl
+      by (x ∷ q) (c ∷ text) h =
+          let p : c ≡ b = cc in
+          ap (λ (i : ℕ). ended (x ∷ q) (i ∷ text)) p ∙ rw other refl
+
+  pub name_done : (b : ℕ) (end : Left) → end ≡ after 1 rest → first_of rest.bytes ≡ Some b → b ≡ ascii.closing_parenthesis → 0 < length name
+      → item_given outer start v (name_from at v.rest.at [] v.rest.bytes)
+      ≡ Ok (leaf_here kinds.NamedText (word_label name) start (at_rest end v))
+  name_done b end i e g l =
+      name_short outer at start v k name rest whole short left taken ∙ by name rest.bytes e l
+      ∙ ap (λ (r : Left). Ok (leaf_here kinds.NamedText (word_label name) start (at_rest r v))) (sym i)
+    where
+      by : (q bs : List ℕ) → first_of bs ≡ Some b → 0 < length q
+          → ended q bs ≡ Ok (leaf_here kinds.NamedText (word_label q) start (at_rest (after 1 rest) v))
+      by q [] h j = absurd cc
+      by [] (c ∷ text) h j = absurd (omega (arith, j))
+      by (x ∷ q) (c ∷ text) h j =
+          let p : c ≡ b = cc in
+          ap (λ (m : ℕ). ended (x ∷ q) (m ∷ text)) (p ∙ g)
+          ∙ ap (λ (z : Parts). Ok (record { rest = after 1 rest; parts = z }))
+          (leaf_is kinds.NamedText (word_label (x ∷ q)) start (rest.at + 1) v.parts)
+
+pub taken_some : (k : ℕ) (name bs : List ℕ) → name ≡ take k bs → k ≤ length bs → (k ≡ 0 → ⊥) → 0 < length name
+taken_some zero name bs e h g = absurd (g refl)
+taken_some (suc k) name [] e h g = absurd (omega (arith, h))
+taken_some (suc k) name (b ∷ bs) e h g =
+    let l : 0 < length (b ∷ take k bs) = omega arith in
+    subst (λ (q : List ℕ). 0 < length q) (sym e) l
+
+-- after a word
+
+word_in : Option (List ℕ) → List ℕ
+word_in None = []
+word_in (Some w) = w
+
+-- what goes on after a word goes on from there
+pub quoted_took : {X Y : Type 0} (outer : Option ℕ) (v u : Reading) (g : X → Left → Y) (q : Quoted) (word : List ℕ)
+    (goes : Quoted → Read X) (end : List ℕ → ℕ → List ℕ → Read X)
+    → ((w : List ℕ) (size : ℕ) → goes (Run w size) ≡ end w size (drop size v.rest.bytes))
+    → ((w : List ℕ) (size : ℕ) (bs : List ℕ) → given outer v.rest g (end w size bs) ≡ given outer (after size v.rest) g (end w 0 bs))
+    → quoted_to [] v q ≡ (Some word, u)
+    → given outer v.rest g (goes q) ≡ given outer u.rest g (end word 0 u.rest.bytes)
+unfolding word_in
+quoted_took outer v u g (Run w size) word goes end is shift e =
+    let p : w ≡ word = ap (λ (z : Option (List ℕ) × Reading). word_in z.0) e in
+    let r : after size v.rest ≡ u.rest = ap (λ (z : Option (List ℕ) × Reading). z.1.rest) e in
+    ap (λ x. given outer v.rest g x) (is w size)
+    ∙ shift w size (drop size v.rest.bytes)
+    ∙ ap (λ (x : List ℕ). given outer (after size v.rest) g (end x 0 (drop size v.rest.bytes))) p
+    ∙ ap (λ (l : Left). given outer l g (end word 0 l.bytes)) r
+quoted_took outer v u g (Hangs size) word goes end is shift e =
+    let n : None ≡ Some word = ap (λ (z : Option (List ℕ) × Reading). z.0) e in
+    absurd cc

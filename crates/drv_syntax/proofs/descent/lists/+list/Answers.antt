@@ -1,0 +1,582 @@
+use Rattle.drv_syntax.proofs.AskedResults.{asked_done, asked_stop}
+use Rattle.drv_syntax.proofs.ChoicesGiven.{choices_later_done, choices_later_stop, choices_patterns, choices_stop, choices_x_last}
+use Rattle.drv_syntax.proofs.ChoicesGiven.{choices_x_stop, colon_is}
+use Rattle.drv_syntax.proofs.ChoicesGiven.{default_bad, default_last, default_stop, later_less, later_patterns, later_stop, later_x_last}
+use Rattle.drv_syntax.proofs.ChoicesGiven.{later_x_more, later_x_stop}
+use Rattle.drv_syntax.proofs.FormsGiven.{bars_done, bars_stop, joins_done, joins_stop, more_at, more_never, more_stop, tests_at, tests_stop}
+use Rattle.drv_syntax.proofs.FormsGiven.{tried_smaller}
+use Rattle.drv_syntax.proofs.GivenParts.{err_gives, gives_err, ok_same, some_left}
+use Rattle.drv_syntax.proofs.HoldersGiven.{around_is, braces_done, call_done}
+use Rattle.drv_syntax.proofs.ListsGiven.{byte_goes, byte_shorter, byte_stops, directed_goes, directed_shorter, directed_stops, items_cut}
+use Rattle.drv_syntax.proofs.ListsGiven.{items_end, items_finish}
+use Rattle.drv_syntax.proofs.ListsGiven.{plains_go, plains_shorter}
+use Rattle.drv_syntax.proofs.PercentGiven.{braces_go, call_goes, marked_bad, marked_go, marked_opens, percent_opens, places, simple_goes}
+use Rattle.drv_syntax.proofs.ResultsGiven.{begun_first, deep_enough, result_bad, result_cut, result_done, result_stop, test_plain}
+use Rattle.drv_syntax.proofs.Writing.{differs}
+use Rattle.drv_syntax.proofs.descent.lists.+list.Goals as goal
+use Rattle.drv_syntax.specs.Code.Lists.{around, brace_given, closed_here, context_seen, listed_given, tail_at}
+use Rattle.drv_syntax.specs.Code.Tests.{order_seen}
+use Rattle.drv_syntax.specs.Code.Writing.{named_given, open_at, seen}
+use Rattle.drv_syntax.specs.Contexts.{in_arguments}
+use Rattle.drv_syntax.specs.Refusals.{AtBar, AtFront}
+use Rattle.drv_syntax.specs.Descent as descent
+use Rattle.drv_syntax.specs.declared.descent.tests.Next.TheVariants as nexts
+use Rattle.std.proofs.Common.{◌∙◌, [], ◌∷◌, false, true, ap, arith, drop, inr, refl, sym}
+use Rattle.std.specs.Prelude.{Err, Ok, Some}
+
+pub items-returns-in_default-clause-list : goal.items-returns-in_default-clause-list
+items-returns-in_default-clause-list t c =
+    sym c.loop-tail.invariant
+    ∙ plains_go (around c.args.c.levels).0 (around c.args.c.levels).1 (context_seen c.args.c) c.args.outer c.requires c.args.c.kind
+    c.loop-tail.tail c.in_ok-tail.tail (seen c.loop-tail.r) (seen c.plains.new.r) refl (ok_same c.in_ok-tail.ensures)
+    ∙ items_finish (around c.args.c.levels).0 (around c.args.c.levels).1 (context_seen c.args.c) c.args.outer c.requires c.in_ok-tail.tail
+    c.in_ok-last.last (seen c.plains.new.r) c.at.result c.in_default.ensures c.at.ensures.place (sym c.at_end.ensures ∙ c.in_ok-last.was)
+
+pub items-returns-in_err-last-clause-list : goal.items-returns-in_err-last-clause-list
+items-returns-in_err-last-clause-list t c =
+    err_gives _ c.in_err-last.field-0.0 _ c.from_residual-in_err-last.result _ c.from_residual-in_err-last.ensures.1
+    (sym c.loop-tail.invariant
+    ∙ plains_go (around c.args.c.levels).0 (around c.args.c.levels).1 (context_seen c.args.c) c.args.outer c.requires c.args.c.kind
+    c.loop-tail.tail c.in_ok-tail.tail (seen c.loop-tail.r) (seen c.plains.new.r) refl (ok_same c.in_ok-tail.ensures)
+    ∙ items_cut (around c.args.c.levels).0 (around c.args.c.levels).1 (context_seen c.args.c) c.args.outer c.requires c.in_ok-tail.tail
+    (seen c.plains.new.r) c.at.result c.in_err-last.field-0.0 c.in_default.ensures c.at.ensures.place
+    (sym c.at_end.ensures ∙ c.in_err-last.was))
+
+pub items-returns-then-ends_list-clause-list : goal.items-returns-then-ends_list-clause-list
+items-returns-then-ends_list-clause-list t c =
+    sym c.loop-tail.invariant
+    ∙ plains_go (around c.args.c.levels).0 (around c.args.c.levels).1 (context_seen c.args.c) c.args.outer c.requires c.args.c.kind
+    c.loop-tail.tail c.in_ok-tail.tail (seen c.loop-tail.r) (seen c.plains.new.r) refl (ok_same c.in_ok-tail.ensures)
+    ∙ items_end (around c.args.c.levels).0 (around c.args.c.levels).1 (context_seen c.args.c) c.args.outer c.requires c.in_ok-tail.tail
+    (seen c.plains.new.r) c.in-Some.b (drop 1 c.plains.new.r.rest.bytes) (some_left c.plains.new.r.rest.bytes c.in-Some.b c.in-Some.ensures)
+    (sym c.ends_list.ensures ∙ c.if-ends_list.true)
+    ∙ ap (λ x. Ok (x, (seen c.plains.new.r))) (sym c.with_end.ensures)
+
+pub items-returns-in_err-percent-clause-list : goal.items-returns-in_err-percent-clause-list
+items-returns-in_err-percent-clause-list t c =
+    gives_err _ c.in_err-percent.field-0.0 _ c.from_residual-in_err-percent.result _ _
+    (λ h. sym c.loop-tail.invariant
+    ∙ plains_go (around c.args.c.levels).0 (around c.args.c.levels).1 (context_seen c.args.c) c.args.outer c.requires c.args.c.kind
+    c.loop-tail.tail c.in_ok-tail.tail (seen c.loop-tail.r) (seen c.plains.new.r) refl (ok_same c.in_ok-tail.ensures)
+    ∙ directed_stops (around c.args.c.levels).0 (around c.args.c.levels).1 (context_seen c.args.c) c.args.outer c.requires c.in_ok-tail.tail
+    (seen c.plains.new.r) c.in_err-percent.field-0.0 (drop 1 c.plains.new.r.rest.bytes)
+    (some_left c.plains.new.r.rest.bytes c.in-Some.b c.in-Some.ensures
+    ∙ ap (λ x. x ∷ drop 1 c.plains.new.r.rest.bytes) c.if-b-eq37.true) h)
+    c.in_err-percent.ensures c.from_residual-in_err-percent.ensures.1
+
+pub items-loop-tail-smaller-then-b-eq37 : goal.items-loop-tail-smaller-then-b-eq37
+items-loop-tail-smaller-then-b-eq37 t c =
+    omega (
+      arith,
+      directed_shorter (around c.args.c.levels).0 (around c.args.c.levels).1 (context_seen c.args.c) c.args.outer c.requires
+          (seen c.plains.new.r) (seen c.percent.new.r) (drop 1 c.plains.new.r.rest.bytes)
+          (some_left c.plains.new.r.rest.bytes c.in-Some.b c.in-Some.ensures
+          ∙ ap (λ x. x ∷ drop 1 c.plains.new.r.rest.bytes) c.if-b-eq37.true) (c.in_ok-percent.ensures),
+      plains_shorter (around c.args.c.levels).0 (around c.args.c.levels).1 (context_seen c.args.c) c.args.outer c.requires c.args.c.kind
+          c.loop-tail.tail c.in_ok-tail.tail (seen c.loop-tail.r) (seen c.plains.new.r) (ok_same c.in_ok-tail.ensures),
+    )
+
+pub items-loop-tail-preserved-then-b-eq37 : goal.items-loop-tail-preserved-then-b-eq37
+items-loop-tail-preserved-then-b-eq37 t c =
+    ap (λ x. listed_given c.args.outer x (seen c.percent.new.r)
+    (descent.items_with (around c.args.c.levels).0 (around c.args.c.levels).1 (context_seen c.args.c) c.percent.new.r.rest.at 0
+    c.percent.new.r.rest.bytes))
+    c.ended-tail-then-b-eq37.ensures
+    ∙ sym (sym c.loop-tail.invariant
+    ∙ plains_go (around c.args.c.levels).0 (around c.args.c.levels).1 (context_seen c.args.c) c.args.outer c.requires c.args.c.kind
+    c.loop-tail.tail c.in_ok-tail.tail (seen c.loop-tail.r) (seen c.plains.new.r) refl (ok_same c.in_ok-tail.ensures)
+    ∙ directed_goes (around c.args.c.levels).0 (around c.args.c.levels).1 (context_seen c.args.c) c.args.outer c.requires c.in_ok-tail.tail
+    (seen c.plains.new.r) (seen c.percent.new.r) (drop 1 c.plains.new.r.rest.bytes)
+    (some_left c.plains.new.r.rest.bytes c.in-Some.b c.in-Some.ensures
+    ∙ ap (λ x. x ∷ drop 1 c.plains.new.r.rest.bytes) c.if-b-eq37.true) c.in_ok-percent.ensures)
+
+pub items-returns-in_err-tail-2-clause-list : goal.items-returns-in_err-tail-2-clause-list
+items-returns-in_err-tail-2-clause-list t c =
+    gives_err _ c.in_err-tail-2.field-0.0 _ c.from_residual-in_err-tail-2.result _ _
+    (λ h. sym c.loop-tail.invariant
+    ∙ plains_go (around c.args.c.levels).0 (around c.args.c.levels).1 (context_seen c.args.c) c.args.outer c.requires c.args.c.kind
+    c.loop-tail.tail c.in_ok-tail.tail (seen c.loop-tail.r) (seen c.plains.new.r) refl (ok_same c.in_ok-tail.ensures)
+    ∙ byte_stops (around c.args.c.levels).0 (around c.args.c.levels).1 (context_seen c.args.c) c.args.outer c.requires c.in_ok-tail.tail
+    (seen c.plains.new.r) c.in_err-tail-2.field-0.0 c.in-Some.b (drop 1 c.plains.new.r.rest.bytes)
+    (some_left c.plains.new.r.rest.bytes c.in-Some.b c.in-Some.ensures) (sym c.ends_list.ensures ∙ c.if-ends_list.false)
+    (differs c.in-Some.b 37 c.if-b-eq37.false) h)
+    c.in_err-tail-2.ensures c.from_residual-in_err-tail-2.ensures.1
+
+pub items-loop-tail-smaller : goal.items-loop-tail-smaller
+items-loop-tail-smaller t c =
+    omega (
+      arith,
+      byte_shorter (around c.args.c.levels).0 (around c.args.c.levels).1 (context_seen c.args.c) c.args.outer c.requires
+          c.args.c.in_arguments c.in_ok-tail.tail c.in_ok-tail-2.tail (seen c.plains.new.r) (seen c.item.new.r) c.in-Some.b
+          (drop 1 c.plains.new.r.rest.bytes) (some_left c.plains.new.r.rest.bytes c.in-Some.b c.in-Some.ensures) c.in_ok-tail-2.ensures,
+      plains_shorter (around c.args.c.levels).0 (around c.args.c.levels).1 (context_seen c.args.c) c.args.outer c.requires c.args.c.kind
+          c.loop-tail.tail c.in_ok-tail.tail (seen c.loop-tail.r) (seen c.plains.new.r) (ok_same c.in_ok-tail.ensures),
+    )
+
+pub items-loop-tail-preserved : goal.items-loop-tail-preserved
+items-loop-tail-preserved t c =
+    sym (sym c.loop-tail.invariant
+    ∙ plains_go (around c.args.c.levels).0 (around c.args.c.levels).1 (context_seen c.args.c) c.args.outer c.requires c.args.c.kind
+    c.loop-tail.tail c.in_ok-tail.tail (seen c.loop-tail.r) (seen c.plains.new.r) refl (ok_same c.in_ok-tail.ensures)
+    ∙ byte_goes (around c.args.c.levels).0 (around c.args.c.levels).1 (context_seen c.args.c) c.args.outer c.requires c.in_ok-tail.tail
+    c.in_ok-tail-2.tail (seen c.plains.new.r) (seen c.item.new.r) c.in-Some.b (drop 1 c.plains.new.r.rest.bytes)
+    (some_left c.plains.new.r.rest.bytes c.in-Some.b c.in-Some.ensures) (sym c.ends_list.ensures ∙ c.if-ends_list.false)
+    (differs c.in-Some.b 37 c.if-b-eq37.false) c.in_ok-tail-2.ensures)
+
+pub percent-returns-then-is_simple : goal.percent-returns-then-is_simple
+percent-returns-then-is_simple t c =
+    percent_opens (around c.args.c.levels) (context_seen c.args.c) c.args.outer (seen c.args.r.now) c.at-at.result c.in-Some.b
+    c.take.new.self c.take-2.new.self c.directive_of-d.result
+    c.at-at.ensures.place c.take.ensures.left c.in-Some.ensures (sym c.allows.ensures ∙ c.if-not-allows.false) c.take-2.ensures.left
+    c.directive_of-d.ensures
+    ∙ simple_goes (around c.args.c.levels) (context_seen c.args.c) c.args.outer (seen c.args.r.now) c.at-at.result c.take-2.new.self
+    c.directive_of-d.result (places (around c.args.c.levels) (context_seen c.args.c) c.args.outer (seen c.args.r.now) c.at-at.result
+    c.take.new.self c.take-2.new.self c.at-at.ensures.place c.take.ensures.left c.take-2.ensures.left)
+    (sym c.is_simple.ensures ∙ c.if-is_simple.true)
+    ∙ c.in_ok-directive.ensures
+
+pub braces-returns : goal.braces-returns
+braces-returns t c =
+    braces_done c.args.outer c.args.at c.args.kind (seen c.args.r.now) _ c.in_ok-inside.inside c.in_ok-part.part (seen c.open_unnamed.new.r)
+    (seen c.choices.new.r) (sym (ok_same c.in_ok-part.ensures.part))
+    (ap (λ r. brace_given c.args.outer (seen c.open_unnamed.new.r)
+    (descent.choices (around c.args.c.levels).0 (around c.args.c.levels).1 (context_seen c.args.c) c.args.at AtFront r.at 0 r.bytes))
+    (sym c.in_ok-part.ensures.rest) ∙ c.in_ok-inside.ensures)
+    ∙ ap (λ k. Ok (closed_here k c.in_ok-part.part c.choices.new.r.rest.at (seen c.choices.new.r))) (sym c.brace_token.ensures)
+    ∙ ap (λ x. Ok x) (sym c.close.ensures)
+
+pub call-returns : goal.call-returns
+call-returns t c =
+    call_done c.args.outer c.args.at (around c.args.c.levels).0 (context_seen c.args.c) (seen c.args.r.now) c.in_ok-name.name.now
+    (seen c.function.new.r)
+    (seen c.open.new.r) c.in_ok-part.part (seen c.items.new.r) c.in_ok-items.field-0 c.take.new.self
+    (ap (λ o. named_given o (seen c.args.r.now) (descent.function_from c.args.at c.args.r.now.rest.at [] c.args.r.now.rest.bytes))
+    (sym c.outermost-outer.ensures)
+    ∙ c.in_ok-name.ensures)
+    (sym (ok_same c.in_ok-part.ensures))
+    (ap (λ x. listed_given (Some (open_at c.args.outer c.args.at)) (tail_at (seen c.open.new.r)) (seen c.open.new.r) x)
+    (around_is c.args.c.levels c.requires (in_arguments (context_seen c.args.c)) c.open.new.r.rest.at c.open.new.r.rest.bytes
+    ∙ ap (λ x. (descent.levels x.levels).0 x c.open.new.r.rest.at c.open.new.r.rest.bytes) (sym c.in_arguments.ensures))
+    ∙ ap (λ o. listed_given o (tail_at (seen c.open.new.r)) (seen c.open.new.r)
+    ((descent.levels c.in_arguments.result.levels).0 (context_seen c.in_arguments.result) c.open.new.r.rest.at c.open.new.r.rest.bytes))
+    (sym c.outermost-outer.ensures)
+    ∙ c.in_ok-items.ensures.list)
+    c.take.ensures.left
+    ∙ ap (λ x. Ok x) (sym c.close.ensures)
+
+pub percent-returns-in_err-directive : goal.percent-returns-in_err-directive
+percent-returns-in_err-directive t c =
+    gives_err _ c.in_err-directive.field-0.0 _ c.from_residual.result _ _
+    (λ h. percent_opens (around c.args.c.levels) (context_seen c.args.c) c.args.outer (seen c.args.r.now) c.at-at.result c.in-Some.b
+    c.take.new.self c.take-2.new.self c.directive_of-d.result
+    c.at-at.ensures.place c.take.ensures.left c.in-Some.ensures (sym c.allows.ensures ∙ c.if-not-allows.false) c.take-2.ensures.left
+    c.directive_of-d.ensures
+    ∙ simple_goes (around c.args.c.levels) (context_seen c.args.c) c.args.outer (seen c.args.r.now) c.at-at.result c.take-2.new.self
+    c.directive_of-d.result (places (around c.args.c.levels) (context_seen c.args.c) c.args.outer (seen c.args.r.now) c.at-at.result
+    c.take.new.self c.take-2.new.self c.at-at.ensures.place c.take.ensures.left c.take-2.ensures.left)
+    (sym c.is_simple.ensures ∙ c.if-is_simple.true)
+    ∙ h)
+    c.in_err-directive.ensures c.from_residual.ensures.1
+
+pub percent-returns-in_err-call-in-WithCall : goal.percent-returns-in_err-call-in-WithCall
+percent-returns-in_err-call-in-WithCall t c =
+    gives_err _ c.in_err-call-in-WithCall.field-0.0 _ c.from_residual-in_err-call-in-WithCall.result _ _
+    (λ h. percent_opens (around c.args.c.levels) (context_seen c.args.c) c.args.outer (seen c.args.r.now) c.at-at.result c.in-Some.b
+    c.take.new.self c.take-2.new.self c.directive_of-d.result
+    c.at-at.ensures.place c.take.ensures.left c.in-Some.ensures (sym c.allows.ensures ∙ c.if-not-allows.false) c.take-2.ensures.left
+    c.directive_of-d.ensures
+    ∙ call_goes (around c.args.c.levels) (context_seen c.args.c) c.args.outer (seen c.args.r.now) c.at-at.result c.take-2.new.self
+    c.directive_of-d.result c.in-WithCall.is
+    (places (around c.args.c.levels) (context_seen c.args.c) c.args.outer (seen c.args.r.now) c.at-at.result c.take.new.self
+    c.take-2.new.self c.at-at.ensures.place c.take.ensures.left c.take-2.ensures.left) (differs c.args.c.levels 0 c.if-c-eq0.false)
+    ∙ h)
+    c.in_err-call-in-WithCall.ensures c.from_residual-in_err-call-in-WithCall.ensures.1
+
+pub percent-returns-in_err-braces-in-WithBraces : goal.percent-returns-in_err-braces-in-WithBraces
+percent-returns-in_err-braces-in-WithBraces t c =
+    gives_err _ c.in_err-braces-in-WithBraces.field-0.0 _ c.from_residual-in_err-braces-in-WithBraces.result _ _
+    (λ h. percent_opens (around c.args.c.levels) (context_seen c.args.c) c.args.outer (seen c.args.r.now) c.at-at.result c.in-Some.b
+    c.take.new.self c.take-2.new.self c.directive_of-d.result
+    c.at-at.ensures.place c.take.ensures.left c.in-Some.ensures (sym c.allows.ensures ∙ c.if-not-allows.false) c.take-2.ensures.left
+    c.directive_of-d.ensures
+    ∙ braces_go (around c.args.c.levels) (context_seen c.args.c) c.args.outer (seen c.args.r.now) c.at-at.result c.take-2.new.self
+    c.directive_of-d.result c.in-WithBraces.is
+    (places (around c.args.c.levels) (context_seen c.args.c) c.args.outer (seen c.args.r.now) c.at-at.result c.take.new.self
+    c.take-2.new.self c.at-at.ensures.place c.take.ensures.left c.take-2.ensures.left) (differs c.args.c.levels 0 c.if-c-eq0.false)
+    ∙ h)
+    c.in_err-braces-in-WithBraces.ensures c.from_residual-in_err-braces-in-WithBraces.ensures.1
+
+pub percent-returns-then-b-ne123 : goal.percent-returns-then-b-ne123
+percent-returns-then-b-ne123 t c =
+    inr (percent_opens (around c.args.c.levels) (context_seen c.args.c) c.args.outer (seen c.args.r.now) c.at-at.result c.in-Some.b
+    c.take.new.self c.take-2.new.self c.directive_of-d.result
+    c.at-at.ensures.place c.take.ensures.left c.in-Some.ensures (sym c.allows.ensures ∙ c.if-not-allows.false) c.take-2.ensures.left
+    c.directive_of-d.ensures
+    ∙ marked_go (around c.args.c.levels) (context_seen c.args.c) c.args.outer (seen c.args.r.now) c.at-at.result c.take-2.new.self
+    c.directive_of-d.result c.in-WithMarkedBraces.kind c.in-WithMarkedBraces.is
+    (places (around c.args.c.levels) (context_seen c.args.c) c.args.outer (seen c.args.r.now) c.at-at.result c.take.new.self
+    c.take-2.new.self c.at-at.ensures.place c.take.ensures.left c.take-2.ensures.left) (differs c.args.c.levels 0 c.if-c-eq0.false)
+    ∙ marked_bad (around c.args.c.levels) (context_seen c.args.c) c.args.outer (seen c.args.r.now) c.at-at.result c.take-2.new.self
+    c.in-WithMarkedBraces.kind c.in-Some-first.b c.in-Some-first.ensures (differs c.in-Some-first.b 123 c.if-b-ne123.true))
+
+pub percent-returns-in_err-braces-in-WithMarkedBraces : goal.percent-returns-in_err-braces-in-WithMarkedBraces
+percent-returns-in_err-braces-in-WithMarkedBraces t c =
+    gives_err _ c.in_err-braces-in-WithMarkedBraces.field-0.0 _ c.from_residual-in_err-braces-in-WithMarkedBraces.result _ _
+    (λ h. percent_opens (around c.args.c.levels) (context_seen c.args.c) c.args.outer (seen c.args.r.now) c.at-at.result c.in-Some.b
+    c.take.new.self c.take-2.new.self c.directive_of-d.result
+    c.at-at.ensures.place c.take.ensures.left c.in-Some.ensures (sym c.allows.ensures ∙ c.if-not-allows.false) c.take-2.ensures.left
+    c.directive_of-d.ensures
+    ∙ marked_go (around c.args.c.levels) (context_seen c.args.c) c.args.outer (seen c.args.r.now) c.at-at.result c.take-2.new.self
+    c.directive_of-d.result c.in-WithMarkedBraces.kind c.in-WithMarkedBraces.is
+    (places (around c.args.c.levels) (context_seen c.args.c) c.args.outer (seen c.args.r.now) c.at-at.result c.take.new.self
+    c.take-2.new.self c.at-at.ensures.place c.take.ensures.left c.take-2.ensures.left) (differs c.args.c.levels 0 c.if-c-eq0.false)
+    ∙ marked_opens (around c.args.c.levels) (context_seen c.args.c) c.args.outer (seen c.args.r.now) c.at-at.result c.take-2.new.self
+    c.take-in-WithMarkedBraces.new.self c.in-WithMarkedBraces.kind c.in-Some-first.b c.in-Some-first.ensures
+    c.if-b-ne123.false c.take-in-WithMarkedBraces.ensures.left
+    ∙ h)
+    c.in_err-braces-in-WithMarkedBraces.ensures c.from_residual-in_err-braces-in-WithMarkedBraces.ensures.1
+
+pub percent-returns-in_ok-call-in-WithCall : goal.percent-returns-in_ok-call-in-WithCall
+percent-returns-in_ok-call-in-WithCall t c =
+    percent_opens (around c.args.c.levels) (context_seen c.args.c) c.args.outer (seen c.args.r.now) c.at-at.result c.in-Some.b
+    c.take.new.self c.take-2.new.self c.directive_of-d.result
+    c.at-at.ensures.place c.take.ensures.left c.in-Some.ensures (sym c.allows.ensures ∙ c.if-not-allows.false) c.take-2.ensures.left
+    c.directive_of-d.ensures
+    ∙ call_goes (around c.args.c.levels) (context_seen c.args.c) c.args.outer (seen c.args.r.now) c.at-at.result c.take-2.new.self
+    c.directive_of-d.result c.in-WithCall.is
+    (places (around c.args.c.levels) (context_seen c.args.c) c.args.outer (seen c.args.r.now) c.at-at.result c.take.new.self
+    c.take-2.new.self c.at-at.ensures.place c.take.ensures.left c.take-2.ensures.left) (differs c.args.c.levels 0 c.if-c-eq0.false)
+    ∙ c.in_ok-call-in-WithCall.ensures
+
+pub percent-returns-in_ok-braces-in-WithBraces : goal.percent-returns-in_ok-braces-in-WithBraces
+percent-returns-in_ok-braces-in-WithBraces t c =
+    percent_opens (around c.args.c.levels) (context_seen c.args.c) c.args.outer (seen c.args.r.now) c.at-at.result c.in-Some.b
+    c.take.new.self c.take-2.new.self c.directive_of-d.result
+    c.at-at.ensures.place c.take.ensures.left c.in-Some.ensures (sym c.allows.ensures ∙ c.if-not-allows.false) c.take-2.ensures.left
+    c.directive_of-d.ensures
+    ∙ braces_go (around c.args.c.levels) (context_seen c.args.c) c.args.outer (seen c.args.r.now) c.at-at.result c.take-2.new.self
+    c.directive_of-d.result c.in-WithBraces.is
+    (places (around c.args.c.levels) (context_seen c.args.c) c.args.outer (seen c.args.r.now) c.at-at.result c.take.new.self
+    c.take-2.new.self c.at-at.ensures.place c.take.ensures.left c.take-2.ensures.left) (differs c.args.c.levels 0 c.if-c-eq0.false)
+    ∙ c.in_ok-braces-in-WithBraces.ensures
+
+pub percent-returns-in_ok-braces-in-WithMarkedBraces : goal.percent-returns-in_ok-braces-in-WithMarkedBraces
+percent-returns-in_ok-braces-in-WithMarkedBraces t c =
+    percent_opens (around c.args.c.levels) (context_seen c.args.c) c.args.outer (seen c.args.r.now) c.at-at.result c.in-Some.b
+    c.take.new.self c.take-2.new.self c.directive_of-d.result
+    c.at-at.ensures.place c.take.ensures.left c.in-Some.ensures (sym c.allows.ensures ∙ c.if-not-allows.false) c.take-2.ensures.left
+    c.directive_of-d.ensures
+    ∙ marked_go (around c.args.c.levels) (context_seen c.args.c) c.args.outer (seen c.args.r.now) c.at-at.result c.take-2.new.self
+    c.directive_of-d.result c.in-WithMarkedBraces.kind c.in-WithMarkedBraces.is
+    (places (around c.args.c.levels) (context_seen c.args.c) c.args.outer (seen c.args.r.now) c.at-at.result c.take.new.self
+    c.take-2.new.self c.at-at.ensures.place c.take.ensures.left c.take-2.ensures.left) (differs c.args.c.levels 0 c.if-c-eq0.false)
+    ∙ marked_opens (around c.args.c.levels) (context_seen c.args.c) c.args.outer (seen c.args.r.now) c.at-at.result c.take-2.new.self
+    c.take-in-WithMarkedBraces.new.self c.in-WithMarkedBraces.kind c.in-Some-first.b c.in-Some-first.ensures
+    c.if-b-ne123.false c.take-in-WithMarkedBraces.ensures.left
+    ∙ c.in_ok-braces-in-WithMarkedBraces.ensures
+
+pub tests-returns-in_err-test : goal.tests-returns-in_err-test
+tests-returns-in_err-test t c =
+    gives_err _ c.in_err-test.field-0.0 _ c.from_residual.result _ _
+    (λ h. tests_stop (around c.args.c.levels).1 (context_seen c.args.c) c.args.at c.args.outer (order_seen c.args.order)
+    (seen c.args.r.now) c.in_err-test.field-0.0 h)
+    c.in_err-test.ensures c.from_residual.ensures.1
+
+pub tests-returns-in-Emits : goal.tests-returns-in-Emits
+tests-returns-in-Emits t c =
+    tests_at (around c.args.c.levels).1 (context_seen c.args.c) c.args.at c.args.outer (order_seen c.args.order) (seen c.args.r.now)
+    (seen c.test.new.r) c.in_ok-test.field-0 nexts.Emits c.in_ok-test.ensures c.in-Emits.is
+
+pub tests-returns-in-Asks : goal.tests-returns-in-Asks
+tests-returns-in-Asks t c =
+    tests_at (around c.args.c.levels).1 (context_seen c.args.c) c.args.at c.args.outer (order_seen c.args.order) (seen c.args.r.now)
+    (seen c.test.new.r) c.in_ok-test.field-0 (nexts.Asks c.in-Asks.choice) c.in_ok-test.ensures c.in-Asks.is
+
+pub more_tests-returns-in_err-test : goal.more_tests-returns-in_err-test
+more_tests-returns-in_err-test t c =
+    gives_err _ c.in_err-test.field-0.0 _ c.from_residual.result _ _
+    (λ h. sym c.loop-choice.invariant ∙ more_stop (around c.args.c.levels).1 (context_seen c.args.c) c.args.at c.args.outer AtBar
+    (seen c.loop-choice.r) c.loop-choice.choice c.in_err-test.field-0.0 tt h)
+    c.in_err-test.ensures c.from_residual.ensures.1
+
+pub more_tests-returns-in-Asks : goal.more_tests-returns-in-Asks
+more_tests-returns-in-Asks t c =
+    sym c.loop-choice.invariant
+    ∙ more_at (around c.args.c.levels).1 (context_seen c.args.c) c.args.at c.args.outer AtBar (seen c.loop-choice.r)
+    (seen c.test.new.r) c.loop-choice.choice c.in_ok-test.field-0 (nexts.Asks c.in-Asks.choice) tt
+    c.in_ok-test.ensures c.in-Asks.is
+
+pub more_tests-loop-choice-preserved : goal.more_tests-loop-choice-preserved
+more_tests-loop-choice-preserved t c =
+    sym (more_at (around c.args.c.levels).1 (context_seen c.args.c) c.args.at c.args.outer AtBar (seen c.loop-choice.r)
+    (seen c.test.new.r) c.loop-choice.choice c.in_ok-test.field-0 (nexts.Bars c.in-Bars.more) tt
+    c.in_ok-test.ensures c.in-Bars.is)
+    ∙ c.loop-choice.invariant
+
+pub more_tests-loop-choice-smaller : goal.more_tests-loop-choice-smaller
+more_tests-loop-choice-smaller t c =
+    tried_smaller (around c.args.c.levels).1 (context_seen c.args.c) c.args.at c.args.outer AtBar (Some c.loop-choice.choice)
+    (seen c.loop-choice.r)
+    (seen c.test.new.r) c.in_ok-test.field-0 c.in_ok-test.ensures
+
+pub tests-returns-in_err-patterns-in-Joins : goal.tests-returns-in_err-patterns-in-Joins
+tests-returns-in_err-patterns-in-Joins t c =
+    gives_err _ c.in_err-patterns-in-Joins.field-0.0 _ c.from_residual-in_err-patterns-in-Joins.result _ _
+    (λ h. joins_stop (around c.args.c.levels).1 (context_seen c.args.c) c.args.at c.args.outer (order_seen c.args.order) (seen c.args.r.now)
+    (seen c.test.new.r) c.in_ok-test.field-0 c.in_err-patterns-in-Joins.field-0.0
+    c.in_ok-test.ensures c.in-Joins.is h)
+    c.in_err-patterns-in-Joins.ensures c.from_residual-in_err-patterns-in-Joins.ensures.1
+
+pub tests-returns-in_ok-patterns-in-Joins : goal.tests-returns-in_ok-patterns-in-Joins
+tests-returns-in_ok-patterns-in-Joins t c =
+    joins_done (around c.args.c.levels).1 (context_seen c.args.c) c.args.at c.args.outer (order_seen c.args.order) (seen c.args.r.now)
+    (seen c.test.new.r) (seen c.patterns.new.r) c.in_ok-test.field-0
+    c.in_ok-test.ensures c.in-Joins.is c.in_ok-patterns-in-Joins.ensures
+
+pub tests-returns-in_err-more_tests-in-Bars : goal.tests-returns-in_err-more_tests-in-Bars
+tests-returns-in_err-more_tests-in-Bars t c =
+    gives_err _ c.in_err-more_tests-in-Bars.field-0.0 _ c.from_residual-in_err-more_tests-in-Bars.result _ _
+    (λ h. bars_stop (around c.args.c.levels).1 (context_seen c.args.c) c.args.at c.args.outer (order_seen c.args.order) (seen c.args.r.now)
+    (seen c.test.new.r) c.in_ok-test.field-0 c.in-Bars.choice c.in_err-more_tests-in-Bars.field-0.0
+    c.in_ok-test.ensures c.in-Bars.is h)
+    c.in_err-more_tests-in-Bars.ensures c.from_residual-in_err-more_tests-in-Bars.ensures.1
+
+pub tests-returns-in_ok-more_tests-in-Bars : goal.tests-returns-in_ok-more_tests-in-Bars
+tests-returns-in_ok-more_tests-in-Bars t c =
+    bars_done (around c.args.c.levels).1 (context_seen c.args.c) c.args.at c.args.outer (order_seen c.args.order) (seen c.args.r.now)
+    (seen c.test.new.r) (seen c.more_tests.new.r) c.in_ok-test.field-0 c.in-Bars.choice
+    c.in_ok-more_tests-in-Bars.field-0 c.in_ok-test.ensures c.in-Bars.is c.in_ok-more_tests-in-Bars.ensures
+
+pub more_tests-returns-in-Emits : goal.more_tests-returns-in-Emits
+more_tests-returns-in-Emits t c =
+    inr (sym c.loop-choice.invariant
+    ∙ more_never (around c.args.c.levels).1 (context_seen c.args.c) c.args.at c.args.outer AtBar (seen c.loop-choice.r)
+    (seen c.test.new.r) c.loop-choice.choice c.in_ok-test.field-0 tt
+    c.in_ok-test.ensures c.in-Emits.is)
+
+pub choices-returns-in_err-tests : goal.choices-returns-in_err-tests
+choices-returns-in_err-tests t c =
+    gives_err _ c.in_err-tests.field-0.0 _ c.from_residual.result _ _
+    (λ h. choices_stop (around c.args.c.levels).0 (around c.args.c.levels).1 (context_seen c.args.c) c.args.at c.args.outer
+    (seen c.args.r.now) c.in_err-tests.field-0.0 h)
+    c.in_err-tests.ensures c.from_residual.ensures.1
+
+pub choices-returns-in-Patterns : goal.choices-returns-in-Patterns
+choices-returns-in-Patterns t c =
+    choices_patterns (around c.args.c.levels).0 (around c.args.c.levels).1 (context_seen c.args.c) c.args.at c.args.outer
+    (seen c.args.r.now) (seen c.tests.new.r) c.in_ok-tests.field-0 c.in_ok-tests.ensures c.in-Patterns.is
+
+pub choices-returns-in_err-x : goal.choices-returns-in_err-x
+choices-returns-in_err-x t c =
+    gives_err _ c.in_err-x.field-0.0 _ c.from_residual-in_err-x.result _ _
+    (λ h. choices_x_stop (around c.args.c.levels).0 (around c.args.c.levels).1 (context_seen c.args.c) c.args.at c.args.outer
+    (seen c.args.r.now) (seen c.tests.new.r) c.in_ok-tests.field-0 c.in_ok-tests.ensures c.in-Tests.choice c.in-Tests.is
+    c.in_err-x.field-0.0 h)
+    c.in_err-x.ensures c.from_residual-in_err-x.ensures.1
+
+pub choices-returns-in_err-later : goal.choices-returns-in_err-later
+choices-returns-in_err-later t c =
+    gives_err _ c.in_err-later.field-0.0 _ c.from_residual-in_err-later.result _ _
+    (λ h. choices_later_stop (around c.args.c.levels).0 (around c.args.c.levels).1 (context_seen c.args.c) c.args.at c.args.outer
+    (seen c.args.r.now) (seen c.tests.new.r) c.in_ok-tests.field-0 c.in_ok-tests.ensures c.in-Tests.choice c.in-Tests.is
+    c.in_ok-x.field-0 (seen c.x.new.r) c.in_ok-x.ensures c.in_err-later.field-0.0 c.if-branch-ne125.true h)
+    c.in_err-later.ensures c.from_residual-in_err-later.ensures.1
+
+pub choices-returns-in_ok-later : goal.choices-returns-in_ok-later
+choices-returns-in_ok-later t c =
+    choices_later_done (around c.args.c.levels).0 (around c.args.c.levels).1 (context_seen c.args.c) c.args.at c.args.outer
+    (seen c.args.r.now) (seen c.tests.new.r) c.in_ok-tests.field-0 c.in_ok-tests.ensures c.in-Tests.choice c.in-Tests.is
+    c.in_ok-x.field-0 (seen c.x.new.r) c.in_ok-x.ensures (seen c.later.new.r) c.if-branch-ne125.true c.in_ok-later.ensures
+
+pub choices-returns-else-branch-ne125 : goal.choices-returns-else-branch-ne125
+choices-returns-else-branch-ne125 t c =
+    choices_x_last (around c.args.c.levels).0 (around c.args.c.levels).1 (context_seen c.args.c) c.args.at c.args.outer (seen c.args.r.now)
+    (seen c.tests.new.r) c.in_ok-tests.field-0 c.in_ok-tests.ensures c.in-Tests.choice c.in-Tests.is
+    c.in_ok-x.field-0 (seen c.x.new.r) c.in_ok-x.ensures c.if-branch-ne125.false
+
+pub later-returns-in_err-x : goal.later-returns-in_err-x
+later-returns-in_err-x t c =
+    gives_err _ c.in_err-x.field-0.0 _ c.from_residual-in_err-x.result _ _
+    (λ h. sym c.loop-r.invariant ∙ default_stop (around c.args.c.levels).0 (around c.args.c.levels).1
+    (context_seen c.args.c) c.args.at c.args.outer (seen c.loop-r.r)
+    (colon_is (around c.args.c.levels).0 (around c.args.c.levels).1 (context_seen c.args.c) c.args.at c.args.outer
+    (seen c.loop-r.r) c.white_length-white.result c.bytes.result.now c.bytes-in-loop-r.result.now true
+    c.white_length-white.ensures.run c.bytes.ensures c.bytes-in-loop-r.ensures (sym c.begins_at.ensures ∙ c.if-begins_at.true))
+    c.white_length-white.result c.bytes.result.now c.take.new.self c.white_length-white.ensures.run c.bytes.ensures c.take.ensures.left
+    c.in_ok-choice.choice (seen c.opened_default.new.r) (ok_same c.in_ok-choice.ensures) c.in_err-x.field-0.0 h)
+    c.in_err-x.ensures c.from_residual-in_err-x.ensures.1
+
+pub later-returns-then-branch-ne125 : goal.later-returns-then-branch-ne125
+later-returns-then-branch-ne125 t c =
+    inr (sym c.loop-r.invariant ∙ default_bad (around c.args.c.levels).0 (around c.args.c.levels).1
+    (context_seen c.args.c) c.args.at c.args.outer (seen c.loop-r.r)
+    (colon_is (around c.args.c.levels).0 (around c.args.c.levels).1 (context_seen c.args.c) c.args.at c.args.outer
+    (seen c.loop-r.r) c.white_length-white.result c.bytes.result.now c.bytes-in-loop-r.result.now true
+    c.white_length-white.ensures.run c.bytes.ensures c.bytes-in-loop-r.ensures (sym c.begins_at.ensures ∙ c.if-begins_at.true))
+    c.white_length-white.result c.bytes.result.now c.take.new.self c.white_length-white.ensures.run c.bytes.ensures c.take.ensures.left
+    c.in_ok-choice.choice (seen c.opened_default.new.r) (ok_same c.in_ok-choice.ensures)
+    c.in_ok-x.field-0 (seen c.x.new.r) c.in_ok-x.ensures c.if-branch-ne125.true)
+
+pub later-returns-then-begins_at : goal.later-returns-then-begins_at
+later-returns-then-begins_at t c =
+    sym c.loop-r.invariant ∙ default_last (around c.args.c.levels).0 (around c.args.c.levels).1
+    (context_seen c.args.c) c.args.at c.args.outer (seen c.loop-r.r)
+    (colon_is (around c.args.c.levels).0 (around c.args.c.levels).1 (context_seen c.args.c) c.args.at c.args.outer
+    (seen c.loop-r.r) c.white_length-white.result c.bytes.result.now c.bytes-in-loop-r.result.now true
+    c.white_length-white.ensures.run c.bytes.ensures c.bytes-in-loop-r.ensures (sym c.begins_at.ensures ∙ c.if-begins_at.true))
+    c.white_length-white.result c.bytes.result.now c.take.new.self c.white_length-white.ensures.run c.bytes.ensures c.take.ensures.left
+    c.in_ok-choice.choice (seen c.opened_default.new.r) (ok_same c.in_ok-choice.ensures)
+    c.in_ok-x.field-0 (seen c.x.new.r) c.in_ok-x.ensures c.if-branch-ne125.false
+
+pub later-returns-in_err-choice-2 : goal.later-returns-in_err-choice-2
+later-returns-in_err-choice-2 t c =
+    gives_err _ c.in_err-choice-2.field-0.0 _ c.from_residual-in_err-choice-2.result _ _
+    (λ h. sym c.loop-r.invariant ∙ later_stop (around c.args.c.levels).0 (around c.args.c.levels).1
+    (context_seen c.args.c) c.args.at c.args.outer (seen c.loop-r.r) c.in_err-choice-2.field-0.0
+    (colon_is (around c.args.c.levels).0 (around c.args.c.levels).1 (context_seen c.args.c) c.args.at c.args.outer
+    (seen c.loop-r.r) c.white_length-white.result c.bytes.result.now c.bytes-in-loop-r.result.now false
+    c.white_length-white.ensures.run c.bytes.ensures c.bytes-in-loop-r.ensures (sym c.begins_at.ensures ∙ c.if-begins_at.false)) h)
+    c.in_err-choice-2.ensures c.from_residual-in_err-choice-2.ensures.1
+
+pub later-returns-in_default : goal.later-returns-in_default
+later-returns-in_default t c =
+    inr (sym c.loop-r.invariant ∙ later_patterns (around c.args.c.levels).0 (around c.args.c.levels).1
+    (context_seen c.args.c) c.args.at c.args.outer (seen c.loop-r.r)
+    (colon_is (around c.args.c.levels).0 (around c.args.c.levels).1 (context_seen c.args.c) c.args.at c.args.outer
+    (seen c.loop-r.r) c.white_length-white.result c.bytes.result.now c.bytes-in-loop-r.result.now false
+    c.white_length-white.ensures.run c.bytes.ensures c.bytes-in-loop-r.ensures (sym c.begins_at.ensures ∙ c.if-begins_at.false))
+    (seen c.tests.new.r) c.in_ok-choice-2.field-0 c.in_ok-choice-2.ensures c.in_default.is)
+
+pub later-returns-in_err-x-2 : goal.later-returns-in_err-x-2
+later-returns-in_err-x-2 t c =
+    gives_err _ c.in_err-x-2.field-0.0 _ c.from_residual-in_err-x-2.result _ _
+    (λ h. sym c.loop-r.invariant ∙ later_x_stop (around c.args.c.levels).0 (around c.args.c.levels).1
+    (context_seen c.args.c) c.args.at c.args.outer (seen c.loop-r.r)
+    (colon_is (around c.args.c.levels).0 (around c.args.c.levels).1 (context_seen c.args.c) c.args.at c.args.outer
+    (seen c.loop-r.r) c.white_length-white.result c.bytes.result.now c.bytes-in-loop-r.result.now false
+    c.white_length-white.ensures.run c.bytes.ensures c.bytes-in-loop-r.ensures (sym c.begins_at.ensures ∙ c.if-begins_at.false))
+    (seen c.tests.new.r) c.in_ok-choice-2.field-0 c.in_ok-choice-2.ensures c.in-Tests.choice c.in-Tests.is c.in_err-x-2.field-0.0 h)
+    c.in_err-x-2.ensures c.from_residual-in_err-x-2.ensures.1
+
+pub later-returns-then-branch-eq125 : goal.later-returns-then-branch-eq125
+later-returns-then-branch-eq125 t c =
+    sym c.loop-r.invariant ∙ later_x_last (around c.args.c.levels).0 (around c.args.c.levels).1
+    (context_seen c.args.c) c.args.at c.args.outer (seen c.loop-r.r)
+    (colon_is (around c.args.c.levels).0 (around c.args.c.levels).1 (context_seen c.args.c) c.args.at c.args.outer
+    (seen c.loop-r.r) c.white_length-white.result c.bytes.result.now c.bytes-in-loop-r.result.now false
+    c.white_length-white.ensures.run c.bytes.ensures c.bytes-in-loop-r.ensures (sym c.begins_at.ensures ∙ c.if-begins_at.false))
+    (seen c.tests.new.r) c.in_ok-choice-2.field-0 c.in_ok-choice-2.ensures c.in-Tests.choice c.in-Tests.is
+    c.in_ok-x-2.field-0 (seen c.x-in-loop-r.new.r) c.in_ok-x-2.ensures c.if-branch-eq125.true
+
+pub later-loop-r-smaller : goal.later-loop-r-smaller
+later-loop-r-smaller t c =
+    later_less (around c.args.c.levels).0 (around c.args.c.levels).1 (context_seen c.args.c) c.args.at c.args.outer (seen c.loop-r.r)
+    (colon_is (around c.args.c.levels).0 (around c.args.c.levels).1 (context_seen c.args.c) c.args.at c.args.outer
+    (seen c.loop-r.r) c.white_length-white.result c.bytes.result.now c.bytes-in-loop-r.result.now false
+    c.white_length-white.ensures.run c.bytes.ensures c.bytes-in-loop-r.ensures (sym c.begins_at.ensures ∙ c.if-begins_at.false))
+    (seen c.tests.new.r) c.in_ok-choice-2.field-0 c.in_ok-choice-2.ensures c.in-Tests.choice c.in-Tests.is
+    c.in_ok-x-2.field-0 (seen c.x-in-loop-r.new.r) c.in_ok-x-2.ensures
+
+pub later-loop-r-preserved : goal.later-loop-r-preserved
+later-loop-r-preserved t c =
+    sym (later_x_more (around c.args.c.levels).0 (around c.args.c.levels).1 (context_seen c.args.c) c.args.at c.args.outer (seen c.loop-r.r)
+    (colon_is (around c.args.c.levels).0 (around c.args.c.levels).1 (context_seen c.args.c) c.args.at c.args.outer
+    (seen c.loop-r.r) c.white_length-white.result c.bytes.result.now c.bytes-in-loop-r.result.now false
+    c.white_length-white.ensures.run c.bytes.ensures c.bytes-in-loop-r.ensures (sym c.begins_at.ensures ∙ c.if-begins_at.false))
+    (seen c.tests.new.r) c.in_ok-choice-2.field-0 c.in_ok-choice-2.ensures c.in-Tests.choice c.in-Tests.is
+    c.in_ok-x-2.field-0 (seen c.x-in-loop-r.new.r) c.in_ok-x-2.ensures c.if-branch-eq125.false)
+    ∙ c.loop-r.invariant
+
+pub test-returns-then-begun-ne37 : goal.test-returns-then-begun-ne37
+test-returns-then-begun-ne37 t c =
+    test_plain (around c.args.c.levels).1 (context_seen c.args.c) c.args.at c.args.outer (order_seen c.args.order) c.args.so_far
+    (seen c.args.r.now)
+    (seen c.begin.new.r) c.in_ok-begun.begun c.in_ok-begun.ensures
+    (begun_first c.args.outer c.args.at (seen c.args.r.now) (seen c.begin.new.r) c.in_ok-begun.begun c.in_ok-begun.ensures)
+    (differs c.in_ok-begun.begun.byte 37 c.if-begun-ne37.true)
+    ∙ c.in_ok-next.ensures
+
+pub test-returns-in_err-next : goal.test-returns-in_err-next
+test-returns-in_err-next t c =
+    gives_err _ c.in_err-next.field-0.0 _ c.from_residual-in_err-next.result _ _
+    (λ h. test_plain (around c.args.c.levels).1 (context_seen c.args.c) c.args.at c.args.outer (order_seen c.args.order) c.args.so_far
+    (seen c.args.r.now)
+    (seen c.begin.new.r) c.in_ok-begun.begun c.in_ok-begun.ensures
+    (begun_first c.args.outer c.args.at (seen c.args.r.now) (seen c.begin.new.r) c.in_ok-begun.begun c.in_ok-begun.ensures)
+    (differs c.in_ok-begun.begun.byte 37 c.if-begun-ne37.true)
+    ∙ h)
+    c.in_err-next.ensures c.from_residual-in_err-next.ensures.1
+
+pub test-returns-in_err-choice : goal.test-returns-in_err-choice
+test-returns-in_err-choice t c =
+    gives_err _ c.in_err-choice.field-0.0 _ c.from_residual-in_err-choice.result _ _
+    (λ h. result_stop (around c.args.c.levels).1 (context_seen c.args.c) c.args.at c.args.outer (order_seen c.args.order) c.args.so_far
+    (seen c.args.r.now)
+    (seen c.begin.new.r) c.in_ok-begun.begun c.in_ok-begun.ensures
+    (begun_first c.args.outer c.args.at (seen c.args.r.now) (seen c.begin.new.r) c.in_ok-begun.begun c.in_ok-begun.ensures)
+    c.if-begun-ne37.false
+    (deep_enough c.args.c.levels c.requires c.if-c-eq1.false) c.in_err-choice.field-0.0 h)
+    c.in_err-choice.ensures c.from_residual-in_err-choice.ensures.1
+
+pub test-returns-in_default : goal.test-returns-in_default
+test-returns-in_default t c =
+    inr (result_cut (around c.args.c.levels).1 (context_seen c.args.c) c.args.at c.args.outer (order_seen c.args.order) c.args.so_far
+    (seen c.args.r.now)
+    (seen c.begin.new.r) c.in_ok-begun.begun c.in_ok-begun.ensures
+    (begun_first c.args.outer c.args.at (seen c.args.r.now) (seen c.begin.new.r) c.in_ok-begun.begun c.in_ok-begun.ensures)
+    c.if-begun-ne37.false
+    (deep_enough c.args.c.levels c.requires c.if-c-eq1.false) c.in_ok-choice.choice
+    (seen c.result.new.r) c.in_ok-choice.ensures c.skip_white.new.self c.skip_white.ensures
+    c.in_default.ensures ∙ ap (λ x. Err x) (sym c.unclosed.ensures))
+
+pub test-returns-in_err-judged : goal.test-returns-in_err-judged
+test-returns-in_err-judged t c =
+    err_gives _ c.in_err-judged.field-0.0 _ c.from_residual-in_err-judged.result _ c.from_residual-in_err-judged.ensures.1
+    (result_bad (around c.args.c.levels).1 (context_seen c.args.c) c.args.at c.args.outer (order_seen c.args.order) c.args.so_far
+    (seen c.args.r.now)
+    (seen c.begin.new.r) c.in_ok-begun.begun c.in_ok-begun.ensures
+    (begun_first c.args.outer c.args.at (seen c.args.r.now) (seen c.begin.new.r) c.in_ok-begun.begun c.in_ok-begun.ensures)
+    c.if-begun-ne37.false
+    (deep_enough c.args.c.levels c.requires c.if-c-eq1.false) c.in_ok-choice.choice
+    (seen c.result.new.r) c.in_ok-choice.ensures c.skip_white.new.self c.skip_white.ensures
+    c.in-Some.b c.in_err-judged.field-0.0 c.in-Some.ensures (sym c.result_judged.ensures ∙ c.in_err-judged.was))
+
+pub test-returns : goal.test-returns
+test-returns t c =
+    result_done (around c.args.c.levels).1 (context_seen c.args.c) c.args.at c.args.outer (order_seen c.args.order) c.args.so_far
+    (seen c.args.r.now)
+    (seen c.begin.new.r) c.in_ok-begun.begun c.in_ok-begun.ensures
+    (begun_first c.args.outer c.args.at (seen c.args.r.now) (seen c.begin.new.r) c.in_ok-begun.begun c.in_ok-begun.ensures)
+    c.if-begun-ne37.false
+    (deep_enough c.args.c.levels c.requires c.if-c-eq1.false) c.in_ok-choice.choice
+    (seen c.result.new.r) c.in_ok-choice.ensures c.skip_white.new.self c.skip_white.ensures
+    c.in-Some.b c.in_ok-judged.judged c.take.new.self c.in-Some.ensures c.take.ensures.left
+    (sym c.result_judged.ensures ∙ c.in_ok-judged.was)
+
+pub result-returns-in_err-items : goal.result-returns-in_err-items
+result-returns-in_err-items t c =
+    gives_err _ c.in_err-items.field-0.0 _ c.from_residual-in_err-items.result _ _
+    (λ h. asked_stop c.args.outer c.args.at c.args.so_far c.args.begun.start c.args.begun.negated (context_seen c.args.c)
+    (seen c.args.r.now)
+    c.in-Some.b c.take.new.self c.take-2.new.self c.take.ensures.left c.in-Some.ensures c.if-b-ne58.false c.take-2.ensures.left
+    c.outermost-outer.result c.outermost-outer.ensures c.at-percent.result c.at-percent.ensures.place c.in_ok-name.name.now
+    (seen c.function.new.r)
+    c.in_ok-name.ensures c.in_ok-choice.choice (seen c.opened.new.r) (seen c.open.new.r) c.in_ok-part.part
+    (ok_same c.in_ok-choice.ensures.choice)
+    c.opened.ensures.rest (ok_same c.in_ok-part.ensures) (context_seen c.in_arguments.result)
+    (c.in_arguments.ensures ∙ ap (λ x. in_arguments x) c.in_braces.ensures) c.requires.levels c.in_err-items.field-0.0 h)
+    c.in_err-items.ensures.list c.from_residual-in_err-items.ensures.1
+
+pub result-returns : goal.result-returns
+result-returns t c =
+    asked_done c.args.outer c.args.at c.args.so_far c.args.begun.start c.args.begun.negated (context_seen c.args.c) (seen c.args.r.now)
+    c.in-Some.b c.take.new.self c.take-2.new.self c.take.ensures.left c.in-Some.ensures c.if-b-ne58.false c.take-2.ensures.left
+    c.outermost-outer.result c.outermost-outer.ensures c.at-percent.result c.at-percent.ensures.place c.in_ok-name.name.now
+    (seen c.function.new.r)
+    c.in_ok-name.ensures c.in_ok-choice.choice (seen c.opened.new.r) (seen c.open.new.r) c.in_ok-part.part
+    (ok_same c.in_ok-choice.ensures.choice)
+    c.opened.ensures.rest (ok_same c.in_ok-part.ensures) (context_seen c.in_arguments.result)
+    (c.in_arguments.ensures ∙ ap (λ x. in_arguments x) c.in_braces.ensures) c.requires.levels
+    c.in_ok-items.field-0 (seen c.items.new.r) c.take-3.new.self c.in_ok-items.ensures.list c.take-3.ensures.left
+    ∙ ap (λ x. Ok (record { part = c.in_ok-choice.choice.part; label = c.in_ok-choice.choice.label; starred = false }, x))
+    (sym c.close.ensures)

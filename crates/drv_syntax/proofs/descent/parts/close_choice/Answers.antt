@@ -1,0 +1,9 @@
+use Rattle.drv_syntax.proofs.Wrote.{owned_of}
+use Rattle.drv_syntax.proofs.descent.parts.close_choice.Goals as goal
+use Rattle.drv_syntax.specs.Code.Writing.{seen}
+
+pub returns : goal.returns
+returns c =
+    owned_of c.args.choice c.args.tail c.args.around (seen c.args.r.now) c.truncate.new.self c.close.new.self c.truncate-2.new.self
+    c.hold.new.self
+    c.truncate.ensures c.truncate-2.ensures c.close.ensures c.hold.ensures

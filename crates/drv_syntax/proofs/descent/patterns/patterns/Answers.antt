@@ -1,0 +1,62 @@
+use Rattle.drv_syntax.proofs.GivenParts.{gives_err, ok_same}
+use Rattle.drv_syntax.proofs.PatternsGiven.{joined_bad, joined_cut, joined_done, joined_goes, joined_shorter, joined_stops}
+use Rattle.drv_syntax.proofs.descent.patterns.patterns.Goals as goal
+use Rattle.drv_syntax.specs.Code.Tests.{patterns_given}
+use Rattle.drv_syntax.specs.Code.Writing.{Reading, seen, spelled}
+use Rattle.drv_syntax.specs.Descent as descent
+use Rattle.drv_syntax.specs.Tree.{pattern}
+use Rattle.std.proofs.Common.{◌∙◌, ◌<◌, ap, inr, length, subst, sym}
+use Rattle.std.specs.Prelude.{Err}
+
+pub returns-in_err-p : goal.returns-in_err-p
+returns-in_err-p c =
+    gives_err _ c.in_err-p.field-0.0 _ c.from_residual.result _ _
+    (λ h. sym c.loop-p.invariant ∙ joined_stops c.args.outer c.args.at (seen c.loop-p.r) c.skip_white.new.self c.in_err-p.field-0.0
+    c.skip_white.ensures h)
+    c.in_err-p.ensures c.from_residual.ensures.1
+
+pub returns-in_default : goal.returns-in_default
+returns-in_default c =
+    inr (sym c.loop-p.invariant ∙ joined_cut c.args.outer c.args.at (seen c.loop-p.r) (seen c.pattern.new.r) c.skip_white.new.self
+    c.skip_white-in-loop-p.new.self
+    (pattern (spelled c.in_ok-p.p.word c.pattern.new.r.word.items) c.in_ok-p.p.star) c.at-start.result c.at-end.result
+    c.skip_white.ensures c.in_ok-p.ensures c.skip_white-in-loop-p.ensures c.at-start.ensures.place c.at-end.ensures.place
+    c.in_default.ensures
+    ∙ ap (λ e. Err e) (sym c.unclosed.ensures))
+
+pub returns-then-b-ne38 : goal.returns-then-b-ne38
+returns-then-b-ne38 c =
+    inr (sym c.loop-p.invariant ∙ joined_bad c.args.outer c.args.at (seen c.loop-p.r) (seen c.pattern.new.r) c.skip_white.new.self
+    c.skip_white-in-loop-p.new.self
+    (pattern (spelled c.in_ok-p.p.word c.pattern.new.r.word.items) c.in_ok-p.p.star) c.at-start.result c.at-end.result
+    c.skip_white.ensures c.in_ok-p.ensures c.skip_white-in-loop-p.ensures c.at-start.ensures.place c.at-end.ensures.place c.in-Some.b
+    c.in-Some.ensures
+    c.if-b-eq125.false c.if-b-ne38.true)
+
+pub returns-then-b-eq125 : goal.returns-then-b-eq125
+returns-then-b-eq125 c =
+    sym c.loop-p.invariant ∙ joined_done c.args.outer c.args.at (seen c.loop-p.r) (seen c.pattern.new.r) c.skip_white.new.self
+    c.skip_white-in-loop-p.new.self
+    (pattern (spelled c.in_ok-p.p.word c.pattern.new.r.word.items) c.in_ok-p.p.star) c.at-start.result c.at-end.result
+    c.skip_white.ensures c.in_ok-p.ensures c.skip_white-in-loop-p.ensures c.at-start.ensures.place c.at-end.ensures.place c.in-Some.b
+    c.take.new.self c.in-Some.ensures
+    c.if-b-eq125.true c.take.ensures.left ∙ c.in_ok-emitted.ensures
+
+pub loop-p-smaller : goal.loop-p-smaller
+loop-p-smaller c =
+    subst (λ (v : Reading). length v.rest.bytes < length c.loop-p.r.rest.bytes) (ok_same c.in_ok-emitted-2.ensures)
+    (joined_shorter c.args.outer c.args.at (seen c.loop-p.r) (seen c.pattern.new.r) c.skip_white.new.self c.skip_white-in-loop-p.new.self
+    (pattern (spelled c.in_ok-p.p.word c.pattern.new.r.word.items) c.in_ok-p.p.star) c.at-start.result c.at-end.result
+    c.skip_white.ensures c.in_ok-p.ensures c.skip_white-in-loop-p.ensures c.at-start.ensures.place c.at-end.ensures.place c.in-Some.b
+    c.take-in-loop-p.new.self c.in-Some.ensures c.take-in-loop-p.ensures.left)
+
+pub loop-p-preserved : goal.loop-p-preserved
+loop-p-preserved c =
+    sym (sym c.loop-p.invariant ∙ joined_goes c.args.outer c.args.at (seen c.loop-p.r) (seen c.pattern.new.r) c.skip_white.new.self
+    c.skip_white-in-loop-p.new.self
+    (pattern (spelled c.in_ok-p.p.word c.pattern.new.r.word.items) c.in_ok-p.p.star) c.at-start.result c.at-end.result
+    c.skip_white.ensures c.in_ok-p.ensures c.skip_white-in-loop-p.ensures c.at-start.ensures.place c.at-end.ensures.place c.in-Some.b
+    c.take-in-loop-p.new.self c.in-Some.ensures
+    c.if-b-ne38.false c.take-in-loop-p.ensures.left
+    ∙ ap (λ (v : Reading). patterns_given c.args.outer v (descent.patterns c.args.at v.rest.at 0 v.rest.bytes))
+    (ok_same c.in_ok-emitted-2.ensures))

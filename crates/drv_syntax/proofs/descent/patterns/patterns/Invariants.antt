@@ -1,0 +1,14 @@
+use Rattle.drv_syntax.proofs.descent.patterns.patterns.Given as goal
+use Rattle.drv_syntax.specs.Code.Tests.{patterns_given}
+use Rattle.drv_syntax.specs.Code.Writing.{seen}
+use Rattle.drv_syntax.specs.Descent as descent
+use Rattle.std.proofs.Common.{◌≡◌, length}
+
+-- what is written and what is left is all
+abbrev pub invariant-loop-p : goal.invariant-loop-p
+invariant-loop-p l =
+    patterns_given l.outer (seen l.r) (descent.patterns l.at l.r.rest.at 0 l.r.rest.bytes)
+    ≡ patterns_given l.fn.outer (seen l.fn.r) (descent.patterns l.fn.at l.fn.r.rest.at 0 l.fn.r.rest.bytes)
+
+abbrev pub decreases-loop-p : goal.decreases-loop-p
+decreases-loop-p l = length l.r.rest.bytes

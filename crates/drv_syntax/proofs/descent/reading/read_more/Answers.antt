@@ -1,0 +1,9 @@
+use Rattle.drv_syntax.proofs.GivenParts.{gives_err}
+use Rattle.drv_syntax.proofs.descent.reading.read_more.Goals as goal
+
+pub returns-in_err-r : goal.returns-in_err-r
+returns-in_err-r c =
+    gives_err _ c.in_err-r.field-0.0 _ c.from_residual.result _ _ (λ h. h) c.in_err-r.ensures c.from_residual.ensures.1
+
+pub returns : goal.returns
+returns c = c.in_ok-r.ensures

@@ -1,0 +1,15 @@
+use Rattle.drv_syntax.proofs.TestsGiven.{gives_same, tried_some}
+use Rattle.drv_syntax.proofs.descent.tests.plain_test.Goals as goal
+use Rattle.drv_syntax.specs.Code.Tests.{operand_seen, order_seen}
+use Rattle.drv_syntax.specs.Code.Writing.{seen}
+use Rattle.drv_syntax.specs.Contexts.{top}
+use Rattle.drv_syntax.specs.Descent.{no_lists}
+
+pub returns : goal.returns
+returns c =
+    gives_same _ _ c.judged.result _ _
+    (tried_some no_lists top c.args.outer c.args.at (order_seen c.args.order) c.args.so_far c.args.begun.start c.args.begun.negated
+    (seen c.args.r.now) c.emits.result (operand_seen c.in_ok-o.o c.plain_operand.new.r.word.items) (seen c.plain_operand.new.r)
+    c.skip_white.new.self c.at-end.result c.in-Some.b c.emits.ensures c.in_ok-o.ensures c.skip_white.ensures c.at-end.ensures.place
+    c.in-Some.ensures)
+    c.judged.ensures

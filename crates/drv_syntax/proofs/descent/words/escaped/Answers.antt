@@ -1,0 +1,21 @@
+use Rattle.drv_syntax.proofs.Writing.{escape_kept, plain_kept}
+use Rattle.drv_syntax.proofs.descent.words.escaped.Goals as goal
+use Rattle.drv_syntax.specs.Code.Writing.{seen}
+use Rattle.drv_syntax.specs.Code.Left.{first_of, second_of}
+use Rattle.std.proofs.Common.{◌∙◌, ap, sym}
+
+pub loop-b-preserved-then-b-eq92 : goal.loop-b-preserved-then-b-eq92
+loop-b-preserved-then-b-eq92 c =
+    escape_kept c.args.class c.loop-b.r.word.items c.push.new.self.items (seen c.loop-b.r) c.take.new.self c.in-Some.b
+    c.in-Some-second.escaped
+    _ (ap (λ bs. first_of bs) (sym c.bytes.ensures) ∙ sym c.in-Some.ensures) c.if-b-eq92.true
+    (ap (λ bs. second_of bs) (sym c.bytes-then-b-eq92.ensures) ∙ sym c.in-Some-second.ensures) c.in_ok-push.ensures.items
+    c.take.ensures.left
+    c.loop-b.invariant
+
+pub loop-b-preserved : goal.loop-b-preserved
+loop-b-preserved c =
+    plain_kept c.args.class c.loop-b.r.word.items c.push-then-belongs.new.self.items (seen c.loop-b.r) c.take-then-belongs.new.self
+    c.in-Some.b
+    _ (ap (λ bs. first_of bs) (sym c.bytes.ensures) ∙ sym c.in-Some.ensures) c.if-b-eq92.false (sym c.belongs.ensures ∙ c.if-belongs.true)
+    c.in_ok-push-2.ensures.items c.take-then-belongs.ensures.left c.loop-b.invariant

@@ -1,0 +1,13 @@
+use Rattle.drv_syntax.proofs.descent.words.escaped.Given as goal
+use Rattle.drv_syntax.specs.Code.Writing.{in_class, quoted_to, seen}
+use Rattle.drv_syntax.specs.Descent.{quoted}
+use Rattle.std.proofs.Common.{◌≡◌, length}
+
+-- what is copied and what is left is all
+abbrev pub invariant-loop-b : goal.invariant-loop-b
+invariant-loop-b l =
+    quoted_to l.r.word.items (seen l.r) (quoted (in_class l.class) l.r.rest.bytes)
+    ≡ quoted_to l.front (seen l.fn.r) (quoted (in_class l.class) l.fn.r.rest.bytes)
+
+abbrev pub decreases-loop-b : goal.decreases-loop-b
+decreases-loop-b l = length l.r.rest.bytes

@@ -1,0 +1,305 @@
+use Rattle.drv_words.specs.Bytes as ascii
+use Rattle.drv_syntax.specs.Bytes.{is_blank}
+use Rattle.drv_syntax.specs.Code.Left.{Left, after}
+use Rattle.drv_syntax.specs.Code.Marks.{byte_labels}
+use Rattle.drv_syntax.specs.Code.Runs.{runs}
+use Rattle.drv_syntax.specs.Code.Tests.{choice_here, opened}
+use Rattle.drv_syntax.specs.Code.Tokens.{plain_tokens, whole_token}
+use Rattle.drv_syntax.specs.Code.Writing.{Parts, Reading, at_rest, given, hidden, item_given, item_written, kind_seen, leaf_here, open_at}
+use Rattle.drv_syntax.specs.Code.Writing.{wrote}
+use Rattle.drv_syntax.specs.Code.Left.{first_of}
+use Rattle.drv_syntax.specs.Contexts.{InArguments, InX, Kind, ListContext, Mixed, Nobody, Owner, Starred, Top, newline_in}
+use Rattle.drv_syntax.specs.Descent as d
+use Rattle.drv_syntax.specs.Descent.{Lists, Read, levels, no_lists}
+use Rattle.drv_syntax.specs.Labels.{Label, alternative_label, both, no_label, node, no_node, nodes_of, star_label, test_nodes, word_label}
+use Rattle.drv_syntax.specs.Spelling.{span}
+use Rattle.drv_syntax.specs.Stars.{tests_have_star}
+use Rattle.drv_syntax.specs.Tokens.{kind_of}
+use Rattle.drv_syntax.specs.Tree as tree
+use Rattle.drv_syntax.specs.Tree.{Brace, Choices, Item, Items, Leaf, Span, TempName, BuiltinText, choice, more, no_choice, none}
+use Rattle.drv_syntax.specs.Directives.{text_of}
+use Rattle.drv_syntax.specs.Code.Tests.{added, patterns_written}
+use Rattle.drv_syntax.specs.declared.descent.lists.Inside as inside_code
+use Rattle.drv_syntax.specs.declared.descent.lists.Inside.TheVariants as insides
+use Rattle.drv_syntax.specs.declared.descent.parts.Choice.{Choice}
+use Rattle.drv_syntax.specs.declared.descent.simple.Tail.{Tail}
+use Rattle.drv_syntax.specs.declared.directives.BraceKind.TheVariants.{InPlace, IntoArgumentsFile, IntoFailureFile}
+use Rattle.drv_syntax.specs.declared.directives.BraceKind.{BraceKind}
+use Rattle.drv_syntax.specs.declared.directives.Directive.TheVariants as directives
+use Rattle.drv_syntax.specs.declared.directives.Directive.{Directive}
+use Rattle.drv_syntax.specs.declared.fault.SyntaxFault.TheVariants.{BadDirective, MixedStar, StarOutside, Unclosed}
+use Rattle.drv_syntax.specs.declared.fault.SyntaxFault.{SyntaxFault}
+use Rattle.drv_syntax.specs.declared.descent.contexts.ListContext as code
+use Rattle.drv_syntax.specs.declared.descent.contexts.ListKind.{ListKind}
+use Rattle.drv_syntax.specs.declared.descent.tokens.Open.{Open}
+use Rattle.drv_syntax.specs.declared.descent.contexts.StarOwner.TheVariants as owners
+use Rattle.drv_syntax.specs.declared.descent.contexts.StarOwner.{StarOwner}
+use Rattle.drv_syntax.specs.declared.token.TokenKind.TheVariants as kinds
+use Rattle.drv_syntax.specs.declared.token.TokenKind.{TokenKind}
+use Rattle.std.specs.List.{prefix_len}
+use Rattle.std.specs.Prelude.{◌≡◌, ◌==◌, ◌+◌, ◌++◌, Bool, false, true, if◌then◌else◌, List, [], ◌∷◌, Err, None, Ok, Option, Result, Some}
+use Rattle.std.specs.Prelude.{drop, length}
+use Rattle.std.specs.Prelude.{slice_set, suc, take, zero, ℕ}
+
+-- What the code writes of lists of items, and of what holds them. For the clauses of the code alone.
+
+abbrev pub begins : List ℕ → Bool
+begins [] = false
+begins (b ∷ text) = true
+
+-- contexts
+
+abbrev pub owner_seen : StarOwner → Owner
+owner_seen owners.Nobody = Nobody
+owner_seen owners.Mixed = Mixed
+owner_seen owners.Starred = Starred
+
+abbrev pub context_seen : code.ListContext → ListContext
+context_seen c = record { kind = kind_seen c.kind; in_arguments = c.in_arguments; owner = owner_seen c.owner; levels = c.levels }
+
+-- in an X in such a list, whose tests are all starred patterns or are not
+abbrev pub owner_when : Bool → ListContext → ListContext
+owner_when starred c = record { kind = InX; in_arguments = c.in_arguments; owner = if starred then Starred else Mixed; levels = c.levels }
+
+-- a list that isn't a whole text is in a directive
+abbrev pub Opened : Kind → Option ℕ → Type 0
+Opened Top outer = Unit {0}
+Opened InX (Some at) = Unit {0}
+Opened InX None = ⊥
+Opened InArguments (Some at) = Unit {0}
+Opened InArguments None = ⊥
+
+-- what reads the lists in a list of so many levels
+abbrev pub around : ℕ → Lists × Lists
+around zero = (no_lists, no_lists)
+around (suc level) = levels level
+
+-- items without an inside
+
+abbrev pub byte_here : TokenKind → Label → Reading → Reading
+byte_here kind label v = leaf_here kind label v.rest.at (at_rest (after 1 v.rest) v)
+
+abbrev pub star_given : Owner → ℕ → Reading → Result Reading SyntaxFault
+star_given Nobody at v = Err (StarOutside at)
+star_given Mixed at v = Err (MixedStar at)
+star_given Starred at v =
+    Ok (record {
+      rest = v.rest;
+      parts = record {
+        tokens = v.parts.tokens ++ whole_token kinds.Star at v.rest.at (length v.parts.tokens + 1)
+            ∷ [];
+        labels = v.parts.labels ++ no_label ∷ [];
+        holds = true;
+      };
+    })
+
+abbrev pub is_simple : Directive → Bool
+is_simple directives.WithCall = false
+is_simple directives.WithBraces = false
+is_simple (directives.WithMarkedBraces kind) = false
+is_simple _ = true
+
+-- a directive that holds no parts, by what follows its byte
+abbrev pub simple_given : Option ℕ → ListContext → ℕ → Directive → Reading → Result Reading SyntaxFault
+simple_given outer c at directives.Nowhere v = Err (BadDirective at)
+simple_given outer c at (directives.Whole leaf) v = Ok (leaf_here (kinds.Leaf leaf) no_label at v)
+simple_given outer c at (directives.Named letter) v = Ok (leaf_here kinds.BuiltinText (word_label (text_of letter)) at v)
+simple_given outer c at (directives.WithSuffix kind) v = item_given outer at v (d.suffix kind v.rest.at v.rest.bytes)
+simple_given outer c at directives.WithOption v = item_given outer at v (d.option at v.rest.at v.rest.bytes)
+simple_given outer c at (directives.WithSaying kind) v = item_given outer at v (d.saying c.kind kind v.rest.at v.rest.bytes)
+simple_given outer c at directives.WithName v = item_given outer at v (d.name_from at v.rest.at [] v.rest.bytes)
+simple_given outer c at directives.WithPattern v = item_given outer at v (hidden at v.rest.at v.rest.bytes)
+simple_given outer c at directives.OfStar v = star_given c.owner at v
+simple_given outer c at directives.WithCall v = Err (BadDirective at)
+simple_given outer c at directives.WithBraces v = Err (BadDirective at)
+simple_given outer c at (directives.WithMarkedBraces kind) v = Err (BadDirective at)
+
+-- what a list ends with, where it ends with an item that is no white space
+abbrev pub tail_at : Reading → Tail
+tail_at v = record { kept = v.rest.at; tokens = length v.parts.tokens; labels = length v.parts.labels; end = 0 }
+
+abbrev pub second_given : Option ℕ → Reading → List ℕ → Result Reading SyntaxFault
+second_given outer v [] = Err (Unclosed (open_at outer v.rest.at))
+second_given outer v (b ∷ text) = Ok (leaf_here kinds.Escape (word_label (b ∷ [])) v.rest.at (at_rest (after 2 v.rest) v))
+
+abbrev pub escape_given : Option ℕ → Reading → Result Reading SyntaxFault
+escape_given outer v = second_given outer v (drop 1 v.rest.bytes)
+
+abbrev pub single_given : Option ℕ → Bool → ℕ → Reading → Result Reading SyntaxFault
+single_given outer in_arguments b v =
+    if b == ascii.backslash then escape_given outer v
+    else if b == ascii.bar then Ok (if in_arguments then byte_here kinds.Plain (word_label (b ∷ [])) v else byte_here kinds.Pipe no_label v)
+    else Ok (byte_here kinds.Plain (word_label (b ∷ [])) v)
+
+abbrev pub with_tail : Result Reading SyntaxFault → Result (Tail × Reading) SyntaxFault
+with_tail (Ok v) = Ok (tail_at v, v)
+with_tail (Err fault) = Err fault
+
+-- an item that is no directive, and what the list then ends with
+abbrev pub byte_given : Option ℕ → Bool → ℕ → Tail → Reading → Result (Tail × Reading) SyntaxFault
+byte_given outer in_arguments b tail v =
+    if is_blank b then Ok (tail, byte_here kinds.Blank no_label v)
+    else if b == ascii.newline then Ok (tail, byte_here (kind_of (newline_in in_arguments)) no_label v)
+    else with_tail (single_given outer in_arguments b v)
+
+-- so many plain bytes
+abbrev pub run_after : ℕ → Reading → Reading
+run_after size v =
+    record {
+      rest = after size v.rest;
+      parts = record {
+        tokens = v.parts.tokens ++ plain_tokens v.rest.at (length v.parts.tokens + 1) (take size v.rest.bytes);
+        labels = v.parts.labels ++ byte_labels (take size v.rest.bytes);
+        holds = v.parts.holds;
+      };
+    }
+
+abbrev pub plains_after : ℕ → Tail → Reading → Tail × Reading
+plains_after zero tail v = (tail, v)
+plains_after (suc k) tail v = (tail_at (run_after (suc k) v), run_after (suc k) v)
+
+abbrev pub plains_on : ListKind → Tail → Reading → Tail × Reading
+plains_on kind tail v = plains_after (prefix_len (runs kind) v.rest.bytes) tail v
+
+-- lists
+
+abbrev pub list_written : Items → Parts → Parts
+list_written none z = z
+list_written (more s item items) z = list_written items (item_written s.start item s.end z)
+
+-- white space at the end of items
+abbrev pub is_white_item : Item → Bool
+is_white_item tree.Blank = true
+is_white_item tree.Newline = true
+is_white_item _ = false
+
+abbrev pub tail_after : Item → Tail → ℕ → Parts → Tail
+tail_after item tail end z =
+    if is_white_item item then tail else record { kept = end; tokens = length z.tokens; labels = length z.labels; end = 0 }
+
+-- what a list ends with after these items
+abbrev pub tail_on : Tail → Items → Parts → Tail
+tail_on tail none z = tail
+tail_on tail (more s item items) z =
+    tail_on (tail_after item tail s.end (item_written s.start item s.end z)) items (item_written s.start item s.end z)
+
+abbrev pub with_end : Tail → ℕ → Tail
+with_end tail end = record { kept = tail.kept; tokens = tail.tokens; labels = tail.labels; end = end }
+
+abbrev pub listed_given : Option ℕ → Tail → Reading → Read (Items × ℕ) → Result (Tail × Reading) SyntaxFault
+listed_given outer tail v read =
+    given outer v.rest
+    (λ list rest. (with_end (tail_on tail list.0 v.parts) list.1, record { rest = rest; parts = list_written list.0 v.parts })) read
+
+-- where a list ends at the end of a text
+abbrev pub end_given : Option ℕ → Kind → Tail → ℕ → Result Tail SyntaxFault
+end_given outer Top tail n = Ok (with_end tail 0)
+end_given outer InX tail n = Err (Unclosed (open_at outer n))
+end_given outer InArguments tail n = Err (Unclosed (open_at outer n))
+
+-- after a list is the byte that ends it, if it isn't a whole text
+abbrev pub EndsAt : Kind → ℕ → List ℕ → Type 0
+EndsAt Top end rest = Unit {0}
+EndsAt InX end rest = first_of rest ≡ Some end
+EndsAt InArguments end rest = first_of rest ≡ Some end
+
+-- parts that hold lists
+
+abbrev pub opened_here : TokenKind → Label → ℕ → Reading → Open × Reading
+opened_here kind label start v =
+    (record { token = length v.parts.tokens; start = start }, record { rest = v.rest; parts = opened kind label start v.parts })
+
+-- an alternative without tests, with its colon
+abbrev pub default_here : Reading → Choice × Reading
+default_here v = (
+  record { part = record { token = length v.parts.tokens; start = v.rest.at }; label = length v.parts.labels; starred = false },
+  record { rest = after 1 v.rest; parts = opened kinds.Alternative no_label v.rest.at v.parts },
+)
+
+-- the part that is open ends at this place
+abbrev pub closed_at : TokenKind → Open → ℕ → Parts → Parts
+closed_at kind part end z =
+    record {
+      tokens = slice_set z.tokens part.token (whole_token kind part.start end (length z.tokens));
+      labels = z.labels;
+      holds =
+          z.holds;
+    }
+
+abbrev pub closed_here : TokenKind → Open → ℕ → Reading → Reading
+closed_here kind part end v = record { rest = v.rest; parts = closed_at kind part end v.parts }
+
+-- an alternative ends, whose X ends so
+abbrev pub owned_at : Choice → Tail → Bool → Parts → Parts
+owned_at c tail holds z =
+    record {
+      tokens = slice_set (take tail.tokens z.tokens) c.part.token
+          (whole_token kinds.Alternative c.part.start tail.kept (length (take tail.tokens z.tokens)));
+      labels = slice_set (take tail.labels z.labels) c.label (star_label z.holds);
+      holds = holds;
+    }
+
+abbrev pub owned_here : Choice → Tail → Bool → Reading → Reading
+owned_here c tail holds v = record { rest = v.rest; parts = owned_at c tail holds v.parts }
+
+-- no %* so far
+abbrev pub unheld : Parts → Parts
+unheld z = record { tokens = z.tokens; labels = z.labels; holds = false }
+
+-- the X of an alternative, which begins here, and the byte that ends it
+abbrev pub x_given : Option ℕ → ℕ → Choice → Reading → Read (Items × ℕ) → Result (ℕ × Reading) SyntaxFault
+x_given outer at c v read =
+    given (Some (open_at outer at)) v.rest
+    (λ list rest. (
+      list.1,
+      record {
+        rest = after 1 rest;
+        parts = owned_at c (tail_on (tail_at v) list.0 (unheld v.parts)) v.parts.holds (list_written list.0 (unheld v.parts));
+      },
+    )) read
+
+-- the inside of braces
+
+abbrev pub choice_written : Span → tree.Tests → Items → Parts → Parts
+choice_written s tests items z =
+    wrote (node kinds.Alternative (alternative_label items) s (both (test_nodes tests) (nodes_of items)) no_node) (tests_have_star tests) z
+
+abbrev pub choices_written : Choices → Parts → Parts
+choices_written no_choice z = z
+choices_written (choice s tests items choices) z = choices_written choices (choice_written s tests items z)
+
+abbrev pub brace_on : Parts → Brace → Left → inside_code.Inside × Reading
+brace_on z (tree.Emit ps) rest = (insides.Patterns, record { rest = rest; parts = patterns_written ps z })
+brace_on z (tree.Choose choices) rest = (insides.Choices, record { rest = rest; parts = choices_written choices z })
+
+abbrev pub brace_given : Option ℕ → Reading → Read Brace → Result (inside_code.Inside × Reading) SyntaxFault
+brace_given outer v read = given outer v.rest (λ brace rest. brace_on v.parts brace rest) read
+
+-- alternatives after the first; there are no patterns
+abbrev pub later_on : Parts → Brace → Left → Reading
+later_on z (tree.Emit ps) rest = record { rest = rest; parts = z }
+later_on z (tree.Choose choices) rest = record { rest = rest; parts = choices_written choices z }
+
+abbrev pub later_given : Option ℕ → Reading → Read Brace → Result Reading SyntaxFault
+later_given outer v read = given outer v.rest (λ brace rest. later_on v.parts brace rest) read
+
+abbrev pub brace_kind : BraceKind → inside_code.Inside → TokenKind
+brace_kind InPlace insides.Patterns = kinds.Emit
+brace_kind InPlace insides.Choices = kinds.Choose
+brace_kind IntoFailureFile inside = kinds.FailureFile
+brace_kind IntoArgumentsFile inside = kinds.ArgumentsFile
+
+-- a test of a function's result, from its percent sign on
+abbrev pub result_on : Option Choice → ℕ → Bool → Parts → Option tree.Asked → Left → Choice × Reading
+result_on so_far start negated z (Some a) rest = choice_here (added so_far z (span start rest.at) negated a) rest
+result_on so_far start negated z None rest = choice_here (added so_far z (span start rest.at) negated (tree.HasSuffix [])) rest
+
+abbrev pub result_given : Option ℕ → Option Choice → ℕ → Bool → Reading → Read d.Operand → Result (Choice × Reading) SyntaxFault
+result_given outer so_far start negated v read =
+    given outer (after 1 v.rest) (λ o rest. result_on so_far start negated v.parts o.as_test rest) read
+
+-- a directive, from its percent sign on
+abbrev pub directive_given : Option ℕ → ListContext → Lists × Lists → Reading → Result Reading SyntaxFault
+directive_given outer c lists v =
+    given outer (after 1 v.rest) (λ item rest. record { rest = rest; parts = item_written v.rest.at item rest.at v.parts })
+    (d.directive lists.0 lists.1 c v.rest.at (drop 1 v.rest.bytes))

@@ -1,0 +1,231 @@
+use Rattle.drv_words.specs.Bytes as ascii
+use Rattle.drv_syntax.specs.Bytes.{is_white}
+use Rattle.drv_syntax.specs.Code.Left.{Left, after}
+use Rattle.drv_syntax.specs.Code.Tokens.{open_token}
+use Rattle.drv_syntax.specs.Code.Writing.{Parts, Reading, at_rest, given, leaf_until, leafed, open_at, spelled, wrote}
+use Rattle.drv_syntax.specs.Descent as d
+use Rattle.drv_syntax.specs.Descent.{Ends, Form, Read, Stops, Took, Tried}
+use Rattle.drv_syntax.specs.Labels.{Label, asked_nodes, no_label, no_node, node, part_label, pattern_label, test_label, word_label}
+use Rattle.drv_syntax.specs.Refusals as refusals
+use Rattle.drv_syntax.specs.Spelling.{span}
+use Rattle.drv_syntax.specs.Stars.{asked_has_star}
+use Rattle.drv_syntax.specs.Tree.{Asked, HasLanguage, HasResult, HasSuffix, HasSwitch, Pattern, Span, Tests, no_test, pattern, test}
+use Rattle.drv_syntax.specs.declared.descent.lists.Form as code
+use Rattle.drv_syntax.specs.declared.descent.lists.Form.TheVariants as forms
+use Rattle.drv_syntax.specs.declared.descent.parts.Choice.{Choice}
+use Rattle.drv_syntax.specs.declared.descent.tests.Asked as asked_code
+use Rattle.drv_syntax.specs.declared.descent.tests.Asked.TheVariants as asking
+use Rattle.drv_syntax.specs.declared.descent.tests.Begun.{Begun}
+use Rattle.drv_syntax.specs.declared.descent.tests.MarkForm.TheVariants as marks
+use Rattle.drv_syntax.specs.declared.descent.tests.MarkForm.{MarkForm}
+use Rattle.drv_syntax.specs.declared.descent.tests.Next.{Next}
+use Rattle.drv_syntax.specs.declared.descent.tests.Next.TheVariants as nexts
+use Rattle.drv_syntax.specs.declared.descent.tests.Operand.{Operand}
+use Rattle.drv_syntax.specs.declared.descent.tests.Order.{Order}
+use Rattle.drv_syntax.specs.declared.descent.tests.Order.TheVariants as orders
+use Rattle.drv_syntax.specs.declared.fault.SyntaxFault.TheVariants.{BadDirective, EmptyTest, Unclosed}
+use Rattle.drv_syntax.specs.declared.fault.SyntaxFault.{SyntaxFault}
+use Rattle.drv_syntax.specs.declared.token.TestKind.TheVariants as kinds_of_tests
+use Rattle.drv_syntax.specs.declared.token.TestKind.{TestKind}
+use Rattle.drv_syntax.specs.declared.token.TokenKind.TheVariants as kinds
+use Rattle.drv_syntax.specs.declared.token.TokenKind.{TokenKind}
+use Rattle.std.specs.List.{prefix_len}
+use Rattle.std.specs.Prelude.{◌==◌, ◌&&◌, ◌++◌, Bool, false, true, if◌then◌else◌, List, [], ◌∷◌, Err, None, Ok, Option, Result, Some}
+use Rattle.std.specs.Prelude.{length, ℕ}
+
+-- What the code writes of the tests and the patterns of braces. For the clauses of the code alone.
+
+-- a pattern
+abbrev pub pattern_given : Option ℕ → Reading → Read Pattern → Result (Pattern × Reading) SyntaxFault
+pattern_given outer v read = given outer v.rest (λ p rest. (p, at_rest rest v)) read
+
+abbrev pub patterns_written : List (Span × Pattern) → Parts → Parts
+patterns_written [] z = z
+patterns_written (p ∷ ps) z = patterns_written ps (leafed kinds.Pattern (pattern_label p.1) p.0.start p.0.end z)
+
+-- patterns, with the brace that closes them
+abbrev pub patterns_given : Option ℕ → Reading → Read (List (Span × Pattern)) → Result Reading SyntaxFault
+patterns_given outer v read = given outer v.rest (λ ps rest. record { rest = after 1 rest; parts = patterns_written ps v.parts }) read
+
+abbrev pub order_seen : Order → refusals.Order
+order_seen orders.AtFront = refusals.AtFront
+order_seen orders.AtNext = refusals.AtNext
+order_seen orders.AtBar = refusals.AtBar
+
+-- what was read of a test, with this word
+abbrev pub operand_of : asked_code.Asked → List ℕ → d.Operand
+operand_of (asking.Switch starred) word = d.switch_operand (pattern word starred)
+operand_of (asking.Marked mark) word = d.marked_operand mark word
+operand_of (asking.StarredMark mark) word = d.starred_operand mark word
+operand_of (asking.Bare mark) word = d.bare_operand mark
+
+abbrev pub operand_seen : Operand → List ℕ → d.Operand
+operand_seen o copied = operand_of o.asked (spelled o.word copied)
+
+abbrev pub operand_given : Option ℕ → Reading → Read d.Operand → Result (d.Operand × Reading) SyntaxFault
+operand_given outer v read = given outer v.rest (λ o rest. (o, at_rest rest v)) read
+
+abbrev pub bare_form : ℕ → ℕ → Result MarkForm SyntaxFault
+bare_form at b =
+    if b == ascii.closing_brace then Ok marks.Bare
+    else if b == ascii.ampersand then Ok marks.Bare
+    else if is_white b then Ok marks.Bare
+    else Err (EmptyTest at)
+
+-- what comes after a mark, by the byte after the word there, which has no bytes or some
+abbrev pub mark_form : Option ℕ → ℕ → Bool → Bool → Option ℕ → Result MarkForm SyntaxFault
+mark_form outer at emits true None = Err (Unclosed (open_at outer at))
+mark_form outer at emits false None = Ok marks.Word
+mark_form outer at emits none (Some b) =
+    if b == ascii.asterisk then (if emits then Ok marks.Star else if none then Err (EmptyTest at) else Err (BadDirective at))
+    else if none then (if emits then bare_form at b else Err (EmptyTest at))
+    else Ok marks.Word
+
+abbrev pub marked_as : MarkForm → ℕ → asked_code.Asked
+marked_as marks.Word mark = asking.Marked mark
+marked_as marks.Star mark = asking.StarredMark mark
+marked_as marks.Bare mark = asking.Bare mark
+
+-- as a pattern it has this label
+abbrev pub emitted_label : asked_code.Asked → List ℕ → Label
+emitted_label (asking.Switch starred) word = part_label word starred false kinds_of_tests.Switch
+emitted_label (asking.Marked mark) word = part_label (mark ∷ word) false false kinds_of_tests.Switch
+emitted_label (asking.StarredMark mark) word = part_label (mark ∷ word) true false kinds_of_tests.Switch
+emitted_label (asking.Bare mark) word = word_label (mark ∷ [])
+
+abbrev pub mark_asks : ℕ → Bool × TestKind
+mark_asks mark = if mark == ascii.period then (false, kinds_of_tests.Suffix) else (false, kinds_of_tests.Language)
+
+abbrev pub asks_seen : asked_code.Asked → Bool × TestKind
+asks_seen (asking.Switch starred) = (starred, kinds_of_tests.Switch)
+asks_seen (asking.Marked mark) = mark_asks mark
+asks_seen (asking.StarredMark mark) = mark_asks mark
+asks_seen (asking.Bare mark) = mark_asks mark
+
+-- as a test it asks this
+abbrev pub test_of : asked_code.Asked → List ℕ → Asked
+test_of (asking.Switch starred) word = HasSwitch (pattern word starred)
+test_of (asking.Marked mark) word = d.marked mark word
+test_of (asking.StarredMark mark) word = d.marked mark word
+test_of (asking.Bare mark) word = d.marked mark word
+
+-- alternatives that are open
+
+abbrev pub opened : TokenKind → Label → ℕ → Parts → Parts
+opened kind label start z = record { tokens = z.tokens ++ open_token kind start ∷ []; labels = z.labels ++ label ∷ []; holds = z.holds }
+
+abbrev pub choice_open : Option Choice → ℕ → Parts → Choice × Parts
+choice_open (Some choice) start z = (choice, z)
+choice_open None start z = (
+  record { part = record { token = length z.tokens; start = start }; label = length z.labels; starred = true },
+  opened kinds.Alternative no_label start z,
+)
+
+-- the test is a starred pattern without a !
+abbrev pub is_starred : Bool → Asked → Bool
+is_starred false (HasSwitch (pattern word starred)) = starred
+is_starred false (HasSuffix word) = false
+is_starred false (HasLanguage word) = false
+is_starred false (HasResult name arguments) = false
+is_starred true a = false
+
+abbrev pub test_written : Span → Bool → Asked → Parts → Parts
+test_written s negated a z = wrote (node kinds.Test (test_label negated a) s (asked_nodes a) no_node) (asked_has_star a) z
+
+-- one test more
+abbrev pub test_added : Choice × Parts → Span → Bool → Asked → Choice × Parts
+test_added z s negated a =
+    (record { part = z.0.part; label = z.0.label; starred = z.0.starred && is_starred negated a }, test_written s negated a z.1)
+
+abbrev pub added : Option Choice → Parts → Span → Bool → Asked → Choice × Parts
+added so_far z s negated a = test_added (choice_open so_far s.start z) s negated a
+
+abbrev pub choice_here : Choice × Parts → Left → Choice × Reading
+choice_here z rest = (z.0, record { rest = rest; parts = z.1 })
+
+-- a test in the alternative so far, or in one that begins with it
+abbrev pub asked_on : Option Choice → Reading → Span → Bool → Asked → Choice × Reading
+asked_on so_far v s negated a = choice_here (added so_far v.parts s negated a) v.rest
+
+abbrev pub tests_on : Choice × Parts → Tests → Choice × Parts
+tests_on z no_test = z
+tests_on z (test s negated a tests) = tests_on (test_added z s negated a) tests
+
+-- a pattern there, if the braces may be that
+abbrev pub pattern_ends : ℕ → Bool → Label → ℕ → ℕ → Reading → Result Reading SyntaxFault
+pattern_ends at emits label start end v = if emits then Ok (leaf_until kinds.Pattern label start end v) else Err (BadDirective at)
+
+-- a test there, if what was read can be that
+abbrev pub test_ends : ℕ → Option Choice → ℕ → ℕ → Bool → asked_code.Asked → List ℕ → Reading → Result (Choice × Reading) SyntaxFault
+test_ends at so_far start end negated (asking.Switch starred) word v =
+    Ok (asked_on so_far v (span start end) negated (HasSwitch (pattern word starred)))
+test_ends at so_far start end negated (asking.Marked mark) word v = Ok (asked_on so_far v (span start end) negated (d.marked mark word))
+test_ends at so_far start end negated (asking.StarredMark mark) word v = Err (BadDirective at)
+test_ends at so_far start end negated (asking.Bare mark) word v = Err (EmptyTest at)
+
+abbrev pub tried_seen : ℕ → ℕ → Bool → d.Operand → ℕ → Tried
+tried_seen start end negated operand b = record { place = span start end; negated = negated; operand = operand; byte = b }
+
+-- what a test and the byte after it make of the braces, with that byte
+abbrev pub after_given : Option Choice → Reading → d.After → Result (Next × Reading) SyntaxFault
+after_given so_far v (d.Emits p) =
+    Ok (nexts.Emits, record { rest = after 1 v.rest; parts = leafed kinds.Pattern (pattern_label p.1) p.0.start p.0.end v.parts })
+after_given so_far v (d.Joins p) =
+    Ok (nexts.Joins, record { rest = after 1 v.rest; parts = leafed kinds.Pattern (pattern_label p.1) p.0.start p.0.end v.parts })
+after_given so_far v (d.Asks s negated a) =
+    Ok (nexts.Asks (added so_far v.parts s negated a).0, record { rest = after 1 v.rest; parts = (added so_far v.parts s negated a).1 })
+after_given so_far v (d.Bars s negated a) =
+    Ok (nexts.Bars (added so_far v.parts s negated a).0, record { rest = after 1 v.rest; parts = (added so_far v.parts s negated a).1 })
+after_given so_far v (d.Fails fault) = Err fault
+
+abbrev pub tried_given : Option ℕ → ℕ → refusals.Order → Option Choice → Reading → Read Tried → Result (Next × Reading) SyntaxFault
+tried_given outer at order so_far v (Took t size) = after_given so_far (at_rest (after size v.rest) v) (d.after at order t)
+tried_given outer at order so_far v (Ends n) = Err (Unclosed (open_at outer n))
+tried_given outer at order so_far v (Stops n fault) = Err fault
+
+-- the byte after a test of a function's result, which is in its alternative
+abbrev pub result_after : ℕ → Choice → ℕ → Result Next SyntaxFault
+result_after at choice b =
+    if b == ascii.colon then Ok (nexts.Asks choice) else if b == ascii.bar then Ok (nexts.Bars choice) else Err (BadDirective at)
+
+-- white space, a ! and white space or nothing, and the byte after it
+abbrev pub first_given : Option ℕ → ℕ → ℕ → Bool → Reading → List ℕ → Result (Begun × Reading) SyntaxFault
+first_given outer at start negated v [] = Err (Unclosed (open_at outer at))
+first_given outer at start negated v (b ∷ text) = Ok (record { start = start; negated = negated; byte = b }, v)
+
+abbrev pub spaced : Left → Left
+spaced rest = after (prefix_len is_white rest.bytes) rest
+
+abbrev pub sign_given : Option ℕ → ℕ → Reading → List ℕ → Result (Begun × Reading) SyntaxFault
+sign_given outer at v [] = Err (Unclosed (open_at outer at))
+sign_given outer at v (b ∷ text) =
+    if b == ascii.exclamation_mark
+    then first_given outer at v.rest.at true (at_rest (spaced (after 1 v.rest)) v) (spaced (after 1 v.rest)).bytes
+    else Ok (record { start = v.rest.at; negated = false; byte = b }, v)
+
+abbrev pub begun_given : Option ℕ → ℕ → Reading → Result (Begun × Reading) SyntaxFault
+begun_given outer at v = sign_given outer at (at_rest (spaced v.rest) v) (spaced v.rest).bytes
+
+-- what braces or an alternative begin with, and the byte after it
+abbrev pub form_on : Parts → Form → Left → code.Form × Reading
+form_on z (d.Patterns ps) rest = (forms.Patterns, record { rest = after 1 rest; parts = patterns_written ps z })
+form_on z (d.Alternative s negated a tests) rest = (
+  forms.Tests (tests_on (added None z s negated a) tests).0,
+  record {
+    rest = after 1 rest;
+    parts =
+        (tests_on (added None z s negated a) tests).1;
+  },
+)
+
+abbrev pub form_given : Option ℕ → Reading → Read Form → Result (code.Form × Reading) SyntaxFault
+form_given outer v read = given outer v.rest (λ form rest. form_on v.parts form rest) read
+
+-- more tests of this alternative; there are no patterns
+abbrev pub more_on : Choice → Parts → Form → Left → Choice × Reading
+more_on choice z (d.Patterns ps) rest = (choice, record { rest = rest; parts = z })
+more_on choice z (d.Alternative s negated a tests) rest =
+    choice_here (tests_on (test_added (choice, z) s negated a) tests) (after 1 rest)
+
+abbrev pub more_given : Option ℕ → Choice → Reading → Read Form → Result (Choice × Reading) SyntaxFault
+more_given outer choice v read = given outer v.rest (λ form rest. more_on choice v.parts form rest) read

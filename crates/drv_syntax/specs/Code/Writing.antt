@@ -1,0 +1,161 @@
+use Rattle.drv_words.specs.Bytes as ascii
+use Rattle.drv_syntax.specs.Bytes.{is_function, is_function_front, is_option, is_word}
+use Rattle.drv_syntax.specs.Contexts.{InArguments, InX, Kind, Top, is_said}
+use Rattle.drv_syntax.specs.Code.Left.{Left, after}
+use Rattle.drv_syntax.specs.Code.Tokens.{whole_token}
+use Rattle.drv_syntax.specs.Descent.{Ends, Hangs, Quoted, Read, Run, Stops, Took, pattern_at, then_read}
+use Rattle.drv_syntax.specs.Labels.{Label, Nodes, inner_nodes, label_of, labels, no_node, node}
+use Rattle.drv_syntax.specs.Spelling.{span}
+use Rattle.drv_syntax.specs.Stars.{item_has_star}
+use Rattle.drv_syntax.specs.Tokens.{kind_of, token}
+use Rattle.drv_syntax.specs.Tree.{Hide, Item}
+use Rattle.drv_syntax.specs.declared.descent.reader.Reader as code
+use Rattle.drv_syntax.specs.declared.descent.reader.Spelled.TheVariants as spellings
+use Rattle.drv_syntax.specs.declared.descent.reader.Spelled.{Spelled}
+use Rattle.drv_syntax.specs.declared.descent.words.Class.TheVariants as classes
+use Rattle.drv_syntax.specs.declared.descent.words.Class.{Class}
+use Rattle.drv_syntax.specs.declared.directives.SayKind.TheVariants.{AsError, AsNotice}
+use Rattle.drv_syntax.specs.declared.directives.SayKind.{SayKind}
+use Rattle.drv_syntax.specs.declared.fault.SyntaxFault.TheVariants.{EmptyTest, Unclosed, UnknownFunction}
+use Rattle.drv_syntax.specs.declared.fault.SyntaxFault.{SyntaxFault}
+use Rattle.drv_syntax.specs.declared.descent.contexts.ListKind.TheVariants as lists
+use Rattle.drv_syntax.specs.declared.descent.contexts.ListKind.{ListKind}
+use Rattle.drv_syntax.specs.declared.token.Token.{Token}
+use Rattle.drv_syntax.specs.declared.token.TokenKind.TheVariants as kinds
+use Rattle.drv_syntax.specs.declared.token.TokenKind.{TokenKind}
+use Rattle.std.specs.Prelude.{◌+◌, ◌++◌, ◌||◌, ◌==◌, Bool, false, true, if◌then◌else◌, List, [], ◌∷◌, Err, None, Ok, Option, Result, Some}
+use Rattle.std.specs.Prelude.{length, ℕ}
+
+-- What the code writes of what it reads: the tokens of a part and their labels, after those before. For the clauses of the code alone.
+
+-- the parts so far: their tokens and labels, and whether the innermost X has a %* of its own
+pub record Parts : Type 0 where
+  pub tokens : List Token
+  pub labels : List Label
+  pub holds : Bool
+
+pub record Reading : Type 0 where
+  pub rest : Left
+  pub parts : Parts
+
+abbrev pub seen : code.Reader → Reading
+seen r = record { rest = r.rest; parts = record { tokens = r.tokens; labels = r.labels; holds = r.holds_star } }
+
+-- the tokens of parts, from the place n of the list on
+abbrev pub flat : ℕ → Nodes → List Token
+flat n no_node = []
+flat n (node kind label s inner others) = token n kind s (flat (n + 1) inner) (λ m. flat m others)
+
+-- these parts too, which have a %* of an X or have none
+abbrev pub wrote : Nodes → Bool → Parts → Parts
+wrote nodes holds z = record {
+  tokens = z.tokens ++ flat (length z.tokens) nodes;
+  labels = z.labels ++ labels nodes;
+  holds =
+      z.holds || holds;
+}
+
+-- a part without parts inside it
+abbrev pub leafed : TokenKind → Label → ℕ → ℕ → Parts → Parts
+leafed kind label start end z =
+    record { tokens = z.tokens ++ whole_token kind start end (length z.tokens + 1) ∷ []; labels = z.labels ++ label ∷ []; holds = z.holds }
+
+-- the same, up to what is left
+abbrev pub leaf_here : TokenKind → Label → ℕ → Reading → Reading
+leaf_here kind label start v = record { rest = v.rest; parts = leafed kind label start v.rest.at v.parts }
+
+-- the same, up to this place
+abbrev pub leaf_until : TokenKind → Label → ℕ → ℕ → Reading → Reading
+leaf_until kind label start end v = record { rest = v.rest; parts = leafed kind label start end v.parts }
+
+abbrev pub at_rest : Left → Reading → Reading
+at_rest rest v = record { rest = rest; parts = v.parts }
+
+-- an item, whose bytes begin at one place and end at another
+abbrev pub item_written : ℕ → Item → ℕ → Parts → Parts
+item_written start item end z = wrote (node (kind_of item) (label_of item) (span start end) (inner_nodes item) no_node) (item_has_star item)
+    z
+
+-- the place of the directive that a text ends in: the outermost that is open, or else this
+abbrev pub open_at : Option ℕ → ℕ → ℕ
+open_at (Some outer) at = outer
+open_at None at = at
+
+-- what the reading of a part gives, by what is written of it, where this directive is the outermost that is open
+abbrev pub given : {X Y : Type 0} → Option ℕ → Left → (X → Left → Y) → Read X → Result Y SyntaxFault
+given outer rest f (Took x size) = Ok (f x (after size rest))
+given outer rest f (Ends at) = Err (Unclosed (open_at outer at))
+given outer rest f (Stops n fault) = Err fault
+
+-- an item that begins at this place, of which what is left is read
+abbrev pub item_given : Option ℕ → ℕ → Reading → Read Item → Result Reading SyntaxFault
+item_given outer start v read = given outer v.rest (λ item rest. record { rest = rest; parts = item_written start item rest.at v.parts })
+    read
+
+-- words
+
+abbrev pub is_empty : List ℕ → Bool
+is_empty [] = true
+is_empty (b ∷ word) = false
+
+abbrev pub kind_seen : ListKind → Kind
+kind_seen lists.Top = Top
+kind_seen lists.InX = InX
+kind_seen lists.InArguments = InArguments
+
+abbrev pub in_class : Class → ℕ → Bool
+in_class classes.Option b = is_option b
+in_class classes.Word b = is_word b
+in_class (classes.Said list) b = is_said (kind_seen list) b
+
+-- the bytes of a class that are no backslash
+abbrev pub runs_in : Class → ℕ → Bool
+runs_in class b = if b == ascii.backslash then false else in_class class b
+
+-- a word, where the last with escapes is this one
+abbrev pub spelled : Spelled → List ℕ → List ℕ
+spelled (spellings.Lent bytes) copied = bytes.now
+spelled spellings.Copied copied = copied
+
+-- what a run leaves after so many of its bytes: its word, if the text doesn't end in an escape
+abbrev pub quoted_to : List ℕ → Reading → Quoted → Option (List ℕ) × Reading
+quoted_to front v (Run word size) = (Some (front ++ word), at_rest (after size v.rest) v)
+quoted_to front v (Hangs size) = (None, at_rest (after size v.rest) v)
+
+abbrev pub quoted_seen : Bool → List ℕ → Reading → Option (List ℕ) × Reading
+quoted_seen true word v = (Some word, v)
+quoted_seen false word v = (None, v)
+
+abbrev pub words_seen : Option Spelled → List ℕ → Reading → Option (List ℕ) × Reading
+words_seen (Some word) copied v = (Some (spelled word copied), v)
+words_seen None copied v = (None, v)
+
+-- %< and its pattern
+abbrev pub hidden : ℕ → ℕ → List ℕ → Read Item
+hidden at n text = then_read (pattern_at at n text) (λ p size. Took (Hide p) size)
+
+-- a function's name, and its parenthesis
+abbrev pub named_given : Option ℕ → Reading → Read (List ℕ) → Result (List ℕ × Reading) SyntaxFault
+named_given outer v read = given outer v.rest (λ name rest. (name, at_rest rest v)) read
+
+-- a star follows a word here, which has no bytes or some, if they make a pattern
+abbrev pub star_after : Option ℕ → ℕ → Bool → Option ℕ → Result Bool SyntaxFault
+star_after outer at true None = Err (Unclosed (open_at outer at))
+star_after outer at false None = Ok false
+star_after outer at none (Some b) = if b == ascii.asterisk then Ok true else if none then Err (EmptyTest at) else Ok false
+
+abbrev pub said_kind : SayKind → TokenKind
+said_kind AsError = kinds.UserError
+said_kind AsNotice = kinds.Notice
+
+-- how many bytes of a text go on with a function's name, after so much of it
+abbrev pub front_size : List ℕ → List ℕ → ℕ
+front_size name [] = 0
+front_size name (b ∷ text) = if is_function_front (name ++ b ∷ []) then 1 + front_size (name ++ b ∷ []) text else 0
+
+-- after the name
+abbrev pub function_end : ℕ → ℕ → List ℕ → List ℕ → Read (List ℕ)
+function_end at n name [] = Ends at
+function_end at n name (b ∷ text) =
+    if b == ascii.opening_parenthesis then (if is_function name then Took name 1 else Stops n (UnknownFunction at))
+    else Stops n (UnknownFunction at)

@@ -1,0 +1,133 @@
+//! Items without an inside.
+
+ghost use Rattle.drv_syntax.specs.Code.Writing.{hidden, item_given, kind_seen, said_kind, seen};
+ghost use Rattle.drv_syntax.specs.Descent as descent;
+ghost use Rattle.drv_words.specs.Gives.{Gives};
+ghost use Rattle.std.specs.Prelude.{◌≡◌, []};
+
+use crate::descent::contexts::ListKind;
+use crate::descent::patterns::pattern;
+use crate::descent::reader::{Reader, is_none, named, starred, unclosed};
+use crate::descent::runs::{name_length, suffix_length};
+use crate::descent::words::{Class, first, quoted};
+use crate::directives::SayKind;
+use crate::fault::SyntaxFault;
+use crate::token::{TempKind, TokenKind};
+
+/// `%g` and its like, after the letter.
+pub fn suffix(
+    outer: Option<u32>,
+    kind: TempKind,
+    at: u32,
+    r: &mut Reader<'_>,
+) -> Result<(), SyntaxFault>
+    ensures { Gives SyntaxFault.Memory (λ _. seen r.new) result (item_given outer at (seen r.old)
+        (descent.suffix kind r.old.rest.at r.old.rest.bytes)) }
+{
+    let kind = TokenKind::TempName(kind);
+    let bytes = r.rest.bytes();
+    let size = suffix_length(bytes);
+    if size != 0 {
+        let word = r.rest.take(size);
+        return named(kind, at, word, r);
+    }
+    match bytes {
+        [b'%'] => Err(unclosed(outer, r.rest.at())),
+        [b'%', b'O', ..] => {
+            r.rest.take(2);
+            named(kind, at, b".o", r)
+        }
+        _ => named(kind, at, b"", r),
+    }
+}
+
+/// `%x`, after the letter.
+pub fn option(outer: Option<u32>, at: u32, r: &mut Reader<'_>) -> Result<(), SyntaxFault>
+    ensures { Gives SyntaxFault.Memory (λ _. seen r.new) result (item_given outer at (seen r.old)
+        (descent.option at r.old.rest.at r.old.rest.bytes)) }
+{
+    let Some(b) = r.rest.first() else {
+        return Err(unclosed(outer, at));
+    };
+    if b != b'{' {
+        return Err(SyntaxFault::BadDirective(at as usize));
+    }
+    r.rest.take(1);
+    let Some(word) = quoted(Class::Option, r)? else {
+        return Err(unclosed(outer, at));
+    };
+    let none = is_none(word, &r.word);
+    let Some(_) = r.rest.first() else {
+        return Err(unclosed(outer, at));
+    };
+    if none {
+        return Err(SyntaxFault::BadDirective(at as usize));
+    }
+    r.rest.take(1);
+    starred(TokenKind::AddOption, at, word, false, r)?;
+    Ok(())
+}
+
+/// `%(`, after the bracket.
+pub fn name(outer: Option<u32>, at: u32, r: &mut Reader<'_>) -> Result<(), SyntaxFault>
+    ensures { Gives SyntaxFault.Memory (λ _. seen r.new) result (item_given outer at (seen r.old)
+        (descent.name_from at r.old.rest.at [] r.old.rest.bytes)) }
+{
+    let size = name_length(r.rest.bytes());
+    if size > 255 {
+        return Err(SyntaxFault::BadDirective(at as usize));
+    }
+    let name = r.rest.take(size);
+    let Some(b) = first(r.rest.bytes()) else {
+        return Err(unclosed(outer, at));
+    };
+    if size == 0 {
+        return Err(SyntaxFault::BadDirective(at as usize));
+    }
+    if b != b')' {
+        return Err(SyntaxFault::BadDirective(at as usize));
+    }
+    r.rest.take(1);
+    named(TokenKind::NamedText, at, name, r)?;
+    Ok(())
+}
+
+/// `%<` or `%>`, after the byte.
+pub fn hide(outer: Option<u32>, at: u32, r: &mut Reader<'_>) -> Result<(), SyntaxFault>
+    ensures { Gives SyntaxFault.Memory (λ _. seen r.new) result (item_given outer at (seen r.old)
+        (hidden at r.old.rest.at r.old.rest.bytes)) }
+{
+    let p = pattern(outer, at, r)?;
+    starred(TokenKind::Hide, at, p.word, p.star, r)?;
+    Ok(())
+}
+
+/// A text for the user.
+#[inline(always)]
+fn said(kind: SayKind) -> TokenKind
+    ensures { result ≡ said_kind kind }
+{
+    match kind {
+        SayKind::AsError => TokenKind::UserError,
+        SayKind::AsNotice => TokenKind::Notice,
+    }
+}
+
+/// `%e` or `%n`, after the letter.
+pub fn saying(
+    outer: Option<u32>,
+    list: ListKind,
+    kind: SayKind,
+    at: u32,
+    r: &mut Reader<'_>,
+) -> Result<(), SyntaxFault>
+    ensures { Gives SyntaxFault.Memory (λ _. seen r.new) result (item_given outer at (seen r.old)
+        (descent.saying (kind_seen list) kind r.old.rest.at r.old.rest.bytes)) }
+{
+    let Some(word) = quoted(Class::Said(list), r)? else {
+        return Err(unclosed(outer, r.rest.at()));
+    };
+    r.rest.take_if(b'\n');
+    starred(said(kind), at, word, false, r)?;
+    Ok(())
+}

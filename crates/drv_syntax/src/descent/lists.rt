@@ -1,0 +1,445 @@
+//! Lists of items, and the parts that hold lists.
+
+ghost use Rattle.drv_syntax.specs.Code.Lists.{EndsAt, Opened, around, begins, brace_given, brace_kind, context_seen, directive_given, end_given, is_simple, later_given, listed_given, default_here, owner_when, result_given, tail_at, with_end, x_given};
+ghost use Rattle.drv_syntax.specs.Code.Tests.{form_given, more_given, order_seen, tried_given};
+ghost use Rattle.drv_syntax.specs.Code.Writing.{item_given, kind_seen, seen};
+ghost use Rattle.drv_syntax.specs.Code.Left.{begins_with};
+ghost use Rattle.drv_syntax.specs.Contexts as contexts;
+ghost use Rattle.drv_syntax.specs.Descent as descent;
+ghost use Rattle.drv_syntax.specs.Refusals as refusals;
+ghost use Rattle.drv_words.specs.Gives.{Gives};
+ghost use Rattle.std.specs.Prelude.{◌≡◌, ◌≤◌, IfOk, Ok, drop, length, true};
+
+use crate::descent::contexts::{ListContext, ListKind, in_arguments, in_braces, in_x, outermost};
+use crate::descent::functions::function;
+use crate::descent::parts::{Choice, close, close_choice, open, open_unnamed, opened};
+use crate::descent::patterns::patterns;
+use crate::descent::reader::{Reader, unclosed};
+use crate::descent::rest::white_length;
+use crate::descent::simple::{Tail, directive, ended, item, plains};
+use crate::descent::tests::{Begun, Next, Order, begin, plain_test, result_judged};
+use crate::descent::tokens::Open;
+use crate::descent::words::begins;
+use crate::directives::{BraceKind, Directive, allows, directive_of};
+use crate::fault::SyntaxFault;
+use crate::token::{TestKind, TokenKind};
+
+/// What braces hold.
+#[derive(Clone, Copy)]
+pub enum Inside {
+    /// Patterns.
+    Patterns,
+    /// Alternatives.
+    Choices,
+}
+
+/// What braces or an alternative begin with.
+#[derive(Clone, Copy)]
+pub enum Form {
+    /// Patterns, which end the braces.
+    Patterns,
+    /// The tests of this alternative.
+    Tests(Choice),
+}
+
+/// The byte ends such a list.
+#[inline(always)]
+fn ends_list(kind: ListKind, b: u8) -> bool
+    ensures { result ≡ descent.ends_list (kind_seen kind) b }
+{
+    match kind {
+        ListKind::Top => false,
+        ListKind::InX => b == b';' || b == b'}',
+        ListKind::InArguments => b == b')',
+    }
+}
+
+/// With this byte after it.
+#[inline(always)]
+fn with_end(tail: Tail, end: u8) -> Tail
+    ensures { result ≡ with_end tail end }
+{
+    Tail {
+        kept: tail.kept,
+        tokens: tail.tokens,
+        labels: tail.labels,
+        end,
+    }
+}
+
+/// Where a text ends in such a list.
+#[inline(always)]
+fn at_end(outer: Option<u32>, kind: ListKind, tail: Tail, n: u32) -> Result<Tail, SyntaxFault>
+    ensures { result ≡ end_given outer (kind_seen kind) tail n }
+{
+    match kind {
+        ListKind::Top => Ok(with_end(tail, 0)),
+        ListKind::InX | ListKind::InArguments => Err(unclosed(outer, n)),
+    }
+}
+
+/// It holds no parts.
+#[inline(always)]
+fn is_simple(d: Directive) -> bool
+    ensures { result ≡ is_simple d }
+{
+    !matches!(
+        d,
+        Directive::WithCall | Directive::WithBraces | Directive::WithMarkedBraces(_),
+    )
+}
+
+/// After so many bytes of a text is this one.
+#[inline(always)]
+fn begins_at(size: usize, b: u8, text: &[u8]) -> bool
+    requires { size ≤ length text.now }
+    ensures { result ≡ begins_with b (drop size text.now) }
+{
+    begins(b, &text[size..])
+}
+
+/// An alternative without tests opens at its colon, with the colon.
+#[inline(always)]
+fn opened_default(r: &mut Reader<'_>) -> Result<Choice, SyntaxFault>
+    requires { begins r.old.rest.bytes ≡ true }
+    ensures { Gives SyntaxFault.Memory (λ choice. (choice, seen r.new)) result
+        (Ok (default_here (seen r.old))) }
+{
+    let start = r.rest.at();
+    r.rest.take(1);
+    let label = r.labels.len();
+    let part = open_unnamed(TokenKind::Alternative, start, r)?;
+    Ok(Choice {
+        part,
+        label,
+        starred: false,
+    })
+}
+
+/// What braces of this kind are that hold such.
+#[inline(always)]
+fn brace_token(kind: BraceKind, inside: Inside) -> TokenKind
+    ensures { result ≡ brace_kind kind inside }
+{
+    match (kind, inside) {
+        (BraceKind::InPlace, Inside::Patterns) => TokenKind::Emit,
+        (BraceKind::InPlace, Inside::Choices) => TokenKind::Choose,
+        (BraceKind::IntoFailureFile, _) => TokenKind::FailureFile,
+        (BraceKind::IntoArgumentsFile, _) => TokenKind::ArgumentsFile,
+    }
+}
+
+/// A list of items, up to the byte that ends it.
+#[cycle(list)]
+pub fn items(outer: Option<u32>, c: ListContext, r: &mut Reader<'_>) -> Result<Tail, SyntaxFault>
+    requires { Opened (kind_seen c.kind) outer }
+    ensures list { Gives SyntaxFault.Memory (λ tail. (tail, seen r.new)) result
+        (listed_given outer (tail_at (seen r.old)) (seen r.old)
+        ((descent.levels c.levels).0 (context_seen c) r.old.rest.at r.old.rest.bytes)) }
+    ensures end { IfOk result (λ tail. EndsAt (kind_seen c.kind) tail.end r.new.rest.bytes) }
+{
+    let mut tail = ended(r);
+    loop {
+        tail = plains(c.kind, tail, r)?;
+        let Some(b) = r.rest.first() else {
+            let last = at_end(outer, c.kind, tail, r.rest.at())?;
+            return Ok(last);
+        };
+        if ends_list(c.kind, b) {
+            return Ok(with_end(tail, b));
+        }
+        if b == b'%' {
+            percent(outer, c, r)?;
+            tail = ended(r);
+        } else {
+            tail = item(outer, c.in_arguments, b, tail, r)?;
+        }
+    }
+}
+
+/// A directive, from its percent sign on.
+#[inline(always)]
+#[cycle(list)]
+fn percent(outer: Option<u32>, c: ListContext, r: &mut Reader<'_>) -> Result<(), SyntaxFault>
+    requires { begins r.old.rest.bytes ≡ true }
+    ensures { Gives SyntaxFault.Memory (λ _. seen r.new) result
+        (directive_given outer (context_seen c) (around c.levels) (seen r.old)) }
+{
+    let at = r.rest.at();
+    r.rest.take(1);
+    let Some(b) = r.rest.first() else {
+        return Err(unclosed(outer, at));
+    };
+    if !allows(c.in_arguments, b) {
+        return Err(SyntaxFault::BadDirective(at as usize));
+    }
+    r.rest.take(1);
+    let d = directive_of(b);
+    if is_simple(d) {
+        directive(outer, c, at, d, r)?;
+        return Ok(());
+    }
+    if c.levels == 0 {
+        return Err(SyntaxFault::TooNested(at as usize));
+    }
+    match d {
+        Directive::WithCall => call(outer, c, at, r)?,
+        Directive::WithBraces => braces(outer, c, at, BraceKind::InPlace, r)?,
+        Directive::WithMarkedBraces(kind) => {
+            let Some(b) = r.rest.first() else {
+                return Err(unclosed(outer, at));
+            };
+            if b != b'{' {
+                return Err(SyntaxFault::BadDirective(at as usize));
+            }
+            r.rest.take(1);
+            braces(outer, c, at, kind, r)?
+        }
+        _ => return Err(SyntaxFault::BadDirective(at as usize)),
+    }
+    Ok(())
+}
+
+/// A function's name and its arguments.
+#[cycle(list)]
+fn call(outer: Option<u32>, c: ListContext, at: u32, r: &mut Reader<'_>) -> Result<(), SyntaxFault>
+    requires { 1 ≤ c.levels }
+    ensures { Gives SyntaxFault.Memory (λ _. seen r.new) result (item_given outer at (seen r.old)
+        (descent.call (around c.levels).0 (context_seen c) at r.old.rest.at r.old.rest.bytes)) }
+{
+    let outer = outermost(outer, at);
+    let name = function(outer, at, r)?;
+    let part = open(TokenKind::Function, at, name, false, TestKind::Switch, r)?;
+    items(outer, in_arguments(c), r)?;
+    r.rest.take(1);
+    close(TokenKind::Function, part, r);
+    Ok(())
+}
+
+/// The inside of braces, with the one that closes them.
+#[inline(always)]
+#[cycle(list)]
+fn braces(
+    outer: Option<u32>,
+    c: ListContext,
+    at: u32,
+    kind: BraceKind,
+    r: &mut Reader<'_>,
+) -> Result<(), SyntaxFault>
+    requires { 1 ≤ c.levels }
+    ensures { Gives SyntaxFault.Memory (λ _. seen r.new) result (item_given outer at (seen r.old)
+        (descent.braces (around c.levels).0 (around c.levels).1 (context_seen c) at kind
+        r.old.rest.at r.old.rest.bytes)) }
+{
+    let part = open_unnamed(TokenKind::Choose, at, r)?;
+    let inside = choices(outer, c, at, r)?;
+    close(brace_token(kind, inside), part, r);
+    Ok(())
+}
+
+/// Patterns, or alternatives.
+#[inline(always)]
+#[cycle(list)]
+fn choices(
+    outer: Option<u32>,
+    c: ListContext,
+    at: u32,
+    r: &mut Reader<'_>,
+) -> Result<Inside, SyntaxFault>
+    requires { 1 ≤ c.levels }
+    ensures { Gives SyntaxFault.Memory (λ inside. (inside, seen r.new)) result
+        (brace_given outer (seen r.old)
+        (descent.choices (around c.levels).0 (around c.levels).1 (context_seen c) at
+        refusals.AtFront r.old.rest.at 0 r.old.rest.bytes)) }
+{
+    let choice = match tests(outer, c, at, Order::AtFront, r)? {
+        Form::Patterns => return Ok(Inside::Patterns),
+        Form::Tests(choice) => choice,
+    };
+    if x(outer, c, at, choice, r)? != b'}' {
+        later(outer, c, at, r)?;
+    }
+    Ok(Inside::Choices)
+}
+
+/// Alternatives after the first.
+#[cycle(list)]
+fn later(outer: Option<u32>, c: ListContext, at: u32, r: &mut Reader<'_>) -> Result<(), SyntaxFault>
+    requires { 1 ≤ c.levels }
+    ensures { Gives SyntaxFault.Memory (λ _. seen r.new) result (later_given outer (seen r.old)
+        (descent.choices (around c.levels).0 (around c.levels).1 (context_seen c) at
+        refusals.AtNext r.old.rest.at 0 r.old.rest.bytes)) }
+{
+    loop {
+        let white = white_length(r.rest.bytes());
+        if begins_at(white, b':', r.rest.bytes()) {
+            r.rest.take(white);
+            let choice = opened_default(r)?;
+            if x(outer, c, at, choice, r)? != b'}' {
+                return Err(SyntaxFault::EmptyTest(at as usize));
+            }
+            return Ok(());
+        }
+        let Form::Tests(choice) = tests(outer, c, at, Order::AtNext, r)? else {
+            return Err(SyntaxFault::BadDirective(at as usize));
+        };
+        if x(outer, c, at, choice, r)? == b'}' {
+            return Ok(());
+        }
+    }
+}
+
+/// The X of an alternative, after its colon, and the byte that ends it.
+#[cycle(list)]
+fn x(
+    outer: Option<u32>,
+    c: ListContext,
+    at: u32,
+    choice: Choice,
+    r: &mut Reader<'_>,
+) -> Result<u8, SyntaxFault>
+    requires { 1 ≤ c.levels }
+    ensures { Gives SyntaxFault.Memory (λ end. (end, seen r.new)) result
+        (x_given outer at choice (seen r.old) ((around c.levels).0
+        (owner_when choice.starred (contexts.in_braces (context_seen c)))
+        r.old.rest.at r.old.rest.bytes)) }
+{
+    let around = r.holds_star;
+    r.holds_star = false;
+    let tail = items(outermost(outer, at), in_x(c, choice.starred), r)?;
+    close_choice(choice, tail, around, r);
+    r.rest.take(1);
+    Ok(tail.end)
+}
+
+/// The tests of an alternative, with the colon after them; or patterns, with the brace after them.
+#[inline(always)]
+#[cycle(list)]
+fn tests(
+    outer: Option<u32>,
+    c: ListContext,
+    at: u32,
+    order: Order,
+    r: &mut Reader<'_>,
+) -> Result<Form, SyntaxFault>
+    requires { 1 ≤ c.levels }
+    ensures { Gives SyntaxFault.Memory (λ form. (form, seen r.new)) result
+        (form_given outer (seen r.old) (descent.tests (around c.levels).1 (context_seen c) at
+        (order_seen order) r.old.rest.at 0 r.old.rest.bytes)) }
+{
+    match test(outer, c, at, order, None, r)? {
+        Next::Emits => Ok(Form::Patterns),
+        Next::Joins => {
+            patterns(outer, at, r)?;
+            Ok(Form::Patterns)
+        }
+        Next::Asks(choice) => Ok(Form::Tests(choice)),
+        Next::Bars(choice) => Ok(Form::Tests(more_tests(outer, c, at, choice, r)?)),
+    }
+}
+
+/// More tests of an alternative, after a bar, with the colon after them.
+#[cycle(list)]
+fn more_tests(
+    outer: Option<u32>,
+    c: ListContext,
+    at: u32,
+    choice: Choice,
+    r: &mut Reader<'_>,
+) -> Result<Choice, SyntaxFault>
+    requires { 1 ≤ c.levels }
+    ensures { Gives SyntaxFault.Memory (λ choice. (choice, seen r.new)) result
+        (more_given outer choice (seen r.old) (descent.tests (around c.levels).1
+        (context_seen c) at refusals.AtBar r.old.rest.at 0 r.old.rest.bytes)) }
+{
+    let mut choice = choice;
+    loop {
+        match test(outer, c, at, Order::AtBar, Some(choice), r)? {
+            Next::Emits | Next::Joins => return Err(SyntaxFault::BadDirective(at as usize)),
+            Next::Asks(choice) => return Ok(choice),
+            Next::Bars(more) => choice = more,
+        }
+    }
+}
+
+/// A test or a pattern, with the byte after it.
+#[inline(always)]
+#[cycle(list)]
+fn test(
+    outer: Option<u32>,
+    c: ListContext,
+    at: u32,
+    order: Order,
+    so_far: Option<Choice>,
+    r: &mut Reader<'_>,
+) -> Result<Next, SyntaxFault>
+    requires { 1 ≤ c.levels }
+    ensures { Gives SyntaxFault.Memory (λ next. (next, seen r.new)) result
+        (tried_given outer at (order_seen order) so_far (seen r.old)
+        (descent.one_test (around c.levels).1 (context_seen c) at (order_seen order)
+        r.old.rest.at r.old.rest.bytes)) }
+{
+    let begun = begin(outer, at, r)?;
+    if begun.byte != b'%' {
+        let next = plain_test(outer, at, order, so_far, begun, r)?;
+        return Ok(next);
+    }
+    if c.levels == 1 {
+        return Err(SyntaxFault::TooNested(r.rest.at() as usize));
+    }
+    let choice = result(outer, c, at, so_far, begun, r)?;
+    r.rest.skip_white();
+    let Some(b) = r.rest.first() else {
+        return Err(unclosed(outer, at));
+    };
+    r.rest.take(1);
+    let judged = result_judged(at, choice, b)?;
+    Ok(judged)
+}
+
+/// A test of a function's result, from its percent sign on.
+#[cycle(list)]
+fn result(
+    outer: Option<u32>,
+    c: ListContext,
+    at: u32,
+    so_far: Option<Choice>,
+    begun: Begun,
+    r: &mut Reader<'_>,
+) -> Result<Choice, SyntaxFault>
+    requires levels { 2 ≤ c.levels }
+    requires percent { begins r.old.rest.bytes ≡ true }
+    ensures { Gives SyntaxFault.Memory (λ choice. (choice, seen r.new)) result
+        (result_given outer so_far begun.start begun.negated (seen r.old)
+        (descent.result (around c.levels).1 (context_seen c) at r.old.rest.at
+        (drop 1 r.old.rest.bytes))) }
+{
+    let percent = r.rest.at();
+    r.rest.take(1);
+    let Some(b) = r.rest.first() else {
+        return Err(unclosed(outer, at));
+    };
+    if b != b':' {
+        return Err(SyntaxFault::BadDirective(percent as usize));
+    }
+    r.rest.take(1);
+    let outer = outermost(outer, at);
+    let name = function(outer, percent, r)?;
+    let choice = opened(so_far, begun.start, r)?;
+    let part = open(
+        TokenKind::Test,
+        begun.start,
+        name,
+        begun.negated,
+        TestKind::Result,
+        r,
+    )?;
+    items(outer, in_arguments(in_braces(c)), r)?;
+    r.rest.take(1);
+    close(TokenKind::Test, part, r);
+    Ok(Choice {
+        part: choice.part,
+        label: choice.label,
+        starred: false,
+    })
+}

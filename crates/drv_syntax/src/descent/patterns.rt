@@ -1,0 +1,103 @@
+//! Patterns of switches.
+
+ghost use Rattle.drv_syntax.specs.Code.Tests.{pattern_given, patterns_given};
+ghost use Rattle.drv_syntax.specs.Code.Writing.{leaf_until, seen, spelled, star_after};
+ghost use Rattle.drv_syntax.specs.Descent as descent;
+ghost use Rattle.drv_syntax.specs.Labels.{part_label};
+ghost use Rattle.drv_syntax.specs.Tree.{pattern};
+ghost use Rattle.drv_words.specs.Gives.{Gives};
+ghost use Rattle.std.specs.Prelude.{◌≡◌, false, Ok};
+
+use crate::descent::reader::{Reader, Spelled, is_none, unclosed, written};
+use crate::descent::words::{Class, quoted};
+use crate::fault::SyntaxFault;
+use crate::token::{TestKind, TokenKind};
+
+/// A word, and whether a star follows it.
+#[derive(Clone, Copy)]
+pub struct Starred<'a> {
+    /// The word.
+    pub word: Spelled<'a>,
+    /// A star follows it.
+    pub star: bool,
+}
+
+/// A star follows a word, which has no bytes or some, if they make a pattern.
+#[inline(always)]
+fn star_after(outer: Option<u32>, at: u32, none: bool, b: Option<u8>) -> Result<bool, SyntaxFault>
+    ensures { result ≡ star_after outer at none b }
+{
+    let Some(b) = b else {
+        if none {
+            return Err(unclosed(outer, at));
+        }
+        return Ok(false);
+    };
+    if b == b'*' {
+        return Ok(true);
+    }
+    if none {
+        return Err(SyntaxFault::EmptyTest(at as usize));
+    }
+    Ok(false)
+}
+
+/// A pattern.
+#[inline(always)]
+pub fn pattern<'a>(
+    outer: Option<u32>,
+    at: u32,
+    r: &mut Reader<'a>,
+) -> Result<Starred<'a>, SyntaxFault>
+    ensures { Gives SyntaxFault.Memory
+        (λ p. (pattern (spelled p.word r.new.word.items) p.star, seen r.new)) result
+        (pattern_given outer (seen r.old)
+        (descent.pattern_at at r.old.rest.at r.old.rest.bytes)) }
+{
+    let Some(word) = quoted(Class::Word, r)? else {
+        return Err(unclosed(outer, at));
+    };
+    let star = star_after(outer, at, is_none(word, &r.word), r.rest.first())?;
+    r.rest.take_if(b'*');
+    Ok(Starred { word, star })
+}
+
+/// The braces hold this pattern, from one place to another.
+#[inline(always)]
+fn emitted(start: u32, end: u32, p: Starred<'_>, r: &mut Reader<'_>) -> Result<(), SyntaxFault>
+    ensures { Gives SyntaxFault.Memory (λ _. seen r.new) result (Ok (leaf_until
+        TokenKind.Pattern
+        (part_label (spelled p.entry.word r.old.word.items) p.entry.star false TestKind.Switch)
+        start end (seen r.old))) }
+{
+    let kind = TokenKind::Pattern;
+    written(kind, start, end, p.word, p.star, false, TestKind::Switch, r)
+}
+
+/// Patterns after an ampersand, with the brace that closes them.
+pub fn patterns(outer: Option<u32>, at: u32, r: &mut Reader<'_>) -> Result<(), SyntaxFault>
+    ensures { Gives SyntaxFault.Memory (λ _. seen r.new) result
+        (patterns_given outer (seen r.old)
+        (descent.patterns at r.old.rest.at 0 r.old.rest.bytes)) }
+{
+    loop {
+        r.rest.skip_white();
+        let start = r.rest.at();
+        let p = pattern(outer, at, r)?;
+        let end = r.rest.at();
+        r.rest.skip_white();
+        let Some(b) = r.rest.first() else {
+            return Err(unclosed(outer, at));
+        };
+        if b == b'}' {
+            r.rest.take(1);
+            emitted(start, end, p, r)?;
+            return Ok(());
+        }
+        if b != b'&' {
+            return Err(SyntaxFault::BadDirective(at as usize));
+        }
+        r.rest.take(1);
+        emitted(start, end, p, r)?;
+    }
+}

@@ -1,0 +1,115 @@
+//! What has been read of a text: its parts so far, and what is left.
+
+ghost use Rattle.drv_syntax.specs.Code.Writing.{is_empty, leaf_here, leaf_until, open_at, seen, spelled};
+ghost use Rattle.drv_syntax.specs.Labels.{part_label, word_label};
+ghost use Rattle.drv_words.specs.Gives.{Gives};
+ghost use Rattle.std.specs.Prelude.{◌≡◌, false, Ok};
+
+use crate::descent::rest::Rest;
+use crate::descent::tokens::Tokens;
+use crate::fault::SyntaxFault;
+use crate::labels::Labels;
+use crate::token::{TestKind, TokenKind};
+
+/// What has been read of a text.
+#[derive(Drop)]
+pub struct Reader<'a> {
+    /// What is left of it.
+    pub rest: Rest<'a>,
+    /// The tokens of its parts, with those that are still open.
+    pub tokens: Tokens,
+    /// Their labels.
+    pub labels: Labels,
+    /// The innermost X has a `%*` of its own so far.
+    pub holds_star: bool,
+    /// The last word with escapes, without their backslashes.
+    pub word: Vec<u8>,
+}
+
+/// A word that was read.
+#[derive(Clone, Copy)]
+pub enum Spelled<'a> {
+    /// Without escapes: these bytes of the text.
+    Lent(&'a [u8]),
+    /// With escapes: the last such word.
+    Copied,
+}
+
+/// The text ends in this directive, where the outermost that is open is this one.
+pub fn unclosed(outer: Option<u32>, at: u32) -> SyntaxFault
+    ensures { result ≡ SyntaxFault.Unclosed (open_at outer at) }
+{
+    match outer {
+        Some(outer) => SyntaxFault::Unclosed(outer as usize),
+        None => SyntaxFault::Unclosed(at as usize),
+    }
+}
+
+/// It has no bytes, where the last word with escapes is this one.
+#[inline(always)]
+pub fn is_none(word: Spelled<'_>, copied: &[u8]) -> bool
+    ensures { result ≡ is_empty (spelled word.entry copied.now) }
+{
+    match word {
+        Spelled::Lent(bytes) => bytes.is_empty(),
+        Spelled::Copied => copied.is_empty(),
+    }
+}
+
+/// A part from this place on that names a word, without parts inside it.
+#[inline(always)]
+pub fn named(
+    kind: TokenKind,
+    start: u32,
+    word: &[u8],
+    r: &mut Reader<'_>,
+) -> Result<(), SyntaxFault>
+    ensures { Gives SyntaxFault.Memory (λ _. seen r.new) result
+        (Ok (leaf_here kind (word_label word.now) start (seen r.old))) }
+{
+    r.tokens.push(kind, start, r.rest.at())?;
+    r.labels.push(word, false, false, TestKind::Switch)
+}
+
+/// The same with a word that was read, and with a star or without.
+#[inline(always)]
+pub fn starred(
+    kind: TokenKind,
+    start: u32,
+    word: Spelled<'_>,
+    star: bool,
+    r: &mut Reader<'_>,
+) -> Result<(), SyntaxFault>
+    ensures { Gives SyntaxFault.Memory (λ _. seen r.new) result (Ok (leaf_here kind
+        (part_label (spelled word.entry r.old.word.items) star false TestKind.Switch) start
+        (seen r.old))) }
+{
+    r.tokens.push(kind, start, r.rest.at())?;
+    match word {
+        Spelled::Lent(bytes) => r.labels.push(bytes, star, false, TestKind::Switch),
+        Spelled::Copied => r.labels.push(&r.word, star, false, TestKind::Switch),
+    }
+}
+
+/// A part from one place to another that names a word, without parts inside it.
+#[inline(always)]
+pub fn written(
+    kind: TokenKind,
+    start: u32,
+    end: u32,
+    word: Spelled<'_>,
+    star: bool,
+    negated: bool,
+    asks: TestKind,
+    r: &mut Reader<'_>,
+) -> Result<(), SyntaxFault>
+    ensures { Gives SyntaxFault.Memory (λ _. seen r.new) result (Ok (leaf_until kind
+        (part_label (spelled word.entry r.old.word.items) star negated asks) start end
+        (seen r.old))) }
+{
+    r.tokens.push(kind, start, end)?;
+    match word {
+        Spelled::Lent(bytes) => r.labels.push(bytes, star, negated, asks),
+        Spelled::Copied => r.labels.push(&r.word, star, negated, asks),
+    }
+}

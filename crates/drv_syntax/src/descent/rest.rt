@@ -1,0 +1,122 @@
+//! What is left of a text, and its place in it.
+
+ghost use Rattle.drv_syntax.specs.Code.Left.{after, first_of, past_byte, second_of};
+ghost use Rattle.drv_syntax.specs.Bytes.{is_white};
+ghost use Rattle.std.specs.List.{prefix_len};
+ghost use Rattle.std.specs.Prelude.{◌≡◌, ◌≤◌, ◌+◌, length, take};
+
+use crate::descent::bytes;
+use std::marker::Model;
+
+/// How much white space a text begins with.
+#[inline(always)]
+pub fn white_length(text: &[u8]) -> usize
+    ensures run { result ≡ prefix_len is_white text.now }
+    ensures within { result ≤ length text.now }
+{
+    let mut length = 0;
+    while length < text.len() && bytes::is_white(text[length]) {
+        length += 1;
+    }
+    length
+}
+
+/// What is left of a text.
+#[derive(Drop)]
+pub struct Rest<'a> {
+    at: u32,
+    bytes: &'a [u8],
+}
+
+impl<'a> Model for Rest<'a> {
+    ghost use Rattle.drv_syntax.specs.Code.Left.{Left};
+    ghost use Rattle.std.specs.Prelude.{◌≤◌, ◌+◌, length};
+
+    ghost Value = { Left };
+
+    ghost view = { λ r. record { at = r.at; bytes = r.bytes.now } };
+
+    ghost invariant = { λ r. r.at + length r.bytes.now ≤ 1048576 };
+}
+
+impl<'a> Rest<'a> {
+    /// These bytes, the first of which has this place.
+    pub fn new(at: u32, bytes: &'a [u8]) -> Rest<'a>
+        requires { at + length bytes.now ≤ 1048576 }
+        ensures { result ≡ record { at = at; bytes = bytes.now } }
+    {
+        Rest { at, bytes }
+    }
+
+    /// The place of its first byte.
+    #[inline(always)]
+    pub fn at(&self) -> u32
+        ensures place { result ≡ self.now.at }
+        ensures room { self.now.at + length self.now.bytes ≤ 1048576 }
+    {
+        self.at
+    }
+
+    /// Its bytes.
+    #[inline(always)]
+    pub fn bytes(&self) -> &'a [u8]
+        ensures { result.now ≡ self.now.bytes }
+    {
+        self.bytes
+    }
+
+    /// Without its first bytes, so many, which are returned.
+    #[inline(always)]
+    pub fn take(&mut self, size: usize) -> &'a [u8]
+        requires { size ≤ length self.old.bytes }
+        ensures left { self.new ≡ after size self.old }
+        ensures taken { result.now ≡ take size self.old.bytes }
+    {
+        let bytes = self.bytes;
+        self.at += size as u32;
+        self.bytes = &bytes[size..];
+        &bytes[..size]
+    }
+
+    /// Without the white space that it begins with.
+    #[inline(always)]
+    pub fn skip_white(&mut self)
+        ensures { self.new ≡ after (prefix_len is_white self.old.bytes) self.old }
+    {
+        self.take(white_length(self.bytes));
+    }
+
+    /// Its first byte.
+    #[inline(always)]
+    pub fn first(&self) -> Option<u8>
+        ensures { result ≡ first_of self.now.bytes }
+    {
+        match self.bytes {
+            [] => None,
+            [b, ..] => Some(*b),
+        }
+    }
+
+    /// Its second byte.
+    #[inline(always)]
+    pub fn second(&self) -> Option<u8>
+        ensures { result ≡ second_of self.now.bytes }
+    {
+        match self.bytes {
+            [_, b, ..] => Some(*b),
+            _ => None,
+        }
+    }
+
+    /// Without this byte, if it begins with it.
+    #[inline(always)]
+    pub fn take_if(&mut self, b: u8)
+        ensures { self.new ≡ past_byte b self.old }
+    {
+        if let [first, ..] = self.bytes {
+            if *first == b {
+                self.take(1);
+            }
+        }
+    }
+}

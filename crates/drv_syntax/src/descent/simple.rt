@@ -1,0 +1,234 @@
+//! Items that hold no parts.
+
+ghost use Rattle.drv_syntax.specs.Code.Lists.{begins, byte_given, byte_here, context_seen, escape_given, is_simple, owner_seen, plains_on, simple_given, single_given, star_given, tail_at};
+ghost use Rattle.drv_syntax.specs.Code.Writing.{leaf_here, seen};
+ghost use Rattle.drv_syntax.specs.Code.Left.{first_of};
+ghost use Rattle.drv_syntax.specs.Contexts.{newline_in};
+ghost use Rattle.drv_syntax.specs.Directives.{text_of};
+ghost use Rattle.drv_syntax.specs.Labels.{no_label, word_label};
+ghost use Rattle.drv_syntax.specs.Tokens.{kind_of};
+ghost use Rattle.drv_words.specs.Gives.{Gives};
+ghost use Rattle.std.specs.Prelude.{◌≡◌, ◌∷◌, [], true, Ok, Some};
+
+use crate::descent::bytes::is_blank;
+use crate::descent::contexts::{ListContext, ListKind, StarOwner};
+use crate::descent::leaves::{hide, name, option, saying, suffix};
+use crate::descent::reader::{Reader, named, unclosed};
+use crate::descent::runs::run_length;
+use crate::directives::{BuiltinName, Directive};
+use crate::fault::SyntaxFault;
+use crate::token::TokenKind;
+
+/// What a list of items ends with.
+#[derive(Clone, Copy)]
+pub struct Tail {
+    /// Where it ends without the white space at its end.
+    pub kept: u32,
+    /// How many tokens there are up to there.
+    pub tokens: usize,
+    /// How many labels there are up to there.
+    pub labels: usize,
+    /// The byte after it, or 0 where the text ends.
+    pub end: u8,
+}
+
+/// A part from this place on that names nothing, without parts inside it.
+#[inline(always)]
+fn unnamed(kind: TokenKind, start: u32, r: &mut Reader<'_>) -> Result<(), SyntaxFault>
+    ensures { Gives SyntaxFault.Memory (λ _. seen r.new) result
+        (Ok (leaf_here kind no_label start (seen r.old))) }
+{
+    r.tokens.push(kind, start, r.rest.at())?;
+    r.labels.push_none()
+}
+
+/// The name of the text that a letter denotes.
+fn builtin_word(name: BuiltinName) -> &'static [u8]
+    ensures { result.now ≡ text_of name }
+{
+    match name {
+        BuiltinName::Assembler => b"asm",
+        BuiltinName::AssemblerFinal => b"asm_final",
+        BuiltinName::Linker => b"link",
+        BuiltinName::Libraries => b"lib",
+        BuiltinName::Support => b"libgcc",
+        BuiltinName::StartFiles => b"startfile",
+        BuiltinName::EndFiles => b"endfile",
+        BuiltinName::Preprocessor => b"cpp",
+        BuiltinName::Compiler => b"cc1",
+        BuiltinName::CompilerPlus => b"cc1plus",
+    }
+}
+
+/// `%*`.
+fn star(owner: StarOwner, at: u32, r: &mut Reader<'_>) -> Result<(), SyntaxFault>
+    ensures { Gives SyntaxFault.Memory (λ _. seen r.new) result
+        (star_given (owner_seen owner) at (seen r.old)) }
+{
+    match owner {
+        StarOwner::Nobody => return Err(SyntaxFault::StarOutside(at as usize)),
+        StarOwner::Mixed => return Err(SyntaxFault::MixedStar(at as usize)),
+        StarOwner::Starred => {}
+    }
+    unnamed(TokenKind::Star, at, r)?;
+    r.holds_star = true;
+    Ok(())
+}
+
+/// What a directive goes on with, after its byte, where that holds no parts.
+#[inline(always)]
+pub fn directive(
+    outer: Option<u32>,
+    c: ListContext,
+    at: u32,
+    d: Directive,
+    r: &mut Reader<'_>,
+) -> Result<(), SyntaxFault>
+    requires { is_simple d ≡ true }
+    ensures { Gives SyntaxFault.Memory (λ _. seen r.new) result
+        (simple_given outer (context_seen c) at d (seen r.old)) }
+{
+    match d {
+        Directive::Whole(leaf) => unnamed(TokenKind::Leaf(leaf), at, r),
+        Directive::Named(name) => named(TokenKind::BuiltinText, at, builtin_word(name), r),
+        Directive::WithSuffix(kind) => suffix(outer, kind, at, r),
+        Directive::WithOption => option(outer, at, r),
+        Directive::WithSaying(kind) => saying(outer, c.kind, kind, at, r),
+        Directive::WithName => name(outer, at, r),
+        Directive::WithPattern => hide(outer, at, r),
+        Directive::OfStar => star(c.owner, at, r),
+        Directive::Nowhere
+        | Directive::WithCall
+        | Directive::WithBraces
+        | Directive::WithMarkedBraces(_) => Err(SyntaxFault::BadDirective(at as usize)),
+    }
+}
+
+/// A newline, in arguments or not.
+#[inline(always)]
+fn newline(in_arguments: bool) -> TokenKind
+    ensures { result ≡ kind_of (newline_in in_arguments) }
+{
+    if in_arguments {
+        TokenKind::Blank
+    } else {
+        TokenKind::Newline
+    }
+}
+
+/// An item of white space.
+#[inline(always)]
+fn white(kind: TokenKind, r: &mut Reader<'_>) -> Result<(), SyntaxFault>
+    requires { begins r.old.rest.bytes ≡ true }
+    ensures { Gives SyntaxFault.Memory (λ _. seen r.new) result
+        (Ok (byte_here kind no_label (seen r.old))) }
+{
+    let start = r.rest.at();
+    r.rest.take(1);
+    unnamed(kind, start, r)
+}
+
+/// After an item that is no white space.
+#[inline(always)]
+pub fn ended(r: &Reader<'_>) -> Tail
+    ensures { result ≡ tail_at (seen r.now) }
+{
+    Tail {
+        kept: r.rest.at(),
+        tokens: r.tokens.len(),
+        labels: r.labels.len(),
+        end: 0,
+    }
+}
+
+/// A plain byte.
+#[inline(always)]
+fn plain(b: u8, r: &mut Reader<'_>) -> Result<(), SyntaxFault>
+    requires { begins r.old.rest.bytes ≡ true }
+    ensures { Gives SyntaxFault.Memory (λ _. seen r.new) result
+        (Ok (byte_here TokenKind.Plain (word_label (b ∷ [])) (seen r.old))) }
+{
+    let start = r.rest.at();
+    r.rest.take(1);
+    r.tokens.push(TokenKind::Plain, start, r.rest.at())?;
+    r.labels.push_byte(b)
+}
+
+/// A backslash and the byte that it makes plain.
+fn escape(outer: Option<u32>, r: &mut Reader<'_>) -> Result<(), SyntaxFault>
+    requires { begins r.old.rest.bytes ≡ true }
+    ensures { Gives SyntaxFault.Memory (λ _. seen r.new) result (escape_given outer (seen r.old)) }
+{
+    let start = r.rest.at();
+    let Some(b) = r.rest.second() else {
+        return Err(unclosed(outer, start));
+    };
+    r.rest.take(2);
+    r.tokens.push(TokenKind::Escape, start, r.rest.at())?;
+    r.labels.push_byte(b)
+}
+
+/// An item that is no directive and no white space, from its first byte on.
+#[inline(always)]
+fn single(
+    outer: Option<u32>,
+    in_arguments: bool,
+    b: u8,
+    r: &mut Reader<'_>,
+) -> Result<(), SyntaxFault>
+    requires { first_of r.old.rest.bytes ≡ Some b }
+    ensures { Gives SyntaxFault.Memory (λ _. seen r.new) result
+        (single_given outer in_arguments b (seen r.old)) }
+{
+    if b == b'\\' {
+        return escape(outer, r);
+    }
+    if b == b'|' && !in_arguments {
+        let start = r.rest.at();
+        r.rest.take(1);
+        return unnamed(TokenKind::Pipe, start, r);
+    }
+    plain(b, r)
+}
+
+/// An item that is no directive, from its first byte on, and what the list then ends with.
+#[inline(always)]
+pub fn item(
+    outer: Option<u32>,
+    in_arguments: bool,
+    b: u8,
+    tail: Tail,
+    r: &mut Reader<'_>,
+) -> Result<Tail, SyntaxFault>
+    requires { first_of r.old.rest.bytes ≡ Some b }
+    ensures { Gives SyntaxFault.Memory (λ tail. (tail, seen r.new)) result
+        (byte_given outer in_arguments b tail (seen r.old)) }
+{
+    if is_blank(b) {
+        white(TokenKind::Blank, r)?;
+        return Ok(tail);
+    }
+    if b == b'\n' {
+        white(newline(in_arguments), r)?;
+        return Ok(tail);
+    }
+    single(outer, in_arguments, b, r)?;
+    Ok(ended(r))
+}
+
+/// The plain bytes that the rest begins with, in such a list.
+#[inline(always)]
+pub fn plains(kind: ListKind, tail: Tail, r: &mut Reader<'_>) -> Result<Tail, SyntaxFault>
+    ensures { Gives SyntaxFault.Memory (λ tail. (tail, seen r.new)) result
+        (Ok (plains_on kind tail (seen r.old))) }
+{
+    let size = run_length(kind, r.rest.bytes());
+    if size == 0 {
+        return Ok(tail);
+    }
+    let start = r.rest.at();
+    let run = r.rest.take(size);
+    r.tokens.push_run(start, run)?;
+    r.labels.push_bytes(run)?;
+    Ok(ended(r))
+}

@@ -1,0 +1,128 @@
+//! Runs of bytes of one class, and words with escapes.
+
+ghost use Rattle.drv_syntax.specs.Descent as descent;
+ghost use Rattle.drv_syntax.specs.Code.Writing.{in_class, quoted_seen, quoted_to, runs_in, seen, words_seen};
+ghost use Rattle.drv_syntax.specs.Code.Left.{begins_with};
+ghost use Rattle.drv_syntax.specs.Code.Left.{first_of, second_of};
+ghost use Rattle.drv_words.specs.Gives.{Gives};
+ghost use Rattle.std.specs.List.{prefix_len};
+ghost use Rattle.std.specs.Prelude.{◌≡◌, ◌≤◌, [], Ok, length};
+
+use crate::descent::bytes::is_word;
+use crate::descent::contexts::ListKind;
+use crate::descent::reader::{Reader, Spelled};
+use crate::fault::SyntaxFault;
+
+/// What the bytes of a word can be.
+#[derive(Clone, Copy)]
+pub enum Class {
+    /// Those of `%x{OPTION}`.
+    Option,
+    /// Those of a pattern or a test.
+    Word,
+    /// Those of a text for the user, in such a list.
+    Said(ListKind),
+}
+
+#[inline(always)]
+fn belongs(class: Class, b: u8) -> bool
+    ensures { result ≡ in_class class b }
+{
+    match class {
+        Class::Option => b != b'}',
+        Class::Word => is_word(b),
+        Class::Said(ListKind::Top | ListKind::InArguments) => b != b'\n',
+        Class::Said(ListKind::InX) => b != b'\n' && b != b';' && b != b'}',
+    }
+}
+
+/// How many bytes of the class a text begins with, up to a backslash.
+#[inline(always)]
+fn run_length(class: Class, text: &[u8]) -> usize
+    ensures run { result ≡ prefix_len (runs_in class) text.now }
+    ensures within { result ≤ length text.now }
+{
+    let mut length = 0;
+    while length < text.len() && text[length] != b'\\' && belongs(class, text[length]) {
+        length += 1;
+    }
+    length
+}
+
+/// The text begins with this byte.
+#[inline(always)]
+pub fn begins(b: u8, text: &[u8]) -> bool
+    ensures { result ≡ begins_with b text.now }
+{
+    match text {
+        [] => false,
+        [first, ..] => *first == b,
+    }
+}
+
+/// The first byte of a text.
+#[inline(always)]
+pub fn first(text: &[u8]) -> Option<u8>
+    ensures { result ≡ first_of text.now }
+{
+    match text {
+        [] => None,
+        [b, ..] => Some(*b),
+    }
+}
+
+/// The second byte of a text.
+#[inline(always)]
+pub fn second(text: &[u8]) -> Option<u8>
+    ensures { result ≡ second_of text.now }
+{
+    match text {
+        [_, b, ..] => Some(*b),
+        _ => None,
+    }
+}
+
+/// More of a run of bytes of the class and of escapes, after this part of it; nothing where the text
+/// ends in an escape.
+fn escaped(class: Class, front: &[u8], r: &mut Reader<'_>) -> Result<bool, SyntaxFault>
+    ensures { Gives SyntaxFault.Memory (λ closed. quoted_seen closed r.new.word.items (seen r.new))
+        result (Ok (quoted_to front.now (seen r.old)
+        (descent.quoted (in_class class) r.old.rest.bytes))) }
+{
+    r.word.clear();
+    r.word.extend_from_slice(front)?;
+    while let Some(b) = first(r.rest.bytes()) {
+        if b == b'\\' {
+            let Some(escaped) = second(r.rest.bytes()) else {
+                return Ok(false);
+            };
+            r.word.push(escaped)?;
+            r.rest.take(2);
+        } else if belongs(class, b) {
+            r.word.push(b)?;
+            r.rest.take(1);
+        } else {
+            return Ok(true);
+        }
+    }
+    Ok(true)
+}
+
+/// The longest run of bytes of the class and of escapes; nothing where the text ends in an escape.
+#[inline(always)]
+pub fn quoted<'a>(class: Class, r: &mut Reader<'a>) -> Result<Option<Spelled<'a>>, SyntaxFault>
+    ensures { Gives SyntaxFault.Memory (λ word. words_seen word r.new.word.items (seen r.new))
+        result (Ok (quoted_to [] (seen r.old)
+        (descent.quoted (in_class class) r.old.rest.bytes))) }
+{
+    let size = run_length(class, r.rest.bytes());
+    let run = r.rest.take(size);
+    if !begins(b'\\', r.rest.bytes()) {
+        return Ok(Some(Spelled::Lent(run)));
+    }
+    if escaped(class, run, r)? {
+        Ok(Some(Spelled::Copied))
+    } else {
+        Ok(None)
+    }
+}
