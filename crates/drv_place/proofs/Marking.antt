@@ -5,7 +5,7 @@ use Rattle.std.proofs.Common.{filter, fold, if◌then◌else◌, length, map, na
 use Rattle.std.proofs.lemmas.List.{length-append, length-map, map-append, take-map}
 use Rattle.std.specs.List.{ends_with}
 
--- The bytes that are left of a text, and their places in it.
+-- For `settle`: the bytes that are left of a text, and their places in it.
 
 -- the bytes are those of the text without carriage returns and pairs
 

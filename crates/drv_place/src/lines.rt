@@ -14,7 +14,7 @@ fn ends_line(byte: u8) -> bool
     byte == b'\n'
 }
 
-/// The first bytes of a text, so many.
+/// The first bytes of a text.
 fn front(text: &[u8], count: usize) -> &[u8]
     ensures is { result.now ≡ take count text.now }
     ensures within { length result.now ≤ length text.now }
@@ -26,7 +26,7 @@ fn front(text: &[u8], count: usize) -> &[u8]
     }
 }
 
-/// A text after so many bytes.
+/// A text after its first bytes.
 fn back(text: &[u8], count: usize) -> &[u8]
     ensures { result.now ≡ drop count text.now }
 {

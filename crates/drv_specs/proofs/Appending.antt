@@ -8,7 +8,7 @@ use Rattle.std.specs.Cmp.Lexicographic.{nat_list_eq_equiv, pointwise}
 use Rattle.std.specs.List.{list_all}
 use Rattle.std.specs.Prelude.{Ok, Option, Result, if◌then◌else◌, nat_eq}
 
--- A text that is taken and put back.
+-- For `append`: a text that is taken out of the map, changed and put back.
 
 entry_twice : (name text other : List ℕ) (es : List (List ℕ × List ℕ))
     → insert_entry (pointwise nat_eq) (insert_entry (pointwise nat_eq) es name other) name text ≡ insert_entry (pointwise nat_eq) es name text

@@ -3,7 +3,7 @@ use Rattle.std.proofs.Common.{◌≡◌, List, [], ◌∷◌, ◌++◌, ap, drop
 use Rattle.std.proofs.lemmas.List.{append-nil}
 use Rattle.std.specs.List.{join_with_byte}
 
--- Bodies, and lines one after another.
+-- For the reading of a file: the body of an entry, line by line.
 
 -- lines after newlines, without the first newline
 lines_joined : (first : List ℕ) (lines : List (List ℕ)) → first ++ flat_map (λ line. newline ∷ line) lines ≡ join_with_byte newline (first ∷ lines)

@@ -1,19 +1,20 @@
 use Rattle.drv_search.specs.declared.prefixes.Prefixes.{Prefixes}
 use Rattle.drv_specs.proofs.Keeping.{loaded_keeps}
 use Rattle.drv_specs.proofs.SettledTexts.{is_settled, settled_same}
-use Rattle.drv_specs.specs.Builtin.{builtin_named, builtin_pairs, builtin_specs}
+use Rattle.drv_specs.specs.Builtin.{builtin_named, builtin_pairs, builtin_specs, has_no_text, suffixes}
 use Rattle.drv_specs.specs.Directives.{read_lines}
 use Rattle.drv_specs.specs.Dumping.{dumped}
-use Rattle.drv_specs.specs.Kept.{Kept}
+use Rattle.drv_specs.specs.Kept.{Each, IsPair, Kept}
 use Rattle.drv_specs.specs.Lines.{lines_of}
 use Rattle.drv_specs.specs.Loading.{all_carried, including, loaded, most_files, set_in, then_by}
 use Rattle.drv_specs.specs.Sets.{Set, no_specs}
 use Rattle.drv_system.specs.Facts.{no_facts}
 use Rattle.drv_system.specs.Known.{Is}
-use Rattle.std.proofs.Common.{◌≡◌, ◌∙◌, [], Ok, ap, false, refl, subst, sym, true}
-use Rattle.std.specs.List.{IsDistinct}
+use Rattle.std.proofs.Common.{◌≡◌, ◌∙◌, ◌∷◌, [], Bool, List, Ok, ap, false, refl, subst, sym, true}
+use Rattle.std.specs.List.{IsDistinct, filter}
+use Rattle.std.specs.Prelude.{cond}
 
--- The sets that are there before any file is loaded keep what every set keeps.
+-- For the invariant of `SpecSet`: the empty set and the built-in one have it.
 
 empty_kept : Kept no_specs
 unfolding IsDistinct
@@ -38,6 +39,23 @@ dump_loads =
 
 builtin_kept : Kept builtin_specs
 builtin_kept = loaded_keeps no_facts nowhere no_specs builtin_specs (dumped builtin_specs) empty_kept dump_loads
+
+-- the pairs that have no text to run among others
+
+each_filter : {X : Type 0} (P : X → Type 0) (test : X → Bool) (xs : List X) → Each P xs → Each P (filter test xs)
+each_filter P test [] each = tt
+each_filter P test (x ∷ xs) each = by (test x) (each_filter P test xs each.1)
+  where
+    by : (passes : Bool) → Each P (filter test xs) → Each P (cond passes (x ∷ filter test xs) (filter test xs))
+    by true later = (each.0, later)
+    by false later = later
+
+suffixes_kept : Kept suffixes
+unfolding IsDistinct
+suffixes_kept = record { named = tt; pairs = each_filter IsPair has_no_text builtin_pairs builtin_kept.pairs; distinct = tt }
+
+pub kept_suffixes : (set : Set) → set ≡ suffixes → Kept set
+kept_suffixes set is = subst Kept (sym is) suffixes_kept
 
 pub kept_empty : (set : Set) → set ≡ no_specs → Kept set
 kept_empty set is = subst Kept (sym is) empty_kept

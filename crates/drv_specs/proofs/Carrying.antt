@@ -19,7 +19,7 @@ use Rattle.drv_system.specs.declared.event.ReadAnswer.{ReadAnswer}
 use Rattle.drv_words.specs.Gives.{Gives}
 use Rattle.std.proofs.Common.{◌≡◌, ◌⊎◌, ◌∙◌, Bor, IsErrAnd, Option, List, ◌∷◌, ◌++◌, Err, Ok, Result, Some, ap, inl, inr, refl, subst, suc, sym, zero, ℕ}
 
--- Directives carried out one after another.
+-- For `load` and `load_file`: directives are carried out one after another, those of included files too.
 
 -- a directive that reads no file
 abbrev pub ReadsNoFile : Directive → Type 0

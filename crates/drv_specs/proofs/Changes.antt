@@ -17,7 +17,7 @@ use Rattle.std.specs.Cmp.Lexicographic.{nat_list_eq_equiv, pointwise}
 use Rattle.std.specs.List.{AllByRecursion, IsDistinct, list_all}
 use Rattle.std.specs.Map.{keys_of, lookup, remove_entry, set_key}
 
--- What a directive's change keeps.
+-- For loading_keeps: the change of each directive keeps the invariant of a set.
 
 -- Entries of a list that is put into, taken from, or renamed in.
 

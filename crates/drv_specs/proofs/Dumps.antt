@@ -11,7 +11,7 @@ use Rattle.drv_words.specs.Bytes.{asterisk, at_sign, colon, newline, number_sign
 use Rattle.std.proofs.Common.{◌≡◌, ◌<◌, ◌+◌, ◌∙◌, ◌==◌, ◌&&◌, ◌||◌, Bool, List, [], ◌∷◌, ◌++◌, None, Some, ap, append_assoc, arith, cond, drop, eqb-true, false, flat_map, if◌then◌else◌, length, length-append, lt-ltb, map, nat_le, nat_lt, not, position, refl, suc, sym, take, true, ℕ}
 use Rattle.std.specs.List.{join_with_byte, list_all, position_or_len}
 
--- The directives of a set's dump: its entries, then its pairs.
+-- For dump_reloads: the directives of a set's dump are its entries and then its pairs.
 
 -- bytes of a line's head, which a colon ends
 abbrev pub is_head_byte : ℕ → Bool

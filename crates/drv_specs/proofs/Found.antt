@@ -9,7 +9,7 @@ use Rattle.std.proofs.lemmas.List.{append-nil, drop_more, take-append-drop}
 use Rattle.std.specs.List.{ends_with, list_all}
 use Rattle.std.specs.Prelude.{None, Option, Some, slice_index}
 
--- What a search for a byte finds, and what precedes it.
+-- For the reading of a file: what a search for a byte finds, and what precedes it.
 
 pub fails_of : (t : Bool) → (t ≡ true → ⊥) → t ≡ false
 fails_of t never = by t refl

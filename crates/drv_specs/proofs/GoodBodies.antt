@@ -14,7 +14,7 @@ use Rattle.std.proofs.Common.{◌≡◌, ◌⊎◌, ◌+◌, ◌-◌, ◌∙◌,
 use Rattle.std.specs.Cmp.Lexicographic.{pointwise}
 use Rattle.std.specs.List.{ends_with, join_with_byte, list_all}
 
--- What the directives of any text are like: a body is empty, ends with a backslash, or can be a body again.
+-- For loading_keeps: each body that a file's directives have is empty, ends with a backslash, or can be a body again.
 
 abbrev pub IsBody : List ℕ → Type 0
 IsBody body = (body ≡ []) ⊎ ((ends_with_backslash body ≡ true) ⊎ (is_text body ≡ true))

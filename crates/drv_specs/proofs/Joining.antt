@@ -7,7 +7,7 @@ use Rattle.std.proofs.Common.{◌≡◌, ◌-◌, ◌⊎◌, ◌∙◌, ◌==◌
 use Rattle.std.proofs.lemmas.List.{append-nil, take_at}
 use Rattle.drv_specs.proofs.Booleans.{and_first, and_second}
 
--- A text without pairs of a backslash and a newline: by cases, and byte by byte.
+-- For directives_are_read: the pairs of a backslash and a newline go, by cases as byte by byte.
 
 -- Lists with one item more at their end.
 

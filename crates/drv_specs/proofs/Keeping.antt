@@ -13,7 +13,7 @@ use Rattle.drv_system.specs.Facts.{Facts}
 use Rattle.drv_system.specs.Known.{Is, Known, Unasked}
 use Rattle.std.proofs.Common.{◌≡◌, Err, List, [], ◌∷◌, Ok, Result, refl, subst, suc, zero, ℕ, ap, sym, ◌∙◌}
 
--- Loading keeps what every set keeps.
+-- For loading_keeps: loading a text or a file keeps the invariant of a set.
 
 abbrev pub Keeps : Including → Type 0
 Keeps inc = (c : Carried) (missing : IfMissing) (name : List ℕ) (c' : Carried) → inc c missing name ≡ Is (Ok c') → Kept c.set → Kept c'.set

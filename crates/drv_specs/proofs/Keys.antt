@@ -8,7 +8,7 @@ use Rattle.std.specs.Map.{keys_of, lookup, remove_entry, set_key}
 use Rattle.std.specs.List.{position_or_len}
 use Rattle.std.specs.Prelude.{nat_eq, nat_lt, position, unwrap_or, vec_len}
 
--- The map of named texts, by the list that a set is.
+-- For the map of named texts: it finds a name where the list of the set has it.
 
 -- whether a key is this name, and whether two keys are one name
 abbrev pub is_key_of : List ℕ → Vec ℕ → Bool

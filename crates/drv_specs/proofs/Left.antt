@@ -13,7 +13,7 @@ use Rattle.std.specs.Map.{keys_of, lookup, remove_entry, set_key, set_value, val
 use Rattle.std.specs.Option.{option_flatten, option_map}
 use Rattle.std.specs.Prelude.{⊤, slice_get, vec_len}
 
--- The texts of a map in which the entry of a deleted name has no text.
+-- For the map of named texts: a deleted name keeps its entry, which has no text.
 
 module _ (name : List ℕ) where
   -- no key is the name

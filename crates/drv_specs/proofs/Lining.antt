@@ -11,7 +11,7 @@ use Rattle.std.proofs.lemmas.List.{append-nil}
 use Rattle.std.proofs.lemmas.List.Folds.{list_all-append}
 use Rattle.std.specs.List.{join_with_byte, list_all}
 
--- Texts and their lines.
+-- For the dump and the reading of a file: a text and its lines determine each other.
 
 -- a text with a newline and more after it
 pub pieces_then : (text front rest : List ℕ) → pieces_from ends_line front (text ++ newline ∷ rest) ≡ pieces_from ends_line front text ++ pieces_from ends_line [] rest

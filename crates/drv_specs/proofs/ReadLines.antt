@@ -9,7 +9,7 @@ use Rattle.drv_words.specs.Bytes.{newline, number_sign, percent}
 use Rattle.std.proofs.Common.{◌≡◌, ◌↔◌, ◌+◌, ◌∙◌, ◌==◌, ◌&&◌, Bool, List, [], ◌∷◌, ◌++◌, None, Option, Some, ap, arith, drop, eqb-true, false, filter, if◌then◌else◌, length, not, refl, subst, sym, take, true, ℕ}
 use Rattle.std.specs.List.{join_with_byte, list_all, position}
 
--- The directives of lines: by cases, and line by line.
+-- For directives_are_read: the directives of lines are the same by cases and line by line.
 
 -- the lines of a body, and what follows it
 body_is : (body lines : List (List ℕ)) → list_all is_full_line body ≡ true → EndsBody lines → body_lines (body ++ lines) ≡ body_lines body

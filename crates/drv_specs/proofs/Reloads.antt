@@ -21,7 +21,7 @@ use Rattle.std.specs.Cmp.Lexicographic.{nat_list_eq_equiv, pointwise}
 use Rattle.std.specs.List.{AllByRecursion, IsDistinct, list_all}
 use Rattle.std.specs.Map.{keys_of}
 
--- A set's dump loaded.
+-- For dump_reloads: a dump that is loaded gives the set, or adds its pairs once more.
 
 abbrev set_of : List (List ℕ × List ℕ) → List (List ℕ × List ℕ) → Set
 set_of named pairs = record { named = named; pairs = pairs }

@@ -15,7 +15,7 @@ use Rattle.drv_system.specs.declared.event.ReadAnswer.{ReadAnswer}
 use Rattle.std.proofs.Common.{◌≡◌, ◌++◌, Err, List, [], ◌∷◌, None, Ok, Option, Result, Some, map, refl, replicate, ℕ}
 use Rattle.std.specs.Prelude.{codes}
 
--- Worked spec files, by computation.
+-- Examples of spec files, which the prover computes from the definitions.
 
 -- no folder is searched
 abbrev here : Prefixes

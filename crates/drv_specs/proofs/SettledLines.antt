@@ -7,7 +7,7 @@ use Rattle.std.proofs.Common.{◌≡◌, ◌⊎◌, ◌-◌, ◌∙◌, ◌==◌
 use Rattle.std.specs.List.{list_all}
 use Rattle.std.proofs.lemmas.List.Folds.{list_all-append}
 
--- What settling leaves: its lines.
+-- For loading_keeps: the lines of a text from which the pairs of a backslash and a newline have gone.
 
 -- whether a backslash is last, after a text
 abbrev pub last_back : Bool → List ℕ → Bool

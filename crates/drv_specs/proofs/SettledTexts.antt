@@ -8,7 +8,7 @@ use Rattle.std.proofs.lemmas.List.{append-nil}
 use Rattle.std.specs.Cmp.Lexicographic.{pointwise}
 use Rattle.std.specs.List.{list_all}
 
--- Texts that settling leaves as they are.
+-- For the dump and the reading of a file: texts without a pair of a backslash and a newline stay as they are.
 
 drop_front : (text : List ℕ) (b : ℕ) → drop (length text) (text ++ b ∷ []) ≡ b ∷ []
 drop_front [] b = refl

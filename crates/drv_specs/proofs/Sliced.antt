@@ -18,7 +18,7 @@ use Rattle.std.proofs.lemmas.List.Sums.{position_or_len_is}
 use Rattle.std.specs.List.{join_with_byte, list_all, position, position_or_len}
 use Rattle.std.specs.Prelude.{None, Option, Some, get_or, slice_index}
 
--- Directives read from slices of a settled text.
+-- For the reading of a file: the code reads a directive from slices of the text as the definition reads it from lines.
 
 -- a line, and what follows it
 pub lines_cut : (line : List ℕ) (following : Option (List ℕ)) → list_all (λ b. not (ends_line b)) line ≡ true → lines_of (line ++ bytes_from following) ≡ line ∷ lines_from following

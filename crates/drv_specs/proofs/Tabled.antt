@@ -1,13 +1,14 @@
-use Rattle.drv_specs.specs.Builtin.{builtin_named, builtin_pairs, builtin_specs}
-use Rattle.drv_specs.specs.Sets.{no_specs}
-use Rattle.drv_specs.specs.Code.Tables.{IsNamedRow, IsPairRow, all_added, all_put}
+use Rattle.drv_specs.specs.Builtin.{builtin_named, builtin_pairs, builtin_specs, has_no_text, suffixes}
+use Rattle.drv_specs.specs.Code.Tables.{IsNamedRow, IsPairRow, all_added, all_put, with_alone}
+use Rattle.drv_specs.specs.Sets.{Set, is_no_text, no_specs, with_pair}
 use Rattle.drv_specs.specs.declared.builtin_specs.Named.{Named}
 use Rattle.drv_specs.specs.declared.builtin_specs.Pair.{Pair}
-use Rattle.std.proofs.Common.{◌≡◌, List, [], refl}
+use Rattle.std.proofs.Common.{◌≡◌, ◌∷◌, Bool, List, [], false, refl, true, ℕ}
 use Rattle.std.proofs.lemmas.List.Elements.{All-from_recursion}
-use Rattle.std.specs.List.{All, AllByRecursion}
+use Rattle.std.specs.List.{All, AllByRecursion, filter}
+use Rattle.std.specs.Prelude.{cond, if◌then◌else◌}
 
--- The built-in specs are what their rows give.
+-- For `builtin`: the built-in specs are what their rows give.
 pub builtin_put : all_put no_specs builtin_named ≡ record { named = builtin_named; pairs = [] }
 unfolding builtin_named
 builtin_put = refl
@@ -15,6 +16,20 @@ builtin_put = refl
 pub builtin_added : all_added (record { named = builtin_named; pairs = [] }) builtin_pairs ≡ builtin_specs
 unfolding builtin_pairs
 builtin_added = refl
+
+-- So are those of them that have no text to run.
+pub suffixes_added : all_added no_specs (filter has_no_text builtin_pairs) ≡ suffixes
+unfolding builtin_pairs
+suffixes_added = refl
+
+pub alone_added : (set : Set) (pair : List ℕ × List ℕ) (pairs : List (List ℕ × List ℕ)) → all_added (with_alone set pair) (filter has_no_text pairs)
+    ≡ all_added set (filter has_no_text (pair ∷ pairs))
+alone_added set pair pairs = by (is_no_text pair.1)
+  where
+    by : (alone : Bool) → all_added (if alone then with_pair set pair.0 pair.1 else set) (filter has_no_text pairs)
+        ≡ all_added set (cond alone (pair ∷ filter has_no_text pairs) (filter has_no_text pairs))
+    by true = refl
+    by false = refl
 
 -- what is written beside the texts is their trees
 pub named_trees : (rows : List Named) → AllByRecursion IsNamedRow rows → All IsNamedRow rows

@@ -4,7 +4,7 @@ use Rattle.drv_syntax.specs.Tree.{Items}
 use Rattle.drv_syntax.specs.declared.fault.SyntaxFault.{SyntaxFault}
 use Rattle.std.proofs.Common.{◌≡◌, Err, List, Ok, Result, ap, ℕ}
 
--- What a text gives, by the answer of its parse.
+-- For `parsed_text` and `extended_text`: what a text gives, by the answer of its parse.
 
 pub tree_given : (name : List ℕ) (set : Set) (tree : Items) (given : Result Items SyntaxFault) → given ≡ Ok tree → by_tree name set given ≡ Ok set
 tree_given name set tree given is = ap (by_tree name set) is

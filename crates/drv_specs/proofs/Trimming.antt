@@ -7,7 +7,7 @@ use Rattle.std.proofs.lemmas.List.{length-drop, reverse-append, reverse-reverse}
 use Rattle.std.specs.List.{position, position_or_len, prefix_len}
 use Rattle.std.specs.Prelude.{None, Option, Some, get_or, unwrap_or}
 
--- A text trimmed from its front.
+-- For `without_blanks` and `without_white`: a text trimmed from its front.
 
 front_is : (test : ℕ → Bool) (text : List ℕ) → drop (position_or_len (λ b. not (test b)) text) text ≡ without_front test text
 front_is test [] = refl

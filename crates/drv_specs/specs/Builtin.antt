@@ -1,6 +1,7 @@
 use Rattle.drv_words.specs.Bytes.{newline}
-use Rattle.drv_specs.specs.Sets.{Set}
-use Rattle.std.specs.Prelude.{List, [], ◌∷◌, ◌++◌, codes, ℕ}
+use Rattle.drv_specs.specs.Sets.{Set, is_no_text}
+use Rattle.std.specs.List.{filter}
+use Rattle.std.specs.Prelude.{Bool, List, [], ◌∷◌, ◌++◌, codes, ℕ}
 
 -- The built-in specs (GCC manual, "Spec Files"; the texts are this project's profile).
 
@@ -61,3 +62,10 @@ builtin_pairs =
 
 abbrev pub builtin_specs : Set
 builtin_specs = record { named = builtin_named; pairs = builtin_pairs }
+
+-- The pairs among them that have no text to run: suffixes that name a language, and languages that are not installed.
+abbrev pub has_no_text : List ℕ × List ℕ → Bool
+has_no_text pair = is_no_text pair.1
+
+abbrev pub suffixes : Set
+suffixes = record { named = []; pairs = filter has_no_text builtin_pairs }

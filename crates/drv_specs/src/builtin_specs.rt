@@ -1,10 +1,11 @@
 //! The built-in specs.
 
-ghost use Rattle.drv_specs.specs.Builtin.{builtin_named, builtin_pairs, builtin_specs};
+ghost use Rattle.drv_specs.specs.Builtin.{builtin_named, builtin_pairs, builtin_specs, has_no_text};
+ghost use Rattle.drv_specs.specs.Builtin.{suffixes};
 ghost use Rattle.drv_specs.specs.Code.Tables.{IsNamedRow, IsPairRow, IsWritten, all_added, all_put};
-ghost use Rattle.drv_specs.specs.Code.Tables.{named_shown, pair_shown, text_shown};
+ghost use Rattle.drv_specs.specs.Code.Tables.{named_shown, pair_shown, text_shown, with_alone};
 ghost use Rattle.drv_specs.specs.Sets.{with_named, with_pair};
-ghost use Rattle.std.specs.List.{All, AllByRecursion};
+ghost use Rattle.std.specs.List.{All, AllByRecursion, filter};
 ghost use Rattle.std.specs.Prelude.{◌≡◌, IfOk, OnOk, map};
 
 use crate::SpecSet;
@@ -13,6 +14,9 @@ use crate::entries::Entries;
 use crate::text::Text;
 use drv_syntax::{SpecTree, WrittenTree};
 use std::alloc::{AllocError, Global};
+
+/// Room for the named texts of a spec file for a real compiler.
+const TEXTS_OF_A_FILE: usize = 64;
 
 /// A named text.
 #[derive(Clone, Copy)]
@@ -90,6 +94,17 @@ impl Entries {
             }
         }
     }
+
+    /// Adds a pair if it has no text to run.
+    fn add_if_alone(&mut self, row: Pair) -> Result<(), AllocError>
+        requires { IsPairRow row }
+        ensures { OnOk result (self.new ≡ with_alone self.old (pair_shown row)) }
+    {
+        match row.text {
+            PairText::Alone(text) => self.push_pair(row.key, text, None),
+            PairText::Worked(_) => Ok(()),
+        }
+    }
 }
 
 /// Puts the texts of rows.
@@ -114,6 +129,19 @@ fn add_rows(entries: &mut Entries, rows: &[Pair]) -> Result<(), AllocError>
     Ok(())
 }
 
+/// Adds those pairs of rows that have no text to run.
+#[tactic(auto, using(crate::proofs::Tabled::alone_added))]
+fn add_alone(entries: &mut Entries, rows: &[Pair]) -> Result<(), AllocError>
+    requires { All IsPairRow rows.now }
+    ensures { OnOk result (entries.new ≡ all_added entries.old
+        (filter has_no_text (map pair_shown rows.now))) }
+{
+    for row in rows {
+        entries.add_if_alone(*row)?;
+    }
+    Ok(())
+}
+
 /// The entries of the built-in specs.
 #[tactic(auto, using(crate::proofs::Tabled::builtin_put, crate::proofs::Tabled::builtin_added, crate::proofs::Tabled::named_trees, crate::proofs::Tabled::pair_trees))]
 fn builtin_entries(alloc: Global) -> Result<Entries, AllocError>
@@ -133,5 +161,25 @@ pub fn builtin(alloc: Global) -> Result<SpecSet, AllocError>
     ensures { IfOk result (λ set. set ≡ builtin_specs) }
 {
     let entries = builtin_entries(alloc)?;
+    Ok(SpecSet { entries })
+}
+
+/// The pairs that have no text to run, with room for the named texts of a spec file.
+#[tactic(auto, using(crate::proofs::Tabled::pair_trees, crate::proofs::Tabled::suffixes_added))]
+fn suffix_entries(alloc: Global) -> Result<Entries, AllocError>
+    ensures { IfOk result (λ entries. entries ≡ suffixes) }
+{
+    let pairs = pair_rows();
+    let mut entries = Entries::with_capacity(alloc, TEXTS_OF_A_FILE, pairs.len())?;
+    add_alone(&mut entries, pairs)?;
+    Ok(entries)
+}
+
+/// The pairs of the built-in specs that have no text to run: suffixes that name a language, and
+/// languages that are not installed. Lack of memory is the only error.
+pub fn suffixes(alloc: Global) -> Result<SpecSet, AllocError>
+    ensures { IfOk result (λ set. set ≡ suffixes) }
+{
+    let entries = suffix_entries(alloc)?;
     Ok(SpecSet { entries })
 }

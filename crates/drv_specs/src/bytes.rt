@@ -84,7 +84,7 @@ pub(crate) fn without_first(text: &[u8]) -> &[u8]
     }
 }
 
-/// A text after so many bytes.
+/// A text after its first bytes.
 pub(crate) fn following(text: &[u8], count: usize) -> &[u8]
     ensures { result.now ≡ drop count text.now }
 {

@@ -83,7 +83,7 @@ impl Entries {
         }
     }
 
-    /// None, with room for so many texts and so many pairs.
+    /// No entries, with room for these numbers of texts and pairs.
     pub(crate) fn with_capacity(
         alloc: Global,
         texts: usize,

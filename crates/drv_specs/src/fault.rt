@@ -28,7 +28,7 @@ pub enum SpecsFault {
     /// The line of this number is no directive.
     #[error("bad spec line {0}")]
     BadLine(usize),
-    /// More than 16 files are within one another.
+    /// More than 16 files include one another.
     #[error("includes nested too deep")]
     IncludeTooDeep,
     /// The pair of this key, which begins with `@`, has a body that begins with `@` too.

@@ -18,7 +18,7 @@ mod set;
 mod settling;
 mod text;
 
-pub use builtin_specs::builtin;
+pub use builtin_specs::{builtin, suffixes};
 pub use fault::SpecsFault;
 pub use laws::{directives_are_read, dump_reloads, loading_keeps};
 pub use set::SpecSet;

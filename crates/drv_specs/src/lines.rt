@@ -70,7 +70,7 @@ fn full_line<'a>(lines: Lines<'a>) -> Option<(&'a [u8], Lines<'a>)>
     ))
 }
 
-/// The first lines of a text, of so many bytes with a newline before each.
+/// The first lines of a text, which have this many bytes with a newline before each.
 fn front(text: Option<&[u8]>, size: usize) -> &[u8]
     requires { size ≤ length (bytes_from (option_map (λ bytes. bytes.now) text)) }
     ensures { result.now

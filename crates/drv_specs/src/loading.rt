@@ -25,7 +25,7 @@ use std::alloc::Global;
 /// How many files may be read in one call.
 const MOST_FILES: usize = 2000;
 
-/// How deep files may be within one another.
+/// The most files that include one another.
 const MOST_LEVELS: usize = 16;
 
 /// What is left of the text that an answer gives.
@@ -68,8 +68,7 @@ fn file_text<S: System>(
     text_read(alloc, if_missing, path, answer)
 }
 
-/// Carries out the directives of a settled text, in which so many more files may be within one
-/// another.
+/// Carries out the directives of a settled text, within which `levels` more files may be nested.
 #[tactic(auto, using(drv_system::proofs::AskedCalls::asked_further))]
 fn carry_out<S: System>(
     entries: &mut Entries,
@@ -112,7 +111,7 @@ fn carry_out<S: System>(
     Ok(())
 }
 
-/// Entries after the directives of a settled text, in which so many more files may be read.
+/// Entries after the directives of a settled text, which may read `files` more files.
 #[tactic(auto, using(drv_system::proofs::AskedCalls::asked_further))]
 fn worked_entries<S: System>(
     entries: Entries,
@@ -133,8 +132,7 @@ fn worked_entries<S: System>(
     Ok(entries)
 }
 
-/// A copy of entries after the directives of a settled text, in which so many more files may be
-/// read.
+/// A copy of entries after the directives of a settled text, which may read `files` more files.
 #[tactic(auto, using(drv_system::proofs::AskedCalls::asked_further))]
 fn draft_of<S: System>(
     entries: &Entries,
@@ -153,8 +151,8 @@ fn draft_of<S: System>(
 }
 
 impl SpecSet {
-    /// Carries out the directives of a settled text, in which so many more files may be read, on a
-    /// copy that then takes the place of the set.
+    /// Carries out the directives of a settled text, which may read `files` more files, on a copy
+    /// that then takes the place of the set.
     #[tactic(auto, using(drv_system::proofs::AskedCalls::asked_further))]
     fn work<S: System>(
         &mut self,
@@ -175,7 +173,7 @@ impl SpecSet {
         Ok(())
     }
 
-    /// The set after the directives of a settled text, in which so many more files may be read.
+    /// The set after the directives of a settled text, which may read `files` more files.
     fn worked<S: System>(
         self,
         files: usize,

@@ -83,7 +83,7 @@ impl NamedTexts {
         }
     }
 
-    /// No texts, with room for so many.
+    /// No texts, with room for this many.
     pub(crate) fn with_capacity(alloc: Global, count: usize) -> Result<NamedTexts, AllocError>
         ensures { IfOk result (λ named. named ≡ []) }
     {

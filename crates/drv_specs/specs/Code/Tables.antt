@@ -8,7 +8,7 @@ use Rattle.drv_syntax.specs.Outcome.{parsed}
 use Rattle.drv_syntax.specs.Parsed.{listed}
 use Rattle.drv_syntax.specs.declared.labels.LabelMark.{LabelMark}
 use Rattle.drv_syntax.specs.declared.written.WrittenTree.{WrittenTree}
-use Rattle.std.specs.Prelude.{◌≡◌, ◌&&◌, Bool, List, [], ◌∷◌, Ok, false, length, nat_le, true, ℕ}
+use Rattle.std.specs.Prelude.{◌≡◌, ◌&&◌, Bool, List, [], ◌∷◌, Ok, false, if◌then◌else◌, length, nat_le, true, ℕ}
 
 -- Rows of tables put into a set one after another, for the code alone.
 
@@ -50,3 +50,7 @@ all_put set (entry ∷ entries) = all_put (with_named set entry.0 entry.1) entri
 abbrev pub all_added : Set → List (List ℕ × List ℕ) → Set
 all_added set [] = set
 all_added set (pair ∷ pairs) = all_added (with_pair set pair.0 pair.1) pairs
+
+-- a pair is added that has no text to run
+abbrev pub with_alone : Set → List ℕ × List ℕ → Set
+with_alone set pair = if is_no_text pair.1 then with_pair set pair.0 pair.1 else set
