@@ -7,7 +7,7 @@ use Rattle.drv_words.specs.declared.steps.Step.{Step}
 use Rattle.drv_words.specs.declared.steps.Step.TheVariants as step
 use Rattle.std.proofs.Common.{◌≡◌, List, ◌∷◌, ap, false, refl, ℕ}
 
--- An answer that is given for a place changes no other.
+-- For one_place_law: an answer that is given for a place changes no other.
 
 changes : (g : Given) (given : List Given) (n : ℕ) (s : Step) → is_at g.place s ≡ false → answer_to (g ∷ given) n s ≡ answer_to given n s
 changes g given n (step.Claim p) other = ap (λ here. answer.Claim (claim_or here g.answer (claim_at given p))) other

@@ -14,7 +14,7 @@ use Rattle.std.proofs.Common.{◌≡◌, ◌∙◌, ◌<◌, ◌≤◌, ◌+◌,
 use Rattle.std.proofs.Common.{ap, arith, false, length, not, refl, subst, sym, true, ℕ}
 use Rattle.std.specs.List.{list_any}
 
--- One more step of a run over answers that are given ahead.
+-- For `after`: one more step of a run over answers that are given ahead.
 
 -- no child has this number, where each has the number of the events before it
 

@@ -1,6 +1,6 @@
 use Rattle.drv_args.specs.Fronts.{items_of}
 use Rattle.drv_args.specs.Jobs.{in_range, jobs_named, number_of}
-use Rattle.drv_args.specs.Lines.{jobs_after, judged, judged_line, last_jobs, line_fault, line_judged, line_of, line_of_items, line_read}
+use Rattle.drv_args.specs.Lines.{items_fault, jobs_after, judged, judged_line, last_jobs, line_fault, line_judged, line_of, line_of_items, line_read}
 use Rattle.drv_args.specs.declared.fault.ArgsFault.TheVariants.{Memory, TooManyArguments}
 use Rattle.drv_args.specs.declared.fault.ArgsFault.{ArgsFault}
 use Rattle.drv_args.specs.declared.items.Item.{Item}
@@ -74,7 +74,7 @@ pub judged_jobs_are_few : (from_file : Bool) (items : List Item) (result : Resul
     → IfOk result (λ line. (1 ≤ line.settings.jobs) × (line.settings.jobs ≤ 64))
 judged_jobs_are_few from_file items (Ok line) is =
     let some : 1 ≤ 1 = omega arith in let most : 1 ≤ 64 = omega arith in
-    judged_few (line_of from_file items) line (line_fault (line_of from_file items)) (last_few 1 items (some, most)) is
+    judged_few (line_of from_file items) line (items_fault (line_of from_file items)) (last_few 1 items (some, most)) is
 judged_jobs_are_few from_file items (Err fault) is = tt
 
 items_few : (from_file : Bool) (items : Result (List Item) ArgsFault) (line : Line) → judged_line (line_of_items from_file items) ≡ Ok line

@@ -1,5 +1,5 @@
 use Rattle.drv_args.specs.Fronts.{items_of}
-use Rattle.drv_args.specs.Lines.{has_many, is_input, judged, line_fault, line_of_items, line_read, output_fault}
+use Rattle.drv_args.specs.Lines.{input_fault, is_input, judged, line_fault, line_of_items, line_read}
 use Rattle.drv_args.specs.declared.fault.ArgsFault.TheVariants.{Memory, OutputIsInput}
 use Rattle.drv_args.specs.declared.fault.ArgsFault.{ArgsFault}
 use Rattle.drv_args.specs.declared.line.Expanded.{Expanded}
@@ -12,9 +12,8 @@ use Rattle.std.specs.Prelude.{nat_lt}
 
 -- For the refusals of a line: each follows from what the code tests.
 
-pub input_is_output : (output copy : List ℕ) (line : Line) → has_many line ≡ false → is_input output line ≡ true → copy ≡ output
-    → output_fault (Some output) line ≡ Some (OutputIsInput copy)
-input_is_output output copy line many input same = rw (same, many, input) refl
+pub input_is_output : (output copy : List ℕ) (line : Line) → is_input output line ≡ true → copy ≡ output → input_fault (Some output) line ≡ Some (OutputIsInput copy)
+input_is_output output copy line input same = rw (same, input) refl
 
 pub found_is_judged : (line : Line) (found : Option ArgsFault) (fault : ArgsFault) → found ≡ Some fault → judged line found ≡ Err fault
 found_is_judged line found fault e = ap (judged line) e

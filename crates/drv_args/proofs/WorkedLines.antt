@@ -332,3 +332,8 @@ given_3 = refl
 
 given_4 : line_judged false [] ≡ Err NoInputs
 given_4 = refl
+
+given_5 : line_judged false (item effect.Switch (codes "-c") [] ∷ item effect.File (codes "a.c") [] ∷ item effect.File (codes "a.o") [] ∷ item
+    effect.Output (codes "-o") (codes "x") ∷ [])
+    ≡ Ok (record empty { switches = alone (codes "c") ∷ takes (codes "o") (codes "x") ∷ []; inputs = File (codes "a.c") None ∷ File (codes "a.o") None ∷ []; settings = record off { output = Some (codes "x") } })
+given_5 = refl

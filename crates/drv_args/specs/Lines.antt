@@ -179,27 +179,34 @@ is_sink output = same output (codes "-") || same output (codes "/dev/null")
 abbrev pub is_input : List ℕ → Line → Bool
 is_input output line = not (is_sink output) && list_any (is_file_named output) line.inputs
 
+abbrev pub input_fault : Option (List ℕ) → Line → Option ArgsFault
+input_fault None line = None
+input_fault (Some output) line = if is_input output line then Some (OutputIsInput output) else None
+
 abbrev pub output_fault : Option (List ℕ) → Line → Option ArgsFault
 output_fault None line = None
-output_fault (Some output) line =
-    if has_many line then Some OutputWithMany else if is_input output line then Some (OutputIsInput output) else None
+output_fault (Some output) line = if has_many line then Some OutputWithMany else input_fault (Some output) line
 
 abbrev pub inputs_fault : Line → Option ArgsFault
-inputs_fault line =
-    if length line.inputs == 0 then Some NoInputs
-    else if needs_language line then Some StdinNeedsLanguage
-    else output_fault line.settings.output line
+inputs_fault line = if length line.inputs == 0 then Some NoInputs else if needs_language line then Some StdinNeedsLanguage else None
+
+abbrev pub or_later : Option ArgsFault → Option ArgsFault → Option ArgsFault
+or_later None later = later
+or_later (Some fault) later = Some fault
 
 abbrev pub line_fault : Line → Option ArgsFault
-line_fault line = if line.settings.dump then None else inputs_fault line
+line_fault line = if line.settings.dump then None else or_later (inputs_fault line) (output_fault line.settings.output line)
 
 abbrev pub judged : Line → Option ArgsFault → Result Line ArgsFault
 judged line None = Ok line
 judged line (Some fault) = Err fault
 
--- the result of items
+-- The result of items. Their caller judges whether one output is named for several sources: it knows which files are sources.
+abbrev pub items_fault : Line → Option ArgsFault
+items_fault line = if line.settings.dump then None else or_later (inputs_fault line) (input_fault line.settings.output line)
+
 abbrev pub line_judged : Bool → List Item → Result Line ArgsFault
-line_judged from_file items = judged (line_of from_file items) (line_fault (line_of from_file items))
+line_judged from_file items = judged (line_of from_file items) (items_fault (line_of from_file items))
 
 abbrev pub judged_line : Result Line ArgsFault → Result Line ArgsFault
 judged_line (Ok line) = judged line (line_fault line)

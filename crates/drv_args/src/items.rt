@@ -7,7 +7,7 @@ ghost use Rattle.drv_words.specs.Gives.{Gives};
 ghost use Rattle.std.specs.Prelude.{◌≡◌, ◌≤◌, IfOk, OnOk};
 
 use crate::building::LineBuilder;
-use crate::judging::judge;
+use crate::judging::judge_items;
 use crate::{ArgsFault, Effect, Line};
 use drv_words::Word;
 use std::alloc::{AllocError, Global};
@@ -47,15 +47,16 @@ fn made_line(alloc: Global, from_file: bool, items: &[Item]) -> Result<Line, All
 fn judged_line(alloc: Global, from_file: bool, items: &[Item]) -> Result<Line, ArgsFault>
     ensures { Gives fault.Memory (λ line. line) result (line_judged from_file items.now) }
 {
-    judge(made_line(alloc, from_file, items)?)
+    judge_items(made_line(alloc, from_file, items)?)
 }
 
-/// The line of these items: the one that `read` returns for words with these items. `from_file`
-/// says whether words of a response file are in it.
+/// The line of these items: the one that `read` makes of words with these items. `from_file` says
+/// whether words of a response file are in it. Which files are sources is for the caller to know, so
+/// one output for several of them isn't refused here.
 ///
 /// # Errors
-/// `Memory`; then, unless the specs are dumped, the first of `NoInputs`, `StdinNeedsLanguage`,
-/// `OutputWithMany` and `OutputIsInput`.
+/// `Memory`; then, unless the specs are dumped, the first of `NoInputs`, `StdinNeedsLanguage` and
+/// `OutputIsInput`.
 #[tactic(auto, using(crate::proofs::JobCounts::judged_jobs_are_few))]
 pub fn line_of(alloc: Global, from_file: bool, items: &[Item]) -> Result<Line, ArgsFault>
     ensures line { Gives fault.Memory (λ line. line) result (line_judged from_file items.now) }

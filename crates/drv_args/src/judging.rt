@@ -1,8 +1,9 @@
 //! The refusals of a whole line.
 
 ghost use Rattle.drv_args.specs.Lines.{has_many, has_switch, is_bare_stdin, is_file_input};
-ghost use Rattle.drv_args.specs.Lines.{is_file_named, is_input, is_sink, judged, line_fault};
-ghost use Rattle.drv_args.specs.Lines.{needs_language, output_fault, stops};
+ghost use Rattle.drv_args.specs.Lines.{input_fault, inputs_fault, is_file_named, is_input, is_sink};
+ghost use Rattle.drv_args.specs.Lines.{items_fault, judged, line_fault, needs_language, output_fault};
+ghost use Rattle.drv_args.specs.Lines.{stops};
 ghost use Rattle.drv_args.specs.Code.Judging.{Finds};
 ghost use Rattle.drv_args.specs.declared.fault.ArgsFault.TheVariants as fault;
 ghost use Rattle.drv_words.specs.Gives.{Gives};
@@ -22,8 +23,8 @@ fn has_switch(line: &Line, name: &[u8]) -> bool
         .any(|switch| switch.name.as_bytes() == name)
 }
 
-/// Whether the driver stops before the link.
-fn stops(line: &Line) -> bool
+/// Whether the driver stops before the link: by `-c`, `-S` or `-E`.
+pub fn stops(line: &Line) -> bool
     ensures { result ≡ stops line.now }
 {
     has_switch(line, b"c") || has_switch(line, b"S") || has_switch(line, b"E")
@@ -105,6 +106,16 @@ fn is_input(output: &[u8], line: &Line) -> bool
     !is_sink(output) && has_file(line.inputs.as_slice(), output)
 }
 
+/// The refusal of an output that is also an input.
+fn input_fault(line: &Line, output: &Word) -> Result<(), ArgsFault>
+    ensures { Finds result (input_fault (Some output.now) line.now) }
+{
+    if is_input(output.as_bytes(), line) {
+        return Err(ArgsFault::OutputIsInput(output.clone()?));
+    }
+    Ok(())
+}
+
 /// The refusal that an output causes.
 fn output_fault(line: &Line, output: &Word) -> Result<(), ArgsFault>
     ensures { Finds result (output_fault (Some output.now) line.now) }
@@ -112,8 +123,18 @@ fn output_fault(line: &Line, output: &Word) -> Result<(), ArgsFault>
     if has_many(line) {
         return Err(ArgsFault::OutputWithMany);
     }
-    if is_input(output.as_bytes(), line) {
-        return Err(ArgsFault::OutputIsInput(output.clone()?));
+    input_fault(line, output)
+}
+
+/// The first refusal that inputs cause.
+fn inputs_fault(line: &Line) -> Result<(), ArgsFault>
+    ensures { Finds result (inputs_fault line.now) }
+{
+    if line.inputs.is_empty() {
+        return Err(ArgsFault::NoInputs);
+    }
+    if needs_language(line) {
+        return Err(ArgsFault::StdinNeedsLanguage);
     }
     Ok(())
 }
@@ -125,14 +146,23 @@ fn line_fault(line: &Line) -> Result<(), ArgsFault>
     if line.settings.dump {
         return Ok(());
     }
-    if line.inputs.is_empty() {
-        return Err(ArgsFault::NoInputs);
-    }
-    if needs_language(line) {
-        return Err(ArgsFault::StdinNeedsLanguage);
-    }
+    inputs_fault(line)?;
     match &line.settings.output {
         Some(output) => output_fault(line, output),
+        None => Ok(()),
+    }
+}
+
+/// The first refusal of a line of items, where any number of files may have one output.
+fn items_fault(line: &Line) -> Result<(), ArgsFault>
+    ensures { Finds result (items_fault line.now) }
+{
+    if line.settings.dump {
+        return Ok(());
+    }
+    inputs_fault(line)?;
+    match &line.settings.output {
+        Some(output) => input_fault(line, output),
         None => Ok(()),
     }
 }
@@ -143,6 +173,17 @@ pub(crate) fn judge(line: Line) -> Result<Line, ArgsFault>
     ensures { Gives fault.Memory (λ line. line) result (judged line (line_fault line)) }
 {
     match line_fault(&line) {
+        Ok(()) => Ok(line),
+        Err(fault) => Err(fault),
+    }
+}
+
+/// The line of items, unless it is refused.
+#[tactic(auto, using(crate::proofs::Verdicts::found_is_judged, crate::proofs::Verdicts::none_is_judged))]
+pub(crate) fn judge_items(line: Line) -> Result<Line, ArgsFault>
+    ensures { Gives fault.Memory (λ line. line) result (judged line (items_fault line)) }
+{
+    match items_fault(&line) {
         Ok(()) => Ok(line),
         Err(fault) => Err(fault),
     }

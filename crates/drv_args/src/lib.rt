@@ -15,6 +15,7 @@ mod reading;
 pub use expansion::expand;
 pub use fault::ArgsFault;
 pub use items::{Item, line_of};
+pub use judging::stops;
 pub use laws::{items_are_fronts, one_expansion};
 pub use line::{Expanded, Input, Line, Settings, Switch};
 pub use option_table::{Effect, Setting, Tool};

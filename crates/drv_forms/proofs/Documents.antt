@@ -10,7 +10,7 @@ use Rattle.json.specs.Tree.{depth, items_depth, json_tokens}
 use Rattle.std.proofs.Common.{◌≡◌, ◌≤◌, Bool, false, true, List, [], ◌∷◌, None, Option, Some, if◌then◌else◌, option_and_then, sym, ap, ◌∙◌, append-nil, arith, ℕ}
 use Rattle.std.specs.Str.{is_utf8}
 
--- A text with the tokens of a value that doesn't nest too deep is that value; a plan doesn't.
+-- For `plan_json`: the text of the tokens is read as the plan's value, which doesn't nest too deep.
 
 pub document_of : (text : List ℕ) (json : Json) → tokens text ≡ json_tokens json → depth json ≤ max_depth → document text ≡ Some json
 document_of text json are shallow =

@@ -10,7 +10,7 @@ use Rattle.std.proofs.Common.{◌≡◌, ◌<◌, Bool, false, true, List, [], �
 use Rattle.std.proofs.lemmas.Fmt.{decimal_is_IsNumeral}
 use Rattle.std.specs.Str.{is_utf8}
 
--- The plan that is read of a plan's JSON is that plan.
+-- For `plan_json`: the plan that is read from a plan's JSON is that plan.
 
 goes_on : {A B : Type 0} (o : Option A) (x : A) (f : A → Option B) (y : Option B) → o ≡ Some x → f x ≡ y → option_and_then f o ≡ y
 goes_on o x f y is gives = ap (option_and_then f) is ∙ gives

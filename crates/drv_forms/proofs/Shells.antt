@@ -4,7 +4,7 @@ use Rattle.std.proofs.Common.{◌≡◌, Bool, false, true, ◌&&◌, ◌==◌, 
 use Rattle.std.proofs.lemmas.Bool.{eqb-true}
 use Rattle.std.specs.List.{list_all}
 
--- The shell reads a word that was written for it as that word.
+-- For `shell_word`: the shell reads a word that was written for it as that word.
 
 -- bytes, and bytes before them
 together : (front bytes : List ℕ) (rest : Option Rest) → option_map (after_bytes front) (option_map (after_bytes bytes) rest) ≡ option_map (after_bytes (front ++ bytes)) rest

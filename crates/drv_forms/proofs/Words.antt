@@ -6,7 +6,7 @@ use Rattle.std.proofs.Common.{◌≡◌, ◌∷◌, [], Bool, false, true, List,
 use Rattle.std.proofs.lemmas.Str.{IsUtf8-from_is_utf8, is_utf8-from_IsUtf8}
 use Rattle.std.specs.Str.{IsUtf8, is_utf8}
 
--- A word that is text, and one that isn't.
+-- For `plan_json`: a word is a string if its bytes are UTF-8, or else a list of bytes.
 
 pub text_word : (word : List ℕ) → IsUtf8 word → word_json word ≡ string word
 text_word word is = rw (is_utf8-from_IsUtf8 word is) refl

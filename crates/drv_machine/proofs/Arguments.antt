@@ -18,7 +18,7 @@ use Rattle.drv_system.specs.Facts.{Facts}
 use Rattle.drv_system.specs.Known.{Is, Unasked}
 use Rattle.std.proofs.Common.{◌≡◌, ◌⊎◌, ◌<◌, ◌+◌, ◌-◌, ◌++◌, ◌∙◌, Err, List, [], ◌∷◌, Ok, ap, false, inl, inr, length, refl, sym, ℕ}
 
--- Arguments: they are cut by the law of the text, in a cut of their own.
+-- For `call`s in a text: the arguments of a function are cut by the law of a text, in a cut of their own.
 
 module _ (F : Facts) (C : Context) where
   arguments_done : (s : Machine) (work : Worked (Unit {0})) → done F C s.cut (words_of F C s.world work) ≡ (done F C nothing_cut (follow work (λ u. puts (Break ∷ []))) >>- back_at F C s.cut)

@@ -30,7 +30,7 @@ use Rattle.std.proofs.lemmas.Option.{slice_get_within}
 use Rattle.std.specs.List.{range_with_len}
 use Rattle.std.specs.Option.{IfSome}
 
--- Alternatives, one after another.
+-- For `choose`: the alternatives of a brace are judged one after another, as the definition does.
 
 pub record FrontChoice (text : List ℕ) (at : ℕ) (choices : Choices) (end : ℕ) : Type 0 where
   pub span : Span

@@ -21,7 +21,7 @@ use Rattle.drv_system.specs.Facts.{Facts}
 use Rattle.drv_system.specs.Known.{Is}
 use Rattle.std.proofs.Common.{◌≡◌, ◌⊎◌, ◌&&◌, ◌<◌, ◌≤◌, ◌+◌, ◌∙◌, Bool, Err, List, Ok, Some, ap, false, refl, slice_get, true, ℕ}
 
--- What the walk does at alternatives.
+-- For `choose` and `enter_alternative`: the walk goes into the alternative that the definition takes.
 
 module _ (F : Facts) (C : Context) (text : List ℕ) (w : Walk) (s t : Machine) (at end : ℕ) (choices : Choices) (given : Answer (Unit {0} × Machine)) (b : Following F C text w end (λ levels star. choices_step F C choices levels star) s given)
     (left : (levels : Levels) (star : List ℕ) → ChoicesLeft F C text s t at end choices levels star) where

@@ -9,7 +9,7 @@ use Rattle.std.proofs.Common.{◌≡◌, ◌∙◌, ◌++◌, Bool, List, [], �
 use Rattle.std.specs.List.{flat_map, list_any}
 use Rattle.std.specs.Prelude.{◌&&◌, if◌then◌else◌}
 
--- Failure files of a list of atoms.
+-- For cut_law: the failure files of a list of atoms.
 
 -- for each %W that is open the last word that ended in it, the innermost first, of the atoms before, the nearest first
 abbrev ended_parts : Bool → List Atom → List (Option (List Atom)) → List (Option (List Atom))

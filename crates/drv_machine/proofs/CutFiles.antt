@@ -13,7 +13,7 @@ use Rattle.std.proofs.lemmas.Grind.{flat_map-append}
 use Rattle.std.specs.List.{flat_map, list_any}
 use Rattle.std.specs.Prelude.{if◌then◌else◌}
 
--- Files in a list of atoms: their words, and the commands around them.
+-- For file_law: the files in a list of atoms, their words, and the commands around them.
 
 -- what a file leaves of a cut
 abbrev pub plain : Cut → Cut

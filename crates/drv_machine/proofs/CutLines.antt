@@ -10,7 +10,7 @@ use Rattle.std.proofs.Common.{◌≡◌, ◌∙◌, ◌++◌, ◌||◌, Bool, Li
 use Rattle.std.specs.List.{cons_option, filter_map, list_any}
 use Rattle.std.specs.Prelude.{if◌then◌else◌, not, option_to_list}
 
--- Commands and stray pipes of a list of atoms without a file.
+-- For command_law: the commands and the stray pipes of a list of atoms without a file.
 
 or_true : (a : Bool) → (a || true) ≡ true
 or_true true = refl

@@ -8,7 +8,7 @@ use Rattle.drv_system.specs.Known.{Is}
 use Rattle.std.proofs.Common.{◌≡◌, ◌∙◌, List, [], ◌∷◌, None, Ok, Option, Some, ap, false, length, map, refl, suc, ℕ}
 use Rattle.std.specs.Prelude.{option_and_then, option_to_list}
 
--- A cut has as many %W and files open as the list of its atoms.
+-- For cut_law: a cut has as many %W and files open as the list of its atoms.
 
 abbrev pub open_parts : Enclosed → Cut → ℕ
 open_parts Failure c = length c.inside

@@ -9,8 +9,8 @@ use Rattle.std.proofs.Common.{◌≡◌, List, [], ◌∷◌, codes, false, refl
 use Rattle.std.specs.List.{flat_map}
 use Rattle.std.specs.Prelude.{None, Ok, Option, Some}
 
--- Lists of atoms, and what the definitions over a whole list say of them, by computation. The expected values were derived by hand from the
--- profile.
+-- Examples of lists of atoms, which the prover computes from the definitions over a whole list. The expected values were derived by hand
+-- from the profile.
 
 abbrev letter_a : ℕ
 letter_a = 97

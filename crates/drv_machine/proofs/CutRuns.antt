@@ -11,7 +11,7 @@ use Rattle.std.proofs.lemmas.List.Folds.{list_any-append}
 use Rattle.std.specs.List.{filter, list_any}
 use Rattle.std.specs.Prelude.{◌&&◌, if◌then◌else◌, not}
 
--- Output and removed files of a list of atoms, and its words looked for.
+-- For cut_law: the output and the removed files of a list of atoms, and the look-up of its first words.
 
 inside_removed : (c : Cut) (inside : List (Option (List ℕ))) → (inside_done inside c).removed ≡ c.removed
 inside_removed c [] = refl

@@ -14,7 +14,7 @@ use Rattle.std.proofs.Common.{◌≡◌, ◌∙◌, ◌⊎◌, ◌++◌, ◌||�
 use Rattle.std.specs.Option.{unwrap_or}
 use Rattle.std.specs.Prelude.{◌==◌, None, Some, get_or, replicate}
 
--- Atoms that are put one list after another, as the code puts them.
+-- For `Machine`: after each list of atoms that the code puts, its cut is that of all atoms so far.
 
 pub or_again : (a b : Bool) → ((a || b) || b) ≡ (a || b)
 or_again true b = refl

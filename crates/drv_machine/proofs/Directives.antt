@@ -12,8 +12,8 @@ use Rattle.std.proofs.Common.{◌≡◌, ◌++◌, Option, List, [], ◌∷◌, 
 use Rattle.std.proofs.lemmas.Fmt.{decimal_digit}
 use Rattle.std.specs.Prelude.{Err, None, Ok, Some}
 
--- Example texts, by computation: names of temporaries, marks, lists, pipes and searches. The expected values were derived by hand from the
--- manual and the profile.
+-- Examples of texts, which the prover computes: names of temporaries, marks, lists, pipes and searches. The expected values were derived by
+-- hand from the manual and the profile.
 
 -- no TMPDIR
 abbrev untouched : Facts

@@ -21,7 +21,7 @@ use Rattle.std.specs.Fmt.{decimal}
 use Rattle.std.specs.Ordering.{nat_cmp}
 use Rattle.std.specs.Prelude.{cond, if◌then◌else◌, nat_eq}
 
--- Names of temporaries.
+-- For `put_temp`: the names of temporaries, and which were given before.
 
 regroup : (a b c d e f : List ℕ) → (((((([] ++ a) ++ b) ++ c) ++ d) ++ e) ++ f) ≡ a ++ b ++ c ++ d ++ e ++ f
 regroup a b c d e f = simp append_assoc

@@ -26,7 +26,7 @@ use Rattle.std.proofs.Common.{◌≡◌, ◌⊎◌, ◌<◌, ◌≤◌, ◌+◌,
 use Rattle.std.proofs.lemmas.List.{drop_more, length-map}
 use Rattle.std.specs.List.{filter, flat_map, list_any, range_with_len}
 
--- Switches put as the line has them.
+-- For `emit`: the switches that a pattern hits are put in the order of the line.
 
 -- the patterns that are left at a place
 abbrev pub PatternsLeft : List ℕ → ℕ → ℕ → List switches.Pattern → List (Span × Pattern) → Type 0

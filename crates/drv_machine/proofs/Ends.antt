@@ -9,7 +9,7 @@ use Rattle.std.proofs.Common.{◌≡◌, ◌≤◌, ◌∙◌, ◌++◌, ◌&&�
 use Rattle.std.proofs.lemmas.List.{length-append, length-replicate}
 use Rattle.std.specs.Prelude.{None, Some, is_some, not, replicate}
 
--- What the end of a word does.
+-- For `end_word`: what the end of a word adds to the cut.
 
 pub is_open_word : (is_open : Bool) (bytes : List ℕ) → is_some (open_word is_open bytes) ≡ is_open
 is_open_word true bytes = refl

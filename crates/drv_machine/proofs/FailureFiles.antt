@@ -28,7 +28,7 @@ use Rattle.std.proofs.Common.{◌≡◌, ◌<◌, ◌≤◌, ◌+◌, ◌-◌, �
 use Rattle.std.specs.List.{filter, flat_map}
 use Rattle.std.specs.Prelude.{replicate}
 
--- %W: the words that end in it, and what is in it.
+-- For `%W{..}`: which words end in it, and what the code keeps of them.
 
 -- one more is open
 pub one_more : (last : List ℕ) (count fresh : ℕ) → ended_in last (count + 1) (fresh + 1) ≡ None ∷ ended_in last count fresh

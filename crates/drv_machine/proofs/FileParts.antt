@@ -21,7 +21,7 @@ use Rattle.drv_system.specs.Known.{Is}
 use Rattle.std.proofs.Common.{◌≡◌, ◌⊎◌, ◌<◌, ◌+◌, ◌-◌, ◌++◌, ◌∙◌, ◌∷◌, [], Bool, Err, List, Ok, Result, ap, false, if◌then◌else◌, inl, inr, length, refl, sym, true, ℕ}
 use Rattle.std.specs.Prelude.{IfErr, OnOk}
 
--- A %@ is opened, for a file or not.
+-- For `%@{..}`: it is opened as a file if the line came from one, or else as a brace.
 
 module _ (F : Facts) (C : Context) (text : List ℕ) (w : Walk) (s : Machine) (end : ℕ) (brace : Brace) (given : Answer (Unit {0} × Machine))
     (b : Following F C text w end (λ levels star. item_step F C (tree.ArgumentsFile brace) levels star) s given) where

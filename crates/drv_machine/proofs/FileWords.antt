@@ -9,8 +9,7 @@ use Rattle.std.proofs.Common.{◌≡◌, ◌∙◌, ◌++◌, Bool, List, [], �
 use Rattle.std.specs.Option.{unwrap_or}
 use Rattle.std.specs.Prelude.{is_some, option_map}
 
--- The words of a file are cut alike whatever was cut before it: what decides about them is the word that is open, its
--- marks, and the words so far.
+-- For `%@{..}`: the words of a file depend on the open word, its marks and the words so far, and on nothing else that was cut before.
 
 pub record Seen : Type 0 where
   pub word : Option (List ℕ)

@@ -18,7 +18,7 @@ use Rattle.std.proofs.Common.{◌≡◌, ◌⊎◌, ◌∙◌, ◌++◌, Err, Li
 use Rattle.std.proofs.lemmas.Bool.Decides.{nat_tests}
 use Rattle.std.specs.Prelude.{◌==◌}
 
--- The file of a %@ begins and ends.
+-- For `%@{..}`: what its beginning and its end do to the cut.
 
 -- the word that names a file
 abbrev named_path : List ℕ → Step (Unit {0})

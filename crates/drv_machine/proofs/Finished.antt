@@ -17,7 +17,7 @@ use Rattle.std.specs.Cmp.Lexicographic.{pointwise, same_text}
 use Rattle.std.specs.List.{filter, list_any}
 use Rattle.std.specs.Prelude.{nat_eq, nat_lt, not}
 
--- What follows a whole text.
+-- For the end of `run`: the job of a text is made of its finished cut.
 
 -- the last command counts
 ends_piped_from : (lines : List NamedLine) (n : ℕ) (last : NamedLine) → length lines ≡ suc n → last ≡ get_or lines n last → last.piped ≡ ends_piped lines

@@ -2,14 +2,14 @@ use Rattle.drv_funcs.specs.Functions.{function_of, name_of}
 use Rattle.drv_funcs.specs.Functions as funcs
 use Rattle.drv_funcs.specs.declared.function.Function.TheVariants.{Getenv, IfExists, IfExistsElse, IfExistsThenElse, RemoveOutfile, ReplaceOutfile, VersionCompare}
 use Rattle.drv_funcs.specs.declared.function.Function.{Function}
-use Rattle.drv_syntax.proofs.WalkNames.{same_pointwise}
+use Rattle.drv_syntax.proofs.FunctionNames.{same_pointwise}
 use Rattle.drv_syntax.specs.Bytes.{any_of, is_function, is_same}
 use Rattle.std.proofs.Common.{◌≡◌, ◌∙◌, List, [], ◌∷◌, ap, refl, sym}
 use Rattle.std.specs.Cmp.Lexicographic.{pointwise}
 use Rattle.std.specs.Map.{lookup}
 use Rattle.std.specs.Prelude.{Bool, Some, cond, false, if◌then◌else◌, is_some, map, nat_eq, true, ℕ}
 
--- The names of functions in the grammar are those of the functions.
+-- For function_names: the names of functions in the grammar are those of the functions.
 
 among : {X : Type 0} (name : List ℕ) (rows : List (List ℕ × X)) → any_of (is_same name) (map (λ row. row.0) rows) ≡ is_some (lookup (pointwise nat_eq name) rows)
 among name [] = refl

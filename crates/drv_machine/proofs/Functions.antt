@@ -14,7 +14,7 @@ use Rattle.std.proofs.Common.{◌≡◌, ◌⊎◌, ◌∙◌, Bool, Err, List, 
 use Rattle.std.specs.Option.{unwrap_or}
 use Rattle.std.specs.Prelude.{is_some}
 
--- What is made of the value of a function.
+-- For calls of functions: what a text makes of the result.
 
 module _ (F : Facts) (C : Context) (outer : Cut) (name : List ℕ) (s : Machine) where
   value_is : after_arguments F C outer (value_step F C name) s ≡ (after_arguments F C outer (call_step F C name) s >>- λ r. run F C r.1 (bytes (unwrap_or r.0 [])))

@@ -10,7 +10,7 @@ use Rattle.std.specs.Cmp.Lexicographic.{pointwise, slice_cmp, texts_ties}
 use Rattle.std.specs.Ordering.{nat_cmp}
 use Rattle.std.specs.Prelude.{cond, nat_eq}
 
--- Lists of words with an index.
+-- For `IndexedWords`: the index finds a word exactly if the list has it.
 
 -- the index has one word more
 abbrev pub Grows : BTreeSet (List ℕ) → BTreeSet (List ℕ) → List ℕ → Type 0

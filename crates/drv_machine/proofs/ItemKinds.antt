@@ -12,7 +12,7 @@ use Rattle.drv_syntax.specs.declared.token.TokenKind.{TokenKind}
 use Rattle.drv_system.specs.Facts.{Facts}
 use Rattle.std.proofs.Common.{◌≡◌, Bool, List, ap, false, refl, true, ℕ}
 
--- Items by their kinds.
+-- For the walk: what an item means, by the kind of its token.
 
 pub labelled_is : (p : Pattern) → labelled (pattern_label p) ≡ matching p
 labelled_is (tree.pattern word star) = refl

@@ -28,7 +28,7 @@ use Rattle.drv_system.specs.Known.{Is}
 use Rattle.std.proofs.Common.{◌≡◌, ◌⊎◌, ◌+◌, ◌∙◌, Bool, Err, List, None, Ok, Some, ap, arith, false, if◌then◌else◌, inl, inr, refl, slice_get, subst, sym, true, ℕ}
 use Rattle.std.proofs.lemmas.Option.{slice_get_within}
 
--- A test by a function, answered after its arguments.
+-- For tests by a function: the answer is known after the arguments.
 
 module _ (F : Facts) (C : Context) (text : List ℕ) (w : Walk) (items : Items) (kept : Kept) (given : Answer (Unit {0} × Machine)) where
   -- the arguments have ended, and the function was called

@@ -10,7 +10,7 @@ use Rattle.drv_system.specs.Known.{Is, Unasked}
 use Rattle.std.proofs.Common.{◌≡◌, ◌∙◌, ◌++◌, List, [], ◌∷◌, ap, refl, sym}
 use Rattle.std.specs.Prelude.{Err, Ok}
 
--- Parts of a text one after another: what is cut by the first and then by the second is what both give.
+-- For all of the walk: parts of a text one after another give what the first and then the second gives.
 
 pub then_then : {X Y Z : Type 0} (a : Answer X) (f : X → Answer Y) (g : Y → Answer Z) → ((a >>- f) >>- g) ≡ (a >>- λ x. f x >>- g)
 then_then (Is (Ok x)) f g = refl

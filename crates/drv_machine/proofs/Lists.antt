@@ -13,7 +13,7 @@ use Rattle.std.proofs.lemmas.List.{drop_more}
 use Rattle.std.specs.List.{flat_map}
 use Rattle.std.specs.Prelude.{Bool, None, Option, Some, false, get_or, is_some, true}
 
--- Lists that are put, one after another.
+-- For `%o`, `%D`, `%X` and the like: lists of words that are put one after another.
 
 pub no_input : (input : Option Source) (answer : Bool) → answer ≡ is_some input → answer ≡ false → input ≡ None
 no_input None answer says is = refl

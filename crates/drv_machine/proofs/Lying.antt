@@ -12,7 +12,7 @@ use Rattle.drv_syntax.specs.declared.token.TokenKind.TheVariants as kinds
 use Rattle.std.proofs.Common.{◌≡◌, ◌<◌, ◌≤◌, ◌+◌, ◌∙◌, List, Some, ap, arith, length, refl, slice_get, subst, sym, ℕ}
 use Rattle.std.proofs.lemmas.Option.{slice_get_within}
 
--- Items that are left of an open part, and the alternatives between them.
+-- For the walk in a brace: which items of an open part are left, and which alternatives are between them.
 
 -- some alternatives, and others after them
 abbrev choices_joined : Choices → Choices → Choices

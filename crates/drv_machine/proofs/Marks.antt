@@ -14,8 +14,8 @@ use Rattle.drv_system.specs.Known.{Is, Unasked}
 use Rattle.std.proofs.Common.{◌≡◌, List, [], ◌∷◌, ◌++◌, codes, false, refl, true, ℕ}
 use Rattle.std.specs.Prelude.{Bool, Err, None, Ok, Option, Result, Some}
 
--- What no text shows yet, by computation: marks on words, the limits, named texts and arguments. The expected values were derived by hand
--- from the profile.
+-- Examples that no text shows, which the prover computes: marks on words, the limits, named texts and arguments. The expected values were
+-- derived by hand from the profile.
 
 -- the tree of a text
 abbrev tree : List ℕ → Items

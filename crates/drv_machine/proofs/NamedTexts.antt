@@ -15,7 +15,7 @@ use Rattle.drv_system.specs.Facts.{Facts}
 use Rattle.std.proofs.Common.{◌≡◌, ◌<◌, ◌++◌, ◌∙◌, List, [], ◌∷◌, None, Option, Some, ap, false, length, refl, sym, ℕ}
 use Rattle.std.specs.Prelude.{option_map}
 
--- Named texts, opened.
+-- For `%(NAME)`: a named text is opened.
 
 -- what was found of a name
 pub none_named : {R : Type 0} (now : R → List ℕ) (found : Option R) (text : Option (List ℕ)) → option_map now found ≡ text → found ≡ None → text ≡ None

@@ -32,7 +32,7 @@ use Rattle.drv_system.specs.Gives.{GivesKnown}
 use Rattle.drv_system.specs.Known.{Is}
 use Rattle.std.proofs.Common.{◌≡◌, ◌⊎◌, ◌<◌, ◌≤◌, ◌+◌, ◌-◌, ◌++◌, ◌∙◌, Err, List, [], ◌∷◌, Ok, OnOk, Option, Result, Some, ap, arith, drop, inl, inr, length, length-append, refl, slice_get, subst, suc, sym, ℕ}
 
--- What is left of a walk, and what follows the open parts.
+-- For `Left`, which joins the walk and the definitions: the rest of a walk, and what follows the open parts.
 
 -- a list with one more at its end
 abbrev head_or : {A : Type 0} → A → List A → A

@@ -15,7 +15,8 @@ use Rattle.std.proofs.Common.{◌≡◌, ◌++◌, List, [], ◌∷◌, arith, c
 use Rattle.std.proofs.lemmas.Fmt.{decimal_digit}
 use Rattle.std.specs.Prelude.{Err, None, Ok, Some}
 
--- Example texts, by computation: rows that open a part. The expected values were derived by hand from the manual and the profile.
+-- Examples of texts, which the prover computes: rows that open a part. The expected values were derived by hand from the manual and the
+-- profile.
 
 -- with these named texts
 abbrev named : List (List ℕ × List ℕ) → Context → Context

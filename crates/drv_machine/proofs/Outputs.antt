@@ -11,7 +11,7 @@ use Rattle.drv_system.specs.Gives.{GivesKnown}
 use Rattle.drv_system.specs.Known.{Is, Unasked}
 use Rattle.std.proofs.Common.{◌≡◌, ◌∙◌, Err, List, [], ◌∷◌, None, Ok, Result, ap, inl, inr, refl, subst, sym, ℕ}
 
--- Outputs that are taken out of the machine while words are put, and given back after them.
+-- For `%o`: the outputs are taken out of the machine while their words are put, and given back after that.
 
 abbrev pub holding : List (List ℕ) → Machine → Machine
 holding outputs s = record s { world = record s.world { outputs = outputs } }

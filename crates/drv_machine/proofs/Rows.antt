@@ -9,8 +9,8 @@ use Rattle.drv_system.specs.Known.{Is}
 use Rattle.std.proofs.Common.{◌≡◌, List, [], ◌∷◌, codes, refl, ℕ}
 use Rattle.std.specs.Prelude.{Err, None, Ok}
 
--- Example texts, by computation: each text is parsed, run and cut. The expected words were derived by hand from the manual and the profile,
--- and hold whatever the facts say.
+-- Examples of texts, which the prover parses, runs and cuts. The expected words were derived by hand from the manual and the profile, and
+-- hold for all facts.
 
 module _ (F : Facts) where
   abbrev words_of : Context → List ℕ → Answer (List (List (List ℕ)))

@@ -12,7 +12,7 @@ use Rattle.std.specs.Option.{unwrap_or}
 use Rattle.std.proofs.lemmas.Grind.{flat_map-append}
 use Rattle.std.specs.Prelude.{◌&&◌, if◌then◌else◌, is_some, map, not}
 
--- How the cut goes over the runs of atoms.
+-- For the laws of the cut: how it goes over the runs of atoms between breaks.
 
 -- what a run has opened
 pub record Opened : Type 0 where

@@ -8,7 +8,7 @@ use Rattle.drv_system.specs.Known.{Is}
 use Rattle.std.proofs.Common.{◌≡◌, Bool, List, Ok, false, sym, true, ℕ}
 use Rattle.std.proofs.lemmas.Bool.{false≢true}
 
--- Open parts were closed, and it was asked whether an item is left.
+-- For `settle`: it closes the parts that have ended, and says whether an item is left.
 
 module _ (F : Facts) (C : Context) (text : List ℕ) (w : Walk) (s : Machine) (given : Answer (Unit {0} × Machine)) where
   pub settled_more : (more : Bool) → more ≡ true → Settled F C text w s given (Ok more) → Left F C text w s given

@@ -1,5 +1,6 @@
 use Rattle.drv_machine.specs.Code.Standing.{Part, Spans, Stand, Stands, after_tests, is_test, tests_in}
-use Rattle.drv_syntax.proofs.WalkNodes.{flat, items_flat}
+use Rattle.drv_syntax.proofs.FlatNodes.{items_flat}
+use Rattle.drv_syntax.specs.Code.Writing.{flat}
 use Rattle.drv_syntax.specs.Labels.{Label, Nodes, both, labels, labels_of, no_label, no_node, node, nodes_of}
 use Rattle.drv_syntax.specs.Parsed.{tree_of}
 use Rattle.drv_syntax.specs.Tokens.{tokens_of}
@@ -11,7 +12,7 @@ use Rattle.std.proofs.Common.{◌≡◌, ◌<◌, ◌≤◌, ◌+◌, ◌-◌, �
 use Rattle.std.proofs.lemmas.Option.{slice_get_within}
 use Rattle.std.proofs.Math.Seq.{get_or-append_seam}
 
--- Where the parts of a tree are in its flat list.
+-- For the walk: where the parts of a tree are in its flat list of tokens.
 
 -- parts in a list of tokens, between what precedes and what follows them
 slice_seam : {A : Type 0} (xs : List A) (y : A) (ys : List A) → slice_get (xs ++ y ∷ ys) (length xs) ≡ Some y

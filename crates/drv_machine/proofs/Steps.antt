@@ -10,7 +10,7 @@ use Rattle.drv_system.specs.Known.{Is}
 use Rattle.std.proofs.Common.{◌≡◌, ◌⊎◌, ◌∙◌, Bool, Err, Ok, Result, ap, false, inl, inr, not, refl, subst, true}
 use Rattle.std.specs.Prelude.{OnOk}
 
--- One part of a text after another, where the first has been worked.
+-- For the walk: what a text gives after its first part was run.
 
 module _ {X Y : Type 0} (F : Facts) (C : Context) (s : Machine) (a : Step X) (f : X → Step Y) where
   pub then_ok : (x : X) (t : Machine) → run F C s a ≡ Is (Ok (x, t)) → run F C s (a >>= f) ≡ run F C t (f x)

@@ -8,8 +8,8 @@ use Rattle.drv_system.specs.Known.{Is}
 use Rattle.std.proofs.Common.{◌≡◌, List, [], ◌∷◌, codes, refl, ℕ}
 use Rattle.std.specs.Prelude.{Err, Ok}
 
--- Example texts, by computation: tables of what tests ask, what is put of switches, how commands are cut, and what texts cost. The expected
--- words were derived by hand from the manual and the profile.
+-- Examples of texts, which the prover computes: what tests ask, how switches are put and commands are cut, and what texts cost. The
+-- expected words were derived by hand from the manual and the profile.
 
 module _ (F : Facts) where
   abbrev words_of : Context → List ℕ → Answer (List (List (List ℕ)))

@@ -34,7 +34,7 @@ use Rattle.std.specs.List.{filter, flat_map, list_any}
 use Rattle.std.specs.Option.{unwrap_or}
 use Rattle.std.specs.Prelude.{◌&&◌, ◌+◌, ⊤, codes, drop, if◌then◌else◌, is_some, length, nat_lt, not, option_and_then}
 
--- The atoms of every text are atoms and files, and no file is in another. No file and no %W ends that is not open, and none is left open.
+-- For text_law: the atoms of a text open and close files and %W in pairs, and no file is in another.
 
 abbrev bounds_any : Atom → Bool
 bounds_any From = true

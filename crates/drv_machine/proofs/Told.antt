@@ -20,7 +20,7 @@ use Rattle.std.proofs.Common.{◌≡◌, ◌∙◌, ◌||◌, Bool, Err, List, O
 use Rattle.std.specs.List.{flat_map, list_any}
 use Rattle.std.specs.Prelude.{if◌then◌else◌, nat_lt}
 
--- The outcome of a text, told by its atoms.
+-- For text_law: the job of a text is that of its list of atoms.
 
 neither : (a b : Bool) → (a || b) ≡ false → a ≡ false
 neither true b e = absurd cc

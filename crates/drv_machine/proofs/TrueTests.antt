@@ -20,7 +20,7 @@ use Rattle.drv_system.specs.Known.{Is}
 use Rattle.std.proofs.Common.{◌≡◌, ◌⊎◌, ◌<◌, ◌≤◌, ◌+◌, ◌∙◌, Bool, Err, List, Ok, Some, ap, arith, false, if◌then◌else◌, inl, inr, not, refl, slice_get, subst, sym, true, ℕ}
 use mathlib.Core.Bool.{beq}
 
--- Tests, the first of which is judged.
+-- For `first_true`: the tests of an alternative are judged one after another.
 
 -- a test that is by no function
 pub asked_is : (F : Facts) (C : Context) (negated : Bool) (asked : Asked) (levels : Levels) (star : List ℕ) → is_call (test_label negated asked) ≡ false → truth F C asked levels star ≡ asked_step C (test_label negated asked)

@@ -28,7 +28,7 @@ use Rattle.std.proofs.Common.{◌≡◌, ◌⊎◌, ◌<◌, ◌≤◌, ◌+◌,
 use Rattle.std.proofs.lemmas.Bool.{false≢true}
 use Rattle.std.specs.Prelude.{◌↔◌, IsSome}
 
--- A turn, and what is around it.
+-- For `turn`: one turn of the loop keeps `Left`, or ends in the defined refusal.
 
 -- the walk has gone on in the innermost part
 pub left_at : (F : Facts) (C : Context) (text : List ℕ) (w : Walk) (at : ℕ) (s : Machine) (given : Answer (Unit {0} × Machine)) → ((rest : Items) → Lies text w.at rest w.end → Lies text at rest w.end) → Left F C text w s given

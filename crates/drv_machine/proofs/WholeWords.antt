@@ -16,7 +16,7 @@ use Rattle.std.proofs.Common.{◌≡◌, ◌∙◌, ◌++◌, List, [], ◌∷�
 use Rattle.std.specs.Option.{unwrap_or}
 use Rattle.std.specs.Prelude.{None}
 
--- Words that are put whole.
+-- For `add_switch`: a word that is put whole has the same cut as its bytes one by one.
 
 -- after one no word is open
 pub between_again : (s : Machine) (word : List ℕ) → IsBetweenWords (word_added s word).cut

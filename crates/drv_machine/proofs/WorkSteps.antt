@@ -19,7 +19,7 @@ use Rattle.drv_system.specs.Facts.{Facts}
 use Rattle.drv_system.specs.Known.{Is}
 use Rattle.std.proofs.Common.{◌≡◌, ◌⊎◌, ◌∙◌, Err, List, ap, refl, sym, ℕ}
 
--- Items by their kinds, each at its place.
+-- For `work_item` and `work_leaf`: the item at a place, by its kind, does what the definition says.
 
 -- what the braces of an item mean is there
 pub item_means : (F : Facts) (C : Context) (text : List ℕ) (at end : ℕ) (levels : Levels) (star : List ℕ) (item : Item) → Stands text at (inner_nodes item) end

@@ -13,7 +13,7 @@ use Rattle.drv_words.specs.declared.plan.Command.{Command}
 use Rattle.std.proofs.Common.{List, [], ◌∷◌, ◌++◌, map, ℕ}
 use Rattle.std.specs.Prelude.{Err, None, Ok, Result, Some, false}
 
--- What the example texts are run for, and what is compared of their results.
+-- For the examples: what a text is run for, and what is compared of its result.
 
 -- a switch of its own, and one with an argument
 abbrev pub alone : List ℕ → Switch

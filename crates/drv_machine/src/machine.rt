@@ -1,4 +1,4 @@
-//! What working a text holds: what is cut so far, the hidden switches, and the count of items.
+//! The state of running a text: what is cut so far, the hidden switches, and the count of items.
 
 ghost use Rattle.drv_system.specs.Code.Asked.{Asked};
 ghost use Rattle.drv_machine.specs.Atoms.{switch_atoms};
@@ -98,7 +98,7 @@ impl NamedLine {
     }
 }
 
-/// What working a text holds: what is cut so far, and what working changes as it goes.
+/// The state of running a text: what is cut so far, and what the run changes as it goes.
 #[derive(Drop)]
 pub(crate) struct Machine {
     alloc: Global,

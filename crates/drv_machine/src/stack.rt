@@ -11,7 +11,7 @@ use arrayvec::ArrayVec;
 use std::alloc::{AllocError, Global};
 use std::marker::Model;
 
-/// Why a part isn't opened. It is small, and becomes a fault of the machine where it is handed on.
+/// Why a part isn't opened. It is small, and becomes a fault of the machine when it is passed on.
 #[derive(Clone, Copy, Debug, Drop)]
 pub(crate) enum StackFault {
     /// An allocation was refused.

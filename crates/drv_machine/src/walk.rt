@@ -111,7 +111,7 @@ pub(crate) struct Walk<'a> {
 }
 
 impl<'a> Walk<'a> {
-    /// A walk over a whole text of so many parts.
+    /// A walk over a whole text of this many parts.
     pub(crate) fn new(alloc: Global, text: &'a SpecTree, end: usize) -> Walk<'a>
         ensures text { result.text.now ≡ text.now }
         ensures at { result.at ≡ 0 }

@@ -2,7 +2,7 @@ use Rattle.drv_core.specs.Choices.{BetweenBlocks, ChoicesAre, IsChoice}
 use Rattle.drv_core.specs.Run.{Run}
 use Rattle.std.proofs.Common.{◌≡◌, ◌<◌, subst, sym, ℕ}
 
--- The choices of a run are those of one with the same events, of which another source was chosen; and each number below theirs is one.
+-- For `choose_source`: choosing a source changes no event, and each number below the choices can be chosen.
 
 pub choices_kept : (r s : Run) (n : ℕ) → ChoicesAre r.plan r.window r.events n → s.plan ≡ r.plan → s.window ≡ r.window → s.events ≡ r.events → ChoicesAre s.plan s.window s.events n
 choices_kept r s n are plan window events =

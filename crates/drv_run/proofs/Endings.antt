@@ -14,7 +14,7 @@ use Rattle.drv_words.specs.Stepping.{pipe_pending}
 use Rattle.std.proofs.Common.{◌≡◌, ◌∙◌, ◌++◌, Err, List, Ok, [], ap, codes, false, refl, subst, sym, ℕ}
 use Rattle.std.proofs.lemmas.List.{append-nil}
 
--- How a call ends.
+-- For `drive`: each way to end is one that the contract has.
 
 -- the answers to the questions of a call that began with an empty table
 known : {journal journal' : List Event} {F F' : Facts} → F ≡ no_facts → (asks : Asks journal journal' F F') → F' ≡ learn no_facts asks.asked

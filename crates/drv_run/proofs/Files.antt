@@ -14,7 +14,7 @@ use Rattle.std.proofs.Common.{◌≡◌, ◌<◌, ◌+◌, ◌⊎◌, ◌∙◌,
 use Rattle.std.proofs.lemmas.List.{drop_more}
 use Rattle.std.specs.Prelude.{get_or}
 
--- Files of specs, one after another.
+-- For `load_specs`: the files of -specs= are loaded one after another.
 
 -- at the next file
 abbrev then_files : Facts → Prefixes → List (List ℕ) → Known (Result Set SpecsFault) → Known (Result Set SpecsFault)

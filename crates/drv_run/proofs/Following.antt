@@ -22,8 +22,7 @@ use Rattle.std.proofs.Common.{refl, ap, sym, subst, ◌∙◌}
 use Rattle.std.specs.List.{list_any}
 use Rattle.std.specs.Prelude.{◌≡◌, ◌≤◌, ◌&&◌, ◌||◌, Bool, List, [], ◌∷◌, ◌++◌, false, length, map, not, true, ℕ}
 
--- The events of a run after a journal without a pending pipe: what can be made after them can be made after both, and what
--- fits after both fits after them.
+-- For `execute`: after a journal without a pending pipe, a run's events allow the same steps and answers as alone.
 
 pub run_is : (events : List RunEvent) → run_of (map Run events) ≡ events
 run_is [] = refl

@@ -10,7 +10,7 @@ use Rattle.drv_run.specs.declared.ending.Ending.{Ending}
 use Rattle.drv_system.specs.Facts.{Facts}
 use Rattle.std.proofs.Common.{◌≡◌, ◌⊎◌, Bool, Err, IsErrAnd, List, Ok, Result, inl, inr, subst, sym, ℕ}
 
--- The words of a line, or why there are none.
+-- For `words_of`: the words of a line, or why there are none.
 
 stopped_as : (F : Facts) (args : List (List ℕ)) (ending : Ending) (result : Result Expanded Ending) → IsErrAnd result (λ e. e ≡ ending) → GivesWords F args (Err ending) → GivesWords F args result
 stopped_as F args ending (Ok words) is gives = absurd is

@@ -16,7 +16,7 @@ use Rattle.drv_system.specs.Facts.{Facts}
 use Rattle.drv_system.specs.Known.{Is}
 use Rattle.std.proofs.Common.{◌≡◌, ◌∙◌, Bool, Err, List, Ok, Result, ap, nat_lt, sym, ℕ}
 
--- Arguments ask for one work, or are refused once, and never both.
+-- For one_ending: arguments ask for one work or are refused for one reason, and never both.
 
 abbrev expanded_by : (words : List (List ℕ)) (from_file : Bool) → Expanded
 expanded_by words from_file = record { words = words; from_file = from_file }

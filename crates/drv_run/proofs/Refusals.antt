@@ -13,7 +13,7 @@ use Rattle.drv_words.specs.declared.plan.Plan.{Plan}
 use Rattle.std.proofs.Common.{◌≡◌, ◌∙◌, ◌++◌, [], List, ap, ℕ}
 use Rattle.std.proofs.lemmas.List.{append-nil}
 
--- A call that is refused, and one that shows its plan, makes no step of a run.
+-- For refused_does_nothing and shown_starts_nothing: such a call makes no step of a run.
 
 pub does_nothing : (journal later : List Event) (args : List (List ℕ)) (seed : ℕ) (refusal : Refusal) → Drove journal later args seed (Refused refusal) → OnlyAsked journal later
 does_nothing journal later args seed refusal d = record {

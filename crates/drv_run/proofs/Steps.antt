@@ -29,7 +29,7 @@ use Rattle.drv_words.specs.declared.plan.Plan.{Plan}
 use Rattle.std.proofs.Common.{◌≡◌, ◌≤◌, ◌⊎◌, ◌∙◌, Bool, Err, IsErrAnd, List, Ok, Result, ap, false, inl, inr, subst, sym, true, ℕ}
 use Rattle.std.specs.Prelude.{if◌then◌else◌}
 
--- What a step's fault makes of the call.
+-- For `work_of`: the fault of each step is the refusal of the call.
 
 -- a call that ends without work
 ended_as : (F : Facts) (args : List (List ℕ)) (seed : ℕ) (ending : Ending) (result : Result Work Ending) → IsErrAnd result (λ e. e ≡ ending) → Comes F args seed (Err ending) → Comes F args seed result

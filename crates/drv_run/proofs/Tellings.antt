@@ -17,7 +17,7 @@ use Rattle.drv_words.specs.declared.plan.Plan.{Plan}
 use Rattle.std.proofs.Common.{◌≡◌, ◌∙◌, Bool, Err, IfOk, List, [], ◌∷◌, ◌++◌, Ok, OnErr, Result, ap, append_assoc, false, map, refl, subst, sym, true, ℕ}
 use Rattle.std.proofs.lemmas.List.{append-nil}
 
--- Texts that are said, one after another, and a run after them.
+-- For `do_work`: the texts that a call prints, and the run after them.
 
 said_only : (text : List ℕ) (status : ℕ) (said : List Event) → Says text status said → AreSaid said
 said_only [] status said is = subst (λ events. AreSaid events) (sym is.1) tt

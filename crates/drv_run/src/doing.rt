@@ -23,7 +23,8 @@ fn put_dump<S: System>(sys: &mut S, text: &Word) -> Result<u8, AllocError>
     Ok(status_of(sys.put(text)?))
 }
 
-/// Carries a plan out after it said what there is to say of it, and answers the exit status.
+/// Says the notices of a plan, and its commands if they are asked for, carries it out, and answers
+/// the exit status.
 fn run_plan<S: System>(
     alloc: Global,
     sys: &mut S,

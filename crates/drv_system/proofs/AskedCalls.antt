@@ -6,7 +6,7 @@ use Rattle.drv_system.specs.Facts.{Facts}
 use Rattle.drv_system.specs.declared.event.Event.{Event}
 use Rattle.std.proofs.Common.{◌∙◌, List, refl}
 
--- Calls that only ask, one after another.
+-- For each call that asks through `Outside`: several calls that only ask, one after another, only ask.
 
 module _ {S : Type 0} {events : S → List Event} where
   pub asked_none : (o : Outside S) → Asked events o o

@@ -8,7 +8,7 @@ use Rattle.drv_system.specs.declared.event.ReadAnswer.{ReadAnswer}
 use Rattle.std.proofs.Common.{append_assoc, refl, ap, rules, subst, sym, ◌∙◌}
 use Rattle.std.specs.Prelude.{◌≡◌, List, [], ◌∷◌, ◌++◌, Option, Some, ℕ}
 
--- Calls that only ask, one after another, and facts that grow.
+-- For each call that asks: several calls that only ask, one after another, only ask, and the facts grow.
 
 pub extends_refl : (F : Facts) → Extends F F
 extends_refl F = record { reads = λ path answer is. is; kinds = λ path kind is. is; variables = λ name value is. is }

@@ -5,7 +5,7 @@ use Rattle.drv_system.specs.declared.event.Event.{Event}
 use Rattle.std.proofs.Common.{refl}
 use Rattle.std.specs.Prelude.{◌≡◌, Err, List, [], ◌∷◌, ◌++◌, None, Ok, Option, Result, Some}
 
--- One look-up in the facts, over the journal and the facts before and after it.
+-- For `FactTable`: one look-up, over the journal and the facts before and after it.
 
 module _ {X : Type 0} (journal journal' : List Event) (F F' : Facts) (event : X → Event) (before after : Option X) (new : None ≡ before) where
   -- the question was answered

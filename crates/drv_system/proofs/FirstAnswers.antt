@@ -6,7 +6,7 @@ use Rattle.std.proofs.Common.{ap, refl, ◌∙◌}
 use Rattle.std.specs.Option.{option_or}
 use Rattle.std.specs.Prelude.{◌≡◌, Bool, List, [], ◌∷◌, None, Option, Some, false, if◌then◌else◌, true, ℕ}
 
--- Learning a journal gives its first answers.
+-- For first_answers_law: learning a journal gives its first answers.
 
 -- a known answer, then this one, then the later ones
 in_turn : {Y : Type 0} (known rest : Option Y) (same : Bool) (answer : Y)

@@ -16,7 +16,7 @@ use Rattle.std.proofs.lemmas.List.{append-nil, length-append}
 use Rattle.std.specs.List.{list_any}
 use Rattle.std.specs.Prelude.{◌≡◌, ◌<◌, ◌≤◌, ◌+◌, Bool, List, [], ◌∷◌, ◌++◌, None, Option, Some, false, length, nat_eq, true, ℕ}
 
--- What a system keeps beside its journal, after one more event: the next child gets a new number.
+-- For `HostSystem` and `ScriptSystem`: what is known of them holds after one more event, and the next child gets a new number.
 
 below_answer : (n m : ℕ) (a : Answer) → n ≤ m → IsBelow n a → IsBelow m a
 below_answer n m (answer.Start (start.Started id)) le below = omega (arith, le, below)

@@ -4,7 +4,7 @@ use Rattle.std.proofs.Common.{suc, zero, ap, arith, refl}
 use Rattle.std.specs.Option.{option_to_list, unwrap_or}
 use Rattle.std.specs.Prelude.{◌≡◌, ◌++◌, List, [], ◌∷◌, None, Option, Some, get_or, length, slice_get, ℕ}
 
--- The jobs of a plan by their numbers.
+-- For reports: the jobs of a plan by their numbers.
 
 pub the_link : (jobs : List Job) (link : Option Job) (k : ℕ) → k ≡ length jobs → get_or (jobs ++ option_to_list link) k no_job
     ≡ unwrap_or link no_job

@@ -8,7 +8,7 @@ use Rattle.std.proofs.Common.{refl, ap, ◌∙◌}
 use Rattle.std.specs.List.{list_any}
 use Rattle.std.specs.Prelude.{◌≡◌, ◌&&◌, ◌||◌, Bool, List, [], ◌∷◌, ◌++◌, false, if◌then◌else◌, not, true, ℕ}
 
--- Journals, one after another: their runs, the pending pipe, and the open children.
+-- For the steps of a run: the run, the pending pipe and the open children of one journal after another.
 
 pub run_of-append : (before after : List Event) → run_of (before ++ after) ≡ run_of before ++ run_of after
 run_of-append [] after = refl

@@ -2,7 +2,7 @@ use Rattle.std.proofs.Common.{suc, zero, arith, refl, ap, sym, ◌∙◌}
 use Rattle.std.proofs.lemmas.List.{drop_all}
 use Rattle.std.specs.Prelude.{◌≡◌, ◌≤◌, ◌+◌, List, [], ◌∷◌, drop, length, slice_get, ℕ}
 
--- The answers that a script has left.
+-- For `ScriptSystem`: the answers that a script has left.
 
 abbrev the_empty : (X : Type 0) → List X
 the_empty X = []

@@ -7,7 +7,7 @@ use Rattle.std.proofs.lemmas.List.{append-nil, length-append}
 use Rattle.std.specs.Io.KnownBytes.{Consumes, IsAtEnd}
 use Rattle.std.specs.Prelude.{◌≡◌, ◌<◌, ◌≤◌, ◌+◌, List, [], ◌++◌, None, Option, Some, false, length, nat_lt, true, ℕ}
 
--- The bytes that were read of a file, all together.
+-- For `read_to_end`: all bytes that were read of a file.
 
 -- at its end they are all bytes that it had left
 pub whole : (old mid new : Option (List ℕ)) (bytes word taken : List ℕ) → Consumes old mid bytes → Consumes mid new taken → taken ≡ []

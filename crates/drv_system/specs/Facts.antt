@@ -29,6 +29,10 @@ pub record Facts : Type 0 where
   pub kinds : List (List ℕ × PathKind)
   pub variables : List (List ℕ × Option (List ℕ))
 
+-- facts in which a variable has a value, whatever it had before
+abbrev pub with_value : Facts → List ℕ → Option (List ℕ) → Facts
+with_value F name value = record F { variables = with_pair F.variables name value }
+
 -- nothing is known
 abbrev pub no_facts : Facts
 no_facts = record { reads = []; kinds = []; variables = [] }

@@ -2,11 +2,11 @@
 
 ghost use Rattle.drv_system.specs.Asking.{Asks, Consults};
 ghost use Rattle.drv_system.specs.Facts.{first_kind, first_read, first_variable, kind_of, learn};
-ghost use Rattle.drv_system.specs.Facts.{no_facts, read_of, variable_of};
+ghost use Rattle.drv_system.specs.Facts.{no_facts, read_of, variable_of, with_value};
 ghost use Rattle.drv_system.specs.declared.event.Event.{Event};
 ghost use Rattle.drv_system.specs.declared.event.Event.TheVariants as event;
 ghost use Rattle.std.specs.Option.{option_copied};
-ghost use Rattle.std.specs.Prelude.{◌≡◌, IfOk, IsSome, List, OnOk, Some, ℕ};
+ghost use Rattle.std.specs.Prelude.{◌≡◌, IfOk, IsSome, List, OnErr, OnOk, Some, ℕ};
 
 use crate::answer_map::AnswerMap;
 use crate::{PathKind, ReadAnswer, System};
@@ -121,6 +121,15 @@ impl FactTable {
                 Err(e)
             }
         }
+    }
+
+    /// Puts a value of a variable into the table, in place of any that it has. The system is not
+    /// asked.
+    pub fn put_variable(&mut self, name: &Word, value: Option<Word>) -> Result<(), AllocError>
+        ensures ok { OnOk result (self.new ≡ with_value self.old name.now value) }
+        ensures err { OnErr result (self.new ≡ self.old) }
+    {
+        self.variables.make_place(name, value)
     }
 
     /// The table's value of a variable, or `None` if that is unset.

@@ -4,30 +4,58 @@ ghost use Rattle.drv_system.specs.Limit.{IsWithinLimit, most_reads};
 ghost use Rattle.drv_system.specs.Reading.{GivesUp, ReadsAs, is_failure};
 ghost use Rattle.std.specs.Io.{ReadsAtMost};
 ghost use Rattle.std.specs.Io.KnownBytes.{IsAtEnd, ReadConsumes};
-ghost use Rattle.std.specs.Prelude.{◌≡◌, ◌+◌, ◌<◌, IfOk, OnOk, false, length};
+ghost use Rattle.std.specs.Prelude.{◌≡◌, ◌+◌, ◌++◌, ◌<◌, ◌≤◌, IfOk, IfSome, OnOk, false, length, take};
 
 use crate::{MOST_BYTES, ReadAnswer};
 use drv_words::Word;
 use std::alloc::{AllocError, Global};
 use std::fs::File;
-use std::io::{Error, ErrorKind, Read};
+use std::io::{Error, ErrorKind, Read, Seek, SeekFrom};
+use std::mem::swap;
 use std::rt::Files;
 
 /// The most reads for one file.
 const MOST_READS: u32 = 33_554_432;
 
-/// The room for the first read of a file, in bytes: most response files fit.
+/// The room for the first read of what doesn't tell its size, in bytes.
 const FIRST_ROOM: usize = 2048;
 
 /// The most room for a read, in bytes.
 const MOST_ROOM: usize = 65536;
+
+/// The room for a file of this size.
+fn room_of(size: u64) -> usize
+    ensures { 0 < result }
+{
+    match usize::try_from(size) {
+        Ok(size) if 0 < size && size <= MOST_BYTES => size,
+        _ => FIRST_ROOM,
+    }
+}
+
+/// The room for the first read of a file: all that it has, if it tells where its end is. None if it
+/// can't be read from its start again.
+fn room_for<F: Seek>(file: &mut F) -> Option<usize>
+    ensures { IfSome result (λ room. 0 < room) }
+{
+    let Ok(size) = file.seek(SeekFrom::End(0)) else {
+        return Some(FIRST_ROOM);
+    };
+    match file.seek(SeekFrom::Start(0)) {
+        Ok(_start) => Some(room_of(size)),
+        Err(_) => None,
+    }
+}
 
 /// Reads the file at a path to its end.
 pub fn read_path<R: Files>(rt: &R, alloc: Global, path: &str) -> Result<ReadAnswer, AllocError>
     ensures { IfOk result IsWithinLimit }
 {
     match File::open(rt, path) {
-        Ok(file) => OpenFile::new(file).read_whole(alloc),
+        Ok(mut file) => match room_for(&mut file) {
+            Some(room) => OpenFile::new(file).read_whole(alloc, room),
+            None => Ok(ReadAnswer::Failed),
+        },
         Err(e) if e.kind() == ErrorKind::OutOfMemory => Err(AllocError),
         Err(e) if is_absent(&e) => Ok(ReadAnswer::Missing),
         Err(_) => Ok(ReadAnswer::Failed),
@@ -40,7 +68,7 @@ pub fn read_to_end<F: Read + Drop>(alloc: Global, file: F) -> Result<ReadAnswer,
     ensures read { IfOk result (ReadsAs (F.remaining file)) }
     ensures within { IfOk result IsWithinLimit }
 {
-    OpenFile::new(file).read_whole(alloc)
+    OpenFile::new(file).read_whole(alloc, FIRST_ROOM)
 }
 
 /// Whether an error says that no file has the path. That includes a path through a plain file.
@@ -64,6 +92,26 @@ fn widen(room: &mut Vec<u8>) -> Result<(), AllocError>
 {
     if room.len() < MOST_ROOM {
         room.resize(room.len() * 2, 0)?;
+    }
+    Ok(())
+}
+
+/// Adds what was read into a room, and makes room for the next read. The first room is not copied.
+fn add_read(bytes: &mut Vec<u8>, room: &mut Vec<u8>, count: usize) -> Result<(), AllocError>
+    requires count { count ≤ length room.old.items }
+    requires room { 0 < length room.old.items }
+    ensures bytes { OnOk result (bytes.new.items ≡ bytes.old.items ++ take count room.old.items) }
+    ensures room { OnOk result (0 < length room.new.items) }
+{
+    if bytes.is_empty() {
+        swap(bytes, room);
+        bytes.truncate(count);
+        room.resize(FIRST_ROOM, 0)?;
+        return Ok(());
+    }
+    bytes.extend_from_slice(&room.as_slice()[..count])?;
+    if count == room.len() {
+        widen(room)?;
     }
     Ok(())
 }
@@ -111,17 +159,23 @@ impl<F: Read> OpenFile<F> {
         }
     }
 
-    /// Reads to the end, by at most `most` reads. A file that doesn't end within the bounds is not
-    /// read.
-    fn read_within(&mut self, alloc: Global, most: u32) -> Result<ReadAnswer, AllocError>
-        requires { self.old.reads ≡ 0 }
+    /// Reads to the end, by at most `most` reads, the first one into a room of this size. A file
+    /// that doesn't end within the bounds is not read.
+    fn read_within(
+        &mut self,
+        alloc: Global,
+        most: u32,
+        size: usize,
+    ) -> Result<ReadAnswer, AllocError>
+        requires count { self.old.reads ≡ 0 }
+        requires room { 0 < size }
         ensures read { IfOk result (ReadsAs (F.remaining self.old.file)) }
         ensures given_up { IfOk result (GivesUp most self.new.reads self.new.failed) }
         ensures within { IfOk result IsWithinLimit }
     {
         let mut bytes = Vec::new(alloc);
         let mut room = Vec::new(alloc);
-        room.resize(FIRST_ROOM, 0u8)?;
+        room.resize(size, 0u8)?;
         for _ in 0..most {
             let count = match self.read(room.as_mut_slice()) {
                 Ok(0) => return Ok(ReadAnswer::Read(Word::from_vec(bytes))),
@@ -132,21 +186,19 @@ impl<F: Read> OpenFile<F> {
             if count > MOST_BYTES - bytes.len() {
                 return Ok(ReadAnswer::TooLarge);
             }
-            bytes.extend_from_slice(&room.as_slice()[..count])?;
-            if count == room.len() {
-                widen(&mut room)?;
-            }
+            add_read(&mut bytes, &mut room, count)?;
         }
         Ok(ReadAnswer::Failed)
     }
 
-    /// Reads to the end, by at most 33,554,432 reads.
-    fn read_whole(&mut self, alloc: Global) -> Result<ReadAnswer, AllocError>
-        requires { self.old.reads ≡ 0 }
+    /// Reads to the end, by at most 33,554,432 reads, the first one into a room of this size.
+    fn read_whole(&mut self, alloc: Global, size: usize) -> Result<ReadAnswer, AllocError>
+        requires count { self.old.reads ≡ 0 }
+        requires room { 0 < size }
         ensures read { IfOk result (ReadsAs (F.remaining self.old.file)) }
         ensures given_up { IfOk result (GivesUp most_reads self.new.reads self.new.failed) }
         ensures within { IfOk result IsWithinLimit }
     {
-        self.read_within(alloc, MOST_READS)
+        self.read_within(alloc, MOST_READS, size)
     }
 }

@@ -1,4 +1,5 @@
 pub mod LastOfAKind
+mod Ordered
 pub mod ReadBack
 pub mod Responding
 pub mod Runs

@@ -16,7 +16,7 @@ records its call: nothing is compiled.
   -###            print the commands and start none of them
   -specs=FILE     read a spec file over the built-in specs
   -dumpspecs      print all specs
-  --jobs=N        work N sources at once
+  --jobs=N        compile up to N sources at once
 
 The manual pages gdrv(1) and gdrv-cc(1) say more. To compile C, use gdrv-cc.
 ";

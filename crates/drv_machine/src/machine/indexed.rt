@@ -11,7 +11,7 @@ use std::alloc::{AllocError, Global};
 use std::collections::BTreeSet;
 use std::marker::Model;
 
-/// The most words of a list that is gone over where it is asked for one.
+/// A list of at most this many words is searched word by word.
 const FEW: usize = 16;
 
 /// A list of words, and of a longer one an ordered tree of the words in it, so that to look for a

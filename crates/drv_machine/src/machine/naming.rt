@@ -26,7 +26,7 @@ use std::alloc::{AllocError, Global};
 pub(crate) enum Drawing {
     /// Once for each suffix: the name of `%g`, and of `%|` and `%m`.
     Once,
-    /// Anew: the name of `%u`, of which `%U` is the last, and of the file of a `%@`.
+    /// A new name each time: that of `%u`, whose last one is `%U`, and that of the file of a `%@`.
     Anew,
 }
 

@@ -19,7 +19,7 @@ use std::mem;
 /// the text names.
 const OTHER_WORDS: usize = 32;
 
-/// Makes room for so many words more, and for some others after them where that room isn't there.
+/// Makes room for this many more words; if there is none yet, also for some after them.
 fn with_room(words: &mut Vec<Word>, count: usize) -> Result<(), AllocError>
     ensures { words.new.items ≡ words.old.items }
 {

@@ -1,11 +1,10 @@
 use Rattle.drv_args.proofs.Verdicts.{input_is_output}
 use Rattle.drv_args.specs.Lines.{is_input}
 use Rattle.std.proofs.Common.{ap, inr, sym, ◌∙◌}
-use Rattle.drv_args.proofs.judging.output_fault.Goals as goal
+use Rattle.drv_args.proofs.judging.input_fault.Goals as goal
 
 pub returns-then-is_input : goal.returns-then-is_input
 returns-then-is_input c =
     inr (input_is_output c.args.output.now c.in_ok-clone.field-0 c.args.line.now
-    (sym c.has_many.ensures ∙ c.if-has_many.false)
     (ap (λ output. is_input output c.args.line.now) (sym c.as_bytes.ensures) ∙ sym c.is_input.ensures ∙ c.if-is_input.true)
     c.in_ok-clone.ensures.cases)
