@@ -1,10 +1,10 @@
-use Rattle.drv_cc.specs.Code.Building.{Many, Single, Zero, all_counted, all_noted, count_of, counted_only, is_counted, suffixes_words}
+use Rattle.drv_cc.specs.Code.Building.{Many, Single, Zero, all_counted, all_noted, count_of, counted_only, is_counted, is_many, suffixes_words}
 use Rattle.drv_cc.specs.Items.{same}
-use Rattle.drv_cc.specs.SideFiles.{is_some, only, suffix_words}
+use Rattle.drv_cc.specs.SideFiles.{are_several, is_some, only, suffix_words}
 use Rattle.std.proofs.Common.{◌≡◌, Bool, List, [], ◌∷◌, ap, false, if◌then◌else◌, refl, true, ℕ}
 use Rattle.std.specs.List.{list_all}
 
--- What is counted, by the list of it.
+-- For the sources and suffixes of a line: what the code counts of a list is what the definitions say of it.
 
 many_stays : (names : List (List ℕ)) → all_counted Many names ≡ Many
 many_stays [] = refl
@@ -19,6 +19,11 @@ pub some_of : (names : List (List ℕ)) → is_counted (count_of names) ≡ is_s
 some_of [] = refl
 some_of (name ∷ []) = refl
 some_of (name ∷ other ∷ names) = ap is_counted (many_stays names)
+
+pub many_of : (names : List (List ℕ)) → is_many (count_of names) ≡ are_several names
+many_of [] = refl
+many_of (name ∷ []) = refl
+many_of (name ∷ other ∷ names) = ap is_many (many_stays names)
 
 many_noted : (names : List (List ℕ)) → all_noted Many names ≡ Many
 many_noted [] = refl

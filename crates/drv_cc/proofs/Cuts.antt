@@ -5,7 +5,7 @@ use Rattle.std.proofs.lemmas.Bool.Decides.{nat_tests}
 use Rattle.std.proofs.lemmas.List.{take_all}
 use Rattle.std.specs.List.{position, position_or_len}
 
--- A text is cut at the first byte of a kind.
+-- For the name of an option up to its `=`: a text is cut at the first byte of a kind.
 
 abbrev is_mark : ℕ → ℕ → Bool
 is_mark mark b = b == mark

@@ -5,7 +5,7 @@ use Rattle.std.proofs.Common.{◌≡◌, ◌∙◌, List, [], ◌∷◌, ◌++�
 use Rattle.std.proofs.lemmas.List.{flat_map_more, map-append}
 use Rattle.std.specs.List.{flat_map}
 
--- The folders of a path, each of which gives words.
+-- For the folders of COMPILER_PATH and LIBRARY_PATH: each folder of such a path gives its words.
 
 pub no_folder : (f : List ℕ → List (List ℕ)) (words : List (List ℕ)) → words ≡ words ++ flat_map f (map named_folder [])
 no_folder f words = sym (append-nil words)

@@ -1,4 +1,4 @@
-use Rattle.drv_cc.specs.Code.Groups.{begun_at, begun_key, is_begun, is_whole, whole_at, whole_key}
+use Rattle.drv_cc.specs.Code.Groups.{begun_at, begun_key, is_begun, is_whole, third, whole_at, whole_key}
 use Rattle.drv_cc.specs.Items.{begins, first_row, fits, option_fits, same, takes_rest}
 use Rattle.drv_cc.specs.Table.{OptionRow, sections, table}
 use Rattle.drv_cc.specs.declared.table.Takes.TheVariants.{Attached, Either, Next, Nothing, Rest}
@@ -9,7 +9,7 @@ use Rattle.std.proofs.lemmas.List.Folds.{find-append}
 use Rattle.std.specs.List.{filter}
 use Rattle.std.specs.Option.{option_or}
 
--- The first row of the table that fits a word is found among its group.
+-- For the look-up of options: the first row of the table that fits a word is in the group of its key.
 
 -- rows that pass both tests are found among those that pass one, where the other follows
 find_both : (p a b : OptionRow → Bool) → ((r : OptionRow) → p r ≡ true → a r ≡ true → b r ≡ true) → (rows : List OptionRow)
@@ -99,3 +99,31 @@ found_whole word rows row is found = found_by word (Some row) (find (fits word) 
 pub found_begun : (word : List ℕ) (rows begun : List OptionRow) (found : Option OptionRow) → rows ≡ whole_at (whole_key word) → None ≡ find (fits word) rows
     → begun ≡ begun_at (begun_key word) → found ≡ find (fits word) begun → found ≡ first_row word
 found_begun word rows begun found is none are sought = found_by word None found (none ∙ ap (find (fits word)) is) (sought ∙ ap (find (fits word)) are)
+
+and_false : (t : Bool) → (t && false) ≡ false
+and_false true = refl
+and_false false = refl
+
+-- a word with another third byte does not begin with an option that has one
+pub third_differs : (option word : List ℕ) (own other : ℕ) (differs : Bool) → own ≡ third option → other ≡ third word → (own == 0) ≡ false
+    → differs ≡ not (own == other) → differs ≡ true → begins option word ≡ false
+third_differs [] word own other differs is are some so here = absurd (let clash : true ≡ false = sym (eq-eqb own 0 is) ∙ some in cc)
+third_differs (a ∷ []) word own other differs is are some so here = absurd (let clash : true ≡ false = sym (eq-eqb own 0 is) ∙ some in cc)
+third_differs (a ∷ b ∷ []) word own other differs is are some so here = absurd (let clash : true ≡ false = sym (eq-eqb own 0 is) ∙ some in cc)
+third_differs (a ∷ b ∷ c ∷ option) [] own other differs is are some so here = refl
+third_differs (a ∷ b ∷ c ∷ option) (x ∷ []) own other differs is are some so here = and_false (a == x)
+third_differs (a ∷ b ∷ c ∷ option) (x ∷ y ∷ []) own other differs is are some so here = by (a == x) (b == y)
+  where
+    by : (t u : Bool) → (t && (u && false)) ≡ false
+    by false u = refl
+    by true false = refl
+    by true true = refl
+third_differs (a ∷ b ∷ c ∷ option) (x ∷ y ∷ z ∷ word) own other differs is are some so here = by (a == x) (b == y) (c == z) refl
+  where
+    by : (t u v : Bool) → (c == z) ≡ v → (t && (u && (v && begins option word))) ≡ false
+    by false u v e = refl
+    by true false v e = refl
+    by true true false e = refl
+    by true true true e =
+        let same : (own == other) ≡ true = eq-eqb own other (is ∙ eqb-true c z e ∙ sym are) in
+        absurd (let clash : true ≡ false = sym here ∙ so ∙ ap not same in cc)

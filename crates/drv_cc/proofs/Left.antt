@@ -2,7 +2,7 @@ use Rattle.drv_cc.specs.SelfSpecs.{is_left, live, written}
 use Rattle.drv_cc.specs.declared.item.Item.{Item}
 use Rattle.std.proofs.Common.{◌≡◌, List, ◌∷◌, drop, false, length, refl, sym, true, ℕ}
 
--- An item whose words are left, and one that is hidden.
+-- For `front_with`: the switches that a self spec leaves, and those that it hides.
 
 pub one_left : (i : Item) (tail : List Item) (words left : List (List ℕ)) → words ≡ written i → is_left words left ≡ true
     → live (i ∷ tail) left ≡ i ∷ live tail (drop (length words) left)

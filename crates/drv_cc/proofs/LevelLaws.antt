@@ -6,7 +6,7 @@ use Rattle.std.proofs.Common.{◌≡◌, ◌∙◌, ◌||◌, ◌++◌, Bool, Li
 use Rattle.std.specs.List.{list_any}
 use Rattle.std.specs.Option.{is_some, unwrap_or}
 
--- What counts of the options of debugging is what the last of them says.
+-- For last_level_counts: of the options of debugging the last one that names a level decides.
 
 append_debugged : (d : Debugging) (before after : List Item) → debugged d (before ++ after) ≡ debugged (debugged d before) after
 append_debugged d [] after = refl

@@ -1,16 +1,17 @@
+mod Again
 mod Counts
 mod Cuts
 mod Folders
 mod Groups
 mod Left
 mod Lines
+mod Lists
+mod LongNames
 mod NoChecks
 mod Noted
 mod OtherOptions
 mod Prefixes
-mod Rings
 mod Staying
-mod Warnings
 pub mod LevelLaws
 pub mod WorkedGiven
 pub mod WorkedItems

@@ -11,7 +11,7 @@ use Rattle.std.specs.Cmp.Lexicographic.{same_text}
 use Rattle.std.specs.List.{list_any, onto_first, slice_split, starts_with}
 use Rattle.std.specs.Prelude.{slice_index_or}
 
--- A line of a text.
+-- For the look-up of a word among the known names: a line of a text begins with it, or doesn't.
 
 abbrev ends : ℕ → Bool
 ends b = b == newline

@@ -8,7 +8,7 @@ use Rattle.std.proofs.Common.{◌≡◌, ◌∙◌, ◌&&◌, ◌||◌, ◌++◌
 use Rattle.std.proofs.lemmas.List.{append-nil}
 use Rattle.std.specs.List.{list_any}
 
--- No library of checks is needed where no option turns a check on.
+-- For the libraries of checks: a line that turns no check on needs none.
 
 abbrev turns_on : List ℕ
 turns_on = codes "-fsanitize="

@@ -1,9 +1,9 @@
-use Rattle.drv_cc.specs.Items.{Wants, Whole, by_row, items_of, start_of, with_start}
+use Rattle.drv_cc.specs.Items.{Wants, Whole, beyond, by_row, first_row, items_of, renamed, start_of, start_renamed, with_start}
 use Rattle.drv_cc.specs.Table.{OptionRow}
 use Rattle.drv_cc.specs.declared.item.Item.{Item}
 use Rattle.std.proofs.Common.{◌≡◌, ◌∙◌, List, [], ◌∷◌, ◌++◌, None, Some, ap, append_assoc, ℕ}
 
--- A word of a line is noted.
+-- For `front`: each word of a line is noted as the table says.
 
 pub wanted_noted : (known : List ℕ) (items : List Item) (word : List ℕ) (r : OptionRow) (rest : List (List ℕ))
     → (items ++ by_row r word ∷ []) ++ items_of known None rest ≡ items ++ items_of known (Some r) (word ∷ rest)
@@ -17,3 +17,8 @@ pub whole_noted : (known : List ℕ) (items : List Item) (word : List ℕ) (i : 
     → (items ++ i ∷ []) ++ items_of known None rest ≡ items ++ items_of known None (word ∷ rest)
 whole_noted known items word i rest is =
     append_assoc items (i ∷ []) (items_of known None rest) ∙ ap (λ s. items ++ with_start s (λ wanting. items_of known wanting rest)) is
+
+-- a word that no row fits, and that is no long name of another one
+pub unrenamed_begins : (known word : List ℕ) (i : Item) → renamed word ≡ word → first_row word ≡ None → i ≡ beyond known word word
+    → Whole i ≡ start_renamed known word (renamed word) (first_row (renamed word))
+unrenamed_begins known word i same none is = rw (same, none) (ap Whole is)

@@ -4,7 +4,7 @@ use Rattle.drv_cc.specs.declared.levels.Debugging.{Debugging}
 use Rattle.std.proofs.Common.{◌≡◌, ◌==◌, ◌&&◌, ◌∙◌, Bool, List, [], ◌∷◌, codes, false, refl, sym, true, ℕ}
 use Rattle.std.proofs.lemmas.Bool.{eq-eqb, eqb-true}
 
--- An option that doesn't begin with -g changes no level.
+-- For the level of debugging: an option that doesn't begin with -g changes nothing of it.
 
 both : (x y : Bool) → x ≡ true → y ≡ true → (x && (y && true)) ≡ true
 both x y ex ey = rw (ex, ey) refl

@@ -8,7 +8,7 @@ use Rattle.std.proofs.lemmas.List.{reverse-append}
 use Rattle.std.specs.List.{list_any}
 use Rattle.std.specs.Prelude.{reverse}
 
--- The items that stay, from the last one on.
+-- For the items that stay: of each class the last one, found from the end of the line.
 
 -- nothing was seen yet
 pub keeping_starts : (items stay : List Item) (seen : List ℕ → Bool) → stay ≡ [] → ((p : List ℕ) → seen p ≡ false) → Keeping items items stay seen

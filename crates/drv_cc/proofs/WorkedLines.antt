@@ -351,7 +351,7 @@ own_words : front_of known named nowhere (texts (codes "a.c -specs=v --gdrv-dir=
 unfolding sections ignored unpaired debugged_by
 own_words = refl
 
-bases : front (codes "-S a.c -dumpbase zz.c -foo") ≡ Refuse (NotTaken (codes "-dumpbase") ∷ UnknownOption (codes "-foo") ∷ [])
+bases : front (codes "-S a.c -dumpbase zz.c -time -foo") ≡ Refuse (NotTaken (codes "-time") ∷ UnknownOption (codes "-foo") ∷ [])
 unfolding sections ignored unpaired debugged_by
 bases = refl
 
@@ -379,13 +379,61 @@ verbose_run = refl
 abbrev found : Option (List (List ℕ))
 found = words_given (front_of known named (record { compiler = codes "gcc"; folders = codes "/g/" ∷ codes "/h" ∷ []; compiler_path = Some (codes "/p:"); library_path = Some (codes "/l") }) (texts (codes "o.o -B q")))
 
-found_folders : found ≡ gives (codes "o.o -B q -B /p -B ./ -B /g/ -B /h --gdrv-dirs --gdrv-lib=/l")
+found_folders : found ≡ gives (codes "o.o -B q --gdrv-path= /p --gdrv-path= ./ -B /g/ -B /h --gdrv-dirs --gdrv-lib=/l")
 unfolding sections ignored unpaired debugged_by
 found_folders = refl
 
 given_folder : line (codes "o.o -B q") ≡ gives (codes "o.o -B q -B /g/ --gdrv-dirs")
 unfolding sections ignored unpaired debugged_by
 given_folder = refl
+
+-- names of side files that the line gives, as gcc folds them
+base_alone : line (codes "-c a.c -dumpbase n.c") ≡ gives (codes "-c a.c --gdrv-base=n.c -pipe")
+unfolding sections ignored unpaired debugged_by
+base_alone = refl
+
+base_with_end : line (codes "-S a.c -dumpbase n.c -dumpbase-ext .c") ≡ gives (codes "-S a.c --gdrv-base=n.c --gdrv-ext=.c")
+unfolding sections ignored unpaired debugged_by
+base_with_end = refl
+
+base_leads : line (codes "a.c -dumpbase n.c -dumpbase-ext .c -dumpbase-ext c") ≡ gives (codes "a.c --gdrv-dir=n.- --gdrv-base=a.c --gdrv-ext=.c -pipe")
+unfolding sections ignored unpaired debugged_by
+base_leads = refl
+
+base_of_several : line (codes "a.c b.c -c -dumpdir p- -dumpbase n.c") ≡ gives (codes "a.c b.c -c --gdrv-dir=p-n.c- -pipe")
+unfolding sections ignored unpaired debugged_by
+base_of_several = refl
+
+base_with_a_folder : line (codes "a.c -dumpdir p- -dumpbase e/n.c -MD") ≡ gives (codes "a.c -MD --gdrv-base=e/n.c --gdrv-dep=e/n.c.d -pipe")
+unfolding sections ignored unpaired debugged_by
+base_with_a_folder = refl
+
+base_of_nothing : line (codes "-c a.c -dumpbase  -o d/q.o") ≡ gives (codes "-c a.c -o d/q.o --gdrv-dir=d/ --gdrv-base=a.c --gdrv-ext=.c -pipe")
+unfolding sections ignored unpaired debugged_by
+base_of_nothing = refl
+
+end_of_the_program : line (codes "a.c --dumpbase-ext .q -o d/x.q") ≡ gives (codes "a.c -o d/x.q --gdrv-dir=d/x- --gdrv-base=a.c --gdrv-ext=.c -pipe")
+unfolding sections ignored unpaired debugged_by
+end_of_the_program = refl
+
+no_place_of_no_file : line (codes "a.c -dumpdir p- -save-temps=obj -o /dev/null") ≡ gives (codes "a.c -save-temps=obj -o /dev/null --gdrv-dir=p- --gdrv-base=a.c --gdrv-ext=.c --gdrv-aux=p-a")
+unfolding sections ignored unpaired debugged_by
+no_place_of_no_file = refl
+
+link_with_a_base : children_given (front (codes "o.o -dumpdir p- -dumpbase n.c -dumpbase-ext .c"))
+    ≡ record { name = codes "COLLECT_GCC"; value = codes "/usr/bin/gcc" }
+    ∷ record { name = codes "COLLECT_GCC_OPTIONS"; value = codes "'-dumpdir' 'p-n.'" } ∷ []
+unfolding sections ignored unpaired debugged_by
+link_with_a_base = refl
+
+-- words before each command: a pipe would hide the second of two
+wrapped : line (codes "-c a.c -wrapper x -wrapper a,,b") ≡ gives (codes "-c a.c --gdrv-wrapper=a --gdrv-wrapper=b --gdrv-base=a.c --gdrv-ext=.c")
+unfolding sections ignored unpaired debugged_by
+wrapped = refl
+
+wrapped_in_nothing : line (codes "o.o -wrapper a,") ≡ gives (codes "o.o --gdrv-wrapper=a --gdrv-wrapper=")
+unfolding sections ignored unpaired debugged_by
+wrapped_in_nothing = refl
 
 -- the files that the line names
 abbrev inputs_given : Answer → List (List ℕ)

@@ -3,6 +3,4 @@ pub mod Building
 pub mod Groups
 pub mod Known
 pub mod Looking
-pub mod Rings
 pub mod Staying
-pub mod Warnings

@@ -5,7 +5,7 @@ use Rattle.drv_cc.specs.Items.{begins, is_among, items_of, same, words_of}
 use Rattle.drv_cc.specs.Kept.{has, is_asked, is_file_part, is_vendors, kept, last_argument, refusals}
 use Rattle.drv_cc.specs.Levels.{check_words, debug_words}
 use Rattle.drv_cc.specs.LineItems.{alone, item_of, line_item}
-use Rattle.drv_cc.specs.SideFiles.{inputs, is_some, link_beginning, side_words, sources, stops, worked}
+use Rattle.drv_cc.specs.SideFiles.{inputs, is_some, link_beginning, side_words, sources, stops, with_value, worked}
 use Rattle.drv_cc.specs.Table.{texts}
 use Rattle.drv_cc.specs.declared.answer.Answer.TheVariants.{Ask, Refuse, Run}
 use Rattle.drv_cc.specs.declared.answer.Answer.{Answer}
@@ -55,26 +55,53 @@ abbrev pub library_words : List ℕ → List (List ℕ)
 library_words folder = (codes "--gdrv-lib=" ++ folder) ∷ []
 
 abbrev pub prefix : List ℕ → LineItem
-prefix folder = item_of effect.Prefix (codes "-B") folder
+prefix = item_of effect.Prefix (codes "-B")
 
--- programs and start files, also those that a vendor's spec file names, are looked for in the compiler's own folders last
+-- a folder of COMPILER_PATH has programs and headers, and neither libraries nor start files: a prefix with a switch of its own ("gcc.cc",
+-- process_command, where it is added to exec_prefixes and include_prefixes alone)
+abbrev pub program_prefix : List ℕ → LineItem
+program_prefix = item_of effect.Prefix (codes "--gdrv-path=")
+
+-- programs are looked for in the compiler's own folders last
 abbrev pub prefixes : Surroundings → List LineItem
-prefixes around = map prefix (folders around.compiler_path) ++ map prefix around.folders ++ alone effect.Switch (codes "--gdrv-dirs") ∷ []
+prefixes around = map program_prefix (folders around.compiler_path) ++ map prefix around.folders
+
+-- and so are start files, also those that a vendor's spec file names
+abbrev pub has_folders : List Item → Bool
+has_folders items = has (codes "-B") items || is_vendors items
+
+abbrev pub folder_words : List Item → List (List ℕ)
+folder_words items = if has_folders items then codes "--gdrv-dirs" ∷ [] else []
 
 abbrev pub program_items : Surroundings → List Item → List LineItem
-program_items around items = if has (codes "-B") items || is_vendors items || is_set around.compiler_path then prefixes around else []
+program_items around items = if has_folders items || is_set around.compiler_path then prefixes around else []
+
+-- Added: the words that -wrapper puts before each command ("Overall Options", -wrapper; "gcc.cc", insert_wrapper: several commas are one,
+-- and the last word may be empty).
+abbrev pub pieces : List ℕ → List (List ℕ)
+pieces argument = slice_split (λ b. b == comma) argument
+
+abbrev pub has_empty_end : List ℕ → Bool
+has_empty_end argument = length argument == 0 || ends_with nat_eq argument (codes ",")
+
+abbrev pub wrapper_end : List ℕ → List (List ℕ)
+wrapper_end argument = if has_empty_end argument then codes "--gdrv-wrapper=" ∷ [] else []
+
+abbrev pub wrapper_words_of : Option (List ℕ) → List (List ℕ)
+wrapper_words_of None = []
+wrapper_words_of (Some argument) = flat_map (with_value (codes "--gdrv-wrapper=")) (pieces argument) ++ wrapper_end argument
+
+abbrev pub wrapper_words : List Item → List (List ℕ)
+wrapper_words items = wrapper_words_of (last_argument (codes "-wrapper") items)
 
 -- Added: pipes, where a source is compiled or assembled and nothing speaks against them ("Overall Options", -pipe).
 abbrev pub unpiped : List (List ℕ)
-unpiped = texts (codes "-pipe -save-temps -save-temps=cwd -save-temps=obj -S -E -M -MM -fsyntax-only -no-integrated-cpp")
+unpiped = texts (codes "-pipe -save-temps -save-temps=cwd -save-temps=obj -S -E -M -MM -fsyntax-only -no-integrated-cpp -wrapper")
 
 -- what may write on standard output, which is the pipe then ("Preprocessor Options", -MF, -Wp,; "C Dialect Options", -aux-info;
--- "Developer Options", -fdump-, -fopt-info; "Overall Options", -fplugin=)
+-- "Developer Options", -fdump-, -fopt-info; "Instrumentation Options", -fprofile-note=; "Overall Options", -fplugin=)
 abbrev pub is_output : List ℕ → Bool
 is_output name = same name (codes "-") || same name (codes "/dev/stdout")
-
-abbrev pub pieces : List ℕ → List (List ℕ)
-pieces argument = slice_split (λ b. b == comma) argument
 
 abbrev pub names_output : Item → Bool
 names_output i =
@@ -82,7 +109,9 @@ names_output i =
     || (same i.name (codes "-Wp,") && list_any is_output (pieces i.argument))
 
 abbrev pub prints : Item → Bool
-prints i = begins (codes "-fplugin=") i.name || begins (codes "-fdump-") i.name || begins (codes "-fopt-info") i.name || names_output i
+prints i =
+    begins (codes "-fplugin=") i.name || begins (codes "-fdump-") i.name || begins (codes "-fopt-info") i.name
+    || begins (codes "-fprofile-note=") i.name || names_output i
 
 -- a listing names the assembler's input ("Assembler Options", and -a of the assembler's manual)
 abbrev pub lists : Item → Bool
@@ -101,7 +130,8 @@ pipe_words items = if is_piped items then codes "-pipe" ∷ [] else []
 
 -- All that is added: each word is a switch, and the pipe a setting too.
 abbrev pub added_switches : Surroundings → List Item → List (List ℕ)
-added_switches around items = flat_map library_words (folders around.library_path) ++ side_words items ++ debug_words items ++ check_words items
+added_switches around items =
+    folder_words items ++ flat_map library_words (folders around.library_path) ++ wrapper_words items ++ side_words items ++ debug_words items ++ check_words items
 
 abbrev pub added_pipe : List Item → List LineItem
 added_pipe items = map (alone (effect.TurnsOn setting.Pipe)) (pipe_words items)

@@ -2,7 +2,7 @@ use Rattle.drv_args.specs.declared.items.Item.{Item as LineItem}
 use Rattle.drv_args.specs.declared.option_table.Effect.TheVariants as effect
 use Rattle.drv_args.specs.declared.option_table.Effect.{Effect}
 use Rattle.drv_args.specs.declared.option_table.Setting.TheVariants as setting
-use Rattle.drv_cc.specs.Front.{added_pipe, assembler_variables, folders, library_words, program_items, quoted_line, switch_words, thread_words, variable}
+use Rattle.drv_cc.specs.Front.{added_pipe, assembler_variables, folder_words, folders, library_words, program_items, quoted_line, switch_words, thread_words, variable, wrapper_words}
 use Rattle.drv_cc.specs.Items.{is_among, item, items_of, same}
 use Rattle.drv_cc.specs.Kept.{has, kept, last_argument, refused_part}
 use Rattle.drv_cc.specs.Levels.{check_words, debug_words_of, debugged, no_debugging, toggled}
@@ -101,7 +101,8 @@ levels_with d = debug_words_of d.level d.version
 -- The items: the switches that were left and those that are given, and what is added to the line as it was read.
 abbrev pub switches_with : Surroundings → List Item → List Item → List (List ℕ)
 switches_with around items given =
-    flat_map library_words (folders around.library_path) ++ side_words items ++ levels_with (debugged_with items given) ++ check_words (items ++ given)
+    folder_words (items ++ given) ++ flat_map library_words (folders around.library_path) ++ wrapper_words (items ++ given) ++ side_words items
+    ++ levels_with (debugged_with items given) ++ check_words (items ++ given)
 
 abbrev pub items_with : Surroundings → List Item → List Item → List Item → List LineItem
 items_with around items left given =

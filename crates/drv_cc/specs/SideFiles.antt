@@ -4,11 +4,11 @@ use Rattle.drv_cc.specs.Table.{texts}
 use Rattle.drv_cc.specs.declared.item.Item.{Item}
 use Rattle.drv_words.specs.Bytes.{period}
 use Rattle.drv_words.specs.FileNames.{base, parted, stem}
-use Rattle.std.specs.List.{filter, list_all}
-use Rattle.std.specs.Prelude.{◌&&◌, ◌||◌, Bool, List, [], ◌∷◌, ◌++◌, ◌-◌, None, Option, Some, codes, drop, false, if◌then◌else◌, length, map, nat_lt, not, take, true, ℕ}
+use Rattle.std.specs.List.{ends_with, filter, list_all}
+use Rattle.std.specs.Prelude.{◌==◌, ◌&&◌, ◌||◌, Bool, List, [], ◌∷◌, ◌++◌, ◌-◌, None, Option, Some, codes, drop, false, if◌then◌else◌, length, map, nat_eq, nat_lt, not, take, true, ℕ}
 
--- The names of side files (GCC manual, "Overall Options", -dumpdir, -dumpbase; "Preprocessor Options", -MD; "Developer Options",
--- -save-temps).
+-- The names of side files (GCC manual, "Overall Options", -dumpdir, -dumpbase, -dumpbase-ext; "Preprocessor Options", -MD; "Developer
+-- Options", -save-temps; "gcc.cc", process_command, where these options are folded into the folder and the name).
 
 -- Parts of a name.
 
@@ -22,10 +22,15 @@ suffix name = drop (length (stem name)) (base name)
 
 -- Files and sources.
 
--- the only one, if there is one alone
+-- the only one, if there is one alone; whether there are several
 abbrev pub only : List (List ℕ) → Option (List ℕ)
 only (name ∷ []) = Some name
 only _ = None
+
+abbrev pub are_several : List (List ℕ) → Bool
+are_several [] = false
+are_several (name ∷ []) = false
+are_several (name ∷ other ∷ names) = true
 
 abbrev pub files : List Item → List (List ℕ)
 files items = map (λ i. i.name) (filter (λ i. is_file_part i.part) items)
@@ -95,7 +100,7 @@ here_from here (i ∷ items) = here_from (here_after here i.name) items
 abbrev pub own_folder : List Item → List ℕ
 own_folder items = if here_from false items then [] else folder_of (output items)
 
--- the folder of -dumpdir, or one's own where such an option follows it
+-- the folder of -dumpdir, or one's own where such an option follows it and the output is a file
 abbrev pub placed : List ℕ → Option (List ℕ) → Option (List ℕ)
 placed own None = None
 placed own (Some given) = Some own
@@ -109,47 +114,139 @@ abbrev pub given_from : List ℕ → Option (List ℕ) → List Item → Option 
 given_from own given [] = given
 given_from own given (i ∷ items) = given_from own (given_after own given i) items
 
-abbrev pub given_folder : List Item → Option (List ℕ)
-given_folder items = given_from (own_folder items) None items
+abbrev pub is_no_file : Option (List ℕ) → Bool
+is_no_file None = false
+is_no_file (Some output) = same output (codes "-") || same output (codes "/dev/null")
 
--- the name of the program
-abbrev pub program_of : Option (List ℕ) → List ℕ
-program_of None = codes "a"
-program_of (Some output) = if same (base output) (codes "a.out") || same (suffix output) (codes ".exe") then stem output else base output
+abbrev pub given_folder : List Item → Option (List ℕ)
+given_folder items =
+    if is_no_file (last_argument (codes "-o") items) then last_argument (codes "-dumpdir") items else given_from (own_folder items) None items
+
+abbrev pub given_or : List ℕ → Option (List ℕ) → List ℕ
+given_or own None = own
+given_or own (Some given) = given
+
+-- the name of -dumpbase: one that has a folder takes the place of all others
+abbrev pub given_base : List Item → Option (List ℕ)
+given_base items = last_argument (codes "-dumpbase") items
+
+abbrev pub folder_by : Option (List ℕ) → List ℕ → List ℕ
+folder_by None around = around
+folder_by (Some name) around = if nat_lt 0 (length (folder name)) then [] else around
+
+abbrev pub side_folder : List Item → List ℕ
+side_folder items = folder_by (given_base items) (given_or (own_folder items) (given_folder items))
+
+-- a name without the end of -dumpbase-ext, where that is not all of it
+abbrev pub given_end : List Item → Option (List ℕ)
+given_end items = last_argument (codes "-dumpbase-ext") items
+
+abbrev pub is_end : List ℕ → List ℕ → Bool
+is_end name end = nat_lt (length end) (length name) && ends_with nat_eq name end
+
+abbrev pub without_end : List ℕ → Option (List ℕ) → List ℕ
+without_end name None = name
+without_end name (Some end) = if is_end name end then take (length name - length end) name else name
+
+-- the name of the program, without that end or, where none is given, without .exe and that of a.out
+abbrev pub usual_program : List ℕ → List ℕ
+usual_program output = if same (base output) (codes "a.out") || same (suffix output) (codes ".exe") then stem output else base output
+
+abbrev pub program_by : Option (List ℕ) → List ℕ → List ℕ
+program_by None output = usual_program output
+program_by (Some end) output = without_end (base output) (Some end)
+
+abbrev pub program_of : Option (List ℕ) → Option (List ℕ) → List ℕ
+program_of end None = codes "a"
+program_of end (Some output) = program_by end output
 
 abbrev pub program : List Item → List ℕ
-program items = program_of (output items)
+program items = program_of (given_end items) (output items)
 
 -- whether the only file is named as the program is
 abbrev pub is_named : List ℕ → Option (List ℕ) → Bool
 is_named program None = false
 is_named program (Some file) = same program (stem file) && nat_lt 0 (length (suffix file))
 
-abbrev pub own_beginning : List Item → List ℕ
-own_beginning items =
-    if stops items then own_folder items
-    else if is_named (program items) (only (files items)) then own_folder items
-    else own_folder items ++ program items ++ codes "-"
+-- the name of -dumpbase leads those of several files, and that of one that is linked without -dumpdir
+abbrev pub is_given : Option (List ℕ) → Bool
+is_given None = false
+is_given (Some given) = true
 
-abbrev pub given_or : List ℕ → Option (List ℕ) → List ℕ
-given_or own None = own
-given_or own (Some given) = given
+abbrev pub leads : List Item → Bool
+leads items = are_several (files items) || not (stops items || is_given (given_folder items))
 
--- what their names begin with, and for the link's
+-- what leads them: that name, or without one the program's, where its name is another than the only file's
+abbrev pub leading_base : List Item → List ℕ → Option (List ℕ)
+leading_base items name = if nat_lt 0 (length name) && leads items then Some (without_end name (given_end items)) else None
+
+abbrev pub leading_program : List Item → Option (List ℕ)
+leading_program items =
+    if (stops items || is_given (given_folder items)) || is_named (program items) (only (files items)) then None else Some (program items)
+
+abbrev pub leading_by : List Item → Option (List ℕ) → Option (List ℕ)
+leading_by items (Some name) = leading_base items name
+leading_by items None = leading_program items
+
+abbrev pub leading : List Item → Option (List ℕ)
+leading items = leading_by items (given_base items)
+
+-- of the link's it is that name or the program's
+abbrev pub link_base : List Item → List ℕ → List ℕ
+link_base items name = if nat_lt 0 (length name) then without_end name (given_end items) else program items
+
+abbrev pub link_program : List Item → Option (List ℕ)
+link_program items = if is_given (given_folder items) then None else Some (program items)
+
+abbrev pub link_leading_by : List Item → Option (List ℕ) → Option (List ℕ)
+link_leading_by items (Some name) = Some (link_base items name)
+link_leading_by items None = link_program items
+
+abbrev pub link_leading : List Item → Option (List ℕ)
+link_leading items = link_leading_by items (given_base items)
+
+-- what the names of side files begin with, and for the link's
+abbrev pub marked : List ℕ → Option (List ℕ) → List ℕ
+marked mark None = []
+marked mark (Some name) = name ++ mark
+
 abbrev pub beginning : List Item → List ℕ
-beginning items = given_or (own_beginning items) (given_folder items)
+beginning items = side_folder items ++ marked (codes "-") (leading items)
 
 abbrev pub link_beginning : List Item → List ℕ
-link_beginning items = given_or (own_folder items ++ program items ++ codes ".") (given_folder items)
+link_beginning items = side_folder items ++ marked (codes ".") (link_leading items)
 
--- the name of a source's side files: the output's where there is one and no link, else its own
+-- the name that is given to the only source's side files, with its end: that of -dumpbase where it leads none
+abbrev pub own_base : List Item → List ℕ → Option (List ℕ)
+own_base items name = if nat_lt 0 (length name) && not (leads items) then Some name else None
+
+abbrev pub base_by : List Item → Option (List ℕ) → Option (List ℕ)
+base_by items None = None
+base_by items (Some name) = own_base items name
+
+abbrev pub source_base : List Item → Option (List ℕ)
+source_base items = base_by items (given_base items)
+
+-- the name of a source's side files: that name without its end; the output's where there is one and no link, and no empty name is given; else
+-- its own
 abbrev pub stem_by : Bool → Option (List ℕ) → List ℕ → List ℕ
 stem_by true (Some output) name = stem output
 stem_by true None name = stem name
 stem_by false output name = stem name
 
+abbrev pub is_empty_name : Option (List ℕ) → Bool
+is_empty_name None = false
+is_empty_name (Some name) = length name == 0
+
+abbrev pub unnamed_stem : List Item → List ℕ → List ℕ
+unnamed_stem items name = if is_empty_name (given_base items) then stem name else stem_by (stops items) (output items) name
+
+abbrev pub stem_from : List Item → List ℕ → Option (List ℕ) → List ℕ
+stem_from items name None = unnamed_stem items name
+stem_from items name (Some given) = without_end given (given_end items)
+
 abbrev pub stem_of : List Item → List ℕ → List ℕ
-stem_of items name = stem_by (stops items) (output items) name
+stem_of items name = stem_from items name (source_base items)
 
 -- the file of dependencies of an output
 abbrev pub dependencies : List ℕ → List ℕ
@@ -179,13 +276,27 @@ abbrev pub suffix_words : List (List ℕ) → List (List ℕ)
 suffix_words [] = []
 suffix_words (end ∷ others) = if list_all (same end) others then (codes "--gdrv-suffix=" ++ end) ∷ [] else codes "--gdrv-suffixes" ∷ []
 
+-- the name of the only source's side files with its suffix, and that; of a name that is given the end that is given
+abbrev pub end_words : List ℕ → Option (List ℕ) → List (List ℕ)
+end_words given None = []
+end_words given (Some end) = if is_end given end then with_value (codes "--gdrv-ext=") end else []
+
+abbrev pub base_words_of : List Item → List ℕ → Option (List ℕ) → List (List ℕ)
+base_words_of items name None = (codes "--gdrv-base=" ++ (unnamed_stem items name ++ suffix name)) ∷ with_value (codes "--gdrv-ext=") (suffix name)
+base_words_of items name (Some given) = (codes "--gdrv-base=" ++ given) ∷ end_words given (given_end items)
+
 abbrev pub base_words : List Item → List (List ℕ) → Option (List ℕ) → List (List ℕ)
 base_words items names None = suffix_words (other_suffixes names)
-base_words items names (Some name) = (codes "--gdrv-base=" ++ (stem_of items name ++ suffix name)) ∷ with_value (codes "--gdrv-ext=") (suffix name)
+base_words items names (Some name) = base_words_of items name (source_base items)
 
-abbrev pub dependency_words : Option (List ℕ) → List (List ℕ)
-dependency_words None = []
-dependency_words (Some output) = (codes "--gdrv-dep=" ++ dependencies output) ∷ []
+-- the file of dependencies is named by the output, or by the name that is given
+abbrev pub given_dependencies : List Item → Option (List ℕ) → List (List ℕ)
+given_dependencies items None = []
+given_dependencies items (Some given) = (codes "--gdrv-dep=" ++ (side_folder items ++ without_end given (given_end items) ++ codes ".d")) ∷ []
+
+abbrev pub dependency_words : List Item → Option (List ℕ) → List (List ℕ)
+dependency_words items None = given_dependencies items (source_base items)
+dependency_words items (Some output) = (codes "--gdrv-dep=" ++ dependencies output) ∷ []
 
 abbrev pub aux_words : List Item → Option (List ℕ) → List (List ℕ)
 aux_words items None = []
@@ -196,7 +307,7 @@ saves items =
     has (codes "-save-temps") items || has (codes "-save-temps=cwd") items || has (codes "-save-temps=obj") items
 
 abbrev pub dependencies_asked : List Item → List (List ℕ)
-dependencies_asked items = if has (codes "-MD") items || has (codes "-MMD") items then dependency_words (last_argument (codes "-o") items) else []
+dependencies_asked items = if has (codes "-MD") items || has (codes "-MMD") items then dependency_words items (last_argument (codes "-o") items) else []
 
 abbrev pub aux_asked : List Item → List (List ℕ)
 aux_asked items = if saves items || has (codes "-gsplit-dwarf") items then aux_words items (only (sources worked items)) else []

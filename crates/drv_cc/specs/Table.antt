@@ -89,16 +89,12 @@ sections =
     (codes "-no-canonical-prefixes --no-canonical-prefixes")
     ∷ section Nothing Alone Switch
     (codes "-fcompare-debug= -fno-compare-debug>-fcompare-debug= -save-temps=object>-save-temps=obj")
-    ∷ section Next Separate Refused
-    (codes "-wrapper -dumpbase --dumpbase -dumpbase-ext --dumpbase-ext")
     ∷ section Next Joined Switch
     (codes "-specs>-specs= --specs>-specs= --dump>-d --library-directory>-L --param>--param= --sysroot>--sysroot=")
     ∷ section Next Separate Question
     (codes "--print-file-name --print-prog-name")
     ∷ section Next Nowhere Switch
-    (codes "-dumpdir -gnatO")
-    ∷ section Next Nowhere Switch
-    (codes "--dumpdir>-dumpdir")
+    (codes "-dumpdir -dumpbase -dumpbase-ext -gnatO -wrapper --dumpdir>-dumpdir --dumpbase>-dumpbase --dumpbase-ext>-dumpbase-ext")
     ∷ section Nothing Alone Switch
     (codes "-fdump-final-insns>-fdump-final-insns=. -std=c89>-std=c90 -std=iso9899:1990>-std=c90 -std=c9x>-std=c99 "
     ++ codes "-std=iso9899:1999>-std=c99 -std=iso9899:199x>-std=c99 -std=c1x>-std=c11 -std=iso9899:2011>-std=c11 -std=c18>-std=c17 "

@@ -9,7 +9,7 @@ ghost use Rattle.drv_words.specs.Bytes.{comma};
 ghost use Rattle.std.specs.List.{list_any, slice_split};
 ghost use Rattle.std.specs.Prelude.{◌≡◌, ◌==◌, ◌++◌, Bool, OnOk, not, unwrap_or};
 
-use crate::classes::{is, stands_in};
+use crate::classes::{is, is_one_of, stands_in};
 use crate::item::Item;
 use crate::keeping::has;
 use crate::words::add_joined;
@@ -37,14 +37,17 @@ const CHECKS: &[u8] =
       signed-integer-overflow bool enum bounds alignment nonnull-attribute \
       returns-nonnull-attribute object-size vptr pointer-overflow builtin";
 
-/// Whether a name is one of a check for an option; between commas there may be none.
+/// Options that name checks.
+const OF_CHECKS: [&[u8]; 2] = [b"-fsanitize=", b"-fno-sanitize="];
+
+/// Whether an option may have this name between its commas: a check's name, or nothing.
 fn is_check(option: &[u8], name: &[u8]) -> bool
     ensures { result ≡ is_check option.now name.now }
 {
     (name.len() == 0) | stands_in(CHECKS, name) | (is(option, b"-fno-sanitize=") & is(name, b"all"))
 }
 
-/// Whether one of the names between commas is none of a check for an option.
+/// Whether an option may not have one of the names between its commas.
 fn has_no_check(option: &[u8], names: &[u8]) -> bool
     ensures { result ≡ list_any (λ name. not (is_check option.now name))
         (slice_split (λ b. b == comma) names.now) }
@@ -54,15 +57,15 @@ fn has_no_check(option: &[u8], names: &[u8]) -> bool
         .any(|name| !is_check(option, name))
 }
 
-/// Whether an item names a check that is none.
+/// Whether an item of -fsanitize= or -fno-sanitize= has a name of no check.
 pub(crate) fn names_no_check(item: &Item) -> bool
     ensures { result ≡ names_no_check item.now }
 {
-    stands_in(b"-fsanitize= -fno-sanitize=", item.name.as_bytes())
-        && has_no_check(item.name.as_bytes(), item.argument.as_bytes())
+    let name = item.name.as_bytes();
+    is_one_of(&OF_CHECKS, name) && has_no_check(name, item.argument.as_bytes())
 }
 
-/// Whether a name is one of a check.
+/// Whether a name includes a check.
 fn stands_for(check: &[u8], name: &[u8]) -> bool
     ensures { result ≡ stands_for check.now name.now }
 {
@@ -73,7 +76,7 @@ fn stands_for(check: &[u8], name: &[u8]) -> bool
         | (is(name, b"bounds-strict") & is(check, b"bounds"))
 }
 
-/// Whether one of the names between commas is one of a check.
+/// Whether one of the names between commas includes a check.
 fn speaks_of(check: &[u8], names: &[u8]) -> bool
     ensures { result ≡ speaks_of check.now names.now }
 {
@@ -82,7 +85,7 @@ fn speaks_of(check: &[u8], names: &[u8]) -> bool
         .any(|name| stands_for(check, name))
 }
 
-/// Whether an item turns a check on or off, if it does.
+/// How an item switches a check: on, off, or not at all.
 fn turned_by(check: &[u8], item: &Item) -> Option<bool>
     ensures { (before : Bool) → unwrap_or result before ≡ checked_by check.now item.now before }
 {
@@ -108,7 +111,7 @@ fn is_checked(items: &[Item], check: &[u8]) -> bool
     checked
 }
 
-/// Whether the library that finds leaks is needed by itself.
+/// Whether the link needs the library that finds leaks.
 fn needs_leak_library(items: &[Item]) -> bool
     ensures { result ≡ needs_leak_library items.now }
 {
@@ -127,14 +130,14 @@ fn is_undefined_checked(items: &[Item]) -> bool
         .any(|check| is_checked(items, check))
 }
 
-/// Whether the library of undefined behaviour is needed.
+/// Whether the link needs the library of undefined behaviour.
 fn needs_undefined_library(items: &[Item]) -> bool
     ensures { result ≡ needs_undefined_library items.now }
 {
     is_undefined_checked(items) & !has(items, b"-fsanitize-undefined-trap-on-error")
 }
 
-/// Adds the word of a library, where it is needed.
+/// Adds the word of a library if the link needs it.
 fn add_library(
     alloc: Global,
     words: &mut Listing<Word>,

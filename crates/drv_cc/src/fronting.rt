@@ -85,7 +85,7 @@ fn refused_or_run(
 }
 
 /// The answer to a line with these items.
-fn answer_of(
+pub(crate) fn answer_of(
     alloc: Global,
     named: &[Word],
     around: &Surroundings,

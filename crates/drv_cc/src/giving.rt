@@ -19,12 +19,13 @@ use crate::item::Item;
 use crate::judging::refuse;
 use crate::keeping::kept;
 use crate::levels::add_levels_with;
-use crate::line_adding::{add_pipe, add_program_items, add_switches};
+use crate::line_adding::{add_folder_words, add_pipe, add_program_items, add_switches};
 use crate::line_items::add_kept;
 use crate::reading::items_of;
 use crate::sides::add_side_words;
 use crate::sources::inputs;
 use crate::table::{Part, Spelling};
+use crate::wrapping::add_wrapper_words;
 use crate::{Answer, Call, Refusal, Stages, Surroundings};
 use drv_words::{Listing, Word};
 use std::alloc::{AllocError, Global};
@@ -191,12 +192,14 @@ fn switches_with(
 {
     let all = both(alloc, items, given)?;
     let mut words = Listing::new(alloc);
+    add_folder_words(alloc, all.as_slice(), &mut words)?;
     add_path(
         alloc,
         LookedFor::Libraries,
         &around.library_path,
         &mut words,
     )?;
+    add_wrapper_words(alloc, all.as_slice(), &mut words)?;
     add_side_words(alloc, items, &mut words)?;
     add_levels_with(alloc, items, given, &mut words)?;
     add_check_words(alloc, all.as_slice(), &mut words)?;

@@ -47,7 +47,7 @@ fn written(alloc: Global, item: &Item) -> Result<Listing<Word>, AllocError>
     }
 }
 
-/// Whether the words of an item are those that are left next.
+/// Whether the next words that are left are those of an item.
 fn is_left(words: &[Word], left: &[Word]) -> bool
     ensures { result ≡ is_left words.now left.now }
 {
@@ -58,7 +58,7 @@ fn is_left(words: &[Word], left: &[Word]) -> bool
     }
 }
 
-/// The words after so many of them.
+/// The words after the first `count`.
 fn after(left: &[Word], count: usize) -> &[Word]
     ensures { result.now ≡ drop count left.now }
 {

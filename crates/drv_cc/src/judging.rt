@@ -1,10 +1,11 @@
 //! What is refused of a line.
 
+ghost use Rattle.drv_cc.specs.Items.{begins};
 ghost use Rattle.drv_cc.specs.Kept.{before_star, is_named, is_vendors, names, refusals};
 ghost use Rattle.drv_cc.specs.Kept.{is_lacking, refused_item, refused_line, unnamed_from};
 ghost use Rattle.std.specs.List.{list_any};
 ghost use Rattle.std.specs.Option.{option_copied};
-ghost use Rattle.std.specs.Prelude.{◌≡◌, ◌++◌, IfOk, OnOk, false};
+ghost use Rattle.std.specs.Prelude.{◌≡◌, ◌++◌, IfOk, OnOk, codes, false};
 
 use crate::Refusal;
 use crate::classes::is;
@@ -46,11 +47,18 @@ fn has_name(named: &[Word], switch: &[u8]) -> bool
     named.iter().any(|name| names(switch, name.as_bytes()))
 }
 
+/// Whether a word is one that the front adds for the spec file.
+fn is_added(word: &[u8]) -> bool
+    ensures { result ≡ begins (codes "--gdrv-") word.now }
+{
+    matches!(word, [b'-', b'-', b'g', b'd', b'r', b'v', b'-', ..])
+}
+
 /// Whether a word is a switch that spec files of the line name.
 fn is_named(named: &[Word], word: &[u8]) -> bool
     ensures { result ≡ is_named named.now word.now }
 {
-    !word.starts_with(b"--gdrv-") && has_name(named, rest_after(word, b"-"))
+    !is_added(word) && has_name(named, rest_after(word, b"-"))
 }
 
 /// Adds the refusal of an item, if it is refused.

@@ -6,6 +6,7 @@ ghost use Rattle.drv_cc.specs.Items.{is_known};
 ghost use Rattle.std.specs.Prelude.{◌≡◌, ◌<◌, ◌≤◌, ◌||◌, IsFalse, drop, length, true};
 
 use crate::reading::rest_after;
+use drv_words::order;
 
 /// The most bytes of a text whose lines are gone over one by one.
 const NEAR: usize = 64;
@@ -36,11 +37,11 @@ fn line_end(text: &[u8], at: usize) -> usize
 /// names come after the end of a line.
 fn is_before(text: &[u8], at: usize, line: &[u8]) -> bool {
     let rest = rest_from(text, at);
-    &rest[..line.len().min(rest.len())] < line
+    order(&rest[..line.len().min(rest.len())], line).is_lt()
 }
 
-/// Where a line begins before which a line isn't, if it is one of a text whose lines are sorted by
-/// their bytes: few lines are between them.
+/// Where to begin a search line by line, if the lines of a text are sorted by their bytes: the line
+/// is not before this place, and only a few lines are between.
 fn near_place(text: &[u8], line: &[u8]) -> usize {
     let mut low = 0;
     let mut high = text.len();
@@ -56,8 +57,8 @@ fn near_place(text: &[u8], line: &[u8]) -> usize {
     low
 }
 
-/// Where a line begins, if it is one of a text whose lines are sorted by their bytes. What is there
-/// is for the caller to see.
+/// Where a line begins, if the lines of a text are sorted by their bytes and it is one of them. The
+/// caller checks which line is there.
 fn place_of(text: &[u8], line: &[u8]) -> usize {
     let mut at = near_place(text, line);
     while at < text.len() && is_before(text, at, line) {
@@ -106,7 +107,7 @@ fn stands_at(text: &[u8], at: usize, line: &[u8]) -> bool
 }
 
 /// Whether a name is found as in a sorted text.
-fn is_found(known: &[u8], name: &[u8]) -> bool
+pub(crate) fn is_found(known: &[u8], name: &[u8]) -> bool
     ensures { result ≡ true → is_known known.now name.now ≡ true }
 {
     stands_at(known, place_of(known, name), name)

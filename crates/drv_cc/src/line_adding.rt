@@ -1,8 +1,8 @@
 //! What is added to a line, as items of the driver's line.
 
 ghost use Rattle.drv_args.specs.declared.option_table.Effect.TheVariants as added;
-ghost use Rattle.drv_cc.specs.Front.{added_items, added_pipe, added_switches, folders, prefix};
-ghost use Rattle.drv_cc.specs.Front.{prefixes, program_items};
+ghost use Rattle.drv_cc.specs.Front.{added_items, added_pipe, added_switches, folder_words};
+ghost use Rattle.drv_cc.specs.Front.{folders, has_folders, prefixes, program_items};
 ghost use Rattle.drv_cc.specs.LineItems.{alone, item_of};
 ghost use Rattle.std.specs.Prelude.{◌≡◌, ◌∷◌, ◌++◌, [], IfOk, OnOk, map};
 
@@ -15,6 +15,8 @@ use crate::keeping::has;
 use crate::levels::add_debug_words;
 use crate::piping::add_pipe_words;
 use crate::sides::add_side_words;
+use crate::words::add_word;
+use crate::wrapping::add_wrapper_words;
 use drv_args::{Effect, Setting};
 use drv_words::{Listing, Word};
 use std::alloc::{AllocError, Global};
@@ -66,16 +68,18 @@ pub(crate) fn add_switches(
     add_alone(alloc, Effect::Switch, words, given)
 }
 
-/// Adds each folder as a prefix.
+/// Adds each folder as a prefix of this option.
 fn add_prefixes(
     alloc: Global,
+    option: &[u8],
     folders: &[Word],
     given: &mut Listing<drv_args::Item>,
 ) -> Result<(), AllocError>
-    ensures { OnOk result (given.new ≡ given.old ++ map prefix folders.now) }
+    ensures { OnOk result (given.new
+        ≡ given.old ++ map (item_of added.Prefix option.now) folders.now) }
 {
     for folder in folders {
-        add_one(alloc, Effect::Prefix, b"-B", folder.as_bytes(), given)?;
+        add_one(alloc, Effect::Prefix, option, folder.as_bytes(), given)?;
     }
     Ok(())
 }
@@ -99,9 +103,29 @@ fn add_all_prefixes(
     ensures { OnOk result (given.new ≡ given.old ++ prefixes around.now) }
 {
     let named = folders(alloc, &around.compiler_path)?;
-    add_prefixes(alloc, named.as_slice(), given)?;
-    add_prefixes(alloc, around.folders.as_slice(), given)?;
-    add_one(alloc, Effect::Switch, b"--gdrv-dirs", b"", given)
+    add_prefixes(alloc, b"--gdrv-path=", named.as_slice(), given)?;
+    add_prefixes(alloc, b"-B", around.folders.as_slice(), given)
+}
+
+/// Whether start files are looked for in folders.
+fn has_folders(items: &[Item]) -> bool
+    ensures { result ≡ has_folders items.now }
+{
+    has(items, b"-B") || is_vendors(items)
+}
+
+/// Adds the option that start files are looked for in folders, where they are.
+pub(crate) fn add_folder_words(
+    alloc: Global,
+    items: &[Item],
+    words: &mut Listing<Word>,
+) -> Result<(), AllocError>
+    ensures { OnOk result (words.new ≡ words.old ++ folder_words items.now) }
+{
+    if has_folders(items) {
+        add_word(alloc, words, b"--gdrv-dirs")?;
+    }
+    Ok(())
 }
 
 /// Adds the folders of programs, where a folder or a spec file is given.
@@ -113,7 +137,7 @@ pub(crate) fn add_program_items(
 ) -> Result<(), AllocError>
     ensures { OnOk result (given.new ≡ given.old ++ program_items around.now items.now) }
 {
-    if has(items, b"-B") || is_vendors(items) || around.compiler_path.is_some() {
+    if has_folders(items) || around.compiler_path.is_some() {
         add_all_prefixes(alloc, around, given)
     } else {
         Ok(())
@@ -129,12 +153,14 @@ fn added_switches(
     ensures { IfOk result (λ words. words ≡ added_switches around.now items.now) }
 {
     let mut words = Listing::new(alloc);
+    add_folder_words(alloc, items, &mut words)?;
     add_path(
         alloc,
         LookedFor::Libraries,
         &around.library_path,
         &mut words,
     )?;
+    add_wrapper_words(alloc, items, &mut words)?;
     add_side_words(alloc, items, &mut words)?;
     add_debug_words(alloc, items, &mut words)?;
     add_check_words(alloc, items, &mut words)?;

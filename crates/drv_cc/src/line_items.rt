@@ -68,7 +68,7 @@ fn separate_effect(name: &[u8]) -> Effect
     }
 }
 
-/// What an option does, if it is handed on.
+/// The effect of an option in the driver's line, if it has one.
 fn option_effect(spelling: Spelling, name: &[u8]) -> Option<Effect>
     ensures { result ≡ option_effect spelling name.now }
 {
@@ -80,7 +80,7 @@ fn option_effect(spelling: Spelling, name: &[u8]) -> Option<Effect>
     }
 }
 
-/// What an item of the line does, if it is handed on.
+/// The effect of an item in the driver's line, if it has one.
 pub(crate) fn effect_of(part: Part, spelling: Spelling, name: &[u8]) -> Option<Effect>
     ensures { result ≡ effect_of part spelling name.now }
 {
@@ -90,7 +90,7 @@ pub(crate) fn effect_of(part: Part, spelling: Spelling, name: &[u8]) -> Option<E
     }
 }
 
-/// The item of the driver's line for an item, if it is handed on.
+/// The item of the driver's line for an item, if there is one.
 fn line_item(item: &Item) -> Result<Option<drv_args::Item>, AllocError>
     ensures { IfOk result (λ given. given ≡ line_item item.now) }
 {

@@ -13,8 +13,8 @@ use crate::words::add_word;
 use drv_words::{Listing, Word};
 use std::alloc::{AllocError, Global};
 
-/// Options that speak against pipes, or have them already (GCC manual, "Overall Options", -pipe).
-const UNPIPED: [&[u8]; 10] = [
+/// Options that exclude pipes, or have them already (GCC manual, "Overall Options", -pipe).
+const UNPIPED: [&[u8]; 11] = [
     b"-pipe",
     b"-save-temps",
     b"-save-temps=cwd",
@@ -25,6 +25,7 @@ const UNPIPED: [&[u8]; 10] = [
     b"-MM",
     b"-fsyntax-only",
     b"-no-integrated-cpp",
+    b"-wrapper",
 ];
 
 /// Whether a file's name means standard output.
@@ -71,6 +72,7 @@ fn prints(item: &Item) -> bool
     name.starts_with(b"-fplugin=")
         || name.starts_with(b"-fdump-")
         || name.starts_with(b"-fopt-info")
+        || name.starts_with(b"-fprofile-note=")
         || names_output(item)
 }
 
@@ -84,14 +86,14 @@ fn lists(item: &Item) -> bool
         || (is(name, b"-Wa,") && has_listing(argument))
 }
 
-/// Whether an option speaks against pipes.
+/// Whether an option excludes pipes.
 fn is_unpiped(item: &Item) -> bool
     ensures { result ≡ is_unpiped item.now }
 {
     is_one_of(&UNPIPED, item.name.as_bytes()) || prints(item) || lists(item)
 }
 
-/// Whether one of the options speaks against pipes.
+/// Whether one of the options excludes pipes.
 fn has_unpiped(items: &[Item]) -> bool
     ensures { result ≡ list_any is_unpiped items.now }
 {
@@ -105,8 +107,7 @@ fn is_piped(items: &[Item]) -> bool
     has_source(items) && !has_unpiped(items)
 }
 
-/// Adds the option for pipes, where a source is compiled or assembled and nothing speaks against
-/// them.
+/// Adds the option for pipes if a source is compiled or assembled and no option excludes them.
 pub(crate) fn add_pipe_words(
     alloc: Global,
     items: &[Item],

@@ -1,15 +1,16 @@
 //! A line read as a list of items.
 
 ghost use Rattle.drv_cc.specs.Code.Building.{Notes, row_shown, shown, start_shown};
-ghost use Rattle.drv_cc.specs.Items.{beyond, first_row, is_file, items_of, known_item};
+ghost use Rattle.drv_cc.specs.Code.Known.{by_names};
+ghost use Rattle.drv_cc.specs.Items.{begins, beyond, first_row, is_file, items_of, known_item};
 ghost use Rattle.drv_cc.specs.Items.{machine_item, machine_name, renamed, start_of};
 ghost use Rattle.drv_cc.specs.Items.{start_renamed, with_rest};
-ghost use Rattle.std.specs.Prelude.{◌≡◌, IfOk, None, drop, length};
+ghost use Rattle.std.specs.Prelude.{◌≡◌, IfOk, None, codes, drop, length};
 
 use crate::classes::{is_ignored, paired};
 use crate::item::Item;
 use crate::known::is_known_line;
-use crate::renaming::renamed;
+use crate::renaming::{is_renamed, renamed};
 use crate::table::{Part, Row, Spelling, Takes, first_row};
 use crate::values::{accepts, judges};
 use drv_words::{Listing, Word};
@@ -70,25 +71,40 @@ fn machine_item(alloc: Global, known: &[u8], machine: &[u8]) -> Result<Item, All
     Item::new(alloc, name, machine, Spelling::Joined, Part::Switch)
 }
 
+/// Whether an option names a machine.
+fn names_machine(name: &[u8]) -> bool
+    ensures { result ≡ begins (codes "-mcpu=") name.now }
+{
+    matches!(name, [b'-', b'm', b'c', b'p', b'u', b'=', ..])
+}
+
+/// Whether an option turns a warning off.
+fn turns_off(name: &[u8]) -> bool
+    ensures { result ≡ begins (codes "-Wno-") name.now }
+{
+    matches!(name, [b'-', b'W', b'n', b'o', b'-', ..])
+}
+
 /// An option that is known beyond the table.
 fn known_item(alloc: Global, known: &[u8], name: &[u8]) -> Result<Item, AllocError>
     ensures { IfOk result (λ item. item ≡ known_item known.now name.now) }
 {
-    if name.starts_with(b"-mcpu=") {
+    if names_machine(name) {
         return machine_item(alloc, known, rest_after(name, b"-mcpu="));
     }
     Item::new(alloc, name, b"", Spelling::Alone, Part::Switch)
 }
 
-/// A word that no row fits, by the name that it has.
-fn beyond(alloc: Global, known: &[u8], word: &[u8], name: &[u8]) -> Result<Item, AllocError>
-    ensures { IfOk result (λ item. item ≡ beyond known.now word.now name.now) }
+/// A word that no row fits and that is not passed over, by the name that it has.
+pub(crate) fn by_names(
+    alloc: Global,
+    known: &[u8],
+    word: &[u8],
+    name: &[u8],
+) -> Result<Item, AllocError>
+    ensures { IfOk result (λ item. item ≡ by_names known.now word.now name.now) }
 {
-    let positive = paired(alloc, name)?;
-    if is_ignored(positive.as_bytes()) {
-        return Item::new(alloc, name, b"", Spelling::Nowhere, Part::Switch);
-    }
-    if name.starts_with(b"-Wno-") || accepts(alloc, known, name)? {
+    if turns_off(name) || accepts(alloc, known, name)? {
         return known_item(alloc, known, name);
     }
     let part = if judges(alloc, known, name)? {
@@ -99,11 +115,27 @@ fn beyond(alloc: Global, known: &[u8], word: &[u8], name: &[u8]) -> Result<Item,
     Item::plain(alloc, part, word)
 }
 
-/// How a word begins that no row fits.
+/// A word that no row fits, as an item of its own name.
+fn beyond(alloc: Global, known: &[u8], word: &[u8], name: &[u8]) -> Result<Item, AllocError>
+    ensures { IfOk result (λ item. item ≡ beyond known.now word.now name.now) }
+{
+    let positive = paired(alloc, name)?;
+    if is_ignored(positive.as_bytes()) {
+        return Item::new(alloc, name, b"", Spelling::Nowhere, Part::Switch);
+    }
+    by_names(alloc, known, word, name)
+}
+
+/// How a word that no row fits begins.
+#[tactic(auto, using(crate::proofs::Noted::unrenamed_begins))]
 fn start_renamed(alloc: Global, known: &[u8], word: &[u8]) -> Result<Start, AllocError>
+    requires { first_row word.now ≡ None }
     ensures { IfOk result (λ start. start_shown start
         ≡ start_renamed known.now word.now (renamed word.now) (first_row (renamed word.now))) }
 {
+    if !is_renamed(word) {
+        return Ok(Start::Whole(beyond(alloc, known, word, word)?));
+    }
     let name = renamed(alloc, word)?;
     match first_row(name.as_bytes()) {
         Some(row) => with_rest(alloc, row, rest_after(name.as_bytes(), row.option)),

@@ -12,8 +12,8 @@ pub enum Refusal {
     /// This option has no argument.
     #[error("option without its argument")]
     NoArgument(Word),
-    /// This option of gcc's is not carried out.
-    #[error("option that is not carried out")]
+    /// This option of gcc's is not supported.
+    #[error("option that is not supported")]
     NotTaken(Word),
     /// A spec file of the line gives this word as an option, and it is a file's name.
     #[error("file among the options of a spec file")]

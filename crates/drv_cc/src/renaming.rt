@@ -1,10 +1,10 @@
 //! The options that other long names mean.
 
 ghost use Rattle.drv_cc.specs.Code.Building.{pair_shown};
-ghost use Rattle.drv_cc.specs.Items.{is_longer, renamed};
+ghost use Rattle.drv_cc.specs.Items.{begins, is_longer, renamed};
 ghost use Rattle.drv_cc.specs.Table.{renames};
 ghost use Rattle.std.specs.Option.{option_map};
-ghost use Rattle.std.specs.Prelude.{◌≡◌, IfOk, find, map};
+ghost use Rattle.std.specs.Prelude.{◌≡◌, IfOk, IsFalse, codes, find, map};
 
 use crate::reading::rest_after;
 use drv_words::Word;
@@ -51,16 +51,34 @@ impl Rename {
     }
 }
 
+/// Whether a word begins as all long names do.
+fn is_long(word: &[u8]) -> bool
+    ensures { result ≡ begins (codes "--") word.now }
+{
+    matches!(word, [b'-', b'-', ..])
+}
+
 /// The first that fits a word.
+#[tactic(auto, using(crate::proofs::LongNames::no_rename))]
 fn rename_of(word: &[u8]) -> Option<Rename>
     ensures { option_map pair_shown result ≡ find (is_longer word.now) renames }
 {
+    if !is_long(word) {
+        return None;
+    }
     for rename in renames() {
         if rename.fits(word) {
             return Some(*rename);
         }
     }
     None
+}
+
+/// Whether a word is a long name of an option.
+pub(crate) fn is_renamed(word: &[u8]) -> bool
+    ensures { IsFalse result → renamed word.now ≡ word.now }
+{
+    rename_of(word).is_some()
 }
 
 /// The option that a long name means.

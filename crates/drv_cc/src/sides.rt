@@ -1,158 +1,91 @@
-//! The names of side files.
+//! The words that name side files.
 
 ghost use Rattle.drv_cc.specs.SideFiles as sides;
-ghost use Rattle.drv_cc.specs.SideFiles.{aux_asked, aux_words, base_words, beginning, dependencies};
-ghost use Rattle.drv_cc.specs.SideFiles.{dependencies_asked, dependency_words, given_or, is_named};
-ghost use Rattle.drv_cc.specs.SideFiles.{link_beginning, named, named_words, only, output};
-ghost use Rattle.drv_cc.specs.SideFiles.{own_beginning, own_folder, program, program_of, real};
-ghost use Rattle.drv_cc.specs.SideFiles.{saves, side_words, stem_of, stops, suffix_words};
-ghost use Rattle.drv_cc.specs.SideFiles.{with_value, worked};
+ghost use Rattle.drv_cc.specs.SideFiles.{aux_asked, aux_words, base_words, base_words_of};
+ghost use Rattle.drv_cc.specs.SideFiles.{beginning, dependencies, dependencies_asked};
+ghost use Rattle.drv_cc.specs.SideFiles.{dependency_words, end_words, given_dependencies};
+ghost use Rattle.drv_cc.specs.SideFiles.{given_end, named, named_words, only, saves};
+ghost use Rattle.drv_cc.specs.SideFiles.{side_folder, side_words, source_base, suffix_words};
+ghost use Rattle.drv_cc.specs.SideFiles.{with_value, without_end, worked};
 ghost use Rattle.drv_cc.specs.Code.Building.{count_shown, kinds_shown, suffixes_words};
 ghost use Rattle.drv_cc.specs.Kept.{last_argument};
 ghost use Rattle.std.specs.Option.{option_map};
-ghost use Rattle.std.specs.Prelude.{◌≡◌, ◌∷◌, ◌++◌, [], IfOk, OnOk, Some, codes};
+ghost use Rattle.std.specs.Prelude.{◌≡◌, ◌∷◌, ◌++◌, [], IfOk, None, OnOk, Some, codes};
 
-use crate::classes::is;
 use crate::item::Item;
 use crate::keeping::{has, last_argument};
+use crate::leading::{
+    beginning, given_end, is_end, side_folder, source_base, stem_of, unnamed_stem, without_end,
+};
 use crate::names::{folder, suffix};
-use crate::placing::{given_folder, stay_here};
-use crate::sources::{Count, Kinds, has_source, only_file, only_source, other_suffixes};
-use crate::words::{add_joined, add_parts, add_word};
-use drv_words::{Listing, Word, base, parted, stem};
+use crate::sources::{Count, Kinds, has_source, only_source, other_suffixes};
+use crate::words::{add_joined, add_parts, add_value, add_word};
+use drv_words::{Listing, Word, base, parted};
 use std::alloc::{AllocError, Global};
 
-/// Whether the driver stops before the link.
-pub(crate) fn stops(items: &[Item]) -> bool
-    ensures { result ≡ stops items.now }
-{
-    has(items, b"-c") | has(items, b"-S") | has(items, b"-E")
-}
-
-/// The output, where it is a file.
-fn output(items: &[Item]) -> Option<&[u8]>
-    ensures { option_map (λ name. name.now) result ≡ output items.now }
-{
-    let output = last_argument(items, b"-o")?;
-    if is(output, b"-") | is(output, b"/dev/null") {
-        None
-    } else {
-        Some(output)
-    }
-}
-
-/// The folder of side files, if no option names it.
-fn own_folder(items: &[Item]) -> &[u8]
-    ensures { result.now ≡ own_folder items.now }
-{
-    if stay_here(items) {
-        return &[];
-    }
-    match output(items) {
-        Some(output) => folder(output),
-        None => &[],
-    }
-}
-
-/// The name of the program.
-fn program(items: &[Item]) -> &[u8]
-    ensures { result.now ≡ program items.now }
-{
-    let Some(output) = output(items) else {
-        return b"a";
-    };
-    if is(base(output), b"a.out") | is(suffix(output), b".exe") {
-        stem(output)
-    } else {
-        base(output)
-    }
-}
-
-/// Whether the only file is named as the program is.
-fn is_named(items: &[Item]) -> bool
-    ensures { result ≡ is_named (program items.now) (only (sides.files items.now)) }
-{
-    match only_file(items) {
-        Some(file) => is(program(items), stem(file)) & (0 < suffix(file).len()),
-        None => false,
-    }
-}
-
-/// The folder of side files, the program's name and a mark.
-fn folder_and_program(alloc: Global, items: &[Item], mark: u8) -> Result<Word, AllocError>
-    ensures { IfOk result (λ word. word ≡ own_folder items.now ++ program items.now ++ mark ∷ []) }
-{
-    let mut word = Word::from_bytes(alloc, own_folder(items))?;
-    word.extend_from_slice(program(items))?;
-    word.push(mark)?;
-    Ok(word)
-}
-
-/// What the names of side files begin with.
-fn beginning(alloc: Global, items: &[Item]) -> Result<Word, AllocError>
-    ensures { IfOk result (λ word. word ≡ beginning items.now) }
-{
-    if let Some(given) = given_folder(own_folder(items), items) {
-        return Word::from_bytes(alloc, given);
-    }
-    if stops(items) || is_named(items) {
-        return Word::from_bytes(alloc, own_folder(items));
-    }
-    folder_and_program(alloc, items, b'-')
-}
-
-/// What the names of the link's side files begin with.
-pub(crate) fn link_beginning(alloc: Global, items: &[Item]) -> Result<Word, AllocError>
-    ensures { IfOk result (λ word. word ≡ link_beginning items.now) }
-{
-    match given_folder(own_folder(items), items) {
-        Some(given) => Word::from_bytes(alloc, given),
-        None => folder_and_program(alloc, items, b'.'),
-    }
-}
-
-/// The name of a source's side files.
-fn stem_of<'a>(items: &'a [Item], name: &'a [u8]) -> &'a [u8]
-    ensures { result.now ≡ stem_of items.now name.now }
-{
-    match output(items) {
-        Some(output) if stops(items) => stem(output),
-        _ => stem(name),
-    }
-}
-
-/// Adds a word with a value, where that is not empty.
-fn add_value(
+/// Adds the name of a source's side files and its suffix.
+fn add_own_base(
     alloc: Global,
+    items: &[Item],
+    name: &[u8],
     words: &mut Listing<Word>,
-    option: &[u8],
-    value: &[u8],
 ) -> Result<(), AllocError>
-    ensures { OnOk result (words.new ≡ words.old ++ with_value option.now value.now) }
+    ensures { OnOk result (words.new ≡ words.old ++ base_words_of items.now name.now None) }
 {
-    if 0 < value.len() {
-        add_joined(alloc, words, option, value)?;
-    }
-    Ok(())
+    add_parts(
+        alloc,
+        words,
+        b"--gdrv-base=",
+        unnamed_stem(items, name),
+        suffix(name),
+    )?;
+    add_value(alloc, words, b"--gdrv-ext=", suffix(name))
 }
 
-/// Adds the name and the suffix of a source.
+/// Adds the end of a name that is given, where it is one.
+fn add_end(
+    alloc: Global,
+    given: &[u8],
+    end: Option<&[u8]>,
+    words: &mut Listing<Word>,
+) -> Result<(), AllocError>
+    ensures { OnOk result (words.new ≡ words.old
+        ++ end_words given.now (option_map (λ bytes. bytes.now) end.entry)) }
+{
+    match end {
+        Some(end) if is_end(given, end) => add_value(alloc, words, b"--gdrv-ext=", end),
+        _ => Ok(()),
+    }
+}
+
+/// Adds the name that is given and its end.
+fn add_given_base(
+    alloc: Global,
+    items: &[Item],
+    given: &[u8],
+    words: &mut Listing<Word>,
+) -> Result<(), AllocError>
+    ensures { OnOk result (words.new ≡ words.old
+        ++ (codes "--gdrv-base=" ++ given.now) ∷ end_words given.now (given_end items.now)) }
+{
+    add_joined(alloc, words, b"--gdrv-base=", given)?;
+    add_end(alloc, given, given_end(items), words)
+}
+
+/// Adds the name of the only source's side files, and its end.
 fn add_base_of(
     alloc: Global,
     items: &[Item],
     name: &[u8],
     words: &mut Listing<Word>,
 ) -> Result<(), AllocError>
-    ensures { OnOk result (words.new ≡ words.old ++ base_words items.now [] (Some name.now)) }
+    ensures { OnOk result (words.new ≡ words.old
+        ++ base_words_of items.now name.now (source_base items.now)) }
 {
-    add_parts(
-        alloc,
-        words,
-        b"--gdrv-base=",
-        stem_of(items, name),
-        suffix(name),
-    )?;
-    add_value(alloc, words, b"--gdrv-ext=", suffix(name))
+    match source_base(items) {
+        Some(given) => add_given_base(alloc, items, given, words),
+        None => add_own_base(alloc, items, name, words),
+    }
 }
 
 /// The kinds of sources whose name the compiler gets.
@@ -193,8 +126,8 @@ fn add_suffix(
     add_count(alloc, other_suffixes(kinds, items), words)
 }
 
-/// Adds the name and the suffix of the only source whose name the compiler gets, or what there is
-/// to say of several.
+/// Adds the name and the suffix of the only source whose name the compiler gets, or the suffix of
+/// several.
 fn add_base(alloc: Global, items: &[Item], words: &mut Listing<Word>) -> Result<(), AllocError>
     ensures { OnOk result (words.new ≡ words.old
         ++ base_words items.now (sides.sources (named items.now) items.now)
@@ -228,25 +161,66 @@ fn add_dependencies_of(
     output: &[u8],
     words: &mut Listing<Word>,
 ) -> Result<(), AllocError>
-    ensures { OnOk result (words.new ≡ words.old ++ dependency_words (Some output.now)) }
+    ensures { OnOk result (words.new
+        ≡ words.old ++ (codes "--gdrv-dep=" ++ dependencies output.now) ∷ []) }
 {
     let file = dependencies(alloc, output)?;
     add_joined(alloc, words, b"--gdrv-dep=", file.as_bytes())
 }
 
-/// Adds the file of dependencies of the line's output, if there is one.
+/// The file of dependencies of a source with a name that is given.
+fn named_dependencies(alloc: Global, items: &[Item], given: &[u8]) -> Result<Word, AllocError>
+    ensures { IfOk result (λ word. word ≡ side_folder items.now
+        ++ without_end given.now (given_end items.now) ++ codes ".d") }
+{
+    let mut file = Word::from_bytes(alloc, side_folder(items))?;
+    file.extend_from_slice(without_end(given, given_end(items)))?;
+    file.extend_from_slice(b".d")?;
+    Ok(file)
+}
+
+/// Adds the file of dependencies of a source with a name that is given.
+fn add_named_dependencies(
+    alloc: Global,
+    items: &[Item],
+    given: &[u8],
+    words: &mut Listing<Word>,
+) -> Result<(), AllocError>
+    ensures { OnOk result (words.new
+        ≡ words.old ++ given_dependencies items.now (Some given.now)) }
+{
+    let file = named_dependencies(alloc, items, given)?;
+    add_joined(alloc, words, b"--gdrv-dep=", file.as_bytes())
+}
+
+/// Adds the file of dependencies of the only source, where its name is given.
+fn add_given_dependencies(
+    alloc: Global,
+    items: &[Item],
+    words: &mut Listing<Word>,
+) -> Result<(), AllocError>
+    ensures { OnOk result (words.new
+        ≡ words.old ++ given_dependencies items.now (source_base items.now)) }
+{
+    match source_base(items) {
+        Some(given) => add_named_dependencies(alloc, items, given, words),
+        None => Ok(()),
+    }
+}
+
+/// Adds the file of dependencies of the line's output, or of the name that is given.
 fn add_output_dependencies(
     alloc: Global,
     items: &[Item],
     words: &mut Listing<Word>,
 ) -> Result<(), AllocError>
     ensures { OnOk result (words.new
-        ≡ words.old ++ dependency_words (last_argument (codes "-o") items.now)) }
+        ≡ words.old ++ dependency_words items.now (last_argument (codes "-o") items.now)) }
 {
-    if let Some(output) = last_argument(items, b"-o") {
-        add_dependencies_of(alloc, output, words)?;
+    match last_argument(items, b"-o") {
+        Some(output) => add_dependencies_of(alloc, output, words),
+        None => add_given_dependencies(alloc, items, words),
     }
-    Ok(())
 }
 
 /// Adds the file of dependencies of the output, where one is asked for.

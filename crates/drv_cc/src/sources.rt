@@ -1,10 +1,10 @@
 //! The files and the sources of a line.
 
 ghost use Rattle.drv_cc.specs.Code.Building.{Zero, all_noted, count_of, count_shown};
-ghost use Rattle.drv_cc.specs.Code.Building.{counted, counted_only, is_counted, kinds_shown};
-ghost use Rattle.drv_cc.specs.Code.Building.{noted};
+ghost use Rattle.drv_cc.specs.Code.Building.{counted, counted_only, is_counted, is_many};
+ghost use Rattle.drv_cc.specs.Code.Building.{kinds_shown, noted};
 ghost use Rattle.drv_cc.specs.Kept.{is_file_part};
-ghost use Rattle.drv_cc.specs.SideFiles.{files, inputs, is_looked_for, is_some, is_source};
+ghost use Rattle.drv_cc.specs.SideFiles.{are_several, files, inputs, is_looked_for, is_some, is_source};
 ghost use Rattle.drv_cc.specs.SideFiles.{is_other, language_by, only, other_suffixes, sources};
 ghost use Rattle.drv_cc.specs.SideFiles.{worked};
 ghost use Rattle.std.specs.Option.{option_map};
@@ -63,7 +63,7 @@ impl Kinds {
     }
 }
 
-/// What there is of something.
+/// None, one or several of something.
 #[derive(Clone, Copy)]
 pub(crate) enum Count<'a> {
     /// There is none.
@@ -101,6 +101,13 @@ impl<'a> Count<'a> {
         ensures { result ≡ is_counted (count_shown self.entry) }
     {
         !matches!(self, Count::Nothing)
+    }
+
+    /// Whether there are more than one.
+    fn is_several(self) -> bool
+        ensures { result ≡ is_many (count_shown self.entry) }
+    {
+        matches!(self, Count::Several)
     }
 
     /// The only one, if there is one alone.
@@ -211,6 +218,13 @@ pub(crate) fn only_file(items: &[Item]) -> Option<&[u8]>
     ensures { option_map (λ name. name.now) result ≡ only (files items.now) }
 {
     files(items).only()
+}
+
+/// Whether there are several files.
+pub(crate) fn has_several_files(items: &[Item]) -> bool
+    ensures { result ≡ are_several (files items.now) }
+{
+    files(items).is_several()
 }
 
 /// The only source of these kinds, if there is one alone.

@@ -1,10 +1,10 @@
 //! The option table: a row an option. The first row that fits a word decides.
 
 ghost use Rattle.drv_cc.specs.Code.Building.{shown};
-ghost use Rattle.drv_cc.specs.Code.Groups.{begun_at, begun_key, second, whole_at, whole_key};
-ghost use Rattle.drv_cc.specs.Items.{first_row, fits, option_fits, takes_rest};
+ghost use Rattle.drv_cc.specs.Code.Groups.{begun_at, begun_key, second, third, whole_at, whole_key};
+ghost use Rattle.drv_cc.specs.Items.{begins, first_row, fits, option_fits, takes_rest};
 ghost use Rattle.std.specs.Option.{option_map};
-ghost use Rattle.std.specs.Prelude.{◌≡◌, find, map};
+ghost use Rattle.std.specs.Prelude.{◌≡◌, false, find, map, true};
 
 use crate::beginnings::begun_group;
 use crate::whole_options::whole_group;
@@ -88,11 +88,43 @@ impl Takes {
         ensures { result ≡ option_fits self word.now option.now }
     {
         if self.takes_rest() {
-            word.starts_with(option)
+            begins(option, word)
         } else {
             option == word
         }
     }
+}
+
+/// The third byte of a word, or 0.
+pub(crate) fn third(word: &[u8]) -> u8
+    ensures { result ≡ third word.now }
+{
+    match word {
+        [_, _, letter, ..] => *letter,
+        _ => 0,
+    }
+}
+
+/// Whether an option has a third byte that is not that of a word.
+#[tactic(auto, using(crate::proofs::Groups::third_differs))]
+fn differs(option: &[u8], word: &[u8]) -> bool
+    ensures { result ≡ true → begins option.now word.now ≡ false }
+{
+    let own = third(option);
+    if own == 0 {
+        return false;
+    }
+    own != third(word)
+}
+
+/// Whether a word begins with an option.
+fn begins(option: &[u8], word: &[u8]) -> bool
+    ensures { result ≡ begins option.now word.now }
+{
+    if differs(option, word) {
+        return false;
+    }
+    word.starts_with(option)
 }
 
 /// The second byte of a word, or 0.

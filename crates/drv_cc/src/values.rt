@@ -6,7 +6,7 @@ ghost use Rattle.drv_cc.specs.Items.{value_of};
 ghost use Rattle.std.specs.List.{list_all};
 ghost use Rattle.std.specs.Prelude.{◌≡◌, ◌++◌, IfOk};
 
-use crate::known::{are_known, is_either_known};
+use crate::known::{are_known, is_either_known, is_found};
 use crate::places::first_place;
 use crate::reading::rest_after;
 use drv_words::Word;
@@ -72,17 +72,28 @@ fn numbered(alloc: Global, name: &[u8]) -> Result<Word, AllocError>
 }
 
 /// Whether an option is known, with its argument.
+#[tactic(auto, using(crate::proofs::Again::no_names_accept))]
 pub(crate) fn accepts(alloc: Global, known: &[u8], name: &[u8]) -> Result<bool, AllocError>
     ensures { IfOk result (λ is. is ≡ accepts known.now name.now) }
 {
+    if known.is_empty() && !name.is_empty() {
+        return Ok(false);
+    }
+    if is_found(known, name) {
+        return Ok(true);
+    }
     let numbered = numbered(alloc, name)?;
     Ok(are_known(known, name, head_of(name), numbered.as_bytes()))
 }
 
 /// Whether an option is known whose argument the compiler judges.
+#[tactic(auto, using(crate::proofs::Again::no_names_judge))]
 pub(crate) fn judges(alloc: Global, known: &[u8], name: &[u8]) -> Result<bool, AllocError>
     ensures { IfOk result (λ is. is ≡ judges known.now name.now) }
 {
+    if known.is_empty() && !name.is_empty() {
+        return Ok(false);
+    }
     let listed = marked(alloc, name, b"?")?;
     let number = marked(alloc, name, b"#")?;
     Ok(is_either_known(known, listed.as_bytes(), number.as_bytes()))

@@ -70,7 +70,7 @@ const GROUP_2: &[Row] = group! {
 
 const GROUP_3: &[Row] = group! {
     b"--print-multi-os-directory" b"--print-multi-os-directory" Nothing Alone Question
-    b"-dumpbase" b"-dumpbase" Next Separate Refused
+    b"-dumpbase" b"-dumpbase" Next Nowhere Switch
     b"-Wno-format-overflow" b"-Wformat-overflow=0" Nothing Alone Switch
     b"-Wno-attribute-alias" b"-Wattribute-alias=0" Nothing Alone Switch
     b"-Wno-array-parameter" b"-Warray-parameter=0" Nothing Alone Switch
@@ -241,8 +241,8 @@ const GROUP_15: &[Row] = group! {
     b"-mno-push-args" b"-mno-push-args" Nothing Alone Switch
     b"-list" b"-list" Nothing Alone Refused
     b"-fcompare-debug" b"-fcompare-debug" Nothing Alone Refused
-    b"-wrapper" b"-wrapper" Next Separate Refused
-    b"--dumpbase-ext" b"--dumpbase-ext" Next Separate Refused
+    b"-wrapper" b"-wrapper" Next Nowhere Switch
+    b"--dumpbase-ext" b"-dumpbase-ext" Next Nowhere Switch
     b"-pedantic" b"-Wpedantic" Nothing Alone Switch
     b"-Wformat" b"-Wformat=1" Nothing Alone Switch
     b"-fcf-protection" b"-fcf-protection=full" Nothing Alone Switch
@@ -303,7 +303,7 @@ const GROUP_19: &[Row] = group! {
     b"-fno-openmp" b"-fno-openmp" Nothing Alone Switch
     b"-fno-gnu-tm" b"-fno-gnu-tm" Nothing Alone Switch
     b"-mred-zone" b"-mred-zone" Nothing Alone Switch
-    b"--dumpbase" b"--dumpbase" Next Separate Refused
+    b"--dumpbase" b"-dumpbase" Next Nowhere Switch
     b"--assemble" b"-S" Nothing Alone Switch
     b"--comments" b"-C" Nothing Alone Switch
     b"--coverage" b"-coverage" Nothing Alone Switch
@@ -472,7 +472,7 @@ const GROUP_31: &[Row] = group! {
     b"-###" b"-###" Nothing Alone Tells
     b"-print-multi-os-directory" b"-print-multi-os-directory" Nothing Alone Question
     b"--print-sysroot-headers-suffix" b"--print-sysroot-headers-suffix" Nothing Alone Question
-    b"-dumpbase-ext" b"-dumpbase-ext" Next Separate Refused
+    b"-dumpbase-ext" b"-dumpbase-ext" Next Nowhere Switch
 };
 
 /// The options of this key that a word is.

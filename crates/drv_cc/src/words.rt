@@ -1,5 +1,6 @@
 //! Words that are added to a line.
 
+ghost use Rattle.drv_cc.specs.SideFiles.{with_value};
 ghost use Rattle.std.specs.Prelude.{◌≡◌, ◌∷◌, ◌++◌, [], OnOk};
 
 use drv_words::{Listing, Word};
@@ -46,5 +47,20 @@ pub(crate) fn add_joined(
     let mut word = Word::from_bytes(alloc, option)?;
     word.extend_from_slice(argument)?;
     words.push(word)?;
+    Ok(())
+}
+
+/// Adds a word with a value, where that is not empty.
+pub(crate) fn add_value(
+    alloc: Global,
+    words: &mut Listing<Word>,
+    option: &[u8],
+    value: &[u8],
+) -> Result<(), AllocError>
+    ensures { OnOk result (words.new ≡ words.old ++ with_value option.now value.now) }
+{
+    if 0 < value.len() {
+        add_joined(alloc, words, option, value)?;
+    }
     Ok(())
 }

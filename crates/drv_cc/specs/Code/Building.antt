@@ -66,6 +66,11 @@ is_counted Zero = false
 is_counted (Single name) = true
 is_counted Many = true
 
+abbrev pub is_many : Counted → Bool
+is_many Zero = false
+is_many (Single name) = false
+is_many Many = true
+
 abbrev pub counted_only : Counted → Option (List ℕ)
 counted_only Zero = None
 counted_only (Single name) = Some name

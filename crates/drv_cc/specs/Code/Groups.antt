@@ -1,7 +1,8 @@
 use Rattle.drv_cc.specs.Items.{takes_rest}
-use Rattle.drv_cc.specs.Table.{OptionRow, table}
-use Rattle.std.specs.List.{filter}
-use Rattle.std.specs.Prelude.{◌==◌, ◌&&◌, ◌||◌, ◌+◌, ◌*◌, ◌%◌, Bool, List, get_or, length, nat_lt, not, ℕ}
+use Rattle.drv_cc.specs.Table.{OptionRow, ignored, rings, table, texts, unpaired}
+use Rattle.drv_cc.specs.declared.name_groups.Ringed.{Ringed}
+use Rattle.std.specs.List.{filter, flat_map}
+use Rattle.std.specs.Prelude.{◌==◌, ◌&&◌, ◌||◌, ◌+◌, ◌*◌, ◌%◌, Bool, List, get_or, length, map, nat_lt, not, ℕ}
 
 -- How the code looks up a row of the option table: rows whose option is the word by their second byte and their length, and rows whose
 -- option the word begins with by their second byte. Only private clauses cite it.
@@ -32,3 +33,29 @@ whole_at key = filter (is_whole_at key) table
 
 abbrev pub begun_at : ℕ → List OptionRow
 begun_at key = filter (is_begun_at key) table
+
+-- How the code looks a name up in the lists of names: those of its third byte and its length. Of a ring it has each option with the ring.
+
+abbrev pub third : List ℕ → ℕ
+third name = get_or name 2 0
+
+abbrev pub list_key : List ℕ → ℕ
+list_key name = (third name + length name % 16) % 16
+
+abbrev pub is_at : ℕ → List ℕ → Bool
+is_at key name = list_key name == key
+
+abbrev pub ignored_at : ℕ → List (List ℕ)
+ignored_at key = filter (is_at key) (texts ignored)
+
+abbrev pub unpaired_at : ℕ → List (List ℕ)
+unpaired_at key = filter (is_at key) (texts unpaired)
+
+abbrev pub ringed_shown : Ringed → List ℕ × List ℕ
+ringed_shown r = (r.option.now, r.ring.now)
+
+abbrev pub ringed_by : List ℕ → List (List ℕ × List ℕ)
+ringed_by ring = map (λ option. (option, ring)) (texts ring)
+
+abbrev pub ringed_at : ℕ → List (List ℕ × List ℕ)
+ringed_at key = filter (λ r. is_at key r.0) (flat_map ringed_by rings)

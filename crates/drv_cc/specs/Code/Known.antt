@@ -1,9 +1,35 @@
+use Rattle.drv_cc.specs.Items.{accepts, begins, judges, known_item, plain, renamed}
+use Rattle.drv_cc.specs.declared.item.Item.{Item}
+use Rattle.drv_cc.specs.declared.table.Part.TheVariants.{Input, Lacking, Library, Piece, Question, Refused, Switch, Tells, Unknown}
+use Rattle.drv_cc.specs.declared.table.Part.{Part}
 use Rattle.drv_words.specs.Bytes.{newline}
-use Rattle.std.specs.Prelude.{◌==◌, Bool, List, [], ◌∷◌, true, ℕ}
+use Rattle.std.specs.Prelude.{◌==◌, ◌||◌, Bool, List, [], ◌∷◌, codes, false, if◌then◌else◌, true, ℕ}
 
--- How the code looks for a line of a text. Only private clauses cite it.
+-- How the code looks for a line of a text, and how it asks unknown words again. Only private clauses cite them.
 
 -- a line ends where this text begins
 abbrev pub is_ended : List ℕ → Bool
 is_ended [] = true
 is_ended (b ∷ rest) = b == newline
+
+abbrev pub is_unknown : Part → Bool
+is_unknown Input = false
+is_unknown Library = false
+is_unknown Piece = false
+is_unknown Switch = false
+is_unknown Question = false
+is_unknown Tells = false
+is_unknown Refused = false
+is_unknown Unknown = true
+is_unknown Lacking = false
+
+-- a word that no row fits and that is not passed over
+abbrev pub by_names : List ℕ → List ℕ → List ℕ → Item
+by_names known word name =
+    if begins (codes "-Wno-") name || accepts known name then known_item known name
+    else if judges known name then plain Question word
+    else plain Unknown word
+
+-- an item of a line that was read without names of options, by these names: what is unknown is none that is passed over
+abbrev pub again : List ℕ → Item → Item
+again known i = if is_unknown i.part then by_names known i.name (renamed i.name) else i

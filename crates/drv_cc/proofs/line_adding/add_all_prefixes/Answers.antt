@@ -1,10 +1,12 @@
 use Rattle.drv_cc.proofs.Prefixes.{all_added}
 use Rattle.drv_cc.proofs.line_adding.add_all_prefixes.Goals as goal
-use Rattle.std.proofs.Common.{◌≡◌, ◌∙◌, OnOk, subst}
+use Rattle.std.proofs.Common.{◌∙◌}
+use Rattle.std.proofs.lemmas.Result.{on_ok_weaker}
 
 pub returns : goal.returns
 returns c =
-    subst (λ items. OnOk c.add_one.result (c.add_one.new.given ≡ items))
-    (all_added c.args.around.now c.args.given.now c.add_prefixes.new.given c.add_prefixes-2.new.given c.as_slice.result.now c.as_slice-2.result.now
-    (c.as_slice.ensures ∙ c.in_ok-named.ensures) c.as_slice-2.ensures c.in_ok-add_prefixes.ensures c.in_ok-add_prefixes-2.ensures)
-    c.add_one.ensures
+    on_ok_weaker c.add_prefixes-2.result
+    (λ second_is.
+    all_added c.args.around.now c.args.given.now c.add_prefixes.new.given c.add_prefixes-2.new.given c.as_slice.result.now c.as_slice-2.result.now
+    (c.as_slice.ensures ∙ c.in_ok-named.ensures) c.as_slice-2.ensures c.in_ok-add_prefixes.ensures second_is)
+    c.add_prefixes-2.ensures

@@ -1,5 +1,5 @@
-use Rattle.drv_cc.proofs.sides.add_base_of.Goals as goal
-use Rattle.drv_cc.specs.SideFiles.{stem_of, suffix, with_value}
+use Rattle.drv_cc.proofs.sides.add_own_base.Goals as goal
+use Rattle.drv_cc.specs.SideFiles.{suffix, unnamed_stem, with_value}
 use Rattle.std.proofs.Common.{[], ◌∷◌, ◌++◌, ◌∙◌, ap, append_assoc, codes}
 use Rattle.std.proofs.lemmas.Result.{on_ok_weaker}
 
@@ -9,7 +9,7 @@ returns c =
     (λ is.
     is ∙ ap (λ end. c.add_parts.new.words ++ with_value (codes "--gdrv-ext=") end) c.suffix-2.ensures
     ∙ ap (λ words. words ++ with_value (codes "--gdrv-ext=") (suffix c.args.name.now))
-    (c.in_ok-add_parts.ensures ∙ ap (λ name. c.args.words.now ++ (codes "--gdrv-base=" ++ name ++ c.suffix.result.now) ∷ []) c.stem_of.ensures
-    ∙ ap (λ end. c.args.words.now ++ (codes "--gdrv-base=" ++ stem_of c.args.items.now c.args.name.now ++ end) ∷ []) c.suffix.ensures)
+    (c.in_ok-add_parts.ensures ∙ ap (λ name. c.args.words.now ++ (codes "--gdrv-base=" ++ name ++ c.suffix.result.now) ∷ []) c.unnamed_stem.ensures
+    ∙ ap (λ end. c.args.words.now ++ (codes "--gdrv-base=" ++ unnamed_stem c.args.items.now c.args.name.now ++ end) ∷ []) c.suffix.ensures)
     ∙ append_assoc c.args.words.now _ _)
     c.add_value.ensures

@@ -1,4 +1,4 @@
-use Rattle.drv_cc.proofs.placing.given_folder.Given as goal
+use Rattle.drv_cc.proofs.placing.last_folder.Given as goal
 use Rattle.drv_cc.specs.SideFiles.{given_from}
 use Rattle.std.proofs.Common.{◌≡◌, drop}
 use Rattle.std.specs.Option.{option_map}

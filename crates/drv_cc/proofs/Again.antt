@@ -1,0 +1,205 @@
+use Rattle.drv_cc.specs.Code.Known.{again, by_names, is_unknown}
+use Rattle.drv_cc.specs.Items.{Start, Wants, Whole, accepts, begins, beyond, by_row, first_row, head_of, is_among, is_file, is_known, is_longer, is_number, items_of, judges, paired, renamed, renamed_by, start_of, start_option, start_renamed, value_of, with_rest, with_start}
+use Rattle.drv_cc.specs.Table.{OptionRow, ignored, renames, sections, table, texts}
+use Rattle.drv_cc.specs.declared.item.Item.{Item}
+use Rattle.drv_cc.specs.declared.table.Takes.TheVariants.{Attached, Either, Next, Nothing, Rest}
+use Rattle.drv_cc.specs.declared.table.Takes.{Takes}
+use Rattle.drv_words.specs.Bytes.{equals}
+use Rattle.std.proofs.Common.{Err, IfOk, Ok, Result, ◌≡◌, ◌==◌, ◌&&◌, ◌||◌, ◌∙◌, ◌<◌, ◌++◌, Bool, List, [], ◌∷◌, None, Option, Some, ap, arith, codes, cond, drop, false, find, length, map, nat_lt, refl, sym, true, ℕ}
+use Rattle.std.proofs.lemmas.Bool.{eqb-true}
+use Rattle.std.proofs.lemmas.Bool.Decides.{nat_tests}
+use Rattle.std.proofs.lemmas.List.{append-nil, length-drop}
+use Rattle.std.specs.Bool.{⊤}
+use Rattle.std.specs.List.{list_any}
+
+-- For `Items::with_names`: reading a line again by names of options changes only the unknown words.
+
+no_row : list_any (λ r. is_unknown r.part) table ≡ false
+unfolding sections
+no_row = refl
+
+both_false : (a b : Bool) → (a || b) ≡ false → (a ≡ false) × (b ≡ false)
+both_false true b e = absurd cc
+both_false false b e = (refl, e)
+
+-- what is found in a list passes the test, and is one that none of the list is
+found_passes : {A : Type 0} (p q : A → Bool) (rows : List A) (r : A) → find p rows ≡ Some r → list_any q rows ≡ false → (p r ≡ true) × (q r ≡ false)
+found_passes p q [] r e missed = absurd cc
+found_passes p q (x ∷ rows) r e missed = by (p x) refl e (both_false (q x) (list_any q rows) missed) (λ found none. found_passes p q rows r found none)
+  where
+    by : (t : Bool) → p x ≡ t → cond t (Some x) (find p rows) ≡ Some r → (q x ≡ false) × (list_any q rows ≡ false)
+        → (find p rows ≡ Some r → list_any q rows ≡ false → (p r ≡ true) × (q r ≡ false)) → (p r ≡ true) × (q r ≡ false)
+    by true is e missed ih = let same_one : x ≡ r = cc in (ap p (sym same_one) ∙ is, ap q (sym same_one) ∙ missed.0)
+    by false is e missed ih = ih e missed.1
+
+row_known : (word : List ℕ) (r : OptionRow) → first_row word ≡ Some r → is_unknown r.part ≡ false
+row_known word r e = (found_passes _ (λ r. is_unknown r.part) table r e no_row).1
+
+row_again : (known : List ℕ) (r : OptionRow) (argument : List ℕ) → is_unknown r.part ≡ false → again known (by_row r argument) ≡ by_row r argument
+row_again known r argument e = rw e refl
+
+abbrev start_again : List ℕ → Start → Start
+start_again known (Whole i) = Whole (again known i)
+start_again known (Wants r) = Wants r
+
+abbrev IsFit : Start → Type 0
+IsFit (Whole i) = ⊤
+IsFit (Wants r) = is_unknown r.part ≡ false
+
+abbrev Begun : List ℕ → Start → Start → Type 0
+Begun known before after = (start_again known before ≡ after) × IsFit before
+
+rest_begun : (known : List ℕ) (takes : Takes) (r : OptionRow) (rest : List ℕ) → is_unknown r.part ≡ false
+    → Begun known (with_rest takes r rest) (with_rest takes r rest)
+rest_begun known Nothing r rest e = (ap Whole (row_again known r [] e), tt)
+rest_begun known Next r rest e = (refl, e)
+rest_begun known Attached r [] e = (refl, tt)
+rest_begun known Attached r (b ∷ rest) e = (ap Whole (row_again known r (b ∷ rest) e), tt)
+rest_begun known Rest r rest e = (ap Whole (row_again known r rest e), tt)
+rest_begun known Either r [] e = (refl, e)
+rest_begun known Either r (b ∷ rest) e = (ap Whole (row_again known r (b ∷ rest) e), tt)
+
+-- nothing is known by an empty text but the empty name
+unknown_some : (name : List ℕ) → 0 < length name → is_known [] name ≡ false
+unknown_some [] some = absurd (omega (arith, some))
+unknown_some (b ∷ name) some = refl
+
+some_head : (b : ℕ) (name more : List ℕ) → 0 < length (head_of (b ∷ name) ++ more)
+some_head b name more = by (b == equals)
+  where
+    by : (t : Bool) → 0 < length (cond t (b ∷ []) (b ∷ head_of name) ++ more)
+    by true = omega arith
+    by false = omega arith
+
+none_accepted : (b : ℕ) (name : List ℕ) → accepts [] (b ∷ name) ≡ false
+none_accepted b name =
+    let head : is_known [] (head_of (b ∷ name)) ≡ false =
+    ap (is_known []) (sym (append-nil (head_of (b ∷ name)))) ∙ unknown_some (head_of (b ∷ name) ++ []) (some_head b name []) in
+    rw (head, by (is_number (value_of (b ∷ name))) head) refl
+  where
+    by : (t : Bool) → is_known [] (head_of (b ∷ name)) ≡ false → is_known [] (cond t (head_of (b ∷ name) ++ codes "#") (head_of (b ∷ name))) ≡ false
+    by true head = unknown_some (head_of (b ∷ name) ++ codes "#") (some_head b name (codes "#"))
+    by false head = head
+
+none_judged : (b : ℕ) (name : List ℕ) → judges [] (b ∷ name) ≡ false
+none_judged b name =
+    rw (unknown_some (head_of (b ∷ name) ++ codes "?") (some_head b name (codes "?")), unknown_some (head_of (b ∷ name) ++ codes "#") (some_head b name (codes "#"))) refl
+
+pub no_names_accept : (known name : List ℕ) → (length known == 0) ≡ true → (length name == 0) ≡ false → false ≡ accepts known name
+no_names_accept known [] none some = absurd cc
+no_names_accept (k ∷ known) (b ∷ name) none some = absurd (omega (arith, eqb-true (length (k ∷ known)) 0 none))
+no_names_accept [] (b ∷ name) none some = sym (none_accepted b name)
+
+pub no_names_judge : (known name : List ℕ) → (length known == 0) ≡ true → (length name == 0) ≡ false → false ≡ judges known name
+no_names_judge known [] none some = absurd cc
+no_names_judge (k ∷ known) (b ∷ name) none some = absurd (omega (arith, eqb-true (length (k ∷ known)) 0 none))
+no_names_judge [] (b ∷ name) none some = sym (none_judged b name)
+
+-- an option of warnings is none of machines
+other_begins : (name : List ℕ) → begins (codes "-Wno-") name ≡ true → begins (codes "-mcpu=") name ≡ false
+other_begins [] e = refl
+other_begins (a ∷ []) e = by (45 == a)
+  where
+    by : (t : Bool) → (t && false) ≡ false
+    by true = refl
+    by false = refl
+other_begins (a ∷ b ∷ name) e = by (45 == a) (109 == b) (87 == b) refl refl e
+  where
+    by : (t u v : Bool) → (109 == b) ≡ u → (87 == b) ≡ v → (t && (v && begins (codes "no-") name)) ≡ true → (t && (u && begins (codes "cpu=") name)) ≡ false
+    by false u v m w e = refl
+    by true false v m w e = refl
+    by true u false m w e = absurd cc
+    by true true true m w e = absurd (omega (arith, eqb-true 109 b m, eqb-true 87 b w))
+
+-- a word that no row fits
+beyond_again : (known word : List ℕ) (b : ℕ) (name : List ℕ) → renamed word ≡ b ∷ name → again known (beyond [] word (b ∷ name)) ≡ beyond known word (b ∷ name)
+beyond_again known word b name is = by (is_among (texts ignored) (paired (b ∷ name))) (begins (codes "-Wno-") (b ∷ name)) refl refl
+  where
+    by : (t u : Bool) → is_among (texts ignored) (paired (b ∷ name)) ≡ t → begins (codes "-Wno-") (b ∷ name) ≡ u
+        → again known (beyond [] word (b ∷ name)) ≡ beyond known word (b ∷ name)
+    by true u e e' = rw e refl
+    by false true e e' = rw (e, e', other_begins (b ∷ name) e') refl
+    by false false e e' = rw (e, e', none_accepted b name, none_judged b name) (ap (by_names known word) is ∙ rw e' refl)
+
+some_left : (n : ℕ) (word : List ℕ) → n < length word → (b : ℕ) × (rest : List ℕ) × (drop n word ≡ b ∷ rest)
+some_left n word less = by (drop n word) refl
+  where
+    by : (left : List ℕ) → drop n word ≡ left → (b : ℕ) × (rest : List ℕ) × (drop n word ≡ b ∷ rest)
+    by [] e = absurd (omega (arith, less, sym (length-drop n word) ∙ ap length e))
+    by (b ∷ rest) e = (b, rest, e)
+
+appended : (some more : List ℕ) → (b : ℕ) × (rest : List ℕ) × (more ≡ b ∷ rest) → (b : ℕ) × (rest : List ℕ) × (some ++ more ≡ b ∷ rest)
+appended [] more (b, rest, e) = (b, rest, e)
+appended (x ∷ some) more e = (x, some ++ more, refl)
+
+two_true : (a b : Bool) → (a && b) ≡ true → b ≡ true
+two_true true b e = e
+two_true false b e = absurd cc
+
+-- the name of a word that is not empty is not empty
+some_named : (b : ℕ) (word : List ℕ) → (c : ℕ) × (rest : List ℕ) × (renamed (b ∷ word) ≡ c ∷ rest)
+some_named b word = by (find (is_longer (b ∷ word)) renames) refl
+  where
+    none : (rows : List (List ℕ × List ℕ)) → list_any (λ r. false) rows ≡ false
+    none [] = refl
+    none (x ∷ rows) = none rows
+
+    by : (found : Option (List ℕ × List ℕ)) → find (is_longer (b ∷ word)) renames ≡ found
+        → (c : ℕ) × (rest : List ℕ) × (renamed_by (b ∷ word) found ≡ c ∷ rest)
+    by None e = (b, word, refl)
+    by (Some r) e =
+        let longer : nat_lt (length r.0) (length (b ∷ word)) ≡ true =
+        two_true (begins r.0 (b ∷ word)) _ (found_passes (is_longer (b ∷ word)) (λ r. false) renames r e (none renames)).0 in
+        let less : length r.0 < length (b ∷ word) = grind (arith, nat_tests) in
+        appended r.1 (drop (length r.0) (b ∷ word)) (some_left (length r.0) (b ∷ word) less)
+
+renamed_begun : (known word : List ℕ) (b : ℕ) (name : List ℕ) → renamed word ≡ b ∷ name
+    → Begun known (start_renamed [] word (b ∷ name) (first_row (b ∷ name))) (start_renamed known word (b ∷ name) (first_row (b ∷ name)))
+renamed_begun known word b name is = by (first_row (b ∷ name)) refl
+  where
+    by : (found : Option OptionRow) → first_row (b ∷ name) ≡ found → Begun known (start_renamed [] word (b ∷ name) found) (start_renamed known word (b ∷ name) found)
+    by None e = (ap Whole (beyond_again known word b name is), tt)
+    by (Some r) e = rest_begun known r.takes r (drop (length r.option) (b ∷ name)) (row_known (b ∷ name) r e)
+
+option_begun : (known : List ℕ) (b : ℕ) (word : List ℕ) → Begun known (start_option [] (b ∷ word) (first_row (b ∷ word))) (start_option known (b ∷ word) (first_row (b ∷ word)))
+option_begun known b word = by (first_row (b ∷ word)) refl
+  where
+    by : (found : Option OptionRow) → first_row (b ∷ word) ≡ found → Begun known (start_option [] (b ∷ word) found) (start_option known (b ∷ word) found)
+    by None e =
+        let (c, name, is) = some_named b word in
+        rw is (renamed_begun known (b ∷ word) c name is)
+    by (Some r) e = rest_begun known r.takes r (drop (length r.option) (b ∷ word)) (row_known (b ∷ word) r e)
+
+begun : (known word : List ℕ) → Begun known (start_of [] word) (start_of known word)
+begun known [] = (refl, tt)
+begun known (b ∷ word) = by (is_file (b ∷ word)) refl
+  where
+    by : (t : Bool) → is_file (b ∷ word) ≡ t → Begun known (start_of [] (b ∷ word)) (start_of known (b ∷ word))
+    by true e = rw e (refl, tt)
+    by false e = rw e (option_begun known b word)
+
+abbrev IsFitting : Option OptionRow → Type 0
+IsFitting None = ⊤
+IsFitting (Some r) = is_unknown r.part ≡ false
+
+items_again : (known : List ℕ) (wanting : Option OptionRow) (words : List (List ℕ)) → IsFitting wanting
+    → map (again known) (items_of [] wanting words) ≡ items_of known wanting words
+items_again known None [] fit = refl
+items_again known (Some r) [] fit = refl
+items_again known (Some r) (word ∷ words) fit = rw (row_again known r word fit, items_again known None words tt) refl
+items_again known None (word ∷ words) fit = by (start_of [] word) (start_of known word) (begun known word) (λ w h. items_again known w words h)
+  where
+    by : (before after : Start) → Begun known before after → ((w : Option OptionRow) → IsFitting w → map (again known) (items_of [] w words) ≡ items_of known w words)
+        → map (again known) (with_start before (λ wanting. items_of [] wanting words)) ≡ with_start after (λ wanting. items_of known wanting words)
+    by (Whole i) after (is, fit) ih = rw (sym is, ih None tt) refl
+    by (Wants r) after (is, fit) ih = rw (sym is, ih (Some r) fit) refl
+
+pub all_again : (known : List ℕ) (args : List (List ℕ)) (before after : List Item) → before ≡ items_of [] None args → after ≡ map (again known) before
+    → after ≡ items_of known None args
+all_again known args before after is are = are ∙ ap (map (again known)) is ∙ items_again known None args tt
+
+pub asked_again : {E : Type 0} (known : List ℕ) (i : Item) (word name : List ℕ) (result : Result Item E) → is_unknown i.part ≡ true → word ≡ i.name
+    → name ≡ renamed i.name → IfOk result (λ found. found ≡ by_names known word name) → IfOk result (λ found. found ≡ again known i)
+asked_again known i word name (Ok found) unknown word_is name_is is =
+    is ∙ ap (λ w. by_names known w name) word_is ∙ ap (by_names known i.name) name_is ∙ sym (rw unknown refl)
+asked_again known i word name (Err e) unknown word_is name_is is = tt

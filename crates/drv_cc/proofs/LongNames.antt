@@ -1,0 +1,19 @@
+use Rattle.drv_cc.specs.Items.{begins, is_longer}
+use Rattle.drv_cc.specs.Table.{renames}
+use Rattle.std.proofs.Common.{◌≡◌, ◌==◌, ◌&&◌, ◌∙◌, Bool, List, [], ◌∷◌, None, codes, false, find, refl, sym, true, ℕ}
+
+-- For the options that long names mean: all long names begin with two hyphens.
+
+pub no_rename : (word : List ℕ) (long : Bool) → long ≡ begins (codes "--") word → long ≡ false → None ≡ find (is_longer word) renames
+no_rename [] long is short = refl
+no_rename (a ∷ []) long is short = by (45 == a) refl
+  where
+    by : (t : Bool) → (45 == a) ≡ t → None ≡ find (is_longer (a ∷ [])) renames
+    by true e = rw e refl
+    by false e = rw e refl
+no_rename (a ∷ b ∷ rest) long is short = by (45 == a) (45 == b) refl refl (sym is ∙ short)
+  where
+    by : (t u : Bool) → (45 == a) ≡ t → (45 == b) ≡ u → (t && (u && true)) ≡ false → None ≡ find (is_longer (a ∷ b ∷ rest)) renames
+    by false u e f w = rw e refl
+    by true false e f w = rw (e, f) refl
+    by true true e f w = absurd cc

@@ -1,0 +1,92 @@
+//! The items of a line, which is read once. What is unknown is asked again by names of options.
+
+ghost use Rattle.drv_cc.specs.Code.Known.{again, is_unknown};
+ghost use Rattle.drv_cc.specs.Front.{answer_of};
+ghost use Rattle.drv_cc.specs.Items.{items_of};
+ghost use Rattle.std.specs.Prelude.{◌≡◌, [], IfOk, List, None, ℕ};
+
+use crate::fronting::answer_of;
+use crate::item::Item;
+use crate::reading::{by_names, items_of};
+use crate::renaming::renamed;
+use crate::table::Part;
+use crate::{Answer, Surroundings};
+use drv_words::{Listing, Word};
+use std::alloc::{AllocError, Global};
+use std::marker::Model;
+
+/// Whether a part is an unknown word.
+fn is_unknown(part: Part) -> bool
+    ensures { result ≡ is_unknown part }
+{
+    matches!(part, Part::Unknown)
+}
+
+/// An item, by names of options. One that is unknown is none that is passed over.
+fn again(alloc: Global, known: &[u8], item: Item) -> Result<Item, AllocError>
+    ensures { IfOk result (λ found. found ≡ again known.now item) }
+{
+    if !is_unknown(item.part) {
+        return Ok(item);
+    }
+    let name = renamed(alloc, item.name.as_bytes())?;
+    by_names(alloc, known, item.name.as_bytes(), name.as_bytes())
+}
+
+/// The items of a line of `gcc`: options with their arguments, files, and words that are neither.
+#[derive(Drop)]
+pub struct Items {
+    items: Listing<Item>,
+}
+
+impl Model for Items {
+    ghost use Rattle.drv_cc.specs.declared.item.Item.{Item};
+    ghost use Rattle.std.specs.Prelude.{List};
+
+    ghost Value = { List Item };
+
+    ghost view = { λ line. line.items };
+}
+
+impl Items {
+    /// The items of a line (GCC manual, "Invoking GCC"). `args` are its words without the program's
+    /// name, response files expanded. The lines of `known` are the names of options beyond this
+    /// crate's table.
+    pub fn of(alloc: Global, known: &[u8], args: &[Word]) -> Result<Items, AllocError>
+        ensures { IfOk result (λ items. items ≡ items_of known.now None args.now) }
+    {
+        Ok(Items {
+            items: items_of(alloc, known, args)?,
+        })
+    }
+
+    /// The items of the same line by these names of options, if none was known so far. Only words
+    /// that were no option are looked up.
+    #[tactic(auto, using(crate::proofs::Again::all_again))]
+    pub fn with_names(self, alloc: Global, known: &[u8]) -> Result<Items, AllocError>
+        ensures { (args : List (List ℕ)) → self ≡ items_of [] None args
+            → IfOk result (λ items. items ≡ items_of known.now None args) }
+    {
+        let mut items = Listing::new(alloc);
+        for item in self.items.into_vec() {
+            items.push(again(alloc, known, item)?)?;
+        }
+        Ok(Items { items })
+    }
+
+    /// The answer to the line, as that of `front`: `named` are names of switches that spec files of
+    /// the line have.
+    ///
+    /// # Errors
+    /// An allocation was refused.
+    pub fn answer(
+        &self,
+        alloc: Global,
+        named: &[Word],
+        around: &Surroundings,
+    ) -> Result<Answer, AllocError>
+        ensures { IfOk result (λ answer. answer ≡ answer_of named.now around.now self.now) }
+    {
+        answer_of(alloc, named, around, self.items.as_slice())
+    }
+}
