@@ -10,7 +10,7 @@ use Rattle.std.proofs.lemmas.Bool.{false≢true}
 use Rattle.std.proofs.lemmas.List.{append-nil, drop_all, drop_more}
 use Rattle.std.specs.Prelude.{get_or, is_some}
 
--- Inputs that are not there, and those that lead to an output, one after another.
+-- For the inputs of a line: those that are not there, and those that are the output, one after another.
 
 -- the text so far, and then others
 abbrev pub after_text : List ℕ → Known (List ℕ) → Known (List ℕ)

@@ -8,7 +8,7 @@ use Rattle.std.proofs.lemmas.List.Splits.{slice_split-cons_no, slice_split-cons_
 use Rattle.std.specs.List.{list_all, onto_first}
 use Rattle.std.specs.Prelude.{None, Option, Some}
 
--- The first line of a text, which a search for its end finds.
+-- For the files beside a spec file: the search for the end of a line gives the first line.
 
 both : (t u : Bool) → (not t && u) ≡ true → (t ≡ false) × (u ≡ true)
 both true u e = absurd cc

@@ -15,7 +15,7 @@ use Rattle.drv_system.specs.Known.{◌>>=◌, Is, asked}
 use Rattle.drv_system.specs.declared.event.PathKind.{PathKind}
 use Rattle.std.proofs.Common.{◌≡◌, ◌∙◌, Err, IfOk, List, Ok, Option, Result, Some, ap, codes, sym, ℕ}
 
--- What was asked, one thing after another, is the decision.
+-- For `decided`: what was asked, one thing after another, gives the decision.
 
 pub named_by_variable : {E : Type 0} (F : Facts) (name : List ℕ) (value : Option (List ℕ)) (result : Result (Option (List ℕ)) E)
     → name ≡ codes "GDRV_CC_SPECS" → variable_of F name ≡ Some value → IfOk result (λ path. path ≡ given_by value) → IfOk result (λ path. named_file F ≡ Is path)

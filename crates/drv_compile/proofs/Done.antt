@@ -1,7 +1,9 @@
 use Rattle.drv_cc.specs.declared.answer.Variable.{Variable}
 use Rattle.drv_compile.proofs.Joined.{joined}
+use Rattle.drv_compile.proofs.Settled.{goes_by}
 use Rattle.drv_compile.specs.Code.Compiling.{Carried, DoesNoted, IsClosed, IsOpened, Noting, OpensWork, Spoken, TellsStop, Worked}
-use Rattle.drv_compile.specs.Compiles.{Closes, Comes, Compiled, Ends, Opens, Refuses, closed, closing, cut_short, lacks_program, noted, refused, settings, silent, spoken, unnoted, worked}
+use Rattle.drv_compile.specs.Code.Settling.{BeginsToGo, Going}
+use Rattle.drv_compile.specs.Compiles.{Closes, Comes, Compiled, Ends, Opens, Refuses, closed, closing, cut_short, jobs_before_link, lacks_program, noted, refused, settings, silent, spoken, unnoted, unsettled, worked}
 use Rattle.drv_compile.specs.Inputs.{Noted}
 use Rattle.drv_compile.specs.Tasks.{IfTold}
 use Rattle.drv_compile.specs.declared.calling.Calling.{Calling}
@@ -15,8 +17,8 @@ use Rattle.drv_compile.specs.declared.stop.Stop.{Stop}
 use Rattle.drv_run.proofs.Tellings.{no_pipe_after_texts}
 use Rattle.drv_run.specs.Calls.{DoesWork, OnlySays}
 use Rattle.drv_system.proofs.Asking.{extends_refl}
-use Rattle.drv_system.specs.Asking.{AreNew, Asks, Extends}
-use Rattle.drv_system.specs.Facts.{Facts, learn, no_facts}
+use Rattle.drv_system.specs.Asking.{Extends}
+use Rattle.drv_system.specs.Facts.{Facts, no_facts}
 use Rattle.drv_system.specs.Running.{run_of}
 use Rattle.drv_system.specs.declared.event.Event.TheVariants.{Say}
 use Rattle.drv_system.specs.declared.event.Event.{Event}
@@ -30,7 +32,7 @@ use Rattle.std.proofs.lemmas.List.{append-nil, drop_all, drop_more, length-appen
 use Rattle.std.specs.Bool.{IsTrue}
 use Rattle.std.specs.Prelude.{get_or, ⊤}
 
--- What a call does after its questions.
+-- For `compile`: what a call does after its questions is one of the cases of `Compiled`.
 
 -- the variables of a line, one after another
 
@@ -85,16 +87,18 @@ text_unclosed journal journal' (b ∷ text) status some same = ([], same ∙ sym
 
 -- the hint or the remark
 pub closing_noted : (journal journal' : List Event) (before : ℕ) (prepared : Prepared) (lacks : Bool) (text : List ℕ) (status : ℕ) (outcome : Outcome)
-    → lacks_program (drop before journal) ≡ lacks → text ≡ closing prepared lacks → IsClosed journal journal' text status outcome
+    → lacks_program (jobs_before_link prepared.work) (drop before journal) ≡ lacks → text ≡ closing prepared lacks → IsClosed journal journal' text status outcome
     → Noting journal journal' before prepared status outcome
 closing_noted journal journal' before prepared lacks text status outcome finds is closes =
     subst (λ t. IsClosed journal journal' t status outcome) (is ∙ ap (closing prepared) (sym finds)) closes
 
 -- the events after so many are all that are left
-pub after_all : (shown journal : List Event) (before : ℕ) → shown ≡ journal → lacks_program (drop before journal) ≡ lacks_program (take (length shown - before) (drop before shown))
-after_all shown journal before same =
-    ap (λ j. lacks_program (drop before j)) (sym same)
-    ∙ ap lacks_program (sym (ap (λ n. take n (drop before shown)) (sym (length-drop before shown)) ∙ take-length (drop before shown)))
+pub after_all : (jobs counted : ℕ) (shown journal : List Event) (before : ℕ) → counted ≡ jobs → shown ≡ journal
+    → lacks_program jobs (drop before journal) ≡ lacks_program counted (take (length shown - before) (drop before shown))
+after_all jobs counted shown journal before are same =
+    ap (λ n. lacks_program n (drop before journal)) (sym are)
+    ∙ ap (λ j. lacks_program counted (drop before j)) (sym same)
+    ∙ ap (lacks_program counted) (sym (ap (λ n. take n (drop before shown)) (sym (length-drop before shown)) ∙ take-length (drop before shown)))
 
 -- no pipe is pending after a text
 
@@ -121,7 +125,7 @@ by_note name journal journal' journal'' prepared status outcome does notes = rec
   journal_grows = notes.1 ∙ ap (λ j. j ++ notes.0) does.1;
   does = does.2;
   told =
-      subst (λ events. Closes status (closing prepared (lacks_program events)) outcome notes.0)
+      subst (λ events. Closes status (closing prepared (lacks_program (jobs_before_link prepared.work) events)) outcome notes.0)
       (ap (drop (length journal)) does.1 ∙ drop-append_seam journal does.0) notes.2;
 }
 
@@ -191,91 +195,115 @@ nothing_carried name journal journal' prepared before after (events, grown, set)
 
 -- the whole call
 
-known : {journal journal' : List Event} {F F' : Facts} → F ≡ no_facts → (asks : Asks journal journal' F F') → F' ≡ learn no_facts asks.asked
-known empty asks = asks.facts_grow ∙ ap (λ G. learn G asks.asked) empty
-
-questions_of : {journal journal' : List Event} {F F' : Facts} → F ≡ no_facts → (asks : Asks journal journal' F F') → AreNew no_facts asks.asked
-questions_of empty asks = subst (λ G. AreNew G asks.asked) empty asks.questions
-
 abbrev pub Prepares : Facts → Calling → Option (List ℕ) → List (List ℕ) → ℕ → Prepared → List HostEvent → Type 0
 Prepares F' calling own args seed prepared events = (G : Facts) → Extends F' G → Comes G calling own args seed events prepared
 
-with_notes : {journal mid journal'' : List Event} {F F' : Facts} {notes notes' notes'' : List HostEvent} (calling : Calling) (own : Option (List ℕ)) (args : List (List ℕ)) (seed : ℕ)
-    (prepared : Prepared) (outcome : Outcome) → F ≡ no_facts → Asks journal mid F F' → Noted notes notes' (Prepares F' calling own args seed prepared)
+with_notes : {journal mid journal'' : List Event} {F' : Facts} {first notes notes' notes'' : List HostEvent} (calling : Calling) (own : Option (List ℕ)) (args : List (List ℕ)) (seed : ℕ)
+    (prepared : Prepared) (outcome : Outcome) → Going journal mid first notes F' → Noted notes notes' (Prepares F' calling own args seed prepared)
     → Noted notes' notes'' (λ events. (events ≡ settings (length mid) prepared.children) × OpensWork calling.name mid journal'' prepared outcome)
-    → Compiled journal journal'' notes notes'' calling own args seed outcome
-with_notes {journal} {F' = F'} calling own args seed prepared outcome empty asks (resolved, grown, comes) (set, set_after, (set_is, (opened, opens, does))) = record {
-  asked = asks.asked;
+    → Compiled journal journal'' first notes'' calling own args seed outcome
+with_notes {journal} {F' = F'} calling own args seed prepared outcome before (resolved, grown, comes) (set, set_after, (set_is, (opened, opens, does))) = record {
+  asked = before.asked;
+  tried = before.tried;
   said = opened ++ does.did ++ does.noted;
   resolved = resolved;
   set = set;
-  questions = questions_of empty asks;
+  facts = F';
+  questions = before.questions;
   journal_grows =
-      does.journal_grows ∙ ap (λ j. j ++ opened ++ does.did ++ does.noted) asks.journal_grows ∙ joined (journal ++ asks.asked) opened does.did does.noted;
-  notes_grow = set_after ∙ ap (λ n. n ++ set) grown;
+      does.journal_grows ∙ ap (λ j. j ++ opened ++ does.did ++ does.noted) before.journal_grows ∙ joined (journal ++ before.asked) opened does.did does.noted;
+  notes_grow = set_after ∙ ap (λ n. n ++ set) grown ∙ ap (λ n. n ++ resolved ++ set) before.notes_grow;
+  goes_by = goes_by outcome before;
   ends =
-      subst (λ events. Ends (learn no_facts asks.asked) (length (journal ++ asks.asked)) calling own args seed outcome resolved events (opened ++ does.did ++ does.noted))
-      (sym (set_is ∙ ap (λ j. settings (length j) prepared.children) asks.journal_grows))
-      (worked opened does.did (subst (λ G. Comes G calling own args seed resolved prepared) (known empty asks) (comes F' (extends_refl F'))) opens does.does does.told);
+      subst (λ events. Ends F' (length (journal ++ before.asked)) calling own args seed outcome resolved events (opened ++ does.did ++ does.noted))
+      (sym (set_is ∙ ap (λ j. settings (length j) prepared.children) before.journal_grows))
+      (worked opened does.did (comes F' (extends_refl F')) opens does.does does.told);
 }
 
-compiled_by : {journal mid journal'' : List Event} {F F' : Facts} {notes notes' notes'' : List HostEvent} (calling : Calling) (own : Option (List ℕ)) (args : List (List ℕ)) (seed : ℕ)
-    (prepared : Prepared) (outcome : Outcome) → F ≡ no_facts → Asks journal mid F F' → Noted notes notes' (Prepares F' calling own args seed prepared)
+compiled_by : {journal mid journal'' : List Event} {F' : Facts} {first notes notes' notes'' : List HostEvent} (calling : Calling) (own : Option (List ℕ)) (args : List (List ℕ)) (seed : ℕ)
+    (prepared : Prepared) (outcome : Outcome) → Going journal mid first notes F' → Noted notes notes' (Prepares F' calling own args seed prepared)
     → Noted notes' notes'' (λ events. Carried calling.name mid journal'' prepared events outcome)
-    → Compiled journal journal'' notes notes'' calling own args seed outcome
-compiled_by calling own args seed prepared (Done status) empty asks prepares carries = with_notes calling own args seed prepared (Done status) empty asks prepares carries
-compiled_by calling own args seed prepared (Unnoted status) empty asks prepares carries = with_notes calling own args seed prepared (Unnoted status) empty asks prepares carries
-compiled_by calling own args seed prepared OutOfMemory empty asks (resolved, grown, comes) (set, set_after, only) = record {
-  asked = asks.asked;
+    → Compiled journal journal'' first notes'' calling own args seed outcome
+compiled_by calling own args seed prepared (Done status) before prepares carries = with_notes calling own args seed prepared (Done status) before prepares carries
+compiled_by calling own args seed prepared (Unnoted status) before prepares carries = with_notes calling own args seed prepared (Unnoted status) before prepares carries
+compiled_by {F' = F'} calling own args seed prepared OutOfMemory before (resolved, grown, comes) (set, set_after, only) = record {
+  asked = before.asked;
+  tried = before.tried;
   said = only.0;
   resolved = resolved;
   set = set;
-  questions = questions_of empty asks;
-  journal_grows = only.1 ∙ ap (λ j. j ++ only.0) asks.journal_grows;
-  notes_grow = set_after ∙ ap (λ n. n ++ set) grown;
+  facts = F';
+  questions = before.questions;
+  journal_grows = only.1 ∙ ap (λ j. j ++ only.0) before.journal_grows;
+  notes_grow = set_after ∙ ap (λ n. n ++ set) grown ∙ ap (λ n. n ++ resolved ++ set) before.notes_grow;
+  goes_by = goes_by OutOfMemory before;
   ends = cut_short only.2;
 }
 
-pub compiled_done : {journal mid journal'' : List Event} {F F' : Facts} {notes notes' notes'' : List HostEvent} (calling : Calling) (own : Option (List ℕ)) (args : List (List ℕ)) (seed : ℕ)
-    (prepared : Prepared) (name : List ℕ) (outcome : Outcome) → name ≡ calling.name → F ≡ no_facts → Asks journal mid F F'
+pub compiled_done : {journal mid journal'' : List Event} {F' : Facts} {first notes notes' notes'' : List HostEvent} (calling : Calling) (own : Option (List ℕ)) (args : List (List ℕ)) (seed : ℕ)
+    (prepared : Prepared) (name : List ℕ) (outcome : Outcome) → name ≡ calling.name → Going journal mid first notes F'
     → Noted notes notes' (Prepares F' calling own args seed prepared) → Noted notes' notes'' (λ events. Carried name mid journal'' prepared events outcome)
-    → Compiled journal journal'' notes notes'' calling own args seed outcome
-compiled_done {mid = mid} {journal'' = journal''} {notes' = notes'} {notes'' = notes''} calling own args seed prepared name outcome named empty asks prepares carries =
-    compiled_by calling own args seed prepared outcome empty asks prepares
+    → Compiled journal journal'' first notes'' calling own args seed outcome
+compiled_done {mid = mid} {journal'' = journal''} {notes' = notes'} {notes'' = notes''} calling own args seed prepared name outcome named before prepares carries =
+    compiled_by calling own args seed prepared outcome before prepares
     (subst (λ n. Noted notes' notes'' (λ events. Carried n mid journal'' prepared events outcome)) named carries)
 
 abbrev pub Declined : Facts → Calling → Option (List ℕ) → List (List ℕ) → ℕ → Stop → List HostEvent → Type 0
 Declined F' calling own args seed stop events = (G : Facts) → Extends F' G → IfTold stop (Refuses G calling own args seed events)
 
-refusal_said : {journal mid journal'' : List Event} {F F' : Facts} {notes notes' : List HostEvent} (calling : Calling) (own : Option (List ℕ)) (args : List (List ℕ)) (seed : ℕ)
-    (text : List ℕ) (status : ℕ) → F ≡ no_facts → Asks journal mid F F' → Noted notes notes' (Declined F' calling own args seed (Told text))
-    → TellsStop mid journal'' (Told text) (Done status) → Compiled journal journal'' notes notes' calling own args seed (Done status)
-refusal_said {journal} {F' = F'} {notes = notes} calling own args seed text status empty asks (resolved, grown, refuses) (told, one, says) = record {
-  asked = asks.asked;
+refusal_said : {journal mid journal'' : List Event} {F' : Facts} {first notes notes' : List HostEvent} (calling : Calling) (own : Option (List ℕ)) (args : List (List ℕ)) (seed : ℕ)
+    (text : List ℕ) (status : ℕ) → Going journal mid first notes F' → Noted notes notes' (Declined F' calling own args seed (Told text))
+    → TellsStop mid journal'' (Told text) (Done status) → Compiled journal journal'' first notes' calling own args seed (Done status)
+refusal_said {journal} {F' = F'} {first = first} calling own args seed text status before (resolved, grown, refuses) (told, one, says) = record {
+  asked = before.asked;
+  tried = before.tried;
   said = Say text told ∷ [];
   resolved = resolved;
   set = [];
-  questions = questions_of empty asks;
-  journal_grows = says ∙ ap (λ j. j ++ Say text told ∷ []) asks.journal_grows;
-  notes_grow = grown ∙ sym (append-nil (notes ++ resolved));
+  facts = F';
+  questions = before.questions;
+  journal_grows = says ∙ ap (λ j. j ++ Say text told ∷ []) before.journal_grows;
+  notes_grow = grown ∙ ap (λ n. n ++ resolved) before.notes_grow ∙ sym (append-nil (first ++ before.tried ++ resolved));
+  goes_by = goes_by (Done status) before;
   ends =
-      subst (λ s. Ends (learn no_facts asks.asked) (length (journal ++ asks.asked)) calling own args seed (Done s) resolved [] (Say text told ∷ [])) (sym one)
-      (refused (subst (λ G. Refuses G calling own args seed resolved text) (known empty asks) (refuses F' (extends_refl F'))));
+      subst (λ s. Ends F' (length (journal ++ before.asked)) calling own args seed (Done s) resolved [] (Say text told ∷ [])) (sym one)
+      (refused (refuses F' (extends_refl F')));
 }
 
-pub compiled_stopped : {journal mid journal'' : List Event} {F F' : Facts} {notes notes' : List HostEvent} (calling : Calling) (own : Option (List ℕ)) (args : List (List ℕ)) (seed : ℕ)
-    (stop : Stop) (outcome : Outcome) → F ≡ no_facts → Asks journal mid F F' → Noted notes notes' (Declined F' calling own args seed stop)
-    → TellsStop mid journal'' stop outcome → Compiled journal journal'' notes notes' calling own args seed outcome
-compiled_stopped calling own args seed (Told text) (Done status) empty asks declined tells = refusal_said calling own args seed text status empty asks declined tells
-compiled_stopped calling own args seed Memory (Done status) empty asks declined tells = absurd tells
-compiled_stopped calling own args seed stop (Unnoted status) empty asks declined tells = absurd tells
-compiled_stopped {journal} {notes = notes} calling own args seed stop OutOfMemory empty asks (resolved, grown, refuses) same = record {
-  asked = asks.asked;
+pub compiled_stopped : {journal mid journal'' : List Event} {F' : Facts} {first notes notes' : List HostEvent} (calling : Calling) (own : Option (List ℕ)) (args : List (List ℕ)) (seed : ℕ)
+    (stop : Stop) (outcome : Outcome) → Going journal mid first notes F' → Noted notes notes' (Declined F' calling own args seed stop)
+    → TellsStop mid journal'' stop outcome → Compiled journal journal'' first notes' calling own args seed outcome
+compiled_stopped calling own args seed (Told text) (Done status) before declined tells = refusal_said calling own args seed text status before declined tells
+compiled_stopped calling own args seed Memory (Done status) before declined tells = absurd tells
+compiled_stopped calling own args seed stop (Unnoted status) before declined tells = absurd tells
+compiled_stopped {journal} {F' = F'} {first = first} calling own args seed stop OutOfMemory before (resolved, grown, refuses) same = record {
+  asked = before.asked;
+  tried = before.tried;
   said = [];
   resolved = resolved;
   set = [];
-  questions = questions_of empty asks;
-  journal_grows = same ∙ asks.journal_grows ∙ sym (append-nil (journal ++ asks.asked));
-  notes_grow = grown ∙ sym (append-nil (notes ++ resolved));
+  facts = F';
+  questions = before.questions;
+  journal_grows = same ∙ before.journal_grows ∙ sym (append-nil (journal ++ before.asked));
+  notes_grow = grown ∙ ap (λ n. n ++ resolved) before.notes_grow ∙ sym (append-nil (first ++ before.tried ++ resolved));
+  goes_by = goes_by OutOfMemory before;
+  ends = cut_short tt;
+}
+
+-- memory lacked before
+
+pub compiled_by_none : {journal mid : List Event} {notes notes' : List HostEvent} (calling : Calling) (own : Option (List ℕ)) (args : List (List ℕ)) (seed : ℕ)
+    → BeginsToGo journal mid notes notes' → Compiled journal mid notes notes' calling own args seed OutOfMemory
+compiled_by_none {journal} {notes = notes} calling own args seed before = record {
+  asked = before.asked;
+  said = [];
+  tried = before.tried;
+  resolved = [];
+  set = [];
+  facts = no_facts;
+  questions = before.questions;
+  journal_grows = before.journal_grows ∙ sym (append-nil (journal ++ before.asked));
+  notes_grow = before.notes_grow ∙ sym (append-nil (notes ++ before.tried)) ∙ sym (append-nil (notes ++ before.tried ++ []));
+  goes_by = unsettled;
   ends = cut_short tt;
 }

@@ -21,7 +21,7 @@ use Rattle.drv_system.specs.Known.{Is}
 use Rattle.std.proofs.Common.{◌≡◌, ◌⊎◌, ◌∙◌, Err, IsErrAnd, List, [], None, Ok, Option, Result, Some, ap, inl, inr, refl, subst, sym, ℕ}
 use Rattle.std.specs.Prelude.{MatchResult}
 
--- What the driver is called with for a line: for the functions of `driving`.
+-- For the functions of `driving`: what the driver is called with for a line.
 
 -- what its spec files give
 

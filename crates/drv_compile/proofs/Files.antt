@@ -1,14 +1,14 @@
-use Rattle.drv_compile.specs.Beside.{bytes_read, if_plain, is_written, named_file, or_named, plain_at, spec_file, written}
+use Rattle.drv_compile.specs.Beside.{bytes_read, if_plain, is_written, named_file, or_own, plain_at, spec_file, written}
 use Rattle.drv_compile.specs.Written.{whole_lines}
 use Rattle.drv_search.specs.Search.{is_plain}
 use Rattle.drv_system.specs.Facts.{Facts, kind_of, read_of}
 use Rattle.drv_system.specs.Known.{Is}
 use Rattle.drv_system.specs.declared.event.PathKind.{PathKind}
 use Rattle.drv_system.specs.declared.event.ReadAnswer.{ReadAnswer}
-use Rattle.std.proofs.Common.{◌≡◌, Err, IfOk, List, None, Ok, Option, Result, Some, refl, true, ℕ}
+use Rattle.std.proofs.Common.{◌≡◌, Err, IfOk, List, Ok, Option, Result, Some, refl, sym, true, ℕ}
 use Rattle.std.specs.Option.{is_some, option_and_then}
 
--- Files that were read, and paths that were found.
+-- For the spec file of a call: files that were read, and paths that were found.
 
 pub plain_asked : (F : Facts) (given : Option (List ℕ)) (path : List ℕ) (kind : PathKind) (found : Option (List ℕ))
     → given ≡ Some path → kind_of F path ≡ Some kind → found ≡ if_plain path kind → plain_at F given ≡ Is found
@@ -25,12 +25,8 @@ pub whole_read : (F : Facts) (path : List ℕ) (kind : PathKind) (answer : ReadA
     → is_written F path ≡ Is (is_some (option_and_then whole_lines (bytes_read answer)))
 whole_read F path kind answer plain known read = rw (known, plain, read) refl
 
-pub named_instead : {E : Type 0} (F : Facts) (given named : Option (List ℕ)) (result : Result (Option (List ℕ)) E)
-    → given ≡ None → named_file F ≡ Is named → IfOk result (λ path. plain_at F named ≡ Is path) → IfOk result (λ path. or_named F given ≡ Is path)
-named_instead F given named (Ok path) none known is = rw (none, known) is
-named_instead F given named (Err e) none known is = tt
-
-pub file_found_so : {E : Type 0} (F : Facts) (own found : Option (List ℕ)) (result : Result (Option (List ℕ)) E)
-    → plain_at F own ≡ Is found → IfOk result (λ path. or_named F found ≡ Is path) → IfOk result (λ path. spec_file F own ≡ Is path)
-file_found_so F own found (Ok path) known is = rw known is
-file_found_so F own found (Err e) known is = tt
+pub file_found_so : {E : Type 0} (F : Facts) (own named place : Option (List ℕ)) (result : Result (Option (List ℕ)) E)
+    → named_file F ≡ Is named → place ≡ or_own own named → IfOk result (λ path. plain_at F place ≡ Is path)
+    → IfOk result (λ path. spec_file F own ≡ Is path)
+file_found_so F own named place (Ok path) known so is = rw (known, sym so) is
+file_found_so F own named place (Err e) known so is = tt

@@ -9,7 +9,9 @@ use Rattle.drv_cc.specs.declared.answer.Surroundings.{Surroundings}
 use Rattle.drv_cc.specs.declared.giving.Given.{Given}
 use Rattle.drv_compile.specs.Beside.{known_names}
 use Rattle.drv_compile.specs.Reading.{items_names}
-use Rattle.drv_compile.specs.SelfSpecs.{Ended, answer_after, answer_by, of_job, of_outcome, self_worked, worked_by, worked_for, worked_of, worked_over}
+use Rattle.drv_compile.specs.Runs.{specs_of}
+use Rattle.drv_compile.specs.SelfSpecs.{Ended, answer_after, answer_by, of_job, of_outcome, self_worked, worked_along, worked_by, worked_for, worked_of}
+use Rattle.drv_compile.specs.SelfSpecs.{worked_over}
 use Rattle.drv_compile.specs.declared.running.DriverLine.{DriverLine}
 use Rattle.drv_compile.specs.declared.self_specs.Worked.TheVariants.{Gives, Nothing}
 use Rattle.drv_compile.specs.declared.self_specs.Worked.{Worked}
@@ -19,7 +21,7 @@ use Rattle.drv_machine.specs.declared.outcome.Outcome.{Outcome}
 use Rattle.drv_plan.specs.Denoted.{context_of, of_text}
 use Rattle.drv_plan.specs.declared.fault.PlanFault.TheVariants as plan_fault
 use Rattle.drv_plan.specs.declared.fault.PlanFault.{PlanFault}
-use Rattle.drv_run.specs.Drives.{specs_of, stopped_by_args, stopped_by_plan, stopped_by_specs}
+use Rattle.drv_run.specs.Drives.{stopped_by_args, stopped_by_plan, stopped_by_specs}
 use Rattle.drv_run.specs.declared.ending.Ending.TheVariants.{OutOfMemory}
 use Rattle.drv_run.specs.declared.ending.Ending.{Ending}
 use Rattle.drv_search.specs.Search.{prefixes_of}
@@ -31,10 +33,10 @@ use Rattle.drv_syntax.specs.Parsed.{tree_of}
 use Rattle.drv_system.specs.Facts.{Facts}
 use Rattle.drv_system.specs.Gives.{GivesKnown}
 use Rattle.drv_system.specs.Known.{◌>>=◌, Is, Known}
-use Rattle.std.proofs.Common.{◌≡◌, ◌⊎◌, ◌∙◌, Err, IfOk, IsErrAnd, List, None, Ok, Option, Result, Some, ap, codes, inl, inr, subst, sym, ℕ}
+use Rattle.std.proofs.Common.{◌≡◌, ◌⊎◌, ◌∙◌, Err, IfOk, IsErrAnd, List, None, Ok, Option, Result, Some, ap, codes, inl, inr, refl, subst, sym, ℕ}
 use Rattle.std.specs.Option.{option_map, unwrap_or}
 
--- How the text of the self specs is run, step by step.
+-- For the options that spec files give: the text of the self specs is run step by step.
 
 -- a step that ends the call
 pub ends_as : {X Y : Type 0} (ending : Ending) (result : Result X Ending) (view : X → Y) (defined : Ended Y)
@@ -49,35 +51,29 @@ pub alike : {X Y : Type 0} (view : X → Y) (result : Result X Ending) (found de
 alike view result found defined same given = subst (λ d. GivesKnown OutOfMemory view result d) (sym same) given
 
 -- the text, once the prefixes and the context are known
-abbrev with_prefixes : Facts → Set → Line → List ℕ → Prefixes → Ended Worked
-with_prefixes F set line text prefixes = of_outcome (of_text (outcome F (context_of line set prefixes 0) (tree_of text)))
+pub text_worked : (found : Known (Result Outcome PlanFault)) (done : Outcome) (worked : Worked)
+    → found ≡ Is (Ok done) → worked ≡ of_job done.job → of_outcome found ≡ Is (Ok worked)
+text_worked found done worked is job = ap of_outcome is ∙ ap (λ w. Is (Ok w)) (sym job)
 
-pub text_goes : (F : Facts) (settings : Settings) (set : Set) (text : List ℕ) (line : Line) (dirs : List (List ℕ)) (prefixes : Prefixes) (context : Context)
-    → dirs ≡ settings.prefixes → prefixes_of F dirs ≡ Is prefixes → context ≡ context_of line set prefixes 0
-    → worked_for F settings set text (Ok line) ≡ of_outcome (of_text (outcome F context (tree_of text)))
-text_goes F settings set text line dirs prefixes context same known made =
-    ap (λ d. prefixes_of F d >>= λ p. with_prefixes F set line text p) (sym same)
-    ∙ ap (λ k. k >>= λ p. with_prefixes F set line text p) known
-    ∙ ap (λ c. of_outcome (of_text (outcome F c (tree_of text)))) (sym made)
+pub context_made : (F : Facts) (set : Set) (text : List ℕ) (line : Line) (prefixes : Prefixes) (context : Context) → context ≡ context_of line set prefixes 0
+    → worked_along F set text line prefixes ≡ of_outcome (of_text (outcome F context (tree_of text)))
+context_made F set text line prefixes context made = ap (λ c. of_outcome (of_text (outcome F c (tree_of text)))) (sym made)
 
-pub text_worked : (F : Facts) (settings : Settings) (set : Set) (text : List ℕ) (line : Line) (dirs : List (List ℕ)) (prefixes : Prefixes) (context : Context) (done : Outcome) (worked : Worked)
-    → dirs ≡ settings.prefixes → prefixes_of F dirs ≡ Is prefixes → context ≡ context_of line set prefixes 0
-    → of_text (outcome F context (tree_of text)) ≡ Is (Ok done) → worked ≡ of_job done.job → worked_for F settings set text (Ok line) ≡ Is (Ok worked)
-text_worked F settings set text line dirs prefixes context done worked same known made is job =
-    text_goes F settings set text line dirs prefixes context same known made ∙ ap of_outcome is ∙ ap (λ w. Is (Ok w)) (sym job)
+pub prefixes_made : (F : Facts) (settings : Settings) (set : Set) (text : List ℕ) (line : Line) (dirs : List (List ℕ)) (prefixes : Prefixes)
+    → dirs ≡ settings.prefixes → prefixes_of F dirs ≡ Is prefixes → worked_for F settings set text (Ok line) ≡ worked_along F set text line prefixes
+prefixes_made F settings set text line dirs prefixes same known =
+    ap (λ d. prefixes_of F d >>= worked_along F set text line) (sym same) ∙ ap (λ k. k >>= worked_along F set text line) known
 
 by_plan : (fault : PlanFault) (found : Known (Result Outcome PlanFault)) (defined : Ended Worked) → defined ≡ of_outcome found
     → (fault ≡ plan_fault.Memory) ⊎ (found ≡ Is (Err fault)) → (stopped_by_plan fault ≡ OutOfMemory) ⊎ (defined ≡ Is (Err (stopped_by_plan fault)))
 by_plan fault found defined same (inl memory) = inl (ap stopped_by_plan memory)
 by_plan fault found defined same (inr refused) = inr (same ∙ ap of_outcome refused)
 
-pub text_refused : (F : Facts) (settings : Settings) (set : Set) (text : List ℕ) (line : Line) (dirs : List (List ℕ)) (prefixes : Prefixes) (context : Context) (fault : PlanFault) (result : Result Worked Ending)
-    → dirs ≡ settings.prefixes → prefixes_of F dirs ≡ Is prefixes → context ≡ context_of line set prefixes 0
-    → IsErrAnd result (λ e. e ≡ stopped_by_plan fault) → (fault ≡ plan_fault.Memory) ⊎ (of_text (outcome F context (tree_of text)) ≡ Is (Err fault))
-    → GivesKnown OutOfMemory (λ worked. worked) result (worked_for F settings set text (Ok line))
-text_refused F settings set text line dirs prefixes context fault result same known made is given =
-    ends_as (stopped_by_plan fault) result (λ worked. worked) (worked_for F settings set text (Ok line)) is
-    (by_plan fault (of_text (outcome F context (tree_of text))) (worked_for F settings set text (Ok line)) (text_goes F settings set text line dirs prefixes context same known made) given)
+pub text_refused : (found : Known (Result Outcome PlanFault)) (fault : PlanFault) (result : Result Worked Ending)
+    → IsErrAnd result (λ e. e ≡ stopped_by_plan fault) → (fault ≡ plan_fault.Memory) ⊎ (found ≡ Is (Err fault))
+    → GivesKnown OutOfMemory (λ worked. worked) result (of_outcome found)
+text_refused found fault result is given =
+    ends_as (stopped_by_plan fault) result (λ worked. worked) (of_outcome found) is (by_plan fault found (of_outcome found) refl given)
 
 -- the line of the switches
 by_args : (fault : ArgsFault) (read : Result Line ArgsFault) (next : Result Line ArgsFault → Ended Worked) → next (Err fault) ≡ Is (Err (stopped_by_args fault))

@@ -13,7 +13,7 @@ use Rattle.drv_compile.specs.declared.reading.Reading.{Reading}
 use Rattle.drv_compile.specs.declared.tasks.Task.TheVariants.{Compilation, Question}
 use Rattle.std.proofs.Common.{◌≡◌, ◌∙◌, Err, IfOk, List, [], None, Ok, Option, Result, Some, ap, subst, sym, ℕ}
 
--- What a call does by the answer to its line: for the functions of `tasks`.
+-- For the functions of `tasks`: what a call does by the answer to its line.
 
 pub answer_asks : (specs : List ℕ) (around : Surroundings) (reading : Reading) → reading.answer ≡ Ask → Leads (Read specs around reading) (Question specs around.compiler)
 answer_asks specs around reading is = subst (λ a. Leads (Read specs around (record { known = reading.known; answer = a })) (Question specs around.compiler)) (sym is) asks

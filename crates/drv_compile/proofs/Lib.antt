@@ -10,6 +10,7 @@ pub mod Leading
 pub mod Names
 pub mod Prepared
 pub mod Ran
-pub mod Values
+pub mod Settled
 pub mod Told
+pub mod Values
 pub mod Worded

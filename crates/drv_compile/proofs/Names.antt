@@ -1,21 +1,24 @@
 use Rattle.drv_args.specs.declared.items.Item.{Item}
-use Rattle.drv_cc.specs.Front.{front_of}
+use Rattle.drv_cc.specs.Front.{answer_of, front_of}
+use Rattle.drv_cc.specs.Items.{items_of}
+use Rattle.drv_cc.specs.declared.answer.Answer.TheVariants.{Ask, Refuse, Run}
 use Rattle.drv_cc.specs.declared.answer.Answer.{Answer}
 use Rattle.drv_cc.specs.declared.answer.Surroundings.{Surroundings}
+use Rattle.drv_cc.specs.declared.item.Item.{Item as Read}
 use Rattle.drv_cc.specs.declared.refusal.Refusal.{Refusal}
 use Rattle.drv_compile.specs.Beside.{known_names}
-use Rattle.drv_compile.specs.Reading.{answer_names, file_names, files_names, folders_given, has_unknown, items_names, known_answer, line_read, names_read, read_by, refused_answer, specs_given, unknown_switches}
+use Rattle.drv_compile.specs.Reading.{answer_names, file_names, files_names, folders_given, has_unknown, items_names, known_answer, line_read, names_read, or_by_files, read_by, refused_answer, specs_given, unknown_switches}
 use Rattle.drv_compile.specs.declared.reading.Reading.{Reading}
 use Rattle.drv_search.specs.Search.{Adds, file_found, prefixes_of}
 use Rattle.drv_search.specs.declared.prefixes.Prefixes.{Prefixes}
 use Rattle.drv_system.specs.Facts.{Facts, read_of}
 use Rattle.drv_system.specs.Known.{◌>>=◌, Is, Known, Unasked}
 use Rattle.drv_system.specs.declared.event.ReadAnswer.{ReadAnswer}
-use Rattle.std.proofs.Common.{◌≡◌, ◌<◌, ◌+◌, ◌∙◌, ◌∷◌, ◌++◌, [], Err, IfOk, List, Ok, OnOk, Option, Result, Some, ap, append_assoc, drop, length, refl, sym, true, ℕ}
+use Rattle.std.proofs.Common.{◌≡◌, ◌<◌, ◌+◌, ◌∙◌, ◌∷◌, ◌++◌, [], Err, IfOk, List, None, Ok, OnOk, Option, Result, Some, ap, append_assoc, drop, false, length, refl, sym, true, ℕ}
 use Rattle.std.proofs.lemmas.List.{drop_more}
 use Rattle.std.specs.Prelude.{get_or}
 
--- The names of a line, file by file, and the answer to it by them.
+-- For the reading of a line: the names that its files list, and the answer by them.
 
 -- the names so far, and then others
 abbrev pub after_names : List (List ℕ) → Known (List (List ℕ)) → Known (List (List ℕ))
@@ -68,6 +71,39 @@ refused_read F known around words refusals switches taken named slice (Ok answer
     ∙ ap (λ n. Is (front_of known n around words)) (sym same)
     ∙ ap Is (sym is)
 
+-- the same of items that were read by these names
+pub refused_again : {E : Type 0} (F : Facts) (known : List ℕ) (around : Surroundings) (words : List (List ℕ)) (refusals : List Refusal)
+    (items : List Read) (switches : List (List ℕ)) (taken : Answer) (named slice : List (List ℕ)) (result : Result Answer E)
+    → items ≡ items_of known None words → switches ≡ unknown_switches refusals → taken ≡ answer_of switches around items
+    → answer_names F taken ≡ Is named → slice ≡ named → IfOk result (λ answer. answer ≡ answer_of slice around items)
+    → IfOk result (λ answer. refused_answer F known around words refusals ≡ Is answer)
+refused_again {E = E} F known around words refusals items switches taken named slice (Err e) items_are switches_are taken_is names same is = tt
+refused_again {E = E} F known around words refusals items switches taken named slice (Ok answer) items_are switches_are taken_is names same is =
+    refused_read {E = E} F known around words refusals switches taken named slice (Ok answer) switches_are (taken_is ∙ ap (answer_of switches around) items_are) names same
+    (is ∙ ap (answer_of slice around) items_are)
+
+-- the answer to a line that is not refused, and to one that is
+ended : (F : Facts) (known : List ℕ) (around : Surroundings) (words : List (List ℕ)) (answer : Answer)
+    → ((refusals : List Refusal) → answer ≡ Refuse refusals → ⊥) → or_by_files F known around words answer ≡ Is answer
+ended F known around words Ask not_refused = refl
+ended F known around words (Refuse refusals) not_refused = absurd (not_refused refusals refl)
+ended F known around words (Run call) not_refused = refl
+
+pub known_ended : (F : Facts) (known : List ℕ) (around : Surroundings) (words : List (List ℕ)) (items : List Read) (answer : Answer)
+    → items ≡ items_of known None words → answer ≡ answer_of [] around items → ((refusals : List Refusal) → answer ≡ Refuse refusals → ⊥)
+    → known_answer F known around words ≡ Is answer
+known_ended F known around words items answer items_are is not_refused =
+    ap (or_by_files F known around words) (ap (answer_of [] around) (sym items_are) ∙ sym is) ∙ ended F known around words answer not_refused
+
+pub known_refused : {E : Type 0} (F : Facts) (known : List ℕ) (around : Surroundings) (words : List (List ℕ)) (items : List Read) (answer : Answer)
+    (refusals slice : List Refusal) (result : Result Answer E) → items ≡ items_of known None words → answer ≡ answer_of [] around items
+    → answer ≡ Refuse refusals → slice ≡ refusals → IfOk result (λ a. refused_answer F known around words slice ≡ Is a)
+    → IfOk result (λ a. known_answer F known around words ≡ Is a)
+known_refused F known around words items answer refusals slice (Err e) items_are is refused same ends = tt
+known_refused F known around words items answer refusals slice (Ok a) items_are is refused same ends =
+    ap (or_by_files F known around words) (ap (answer_of [] around) (sym items_are) ∙ sym is ∙ refused)
+    ∙ ap (refused_answer F known around words) (sym same) ∙ ends
+
 -- with names of options that are known
 pub read_known : (F : Facts) (known : List ℕ) (given : Option (List ℕ)) (slice : List ℕ) (around : Surroundings) (words : List (List ℕ)) (answer : Answer)
     → given ≡ Some known → slice ≡ known → known_answer F slice around words ≡ Is answer → read_by F around words given ≡ Is (Some (record { known = known; answer = answer }))
@@ -79,3 +115,10 @@ pub line_unknown : {E : Type 0} (F : Facts) (specs : List ℕ) (around : Surroun
     → IfOk result (λ reading. read_by F around words known ≡ Is reading) → IfOk result (λ reading. line_read F specs around words ≡ Is reading)
 line_unknown F specs around words answer known (Err e) is unknown names reading_is = tt
 line_unknown F specs around words answer known (Ok reading) is unknown names reading_is = rw (ap has_unknown (sym is) ∙ unknown, names) reading_is
+
+-- a line without one
+pub line_known : (F : Facts) (specs : List ℕ) (around : Surroundings) (words : List (List ℕ)) (answer : Answer) (known : List ℕ)
+    → answer ≡ front_of [] [] around words → has_unknown answer ≡ false → known ≡ [] → line_read F specs around words ≡ Is (Some (record { known = known; answer = answer }))
+line_known F specs around words answer known is none empty =
+    rw (ap has_unknown (sym is) ∙ none)
+    (ap (λ a. Is (Some (record { known = []; answer = a }))) (sym is) ∙ ap (λ k. Is (Some (record { known = k; answer = answer }))) (sym empty))

@@ -31,7 +31,7 @@ use Rattle.std.proofs.lemmas.Bool.{false≢true}
 use Rattle.std.proofs.lemmas.List.{append-nil}
 use Rattle.std.specs.Prelude.{MatchResult, is_some}
 
--- What a call does, from step to step.
+-- For `prepared`: what a call does, from step to step.
 
 -- nothing was noted
 pub none_noted : (notes : List HostEvent) (what : List HostEvent → Type 0) → what [] → Noted notes notes what

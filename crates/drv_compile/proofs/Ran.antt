@@ -2,24 +2,29 @@ use Rattle.drv_args.specs.declared.fault.ArgsFault.TheVariants as args_fault
 use Rattle.drv_args.specs.declared.fault.ArgsFault.{ArgsFault}
 use Rattle.drv_args.specs.declared.line.Line.{Line}
 use Rattle.drv_args.specs.declared.line.Settings.{Settings}
-use Rattle.drv_compile.specs.Runs.{Stops, Works, lacks_memory, line_given, not_loaded, not_planned, not_read}
+use Rattle.drv_compile.specs.Code.Working.{IsUnworked, IsWorked, no_room, of_many, of_plan}
+use Rattle.drv_compile.specs.Runs.{Stops, Works, has_several, lacks_memory, line_given, not_loaded, not_planned, not_read, several, specs_of}
 use Rattle.drv_compile.specs.declared.running.DriverLine.{DriverLine}
 use Rattle.drv_plan.specs.declared.fault.PlanFault.TheVariants as plan_fault
 use Rattle.drv_plan.specs.declared.fault.PlanFault.{PlanFault}
-use Rattle.drv_run.specs.Drives.{specs_of, specs_over, stopped_by_args, stopped_by_plan, stopped_by_specs, work_of}
+use Rattle.drv_run.specs.Drives.{specs_over, stopped_by_args, stopped_by_plan, stopped_by_specs, work_of}
 use Rattle.drv_run.specs.declared.ending.Ending.{Ending}
 use Rattle.drv_run.specs.declared.work.Work.{Work}
-use Rattle.drv_specs.specs.Builtin.{builtin_specs}
+use Rattle.drv_specs.specs.Builtin.{suffixes}
 use Rattle.drv_specs.specs.Sets.{Set}
 use Rattle.drv_specs.specs.declared.fault.SpecsFault.TheVariants as specs_fault
 use Rattle.drv_specs.specs.declared.fault.SpecsFault.{SpecsFault}
 use Rattle.drv_system.specs.Facts.{Facts}
 use Rattle.drv_system.specs.Gives.{GivesKnown}
 use Rattle.drv_system.specs.Known.{Is}
-use Rattle.std.proofs.Common.{◌≡◌, ◌⊎◌, Err, IsErrAnd, Ok, Result, inl, inr, subst, sym, ℕ}
+use Rattle.std.proofs.Common.{◌≡◌, ◌⊎◌, Err, IsErrAnd, Ok, Result, false, inl, inr, subst, sym, true, ℕ}
 use Rattle.std.specs.Prelude.{MatchResult}
 
--- How items of the driver's line end a call.
+-- For a line that is carried out: how items of the driver's line end a call.
+
+-- what a line with its specs gives
+abbrev pub Worked : Facts → Line → Set → ℕ → Result Work Ending → Type 0
+Worked F line set seed result = MatchResult result (λ work. IsWorked F line set seed work) (λ ending. IsUnworked F line set seed ending)
 
 -- what a step's fault makes of the call
 abbrev pub Comes : Facts → DriverLine → ℕ → Result Work Ending → Type 0
@@ -46,16 +51,42 @@ pub loading_ends : (F : Facts) (own : DriverLine) (seed : ℕ) (line : Line) (fa
     → line_given own ≡ Ok line → (fault ≡ specs_fault.Memory) ⊎ (specs_of F line.settings ≡ Is (Err fault)) → Comes F own seed result
 loading_ends F own seed line fault result is reads given = ended_as F own seed (stopped_by_specs fault) result is (specs_stop F own seed line fault reads given)
 
-plan_stop : (F : Facts) (own : DriverLine) (seed : ℕ) (line : Line) (set : Set) (fault : PlanFault) → line_given own ≡ Ok line → specs_of F line.settings ≡ Is (Ok set)
-    → (fault ≡ plan_fault.Memory) ⊎ (work_of F line set seed ≡ Is (Err fault)) → Stops F own seed (stopped_by_plan fault)
-plan_stop F own seed line set fault reads loads (inl memory) = subst (λ f. Stops F own seed (stopped_by_plan f)) (sym memory) lacks_memory
-plan_stop F own seed line set fault reads loads (inr is) = not_planned reads loads is
+-- several sources with one output, and the plan
 
-pub planning_ends : (F : Facts) (own : DriverLine) (seed : ℕ) (line : Line) (set : Set) (fault : PlanFault) (result : Result Work Ending) → IsErrAnd result (λ e. e ≡ stopped_by_plan fault)
-    → line_given own ≡ Ok line → specs_of F line.settings ≡ Is (Ok set) → (fault ≡ plan_fault.Memory) ⊎ (work_of F line set seed ≡ Is (Err fault)) → Comes F own seed result
-planning_ends F own seed line set fault result is reads loads given = ended_as F own seed (stopped_by_plan fault) result is (plan_stop F own seed line set fault reads loads given)
+unworked_as : (F : Facts) (line : Line) (set : Set) (seed : ℕ) (ending : Ending) (result : Result Work Ending) → IsErrAnd result (λ e. e ≡ ending) → IsUnworked F line set seed ending
+    → Worked F line set seed result
+unworked_as F line set seed ending (Ok work) is unworked = absurd is
+unworked_as F line set seed ending (Err e) is unworked = subst (λ e'. IsUnworked F line set seed e') (sym is) unworked
 
--- the built-in specs, and files over them
-pub builtin_given : (F : Facts) (settings : Settings) (set : Set) (result : Result Set SpecsFault) → set ≡ builtin_specs
+many_unworked : (F : Facts) (line : Line) (set : Set) (seed : ℕ) (fault : ArgsFault) → (fault ≡ args_fault.Memory) ⊎ ((fault ≡ args_fault.OutputWithMany) × (has_several set line ≡ true))
+    → IsUnworked F line set seed (stopped_by_args fault)
+many_unworked F line set seed fault (inl memory) = subst (λ f. IsUnworked F line set seed (stopped_by_args f)) (sym memory) no_room
+many_unworked F line set seed fault (inr (is, two)) = subst (λ f. IsUnworked F line set seed (stopped_by_args f)) (sym is) (of_many two)
+
+pub many_end : (F : Facts) (line : Line) (set : Set) (seed : ℕ) (fault : ArgsFault) (result : Result Work Ending) → IsErrAnd result (λ e. e ≡ stopped_by_args fault)
+    → (fault ≡ args_fault.Memory) ⊎ ((fault ≡ args_fault.OutputWithMany) × (has_several set line ≡ true)) → Worked F line set seed result
+many_end F line set seed fault result is given = unworked_as F line set seed (stopped_by_args fault) result is (many_unworked F line set seed fault given)
+
+plan_unworked : (F : Facts) (line : Line) (set : Set) (seed : ℕ) (fault : PlanFault) → has_several set line ≡ false
+    → (fault ≡ plan_fault.Memory) ⊎ (work_of F line set seed ≡ Is (Err fault)) → IsUnworked F line set seed (stopped_by_plan fault)
+plan_unworked F line set seed fault single (inl memory) = subst (λ f. IsUnworked F line set seed (stopped_by_plan f)) (sym memory) no_room
+plan_unworked F line set seed fault single (inr is) = of_plan single is
+
+pub planning_ends : (F : Facts) (line : Line) (set : Set) (seed : ℕ) (fault : PlanFault) (result : Result Work Ending) → IsErrAnd result (λ e. e ≡ stopped_by_plan fault)
+    → has_several set line ≡ false → (fault ≡ plan_fault.Memory) ⊎ (work_of F line set seed ≡ Is (Err fault)) → Worked F line set seed result
+planning_ends F line set seed fault result is single given = unworked_as F line set seed (stopped_by_plan fault) result is (plan_unworked F line set seed fault single given)
+
+pub working_comes : (F : Facts) (own : DriverLine) (seed : ℕ) (line : Line) (set : Set) (result : Result Work Ending) → line_given own ≡ Ok line → specs_of F line.settings ≡ Is (Ok set)
+    → Worked F line set seed result → Comes F own seed result
+working_comes F own seed line set (Ok work) reads loads worked = record { line = line; set = set; reads = reads; loads = loads; single = worked.0; works = worked.1 }
+working_comes F own seed line set (Err ending) reads loads unworked = by ending unworked
+  where
+    by : (e : Ending) → IsUnworked F line set seed e → Stops F own seed e
+    by e no_room = lacks_memory
+    by e (of_many two) = several reads loads two
+    by e (of_plan single is) = not_planned reads loads single is
+
+-- the suffixes, and files over them
+pub suffixes_given : (F : Facts) (settings : Settings) (set : Set) (result : Result Set SpecsFault) → set ≡ suffixes
     → GivesKnown specs_fault.Memory (λ loaded. loaded) result (specs_over F set settings) → GivesKnown specs_fault.Memory (λ loaded. loaded) result (specs_of F settings)
-builtin_given F settings set result is gives = subst (λ s. GivesKnown specs_fault.Memory (λ loaded. loaded) result (specs_over F s settings)) is gives
+suffixes_given F settings set result is gives = subst (λ s. GivesKnown specs_fault.Memory (λ loaded. loaded) result (specs_over F s settings)) is gives

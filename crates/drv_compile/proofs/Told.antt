@@ -4,7 +4,7 @@ use Rattle.std.proofs.Common.{◌≡◌, ◌<◌, ◌≤◌, ◌+◌, ◌∙◌,
 use Rattle.std.proofs.lemmas.List.{append-nil, drop_all, drop_more}
 use Rattle.std.specs.Prelude.{get_or}
 
--- The text of refusals, one after another.
+-- For the text of refusals: each refusal adds its own, one after another.
 
 pub told_more : (name : List ℕ) (known : List (List ℕ)) (refusals : List Refusal) (i : ℕ) (refusal : Refusal) (text after : List ℕ)
     → i < length refusals → refusal ≡ get_or refusals i refusal

@@ -4,7 +4,7 @@ use Rattle.std.proofs.Common.{◌≡◌, ◌∙◌, Bool, List, [], ◌∷◌, N
 use Rattle.std.specs.List.{flat_map, starts_with}
 use Rattle.std.specs.Option.{option_map}
 
--- The first value of a key: that of the first line that begins with the key.
+-- For the files beside a spec file: the first value of a key is that of the first line that begins with the key.
 
 first_value : (key : List ℕ) (all : List (List ℕ))
     → first_of (flat_map (value_in key) all) ≡ option_map (drop (length key)) (find (λ line. starts_with nat_eq line key) all)

@@ -23,7 +23,7 @@ use Rattle.std.proofs.lemmas.Bool.{false≢true}
 use Rattle.std.proofs.lemmas.List.{drop_all, drop_more}
 use Rattle.std.specs.Prelude.{MatchResult, get_or, is_some}
 
--- The words of a call, or why there are none.
+-- For the words of a call: they are those of its response files, or it is refused.
 
 -- lack of memory says nothing
 pub memory_stops : {X : Type 0} (result : Result X Stop) (done : X → Type 0) (told : List ℕ → Type 0) → IsErrAnd result (λ stop. stop ≡ Memory)

@@ -36,8 +36,8 @@ written_beside F specs ending = written F (companion specs ending)
 abbrev pub known_names : Facts → List ℕ → Known (Option (List ℕ))
 known_names F specs = written_beside F specs (codes ".options")
 
--- The spec file: the one beside the program, where that place is known and has a plain file, or else the one that the variable
--- GDRV_CC_SPECS names, if it is a plain file.
+-- The spec file: the one that the variable GDRV_CC_SPECS names, or else the one beside the program, where that place is known. There is
+-- none where that is no plain file.
 abbrev pub if_plain : List ℕ → PathKind → Option (List ℕ)
 if_plain path kind = if is_plain kind then Some path else None
 
@@ -53,9 +53,10 @@ given_by (Some (b ∷ path)) = Some (given (b ∷ path))
 abbrev pub named_file : Facts → Known (Option (List ℕ))
 named_file F = asked (variable_of F (codes "GDRV_CC_SPECS")) >>= λ value. Is (given_by value)
 
-abbrev pub or_named : Facts → Option (List ℕ) → Known (Option (List ℕ))
-or_named F None = named_file F >>= λ path. plain_at F path
-or_named F (Some path) = Is (Some path)
+-- the place where a spec file should be
+abbrev pub or_own : Option (List ℕ) → Option (List ℕ) → Option (List ℕ)
+or_own own None = own
+or_own own (Some path) = Some path
 
 abbrev pub spec_file : Facts → Option (List ℕ) → Known (Option (List ℕ))
-spec_file F own = plain_at F own >>= λ path. or_named F path
+spec_file F own = named_file F >>= λ named. plain_at F (or_own own named)

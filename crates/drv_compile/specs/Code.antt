@@ -2,3 +2,5 @@
 pub mod Compiling
 pub mod CutLines
 pub mod Preparing
+pub mod Settling
+pub mod Working

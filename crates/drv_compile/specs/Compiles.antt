@@ -7,6 +7,7 @@ use Rattle.drv_compile.specs.Inputs.{Overwrites, objection}
 use Rattle.drv_compile.specs.Opening.{opening}
 use Rattle.drv_compile.specs.Runs.{Stops, Works}
 use Rattle.drv_compile.specs.Tasks.{Declines, Leads}
+use Rattle.drv_compile.specs.TempFolder.{Chooses, IsSettled, folder_names}
 use Rattle.drv_compile.specs.Texts.{gone_text, help_text, overwritten_text, version_text}
 use Rattle.drv_compile.specs.Words.{RefusesWords, Words, told_refusal}
 use Rattle.drv_compile.specs.declared.calling.Calling.{Calling}
@@ -24,7 +25,7 @@ use Rattle.drv_run.specs.Calls.{AreSaid, Does}
 use Rattle.drv_run.specs.declared.ending.Ending.TheVariants.{Refused}
 use Rattle.drv_run.specs.declared.ending.Refusal.{Refusal}
 use Rattle.drv_run.specs.declared.work.Telling.TheVariants.{Notices}
-use Rattle.drv_run.specs.declared.work.Work.TheVariants.{CarryOut}
+use Rattle.drv_run.specs.declared.work.Work.TheVariants.{CarryOut, Dump, Show}
 use Rattle.drv_run.specs.declared.work.Work.{Work}
 use Rattle.drv_system.specs.Asking.{AreNew}
 use Rattle.drv_system.specs.Facts.{Facts, learn, no_facts}
@@ -38,8 +39,11 @@ use Rattle.drv_words.specs.declared.answers.NotStarted.TheVariants.{NotFound}
 use Rattle.drv_words.specs.declared.answers.StartAnswer.TheVariants as start
 use Rattle.drv_words.specs.declared.plan.Command.{Command}
 use Rattle.drv_words.specs.declared.plan.Plan.{Plan}
+use Rattle.drv_words.specs.declared.steps.Place.TheVariants as place
+use Rattle.drv_words.specs.declared.steps.Step.TheVariants as step
+use Rattle.drv_words.specs.declared.steps.Step.{Step}
 use Rattle.std.specs.List.{list_any}
-use Rattle.std.specs.Prelude.{◌≡◌, Bool, List, [], ◌∷◌, ◌++◌, None, Option, Some, false, length, map, true, ℕ}
+use Rattle.std.specs.Prelude.{◌≡◌, ◌&&◌, Bool, List, [], ◌∷◌, ◌++◌, None, Option, Some, false, length, map, nat_lt, true, zero, ℕ}
 
 -- A call of gdrv-cc (GCC manual, "Invoking GCC"): what its words ask for, and what the journal has after it.
 
@@ -47,8 +51,8 @@ use Rattle.std.specs.Prelude.{◌≡◌, Bool, List, [], ◌∷◌, ◌++◌, No
 abbrev pub one_command : Command → Plan
 one_command command = record {
   notices = [];
-  jobs = [];
-  link = Some (record { source = None; groups = (command ∷ []) ∷ []; temps = []; marked = []; on_failure = []; output = None });
+  jobs = record { source = None; groups = (command ∷ []) ∷ []; temps = []; marked = []; on_failure = []; output = None } ∷ [];
+  link = None;
 }
 
 abbrev pub question : List ℕ → List (List ℕ) → Work
@@ -100,18 +104,29 @@ pub data Refuses (F : Facts) (calling : Calling) (own : Option (List ℕ)) (args
       → decided F own words.words ≡ Is decision → Leads decision (Compilation chain call)
       → Fails F calling chain call words seed events text → Refuses F calling own args seed events text
 
--- After a run that did not find a program the call says the hint, and after another its remark, if it has one. Where memory lacked for it,
--- the outcome says so.
+-- After a run that did not find a program of a source, or the compiler of a question, the call says the hint, and after another its remark, if
+-- it has one. A line may choose a linker that is not there (GCC manual, "Link Options", -fuse-ld=). Where memory lacked for a text, the
+-- outcome says so.
 abbrev pub is_missing : Answer → Bool
 is_missing (answer.Start (start.NotStarted NotFound)) = true
 is_missing _ = false
 
-abbrev pub is_absent : Event → Bool
-is_absent (Run e) = is_missing e.answer
-is_absent _ = false
+-- the jobs of a work that are no link
+abbrev pub jobs_before_link : Work → ℕ
+jobs_before_link (Dump text) = zero
+jobs_before_link (Show plan) = length plan.jobs
+jobs_before_link (CarryOut plan manner) = length plan.jobs
 
-abbrev pub lacks_program : List Event → Bool
-lacks_program = list_any is_absent
+abbrev pub is_before_link : ℕ → Step → Bool
+is_before_link jobs (step.Start (place.Command job group index) from_pipe to_pipe) = nat_lt job jobs
+is_before_link jobs _ = false
+
+abbrev pub is_absent : ℕ → Event → Bool
+is_absent jobs (Run e) = is_before_link jobs e.step && is_missing e.answer
+is_absent jobs _ = false
+
+abbrev pub lacks_program : ℕ → List Event → Bool
+lacks_program jobs = list_any (is_absent jobs)
 
 abbrev pub closing : Prepared → Bool → List ℕ
 closing prepared true = prepared.hint
@@ -140,17 +155,27 @@ pub data Ends (F : Facts) (at : ℕ) (calling : Calling) (own : Option (List ℕ
       → Ends F at calling own args seed (Done 1) asked [] (Say text told ∷ [])
   worked : {asked : List HostEvent} {prepared : Prepared} (opened did : List Event) {noted : List Event} {status : ℕ} {outcome : Outcome}
       → Comes F calling own args seed asked prepared → Opens prepared.said opened → Does calling.name prepared.work status did
-      → Closes status (closing prepared (lacks_program did)) outcome noted
+      → Closes status (closing prepared (lacks_program (jobs_before_link prepared.work) did)) outcome noted
       → Ends F at calling own args seed outcome asked (settings at prepared.children) (opened ++ did ++ noted)
   cut_short : {asked set : List HostEvent} {said : List Event} → AreSaid said → Ends F at calling own args seed OutOfMemory asked set said
+
+-- What a call goes by: the answers to its questions, with the folder of temporaries that the host was asked for. Where memory lacked for
+-- that, it goes by nothing.
+pub data GoesBy : List Event → List HostEvent → Outcome → Facts → Type 0 where
+  settled : {asked : List Event} {names : List (List ℕ)} {tried : List HostEvent} {folder : List ℕ} {G : Facts} {outcome : Outcome}
+      → folder_names (learn no_facts asked) ≡ Is names → Chooses names tried folder → IsSettled (learn no_facts asked) folder G → GoesBy asked tried outcome G
+  unsettled : {asked : List Event} {tried : List HostEvent} → GoesBy asked tried OutOfMemory no_facts
 
 -- A call: it asked what it did not know, each thing once, and ends as the answers say.
 pub record Compiled (journal journal' : List Event) (notes notes' : List HostEvent) (calling : Calling) (own : Option (List ℕ)) (args : List (List ℕ)) (seed : ℕ) (outcome : Outcome) : Type 0 where
   pub asked : List Event
   pub said : List Event
+  pub tried : List HostEvent
   pub resolved : List HostEvent
   pub set : List HostEvent
+  pub facts : Facts
   pub questions : AreNew no_facts asked
   pub journal_grows : journal' ≡ journal ++ asked ++ said
-  pub notes_grow : notes' ≡ notes ++ resolved ++ set
-  pub ends : Ends (learn no_facts asked) (length (journal ++ asked)) calling own args seed outcome resolved set said
+  pub notes_grow : notes' ≡ notes ++ tried ++ resolved ++ set
+  pub goes_by : GoesBy asked tried outcome facts
+  pub ends : Ends facts (length (journal ++ asked)) calling own args seed outcome resolved set said

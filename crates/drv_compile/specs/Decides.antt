@@ -1,5 +1,5 @@
 use Rattle.drv_cc.specs.declared.answer.Surroundings.{Surroundings}
-use Rattle.drv_compile.specs.Beside.{named_file, spec_file, written_beside}
+use Rattle.drv_compile.specs.Beside.{named_file, or_own, spec_file, written_beside}
 use Rattle.drv_compile.specs.Compilers.{values}
 use Rattle.drv_compile.specs.Places.{companion}
 use Rattle.drv_compile.specs.Reading.{line_read}
@@ -12,11 +12,6 @@ use Rattle.std.specs.Prelude.{List, [], ◌∷◌, None, Option, Some, codes, �
 
 -- What the words of a line ask for, over the spec file of the call and the files beside it (this project's profile). One set of facts
 -- answers all questions; which are asked follows from what was answered before.
-
--- the place where a spec file should be
-abbrev pub or_own : Option (List ℕ) → Option (List ℕ) → Option (List ℕ)
-or_own own None = own
-or_own own (Some path) = Some path
 
 -- the line, over the compiler of the spec file
 abbrev pub of_reading : List ℕ → Surroundings → Option Reading → Decision

@@ -15,6 +15,7 @@ pub mod Runs
 pub mod Said
 pub mod SelfSpecs
 pub mod Tasks
+pub mod TempFolder
 pub mod Texts
 pub mod Words
 pub mod Written

@@ -39,17 +39,23 @@ companion path ending = without_ending path (before_ending (codes ".specs") path
 
 -- The files beside it hold parts of its texts: for a line without a link, for a line that only links, and for a line that may do both. The
 -- first and the last have a shorter one for a line whose sources are all of C. None has the texts that these options, those for the machine
--- of the call and each -gz=.. need, or that a spec file of the line may change. Those for a link lack what --sysroot=.. needs too.
+-- of the call and all that begin so need, or that a spec file of the line may change. Those for a link lack what --sysroot=.. needs too.
 abbrev pub whole_options : List (List ℕ)
 whole_options =
     texts (codes "-specs= -save-temps -save-temps=cwd -save-temps=obj -gsplit-dwarf -traditional -traditional-cpp -no-integrated-cpp "
     ++ codes "-m32 -mx32 -m16")
 
+abbrev pub whole_beginnings : List (List ℕ)
+whole_beginnings = texts (codes "-gz= --gdrv-wrapper= --gdrv-path=")
+
+abbrev pub is_begun : List ℕ → Bool
+is_begun option = list_any (starts_with nat_eq option) whole_beginnings
+
 abbrev pub is_native : Item → Bool
 is_native i = is_among (texts (codes "-march= -mtune=")) i.option && same i.argument (codes "native")
 
 abbrev pub wants_whole : Item → Bool
-wants_whole i = is_among whole_options i.option || is_native i || starts_with nat_eq i.option (codes "-gz=")
+wants_whole i = is_among whole_options i.option || is_native i || is_begun i.option
 
 abbrev pub is_rooted : Item → Bool
 is_rooted i = same i.option (codes "--sysroot=")

@@ -10,16 +10,17 @@ use Rattle.drv_cc.specs.declared.answer.Surroundings.{Surroundings}
 use Rattle.drv_cc.specs.declared.refusal.Refusal.TheVariants.{GivenMore}
 use Rattle.drv_compile.specs.Beside.{known_names}
 use Rattle.drv_compile.specs.Reading.{items_names, specs_given}
-use Rattle.drv_compile.specs.Runs.{line_given}
+use Rattle.drv_compile.specs.Runs.{line_given, specs_of}
 use Rattle.drv_compile.specs.declared.running.DriverLine.{DriverLine}
 use Rattle.drv_compile.specs.declared.self_specs.Worked.TheVariants.{Gives, More, Nothing}
 use Rattle.drv_compile.specs.declared.self_specs.Worked.{Worked}
 use Rattle.drv_machine.specs.Outcome.{outcome}
 use Rattle.drv_machine.specs.declared.outcome.Outcome.{Outcome}
 use Rattle.drv_plan.specs.Denoted.{Planned, context_of, of_text}
-use Rattle.drv_run.specs.Drives.{specs_of, stopped_by_args, stopped_by_plan, stopped_by_specs}
+use Rattle.drv_run.specs.Drives.{stopped_by_args, stopped_by_plan, stopped_by_specs}
 use Rattle.drv_run.specs.declared.ending.Ending.{Ending}
 use Rattle.drv_search.specs.Search.{prefixes_of}
+use Rattle.drv_search.specs.declared.prefixes.Prefixes.{Prefixes}
 use Rattle.drv_specs.specs.Sets.{Set, text_of}
 use Rattle.drv_specs.specs.declared.fault.SpecsFault.{SpecsFault}
 use Rattle.drv_syntax.specs.Parsed.{tree_of}
@@ -58,11 +59,14 @@ of_outcome Unasked = Unasked
 of_outcome (Is (Ok done)) = Is (Ok (of_job done.job))
 of_outcome (Is (Err fault)) = Is (Err (stopped_by_plan fault))
 
--- the text worked with these specs, for a line of these items
+-- the text worked with these specs along these prefixes, for this line
+abbrev pub worked_along : Facts → Set → List ℕ → Line → Prefixes → Ended Worked
+worked_along F set text line prefixes = of_outcome (of_text (outcome F (context_of line set prefixes 0) (tree_of text)))
+
+-- the same, for a line of these items
 abbrev pub worked_for : Facts → Settings → Set → List ℕ → Result Line ArgsFault → Ended Worked
 worked_for F settings set text (Err fault) = Is (Err (stopped_by_args fault))
-worked_for F settings set text (Ok line) =
-    prefixes_of F settings.prefixes >>= λ prefixes. of_outcome (of_text (outcome F (context_of line set prefixes 0) (tree_of text)))
+worked_for F settings set text (Ok line) = prefixes_of F settings.prefixes >>= worked_along F set text line
 
 abbrev pub worked_by : Facts → Settings → Set → Result Line ArgsFault → Option (List ℕ) → Ended Worked
 worked_by F settings set line None = Is (Ok Nothing)

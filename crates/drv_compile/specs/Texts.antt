@@ -66,7 +66,7 @@ fatal_line name text = name ++ codes ": fatal error: " ++ text ++ codes "\ncompi
 abbrev pub refusal_text : List ℕ → Refusal → Option (List ℕ) → List ℕ
 refusal_text name (UnknownOption word) near = error_line name (unknown_text word near)
 refusal_text name (NoArgument option) near = error_line name (lacking option ++ option ++ codes "'")
-refusal_text name (NotTaken option) near = error_line name (quoted (codes "option '") option (codes "' is not carried out"))
+refusal_text name (NotTaken option) near = error_line name (quoted (codes "option '") option (codes "' is not supported"))
 refusal_text name (GivenFile word) near = fatal_line name (given_text word)
 refusal_text name GivenMore near = error_line name (quoted (codes "the spec files of the line give more than options: 'self_spec' is not one command") [] [])
 refusal_text name EmptyOutput near = name ++ codes ": fatal error: output filename may not be empty\ncompilation terminated.\n"
@@ -105,7 +105,7 @@ unwritten_text name before path specs machine = error_line name (quoted before p
 
 -- after a run that did not find a program
 abbrev pub gone_text : List ℕ → List ℕ → List ℕ → List ℕ
-gone_text name specs machine = name ++ codes ": note: where the compiler of the spec file is gone, " ++ writing specs machine ++ codes " anew\n"
+gone_text name specs machine = name ++ codes ": note: the spec file may be for a gcc that is gone: " ++ writing specs machine ++ codes " again\n"
 
 -- Where the only word of a line is --help or --version, the compiler's answer gets a line in the name of this program: before it, or after it
 -- (GCC manual, "Overall Options").
@@ -131,12 +131,12 @@ unread_text name path = error_line name (quoted (codes "response file '") path (
 
 -- a variable that gcc's driver takes (GCC manual, "Environment Variables")
 abbrev pub variable_text : List ℕ → List ℕ
-variable_text name = error_line name (codes "variable 'GCC_EXEC_PREFIX' is not carried out")
+variable_text name = error_line name (codes "variable 'GCC_EXEC_PREFIX' is not supported")
 
 -- no spec file, where the place of the program isn't known
 abbrev pub no_place_text : List ℕ → List ℕ
 no_place_text name =
-    error_line name (codes "where this program lies is not known (is /proc there?), and GDRV_CC_SPECS names no spec file")
+    error_line name (codes "cannot find this program's own path (is /proc mounted?), and GDRV_CC_SPECS is not set")
 
 -- a spec file that isn't where it should be
 abbrev pub no_specs_text : List ℕ → List ℕ → List ℕ → List ℕ

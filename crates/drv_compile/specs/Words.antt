@@ -9,6 +9,7 @@ use Rattle.drv_compile.specs.declared.calling.Front.TheVariants.{C99, Gcc}
 use Rattle.drv_compile.specs.declared.calling.Front.{Front}
 use Rattle.drv_compile.specs.declared.stop.Stop.TheVariants.{Memory, Told}
 use Rattle.drv_compile.specs.declared.stop.Stop.{Stop}
+use Rattle.drv_plan.specs.declared.fault.PlanFault.TheVariants as plan_fault
 use Rattle.drv_run.specs.Texts.{refusal_text}
 use Rattle.drv_run.specs.declared.ending.Ending.TheVariants.{Done, OutOfMemory, Refused}
 use Rattle.drv_run.specs.declared.ending.Ending.{Ending}
@@ -57,11 +58,13 @@ pub record Words (F : Facts) (calling : Calling) (args : List (List ℕ)) (words
   pub readable : first_unread F expanded.words ≡ Is None
   pub fronts : fronted calling.front expanded ≡ Ok words
 
--- the text of a refusal of the driver: that of c99 has its name in its text
+-- The text of a refusal of the driver: that of c99 has its name in its text. No spec file of this program is for another language than C and
+-- assembler, so none is said to be not installed.
 abbrev pub told_refusal : List ℕ → Refusal → List ℕ
 told_refusal name (refusal.C99 fault) = refusal_text (refusal.C99 fault) ++ codes "\n"
 told_refusal name (refusal.Args fault) = error_line name (refusal_text (refusal.Args fault))
 told_refusal name (refusal.Specs fault) = error_line name (refusal_text (refusal.Specs fault))
+told_refusal name (refusal.Plan (plan_fault.NotInstalled language)) = error_line name (language ++ codes " is not supported: gdrv-cc compiles C and assembler")
 told_refusal name (refusal.Plan fault) = error_line name (refusal_text (refusal.Plan fault))
 
 -- how a call ends before its work that the driver would end so

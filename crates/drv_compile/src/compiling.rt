@@ -2,22 +2,26 @@
 
 ghost use Rattle.drv_compile.specs.Code.Compiling.{Carried, IsClosed, IsOpened, Noting, Spoken};
 ghost use Rattle.drv_compile.specs.Code.Compiling.{TellsStop, Worked};
-ghost use Rattle.drv_compile.specs.Compiles.{Compiled, is_absent, is_missing, lacks_program};
-ghost use Rattle.drv_compile.specs.Compiles.{settings};
+ghost use Rattle.drv_compile.specs.Compiles.{Compiled, is_absent, is_before_link, is_missing};
+ghost use Rattle.drv_compile.specs.Compiles.{jobs_before_link, lacks_program, settings};
+ghost use Rattle.drv_compile.specs.Code.Settling.{Going};
 ghost use Rattle.drv_compile.specs.Inputs.{Noted};
 ghost use Rattle.drv_run.specs.Calls.{HasWindow};
+ghost use Rattle.drv_compile.specs.declared.host.HostEvent.{HostEvent};
 ghost use Rattle.drv_system.specs.Running.{run_of};
+ghost use Rattle.drv_system.specs.declared.event.Event.{Event};
 ghost use Rattle.drv_words.specs.Stepping.{pipe_pending};
-ghost use Rattle.std.specs.Prelude.{◌≡◌, ◌≤◌, OnErr, OnOk, false, length};
+ghost use Rattle.std.specs.Prelude.{◌≡◌, ◌≤◌, List, OnErr, OnOk, false, length};
 
 use crate::calling::Calling;
 use crate::host::Host;
 use crate::preparing::{Prepared, prepare};
 use crate::stop::Stop;
+use crate::temp_folder::settle;
 use drv_cc::Variable;
-use drv_run::do_work;
+use drv_run::{Work, do_work};
 use drv_system::{Event, FactTable, Outside, System};
-use drv_words::{Answer, Listing, NotStarted, RunEvent, StartAnswer, Word};
+use drv_words::{Answer, Listing, NotStarted, Place, RunEvent, StartAnswer, Step, Word};
 use std::alloc::{AllocError, Global};
 
 /// How a call ends.
@@ -58,21 +62,46 @@ fn is_missing(answer: Answer) -> bool
     )
 }
 
-/// Whether an event is a program that was not found.
-fn is_absent(event: &Event) -> bool
-    ensures { result ≡ is_absent event.now }
+/// The number of a work's jobs before the link.
+fn jobs_before_link(work: &Work) -> usize
+    ensures { result ≡ jobs_before_link work.now }
 {
-    match event {
-        Event::Run(RunEvent { answer, .. }) => is_missing(*answer),
+    match work {
+        Work::Dump(_) => 0,
+        Work::Show(plan) | Work::CarryOut { plan, .. } => plan.jobs.len(),
+    }
+}
+
+/// Whether a step starts a command of one of the first `jobs` jobs.
+fn is_before_link(jobs: usize, step: Step) -> bool
+    ensures { result ≡ is_before_link jobs step }
+{
+    match step {
+        Step::Start {
+            place: Place::Command { job, .. },
+            ..
+        } => job < jobs,
         _ => false,
     }
 }
 
-/// Whether a program was not found.
-fn lacks_program(events: &[Event]) -> bool
-    ensures { result ≡ lacks_program events.now }
+/// Whether an event says that a program of one of the first `jobs` jobs was not found.
+fn is_absent(jobs: usize, event: &Event) -> bool
+    ensures { result ≡ is_absent jobs event.now }
 {
-    events.iter().any(is_absent)
+    match event {
+        Event::Run(RunEvent { step, answer }) => {
+            is_before_link(jobs, *step) && is_missing(*answer)
+        }
+        _ => false,
+    }
+}
+
+/// Whether a program of one of the first `jobs` jobs was not found.
+fn lacks_program(jobs: usize, events: &[Event]) -> bool
+    ensures { result ≡ lacks_program jobs events.now }
+{
+    events.iter().any(|event| is_absent(jobs, event))
 }
 
 /// Says a text after a work, if there is one.
@@ -90,15 +119,16 @@ fn closed<S: System>(sys: &mut S, text: &Word, status: u8) -> Outcome
     }
 }
 
-/// Says the hint, if the work that was done after so many events did not find a program, and else
-/// the remark.
+/// Says the hint if the work after the first `before` events did not find a program before its
+/// link, or else the remark.
 fn noted<S: System>(sys: &mut S, before: usize, prepared: &Prepared, status: u8) -> Outcome
     requires pipe { pipe_pending (run_of (S.events sys.old)) ≡ false }
     requires before { before ≤ length (S.events sys.old) }
     ensures notes { Noting (S.events sys.old) (S.events sys.new) before prepared.now status result }
     ensures pipe { pipe_pending (run_of (S.events sys.new)) ≡ false }
 {
-    let text = if lacks_program(&sys.journal()[before..]) {
+    let jobs = jobs_before_link(&prepared.work);
+    let text = if lacks_program(jobs, &sys.journal()[before..]) {
         &prepared.hint
     } else {
         &prepared.remark
@@ -106,8 +136,8 @@ fn noted<S: System>(sys: &mut S, before: usize, prepared: &Prepared, status: u8)
     closed(sys, text, status)
 }
 
-/// Does what is prepared, and says the hint where its run does not find a program, or else the
-/// remark.
+/// Does what is prepared, and says the hint where its run does not find a program before its link,
+/// or else the remark.
 fn done<S: System>(alloc: Global, name: &[u8], prepared: &Prepared, sys: &mut S) -> Outcome
     requires pipe { pipe_pending (run_of (S.events sys.old)) ≡ false }
     requires window { HasWindow prepared.now.work }
@@ -183,18 +213,55 @@ fn stopped<S: System>(sys: &mut S, stop: &Stop) -> Outcome
     }
 }
 
+/// A call over a table that has the folder of temporaries.
+#[tactic(auto, using(drv_run::proofs::Endings::no_pipe_after_questions))]
+fn compile_settled<S: System, H: Host<S>>(
+    alloc: Global,
+    calling: &Calling,
+    own: &Option<Word>,
+    args: &Listing<Word>,
+    seed: u32,
+    sys: &mut S,
+    facts: &mut FactTable,
+    host: &mut H,
+) -> Outcome
+    requires pipe { pipe_pending (run_of (S.events sys.old)) ≡ false }
+    ensures compiled { (journal : List Event) (notes : List HostEvent)
+        → Going journal (S.events sys.old) notes (H.notes host.old) facts.old
+        → Compiled journal (S.events sys.new) notes (H.notes host.new)
+        calling.now own.now args.now seed result }
+    ensures pipe { pipe_pending (run_of (S.events sys.new)) ≡ false }
+{
+    match prepare(
+        alloc,
+        calling,
+        own,
+        args,
+        seed,
+        &mut Outside { sys, facts },
+        host,
+    ) {
+        Ok(prepared) => carried_out(alloc, calling.name.as_bytes(), &prepared, sys, host),
+        Err(stop) => stopped(sys, &stop),
+    }
+}
+
 /// A call of `gdrv-cc` with these arguments (GCC manual, "Invoking GCC"; as `c99`, POSIX c99). The
 /// spec file of this program lies at `own`, if that is known; the seed is for the names of
 /// temporaries.
 ///
+/// The call first asks for the folder of temporaries: TMPDIR, TMP and TEMP may name it, if files can
+/// be made there.
+///
 /// A line that is a question goes to the compiler of the spec file: the call starts it with the same
 /// arguments, and its status is the answer. Of a refused line the call says why, with the status 1.
 /// Any other line is carried out by the driver over the set of that spec file, with its variables
-/// set for the children. Where the run does not find a program, the call says a hint.
+/// set for the children. Where the run does not find a program of a source, or the compiler of a
+/// question, the call says a hint.
 ///
 /// A refused call, and one that lacks memory, makes and starts nothing. No pipe is pending after a
 /// call.
-#[tactic(auto, using(drv_run::proofs::Endings::no_pipe_after_questions))]
+#[tactic(auto, using(crate::proofs::Settled::no_pipe_begun))]
 pub fn compile<S: System, H: Host<S>>(
     alloc: Global,
     calling: &Calling,
@@ -210,16 +277,8 @@ pub fn compile<S: System, H: Host<S>>(
     ensures pipe { pipe_pending (run_of (S.events sys.new)) ≡ false }
 {
     let facts = &mut FactTable::new(alloc);
-    match prepare(
-        alloc,
-        calling,
-        own,
-        args,
-        seed,
-        &mut Outside { sys, facts },
-        host,
-    ) {
-        Ok(prepared) => carried_out(alloc, calling.name.as_bytes(), &prepared, sys, host),
-        Err(stop) => stopped(sys, &stop),
+    match settle(alloc, sys, facts, host) {
+        Ok(()) => compile_settled(alloc, calling, own, args, seed, sys, facts, host),
+        Err(_) => Outcome::OutOfMemory,
     }
 }

@@ -2,7 +2,7 @@
 
 ghost use Rattle.drv_compile.specs.Compilers.{values};
 ghost use Rattle.drv_compile.specs.Decides.{decided, decided_around, decided_by, decided_over};
-ghost use Rattle.drv_compile.specs.Decides.{decided_with, of_reading, or_own};
+ghost use Rattle.drv_compile.specs.Decides.{decided_with, of_reading};
 ghost use Rattle.drv_search.specs.Code.Telling.{Tells};
 ghost use Rattle.drv_system.specs.Code.Asked.{Asked};
 ghost use Rattle.drv_system.specs.Facts.{variable_of};
@@ -10,7 +10,7 @@ ghost use Rattle.drv_system.specs.Known.{asked};
 ghost use Rattle.std.specs.Prelude.{◌≡◌, IfOk};
 
 use crate::compilers::{first_value, values};
-use crate::finding::{named_file, spec_file, written_beside};
+use crate::finding::{named_file, or_own, spec_file, written_beside};
 use crate::places::companion;
 use crate::reading::{Reading, read_line};
 use drv_cc::Surroundings;
@@ -143,16 +143,6 @@ fn decided_over<S: System>(
     };
     let compiler = first_value(alloc, b"compiler ", text.as_bytes())?;
     decided_by(alloc, specs, words, text.as_bytes(), compiler, outside)
-}
-
-/// The path of a variable, or else one's own.
-fn or_own(own: Option<Word>, named: Option<Word>) -> Option<Word>
-    ensures { result ≡ or_own own named }
-{
-    match named {
-        Some(path) => Some(path),
-        None => own,
-    }
 }
 
 /// The decision with a spec file, if there is one.

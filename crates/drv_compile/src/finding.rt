@@ -1,7 +1,7 @@
 //! The spec file of a call, and the files beside it.
 
 ghost use Rattle.drv_compile.specs.Beside.{bytes_read, given_by, if_plain, is_written, known_names};
-ghost use Rattle.drv_compile.specs.Beside.{named_file, or_named, plain_at, spec_file, written, written_beside};
+ghost use Rattle.drv_compile.specs.Beside.{named_file, or_own, plain_at, spec_file, written, written_beside};
 ghost use Rattle.drv_compile.specs.Written.{whole_lines};
 ghost use Rattle.drv_search.specs.Code.Telling.{Tells};
 ghost use Rattle.drv_search.specs.Search.{is_plain};
@@ -149,25 +149,18 @@ pub(crate) fn named_file<S: System>(
     given_by(alloc, outside.facts.variable_answer(&name))
 }
 
-/// A path that was found, or else that of the spec file that a variable names.
-#[tactic(auto, using(drv_system::proofs::AskedCalls::asked_further))]
-fn or_named<S: System>(
-    alloc: Global,
-    path: Option<Word>,
-    outside: &mut Outside<'_, S>,
-) -> Result<Option<Word>, AllocError>
-    ensures asks { Asked S.events outside.old outside.new }
-    ensures path { Tells outside.new result (λ F. or_named F path) }
+/// The path of a variable, or else one's own.
+pub(crate) fn or_own(own: Option<Word>, named: Option<Word>) -> Option<Word>
+    ensures { result ≡ or_own own named }
 {
-    if let Some(path) = path {
-        return Ok(Some(path));
+    match named {
+        Some(path) => Some(path),
+        None => own,
     }
-    let named = named_file(alloc, outside)?;
-    plain_at(named, outside)
 }
 
-/// The path of the spec file: that of its own place, if it is a plain file, or else of the one that
-/// a variable names.
+/// The path of the spec file that a variable names, or else of the one at its own place, if that is
+/// a plain file.
 #[tactic(auto, using(drv_system::proofs::AskedCalls::asked_further))]
 pub(crate) fn spec_file<S: System>(
     alloc: Global,
@@ -177,6 +170,6 @@ pub(crate) fn spec_file<S: System>(
     ensures asks { Asked S.events outside.old outside.new }
     ensures path { Tells outside.new result (λ F. spec_file F own) }
 {
-    let found = plain_at(own, outside)?;
-    or_named(alloc, found, outside)
+    let named = named_file(alloc, outside)?;
+    plain_at(or_own(own, named), outside)
 }

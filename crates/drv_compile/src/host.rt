@@ -1,6 +1,6 @@
 //! What a call asks of its machine beside what a driver asks.
 
-ghost use Rattle.drv_compile.specs.declared.host.HostEvent.TheVariants.{Resolved, Set};
+ghost use Rattle.drv_compile.specs.declared.host.HostEvent.TheVariants.{Resolved, Set, Tried};
 ghost use Rattle.std.specs.Prelude.{◌≡◌, ◌∷◌, ◌++◌, [], IfOk, List, OnErr, OnOk, length};
 
 use drv_cc::Variable;
@@ -11,10 +11,13 @@ use std::alloc::AllocError;
 /// One call of a host: its argument, then its answer.
 #[derive(Drop)]
 pub enum HostEvent {
-    /// The path of the file that a name leads to was asked for, if there is one.
+    /// The call asked for the path of the file that a name leads to; the answer is none if there is
+    /// no file.
     Resolved(Word, Option<Word>),
-    /// After so many events of the system this variable was set for the children that are started
-    /// from then on.
+    /// The call asked whether a name is that of a folder in which files can be made.
+    Tried(Word, bool),
+    /// After this many events of the system the call set this variable for the children that it
+    /// starts from then on.
     Set(usize, Variable),
 }
 
@@ -32,6 +35,12 @@ pub trait Host<S: System> {
     fn resolved(&mut self, name: &Word) -> Result<Option<Word>, AllocError>
         ensures event { IfOk result (λ path. notes self.new
             ≡ notes self.old ++ Resolved name.now path ∷ []) }
+        ensures memory { OnErr result (notes self.new ≡ notes self.old) };
+
+    /// Asks whether a name is that of a folder in which this process can make and find files.
+    fn is_usable(&mut self, name: &Word) -> Result<bool, AllocError>
+        ensures event { IfOk result (λ usable. notes self.new
+            ≡ notes self.old ++ Tried name.now usable ∷ []) }
         ensures memory { OnErr result (notes self.new ≡ notes self.old) };
 
     /// Sets a variable for the children that the system starts from now on.

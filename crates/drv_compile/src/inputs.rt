@@ -47,8 +47,8 @@ fn absent<S: System>(
     Ok(text)
 }
 
-/// What speaks against a line: a variable that gcc's driver takes, then inputs that are not there.
-/// There is no text where nothing does.
+/// The text that refuses a line: about a variable that gcc's driver takes, or else about missing
+/// inputs. It is empty if nothing refuses the line.
 #[tactic(auto, using(drv_system::proofs::AskedCalls::asked_further))]
 pub(crate) fn objection<S: System>(
     alloc: Global,

@@ -1,5 +1,5 @@
 //! A call of `gdrv-cc`: its name, its spec file and the files beside it, what the words of its line
-//! ask for, and that done.
+//! ask for, and the work of that.
 #![tactic(auto)]
 
 mod calling;
@@ -19,10 +19,12 @@ mod reading;
 mod running;
 mod saying;
 mod self_specs;
+mod sources;
 mod speaking;
 mod stop;
 mod tasks;
 mod telling;
+mod temp_folder;
 mod wording;
 mod written;
 

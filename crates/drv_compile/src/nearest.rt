@@ -144,12 +144,12 @@ fn is_listed_before(name: &[u8], other: &[u8]) -> bool {
     first < second || (first == second && name.len() < other.len())
 }
 
-/// Whether a name is nearer than another one, so many edits away.
+/// Whether a name is nearer than another one that is this many edits away.
 fn is_nearer(name: &[u8], edits: usize, other: &Near<'_>) -> bool {
     edits < other.edits || (edits == other.edits && is_listed_before(name, other.name))
 }
 
-/// Whether a word of this length may be meant by a name of another, which so many edits lead to.
+/// Whether a word of one length may be meant to be a name of another, this many edits away.
 fn is_near(word: usize, name: usize, edits: usize) -> bool {
     edits <= most_edits(word, name)
 }

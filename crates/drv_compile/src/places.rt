@@ -1,8 +1,8 @@
 //! The place of the spec file, and of the files beside it.
 
-ghost use Rattle.drv_compile.specs.Places.{above, beside, companion, given, is_native, is_rooted};
-ghost use Rattle.drv_compile.specs.Places.{may_link, texts_by, texts_for, texts_or, wants_whole};
-ghost use Rattle.drv_compile.specs.Places.{whole_options};
+ghost use Rattle.drv_compile.specs.Places.{above, beside, companion, given, is_begun, is_native};
+ghost use Rattle.drv_compile.specs.Places.{is_rooted, may_link, texts_by, texts_for, texts_or};
+ghost use Rattle.drv_compile.specs.Places.{wants_whole, whole_options};
 ghost use Rattle.drv_cc.specs.Items.{is_among};
 ghost use Rattle.std.specs.List.{list_any};
 ghost use Rattle.std.specs.Prelude.{◌≡◌, ◌++◌, IfOk, OnOk};
@@ -90,13 +90,20 @@ fn is_native(item: &Item) -> bool
         && item.argument.as_bytes() == b"native".as_slice()
 }
 
+/// Whether an option begins as one that asks for what the whole spec file alone has.
+fn is_begun(option: &[u8]) -> bool
+    ensures { result ≡ is_begun option.now }
+{
+    option.starts_with(b"-gz=")
+        || option.starts_with(b"--gdrv-wrapper=")
+        || option.starts_with(b"--gdrv-path=")
+}
+
 /// Whether an item asks for the whole spec file.
 fn wants_whole(item: &Item) -> bool
     ensures { result ≡ wants_whole item.now }
 {
-    is_whole_option(item.option.as_bytes())
-        || is_native(item)
-        || item.option.as_bytes().starts_with(b"-gz=")
+    is_whole_option(item.option.as_bytes()) || is_native(item) || is_begun(item.option.as_bytes())
 }
 
 /// Whether some item asks for the whole spec file.

@@ -58,7 +58,7 @@ fn one_command(alloc: Global, command: Command) -> Result<Plan, AllocError>
     if let Some(group) = Group::from_vec(commands) {
         groups.push(group)?;
     }
-    let link = Job {
+    let job = Job {
         source: None,
         groups,
         temps: Listing::new(alloc),
@@ -66,10 +66,12 @@ fn one_command(alloc: Global, command: Command) -> Result<Plan, AllocError>
         on_failure: Listing::new(alloc),
         output: None,
     };
+    let mut jobs = Listing::new(alloc);
+    jobs.push(job)?;
     Ok(Plan {
         notices: Listing::new(alloc),
-        jobs: Listing::new(alloc),
-        link: Some(link),
+        jobs,
+        link: None,
     })
 }
 
@@ -143,7 +145,7 @@ fn refuse_overwriting<S: System, H: Host<S>>(
     Err(Stop::Told(text))
 }
 
-/// A line that nothing speaks against, with what the driver is called with and its work.
+/// A line that nothing refuses, with what the driver is called with and its work.
 ///
 /// # Errors
 /// The text of its refusal.

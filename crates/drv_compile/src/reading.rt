@@ -1,7 +1,7 @@
 //! The answer to a line.
 
 ghost use Rattle.drv_args.specs.Lines.{prefix_of, spec_of};
-ghost use Rattle.drv_cc.specs.Front.{front_of};
+ghost use Rattle.drv_cc.specs.Items.{items_of};
 ghost use Rattle.drv_compile.specs.Reading.{answer_names, file_names, files_names, folders_given};
 ghost use Rattle.drv_compile.specs.Reading.{has_unknown, is_unknown, known_answer, line_read};
 ghost use Rattle.drv_compile.specs.Reading.{names_read, read_by, refused_answer, specs_given};
@@ -10,12 +10,12 @@ ghost use Rattle.drv_search.specs.Code.Telling.{Tells, TellsMore};
 ghost use Rattle.drv_system.specs.Code.Asked.{Asked};
 ghost use Rattle.std.specs.List.{list_any};
 ghost use Rattle.std.specs.Option.{option_copied};
-ghost use Rattle.std.specs.Prelude.{◌≡◌, ◌++◌, [], IfOk, OnOk};
+ghost use Rattle.std.specs.Prelude.{◌≡◌, ◌++◌, [], IfOk, List, None, OnOk, ℕ};
 
 use crate::compilers::names_in;
 use crate::finding::known_names;
 use drv_args::{Effect, Item};
-use drv_cc::{Answer, Refusal, Surroundings, front};
+use drv_cc::{Answer, Items, Refusal, Surroundings};
 use drv_search::{Prefixes, find_file};
 use drv_system::{Outside, ReadAnswer, System};
 use drv_words::{Listing, Word};
@@ -220,56 +220,58 @@ fn answer_names<S: System>(
 /// The answer to a line that is refused where its spec files name nothing.
 fn refused_answer<S: System>(
     alloc: Global,
-    known: &[u8],
+    items: &Items,
     around: &Surroundings,
-    words: &[Word],
     refusals: &[Refusal],
     outside: &mut Outside<'_, S>,
 ) -> Result<Answer, AllocError>
     ensures asks { Asked S.events outside.old outside.new }
-    ensures answer { Tells outside.new result
-        (λ F. refused_answer F known.now around.now words.now refusals.now) }
+    ensures answer { (known : List ℕ) (words : List (List ℕ)) → items.now ≡ items_of known None words
+        → Tells outside.new result (λ F. refused_answer F known around.now words refusals.now) }
 {
     let switches = unknown_switches(alloc, refusals)?;
-    let taken = front(alloc, known, switches.as_slice(), around, words)?;
+    let taken = items.answer(alloc, switches.as_slice(), around)?;
     let named = answer_names(alloc, &taken, outside)?;
-    front(alloc, known, named.as_slice(), around, words)
+    items.answer(alloc, named.as_slice(), around)
 }
 
-/// The answer to a line by these names of the compiler's options. The spec files of the line are
-/// read only where it is refused without them.
+/// The answer to a line whose words were read by the names of the compiler's options. The spec
+/// files of the line are read only where it is refused without them.
 fn known_answer<S: System>(
     alloc: Global,
-    known: &[u8],
+    items: &Items,
     around: &Surroundings,
-    words: &[Word],
     outside: &mut Outside<'_, S>,
 ) -> Result<Answer, AllocError>
     ensures asks { Asked S.events outside.old outside.new }
-    ensures answer { Tells outside.new result (λ F. known_answer F known.now around.now words.now) }
+    ensures answer { (known : List ℕ) (words : List (List ℕ)) → items.now ≡ items_of known None words
+        → Tells outside.new result (λ F. known_answer F known around.now words) }
 {
-    let answer = front(alloc, known, &[], around, words)?;
+    let answer = items.answer(alloc, &[], around)?;
     let Answer::Refuse(refusals) = &answer else {
         return Ok(answer);
     };
-    refused_answer(alloc, known, around, words, refusals.as_slice(), outside)
+    refused_answer(alloc, items, around, refusals.as_slice(), outside)
 }
 
-/// The answer to a line, where these are the names of the compiler's options, if they are known.
+/// The answer to a line of these items, which were read without names of options. These are the
+/// names of the compiler's, if they are known.
 fn read_by<S: System>(
     alloc: Global,
     known: Option<Word>,
     around: &Surroundings,
-    words: &[Word],
+    items: Items,
     outside: &mut Outside<'_, S>,
 ) -> Result<Option<Reading>, AllocError>
     ensures asks { Asked S.events outside.old outside.new }
-    ensures reading { Tells outside.new result (λ F. read_by F around.now words.now known) }
+    ensures reading { (words : List (List ℕ)) → items ≡ items_of [] None words
+        → Tells outside.new result (λ F. read_by F around.now words known) }
 {
     let Some(known) = known else {
         return Ok(None);
     };
-    let answer = known_answer(alloc, known.as_bytes(), around, words, outside)?;
+    let items = items.with_names(alloc, known.as_bytes())?;
+    let answer = known_answer(alloc, &items, around, outside)?;
     Ok(Some(Reading { known, answer }))
 }
 
@@ -286,10 +288,11 @@ pub(crate) fn read_line<S: System>(
     ensures asks { Asked S.events outside.old outside.new }
     ensures reading { Tells outside.new result (λ F. line_read F specs.now around.now words.now) }
 {
-    let answer = front(alloc, b"", &[], around, words)?;
+    let items = Items::of(alloc, b"", words)?;
+    let answer = items.answer(alloc, &[], around)?;
     if has_unknown(&answer) {
         let known = known_names(alloc, specs, outside)?;
-        return read_by(alloc, known, around, words, outside);
+        return read_by(alloc, known, around, items, outside);
     }
     let known = Word::empty(alloc);
     Ok(Some(Reading { known, answer }))

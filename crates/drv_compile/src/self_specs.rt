@@ -6,7 +6,8 @@ ghost use Rattle.drv_cc.specs.declared.answer.Answer.TheVariants as answer;
 ghost use Rattle.drv_cc.specs.declared.refusal.Refusal.TheVariants as refusal;
 ghost use Rattle.drv_compile.specs.Reading.{specs_given};
 ghost use Rattle.drv_compile.specs.SelfSpecs.{answer_after, answer_by, answer_given, of_groups};
-ghost use Rattle.drv_compile.specs.SelfSpecs.{of_job, self_worked, worked_by, worked_for};
+ghost use Rattle.drv_compile.specs.SelfSpecs.{of_job, of_outcome, self_worked};
+ghost use Rattle.drv_compile.specs.SelfSpecs.{worked_along, worked_by, worked_for};
 ghost use Rattle.drv_compile.specs.declared.self_specs.Worked.TheVariants as worked;
 ghost use Rattle.drv_machine.specs.Outcome.{outcome};
 ghost use Rattle.drv_plan.specs.Denoted.{of_text};
@@ -109,6 +110,40 @@ fn work<S: System>(
     Ok(done)
 }
 
+/// What the text gives in a context.
+fn worked_in<S: System>(
+    alloc: Global,
+    text: &SpecTree,
+    context: &Context<'_>,
+    outside: &mut Outside<'_, S>,
+) -> Result<Worked, Ending>
+    ensures asks { Asked S.events outside.old outside.new }
+    ensures works { (F : Facts) → Extends outside.new.facts.now F
+        → GivesKnown ending.OutOfMemory (λ made. made) result
+        (of_outcome (of_text (outcome F context.now (tree_of text.now)))) }
+{
+    let done = work(alloc, text, context, outside)?;
+    Ok(of_job(alloc, &done.job)?)
+}
+
+/// What the text gives a line whose `-B` folders are these prefixes.
+fn worked_along<S: System>(
+    alloc: Global,
+    set: &SpecSet,
+    text: &SpecTree,
+    line: &Line,
+    prefixes: &Prefixes,
+    outside: &mut Outside<'_, S>,
+) -> Result<Worked, Ending>
+    ensures asks { Asked S.events outside.old outside.new }
+    ensures works { (F : Facts) → Extends outside.new.facts.now F
+        → GivesKnown ending.OutOfMemory (λ made. made) result
+        (worked_along F set.now text.now line.now prefixes.now) }
+{
+    let context = Context::new(alloc, line, set, prefixes, 0)?;
+    worked_in(alloc, text, &context, outside)
+}
+
 /// What the text gives a line.
 #[tactic(auto, using(drv_system::proofs::AskedCalls::asked_further))]
 fn worked_line<S: System>(
@@ -126,9 +161,7 @@ fn worked_line<S: System>(
 {
     let folders = settings.prefixes.as_slice();
     let prefixes = Prefixes::new(alloc, folders, outside.sys, outside.facts)?;
-    let context = Context::new(alloc, line, set, &prefixes, 0)?;
-    let done = work(alloc, text, &context, outside)?;
-    Ok(of_job(alloc, &done.job)?)
+    worked_along(alloc, set, text, line, &prefixes, outside)
 }
 
 /// What the text gives a line of these items.

@@ -14,9 +14,13 @@ ghost use Rattle.std.specs.Prelude.{◌≡◌, ◌++◌, [], IfOk, List, OnOk, i
 
 use crate::places::companion;
 use drv_cc::Refusal;
+use drv_plan::PlanFault;
 use drv_run::refusal_text;
 use drv_words::Word;
 use std::alloc::{AllocError, Global};
+
+/// What is said of a language that no spec file of this program is for.
+const NOT_SUPPORTED: &[u8] = b" is not supported: gdrv-cc compiles C and assembler";
 
 /// Adds three texts.
 fn add(text: &mut Word, before: &[u8], word: &[u8], after: &[u8]) -> Result<(), AllocError>
@@ -204,7 +208,7 @@ pub(crate) fn add_refusal(
                 name,
                 b"option '",
                 option.as_bytes(),
-                b"' is not carried out",
+                b"' is not supported",
             )
         }
         Refusal::GivenFile(word) => add_given(text, name, word.as_bytes()),
@@ -297,9 +301,9 @@ fn add_gone(text: &mut Word, name: &[u8], specs: &[u8], machine: &[u8]) -> Resul
     ensures { OnOk result (text.new ≡ text.old ++ gone_text name.now specs.now machine.now) }
 {
     text.extend_from_slice(name)?;
-    text.extend_from_slice(b": note: where the compiler of the spec file is gone, ")?;
+    text.extend_from_slice(b": note: the spec file may be for a gcc that is gone: ")?;
     add_writing(text, specs, machine)?;
-    text.extend_from_slice(b" anew\n")
+    text.extend_from_slice(b" again\n")
 }
 
 /// The text after a run that did not find a program.
@@ -381,7 +385,7 @@ pub(crate) fn variable_text(alloc: Global, name: &[u8]) -> Result<Word, AllocErr
         name,
         b"variable '",
         b"GCC_EXEC_PREFIX",
-        b"' is not carried out",
+        b"' is not supported",
     )
 }
 
@@ -393,7 +397,7 @@ pub(crate) fn no_place_text(alloc: Global, name: &[u8]) -> Result<Word, AllocErr
         alloc,
         name,
         b"",
-        b"where this program lies is not known (is /proc there?), and GDRV_CC_SPECS names no spec file",
+        b"cannot find this program's own path (is /proc mounted?), and GDRV_CC_SPECS is not set",
         b"",
     )
 }
@@ -458,11 +462,22 @@ pub(crate) fn told_refusal(
 ) -> Result<Word, AllocError>
     ensures { IfOk result (λ text. text ≡ told_refusal name.now refusal.now) }
 {
-    let text = refusal_text(alloc, refusal)?;
-    if matches!(refusal, drv_run::Refusal::C99(_)) {
-        let mut line = text;
-        line.push(b'\n')?;
-        return Ok(line);
+    match refusal {
+        drv_run::Refusal::C99(_) => {
+            let mut line = refusal_text(alloc, refusal)?;
+            line.push(b'\n')?;
+            Ok(line)
+        }
+        drv_run::Refusal::Plan(PlanFault::NotInstalled(language)) => {
+            error_line(alloc, name, b"", language.as_bytes(), NOT_SUPPORTED)
+        }
+        drv_run::Refusal::Args(_)
+        | drv_run::Refusal::Specs(_)
+        | drv_run::Refusal::Plan(
+            PlanFault::Memory | PlanFault::Machine(_) | PlanFault::UnknownLanguage(_),
+        ) => {
+            let text = refusal_text(alloc, refusal)?;
+            error_line(alloc, name, b"", text.as_bytes(), b"")
+        }
     }
-    error_line(alloc, name, b"", text.as_bytes(), b"")
 }

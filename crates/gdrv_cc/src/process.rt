@@ -7,9 +7,21 @@ use drv_compile::{Host, HostEvent};
 use drv_system::{HostSystem, System};
 use drv_words::Word;
 use std::alloc::AllocError;
+use std::fs::Metadata;
 use std::io::ErrorKind;
 use std::marker::Model;
+use std::os::unix::fs::MetadataExt;
 use std::{fs, str};
+
+/// The bits of a mode by which a class of users may read, write and search a folder.
+const OWNER: u32 = 0o700;
+
+const GROUP: u32 = 0o070;
+
+const OTHERS: u32 = 0o007;
+
+/// The bits of a mode by which all users may.
+const EVERYONE: u32 = OWNER | GROUP | OTHERS;
 
 /// The files of this process, and the children of its system.
 #[derive(Drop)]
@@ -49,6 +61,18 @@ impl Host<HostSystem> for Process {
         Ok(path)
     }
 
+    /// A name that is no text is that of no folder.
+    fn is_usable(&mut self, name: &Word) -> Result<bool, AllocError> {
+        let asked = name.clone()?;
+        self.notes.reserve(1)?;
+        let usable = match str::from_utf8(name.as_bytes()) {
+            Ok(path) => is_usable_folder(&self.rt, path)?,
+            Err(_) => false,
+        };
+        self.notes.push_reserved(HostEvent::Tried(asked, usable));
+        Ok(usable)
+    }
+
     fn set_for_children(
         &mut self,
         sys: &mut HostSystem,
@@ -85,5 +109,42 @@ fn path_of(rt: &HostRuntime, name: &Word) -> Result<Option<Word>, AllocError> {
         Ok(path) => Ok(Some(Word::from_bytes(rt.alloc(), path.as_str().as_bytes())?)),
         Err(e) if e.kind() == ErrorKind::OutOfMemory => Err(AllocError),
         Err(_) => Ok(None),
+    }
+}
+
+/// What is known of a file, if it is there.
+fn metadata_of(rt: &HostRuntime, path: &str) -> Result<Option<Metadata>, AllocError> {
+    match fs::metadata(rt, path) {
+        Ok(found) => Ok(Some(found)),
+        Err(e) if e.kind() == ErrorKind::OutOfMemory => Err(AllocError),
+        Err(_) => Ok(None),
+    }
+}
+
+/// Whether this process can make and find files in a folder (POSIX, "File Access Permissions"). It
+/// has the user and the group of its folder in `/proc`. Of another owner's folder the group may be
+/// one of the further groups of this process, so it is enough that one class may do all.
+fn may_use(rt: &HostRuntime, folder: &Metadata) -> Result<bool, AllocError> {
+    let mode = folder.mode();
+    if mode & EVERYONE == EVERYONE {
+        return Ok(true);
+    }
+    let Some(own) = metadata_of(rt, "/proc/self")? else {
+        return Ok(true);
+    };
+    if own.uid() == 0 {
+        return Ok(true);
+    }
+    if own.uid() == folder.uid() {
+        return Ok(mode & OWNER == OWNER);
+    }
+    Ok(mode & GROUP == GROUP || mode & OTHERS == OTHERS)
+}
+
+/// Whether a path is that of a folder in which this process can make and find files.
+fn is_usable_folder(rt: &HostRuntime, path: &str) -> Result<bool, AllocError> {
+    match metadata_of(rt, path)? {
+        Some(found) if found.is_dir() => may_use(rt, &found),
+        _ => Ok(false),
     }
 }

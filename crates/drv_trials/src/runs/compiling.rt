@@ -1,6 +1,7 @@
 //! Whole calls of `gdrv-cc`. Beside the script, lines `leads NAME PATH` say which path the file has
-//! that a name leads to; any other name leads to none. The program lies at `/bin/` and its name.
-//! Printed is also what the host was asked, and which variable was set after how many events.
+//! that a name leads to; any other name leads to none. Lines `usable NAME` say in which folders files
+//! can be made, beside `/tmp`. The program lies at `/bin/` and its name. Printed is also what the host
+//! was asked, and which variable was set after how many events.
 
 ghost use Rattle.std.specs.Prelude.{◌≡◌, [], IfOk, IfSome};
 
@@ -21,6 +22,7 @@ use std::marker::Model;
 #[derive(Drop)]
 struct ScriptHost {
     paths: Listing<(Word, Word)>,
+    folders: Listing<Word>,
     notes: Vec<HostEvent>,
 }
 
@@ -64,6 +66,13 @@ impl Host<ScriptSystem> for ScriptHost {
         Ok(path)
     }
 
+    fn is_usable(&mut self, name: &Word) -> Result<bool, AllocError> {
+        let asked = name.clone()?;
+        let usable = self.folders.as_slice().contains(name);
+        self.notes.push(HostEvent::Tried(asked, usable))?;
+        Ok(usable)
+    }
+
     /// The system itself keeps no variables of children.
     fn set_for_children(
         &mut self,
@@ -82,15 +91,22 @@ impl Host<ScriptSystem> for ScriptHost {
 /// The host that lines say.
 fn host(alloc: Global, lines: &[Listing<Word>]) -> Result<ScriptHost, AllocError> {
     let mut paths = Listing::new(alloc);
+    let mut folders = Listing::new(alloc);
     for line in lines {
-        if let [what, name, path] = line.as_slice()
-            && what.as_bytes() == b"leads".as_slice()
-        {
-            paths.push((name.clone()?, path.clone()?))?;
+        match line.as_slice() {
+            [what, name, path] if what.as_bytes() == b"leads".as_slice() => {
+                paths.push((name.clone()?, path.clone()?))?;
+            }
+            [what, name] if what.as_bytes() == b"usable".as_slice() => {
+                folders.push(name.clone()?)?;
+            }
+            _ => {}
         }
     }
+    folders.push(Word::from_bytes(alloc, b"/tmp")?)?;
     Ok(ScriptHost {
         paths,
+        folders,
         notes: Vec::new(alloc),
     })
 }
@@ -105,6 +121,15 @@ fn add_note(note: &HostEvent, out: &mut Transcript) -> Result<(), AllocError> {
                 out.add(b" as ")?;
                 out.add_quoted(path)?;
             }
+        }
+        HostEvent::Tried(name, usable) => {
+            out.add(b"tried ")?;
+            out.add_quoted(name)?;
+            out.add(if *usable {
+                b": usable"
+            } else {
+                b": not usable"
+            })?;
         }
         HostEvent::Set(at, variable) => {
             out.add(b"set after ")?;

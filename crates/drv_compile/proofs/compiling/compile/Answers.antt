@@ -1,13 +1,8 @@
-use Rattle.drv_compile.proofs.Done.{compiled_done, compiled_stopped}
+use Rattle.drv_compile.proofs.Done.{compiled_by_none}
 use Rattle.drv_compile.proofs.compiling.compile.Goals as goal
-use Rattle.std.proofs.Common.{rules}
 
 pub returns-in-Ok-clause-compiled : goal.returns-in-Ok-clause-compiled
-returns-in-Ok-clause-compiled g c =
-    let asks = c.prepare.ensures.asks.asks in
-    compiled_done c.args.calling.now c.args.own.now c.args.args.now c.args.seed c.in-Ok.prepared _ c.carried_out.result c.as_bytes.ensures c.new.ensures (search rules) c.in-Ok.ensures.comes c.carried_out.ensures.carries
+returns-in-Ok-clause-compiled g c = c.compile_settled.ensures.compiled _ _ c.in-Ok.ensures.settles
 
 pub returns-clause-compiled : goal.returns-clause-compiled
-returns-clause-compiled g c =
-    let asks = c.prepare.ensures.asks.asks in
-    compiled_stopped c.args.calling.now c.args.own.now c.args.args.now c.args.seed c.in-Err.stop c.stopped.result c.new.ensures (search rules) c.in-Err.ensures.comes c.stopped.ensures.tells
+returns-clause-compiled g c = compiled_by_none c.args.calling.now c.args.own.now c.args.args.now c.args.seed c.settle.ensures.asks

@@ -4,4 +4,5 @@ use Rattle.drv_system.proofs.AskedCalls.{extends_before}
 
 pub returns-clause-path : goal.returns-clause-path
 returns-clause-path g c F e =
-    file_found_so F c.args.own c.in_ok-found.found c.or_named.result (c.in_ok-found.ensures.path F (extends_before c.or_named.ensures.asks e)) (c.or_named.ensures.path F e)
+    file_found_so F c.args.own c.in_ok-named.named c.or_own.result c.plain_at.result
+    (c.in_ok-named.ensures.path F (extends_before c.plain_at.ensures.asks e)) c.or_own.ensures (c.plain_at.ensures.path F e)
