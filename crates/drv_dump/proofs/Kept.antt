@@ -10,7 +10,7 @@ use Rattle.drv_dump.specs.declared.turn.Turn.{Turn}
 use Rattle.std.proofs.Common.{◌≡◌, ◌+◌, ◌∙◌, Bool, Err, List, [], ◌∷◌, ◌++◌, Ok, Result, ap, append-nil, append_assoc, false, refl, sym, true, ℕ}
 use Rattle.std.proofs.lemmas.Grind.{flat_map-append}
 
--- The pieces of a text are written as that text.
+-- For text_is_kept: the pieces of a text are written back as that text.
 
 abbrev pub ok_or : {X E : Type 0} → X → Result X E → X
 ok_or x (Ok y) = y

@@ -1,6 +1,7 @@
 pub mod Kept
 pub mod KeptDumps
 pub mod Naming
+pub mod Passing
 pub mod Replacing
 pub mod Rows
 pub mod Steps

@@ -7,7 +7,7 @@ use Rattle.drv_dump.specs.declared.piece.Piece.{Piece}
 use Rattle.std.proofs.Common.{◌≡◌, ◌-◌, ◌<◌, ◌≤◌, ◌∙◌, List, [], ◌∷◌, ◌++◌, ap, append_assoc, arith, drop, false, get_or, if◌then◌else◌, length, suc, sym, take, true, zero, ℕ}
 use Rattle.std.proofs.lemmas.List.{take_all}
 
--- The steps of the loops that put named texts in place of files.
+-- For `translate_text`: the loops that replace the names of files by named texts.
 
 after_first : {X : Type 0} (x : X) (xs : List X) → take (length (x ∷ xs) - 1) xs ≡ xs
 after_first x xs = take_all (length (x ∷ xs) - 1) xs (omega arith)

@@ -8,7 +8,7 @@ use Rattle.std.proofs.Common.{◌≡◌, ◌+◌, ◌-◌, ◌<◌, ◌==◌, �
 use Rattle.std.proofs.lemmas.List.{at_drop_more, take_all}
 use Rattle.drv_dump.proofs.Kept.{same_value}
 
--- The steps of the loops that put a text in other words.
+-- For `translate_text`: the loops that replace forms of gcc by those of the driver.
 
 after_first : (b : ℕ) (text : List ℕ) → take (length (b ∷ text) - 1) text ≡ text
 after_first b text = take_all (length (b ∷ text) - 1) text (omega arith)

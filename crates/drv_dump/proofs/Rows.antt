@@ -7,7 +7,7 @@ use Rattle.drv_dump.specs.declared.fault.TextFault.{TextFault}
 use Rattle.drv_dump.specs.declared.piece.Piece.{Piece}
 use Rattle.std.proofs.Common.{◌≡◌, Err, List, [], ◌∷◌, Ok, Result, codes, map, refl, ℕ}
 
--- Worked texts, by computation.
+-- Examples of texts, which the prover computes from the definitions.
 
 -- the bytes of each piece
 abbrev spread : Result (List Piece) TextFault → Result (List (List ℕ)) TextFault

@@ -21,6 +21,7 @@ of_gcc form.StripDwo = codes "objcopy --strip-dwo"
 of_gcc form.LinkTimeOptions = codes "%{flto} %{fno-lto} %{flto=*}"
 of_gcc form.LinkerChoice = codes "%{fuse-ld=*:-fuse-ld=%*}"
 of_gcc form.LinkOutput = codes "%{o*}"
+of_gcc form.MachineOptions = codes "%{m*}"
 
 abbrev pub ours : WholeForm → List ℕ
 ours form.Object = codes "%(object)"
@@ -36,6 +37,7 @@ ours form.StripDwo = codes "%(objcopy_cmd) --strip-dwo"
 ours form.LinkTimeOptions = []
 ours form.LinkerChoice = []
 ours form.LinkOutput = codes "%W{o*}"
+ours form.MachineOptions = codes "%(machine_options)"
 
 -- its bytes after the first one
 abbrev pub others : WholeForm → ℕ
@@ -44,7 +46,7 @@ others form = length (of_gcc form) - 1
 abbrev pub whole_forms : List WholeForm
 whole_forms =
     form.Object ∷ form.OlderObject ∷ form.SplitObject ∷ form.OlderSplitObject ∷ form.Dependencies ∷ form.OlderDwoName ∷ form.DwoName
-    ∷ form.Preprocessor ∷ form.ExtractDwo ∷ form.StripDwo ∷ form.LinkTimeOptions ∷ form.LinkerChoice ∷ form.LinkOutput ∷ []
+    ∷ form.Preprocessor ∷ form.ExtractDwo ∷ form.StripDwo ∷ form.LinkTimeOptions ∷ form.LinkerChoice ∷ form.LinkOutput ∷ form.MachineOptions ∷ []
 
 -- the first of these forms that a text begins with
 abbrev pub first_at : List WholeForm → List ℕ → Option WholeForm
@@ -54,11 +56,13 @@ first_at (form ∷ forms) text = if starts_with nat_eq text (of_gcc form) then S
 abbrev pub form_at : List ℕ → Option WholeForm
 form_at text = first_at whole_forms text
 
--- directives in other words, and those that this driver lacks
+-- Directives in other words, and those that this driver lacks. gcc itself hands the files of a link on in a response file where its line had
+-- one (%o, close_at_file); here a text says so.
 abbrev pub directives : List (List ℕ × List ℕ)
 directives =
     (codes "%I", codes "%(include_words)") ∷ (codes "%D", codes "%(link_folders)") ∷ (codes "%M", codes "%(multilib_folder)")
-    ∷ (codes "%R", codes "%(sysroot_folder)") ∷ (codes "%j", codes "%(checked)") ∷ []
+    ∷ (codes "%R", codes "%(sysroot_folder)") ∷ (codes "%j", codes "%(checked)")
+    ∷ (codes "%o", codes "%@{!-gdrv-none:%o}") ∷ []
 
 abbrev pub lacking_directives : List (List ℕ)
 lacking_directives = codes "%c" ∷ codes "%p" ∷ codes "%P" ∷ codes "%v" ∷ codes "%." ∷ codes "%\"" ∷ []

@@ -4,4 +4,5 @@ pub mod Forms
 pub mod Grammar
 pub mod OurDump
 pub mod Ours
+pub mod Passed
 pub mod Texts

@@ -52,7 +52,7 @@ pub(crate) struct DumpReader {
 }
 
 impl DumpReader {
-    /// A dump of which nothing is read.
+    /// A dump before its first byte is read.
     fn new(alloc: Global) -> DumpReader
         ensures { result ≡ nothing_read }
     {

@@ -17,7 +17,7 @@ pub enum Misfit {
     BadTest,
     /// The name of a function has no such byte.
     BadFunction,
-    /// More than 64 braces, or parentheses of a function, are within one another.
+    /// More than 64 braces, or parentheses of a function, are nested.
     TooNested,
     /// The text ends in a directive, in braces or after a backslash.
     Unclosed,

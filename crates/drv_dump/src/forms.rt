@@ -36,6 +36,8 @@ pub(crate) enum WholeForm {
     LinkerChoice,
     /// The output of the link, which is removed where the link fails.
     LinkOutput,
+    /// The options of the line for the machine, which gcc adds those to that it was built for.
+    MachineOptions,
 }
 
 impl WholeForm {
@@ -59,6 +61,7 @@ impl WholeForm {
             WholeForm::LinkTimeOptions => b"%{flto} %{fno-lto} %{flto=*}",
             WholeForm::LinkerChoice => b"%{fuse-ld=*:-fuse-ld=%*}",
             WholeForm::LinkOutput => b"%{o*}",
+            WholeForm::MachineOptions => b"%{m*}",
         }
     }
 
@@ -76,6 +79,7 @@ impl WholeForm {
             WholeForm::StripDwo => b"%(objcopy_cmd) --strip-dwo",
             WholeForm::LinkTimeOptions | WholeForm::LinkerChoice => b"",
             WholeForm::LinkOutput => b"%W{o*}",
+            WholeForm::MachineOptions => b"%(machine_options)",
         }
     }
 
@@ -124,6 +128,8 @@ pub(crate) fn form_at(text: &[u8]) -> Option<WholeForm>
         Some(WholeForm::LinkerChoice)
     } else if WholeForm::LinkOutput.begins(text) {
         Some(WholeForm::LinkOutput)
+    } else if WholeForm::MachineOptions.begins(text) {
+        Some(WholeForm::MachineOptions)
     } else {
         None
     }
@@ -143,6 +149,8 @@ pub(crate) fn directive_of(directive: &[u8]) -> Option<&'static [u8]>
         Some(b"%(sysroot_folder)")
     } else if directive == b"%j".as_slice() {
         Some(b"%(checked)")
+    } else if directive == b"%o".as_slice() {
+        Some(b"%@{!-gdrv-none:%o}")
     } else {
         None
     }

@@ -144,7 +144,7 @@ fn test_words<'a>(call: &'a [u8]) -> Option<&'a [u8]>
 }
 
 /// Adds to a word what a piece becomes.
-fn push_piece(alloc: Global, piece: &Piece, word: &mut Word) -> Result<(), OursFault>
+pub(crate) fn push_piece(alloc: Global, piece: &Piece, word: &mut Word) -> Result<(), OursFault>
     ensures { Gives Memory (λ u. word.new) result (put word.old piece.now) }
 {
     let bytes = piece.bytes.as_bytes();

@@ -30,7 +30,7 @@ fn is_whole(place: Place, depth: usize) -> bool
 }
 
 impl Reader {
-    /// A text of which nothing is read.
+    /// A text before its first byte is read.
     fn new(alloc: Global) -> Reader
         ensures { result ≡ begun }
     {

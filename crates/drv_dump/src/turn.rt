@@ -8,7 +8,7 @@ use crate::turns_of_tests::{
 };
 use crate::{Kind, Misfit};
 
-/// The most braces within one another, and the most parentheses of a function.
+/// The most nested braces, and the most nested parentheses of a function.
 const MOST_LEVELS: usize = 64;
 
 /// The place of a function.
@@ -45,7 +45,7 @@ pub(crate) enum Place {
     Option,
     /// In the name of a function.
     Function(Side),
-    /// In the arguments of a function, inside so many parentheses of their own.
+    /// In the arguments of a function, inside this many parentheses of their own.
     Arguments(Side, usize),
     /// Before a test.
     BeforeTest,
@@ -319,7 +319,7 @@ fn argument_turn(side: Side, inside: usize, depth: usize, byte: u8) -> Turn
     reads(Part::Later, call_kind(side), place, depth)
 }
 
-/// What a byte is at a place, inside so many braces.
+/// What a byte is at a place, inside this many braces.
 pub(crate) fn turn_at(place: Place, depth: usize, byte: u8) -> Turn
     ensures { result ≡ grammar.turn place depth byte }
 {

@@ -1,0 +1,5 @@
+use Rattle.std.proofs.Common.{◌≡◌, ◌∙◌, List, ◌++◌, ap, append_assoc, ℕ}
+
+-- what is added in two steps
+pub joined : (first second third one other : List ℕ) → second ≡ first ++ one → third ≡ second ++ other → third ≡ first ++ (one ++ other)
+joined first second third one other put more = more ∙ ap (λ l. l ++ other) put ∙ append_assoc first one other

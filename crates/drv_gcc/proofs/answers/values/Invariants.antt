@@ -1,0 +1,7 @@
+use Rattle.drv_gcc.proofs.answers.values.Given as goal
+use Rattle.drv_gcc.specs.Answers.{value_in}
+use Rattle.std.specs.List.{flat_map}
+use Rattle.std.proofs.Common.{◌≡◌, map}
+
+abbrev pub invariant-loop-line : goal.invariant-loop-line
+invariant-loop-line l = l.found ≡ flat_map (value_in l.key) (map (λ line. line.now) l.yielded)

@@ -1,0 +1,5 @@
+pub mod Answers
+pub mod Fixed
+pub mod Plans
+pub mod Replacing
+pub mod SpecFile

@@ -1,0 +1,38 @@
+use Rattle.drv_words.specs.FileNames.{base}
+use Rattle.std.specs.Cmp.Lexicographic.{pointwise}
+use Rattle.std.specs.List.{starts_with}
+use Rattle.std.specs.Prelude.{◌&&◌, ◌||◌, Bool, List, [], ◌∷◌, codes, false, if◌then◌else◌, nat_eq, true, ℕ}
+
+-- Two drivers plan the same: the same programs, each with the same words in the same order (GCC manual, "Overall Options", -###). A
+-- temporary file has another name in each call. collect2 runs the linker, which this driver starts itself.
+
+abbrev pub temporary : List ℕ
+temporary = codes "temporary"
+
+abbrev pub is_temporary : List ℕ → Bool
+is_temporary word =
+    starts_with nat_eq word (codes "-plugin-opt=-fresolution=") || (starts_with nat_eq word (codes "/") && starts_with nat_eq (base word) (codes "cc"))
+
+abbrev pub plain_word : List ℕ → List ℕ
+plain_word word = if is_temporary word then temporary else word
+
+abbrev pub plain_program : List ℕ → List ℕ
+plain_program path = if pointwise nat_eq (base path) (codes "collect2") then codes "ld" else base path
+
+abbrev pub same_words : List (List ℕ) → List (List ℕ) → Bool
+same_words [] [] = true
+same_words [] (b ∷ bs) = false
+same_words (a ∷ as_) [] = false
+same_words (a ∷ as_) (b ∷ bs) = pointwise nat_eq (plain_word a) (plain_word b) && same_words as_ bs
+
+abbrev pub same_command : List (List ℕ) → List (List ℕ) → Bool
+same_command [] [] = true
+same_command [] (b ∷ bs) = false
+same_command (a ∷ as_) [] = false
+same_command (a ∷ as_) (b ∷ bs) = pointwise nat_eq (plain_program a) (plain_program b) && same_words as_ bs
+
+abbrev pub same_commands : List (List (List ℕ)) → List (List (List ℕ)) → Bool
+same_commands [] [] = true
+same_commands [] (b ∷ bs) = false
+same_commands (a ∷ as_) [] = false
+same_commands (a ∷ as_) (b ∷ bs) = same_command a b && same_commands as_ bs

@@ -1,0 +1,13 @@
+use Rattle.std.specs.List.{starts_with}
+use Rattle.std.specs.Prelude.{◌-◌, Bool, List, [], ◌∷◌, ◌++◌, if◌then◌else◌, length, nat_eq, suc, zero, ℕ}
+
+-- A form in a text, at each place of it from the front, in other words. So many bytes are part of the one before.
+
+abbrev pub put_other : List ℕ → (ℕ → List ℕ) → Bool → ℕ → ℕ → List ℕ
+put_other other after is_here others b = if is_here then other ++ after others else b ∷ after zero
+
+abbrev pub replaced : List ℕ → List ℕ → ℕ → List ℕ → List ℕ
+replaced form other skip [] = []
+replaced form other zero (b ∷ text) =
+    put_other other (λ skip. replaced form other skip text) (starts_with nat_eq (b ∷ text) form) (length form - 1) b
+replaced form other (suc skip) (b ∷ text) = replaced form other skip text

@@ -1,0 +1,247 @@
+use Rattle.drv_dump.specs.Dumps.{written_entry}
+use Rattle.drv_gcc.specs.Fixed.{first_texts, last_texts}
+use Rattle.drv_gcc.specs.declared.toolchain.Choice.{Choice}
+use Rattle.drv_gcc.specs.declared.toolchain.ForMachine.{ForMachine}
+use Rattle.drv_gcc.specs.declared.toolchain.Included.{Included}
+use Rattle.drv_gcc.specs.declared.toolchain.Linker.{Linker}
+use Rattle.drv_gcc.specs.declared.toolchain.MachineOptions.{MachineOptions}
+use Rattle.drv_gcc.specs.declared.toolchain.MachineWord.{MachineWord}
+use Rattle.drv_gcc.specs.declared.toolchain.NamedText.{NamedText}
+use Rattle.drv_gcc.specs.declared.toolchain.Program.{Program}
+use Rattle.drv_gcc.specs.declared.toolchain.Programs.{Programs}
+use Rattle.drv_gcc.specs.declared.toolchain.Toolchain.{Toolchain}
+use Rattle.drv_words.specs.Bytes as byte
+use Rattle.std.specs.Char.{is_ascii_alphanumeric}
+use Rattle.std.specs.List.{flat_map, list_any, starts_with}
+use Rattle.std.specs.Prelude.{◌||◌, Bool, List, [], ◌∷◌, ◌++◌, codes, drop, if◌then◌else◌, length, nat_eq, nat_lt, ℕ}
+
+-- The spec file of a gcc: the texts of its dump, and those that say where it has what they name (GCC manual, "Spec Files").
+
+abbrev pub is_of : List ℕ → ℕ → Bool
+is_of bytes b = list_any (nat_eq b) bytes
+
+-- A word as a spec text has it, and as a test of switches has it: a backslash precedes each byte that may mean something there.
+
+abbrev pub marked : Bool → ℕ → List ℕ
+marked plain b = if plain then b ∷ [] else byte.backslash ∷ b ∷ []
+
+abbrev pub text_byte : ℕ → List ℕ
+text_byte b = marked (is_ascii_alphanumeric b || is_of (codes "_./=+,:@~-") b) b
+
+abbrev pub spec_word : List ℕ → List ℕ
+spec_word word = flat_map text_byte word
+
+abbrev pub test_byte : ℕ → List ℕ
+test_byte b = marked (is_ascii_alphanumeric b || is_of (codes "_=+,.@-") b) b
+
+abbrev pub test_word : List ℕ → List ℕ
+test_word word = flat_map test_byte word
+
+-- with a blank after it
+abbrev pub then_blank : List ℕ → List ℕ
+then_blank word = spec_word word ++ byte.space ∷ []
+
+-- a text of this name
+unfoldable pub entry : List ℕ → List ℕ → List ℕ
+entry name body = written_entry name body
+
+-- a text without words is there and says nothing
+abbrev pub or_nothing : List ℕ → List ℕ
+or_nothing [] = codes "%{-gdrv-none:}"
+or_nothing (b ∷ word) = spec_word (b ∷ word)
+
+-- A text for each machine that an option of the line chooses, and one for the gcc's own (GCC manual, "Spec Files", %{S:X;T:Y;:D}).
+
+unfoldable pub for_machine : ForMachine → List ℕ
+for_machine it = it.test ++ codes ":" ++ it.text ++ codes ";"
+
+unfoldable pub alternatives : List ℕ → List ForMachine → List ℕ
+alternatives own others = codes "%{" ++ flat_map for_machine others ++ codes ":" ++ own ++ codes "}"
+
+unfoldable pub chosen : Choice → List ℕ
+chosen it = if nat_lt 0 (length it.others) then alternatives it.own it.others else it.own
+
+unfoldable pub named_text : NamedText → List ℕ
+named_text it = entry it.name (chosen it.choice)
+
+-- a file by its path, or along the -B of the line; one that gcc doesn't find is looked for by its name
+unfoldable pub found_body : List ℕ → List ℕ → List ℕ
+found_body name path = codes "%{-gdrv-dirs:" ++ name ++ codes "%s;:" ++ spec_word path ++ codes "}"
+
+unfoldable pub file_body : List ℕ → List ℕ → List ℕ
+file_body name path = if nat_lt 0 (length path) then found_body name path else name ++ codes "%s"
+
+-- The folder of files, in a text that it names: a file in it is looked for along the -B of the line by its name alone.
+
+unfoldable pub folder_body : List ℕ → List ℕ
+folder_body folder = codes "%{-gdrv-dirs:;:" ++ spec_word folder ++ codes "}"
+
+unfoldable pub placed_body : List ℕ → List ℕ → List ℕ
+placed_body name folder = codes "%(in_" ++ folder ++ codes ")" ++ name ++ codes "%s"
+
+-- the texts of a file that a text includes (%:include); a line that needs a missing one is refused
+unfoldable pub included_text : Included → List ℕ
+included_text it =
+    if it.is_there then entry (codes "include_" ++ it.name) (codes "%{-gdrv-none:}") ++ it.texts
+    else entry (codes "include_" ++ it.name) (codes "%espec file '" ++ it.name ++ codes "' not found")
+
+-- gcc's own folders, which the front hands on as -B, are none of the line
+unfoldable pub hidden_folder : List ℕ → List ℕ
+hidden_folder folder = codes "%<B" ++ test_word folder ++ codes " "
+
+unfoldable pub own_text : List (List ℕ) → List ℕ
+own_text folders = entry (codes "own_folders") (codes "%{-gdrv-dirs|-gdrv-path=*:" ++ flat_map hidden_folder folders ++ codes "}")
+
+unfoldable pub headers_text : Choice → List ℕ
+headers_text words =
+    entry (codes "include_words") (codes "%(own_folders) " ++ chosen words
+    ++ codes " %{B*:-isystem %*/include} %{-gdrv-path=*:-isystem %*/include}")
+
+-- folders of -B come before gcc's own folder, and those of LIBRARY_PATH before the last one
+unfoldable pub library_words : List (List ℕ) → List (List ℕ) → List ℕ → List ℕ
+library_words before words last =
+    flat_map then_blank before ++ codes "%{B*:-L%*} " ++ flat_map then_blank words ++ codes "%{-gdrv-lib=*:-L%*} " ++ spec_word last
+
+unfoldable pub libraries_text : Choice → List ℕ
+libraries_text folders = entry (codes "link_folders") (codes "%(own_folders) " ++ chosen folders)
+
+-- words that name folders below a root: that of the line in the place of one that was tried (GCC manual, "Directory Options", --sysroot=)
+unfoldable pub rooted_words : List ℕ → List ℕ → List ℕ
+rooted_words plain below = codes "%{-sysroot=*:" ++ below ++ codes ";:" ++ plain ++ codes "}"
+
+unfoldable pub folder_texts : Toolchain → List ℕ
+folder_texts gcc = own_text gcc.folders ++ headers_text gcc.include_words ++ libraries_text gcc.link_folders
+
+-- A program where gcc finds it (GCC, "find_a_program"): along the -B of the line and COMPILER_PATH, and else in a folder of its own or along PATH.
+-- The words of -wrapper are followed by its plain name where it is in none of those folders.
+unfoldable pub looked_for : Bool → List ℕ
+looked_for own = if own then codes "-gdrv-dirs|-gdrv-path=*" else codes "-gdrv-dirs|-gdrv-path=*|-gdrv-wrapper=*"
+
+unfoldable pub program_choice : List ℕ → Program → List ℕ
+program_choice name it = looked_for it.is_own ++ codes ":" ++ name ++ codes ";:" ++ spec_word it.path
+
+-- the words of -wrapper precede the program, which is then looked for as a file
+unfoldable pub program_body : List ℕ → Program → List ℕ
+program_body name it = codes "%{" ++ program_choice name it ++ codes "}%(wrapped)"
+
+unfoldable pub program_text : List ℕ → List ℕ → Program → List ℕ
+program_text text name it = entry text (program_body name it)
+
+unfoldable pub wrapped_text : List ℕ → List ℕ → Program → List ℕ
+wrapped_text text name it = entry text (codes "%(wrapper)" ++ program_body name it)
+
+-- a linker of -fuse-ld=
+unfoldable pub own_linker : Linker → List ℕ
+own_linker it = codes "fuse-ld=" ++ it.name ++ codes ":%{-gdrv-dirs|-gdrv-path=*:ld." ++ it.name ++ codes ";:" ++ spec_word it.path ++ codes "};"
+
+unfoldable pub linker_body : List Linker → Program → List ℕ
+linker_body linkers linker =
+    codes "%(wrapper)%{" ++ flat_map own_linker linkers ++ codes "fuse-ld=*:ld.%*;" ++ program_choice (codes "ld") linker ++ codes "}%(wrapped)"
+
+unfoldable pub linker_text : Programs → List ℕ
+linker_text programs = entry (codes "linker") (linker_body programs.linkers programs.linker)
+
+unfoldable pub tool_texts : Program → Program → Program → List ℕ
+tool_texts compiler assembler objcopy =
+    wrapped_text (codes "cc1_cmd") (codes "cc1") compiler ++ program_text (codes "as_cmd") (codes "as") assembler
+    ++ wrapped_text (codes "objcopy_cmd") (codes "objcopy") objcopy
+
+unfoldable pub folder_of_plugins : List ℕ → List ℕ
+folder_of_plugins folder = entry (codes "plugin_folder") (codes "-iplugindir=" ++ spec_word folder)
+
+unfoldable pub plugin_texts : List ℕ → List ℕ → List ℕ → List ℕ
+plugin_texts plugin wrapper folder =
+    entry (codes "linker_plugin_file") (or_nothing plugin) ++ entry (codes "lto_wrapper") (or_nothing wrapper)
+    ++ folder_of_plugins folder
+
+unfoldable pub program_texts : Programs → List ℕ
+program_texts programs =
+    tool_texts programs.compiler programs.assembler programs.objcopy ++ linker_text programs
+    ++ plugin_texts programs.plugin programs.lto_wrapper programs.plugin_folder
+
+-- The root is named first of all in the link (%R, sysroot_spec): that of the line, or that of the gcc.
+
+unfoldable pub line_root : List ℕ → List ℕ
+line_root own = codes "%{-sysroot=*:--sysroot=%*;:" ++ spec_word own ++ codes "}"
+
+unfoldable pub root_words : Bool → List ℕ → List ℕ
+root_words rooted own = if rooted then line_root own else spec_word own
+
+unfoldable pub root_text : Bool → List ℕ → List ℕ
+root_text rooted own = codes "%rename link link_of_gcc\n\n*link:\n" ++ root_words rooted own ++ codes " %(link_of_gcc)\n\n"
+
+unfoldable pub root_guard : Bool → List ℕ
+root_guard rooted =
+    entry (codes "refused_root") (if rooted then codes "%{-gdrv-none:}" else codes "%{-sysroot=*:%e--sysroot= is not in this spec file}")
+
+-- Where the files of a link are looked for along all prefixes, gcc looks for none in the folders of COMPILER_PATH (GCC manual, "Environment
+-- Variables"). A line for which such a folder has one of them is refused.
+
+abbrev pub file_of : NamedText → List (List ℕ)
+file_of it = if starts_with nat_eq it.name (codes "file_") then drop (length (codes "file_")) it.name ∷ [] else []
+
+unfoldable pub there_test : List ℕ → List ℕ
+there_test name = codes "%:if-exists(%*/" ++ name ++ codes ")|"
+
+unfoldable pub there_tests : NamedText → List ℕ
+there_tests it = flat_map there_test (file_of it)
+
+unfoldable pub hiding_body : List NamedText → List ℕ
+hiding_body texts =
+    codes "%{!-gdrv-path=*:;-gdrv-dirs:%{-gdrv-path=*:%{" ++ flat_map there_tests texts
+    ++ codes "-gdrv-none:%e-B or -specs= beside a folder of COMPILER_PATH with files of a link is not in this spec file}}"
+    ++ codes "%<-gdrv-path=\\/* %{-gdrv-path=*:%e-B or -specs= beside a relative folder of COMPILER_PATH is not in this spec file}}"
+
+unfoldable pub hiding_text : List NamedText → List ℕ
+hiding_text texts = entry (codes "hiding_folders") (hiding_body texts)
+
+-- A word that gcc adds to a compilation for its machine (DRIVER_SELF_SPECS, OPTION_DEFAULT_SPECS), unless one of these tests of the line holds.
+
+abbrev pub one_of : List (List ℕ) → List ℕ
+one_of [] = codes "-gdrv-none"
+one_of (test ∷ tests) = test ++ byte.bar ∷ one_of tests
+
+unfoldable pub machine_text : MachineWord → List ℕ
+machine_text it = codes " %{" ++ one_of it.unless ++ codes ":;:" ++ spec_word it.word ++ codes "}"
+
+-- an option that would have other words by this file than by gcc
+unfoldable pub refused_option : List ℕ → List ℕ
+refused_option option = codes "%{" ++ test_word (drop 1 option) ++ codes ":%e" ++ option ++ codes " is not in this spec file}"
+
+-- words that are found out about the machine of the call come from texts of the compiler
+unfoldable pub native_words : Choice → Choice → List ℕ
+native_words native tuned =
+    codes "%{march=native:%<march=native %<mtune=native %{m*}" ++ chosen native ++ codes ";:%<mtune=native %{m*}" ++ chosen tuned ++ codes "}"
+
+unfoldable pub usual_words : Choice → List ℕ
+usual_words usual = codes "%{m*}" ++ chosen usual
+
+unfoldable pub either_words : Choice → Choice → Choice → List ℕ
+either_words usual native tuned =
+    codes "%{march=native|mtune=native:" ++ native_words native tuned ++ codes ";:" ++ usual_words usual ++ codes "}"
+
+unfoldable pub options_body : MachineOptions → List ℕ
+options_body it = if it.has_native then either_words it.usual it.native it.tuned else usual_words it.usual
+
+unfoldable pub options_text : MachineOptions → List ℕ
+options_text it = entry (codes "machine_options") (options_body it)
+
+-- a text for each machine is for one of them at a time
+unfoldable pub clash : List ℕ → List (List ℕ) → List ℕ
+clash test tests = codes "%{" ++ test ++ codes ":%{" ++ one_of tests ++ codes ":%etwo options that choose a machine are not in this spec file together}}"
+
+abbrev pub clashes : List (List ℕ) → List ℕ
+clashes [] = []
+clashes (test ∷ tests) = clash test tests ++ clashes tests
+
+unfoldable pub refusals_text : List (List ℕ) → List (List ℕ) → List ℕ
+refusals_text options tests = entry (codes "refused_options") (codes "%{-gdrv-none:}" ++ flat_map refused_option options ++ clashes tests)
+
+unfoldable pub machine_texts : MachineOptions → List (List ℕ) → List (List ℕ) → List ℕ
+machine_texts machine options tests = options_text machine ++ refusals_text options tests
+
+unfoldable pub spec_file : Toolchain → List ℕ
+spec_file gcc =
+    first_texts ++ gcc.texts ++ root_text gcc.is_rooted gcc.sysroot ++ gcc.passed ++ flat_map named_text gcc.named ++ hiding_text gcc.named
+    ++ flat_map included_text gcc.included
+    ++ folder_texts gcc ++ program_texts gcc.programs ++ machine_texts gcc.machine gcc.refused gcc.tests ++ root_guard gcc.is_rooted ++ last_texts

@@ -1,0 +1,211 @@
+//! What no dump has: how gcc compiles a source of each language, and where files go whose names the
+//! front of gdrv-cc hands on.
+
+ghost use Rattle.drv_gcc.specs.Fixed.{commands, first_texts, guards, languages, last_texts};
+ghost use Rattle.drv_gcc.specs.Fixed.{link_guard, side_files, wrappers};
+ghost use Rattle.std.specs.Prelude.{◌≡◌, ◌++◌, OnOk};
+
+use drv_words::Word;
+use std::alloc::AllocError;
+
+/// Texts that a dump may replace.
+const FIRST: &[u8] = b"\
+    *distro_defaults:\n\
+    %{-gdrv-none:}\n\
+    \n\
+    *asm_debug_option:\n\
+    %{-gdrv-none:}\n\
+    \n";
+
+/// What a line is refused for: the front sees what no pattern can.
+const GUARDS: &[u8] = b"\
+    *without_front:\n\
+    %{!-gdrv-front:%ethis spec file is for gdrv-cc}\n\
+    \n\
+    *several_suffixes:\n\
+    %{fstack-usage|fcallgraph-info*|coverage|ftest-coverage|fprofile-*|fdump-final-insns*|gs\
+    plit-dwarf:%enames of side files of sources with several suffixes of other languages are \
+    not in this spec file}\n\
+    \n\
+    *refused_here:\n\
+    %(refused_root)%{mmusl*|muclibc*|mbionic*|mandroid*:%eanother C library is not in this sp\
+    ec file}%{-gdrv-wrapper=:%e-wrapper with an empty word is not in this spec file}%{-gdrv-s\
+    uffixes:%(several_suffixes)} %(without_front) %(refused_options)\n\
+    \n\
+    *gdrv_self:\n\
+    / %(self_spec)\n\
+    / %{*}\n\
+    \n\
+    *self_spec:\n\
+    %{-gdrv-none:}\n\
+    \n\
+    *driver_alone:\n\
+    %<foffload=* %<fdump-core\n\
+    \n\
+    *sysroot_folder:\n\
+    %{-gdrv-none:}\n\
+    \n\
+    *multilib_folder:\n\
+    .\n\
+    \n\
+    *lto_pass_through:\n\
+    %(pass_link_gcc_c_sequence)\n\
+    \n";
+
+/// The names of side files.
+const SIDE_FILES: &[u8] = b"\
+    *dump_words:\n\
+    %{-gdrv-dir=*:-dumpdir %*} %{-gdrv-base=*:-dumpbase %*;:-dumpbase %B} %{-gdrv-ext=*:-dum\
+    pbase-ext %*;-gdrv-base=*:;.c:-dumpbase-ext .c;.i:-dumpbase-ext .i;.h:-dumpbase-ext .h;.\
+    S:-dumpbase-ext .S;.sx:-dumpbase-ext .sx;-gdrv-suffix=*:-dumpbase-ext %*}\n\
+    \n\
+    *dependencies:\n\
+    %{-gdrv-dep=*:%*;-gdrv-dir=*:%*%b.d;:%b.d}\n\
+    \n\
+    *object:\n\
+    %{c:%W{o*}%{!o*:-o %w%b%O};save-temps*:-o %w%{-gdrv-aux=*:%*%O;-gdrv-dir=*:%*%b%O;:%b%O}\
+    ;:-o %w%u%O}\n\
+    \n\
+    *split_object:\n\
+    %{c:%{o*:%*}%{!o*:%b%O};save-temps*:%{-gdrv-aux=*:%*%O;-gdrv-dir=*:%*%b%O;:%b%O};:%U%O}\n\
+    \n\
+    *preprocessed:\n\
+    %{save-temps*:%{-gdrv-aux=*:%*.i;-gdrv-dir=*:%*%b.i;:%b.i};:%g.i}\n\
+    \n\
+    *checked:\n\
+    %{save-temps*:%{-gdrv-aux=*:%*;-gdrv-dir=*:%*%b;:%b};:/dev/null}\n\
+    \n\
+    *assembly:\n\
+    %{-gdrv-aux=*:%*.s;-gdrv-dir=*:%*%b.s;:%b.s}\n\
+    \n\
+    *dwo_name:\n\
+    %{-gdrv-aux=*:%*.dwo;-gdrv-dir=*:%*%b.dwo;:%b.dwo}\n\
+    \n";
+
+/// The words of `-wrapper`.
+const WRAPPERS: &[u8] = b"\
+    *wrapper:\n\
+    %{-gdrv-wrapper=*:%* }\n\
+    \n\
+    *later_wrapper:\n\
+    %{pipe:;-gdrv-wrapper=*:%* }\n\
+    \n\
+    *wrapped:\n\
+    %{-gdrv-wrapper=*:%s}\n\
+    \n";
+
+/// How a source is compiled, and its assembly assembled.
+const COMMANDS: &[u8] = b"\
+    *invoke_as:\n\
+    %{!fwpa*:%{S:;save-temps*:-o %(assembly)\n \
+    %(wrapper)%(as_cmd) %(asm_options) %(assembly) %A;:-o %|.s |\n \
+    %(later_wrapper)%(as_cmd) %(asm_options) %m.s %A}}\n\
+    \n\
+    *compile:\n\
+    %{traditional:%eGNU C no longer supports -traditional without -E}%{save-temps*|tradition\
+    al-cpp|no-integrated-cpp:%{march=native|mtune=native:%e-march=native and a preprocessor of \
+    its own are not in this spec file together}%(trad_capable_cpp) %(cpp_options) -o %(preprocessed)\n \
+    %(cc1_cmd) -fpreprocessed %(preprocessed) %(cc1_options) %(distro_defaults);:%(cc1_cmd) \
+    %(cpp_unique_options) %(cc1_options) %(distro_defaults)}\n\
+    \n";
+
+/// The languages.
+const LANGUAGES: &[u8] = b"\
+    @c:\n\
+    %(driver_alone) %{E|M|MM:%(trad_capable_cpp) %(cpp_options) %(cpp_debug_options) %V;:%(c\
+    ompile) %{!fsyntax-only:%(invoke_as)}} %(refused_here)\n\
+    \n\
+    @cpp-output:\n\
+    %(driver_alone) %{E|M|MM:;:%(cc1_cmd) -fpreprocessed %i %(cc1_options) %(distro_defaults\
+    ) %{!fsyntax-only:%(invoke_as)}} %(refused_here)\n\
+    \n\
+    @assembler-with-cpp:\n\
+    %(driver_alone) %(trad_capable_cpp) -lang-asm %(cpp_options) -fno-directives-only %{E|M|\
+    MM:%(cpp_debug_options) %V;S:%V;save-temps*:-o %(assembly)\n \
+    %(wrapper)%(as_cmd) %(asm_debug) %(asm_options) %(assembly) %A;:-o %|.s |\n \
+    %(later_wrapper)%(as_cmd) %(asm_debug) %(asm_options) %m.s %A} %(refused_here)\n\
+    \n\
+    @assembler:\n\
+    %{E|S|M|MM:;:%(wrapper)%(as_cmd) %(asm_debug) %(asm_options) %i %A} %(refused_here)\n\
+    \n\
+    .h:\n\
+    @c-header\n\
+    \n\
+    @c-header:\n\
+    %(driver_alone) %{E|M|MM:%(trad_capable_cpp) %(cpp_options) %(cpp_debug_options) %V;:%(c\
+    ompile) %{!fsyntax-only:%{!S:-o %{save-temps*:%(assembly);:%g.s}} %{!fdump-ada-spec*:%W{\
+    o*:--output-pch=%*}%{!o*:--output-pch=%i.gch}} %V}} %(refused_here)\n\
+    \n";
+
+/// Adds the texts that precede those of a dump.
+#[tactic(auto, unfolding(crate::specs::Fixed::first_texts))]
+pub(crate) fn push_first(text: &mut Word) -> Result<(), AllocError>
+    ensures { OnOk result (text.new ≡ text.old ++ first_texts) }
+{
+    text.extend_from_slice(FIRST)
+}
+
+/// Adds what a line is refused for.
+#[tactic(auto, unfolding(crate::specs::Fixed::guards))]
+fn push_guards(text: &mut Word) -> Result<(), AllocError>
+    ensures { OnOk result (text.new ≡ text.old ++ guards) }
+{
+    text.extend_from_slice(GUARDS)
+}
+
+/// Adds the names of side files.
+#[tactic(auto, unfolding(crate::specs::Fixed::side_files))]
+fn push_side_files(text: &mut Word) -> Result<(), AllocError>
+    ensures { OnOk result (text.new ≡ text.old ++ side_files) }
+{
+    text.extend_from_slice(SIDE_FILES)
+}
+
+/// Adds the words of `-wrapper`.
+#[tactic(auto, unfolding(crate::specs::Fixed::wrappers))]
+fn push_wrappers(text: &mut Word) -> Result<(), AllocError>
+    ensures { OnOk result (text.new ≡ text.old ++ wrappers) }
+{
+    text.extend_from_slice(WRAPPERS)
+}
+
+/// Adds how a source is compiled.
+#[tactic(auto, unfolding(crate::specs::Fixed::commands))]
+fn push_commands(text: &mut Word) -> Result<(), AllocError>
+    ensures { OnOk result (text.new ≡ text.old ++ commands) }
+{
+    text.extend_from_slice(COMMANDS)
+}
+
+/// Adds what each link is refused for.
+#[tactic(auto, unfolding(crate::specs::Fixed::link_guard))]
+fn push_link_guard(text: &mut Word) -> Result<(), AllocError>
+    ensures { OnOk result (text.new ≡ text.old ++ link_guard) }
+{
+    text.extend_from_slice(
+        b"*link_command:\n\
+        + %{fsyntax-only|c|M|MM|E|S:;:%(hiding_folders)%{fvtable-verify=*:%e-fvtable-verify= is no\
+        t in this spec file}} %(refused_here)\n\n",
+    )
+}
+
+/// Adds the languages.
+#[tactic(auto, unfolding(crate::specs::Fixed::languages))]
+fn push_languages(text: &mut Word) -> Result<(), AllocError>
+    ensures { OnOk result (text.new ≡ text.old ++ languages) }
+{
+    text.extend_from_slice(LANGUAGES)
+}
+
+/// Adds the texts that follow those of a dump.
+#[tactic(auto, unfolding(crate::specs::Fixed::last_texts))]
+pub(crate) fn push_last(text: &mut Word) -> Result<(), AllocError>
+    ensures { OnOk result (text.new ≡ text.old ++ last_texts) }
+{
+    push_guards(text)?;
+    push_side_files(text)?;
+    push_wrappers(text)?;
+    push_commands(text)?;
+    push_link_guard(text)?;
+    push_languages(text)
+}

@@ -1,0 +1,58 @@
+//! A gcc that is asked.
+
+use crate::asking::{Said, answer, ask, commands, named};
+use crate::fault::Fault;
+use crate::room::Room;
+use drv_words::{Listing, Word};
+use std::alloc::Global;
+
+/// A gcc that is asked in a room, by its path, with an option that chooses its machine or an empty
+/// word.
+#[derive(Clone, Copy)]
+pub struct Asked<'a> {
+    pub rt: &'a HostRuntime,
+    pub room: &'a Room,
+    pub gcc: &'a Word,
+    pub option: &'a Word,
+}
+
+impl<'a> Asked<'a> {
+    pub fn alloc(self) -> Global {
+        self.rt.alloc()
+    }
+
+    /// A line with the option.
+    fn with_option(self, line: &[u8]) -> Result<Word, Fault> {
+        let mut whole = named(self.alloc(), line, b" ")?;
+        whole.extend_from_slice(self.option.as_bytes())?;
+        Ok(whole)
+    }
+
+    /// Asks with the words of a line.
+    pub fn ask(self, line: &[u8]) -> Result<Said, Fault> {
+        let whole = self.with_option(line)?;
+        Ok(ask(self.rt, &self.room.lines, self.gcc, whole.as_bytes())?)
+    }
+
+    /// The answer to a question about a name.
+    pub fn answer(self, question: &[u8], name: &[u8]) -> Result<Word, Fault> {
+        let line = named(self.alloc(), question, name)?;
+        let whole = self.with_option(line.as_bytes())?;
+        answer(self.rt, &self.room.lines, self.gcc, whole.as_bytes())
+    }
+
+    /// The path of a file; empty where gcc doesn't find it.
+    pub fn path_of(self, name: &[u8]) -> Result<Word, Fault> {
+        let path = self.answer(b"-print-file-name=", name)?;
+        if path.as_bytes().starts_with(b"/") {
+            Ok(path)
+        } else {
+            Ok(Word::empty(self.alloc()))
+        }
+    }
+
+    /// The commands that gcc plans for a line.
+    pub fn planned(self, line: &[u8]) -> Result<Listing<Listing<Word>>, Fault> {
+        commands(self.alloc(), self.ask(line)?.err.as_bytes())
+    }
+}

@@ -1,0 +1,81 @@
+//! Programs are asked.
+
+use crate::fault::Fault;
+use drv_gcc::values;
+use drv_words::{Listing, Word, split};
+use std::alloc::Global;
+use std::io::{Error, ErrorKind};
+use std::process::Command;
+use std::{io, str};
+
+/// What a program said.
+#[derive(Drop)]
+pub struct Said {
+    /// Whether its exit status was 0.
+    pub is_done: bool,
+    /// Its standard output.
+    pub out: Word,
+    /// Its standard error.
+    pub err: Word,
+}
+
+/// A word as text.
+pub fn text(word: &[u8]) -> io::Result<&str> {
+    str::from_utf8(word).map_err(|_| Error::from(ErrorKind::InvalidInput))
+}
+
+/// Asks a program, in a folder, with these words.
+pub fn ask_words(rt: &HostRuntime, at: &Word, program: &Word, words: &[Word]) -> io::Result<Said> {
+    let mut made = Command::new(rt.alloc(), text(program.as_bytes())?)?;
+    for word in words {
+        made.arg(text(word.as_bytes())?)?;
+    }
+    made.env("LC_ALL", "C")?;
+    made.current_dir(text(at.as_bytes())?)?;
+    let output = made.output(rt)?;
+    Ok(Said {
+        is_done: output.status.success(),
+        out: Word::from_vec(output.stdout),
+        err: Word::from_vec(output.stderr),
+    })
+}
+
+/// Asks a program, in a folder, with the words of a line.
+pub fn ask(rt: &HostRuntime, at: &Word, program: &Word, line: &[u8]) -> io::Result<Said> {
+    let words = split(rt.alloc(), line)?;
+    ask_words(rt, at, program, words.as_slice())
+}
+
+/// The words of a command that is shown, without the `|` after it.
+fn command_of(alloc: Global, line: &[u8]) -> Result<Listing<Word>, Fault> {
+    Ok(split(alloc, line.strip_suffix(b" |".as_slice()).unwrap_or(line))?)
+}
+
+/// The commands that a driver shows: each line that begins with a blank.
+pub fn commands(alloc: Global, shown: &[u8]) -> Result<Listing<Listing<Word>>, Fault> {
+    let mut commands = Listing::new(alloc);
+    for line in values(alloc, b" ", shown)?.as_slice() {
+        commands.push(command_of(alloc, line.as_bytes())?)?;
+    }
+    Ok(commands)
+}
+
+/// The first line of an answer.
+pub fn first_line(alloc: Global, out: &[u8]) -> Result<Word, Fault> {
+    match out.split(|byte| *byte == b'\n').next() {
+        Some(line) => Ok(Word::from_bytes(alloc, line)?),
+        None => Ok(Word::empty(alloc)),
+    }
+}
+
+/// The answer to a question of one line.
+pub fn answer(rt: &HostRuntime, at: &Word, program: &Word, line: &[u8]) -> Result<Word, Fault> {
+    first_line(rt.alloc(), ask(rt, at, program, line)?.out.as_bytes())
+}
+
+/// A question of a name: these bytes and the name.
+pub fn named(alloc: Global, question: &[u8], name: &[u8]) -> Result<Word, Fault> {
+    let mut line = Word::from_bytes(alloc, question)?;
+    line.extend_from_slice(name)?;
+    Ok(line)
+}

@@ -1,0 +1,186 @@
+//! The plans by a spec file are compared with those of the gcc.
+
+use crate::asking::{Said, ask, commands};
+use crate::fault::Fault;
+use crate::room::Room;
+use drv_gcc::{options, same_commands};
+use drv_words::{Listing, Word};
+use std::alloc::Global;
+
+/// The lines that must have gcc's plan: each way to compile, to assemble and to link.
+const LINES: [&[u8]; 34] = [
+    b"-c x.c -o made",
+    b"-c x.c -O2 -g -o made",
+    b"-c x.c -g3 -gdwarf-4 -o made",
+    b"-S x.c -fPIC -o made",
+    b"-E x.c -o made",
+    b"-M x.c",
+    b"-c x.c -MD -MF d -o made",
+    b"-c x.c -DA -I. -isystem . -include x.c -Wall -std=c99 -pthread -o made",
+    b"-c x.c -pg -o made",
+    b"-c x.c -fprofile-arcs -ftest-coverage -o made",
+    b"-c x.i -g -o made",
+    b"-c x.s -o made",
+    b"-c x.s -g -o made",
+    b"-c x.S -o made",
+    b"-c x.S -g -o made",
+    b"x.c -o made",
+    b"x.o -o made",
+    b"x.o -static -o made",
+    b"x.o -shared -o made",
+    b"x.o -static-pie -o made",
+    b"x.o -no-pie -o made",
+    b"x.o -r -o made",
+    b"x.o -nostdlib -o made",
+    b"x.o -nostartfiles -L. -lm -o made",
+    b"x.o -pthread -rdynamic -s -o made",
+    b"x.o -shared-libgcc -Ofast -o made",
+    b"x.o -static-libgcc -fopenmp -o made",
+    b"x.o -fsanitize=address -o made",
+    b"-c x.c -flto -O2 -o made",
+    b"-BB -c x.c -o made",
+    b"-BB x.o -o made",
+    b"-c x.c -save-temps -o made",
+    b"-wrapper W,w -c x.c -o made",
+    b"-wrapper W -BB -c x.S -o made",
+];
+
+/// The lines that are compared with another root.
+const ROOT_LINES: [&[u8]; 3] = [
+    b"--sysroot=../root -c x.c -o made",
+    b"--sysroot=../root x.o -o made",
+    b"--sysroot=../root x.o -static -o made",
+];
+
+/// The lines that are compared with each option for a machine.
+const MACHINE_LINES: [&[u8]; 3] = [b"-c x.c -o made", b"-c x.S -o made", b"x.o -o made"];
+
+/// Two drivers that are compared in a room.
+#[derive(Clone, Copy)]
+pub struct Pair<'a> {
+    pub rt: &'a HostRuntime,
+    pub room: &'a Room,
+    pub gcc: &'a Word,
+}
+
+/// How two drivers take a line.
+#[derive(Clone, Copy)]
+enum Verdict {
+    /// As one, or both refuse it.
+    Same,
+    /// This driver alone refuses it.
+    Refused,
+    /// Each in its own way.
+    Other,
+}
+
+/// A line with an option, if one is given, by which a driver shows its plan.
+fn shown_line(alloc: Global, line: &[u8], option: &[u8], pipe: bool) -> Result<Word, Fault> {
+    let mut whole = Word::from_bytes(alloc, b"-### ")?;
+    whole.extend_from_slice(line)?;
+    whole.push(b' ')?;
+    whole.extend_from_slice(option)?;
+    if pipe {
+        whole.extend_from_slice(b" -pipe")?;
+    }
+    Ok(whole)
+}
+
+/// Whether a driver shows a pipe.
+fn has_pipe(shown: &[u8]) -> bool {
+    shown
+        .split(|byte| *byte == b'\n')
+        .any(|line| line.ends_with(b" |"))
+}
+
+impl<'a> Pair<'a> {
+    /// What a program shows for a line.
+    fn show(self, program: &Word, line: &Word) -> Result<Said, Fault> {
+        Ok(ask(self.rt, &self.room.lines, program, line.as_bytes())?)
+    }
+
+    /// How the two drivers take a line with an option. This driver adds `-pipe` by itself.
+    fn verdict(self, line: &[u8], option: &[u8]) -> Result<Verdict, Fault> {
+        let alloc = self.rt.alloc();
+        let ours = self.show(&self.room.driver, &shown_line(alloc, line, option, false)?)?;
+        let pipe = has_pipe(ours.err.as_bytes());
+        let theirs = self.show(self.gcc, &shown_line(alloc, line, option, pipe)?)?;
+        if !theirs.is_done || !ours.is_done {
+            return Ok(if ours.is_done {
+                Verdict::Other
+            } else if theirs.is_done {
+                Verdict::Refused
+            } else {
+                Verdict::Same
+            });
+        }
+        let one = commands(alloc, ours.err.as_bytes())?;
+        let other = commands(alloc, theirs.err.as_bytes())?;
+        let is_same = same_commands(one.as_slice(), other.as_slice());
+        Ok(if is_same {
+            Verdict::Same
+        } else {
+            Verdict::Other
+        })
+    }
+
+    /// The lines whose plans differ.
+    pub fn differing(self) -> Result<Listing<Word>, Fault> {
+        let mut lines = Listing::new(self.rt.alloc());
+        for line in LINES {
+            match self.verdict(line, b"")? {
+                Verdict::Same => {}
+                Verdict::Refused | Verdict::Other => {
+                    lines.push(Word::from_bytes(self.rt.alloc(), line)?)?;
+                }
+            }
+        }
+        Ok(lines)
+    }
+
+    /// Whether a line with another root has another plan than gcc's.
+    pub fn is_rooted_otherwise(self) -> Result<bool, Fault> {
+        for line in ROOT_LINES {
+            if let Verdict::Other = self.verdict(line, b"")? {
+                return Ok(true);
+            }
+        }
+        Ok(false)
+    }
+
+    /// Whether an option for a machine gives another plan than gcc's, which this driver would carry
+    /// out.
+    fn is_other(self, option: &Word) -> Result<bool, Fault> {
+        for line in MACHINE_LINES {
+            if let Verdict::Other = self.verdict(line, option.as_bytes())? {
+                return Ok(true);
+            }
+        }
+        Ok(false)
+    }
+
+    /// The options for a machine that a gcc lists, each with a value if it takes one.
+    pub fn machines(self) -> Result<Listing<Word>, Fault> {
+        let alloc = self.rt.alloc();
+        let listed = ask(self.rt, &self.room.lines, self.gcc, b"--completion=-m")?;
+        let mut machines = Listing::new(alloc);
+        for option in options(alloc, listed.out.as_bytes())?.as_slice() {
+            let name = option.as_bytes();
+            if name.starts_with(b"-m") && !name.ends_with(b"=") {
+                machines.push(option.clone()?)?;
+            }
+        }
+        Ok(machines)
+    }
+
+    /// Those of these options that this driver would carry out otherwise.
+    pub fn others(self, machines: &[Word]) -> Result<Listing<Word>, Fault> {
+        let mut others = Listing::new(self.rt.alloc());
+        for option in machines {
+            if self.is_other(option)? {
+                others.push(option.clone()?)?;
+            }
+        }
+        Ok(others)
+    }
+}

@@ -1,0 +1,121 @@
+//! Why no spec file is written.
+
+use crate::calling::CallFault;
+use drv_words::Word;
+use std::alloc::{AllocError, AllocFailed, Global};
+use std::io;
+use std::io::ErrorKind;
+
+/// Why no spec file is written.
+#[derive(Debug, Drop)]
+pub enum Fault {
+    /// Memory was wanted.
+    Memory,
+    /// There is no such program.
+    NoGcc(Word),
+    /// This program prints no spec texts.
+    NoDump(Word),
+    /// The texts that this program prints can't be read.
+    BadDump(Word),
+    /// This program lists no options.
+    NoOptions(Word),
+    /// This program plans no compilation of C, or no link.
+    NoPlan(Word),
+    /// There is no `gdrv-cc` to compare plans with.
+    NoDriver,
+    /// Nothing can be written at this path.
+    NoPlace(Word),
+    /// The plans differ; what they are is in the text.
+    Differs(Word),
+    /// The system refused something else.
+    Other,
+}
+
+impl From<AllocError> for Fault {
+    fn from(_error: AllocError) -> Fault {
+        Fault::Memory
+    }
+}
+
+impl<T: Drop> From<AllocFailed<T>> for Fault {
+    fn from(_error: AllocFailed<T>) -> Fault {
+        Fault::Memory
+    }
+}
+
+impl From<io::Error> for Fault {
+    fn from(error: io::Error) -> Fault {
+        if error.kind() == ErrorKind::OutOfMemory {
+            Fault::Memory
+        } else {
+            Fault::Other
+        }
+    }
+}
+
+/// A line of the program: its name, and this with a word between.
+fn line(alloc: Global, before: &[u8], word: &[u8], after: &[u8]) -> Result<Word, AllocError> {
+    let mut line = Word::from_bytes(alloc, b"gdrv-write-specs: ")?;
+    line.extend_from_slice(before)?;
+    line.extend_from_slice(word)?;
+    line.extend_from_slice(after)?;
+    line.push(b'\n')?;
+    Ok(line)
+}
+
+/// A line about a gcc.
+fn gcc_line(alloc: Global, gcc: &Word, after: &[u8]) -> Result<Word, AllocError> {
+    line(alloc, b"'", gcc.as_bytes(), after)
+}
+
+impl Fault {
+    /// What the user reads.
+    pub fn text(&self, alloc: Global) -> Result<Word, AllocError> {
+        match self {
+            Fault::Memory => line(alloc, b"out of memory", b"", b""),
+            Fault::NoGcc(gcc) => line(alloc, b"cannot start '", gcc.as_bytes(), b"'"),
+            Fault::NoDump(gcc) => {
+                gcc_line(
+                    alloc,
+                    gcc,
+                    b"' prints no spec texts (-dumpspecs): it is no gcc",
+                )
+            }
+            Fault::BadDump(gcc) => gcc_line(alloc, gcc, b"' prints spec texts that can't be read"),
+            Fault::NoOptions(gcc) => gcc_line(alloc, gcc, b"' lists no options (--completion=-)"),
+            Fault::NoPlan(gcc) => gcc_line(alloc, gcc, b"' plans no compilation and link of C"),
+            Fault::NoDriver => line(
+                alloc,
+                b"cannot find gdrv-cc, by which it compares plans",
+                b"",
+                b"",
+            ),
+            Fault::NoPlace(path) => line(alloc, b"cannot write '", path.as_bytes(), b"'"),
+            Fault::Differs(text) => line(alloc, text.as_bytes(), b"", b""),
+            Fault::Other => line(alloc, b"the system refused a call", b"", b""),
+        }
+    }
+}
+
+/// What the user reads of a call that asks for nothing.
+pub fn misuse_text(alloc: Global, fault: &CallFault) -> Result<Word, AllocError> {
+    match fault {
+        CallFault::Memory => line(alloc, b"out of memory", b"", b""),
+        CallFault::Misused => {
+            line(
+                alloc,
+                b"expected [--force] -o X.specs GCC, --help or --version",
+                b"",
+                b"",
+            )
+        }
+        CallFault::NotSpecs(path) => {
+            line(
+                alloc,
+                b"the name of a spec file ends in .specs: '",
+                path.as_bytes(),
+                b"'",
+            )
+        }
+    }
+}

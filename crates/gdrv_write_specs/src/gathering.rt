@@ -1,0 +1,594 @@
+//! What is known of a gcc is gathered from its answers.
+
+use crate::asked::Asked;
+use crate::asking::{ask, commands, named, text};
+use crate::defaults::with_defaults;
+use crate::fault::Fault;
+use crate::finding::{command_named, has_word, word_beginning};
+use crate::machines::{Facts, Part, choice, facts_for, machine_of, own_folder};
+use crate::room::{Room, joined, write};
+use drv_dump::{OurDump, pass_libraries, translate_dump};
+use drv_gcc::{
+    Choice, Included, MachineOptions, MachineWord, NamedText, Programs, Toolchain, folder_text,
+    named_texts, replace, values,
+};
+use drv_words::{Listing, Word};
+use itoa::Buffer;
+use std::alloc::Global;
+use std::fs;
+
+/// A spec file that shows what the folders of gcc are (`%I`, `%D`).
+pub const PROBE: &[u8] =
+    b"*link_command:\nPROBE-D %D\n\n*cpp_unique_options:\nPROBE-I %I PROBE-END\n\n";
+
+/// The texts of a dump that a line of an included file is, with the text on the line of its name.
+fn dump_of_line(alloc: Global, line: &[u8]) -> Result<Word, Fault> {
+    let mut dump = Word::empty(alloc);
+    let mut parts = line.splitn(2, |byte| *byte == b':');
+    if let (Some(name), Some(body)) = (parts.next(), parts.next()) {
+        dump.push(b'*')?;
+        dump.extend_from_slice(name)?;
+        dump.extend_from_slice(b":\n")?;
+        dump.extend_from_slice(body.trim_ascii())?;
+        dump.extend_from_slice(b"\n\n")?;
+    }
+    Ok(dump)
+}
+
+/// The texts of an included file in this driver's language.
+fn texts_of_file(alloc: Global, content: &[u8]) -> Result<Word, Fault> {
+    let mut dump = Word::empty(alloc);
+    for line in values(alloc, b"*", content)?.as_slice() {
+        dump.extend_from_slice(dump_of_line(alloc, line.as_bytes())?.as_bytes())?;
+    }
+    match translate_dump(alloc, dump.as_bytes()) {
+        Ok(OurDump { texts, .. }) => Ok(texts),
+        Err(_) => Ok(Word::empty(alloc)),
+    }
+}
+
+impl<'a> Asked<'a> {
+    /// A spec file that the texts include.
+    fn included(self, name: &Word) -> Result<Included, Fault> {
+        let path = self.path_of(name.as_bytes())?;
+        let (is_there, texts) = match fs::read(self.rt, text(path.as_bytes())?) {
+            Ok(content) => (true, texts_of_file(self.alloc(), content.as_slice())?),
+            Err(_) => (false, Word::empty(self.alloc())),
+        };
+        Ok(Included {
+            name: name.clone()?,
+            is_there,
+            texts,
+        })
+    }
+
+    /// The spec files that the texts include. `%(include_words)` is a text of another kind.
+    fn all_included(self, names: &[Word]) -> Result<Listing<Included>, Fault> {
+        let mut included = Listing::new(self.alloc());
+        for name in names {
+            if name.as_bytes() != b"words".as_slice() {
+                included.push(self.included(name)?)?;
+            }
+        }
+        Ok(included)
+    }
+}
+
+/// Adds the folders of a path that are there, and that a list lacks.
+fn add_folders(rt: &HostRuntime, path: &[u8], folders: &mut Listing<Word>) -> Result<(), Fault> {
+    for folder in path.split(|byte| *byte == b':') {
+        let is_there = match fs::metadata(rt, text(folder)?) {
+            Ok(found) => found.is_dir(),
+            Err(_) => false,
+        };
+        if is_there && !has_word(folders.as_slice(), folder) {
+            folders.push(Word::from_bytes(rt.alloc(), folder)?)?;
+        }
+    }
+    Ok(())
+}
+
+/// Whether some of these files are in a folder.
+fn is_used(folder: &[u8], files: &[Word]) -> bool {
+    files.iter().any(|file| match file.as_bytes().strip_prefix(folder) {
+        Some(name) => !name.contains(&b'/') && !name.is_empty(),
+        None => false,
+    })
+}
+
+/// Files that tell which of gcc's folders are of use.
+const FILES: [&[u8]; 4] = [b"libgcc.a", b"crti.o", b"crt0.o", b"nosys.specs"];
+
+/// The programs and files of a gcc that its texts name.
+fn files_of(asked: Asked<'_>, names: &[Word]) -> Result<Listing<Word>, Fault> {
+    let mut files = Listing::new(asked.alloc());
+    for name in names {
+        files.push(asked.path_of(name.as_bytes())?)?;
+    }
+    for name in FILES {
+        files.push(asked.path_of(name)?)?;
+    }
+    for name in [b"cc1".as_slice(), b"as", b"ld", b"objcopy"] {
+        files.push(asked.answer(b"-print-prog-name=", name)?)?;
+    }
+    Ok(files)
+}
+
+/// Those of gcc's folders that have one of these files.
+fn used_folders(folders: &[Word], files: &[Word], alloc: Global) -> Result<Listing<Word>, Fault> {
+    let mut used = Listing::new(alloc);
+    for folder in folders {
+        if is_used(folder.as_bytes(), files) {
+            used.push(folder.clone()?)?;
+        }
+    }
+    Ok(used)
+}
+
+/// The folders in which gcc looks for programs and for files.
+fn folders_of(rt: &HostRuntime, shown: &[u8]) -> Result<Listing<Word>, Fault> {
+    let mut folders = Listing::new(rt.alloc());
+    for key in [b"COMPILER_PATH=".as_slice(), b"LIBRARY_PATH=".as_slice()] {
+        for path in values(rt.alloc(), key, shown)?.as_slice() {
+            add_folders(rt, path.as_bytes(), &mut folders)?;
+        }
+    }
+    Ok(folders)
+}
+
+/// What is known of a gcc.
+#[derive(Drop)]
+pub struct Gathered {
+    /// What its spec file is made of.
+    pub toolchain: Toolchain,
+    /// The names of those of its texts that refuse their lines.
+    pub lacking: Listing<Word>,
+    /// The files that its texts name.
+    names: Listing<Word>,
+    /// The probes of its function that finds out about the machine of the call.
+    probes: Listing<Word>,
+    /// The folder of its own library.
+    folder: Word,
+    /// What it does for its own machine.
+    own: Facts,
+    /// What it does for those that an option chooses.
+    others: Listing<Facts>,
+}
+
+/// The texts of a dump in this driver's language, and of it what they lack.
+#[derive(Drop)]
+struct Translated {
+    texts: Word,
+    passed: Word,
+    lacking: Listing<Word>,
+    probes: Listing<Word>,
+}
+
+/// How a function that finds out about the machine of the call is called.
+const NATIVE: &[u8] = b"%:local_cpu_detect(";
+
+/// A call of this function.
+fn native_call(alloc: Global, arguments: &Word) -> Result<Word, Fault> {
+    let mut call = named(alloc, NATIVE, arguments.as_bytes())?;
+    call.push(b')')?;
+    Ok(call)
+}
+
+/// The name of the text in the place of its call of this number.
+fn native_name(alloc: Global, number: usize) -> Result<Word, Fault> {
+    named(alloc, b"native_", Buffer::new().format(number).as_bytes())
+}
+
+/// A dump with named texts in the places of the calls of this function, and a spec file for each
+/// that shows what it gives.
+fn with_natives(asked: Asked<'_>, dump: Word) -> Result<(Word, Listing<Word>), Fault> {
+    let alloc = asked.alloc();
+    let mut texts = dump;
+    let mut probes = Listing::new(alloc);
+    for arguments in named_texts(alloc, NATIVE, texts.as_bytes())?.as_slice() {
+        let call = native_call(alloc, arguments)?;
+        let name = native_name(alloc, probes.len())?;
+        let mut body = named(alloc, b"*link_command:\nPROBE-V ", call.as_bytes())?;
+        body.extend_from_slice(b" PROBE-END\n\n")?;
+        let folder = joined(alloc, &asked.room.lines, b"/")?;
+        write(
+            asked.rt,
+            &joined(alloc, &folder, name.as_bytes())?,
+            body.as_bytes(),
+        )?;
+        let mut other = named(alloc, b"%(", name.as_bytes())?;
+        other.push(b')')?;
+        texts = replace(alloc, texts.as_bytes(), call.as_bytes(), other.as_bytes())?;
+        probes.push(name)?;
+    }
+    Ok((texts, probes))
+}
+
+/// Words of gcc's texts, and the same in fewer steps. It hides `-march=native` where the options for
+/// the machine do, and switches that the front never hands on. Few lines have rules for `make` made,
+/// or plugins.
+const FEWER: [(&[u8], &[u8]); 5] = [
+    (b"%>march=native ", b""),
+    (b"%>mtune=native ", b""),
+    (b"%<dumpdir %<dumpbase %<dumpbase-ext ", b""),
+    (
+        b"%{MD:-MD %(dependencies)} %{MMD:-MMD %(dependencies)} %{M} %{MM} %{MF*} %{MG} %{MP} \
+%{MQ*} %{MT*} %{Mmodules} %{Mno-modules}",
+        b"%{M*:%{MD:-MD %(dependencies)} %{MMD:-MMD %(dependencies)} %{M} %{MM} %{MF*} %{MG} %{MP} \
+%{MQ*} %{MT*} %{Mmodules} %{Mno-modules}}",
+    ),
+    (
+        b"%{!iplugindir*:%{fplugin*:%(plugin_folder)}}",
+        b"%{fplugin*:%{!iplugindir*:%(plugin_folder)}}",
+    ),
+];
+
+/// Texts with these words.
+fn with_fewer(alloc: Global, texts: &Word) -> Result<Word, Fault> {
+    let mut whole = texts.clone()?;
+    for (words, fewer) in FEWER {
+        whole = replace(alloc, whole.as_bytes(), words, fewer)?;
+    }
+    Ok(whole)
+}
+
+impl<'a> Asked<'a> {
+    /// The dump of the gcc.
+    fn dump(self) -> Result<Word, Fault> {
+        let Ok(said) = ask(self.rt, &self.room.lines, self.gcc, b"-dumpspecs") else {
+            return Err(Fault::NoGcc(self.gcc.clone()?));
+        };
+        if !said.is_done || said.out.is_empty() {
+            return Err(Fault::NoDump(self.gcc.clone()?));
+        }
+        Ok(said.out)
+    }
+
+    /// The texts of the dump.
+    fn translated(self) -> Result<Translated, Fault> {
+        let alloc = self.alloc();
+        let (dump, probes) = with_natives(self, self.dump()?)?;
+        let (Ok(OurDump { texts, refused }), Ok(passed)) = (
+            translate_dump(alloc, dump.as_bytes()),
+            pass_libraries(alloc, dump.as_bytes()),
+        ) else {
+            return Err(Fault::BadDump(self.gcc.clone()?));
+        };
+        Ok(Translated {
+            texts: with_fewer(alloc, &texts)?,
+            passed,
+            lacking: refused,
+            probes,
+        })
+    }
+
+    /// The root that the linker is given; empty if none.
+    fn root_with(self, words: &[u8]) -> Result<Word, Fault> {
+        let line = named(self.alloc(), b"-### x.o -o x ", words)?;
+        let planned = self.planned(line.as_bytes())?;
+        let link = match planned.as_slice().last() {
+            Some(link) => link.as_slice(),
+            None => &[],
+        };
+        word_beginning(self.alloc(), link, b"--sysroot=")
+    }
+
+    /// Whether the linker is given the root of the line.
+    fn is_rooted(self) -> Result<bool, Fault> {
+        let words = named(self.alloc(), b"--sysroot=", self.room.root.as_bytes())?;
+        Ok(self.root_with(words.as_bytes())?.as_bytes() == words.as_bytes())
+    }
+
+    /// The programs by the plans of a compilation, of which this is shown, and of a link.
+    fn all_programs(self, shown: &Word) -> Result<Programs, Fault> {
+        let compiling = commands(self.alloc(), shown.as_bytes())?;
+        let linking = self.planned(b"-### x.o -o x")?;
+        let (Some([cc1, ..]), Some([assembler, ..]), Some(link)) = (
+            command_named(compiling.as_slice(), b"cc1"),
+            command_named(compiling.as_slice(), b"as"),
+            linking.as_slice().last(),
+        ) else {
+            return Err(Fault::NoPlan(self.gcc.clone()?));
+        };
+        self.programs(cc1, assembler, link.as_slice())
+    }
+
+    /// The folders that are of use.
+    fn folders(self, shown: &Word, names: &[Word]) -> Result<Listing<Word>, Fault> {
+        let folders = folders_of(self.rt, shown.as_bytes())?;
+        let files = files_of(self, names)?;
+        used_folders(folders.as_slice(), files.as_slice(), self.alloc())
+    }
+
+    /// The roots of a link.
+    fn roots(self) -> Result<Roots, Fault> {
+        let own = self.root_with(b"")?;
+        let is_rooted = self.is_rooted()?;
+        Ok(Roots { own, is_rooted })
+    }
+
+    /// The programs and folders.
+    fn tools(self, names: &[Word]) -> Result<Tools, Fault> {
+        let shown = self.ask(b"-### -c x.c -o x.o")?.err;
+        let folders = self.folders(&shown, names)?;
+        let programs = self.all_programs(&shown)?;
+        Ok(Tools { programs, folders })
+    }
+
+    /// The spec files that these texts include.
+    fn included_by(self, texts: &Word) -> Result<Listing<Included>, Fault> {
+        let names = named_texts(self.alloc(), b"%(include_", texts.as_bytes())?;
+        self.all_included(names.as_slice())
+    }
+
+    /// The toolchain with these texts, but for what it does for its machines.
+    fn toolchain(
+        self,
+        texts: Word,
+        passed: Word,
+        names: &[Word],
+        machine: &[MachineWord],
+    ) -> Result<Toolchain, Fault> {
+        let included = self.included_by(&texts)?;
+        let texts = with_defaults(self.alloc(), texts, machine)?;
+        let roots = self.roots()?;
+        let tools = self.tools(names)?;
+        Ok(assembled(self.alloc(), texts, passed, included, roots, tools))
+    }
+
+    /// All that is known of the gcc, of which these are the texts.
+    fn gathered(self, translated: Translated) -> Result<Gathered, Fault> {
+        let alloc = self.alloc();
+        let Translated {
+            texts,
+            passed,
+            lacking,
+            probes,
+        } = translated;
+        let Some(machine) = machine_of(self)? else {
+            return Err(Fault::NoPlan(self.gcc.clone()?));
+        };
+        let names = named_texts(alloc, b"%(file_", texts.as_bytes())?;
+        let folder = own_folder(self)?;
+        let own = facts_for(
+            self,
+            &folder,
+            names.as_slice(),
+            probes.as_slice(),
+            machine.as_slice(),
+        )?;
+        let toolchain = self.toolchain(texts, passed, names.as_slice(), machine.as_slice())?;
+        Ok(Gathered {
+            toolchain,
+            lacking,
+            names,
+            probes,
+            folder,
+            own,
+            others: Listing::new(alloc),
+        })
+    }
+}
+
+/// The root that the linker is given without an option, and whether it is given that of the line.
+#[derive(Drop)]
+struct Roots {
+    own: Word,
+    is_rooted: bool,
+}
+
+/// Programs, and the folders that have them.
+#[derive(Drop)]
+struct Tools {
+    programs: Programs,
+    folders: Listing<Word>,
+}
+
+/// A toolchain that does nothing for its machines yet.
+fn assembled(
+    alloc: Global,
+    texts: Word,
+    passed: Word,
+    included: Listing<Included>,
+    roots: Roots,
+    tools: Tools,
+) -> Toolchain {
+    let Roots { own, is_rooted } = roots;
+    let Tools { programs, folders } = tools;
+    Toolchain {
+        texts,
+        passed,
+        included,
+        folders,
+        sysroot: own,
+        is_rooted,
+        programs,
+        named: Listing::new(alloc),
+        include_words: nothing(alloc),
+        link_folders: nothing(alloc),
+        machine: MachineOptions {
+            has_native: false,
+            usual: nothing(alloc),
+            native: nothing(alloc),
+            tuned: nothing(alloc),
+        },
+        refused: Listing::new(alloc),
+        tests: Listing::new(alloc),
+    }
+}
+
+/// No text.
+fn nothing(alloc: Global) -> Choice {
+    Choice {
+        own: Word::empty(alloc),
+        others: Listing::new(alloc),
+    }
+}
+
+/// The words for the machine.
+fn machine_options(
+    alloc: Global,
+    has_native: bool,
+    own: &Facts,
+    others: &[Facts],
+) -> Result<MachineOptions, Fault> {
+    Ok(MachineOptions {
+        has_native,
+        usual: choice(alloc, own, others, Part::Usual)?,
+        native: choice(alloc, own, others, Part::Native)?,
+        tuned: choice(alloc, own, others, Part::Tuned)?,
+    })
+}
+
+/// Named texts that find files.
+fn add_files(
+    alloc: Global,
+    names: &[Word],
+    own: &Facts,
+    others: &[Facts],
+    texts: &mut Listing<NamedText>,
+) -> Result<(), Fault> {
+    for (n, name) in names.iter().enumerate() {
+        texts.push(NamedText {
+            name: named(alloc, b"file_", name.as_bytes())?,
+            choice: choice(alloc, own, others, Part::Place(n))?,
+        })?;
+    }
+    Ok(())
+}
+
+/// Named texts of folders of files.
+fn add_folders_of(
+    alloc: Global,
+    folders: &[Word],
+    texts: &mut Listing<NamedText>,
+) -> Result<(), Fault> {
+    for (n, folder) in folders.iter().enumerate() {
+        let mut choice = nothing(alloc);
+        choice.own = folder_text(alloc, folder.as_bytes())?;
+        texts.push(NamedText {
+            name: named(alloc, b"in_", Buffer::new().format(n).as_bytes())?,
+            choice,
+        })?;
+    }
+    Ok(())
+}
+
+/// Named texts of what a function finds out about the machine of the call.
+fn add_natives(
+    alloc: Global,
+    probes: &[Word],
+    own: &Facts,
+    others: &[Facts],
+    texts: &mut Listing<NamedText>,
+) -> Result<(), Fault> {
+    for (n, probe) in probes.iter().enumerate() {
+        texts.push(NamedText {
+            name: probe.clone()?,
+            choice: choice(alloc, own, others, Part::Value(n))?,
+        })?;
+    }
+    Ok(())
+}
+
+/// The named texts of files, of their folders, and of what a function finds out.
+fn named_for(
+    alloc: Global,
+    names: &[Word],
+    probes: &[Word],
+    own: &Facts,
+    others: &[Facts],
+) -> Result<Listing<NamedText>, Fault> {
+    let mut texts = Listing::new(alloc);
+    add_files(alloc, names, own, others, &mut texts)?;
+    add_folders_of(alloc, own.folders.as_slice(), &mut texts)?;
+    add_natives(alloc, probes, own, others, &mut texts)?;
+    Ok(texts)
+}
+
+/// The tests of options that choose a machine.
+fn tests_of(alloc: Global, others: &[Facts]) -> Result<Listing<Word>, Fault> {
+    let mut tests = Listing::new(alloc);
+    for it in others {
+        tests.push(it.test.clone()?)?;
+    }
+    Ok(tests)
+}
+
+/// The texts of a toolchain for each of its machines.
+fn choose_for(
+    alloc: Global,
+    toolchain: &mut Toolchain,
+    own: &Facts,
+    others: &[Facts],
+    has_native: bool,
+) -> Result<(), Fault> {
+    let include_words = choice(alloc, own, others, Part::IncludeWords)?;
+    let link_folders = choice(alloc, own, others, Part::LinkFolders)?;
+    let machine = machine_options(alloc, has_native, own, others)?;
+    let tests = tests_of(alloc, others)?;
+    toolchain.include_words = include_words;
+    toolchain.link_folders = link_folders;
+    toolchain.machine = machine;
+    toolchain.tests = tests;
+    Ok(())
+}
+
+impl Gathered {
+    /// The texts of the toolchain for each of its machines.
+    pub fn choose(&mut self, alloc: Global) -> Result<(), Fault> {
+        let own = &self.own;
+        let others = self.others.as_slice();
+        let named = named_for(
+            alloc,
+            self.names.as_slice(),
+            self.probes.as_slice(),
+            own,
+            others,
+        )?;
+        let has_native = !self.probes.is_empty();
+        choose_for(alloc, &mut self.toolchain, own, others, has_native)?;
+        self.toolchain.named = named;
+        Ok(())
+    }
+
+    /// Asks for the machine that an option chooses. One that gcc plans nothing for is left out.
+    pub fn add_machine(
+        &mut self,
+        rt: &HostRuntime,
+        room: &Room,
+        gcc: &Word,
+        option: &Word,
+    ) -> Result<(), Fault> {
+        let asked = Asked {
+            rt,
+            room,
+            gcc,
+            option,
+        };
+        if let Some(machine) = machine_of(asked)? {
+            self.others.push(facts_for(
+                asked,
+                &self.folder,
+                self.names.as_slice(),
+                self.probes.as_slice(),
+                machine.as_slice(),
+            )?)?;
+        }
+        Ok(())
+    }
+}
+
+/// Asks a gcc for all that its spec file is made of.
+pub fn gather(rt: &HostRuntime, room: &Room, gcc: &Word) -> Result<Gathered, Fault> {
+    let option = Word::empty(rt.alloc());
+    let asked = Asked {
+        rt,
+        room,
+        gcc,
+        option: &option,
+    };
+    let mut gathered = asked.gathered(asked.translated()?)?;
+    gathered.choose(rt.alloc())?;
+    Ok(gathered)
+}

@@ -1,0 +1,398 @@
+//! What a gcc does for each machine that an option chooses.
+
+use crate::asked::Asked;
+use crate::asking::named;
+use crate::fault::Fault;
+use crate::finding::{command_named, has_word, words_between};
+use crate::room::make_all;
+use drv_gcc::{
+    Choice, ForMachine, MachineWord, file_text, libraries, machine_words, options, placed_text,
+    rooted_text, values, words_text,
+};
+use drv_words::{Listing, Word};
+use itoa::Buffer;
+use std::alloc::Global;
+use std::slice;
+
+/// What a gcc does for a machine: texts, but for its option.
+#[derive(Drop)]
+pub struct Facts {
+    /// The option as a test of switches; empty for the gcc's own machine.
+    pub test: Word,
+    /// Where it has the files that its texts name.
+    places: Listing<Word>,
+    /// The folders that these texts have by their numbers.
+    pub folders: Listing<Word>,
+    /// What the compiler gets for the folders of headers.
+    include_words: Word,
+    /// What the linker gets for the folders of libraries.
+    link_folders: Word,
+    /// The words that it adds for the machine, also with `-march=native` and `-mtune=native`.
+    usual: Word,
+    native: Word,
+    tuned: Word,
+    /// What its function finds out about the machine of the call.
+    values: Listing<Word>,
+}
+
+/// One of these texts.
+#[derive(Clone, Copy)]
+pub enum Part {
+    Place(usize),
+    IncludeWords,
+    LinkFolders,
+    Usual,
+    Native,
+    Tuned,
+    Value(usize),
+}
+
+/// An option as a test of switches: its name, or its name with any value.
+pub fn test_of(alloc: Global, option: &[u8]) -> Result<Word, Fault> {
+    let name = option.get(1..).unwrap_or(b"");
+    let mut test = Word::empty(alloc);
+    for byte in name {
+        test.push(*byte)?;
+        if *byte == b'=' {
+            test.push(b'*')?;
+            return Ok(test);
+        }
+    }
+    Ok(test)
+}
+
+/// Adds a test that a list lacks.
+fn add_test(tests: &mut Listing<Word>, test: Word) -> Result<(), Fault> {
+    if !has_word(tests.as_slice(), test.as_bytes()) {
+        tests.push(test)?;
+    }
+    Ok(())
+}
+
+/// Notes the words for the machine that a compilation with an option lacks.
+fn leave_out(
+    alloc: Global,
+    machine: &mut [MachineWord],
+    option: &Word,
+    cc1: &[Word],
+) -> Result<(), Fault> {
+    for it in machine.iter_mut() {
+        if !has_word(cc1, it.word.as_bytes()) {
+            add_test(&mut it.unless, test_of(alloc, option.as_bytes())?)?;
+        }
+    }
+    Ok(())
+}
+
+/// The words for the machine in a compilation, each left out where the line has it.
+fn added_words(alloc: Global, option: &Word, cc1: &[Word]) -> Result<Listing<MachineWord>, Fault> {
+    let mut machine = Listing::new(alloc);
+    for word in cc1 {
+        if word.as_bytes().starts_with(b"-m") && word.as_bytes() != option.as_bytes() {
+            let mut unless = Listing::new(alloc);
+            unless.push(test_of(alloc, word.as_bytes())?)?;
+            machine.push(MachineWord {
+                word: word.clone()?,
+                unless,
+            })?;
+        }
+    }
+    Ok(machine)
+}
+
+/// The words that no test of these leaves out.
+fn without(alloc: Global, machine: &[MachineWord], tests: &[&[u8]]) -> Result<Word, Fault> {
+    let mut text = Word::empty(alloc);
+    for it in machine {
+        let is_out = tests
+            .iter()
+            .any(|test| has_word(it.unless.as_slice(), test));
+        if !is_out {
+            let one = machine_words(alloc, slice::from_ref(it))?;
+            text.extend_from_slice(one.as_bytes())?;
+        }
+    }
+    Ok(text)
+}
+
+/// The folders that gcc looks for below a root are made there.
+fn make_below(asked: Asked<'_>, root: &Word) -> Result<(), Fault> {
+    let line = named(
+        asked.alloc(),
+        b"-print-search-dirs --sysroot=",
+        root.as_bytes(),
+    )?;
+    let said = asked.ask(line.as_bytes())?;
+    for path in values(asked.alloc(), b"libraries: ", said.out.as_bytes())?.as_slice() {
+        let bytes = path.as_bytes();
+        let folders = bytes.strip_prefix(b"=".as_slice()).unwrap_or(bytes);
+        for folder in folders.split(|byte| *byte == b':') {
+            if folder.starts_with(root.as_bytes()) {
+                make_all(asked.rt, folder)?;
+            }
+        }
+    }
+    Ok(())
+}
+
+/// The texts for the folders of headers and of libraries.
+#[derive(Drop)]
+struct Folders {
+    headers: Word,
+    libraries: Word,
+}
+
+/// The text for these words, of which one names gcc's own folder, and the last is apart.
+fn libraries_of(alloc: Global, own: &Word, words: &[Word], last: &Word) -> Result<Word, Fault> {
+    let own_word = named(alloc, b"-L", own.as_bytes())?;
+    let found = words
+        .iter()
+        .position(|it| it.as_bytes() == own_word.as_bytes());
+    let (before, rest) = words.split_at(found.unwrap_or(0).min(words.len()));
+    Ok(libraries(alloc, before, rest, last.as_bytes())?)
+}
+
+/// The texts for the folders that gcc shows with these words.
+fn folders_with(asked: Asked<'_>, own: &Word, words: &[u8]) -> Result<Folders, Fault> {
+    let alloc = asked.alloc();
+    let line = named(alloc, b"-### -specs=probe x.c -o x ", words)?;
+    let probed = asked.planned(line.as_bytes())?;
+    let cc1 = command_named(probed.as_slice(), b"cc1").unwrap_or(&[]);
+    let link = command_named(probed.as_slice(), b"PROBE-D").unwrap_or(&[]);
+    let headers = words_between(alloc, cc1, b"PROBE-I", b"PROBE-END")?;
+    let mut folders = words_between(alloc, link, b"PROBE-D", b"")?;
+    let last = folders.pop().unwrap_or(Word::empty(alloc));
+    Ok(Folders {
+        headers: words_text(alloc, headers.as_slice())?,
+        libraries: libraries_of(alloc, own, folders.as_slice(), &last)?,
+    })
+}
+
+/// How many bytes two texts begin with alike, up to the end of a word outside of braces.
+fn common_start(one: &[u8], other: &[u8]) -> usize {
+    let mut end = 0;
+    let mut depth = 0usize;
+    let mut is_escaped = false;
+    for (at, byte) in one.iter().enumerate() {
+        if other.get(at) != Some(byte) {
+            return end;
+        }
+        match byte {
+            b'{' => depth = depth.saturating_add(1),
+            b'}' => depth = depth.saturating_sub(1),
+            b' ' if depth == 0 && !is_escaped => end = at.saturating_add(1),
+            _ => {}
+        }
+        is_escaped = *byte == b'\\' && !is_escaped;
+    }
+    end
+}
+
+/// What a root is in a text of words.
+fn root_in_text(alloc: Global, root: &Word) -> Result<Word, Fault> {
+    let one = [root.clone()?];
+    let written = words_text(alloc, &one)?;
+    Ok(Word::from_bytes(alloc, written.as_bytes().trim_ascii())?)
+}
+
+/// A text, or one with parts for lines with another root and without one.
+fn maybe_rooted(alloc: Global, plain: Word, rooted: &Word, root: &Word) -> Result<Word, Fault> {
+    if plain.as_bytes() == rooted.as_bytes() {
+        return Ok(plain);
+    }
+    let end = common_start(plain.as_bytes(), rooted.as_bytes());
+    let (start, own) = plain.as_bytes().split_at(end.min(plain.len()));
+    let below = rooted.as_bytes().get(end..).unwrap_or(b"");
+    let name = root_in_text(alloc, root)?;
+    let rest = rooted_text(alloc, own, below, name.as_bytes())?;
+    named(alloc, start, rest.as_bytes())
+}
+
+/// The texts for the folders, also with another root.
+fn all_folders(asked: Asked<'_>, own: &Word) -> Result<Folders, Fault> {
+    let alloc = asked.alloc();
+    let root = &asked.room.root;
+    make_below(asked, root)?;
+    let words = named(alloc, b"--sysroot=", root.as_bytes())?;
+    let plain = folders_with(asked, own, b"")?;
+    let rooted = folders_with(asked, own, words.as_bytes())?;
+    Ok(Folders {
+        headers: maybe_rooted(alloc, plain.headers, &rooted.headers, root)?,
+        libraries: maybe_rooted(alloc, plain.libraries, &rooted.libraries, root)?,
+    })
+}
+
+/// The folder of a file of this name.
+fn folder_of<'a>(path: &'a [u8], name: &[u8]) -> Option<&'a [u8]> {
+    let folder = path.strip_suffix(name)?;
+    if folder.ends_with(b"/") {
+        Some(folder)
+    } else {
+        None
+    }
+}
+
+/// The number of a folder in a list, which then has it.
+fn number_of(alloc: Global, folders: &mut Listing<Word>, folder: &[u8]) -> Result<usize, Fault> {
+    let found = folders
+        .as_slice()
+        .iter()
+        .position(|it| it.as_bytes() == folder);
+    if let Some(number) = found {
+        return Ok(number);
+    }
+    let number = folders.len();
+    folders.push(Word::from_bytes(alloc, folder)?)?;
+    Ok(number)
+}
+
+/// The text that finds a file that gcc has at a path, if it does.
+fn own_place(
+    alloc: Global,
+    name: &[u8],
+    path: &[u8],
+    folders: &mut Listing<Word>,
+) -> Result<Word, Fault> {
+    let Some(folder) = folder_of(path, name) else {
+        return Ok(file_text(alloc, name, path)?);
+    };
+    let number = number_of(alloc, folders, folder)?;
+    Ok(placed_text(alloc, name, Buffer::new().format(number).as_bytes())?)
+}
+
+/// The text that finds a file. With an option for another machine a file that gcc doesn't find has
+/// its plain name.
+fn place(asked: Asked<'_>, name: &Word, folders: &mut Listing<Word>) -> Result<Word, Fault> {
+    let alloc = asked.alloc();
+    let path = asked.path_of(name.as_bytes())?;
+    if asked.option.is_empty() {
+        return own_place(alloc, name.as_bytes(), path.as_bytes(), folders);
+    }
+    let one = [if path.is_empty() { name.clone()? } else { path }];
+    let written = words_text(alloc, &one)?;
+    Ok(Word::from_bytes(alloc, written.as_bytes().trim_ascii())?)
+}
+
+/// The texts that find files.
+fn places(
+    asked: Asked<'_>,
+    names: &[Word],
+    folders: &mut Listing<Word>,
+) -> Result<Listing<Word>, Fault> {
+    let mut places = Listing::new(asked.alloc());
+    for name in names {
+        places.push(place(asked, name, folders)?)?;
+    }
+    Ok(places)
+}
+
+/// What the probes of a function show.
+fn shown_by(asked: Asked<'_>, probes: &[Word]) -> Result<Listing<Word>, Fault> {
+    let alloc = asked.alloc();
+    let mut shown = Listing::new(alloc);
+    for probe in probes {
+        let mut line = named(alloc, b"-### x.o -o x -specs=", probe.as_bytes())?;
+        line.extend_from_slice(b" ")?;
+        let planned = asked.planned(line.as_bytes())?;
+        let link = command_named(planned.as_slice(), b"PROBE-V").unwrap_or(&[]);
+        let words = words_between(alloc, link, b"PROBE-V", b"PROBE-END")?;
+        shown.push(words_text(alloc, words.as_slice())?)?;
+    }
+    Ok(shown)
+}
+
+/// The words that gcc adds for its machine, with the tests of a line by which it leaves them out:
+/// that of an option whose plan lacks such a word, and that of the word itself.
+pub fn machine_of(asked: Asked<'_>) -> Result<Option<Listing<MachineWord>>, Fault> {
+    let alloc = asked.alloc();
+    let planned = asked.planned(b"-### -c x.c -o x.o")?;
+    let Some(cc1) = command_named(planned.as_slice(), b"cc1") else {
+        return Ok(None);
+    };
+    let mut machine = added_words(alloc, asked.option, cc1)?.into_vec();
+    let listed = asked.ask(b"--completion=-m")?;
+    let mut tried = Listing::new(alloc);
+    for option in options(alloc, listed.out.as_bytes())?.as_slice() {
+        let test = test_of(alloc, option.as_bytes())?;
+        if !asked.option.is_empty() && has_word(tried.as_slice(), test.as_bytes()) {
+            continue;
+        }
+        let line = named(alloc, b"-### -c x.c -o x.o ", option.as_bytes())?;
+        let planned = asked.planned(line.as_bytes())?;
+        if let Some(cc1) = command_named(planned.as_slice(), b"cc1") {
+            leave_out(alloc, machine.as_mut_slice(), option, cc1)?;
+            tried.push(test)?;
+        }
+    }
+    Ok(Some(Listing::from_vec(machine)))
+}
+
+/// The folder of gcc's own library.
+pub fn own_folder(asked: Asked<'_>) -> Result<Word, Fault> {
+    let path = asked.path_of(b"libgcc.a")?;
+    let bytes = path.as_bytes();
+    let folder = bytes.strip_suffix(b"/libgcc.a".as_slice()).unwrap_or(b"");
+    Ok(Word::from_bytes(asked.alloc(), folder)?)
+}
+
+/// What gcc does for the machine that an option chooses, of which these are the words.
+pub fn facts_for(
+    asked: Asked<'_>,
+    own: &Word,
+    names: &[Word],
+    probes: &[Word],
+    machine: &[MachineWord],
+) -> Result<Facts, Fault> {
+    let alloc = asked.alloc();
+    let Folders { headers, libraries } = all_folders(asked, own)?;
+    let mut folders = Listing::new(alloc);
+    let places = places(asked, names, &mut folders)?;
+    Ok(Facts {
+        test: test_of(alloc, asked.option.as_bytes())?,
+        places,
+        folders,
+        include_words: headers,
+        link_folders: libraries,
+        usual: machine_words(alloc, machine)?,
+        native: without(alloc, machine, &[b"march=*", b"mtune=*"])?,
+        tuned: without(alloc, machine, &[b"mtune=*"])?,
+        values: shown_by(asked, probes)?,
+    })
+}
+
+impl Facts {
+    /// One of the texts.
+    pub fn text(&self, part: Part) -> &[u8] {
+        let found = match part {
+            Part::Place(n) => self.places.as_slice().get(n),
+            Part::IncludeWords => Some(&self.include_words),
+            Part::LinkFolders => Some(&self.link_folders),
+            Part::Usual => Some(&self.usual),
+            Part::Native => Some(&self.native),
+            Part::Tuned => Some(&self.tuned),
+            Part::Value(n) => self.values.as_slice().get(n),
+        };
+        match found {
+            Some(text) => text.as_bytes(),
+            None => b"",
+        }
+    }
+}
+
+/// A text for each machine: the gcc's own, and those of which it is another one.
+pub fn choice(alloc: Global, own: &Facts, others: &[Facts], part: Part) -> Result<Choice, Fault> {
+    let mut differing = Listing::new(alloc);
+    for it in others {
+        let text = it.text(part);
+        if text != own.text(part) {
+            differing.push(ForMachine {
+                test: it.test.clone()?,
+                text: Word::from_bytes(alloc, text)?,
+            })?;
+        }
+    }
+    Ok(Choice {
+        own: Word::from_bytes(alloc, own.text(part))?,
+        others: differing,
+    })
+}

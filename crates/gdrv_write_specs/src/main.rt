@@ -1,0 +1,93 @@
+//! Writes the spec file of a gcc, and what gdrv-cc reads beside it.
+#![tactic(auto)]
+
+mod asked;
+mod asking;
+mod calling;
+mod checking;
+mod defaults;
+mod fault;
+mod finding;
+mod gathering;
+mod help;
+mod machines;
+mod names;
+mod parts;
+mod placing;
+mod programs;
+mod room;
+mod shortening;
+
+use calling::{Call, CallFault, Manner, call_of};
+use drv_run::VERSION;
+use drv_system::{arguments, complain};
+use drv_words::Word;
+use fault::{Fault, misuse_text};
+use help::HELP;
+use placing::write_file;
+use std::alloc::AllocError;
+use std::io::{self, Write};
+use std::process::ExitCode;
+
+const OUT_OF_MEMORY: &[u8] = b"gdrv-write-specs: out of memory\n";
+
+const BAD_ARGUMENT: &[u8] = b"gdrv-write-specs: bad argument\n";
+
+/// Ends with status 1, and says why.
+fn refuse(rt: &HostRuntime, text: Result<Word, AllocError>) -> ExitCode {
+    match text {
+        Ok(text) => complain(rt, text.as_bytes()),
+        Err(_) => complain(rt, OUT_OF_MEMORY),
+    }
+    ExitCode::from(1)
+}
+
+/// Prints a text. The exit status is 1 where it couldn't be written.
+fn print(rt: &HostRuntime, text: &[u8]) -> ExitCode {
+    let stream = rt.stdout();
+    match io::writer(&stream).write_all(text) {
+        Ok(()) => ExitCode::from(0),
+        Err(_) => ExitCode::from(1),
+    }
+}
+
+/// Prints the version.
+fn print_version(rt: &HostRuntime) -> ExitCode {
+    let mut text = Word::empty(rt.alloc());
+    let made = text.extend_from_slice(b"gdrv-write-specs ").is_ok()
+        && text.extend_from_slice(VERSION.as_bytes()).is_ok()
+        && text.push(b'\n').is_ok();
+    if made {
+        print(rt, text.as_bytes())
+    } else {
+        refuse(rt, Err(AllocError))
+    }
+}
+
+/// Writes the file that a call asks for.
+fn write(rt: &HostRuntime, manner: Manner, output: &Word, gcc: &Word) -> ExitCode {
+    match write_file(rt, manner, output, gcc) {
+        Ok(()) => ExitCode::from(0),
+        Err(fault) => refuse(rt, fault.text(rt.alloc())),
+    }
+}
+
+/// Does what a call asks for.
+fn act(rt: &HostRuntime, call: Result<Call, CallFault>) -> ExitCode {
+    match call {
+        Ok(Call::Help) => print(rt, HELP),
+        Ok(Call::Version) => print_version(rt),
+        Ok(Call::Write(manner, output, gcc)) => write(rt, manner, &output, &gcc),
+        Err(fault) => refuse(rt, misuse_text(rt.alloc(), &fault)),
+    }
+}
+
+fn main(rt: HostRuntime) -> ExitCode {
+    match arguments(&rt) {
+        Ok(words) => act(&rt, call_of(words.as_slice())),
+        Err(_) => {
+            complain(&rt, BAD_ARGUMENT);
+            ExitCode::from(1)
+        }
+    }
+}

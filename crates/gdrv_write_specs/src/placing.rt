@@ -1,0 +1,195 @@
+//! A spec file is written, tried and put in place.
+
+use crate::asking::{ask, named, text};
+use crate::calling::Manner;
+use crate::checking::Pair;
+use crate::fault::Fault;
+use crate::gathering::{Gathered, gather};
+use crate::names::names_of;
+use crate::parts::{PARTS, part_of};
+use crate::programs::{is_file, program_at};
+use crate::room::{Room, absolute, joined};
+use drv_gcc::{gcc_file, spec_file, values};
+use drv_system::complain;
+use drv_words::{Listing, Word, parted};
+use std::env::current_exe;
+
+/// The path of a gcc: of this name or at this path, of `gcc` for `host`, or of TARGET-gcc for the
+/// name of a target.
+fn gcc_at(rt: &HostRuntime, name: &Word) -> Result<Option<Word>, Fault> {
+    if name.as_bytes() == b"host".as_slice() {
+        return program_at(rt, &Word::from_bytes(rt.alloc(), b"gcc")?);
+    }
+    match program_at(rt, name)? {
+        Some(path) => Ok(Some(path)),
+        None => program_at(rt, &named(rt.alloc(), name.as_bytes(), b"-gcc")?),
+    }
+}
+
+/// The driver that plans by a spec file: beside this program, or along PATH.
+fn driver_at(rt: &HostRuntime) -> Result<Word, Fault> {
+    if let Ok(own) = current_exe(rt) {
+        if let Some((folder, _)) = parted(b'/', own.as_str().as_bytes()) {
+            let path = named(rt.alloc(), folder, b"/gdrv-cc")?;
+            if is_file(rt, &path)? {
+                return Ok(path);
+            }
+        }
+    }
+    let name = Word::from_bytes(rt.alloc(), b"gdrv-cc")?;
+    program_at(rt, &name)?.ok_or(Fault::NoDriver)
+}
+
+/// What a gcc says of itself where commands are shown.
+fn said(rt: &HostRuntime, room: &Room, gcc: &Word) -> Result<Listing<Word>, Fault> {
+    let alloc = rt.alloc();
+    let version = ask(rt, &room.lines, gcc, b"-v")?;
+    let mut lines = Listing::new(alloc);
+    for line in version.err.as_bytes().split(|byte| *byte == b'\n') {
+        if !line.is_empty() {
+            lines.push(Word::from_bytes(alloc, line)?)?;
+        }
+    }
+    let shown = ask(rt, &room.lines, gcc, b"-### -c -x c /dev/null")?;
+    for key in [b"COMPILER_PATH=".as_slice(), b"LIBRARY_PATH="] {
+        for value in values(alloc, key, shown.err.as_bytes())?.as_slice() {
+            lines.push(named(alloc, key, value.as_bytes())?)?;
+        }
+    }
+    Ok(lines)
+}
+
+/// Writes the files beside the spec file.
+fn put_beside(rt: &HostRuntime, room: &Room, gcc: &Word, folders: &[Word]) -> Result<(), Fault> {
+    let alloc = rt.alloc();
+    room.put(rt, b".options", &names_of(rt, room, gcc)?)?;
+    let lines = said(rt, room, gcc)?;
+    room.put(
+        rt,
+        b".gcc",
+        &gcc_file(alloc, gcc.as_bytes(), folders, lines.as_slice())?,
+    )
+}
+
+/// Names some words to the user, on one line.
+fn tell(rt: &HostRuntime, before: &[u8], names: &[Word]) -> Result<(), Fault> {
+    let mut line = named(rt.alloc(), b"gdrv-write-specs: ", before)?;
+    for name in names {
+        line.push(b' ')?;
+        line.extend_from_slice(name.as_bytes())?;
+    }
+    line.push(b'\n')?;
+    if !names.is_empty() {
+        complain(rt, line.as_bytes());
+    }
+    Ok(())
+}
+
+/// The refusal for lines whose plans differ.
+fn differ(rt: &HostRuntime, gcc: &Word, lines: &[Word]) -> Result<Fault, Fault> {
+    let mut text = named(rt.alloc(), b"no spec file for '", gcc.as_bytes())?;
+    text.extend_from_slice(b"': with it these lines would not have gcc's plan")?;
+    for line in lines {
+        text.extend_from_slice(b"\n    ")?;
+        text.extend_from_slice(line.as_bytes())?;
+    }
+    Ok(Fault::Differs(text))
+}
+
+/// Writes the spec file in the room.
+fn put_specs(pair: Pair<'_>, gathered: &Gathered) -> Result<(), Fault> {
+    let specs = spec_file(pair.rt.alloc(), &gathered.toolchain)?;
+    for part in PARTS {
+        pair.room.put_part(
+            pair.rt,
+            part.ending,
+            part_of(pair.rt.alloc(), &specs, &part)?,
+        )?;
+    }
+    pair.room.put(pair.rt, b".specs", &specs)
+}
+
+/// How many options that choose another machine have texts of their own.
+const MACHINES: usize = 16;
+
+/// Compares the options for machines. Those that have another plan get texts of their own, and are
+/// refused by name if that doesn't help. Gives those that have another plan all the same.
+fn check_machines(pair: Pair<'_>, gathered: &mut Gathered) -> Result<Listing<Word>, Fault> {
+    let alloc = pair.rt.alloc();
+    let others = pair.others(pair.machines()?.as_slice())?;
+    for option in others.as_slice().iter().take(MACHINES) {
+        gathered.add_machine(pair.rt, pair.room, pair.gcc, option)?;
+    }
+    gathered.choose(alloc)?;
+    put_specs(pair, gathered)?;
+    gathered.toolchain.refused = pair.others(others.as_slice())?;
+    if pair.is_rooted_otherwise()? {
+        gathered.toolchain.is_rooted = false;
+    }
+    put_specs(pair, gathered)?;
+    pair.others(gathered.toolchain.refused.as_slice())
+}
+
+/// The lines whose plans differ, whatever the user said of them.
+fn judge(pair: Pair<'_>, manner: Manner, lines: &[Word]) -> Result<(), Fault> {
+    match manner {
+        Manner::Compared if !lines.is_empty() => Err(differ(pair.rt, pair.gcc, lines)?),
+        _ => tell(pair.rt, b"lines that have another plan than gcc's:", lines),
+    }
+}
+
+/// Compares the plans, and has the options refused that would give others.
+fn check(pair: Pair<'_>, manner: Manner, gathered: &mut Gathered) -> Result<(), Fault> {
+    judge(pair, manner, pair.differing()?.as_slice())?;
+    let left = check_machines(pair, gathered)?;
+    judge(pair, manner, left.as_slice())?;
+    tell(
+        pair.rt,
+        b"refused by name, since they would make something else:",
+        gathered.toolchain.refused.as_slice(),
+    )
+}
+
+/// Makes the files of a gcc in a room, tries them, and puts them in place.
+fn write_in(
+    rt: &HostRuntime,
+    room: &Room,
+    manner: Manner,
+    stem: &Word,
+    gcc: &Word,
+) -> Result<(), Fault> {
+    let mut gathered = gather(rt, room, gcc)?;
+    tell(
+        rt,
+        b"texts that have no form here, and refuse their lines:",
+        gathered.lacking.as_slice(),
+    )?;
+    put_beside(rt, room, gcc, gathered.toolchain.folders.as_slice())?;
+    let pair = Pair { rt, room, gcc };
+    put_specs(pair, &gathered)?;
+    check(pair, manner, &mut gathered)?;
+    room.place(rt, stem)
+}
+
+/// Writes the spec file of a gcc, and the files beside it. If its plans differ from gcc's, nothing
+/// is written.
+pub fn write_file(
+    rt: &HostRuntime,
+    manner: Manner,
+    output: &Word,
+    gcc: &Word,
+) -> Result<(), Fault> {
+    let Some(path) = gcc_at(rt, gcc)? else {
+        return Err(Fault::NoGcc(gcc.clone()?));
+    };
+    let specs = absolute(rt, output)?;
+    let bytes = specs.as_bytes();
+    let stem = Word::from_bytes(
+        rt.alloc(),
+        bytes.strip_suffix(b".specs".as_slice()).unwrap_or(bytes),
+    )?;
+    let room = Room::new(rt, &stem, &driver_at(rt)?)?;
+    let done = write_in(rt, &room, manner, &stem, &path);
+    room.remove(rt);
+    done
+}
