@@ -1,4 +1,3 @@
-use Rattle.drv_forms.specs.Difference.{difference}
 use Rattle.drv_run.specs.Drives.{Comes}
 use Rattle.drv_run.specs.declared.ending.Ending.TheVariants.{Done, OutOfMemory}
 use Rattle.drv_run.specs.declared.ending.Ending.{Ending}
@@ -7,10 +6,8 @@ use Rattle.drv_system.proofs.Asking.{extends_refl}
 use Rattle.drv_system.specs.Asking.{AreNew, Asks, Extends}
 use Rattle.drv_system.specs.Facts.{Facts, no_facts}
 use Rattle.drv_system.specs.declared.event.Event.{Event}
-use Rattle.drv_words.specs.declared.plan.Plan.{Plan}
 use Rattle.gdrv_specs.proofs.Told.{known}
-use Rattle.gdrv_specs.specs.Differences.{ComesTwice, TellsDifference, TellsWorks, with_specs}
-use Rattle.gdrv_specs.specs.Plans.{plan_in}
+use Rattle.gdrv_specs.specs.Differences.{ComesTwice, TellsDifference, TellsWorks, difference_in, with_specs}
 use Rattle.gdrv_specs.specs.Told.{PutsText}
 use Rattle.gdrv_specs.specs.declared.differing.Comparison.{Comparison}
 use Rattle.gdrv_specs.specs.declared.outcome.Outcome.TheVariants.{Ended, NoPlan}
@@ -18,22 +15,22 @@ use Rattle.gdrv_specs.specs.declared.outcome.Outcome.{Outcome}
 use Rattle.std.proofs.Common.{◌≡◌, ◌∙◌, ◌++◌, Err, List, None, Ok, Some, [], ap, inl, inr, refl, subst, sym, ℕ}
 use Rattle.std.proofs.lemmas.List.{append-nil}
 
--- The difference of two plans is printed.
+-- For `tell_difference`: the call prints what differs between two works.
 
-pub tells_put : (journal journal' : List Event) (plan other : Plan) (status : ℕ) (work work' : Work)
-    → PutsText journal journal' (difference plan other) status → plan_in work ≡ Some plan → plan_in work' ≡ Some other
+pub tells_put : (journal journal' : List Event) (text : List ℕ) (status : ℕ) (work work' : Work)
+    → PutsText journal journal' text status → difference_in work work' ≡ Some text
     → TellsWorks journal journal' work work' (Ended (Done status))
-tells_put journal journal' plan other status work work' puts first second = (puts.0, puts.1, (plan, other, first, second, puts.2))
+tells_put journal journal' text status work work' puts is = (puts.0, puts.1, (text, is, puts.2))
 
 pub tells_short : (journal journal' : List Event) (work work' : Work) → journal' ≡ journal
     → TellsWorks journal journal' work work' (Ended OutOfMemory)
 tells_short journal journal' work work' same = ([], same ∙ sym (append-nil journal), refl)
 
-pub first_without : (journal : List Event) (work work' : Work) → plan_in work ≡ None → TellsWorks journal journal work work' NoPlan
-first_without journal work work' none = ([], sym (append-nil journal), (inl none, refl))
+pub tells_unmade : (journal : List Event) (work work' : Work) → TellsWorks journal journal work work' (Ended OutOfMemory)
+tells_unmade journal work work' = ([], sym (append-nil journal), refl)
 
-pub second_without : (journal : List Event) (work work' : Work) → plan_in work' ≡ None → TellsWorks journal journal work work' NoPlan
-second_without journal work work' none = ([], sym (append-nil journal), (inr none, refl))
+pub tells_nothing : (journal : List Event) (work work' : Work) → None ≡ difference_in work work' → TellsWorks journal journal work work' NoPlan
+tells_nothing journal work work' none = ([], sym (append-nil journal), (sym none, refl))
 
 -- what the two lines give
 

@@ -1,5 +1,6 @@
 mod Calls
 mod Differences
+mod FilesChecked
 mod Outcomes
 mod Plans
 mod Runs

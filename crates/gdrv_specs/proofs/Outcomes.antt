@@ -1,7 +1,7 @@
 use Rattle.gdrv_specs.specs.Outcomes.{refused_line, refused_text}
 use Rattle.std.proofs.Common.{◌≡◌, List, ◌∷◌, ◌++◌, append_assoc, ℕ}
 
--- The text about texts that are refused, one after another.
+-- For the message of `translate`: it names each refused text, one after another.
 
 pub refused_next : (lines name : List ℕ) (names : List (List ℕ))
     → (lines ++ refused_line name) ++ refused_text names ≡ lines ++ refused_text (name ∷ names)

@@ -11,7 +11,7 @@ use Rattle.gdrv_specs.specs.declared.outcome.Outcome.TheVariants.{Ended, NoPlan}
 use Rattle.std.proofs.Common.{◌≡◌, ◌∙◌, List, [], Some, refl, sym, ℕ}
 use Rattle.std.proofs.lemmas.List.{append-nil}
 
--- The plan of a work is printed.
+-- For `tell_plan`: the call prints the plan of the line's work.
 
 pub tells_put : (journal journal' : List Event) (form : Form) (plan : Plan) (status : ℕ) (work : Work) → PutsText journal journal' (form_text form plan) status
     → plan_in work ≡ Some plan → TellsWork (TellsOf form) journal journal' work (Ended (Done status))

@@ -14,7 +14,7 @@ use Rattle.gdrv_specs.specs.declared.outcome.Outcome.TheVariants.{Ended, NoPlan,
 use Rattle.std.proofs.Common.{◌≡◌, ◌∙◌, ◌++◌, ◌∷◌, ◌⊎◌, Err, List, Ok, Result, [], ap, append_assoc, inl, inr, refl, sym, ℕ}
 use Rattle.std.proofs.lemmas.List.{append-nil}
 
--- A run is printed, over the answers that words give.
+-- For `tell_after`: the call prints the run over the answers that the words give.
 
 pub answers_more : (front : List Given) (g : Given) (rest : Result (List Given) AnswerFault)
     → after_answers (front ++ g ∷ []) rest ≡ after_answers front (with_answer (Ok g) rest)

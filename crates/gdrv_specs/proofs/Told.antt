@@ -12,7 +12,7 @@ use Rattle.gdrv_specs.specs.declared.outcome.Outcome.{Outcome}
 use Rattle.std.proofs.Common.{◌≡◌, ◌∙◌, ◌++◌, Err, List, Ok, [], ap, inl, inr, refl, subst, sym, ℕ}
 use Rattle.std.proofs.lemmas.List.{append-nil}
 
--- A call that tells something of a line.
+-- For `tell_plan` and `tell_after`: a call adds questions to the journal, and one text at most.
 
 -- the answers to the questions of a call that began with an empty table
 pub known : {journal journal' : List Event} {F F' : Facts} → F ≡ no_facts → (asks : Asks journal journal' F F') → F' ≡ learn no_facts asks.asked

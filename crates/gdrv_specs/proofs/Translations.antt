@@ -10,7 +10,7 @@ use Rattle.gdrv_specs.specs.declared.outcome.Outcome.TheVariants.{Ended, Transla
 use Rattle.std.proofs.Common.{◌≡◌, ◌∙◌, ◌⊎◌, Err, List, Ok, [], ap, inl, inr, refl, subst, sym, ℕ}
 use Rattle.std.proofs.lemmas.List.{append-nil}
 
--- The dump of a gcc is translated.
+-- For `translate_file`: the call reads one file and prints its texts in the driver's language.
 
 pub puts_texts : (journal journal' : List Event) (path dump : List ℕ) (ours : OurDump) (status : ℕ) → our_dump_of dump ≡ Ok ours
     → PutsText journal journal' ours.texts status → TranslatesDump journal journal' path dump (Translated ours.refused status)

@@ -1,6 +1,6 @@
-use Rattle.gdrv_specs.specs.declared.calling.Call.TheVariants.{After, Ask, Differ, Plan, Translate}
+use Rattle.gdrv_specs.specs.declared.calling.Call.TheVariants.{After, Ask, Check, Differ, Plan, Translate}
 use Rattle.gdrv_specs.specs.declared.calling.Call.{Call}
-use Rattle.gdrv_specs.specs.declared.calling.CallFault.TheVariants.{MissingAnswer, NoCommand, NotOneFile, NotTwoFiles, TooManyAnswers, UnknownCommand}
+use Rattle.gdrv_specs.specs.declared.calling.CallFault.TheVariants.{MissingAnswer, MissingFile, NoCommand, NoFiles, NotOneFile, NotTwoFiles, TooManyAnswers, UnknownCommand, UnknownOption}
 use Rattle.gdrv_specs.specs.declared.calling.CallFault.{CallFault}
 use Rattle.gdrv_specs.specs.declared.calling.Command.TheVariants as command
 use Rattle.gdrv_specs.specs.declared.calling.Command.{Command}
@@ -8,6 +8,8 @@ use Rattle.gdrv_specs.specs.declared.cutting.Cut.{Cut}
 use Rattle.gdrv_specs.specs.declared.forms.Form.TheVariants.{Json, Lines, Picture, Script}
 use Rattle.gdrv_specs.specs.declared.forms.Form.{Form}
 use Rattle.gdrv_specs.specs.declared.help.Question.TheVariants.{Help, Version}
+use Rattle.gdrv_specs.specs.Requests.{no_request, requested_from}
+use Rattle.gdrv_specs.specs.declared.requesting.Request.{Request}
 use Rattle.std.specs.Cmp.Lexicographic.{pointwise}
 use Rattle.std.specs.Prelude.{Bool, Err, List, [], ◌∷◌, ◌++◌, None, Ok, Option, Result, Some, codes, drop, false, if◌then◌else◌, length, nat_eq, nat_lt, true, ℕ}
 
@@ -19,6 +21,7 @@ command_named word =
     else if pointwise nat_eq word (codes "after") then Some command.After
     else if pointwise nat_eq word (codes "translate") then Some command.Translate
     else if pointwise nat_eq word (codes "diff") then Some command.Differ
+    else if pointwise nat_eq word (codes "check") then Some command.Check
     else if pointwise nat_eq word (codes "--help") then Some (command.Ask Help)
     else if pointwise nat_eq word (codes "--version") then Some (command.Ask Version) else None
 
@@ -80,16 +83,36 @@ translation_asked [] = Err NotOneFile
 translation_asked (path ∷ []) = Ok (Translate path)
 translation_asked (path ∷ word ∷ words) = Err NotOneFile
 
--- A comparison takes the paths of two spec files, and after the word -- a line.
+-- A comparison takes the paths of two spec files, and after the word -- a line. Without a line it is one of their texts.
 
 abbrev pub are_compared : List (List ℕ) → Bool
 are_compared (first ∷ second ∷ dashes ∷ line) = pointwise nat_eq dashes (codes "--")
 are_compared words = false
 
-abbrev pub difference_asked : List (List ℕ) → Result Call CallFault
-difference_asked (first ∷ second ∷ dashes ∷ line) =
+abbrev pub line_compared : List (List ℕ) → Result Call CallFault
+line_compared (first ∷ second ∷ dashes ∷ line) =
     if are_compared (first ∷ second ∷ dashes ∷ line) then Ok (Differ (record { first = first; second = second; line = line })) else Err NotTwoFiles
-difference_asked words = Err NotTwoFiles
+line_compared words = Err NotTwoFiles
+
+abbrev pub texts_compared : List ℕ → List ℕ → Call
+texts_compared first second = Differ (record { first = first; second = second; line = codes "-dumpspecs" ∷ [] })
+
+abbrev pub difference_asked : List (List ℕ) → Result Call CallFault
+difference_asked (first ∷ second ∷ []) = Ok (texts_compared first second)
+difference_asked words = line_compared words
+
+-- A check takes options and the paths of files.
+
+abbrev pub files_asked : Request → List (List ℕ) → Result Call CallFault
+files_asked request [] = Err NoFiles
+files_asked request (file ∷ files) = Ok (Check request)
+
+abbrev pub check_by : Request → Option (List ℕ) → Result Call CallFault
+check_by request (Some word) = Err (UnknownOption word)
+check_by request None = if request.awaits then Err MissingFile else files_asked request request.files
+
+abbrev pub check_asked : Request → Result Call CallFault
+check_asked request = check_by request request.unknown
 
 abbrev pub asked_by : List ℕ → List (List ℕ) → Option Command → Result Call CallFault
 asked_by word words None = Err (UnknownCommand word)
@@ -98,6 +121,7 @@ asked_by word words (Some command.Plan) = Ok (Plan (form_of words) (line_of word
 asked_by word words (Some command.After) = run_asked (cut_from no_words words)
 asked_by word words (Some command.Translate) = translation_asked words
 asked_by word words (Some command.Differ) = difference_asked words
+asked_by word words (Some command.Check) = check_asked (requested_from no_request words)
 
 abbrev pub call_of : List (List ℕ) → Result Call CallFault
 call_of [] = Err NoCommand

@@ -1,3 +1,4 @@
+use Rattle.drv_check.specs.Differing.{texts_difference}
 use Rattle.drv_forms.specs.Difference.{difference}
 use Rattle.drv_run.specs.Drives.{Comes, Drives}
 use Rattle.drv_run.specs.declared.ending.Ending.TheVariants.{Done, OutOfMemory}
@@ -7,12 +8,12 @@ use Rattle.drv_system.specs.Asking.{AreNew}
 use Rattle.drv_system.specs.Facts.{Facts, learn, no_facts}
 use Rattle.drv_system.specs.declared.event.Event.{Event}
 use Rattle.drv_words.specs.declared.plan.Plan.{Plan}
-use Rattle.gdrv_specs.specs.Plans.{plan_in}
+use Rattle.gdrv_specs.specs.Plans.{dump_in, plan_in}
 use Rattle.gdrv_specs.specs.Told.{Puts}
 use Rattle.gdrv_specs.specs.declared.differing.Comparison.{Comparison}
 use Rattle.gdrv_specs.specs.declared.outcome.Outcome.TheVariants.{Ended, NoPlan}
 use Rattle.gdrv_specs.specs.declared.outcome.Outcome.{Outcome}
-use Rattle.std.specs.Prelude.{◌≡◌, ◌⊎◌, Err, List, [], ◌∷◌, ◌++◌, None, Ok, Result, Some, codes, ℕ}
+use Rattle.std.specs.Prelude.{◌≡◌, ◌⊎◌, Err, List, [], ◌∷◌, ◌++◌, None, Ok, Option, Result, Some, codes, ℕ}
 
 -- What printing the difference of two plans of a line is, one with each of two spec files (GCC manual, "Overall Options", -specs=; that the
 -- file precedes those of the line is this project's profile).
@@ -28,12 +29,31 @@ ComesTwice F c seed (Err ending) =
     Comes F (with_specs c.first c.line) seed (Err ending)
     ⊎ ((work : Work) × Drives F (with_specs c.first c.line) seed work × Comes F (with_specs c.second c.line) seed (Err ending))
 
--- what is printed of two works, by how that ended: the difference of their plans, once; where memory lacked nothing was done
+-- what differs between two works: between their plans, or between the texts of two dumps
+
+abbrev pub plans_difference : Option Plan → Option Plan → Option (List ℕ)
+plans_difference None other = None
+plans_difference (Some plan) None = None
+plans_difference (Some plan) (Some other) = Some (difference plan other)
+
+abbrev pub dumps_difference : Option (List ℕ) → Option (List ℕ) → Option (List ℕ)
+dumps_difference None other = None
+dumps_difference (Some text) None = None
+dumps_difference (Some text) (Some other) = Some (texts_difference text other)
+
+abbrev pub first_of : Option (List ℕ) → Option (List ℕ) → Option (List ℕ)
+first_of (Some text) other = Some text
+first_of None other = other
+
+abbrev pub difference_in : Work → Work → Option (List ℕ)
+difference_in work other = first_of (dumps_difference (dump_in work) (dump_in other)) (plans_difference (plan_in work) (plan_in other))
+
+-- what is printed of two works, by how that ended: what differs, once; where memory lacked nothing was done
 abbrev pub TellsBoth : Work → Work → Outcome → List Event → Type 0
 TellsBoth work other (Ended (Done status)) told =
-    (plan : Plan) × (plan' : Plan) × (plan_in work ≡ Some plan) × (plan_in other ≡ Some plan') × Puts (difference plan plan') status told
+    (text : List ℕ) × (difference_in work other ≡ Some text) × Puts text status told
 TellsBoth work other (Ended OutOfMemory) told = told ≡ []
-TellsBoth work other NoPlan told = ((plan_in work ≡ None) ⊎ (plan_in other ≡ None)) × (told ≡ [])
+TellsBoth work other NoPlan told = (difference_in work other ≡ None) × (told ≡ [])
 TellsBoth work other outcome told = ⊥
 
 abbrev pub TellsWorks : List Event → List Event → Work → Work → Outcome → Type 0

@@ -1,9 +1,12 @@
 pub mod Calls
+pub mod Checks
 pub mod Code
 pub mod Differences
 pub mod Forms
 pub mod Outcomes
 pub mod Plans
+pub mod Requests
 pub mod Runs
 pub mod Told
 pub mod Translations
+pub mod WarningNames

@@ -3,7 +3,7 @@ use Rattle.drv_after.specs.declared.worded.GivenFault.{GivenFault}
 use Rattle.drv_run.specs.Exits.{exit_status_of}
 use Rattle.drv_run.specs.Texts.{around, refusal_text}
 use Rattle.drv_run.specs.declared.ending.Ending.TheVariants.{Done, OutOfMemory, Refused}
-use Rattle.gdrv_specs.specs.declared.calling.CallFault.TheVariants.{Memory, MissingAnswer, NoCommand, NotOneFile, NotTwoFiles, TooManyAnswers, UnknownCommand}
+use Rattle.gdrv_specs.specs.declared.calling.CallFault.TheVariants.{Memory, MissingAnswer, MissingFile, NoCommand, NoFiles, NotOneFile, NotTwoFiles, TooManyAnswers, UnknownCommand, UnknownOption}
 use Rattle.gdrv_specs.specs.declared.calling.CallFault.{CallFault}
 use Rattle.gdrv_specs.specs.declared.outcome.Outcome.TheVariants.{Ended, Misused, NoDump, NoFile, NoPlan, NoRun, Translated, Unanswered}
 use Rattle.gdrv_specs.specs.declared.outcome.Outcome.{Outcome}
@@ -33,7 +33,7 @@ unanswered_text word NoAnswer = told_line (around (codes "'") word (codes "': no
 
 -- texts of a dump that are refused: a line of each
 abbrev pub refused_line : List ℕ → List ℕ
-refused_line name = told_line (around (codes "text '") name (codes "' has no form here, and refuses its lines"))
+refused_line name = told_line (around (codes "text '") name (codes "' cannot be translated, so lines that use it are refused"))
 
 abbrev pub refused_text : List (List ℕ) → List ℕ
 refused_text names = flat_map refused_line names
@@ -50,6 +50,9 @@ misuse_text Memory = told_line (codes "out of memory")
 misuse_text MissingAnswer = told_line (codes "missing argument to '--fail'")
 misuse_text NotOneFile = told_line (codes "'translate' takes one file")
 misuse_text NotTwoFiles = told_line (codes "'diff' takes two files, '--' and a line")
+misuse_text NoFiles = told_line (codes "'check' takes one file or more")
+misuse_text (UnknownOption word) = told_line (around (codes "'check' has no option '") word (codes "'"))
+misuse_text MissingFile = told_line (codes "missing argument to '--over'")
 misuse_text TooManyAnswers = told_line (codes "more than 1000 answers")
 misuse_text NoCommand = told_line (codes "no command; 'gdrv-specs --help' lists them")
 misuse_text (UnknownCommand word) = told_line (around (codes "unknown command '") word (codes "'; 'gdrv-specs --help' lists them"))
@@ -60,7 +63,7 @@ text_of (Ended (Done status)) = []
 text_of (Ended (Refused refusal)) = told_line (refusal_text refusal)
 text_of (Ended OutOfMemory) = told_line (codes "out of memory")
 text_of NoPlan = told_line (codes "a line with '-dumpspecs' has no plan")
-text_of NoRun = told_line (codes "a line with '-###' carries nothing out")
+text_of NoRun = told_line (codes "a line with '-###' has no run")
 text_of (Unanswered word fault) = unanswered_text word fault
 text_of (Translated refused status) = refused_text refused
 text_of (NoFile path) = told_line (around (codes "cannot read '") path (codes "'"))

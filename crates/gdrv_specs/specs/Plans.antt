@@ -18,6 +18,12 @@ plan_in (Dump text) = None
 plan_in (Show plan) = Some plan
 plan_in (CarryOut plan manner) = Some plan
 
+-- the text of a work that dumps the specs
+abbrev pub dump_in : Work → Option (List ℕ)
+dump_in (Dump text) = Some text
+dump_in (Show plan) = None
+dump_in (CarryOut plan manner) = None
+
 -- what is printed of a work, by how that ended: its plan, once; where memory lacked nothing was done
 abbrev pub TellsOf : Form → Work → Outcome → List Event → Type 0
 TellsOf form work (Ended (Done status)) told = (plan : Plan) × (plan_in work ≡ Some plan) × Puts (form_text form plan) status told

@@ -1,16 +1,19 @@
 //! What a call of the program asks for.
 
-ghost use Rattle.gdrv_specs.specs.Calls.{are_compared, call_of, command_named, difference_asked, form_asked};
+ghost use Rattle.gdrv_specs.specs.Calls.{are_compared, call_of, check_asked, command_named, difference_asked, form_asked};
+ghost use Rattle.gdrv_specs.specs.Calls.{line_compared, texts_compared};
 ghost use Rattle.gdrv_specs.specs.Calls.{cut_from, form_named, form_of, line_of, no_words, run_asked};
 ghost use Rattle.gdrv_specs.specs.Calls.{translation_asked};
 ghost use Rattle.drv_words.specs.Gives.{Gives};
+ghost use Rattle.gdrv_specs.specs.Requests.{no_request, requested_from};
 ghost use Rattle.gdrv_specs.specs.declared.calling.CallFault.TheVariants.{Memory};
-ghost use Rattle.std.specs.Prelude.{◌≡◌};
+ghost use Rattle.std.specs.Prelude.{◌≡◌, IfOk};
 
 use crate::cutting::{Cut, cut_words};
 use crate::differing::Comparison;
 use crate::forms::Form;
 use crate::help::Question;
+use crate::requesting::{Request, request_of};
 use drv_words::{Listing, Word};
 use std::alloc::{AllocError, Global};
 
@@ -33,6 +36,8 @@ pub enum Call {
     Translate(Word),
     /// What differs between the plans of a line with one spec file and with another.
     Differ(Comparison),
+    /// What is found in spec files.
+    Check(Request),
 }
 
 /// Why a call asks for nothing.
@@ -52,6 +57,12 @@ pub enum CallFault {
     NotOneFile,
     /// `diff` takes the paths of two spec files, `--`, and a line.
     NotTwoFiles,
+    /// `check` takes the path of one file or more.
+    NoFiles,
+    /// `check` has no such option.
+    UnknownOption(Word),
+    /// No word follows the last `--over`.
+    MissingFile,
 }
 
 impl From<AllocError> for CallFault {
@@ -73,6 +84,7 @@ enum Command {
     After,
     Translate,
     Differ,
+    Check,
 }
 
 /// The most answers that a call gives ahead.
@@ -93,6 +105,9 @@ fn command_named(word: &[u8]) -> Option<Command>
     }
     if word == b"diff".as_slice() {
         return Some(Command::Differ);
+    }
+    if word == b"check".as_slice() {
+        return Some(Command::Check);
     }
     if word == b"--help".as_slice() {
         return Some(Command::Ask(Question::Help));
@@ -190,10 +205,10 @@ fn are_compared(words: &[Word]) -> bool
     }
 }
 
-/// The comparison that these words ask for.
+/// The comparison of the plans of a line that these words ask for.
 #[tactic(auto, using(crate::proofs::Calls::are_three, crate::proofs::Calls::compared, crate::proofs::Calls::not_compared))]
-fn difference_asked(mut words: Vec<Word>) -> Result<Call, CallFault>
-    ensures { result ≡ difference_asked words.items }
+fn line_compared(mut words: Vec<Word>) -> Result<Call, CallFault>
+    ensures { result ≡ line_compared words.items }
 {
     if !are_compared(words.as_slice()) {
         return Err(CallFault::NotTwoFiles);
@@ -208,12 +223,64 @@ fn difference_asked(mut words: Vec<Word>) -> Result<Call, CallFault>
     }))
 }
 
+/// The comparison of the texts of two files.
+fn texts_compared(alloc: Global, first: Word, second: Word) -> Result<Call, AllocError>
+    ensures { IfOk result (λ call. call ≡ texts_compared first second) }
+{
+    let mut line = Listing::new(alloc);
+    line.push(Word::from_bytes(alloc, b"-dumpspecs")?)?;
+    Ok(Call::Differ(Comparison {
+        first,
+        second,
+        line,
+    }))
+}
+
+/// The comparison that these words ask for.
+#[tactic(auto, using(crate::proofs::Calls::of_texts, crate::proofs::Calls::of_line))]
+fn difference_asked(alloc: Global, mut words: Vec<Word>) -> Result<Call, CallFault>
+    ensures { Gives Memory (λ call. call) result (difference_asked words.items) }
+{
+    if words.len() != 2 {
+        return line_compared(words);
+    }
+    let first = words.remove(0);
+    let second = words.remove(0);
+    Ok(texts_compared(alloc, first, second)?)
+}
+
+/// The check that a request asks for.
+fn check_asked(mut request: Request) -> Result<Call, CallFault>
+    ensures { result ≡ check_asked request }
+{
+    if let Some(word) = request.unknown.take() {
+        return Err(CallFault::UnknownOption(word));
+    }
+    if request.awaits {
+        return Err(CallFault::MissingFile);
+    }
+    if request.files.is_empty() {
+        return Err(CallFault::NoFiles);
+    }
+    Ok(Call::Check(request))
+}
+
+/// The check that the words after the command ask for.
+#[tactic(auto, using(crate::proofs::Calls::gives_call))]
+fn check_of_words(alloc: Global, words: &[Word]) -> Result<Call, CallFault>
+    ensures { Gives Memory (λ call. call) result
+        (check_asked (requested_from no_request words.now)) }
+{
+    let request = request_of(alloc, words)?;
+    check_asked(request)
+}
+
 /// What a call with these arguments asks for.
 ///
 /// # Errors
 /// Lack of memory. It has no arguments, or the first one is no command. The words of `--fail` are too
 /// few or too many. `translate` has no path or several. The words of `diff` aren't two, `--` and a
-/// line.
+/// line. `check` has no path, none after `--over`, or a word that begins with `-` and is no option.
 pub fn call_of(alloc: Global, args: Listing<Word>) -> Result<Call, CallFault>
     ensures { Gives Memory (λ call. call) result (call_of args) }
 {
@@ -230,7 +297,8 @@ pub fn call_of(alloc: Global, args: Listing<Word>) -> Result<Call, CallFault>
         }
         Some(Command::After) => run_of_words(alloc, words.as_slice()),
         Some(Command::Translate) => translation_asked(words),
-        Some(Command::Differ) => difference_asked(words),
+        Some(Command::Differ) => difference_asked(alloc, words),
+        Some(Command::Check) => check_of_words(alloc, words.as_slice()),
         None => Err(CallFault::UnknownCommand(first)),
     }
 }

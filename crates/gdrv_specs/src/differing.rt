@@ -1,17 +1,18 @@
 //! Prints what differs between two plans of a line.
 
-ghost use Rattle.drv_forms.specs.Difference.{difference};
 ghost use Rattle.drv_run.specs.Drives.{Comes};
 ghost use Rattle.drv_run.specs.declared.work.Work.{Work};
 ghost use Rattle.drv_system.specs.Asking.{Asks, Extends};
 ghost use Rattle.drv_system.specs.Facts.{Facts};
-ghost use Rattle.gdrv_specs.specs.Differences.{ComesTwice, TellsDifference, TellsWorks, with_specs};
-ghost use Rattle.gdrv_specs.specs.Plans.{plan_in};
+ghost use Rattle.gdrv_specs.specs.Differences.{ComesTwice, TellsDifference, TellsWorks, difference_in};
+ghost use Rattle.gdrv_specs.specs.Differences.{dumps_difference, plans_difference, with_specs};
+ghost use Rattle.gdrv_specs.specs.Plans.{dump_in, plan_in};
 ghost use Rattle.gdrv_specs.specs.Told.{PutsText};
 ghost use Rattle.std.specs.Option.{option_map};
 ghost use Rattle.std.specs.Prelude.{◌≡◌, IfOk, OnErr, Some};
 
 use crate::outcome::Outcome;
+use drv_check::texts_difference;
 use drv_forms::difference;
 use drv_run::{Ending, Work, status_of, work_of_call};
 use drv_system::{FactTable, System};
@@ -95,52 +96,103 @@ fn plan_of(work: &Work) -> Option<&Plan>
     }
 }
 
-/// Writes the difference of two plans to standard output, and answers the exit status.
-fn put_difference<S: System>(
-    alloc: Global,
-    sys: &mut S,
-    plan: &Plan,
-    other: &Plan,
-) -> Result<u8, AllocError>
-    ensures puts { IfOk result
-        (λ status. PutsText (S.events sys.old) (S.events sys.new)
-        (difference plan.now other.now) status) }
-    ensures memory { OnErr result (S.events sys.new ≡ S.events sys.old) }
+/// The text of a work that dumps the specs.
+fn dump_of(work: &Work) -> Option<&Word>
+    ensures { option_map (λ text. text.now) result ≡ dump_in work.now }
 {
-    let text = difference(alloc, plan, other)?;
-    Ok(status_of(sys.put(&text)?))
+    match work {
+        Work::Dump(text) => Some(text),
+        Work::Show(_) | Work::CarryOut { .. } => None,
+    }
 }
 
-/// Prints the difference of the plans of two works.
+/// What differs between two plans.
+fn plans_difference(
+    alloc: Global,
+    plan: Option<&Plan>,
+    other: Option<&Plan>,
+) -> Result<Option<Word>, AllocError>
+    ensures { IfOk result (λ text. text
+        ≡ plans_difference (option_map (λ plan. plan.now) plan.entry)
+        (option_map (λ plan. plan.now) other.entry)) }
+{
+    let Some(plan) = plan else {
+        return Ok(None);
+    };
+    let Some(other) = other else {
+        return Ok(None);
+    };
+    Ok(Some(difference(alloc, plan, other)?))
+}
+
+/// What differs between the texts of two dumps.
+fn dumps_difference(
+    alloc: Global,
+    text: Option<&Word>,
+    other: Option<&Word>,
+) -> Result<Option<Word>, AllocError>
+    ensures { IfOk result (λ found. found
+        ≡ dumps_difference (option_map (λ text. text.now) text.entry)
+        (option_map (λ text. text.now) other.entry)) }
+{
+    let Some(text) = text else {
+        return Ok(None);
+    };
+    let Some(other) = other else {
+        return Ok(None);
+    };
+    let found = texts_difference(alloc, text.as_bytes(), other.as_bytes())?;
+    Ok(Some(found))
+}
+
+/// What differs between two works: between their plans, or between the texts of two dumps.
+fn difference_in(alloc: Global, work: &Work, other: &Work) -> Result<Option<Word>, AllocError>
+    ensures { IfOk result (λ text. text ≡ difference_in work.now other.now) }
+{
+    let found = dumps_difference(alloc, dump_of(work), dump_of(other))?;
+    if found.is_some() {
+        return Ok(found);
+    }
+    plans_difference(alloc, plan_of(work), plan_of(other))
+}
+
+/// Writes a text to standard output, and answers the exit status.
+fn put_difference<S: System>(sys: &mut S, text: &Word) -> Result<u8, AllocError>
+    ensures puts { IfOk result
+        (λ status. PutsText (S.events sys.old) (S.events sys.new) text.now status) }
+    ensures memory { OnErr result (S.events sys.new ≡ S.events sys.old) }
+{
+    Ok(status_of(sys.put(text)?))
+}
+
+/// Prints what differs between two works.
 #[tactic(auto, using(crate::proofs::Differences::tells_put, crate::proofs::Differences::tells_short))]
-fn tell_plans<S: System>(alloc: Global, sys: &mut S, plan: &Plan, other: &Plan) -> Outcome
-    ensures { (work work' : Work) → plan_in work ≡ Some plan.now → plan_in work' ≡ Some other.now
+fn tell_text<S: System>(sys: &mut S, text: &Word) -> Outcome
+    ensures { (work work' : Work) → difference_in work work' ≡ Some text.now
         → TellsWorks (S.events sys.old) (S.events sys.new) work work' result }
 {
-    match put_difference(alloc, sys, plan, other) {
+    match put_difference(sys, text) {
         Ok(status) => Outcome::Ended(Ending::Done(status)),
         Err(_) => Outcome::Ended(Ending::OutOfMemory),
     }
 }
 
-/// Prints the difference of two works, unless one of them has no plan.
-#[tactic(auto, using(crate::proofs::Differences::first_without, crate::proofs::Differences::second_without))]
+/// Prints the difference of two works, if they can be compared.
+#[tactic(auto, using(crate::proofs::Differences::tells_nothing, crate::proofs::Differences::tells_unmade))]
 fn tell_works<S: System>(alloc: Global, sys: &mut S, work: &Work, other: &Work) -> Outcome
     ensures { TellsWorks (S.events sys.old) (S.events sys.new) work.now other.now result }
 {
-    let Some(plan) = plan_of(work) else {
-        return Outcome::NoPlan;
-    };
-    let Some(other) = plan_of(other) else {
-        return Outcome::NoPlan;
-    };
-    tell_plans(alloc, sys, plan, other)
+    match difference_in(alloc, work, other) {
+        Ok(Some(text)) => tell_text(sys, &text),
+        Ok(None) => Outcome::NoPlan,
+        Err(_) => Outcome::Ended(Ending::OutOfMemory),
+    }
 }
 
 /// Writes to standard output what differs between the plan of a line with one spec file and that
-/// with another. It asks what the plans need, and does nothing else: it starts no program and makes,
-/// changes and removes no file. A line that is refused, and one with `-dumpspecs`, which has no
-/// plan, write nothing. The seed is for the names of temporaries.
+/// with another, or between the two sets of texts for a line with `-dumpspecs`. It asks what these
+/// need, and does nothing else: it starts no program and makes, changes and removes no file. A line
+/// that is refused writes nothing. The seed is for the names of temporaries.
 pub fn tell_difference<S: System>(
     alloc: Global,
     sys: &mut S,

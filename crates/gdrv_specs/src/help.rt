@@ -4,13 +4,16 @@ use drv_run::VERSION;
 use std::io::{self, Write};
 
 const HELP: &str = "\
-Usage: gdrv-specs plan [--json | --sh | --dot] LINE...
+Usage: gdrv-specs check [--json] [-Werror] [-Wno-NAME]... [--over FILE]... FILE...
+       gdrv-specs plan [--json | --sh | --dot] LINE...
        gdrv-specs after LINE... [--fail PLACE=ANSWER]...
        gdrv-specs translate FILE
-       gdrv-specs diff FILE FILE -- LINE...
-gdrv-specs tells what a line of gdrv would do. It starts nothing and makes no
+       gdrv-specs diff FILE FILE [-- LINE...]
+gdrv-specs prints what gdrv would do with a line. It starts nothing and makes no
 file.
 
+  check           print every fault of spec files, and what is surely not meant,
+                  each with its line; the status is 2 for faults
   plan            print the commands of the line
   plan --json     print its plan as JSON
   plan --sh       print a shell script that does what the line does
@@ -20,7 +23,8 @@ file.
   translate       print the spec texts of FILE, which gcc -dumpspecs printed,
                   in the language of gdrv
   diff            print what differs between the commands of the line with the
-                  first spec FILE and with the second
+                  first spec FILE and with the second; without LINE, what
+                  differs between the texts
 
 The words of LINE are those of gdrv, -specs=FILE among them. The manual page
 gdrv-specs(1) says more.

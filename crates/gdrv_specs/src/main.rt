@@ -6,16 +6,20 @@ ghost use Rattle.std.specs.Prelude.{◌≡◌};
 
 mod answers;
 mod calling;
+mod checks;
 mod cutting;
 mod differing;
 mod forms;
 mod help;
 mod outcome;
 mod planning;
+mod requesting;
 mod running;
 mod translating;
+mod warning_names;
 
 use calling::{Call, call_of};
+use checks::tell_check;
 use differing::{Comparison, tell_difference};
 use drv_run::Ending;
 use drv_system::{HostSystem, Reporter, arguments, clock_seed, complain};
@@ -24,6 +28,7 @@ use forms::Form;
 use help::Question;
 use outcome::Outcome;
 use planning::tell_plan;
+use requesting::Request;
 use running::tell_after;
 use std::alloc::AllocError;
 use std::io::{self, ErrorKind};
@@ -93,6 +98,12 @@ fn compare(rt: &HostRuntime, comparison: &Comparison) -> Result<Outcome, AllocEr
     Ok(tell_difference(rt.alloc(), &mut sys, comparison, seed))
 }
 
+/// Checks spec files for this process's user.
+fn check(rt: &HostRuntime, request: &Request) -> Result<Outcome, AllocError> {
+    let mut sys = HostSystem::new(rt.clone()?, Reporter::Gdrv);
+    Ok(tell_check(rt.alloc(), &mut sys, request))
+}
+
 /// The outcome of a text, for which memory may have lacked first.
 fn ended(outcome: Result<Outcome, AllocError>) -> Outcome {
     match outcome {
@@ -109,6 +120,7 @@ fn act(rt: &HostRuntime, call: Call) -> Outcome {
         Call::After { given, line } => ended(tell_run(rt, given.as_slice(), line)),
         Call::Translate(path) => ended(translate(rt, path)),
         Call::Differ(comparison) => ended(compare(rt, &comparison)),
+        Call::Check(request) => ended(check(rt, &request)),
     }
 }
 

@@ -82,7 +82,7 @@ fn unanswered_line(alloc: Global, word: &Word, fault: GivenFault) -> Result<Word
 fn refused_line(alloc: Global, name: &Word) -> Result<Word, AllocError>
     ensures { IfOk result (λ line. line ≡ refused_line name.now) }
 {
-    let after = b"' has no form here, and refuses its lines";
+    let after = b"' cannot be translated, so lines that use it are refused";
     line_around(alloc, b"text '", name, after)
 }
 
@@ -131,6 +131,14 @@ fn misuse_line(alloc: Global, fault: &CallFault) -> Result<Word, AllocError>
         CallFault::TooManyAnswers => line_of(alloc, b"more than 1000 answers"),
         CallFault::NotOneFile => line_of(alloc, b"'translate' takes one file"),
         CallFault::NotTwoFiles => line_of(alloc, b"'diff' takes two files, '--' and a line"),
+        CallFault::MissingFile => line_of(alloc, b"missing argument to '--over'"),
+        CallFault::NoFiles => line_of(alloc, b"'check' takes one file or more"),
+        CallFault::UnknownOption(word) => line_around(
+            alloc,
+            b"'check' has no option '",
+            word,
+            b"'",
+        ),
         CallFault::Memory => line_of(alloc, b"out of memory"),
     }
 }
@@ -158,7 +166,7 @@ impl Outcome {
             Outcome::Ended(Ending::Refused(refusal)) => refusal_line(alloc, refusal),
             Outcome::Ended(Ending::OutOfMemory) => line_of(alloc, b"out of memory"),
             Outcome::NoPlan => line_of(alloc, b"a line with '-dumpspecs' has no plan"),
-            Outcome::NoRun => line_of(alloc, b"a line with '-###' carries nothing out"),
+            Outcome::NoRun => line_of(alloc, b"a line with '-###' has no run"),
             Outcome::Unanswered(word, fault) => unanswered_line(alloc, word, *fault),
             Outcome::Translated(refused, _) => refused_lines(alloc, refused.as_slice()),
             Outcome::NoFile(path) => line_around(alloc, b"cannot read '", path, b"'"),

@@ -1,0 +1,426 @@
+use Rattle.drv_check.proofs.IncludesRead.{answers_alike, refusing}
+use Rattle.drv_check.proofs.LinesNumbered.{Same, name_same, pair_body_same, text_same}
+use Rattle.drv_check.proofs.PiecesChecked.{begins}
+use Rattle.drv_check.proofs.PiecesRead.{pieces_read}
+use Rattle.drv_check.specs.Agreement.{Agrees, all_loaded, fault_in, fault_of, faults_of}
+use Rattle.drv_check.specs.Checked.{based, checked, checked_over, faults_alone, is_fault, tells_fault}
+use Rattle.drv_check.specs.Checks.{Enters, all_called, by_text, called, changed, entered, enters_at, file_checked, finding_of, noted, numbered, open_file, opened, opened_of, pieces_checked, put_aside, spot_in, step, stepped, unchecked, warned}
+use Rattle.drv_check.specs.Includes.{inclusion_in, read_text}
+use Rattle.drv_check.specs.Numbers.{AreRead, IsRead}
+use Rattle.drv_check.specs.Points.{front_length}
+use Rattle.drv_check.specs.Warnings.{marks_of}
+use Rattle.drv_check.specs.Whole.{file_judged, judged, pieces_judged, sources_judged, whole_marks}
+use Rattle.drv_check.specs.declared.findings.Checking.{Checking}
+use Rattle.drv_check.specs.declared.findings.Finding.{Finding}
+use Rattle.drv_check.specs.declared.findings.Note.TheVariants.{Fault, Warned}
+use Rattle.drv_check.specs.declared.findings.Note.{Note}
+use Rattle.drv_check.specs.declared.findings.Source.{Source}
+use Rattle.drv_check.specs.declared.findings.Spot.{Spot}
+use Rattle.drv_check.specs.declared.opening.OpenFile.{OpenFile}
+use Rattle.drv_check.specs.declared.pieces.Piece.{Piece}
+use Rattle.drv_check.specs.declared.warning.Mark.{Mark}
+use Rattle.drv_search.specs.Search.{file_found, prefixes_of}
+use Rattle.drv_search.specs.declared.prefixes.Prefixes.{Prefixes}
+use Rattle.drv_specs.specs.Blanks.{is_blank}
+use Rattle.drv_specs.specs.Builtin.{builtin_specs}
+use Rattle.drv_specs.specs.Directives.{Bad, Directive, Include, Pair, Rename, Text, directives_of}
+use Rattle.drv_specs.specs.Loading as load
+use Rattle.drv_specs.specs.Loading.{Carried, all_carried, carried, file_carried, file_loaded, including, loaded, most_files, most_levels, set_in, text_read, then_by, worked}
+use Rattle.drv_specs.specs.Sets.{Set, with_name, with_pair_body, with_text}
+use Rattle.drv_specs.specs.declared.fault.SpecsFault.TheVariants.{BadLine, IncludeTooDeep, TooManyIncludes}
+use Rattle.drv_specs.specs.declared.fault.SpecsFault.{SpecsFault}
+use Rattle.drv_system.specs.Facts.{Facts, read_of}
+use Rattle.drv_system.specs.Known.{◌>>=◌, Is, Known, Unasked, asked}
+use Rattle.drv_system.specs.declared.event.ReadAnswer.{ReadAnswer}
+use Rattle.std.proofs.Common.{◌≡◌, ◌∙◌, ◌+◌, ◌++◌, ◌∷◌, Bool, Err, List, None, Ok, Option, Result, Some, [], ap, append_assoc, drop, false, if◌then◌else◌, length, refl, subst, suc, sym, zero, ℕ}
+use Rattle.std.proofs.lemmas.List.{append-nil}
+use Rattle.std.specs.Prelude.{filter, map}
+
+-- A check finds no fault exactly where the driver loads the files, and its first fault is the driver's refusal.
+
+-- what is known is one thing
+
+abbrev known_or : {X : Type 0} → X → Known X → X
+known_or x Unasked = x
+known_or x (Is y) = y
+
+same_in : {X : Type 0} {x y : X} → Is x ≡ Is y → x ≡ y
+same_in {x = x} is = ap (known_or x) is
+
+-- the faults of findings
+
+faults_both : (first second : List Finding) → faults_of (first ++ second) ≡ faults_of first ++ faults_of second
+faults_both [] second = refl
+faults_both (finding ∷ first) second =
+    ap (λ fs. fault_of finding ++ fs) (faults_both first second) ∙ sym (append_assoc (fault_of finding) (faults_of first) (faults_of second))
+
+faults_with : (first second : List Finding) → faults_of second ≡ [] → faults_of (first ++ second) ≡ faults_of first
+faults_with first second none = faults_both first second ∙ ap (λ fs. faults_of first ++ fs) none ∙ append-nil (faults_of first)
+
+no_faults : (file : OpenFile) (piece : Piece) (marks : List Mark) → faults_of (map (finding_of file piece) marks) ≡ []
+no_faults file piece [] = refl
+no_faults file piece (mark ∷ marks) = no_faults file piece marks
+
+noted_faults : (c : Checking) (spot : Option Spot) (fault : SpecsFault)
+    → faults_of (noted c spot (Fault fault)).findings ≡ faults_of c.findings ++ fault ∷ []
+noted_faults c spot fault = faults_both c.findings (record { spot = spot; note = Fault fault } ∷ [])
+
+-- what the driver makes of it, after these faults and with these
+
+abbrev carried_of : Checking → Carried
+carried_of c = record { set = c.set; files = c.files }
+
+abbrev Follows : List SpecsFault → Checking → Known (Result Carried SpecsFault) → Type 0
+Follows before c Unasked = ⊥
+Follows before c (Is (Ok d)) = (faults_of c.findings ≡ before) × (carried_of c ≡ d)
+Follows before c (Is (Err fault)) = (more : List SpecsFault) × (faults_of c.findings ≡ before ++ fault ∷ more)
+
+grows : (before : List SpecsFault) (c : Checking) (known : Known (Result Carried SpecsFault)) → Follows before c known
+    → (more : List SpecsFault) × (faults_of c.findings ≡ before ++ more)
+grows before c Unasked follows = absurd follows
+grows before c (Is (Ok d)) follows = ([], follows.0 ∙ sym (append-nil before))
+grows before c (Is (Err fault)) follows = (fault ∷ follows.0, follows.1)
+
+joins : (before : List SpecsFault) (c c' : Checking) (known : Known (Result Carried SpecsFault)) (next : Carried → Known (Result Carried SpecsFault))
+    → Follows before c known → Follows (faults_of c.findings) c' (next (carried_of c)) → Follows before c' (then_by known next)
+joins before c c' Unasked next first second = absurd first
+joins before c c' (Is (Ok d)) next first second =
+    subst (λ x. Follows before c' (next x)) first.1 (subst (λ fs. Follows fs c' (next (carried_of c))) first.0 second)
+joins before c c' (Is (Err fault)) next first second =
+    let later = grows (faults_of c.findings) c' (next (carried_of c)) second in (
+      first.0 ++ later.0,
+      later.1 ∙ ap (λ fs. fs ++ later.0) first.1 ∙ append_assoc before (fault ∷ first.0) later.0,
+    )
+
+-- a directive that includes no file
+
+module _ (c : Checking) (file : OpenFile) (piece : Piece) where
+  warned_faults : faults_of (warned c file piece).findings ≡ faults_of c.findings
+  warned_faults = faults_with c.findings (map (finding_of file piece) (marks_of c.set piece.text)) (no_faults file piece (marks_of c.set piece.text))
+
+  abbrev Alone : Enters → Result Set SpecsFault → Checking → Type 0
+  Alone enters result c' =
+      (put_aside (changed (warned c file piece) file piece (Is result)) >>= λ next. entered enters next.0 next.1) ≡ Is c'
+
+  changed_well : (enters : Enters) (set : Set) (c' : Checking) → Alone enters (Ok set) c'
+      → Follows (faults_of c.findings) c' (Is (Ok (record { set = set; files = c.files })))
+  changed_well enters set c' is =
+      subst (λ x. Follows (faults_of c.findings) x (Is (Ok (record { set = set; files = c.files })))) (same_in is) (warned_faults, refl)
+
+  changed_ill : (enters : Enters) (fault told : SpecsFault) (c' : Checking) → numbered piece.number fault ≡ told → Alone enters (Err fault) c'
+      → Follows (faults_of c.findings) c' (Is (Err told))
+  changed_ill enters fault told c' same is =
+      subst (λ x. Follows (faults_of c.findings) x (Is (Err told))) (same_in is) (
+        [],
+        noted_faults (warned c file piece) _ (numbered piece.number fault) ∙ ap (λ fs. fs ++ numbered piece.number fault ∷ []) warned_faults
+            ∙ ap (λ f. faults_of c.findings ++ f ∷ []) same,
+      )
+
+  changed_as : (enters : Enters) (result : Result Set SpecsFault) (c' : Checking) → Same piece.number result → Alone enters result c'
+      → Follows (faults_of c.findings) c' (load.changed c.files result)
+  changed_as enters (Ok set) c' same is = changed_well enters set c' is
+  changed_as enters (Err fault) c' same is = changed_ill enters fault fault c' same is
+
+abbrev number_in : Directive → ℕ
+number_in (Bad n) = n
+number_in (Text name body) = 0
+number_in (Pair key body) = 0
+number_in (Rename old new) = 0
+number_in (Include missing name) = 0
+
+module _ (F : Facts) (prefixes : Prefixes) where
+  -- a piece loaded as a text by itself
+
+  change_alone : (result : Result Set SpecsFault) → then_by (then_by (load.changed most_files result) (λ d. Is (Ok d))) set_in ≡ Is result
+  change_alone (Ok set) = refl
+  change_alone (Err fault) = refl
+
+  loaded_alone : (set : Set) (text : List ℕ) (directive : Directive) → directives_of text ≡ directive ∷ []
+      → loaded F prefixes set text ≡ worked F prefixes set most_files (directive ∷ [])
+  unfolding loaded
+  loaded_alone set text directive is = ap (worked F prefixes set most_files) is
+
+  abbrev One : ℕ → Checking → OpenFile → Piece → Checking → Type 0
+  One levels c file piece c' = (step F prefixes levels c file piece >>= λ next. entered (enters_at F prefixes levels) next.0 next.1) ≡ Is c'
+
+  stays : (levels : ℕ) (c c' : Checking) (file : OpenFile) (piece : Piece) (result : Result Set SpecsFault) → inclusion_in piece.text ≡ None
+      → loaded F prefixes c.set piece.text ≡ Is result → One levels c file piece c' → Alone c file piece (enters_at F prefixes levels) result c'
+  stays levels c c' file piece result none loads is =
+      ap (λ k. put_aside (changed (warned c file piece) file piece k) >>= λ next. entered (enters_at F prefixes levels) next.0 next.1) (sym loads)
+      ∙ ap (λ i. stepped F prefixes levels c file piece i >>= λ next. entered (enters_at F prefixes levels) next.0 next.1) (sym none) ∙ is
+
+  -- how deep files may be within one another
+
+  abbrev Opens : ℕ → Type 0
+  Opens levels = (c c' : Checking) (from : Option Spot) (may : Bool) (missing : _) (name : List ℕ)
+      → ((path : List ℕ) (answer : ReadAnswer) → text_read missing path answer ≡ read_text may path answer)
+      → (opened F prefixes levels c from (record { may_miss = may; file = name }) >>= λ next. entered (enters_at F prefixes levels) next.0 next.1) ≡ Is c'
+      → Follows (faults_of c.findings) c' (including F prefixes levels (carried_of c) missing name)
+
+  abbrev Checks : ℕ → Type 0
+  Checks levels = (c c' : Checking) (file : OpenFile) (pieces : List Piece) (directives : List Directive) → AreRead pieces directives
+      → pieces_checked F prefixes levels (enters_at F prefixes levels) c file pieces ≡ Is c'
+      → Follows (faults_of c.findings) c' (all_carried (including F prefixes levels) (carried_of c) directives)
+
+  one_as : (levels : ℕ) → Opens levels → (c c' : Checking) (file : OpenFile) (piece : Piece) (directive : Directive) → IsRead piece directive
+      → One levels c file piece c' → Follows (faults_of c.findings) c' (carried (including F prefixes levels) (carried_of c) directive)
+  one_as levels opens c c' file piece (Text name body) read is =
+      changed_as c file piece (enters_at F prefixes levels) (with_text c.set name body) c' (text_same piece.number c.set name body)
+      (stays levels c c' file piece (with_text c.set name body) read.includes
+      (loaded_alone c.set piece.text (Text name body) read.alone ∙ change_alone (with_text c.set name body)) is)
+  one_as levels opens c c' file piece (Pair key body) read is =
+      changed_as c file piece (enters_at F prefixes levels) (with_pair_body c.set key body) c' (pair_body_same piece.number c.set key body)
+      (stays levels c c' file piece (with_pair_body c.set key body) read.includes
+      (loaded_alone c.set piece.text (Pair key body) read.alone ∙ change_alone (with_pair_body c.set key body)) is)
+  one_as levels opens c c' file piece (Rename old new) read is =
+      changed_as c file piece (enters_at F prefixes levels) (with_name c.set old new) c' (name_same piece.number c.set old new)
+      (stays levels c c' file piece (with_name c.set old new) read.includes
+      (loaded_alone c.set piece.text (Rename old new) read.alone ∙ change_alone (with_name c.set old new)) is)
+  one_as levels opens c c' file piece (Bad n) read is =
+      changed_ill c file piece (enters_at F prefixes levels) (BadLine 1) (BadLine n) c' (ap BadLine (sym (ap number_in read.here)))
+      (stays levels c c' file piece (Err (BadLine 1)) read.includes (loaded_alone c.set piece.text (Bad 1) read.alone) is)
+  one_as levels opens c c' file piece (Include missing name) read is =
+      opens c c' (spot_in file piece (front_length is_blank piece.text)) read.includes.0 missing name read.includes.2
+      (ap (λ i. stepped F prefixes levels c file piece i >>= λ next. entered (enters_at F prefixes levels) next.0 next.1) (sym read.includes.1) ∙ is)
+
+  checks_at : (levels : ℕ) → Opens levels → Checks levels
+  checks_at levels opens c c' file [] [] are is =
+      subst (λ x. Follows (faults_of c.findings) x (Is (Ok (carried_of c)))) (same_in is) (refl, refl)
+  checks_at levels opens c c' file [] (directive ∷ directives) are is = absurd are
+  checks_at levels opens c c' file (piece ∷ pieces) [] are is = absurd are
+  checks_at levels opens c c' file (piece ∷ pieces) (directive ∷ directives) are is =
+      by_step (λ c'' more. checks_at levels opens c'' c' file pieces directives are.1 more) (step F prefixes levels c file piece) refl is
+    where
+      ends : ((d : Checking) → pieces_checked F prefixes levels (enters_at F prefixes levels) d file pieces ≡ Is c'
+          → Follows (faults_of d.findings) c' (all_carried (including F prefixes levels) (carried_of d) directives))
+          → (c'' : Checking) → One levels c file piece c''
+          → pieces_checked F prefixes levels (enters_at F prefixes levels) c'' file pieces ≡ Is c'
+          → Follows (faults_of c.findings) c' (all_carried (including F prefixes levels) (carried_of c) (directive ∷ directives))
+      ends later c'' one more =
+          joins (faults_of c.findings) c'' c' (carried (including F prefixes levels) (carried_of c) directive)
+          (λ d. all_carried (including F prefixes levels) d directives)
+          (one_as levels opens c c'' file piece directive are.0 one)
+          (later c'' more)
+
+      by_entered : ((d : Checking) → pieces_checked F prefixes levels (enters_at F prefixes levels) d file pieces ≡ Is c'
+          → Follows (faults_of d.findings) c' (all_carried (including F prefixes levels) (carried_of d) directives))
+          → (next : Checking × Option OpenFile) → step F prefixes levels c file piece ≡ Is next → (known : Known Checking)
+          → entered (enters_at F prefixes levels) next.0 next.1 ≡ known
+          → (known >>= λ c''. pieces_checked F prefixes levels (enters_at F prefixes levels) c'' file pieces) ≡ Is c'
+          → Follows (faults_of c.findings) c' (all_carried (including F prefixes levels) (carried_of c) (directive ∷ directives))
+      by_entered later next steps Unasked enters more = absurd cc
+      by_entered later next steps (Is c'') enters more =
+          ends later c'' (ap (λ k. k >>= λ n. entered (enters_at F prefixes levels) n.0 n.1) steps ∙ enters) more
+
+      by_step : ((d : Checking) → pieces_checked F prefixes levels (enters_at F prefixes levels) d file pieces ≡ Is c'
+          → Follows (faults_of d.findings) c' (all_carried (including F prefixes levels) (carried_of d) directives))
+          → (known : Known (Checking × Option OpenFile)) → step F prefixes levels c file piece ≡ known
+          → (known >>= λ next. entered (enters_at F prefixes levels) next.0 next.1
+          >>= λ c''. pieces_checked F prefixes levels (enters_at F prefixes levels) c'' file pieces) ≡ Is c'
+          → Follows (faults_of c.findings) c' (all_carried (including F prefixes levels) (carried_of c) (directive ∷ directives))
+      by_step later Unasked steps more = absurd cc
+      by_step later (Is next) steps more = by_entered later next steps (entered (enters_at F prefixes levels) next.0 next.1) refl more
+
+  -- an included file
+
+  opens_none : Opens zero
+  unfolding including
+  opens_none c c' from may missing name alike is =
+      subst (λ x. Follows (faults_of c.findings) x (Is (Err IncludeTooDeep))) (same_in is) ([], noted_faults c from IncludeTooDeep)
+
+  abbrev opens_text : ℕ → ℕ → Checking → Option Spot → List ℕ → Result (List ℕ) SpecsFault → Known Checking
+  opens_text levels left c from path text =
+      Is (by_text (record c { files = left }) from path text) >>= λ next. entered (file_checked F prefixes levels) next.0 next.1
+
+  by_result : (levels left : ℕ) → Checks levels → (c c' : Checking) (from : Option Spot) (path : List ℕ) (text : Result (List ℕ) SpecsFault)
+      → opens_text levels left c from path text ≡ Is c'
+      → Follows (faults_of c.findings) c'
+      (then_by (Is text) (λ t. all_carried (including F prefixes levels) (record { set = c.set; files = left }) (directives_of t)))
+  by_result levels left checks c c' from path (Err fault) is =
+      subst (λ x. Follows (faults_of c.findings) x (Is (Err fault))) (same_in is) ([], noted_faults (record c { files = left }) from fault)
+  by_result levels left checks c c' from path (Ok text) is =
+      checks (record c { files = left; sources = c.sources ++ record { name = path; text = text; from = from } ∷ [] }) c'
+      (open_file (length c.sources) text) (open_file (length c.sources) text).pieces (directives_of text) (pieces_read text)
+      (begins F prefixes levels (record c { files = left; sources = c.sources ++ record { name = path; text = text; from = from } ∷ [] })
+      (open_file (length c.sources) text) ∙ is)
+
+  module _ (levels left : ℕ) (checks : Checks levels) (c c' : Checking) (from : Option Spot) (may : Bool) (name : List ℕ) where
+    abbrev texts : Known (List ℕ) → Known (List ℕ × Result (List ℕ) SpecsFault)
+    texts known = known >>= λ path. asked (read_of F path) >>= λ answer. Is (path, read_text may path answer)
+
+    abbrev goes : Known (List ℕ × Result (List ℕ) SpecsFault) → Known Checking
+    goes known =
+        (known >>= λ found. Is (by_text (record c { files = left }) from found.0 found.1))
+        >>= λ next. entered (file_checked F prefixes levels) next.0 next.1
+
+    by_answer : (missing : _) → ((path : List ℕ) (answer : ReadAnswer) → text_read missing path answer ≡ read_text may path answer)
+        → (path : List ℕ) (answer : Option ReadAnswer) → goes (asked answer >>= λ a. Is (path, read_text may path a)) ≡ Is c'
+        → Follows (faults_of c.findings) c' (then_by (asked answer >>= λ a. Is (text_read missing path a))
+        (λ t. all_carried (including F prefixes levels) (record { set = c.set; files = left }) (directives_of t)))
+    by_answer missing alike path None is = absurd cc
+    by_answer missing alike path (Some answer) is =
+        subst (λ r. Follows (faults_of c.findings) c' (then_by (Is r)
+        (λ t. all_carried (including F prefixes levels) (record { set = c.set; files = left }) (directives_of t)))) (sym (alike path answer))
+        (by_result levels left checks c c' from path (read_text may path answer) is)
+
+    by_path : (missing : _) → ((path : List ℕ) (answer : ReadAnswer) → text_read missing path answer ≡ read_text may path answer)
+        → (known : Known (List ℕ)) → goes (texts known) ≡ Is c'
+        → Follows (faults_of c.findings) c' (then_by (known >>= λ path. asked (read_of F path) >>= λ a. Is (text_read missing path a))
+        (λ t. all_carried (including F prefixes levels) (record { set = c.set; files = left }) (directives_of t)))
+    by_path missing alike Unasked is = absurd cc
+    by_path missing alike (Is path) is = by_answer missing alike path (read_of F path) is
+
+  by_files : (levels : ℕ) → Checks levels → (n : ℕ) (c c' : Checking) (from : Option Spot) (may : Bool) (missing : _) (name : List ℕ)
+      → ((path : List ℕ) (answer : ReadAnswer) → text_read missing path answer ≡ read_text may path answer)
+      → (opened_of F prefixes n c from (record { may_miss = may; file = name }) >>= λ next. entered (file_checked F prefixes levels) next.0 next.1) ≡ Is c'
+      → Follows (faults_of c.findings) c' (file_carried F prefixes (including F prefixes levels) c.set n missing name)
+  by_files levels checks zero c c' from may missing name alike is =
+      subst (λ x. Follows (faults_of c.findings) x (Is (Err TooManyIncludes))) (same_in is) ([], noted_faults c from TooManyIncludes)
+  by_files levels checks (suc left) c c' from may missing name alike is =
+      by_path levels left checks c c' from may name missing alike (file_found F prefixes name) is
+
+  opens_some : (levels : ℕ) → Checks levels → Opens (suc levels)
+  unfolding including
+  opens_some levels checks c c' from may missing name alike is = by_files levels checks c.files c c' from may missing name alike is
+
+  all_open : (levels : ℕ) → Opens levels
+  all_open zero = opens_none
+  all_open (suc levels) = opens_some levels (checks_at levels (all_open levels))
+
+  -- the files of the call
+
+  abbrev Loads : List SpecsFault → Checking → Known (Result Set SpecsFault) → Type 0
+  Loads before c Unasked = ⊥
+  Loads before c (Is (Ok set)) = (faults_of c.findings ≡ before) × (c.set ≡ set)
+  Loads before c (Is (Err fault)) = (more : List SpecsFault) × (faults_of c.findings ≡ before ++ fault ∷ more)
+
+  loads_set : (before : List SpecsFault) (c : Checking) (known : Known (Result Carried SpecsFault)) → Follows before c known
+      → Loads before c (then_by known set_in)
+  loads_set before c Unasked follows = follows
+  loads_set before c (Is (Ok d)) follows = (follows.0, ap (λ x. x.set) follows.1)
+  loads_set before c (Is (Err fault)) follows = follows
+
+  one_loads : (c c' : Checking) (name : List ℕ) → called F prefixes c name ≡ Is c' → Loads (faults_of c.findings) c' (file_loaded F prefixes c.set name)
+  unfolding file_loaded
+  one_loads c c' name is =
+      loads_set (faults_of c.findings) c' _
+      (all_open most_levels (record c { files = most_files }) c' None false refusing.0 name
+      (answers_alike refusing.0 false (λ path text. refl) (λ path. refl) (λ path. refl) (λ path. refl)) is)
+
+  loads_alike : (before : List SpecsFault) (c d : Checking) (known : Known (Result Set SpecsFault)) → faults_of d.findings ≡ faults_of c.findings
+      → d.set ≡ c.set → Loads before c known → Loads before d known
+  loads_alike before c d Unasked faults sets loads = loads
+  loads_alike before c d (Is (Ok set)) faults sets loads = (faults ∙ loads.0, sets ∙ loads.1)
+  loads_alike before c d (Is (Err fault)) faults sets loads = (loads.0, faults ∙ loads.1)
+
+  loads_grow : (before : List SpecsFault) (c : Checking) (known : Known (Result Set SpecsFault)) → Loads before c known
+      → (more : List SpecsFault) × (faults_of c.findings ≡ before ++ more)
+  loads_grow before c Unasked loads = absurd loads
+  loads_grow before c (Is (Ok set)) loads = ([], loads.0 ∙ sym (append-nil before))
+  loads_grow before c (Is (Err fault)) loads = (fault ∷ loads.0, loads.1)
+
+  loads_join : (before : List SpecsFault) (c c' : Checking) (known : Known (Result Set SpecsFault)) (next : Set → Known (Result Set SpecsFault))
+      → Loads before c known → Loads (faults_of c.findings) c' (next c.set) → Loads before c' (then_by known next)
+  loads_join before c c' Unasked next first second = absurd first
+  loads_join before c c' (Is (Ok set)) next first second =
+      subst (λ x. Loads before c' (next x)) first.1 (subst (λ fs. Loads fs c' (next c.set)) first.0 second)
+  loads_join before c c' (Is (Err fault)) next first second =
+      let later = loads_grow (faults_of c.findings) c' (next c.set) second in (
+        first.0 ++ later.0,
+        later.1 ∙ ap (λ fs. fs ++ later.0) first.1 ∙ append_assoc before (fault ∷ first.0) later.0,
+      )
+
+  all_load : (c c' : Checking) (names : List (List ℕ)) → all_called F prefixes c names ≡ Is c'
+      → Loads (faults_of c.findings) c' (all_loaded F prefixes c.set names)
+  all_load c c' [] is = subst (λ x. Loads (faults_of c.findings) x (Is (Ok c.set))) (same_in is) (refl, refl)
+  all_load c c' (name ∷ names) is = by (λ d more. all_load d c' names more) (called F prefixes c name) refl is
+    where
+      by : ((d : Checking) → all_called F prefixes d names ≡ Is c' → Loads (faults_of d.findings) c' (all_loaded F prefixes d.set names))
+          → (known : Known Checking) → called F prefixes c name ≡ known → (known >>= λ c''. all_called F prefixes c'' names) ≡ Is c'
+          → Loads (faults_of c.findings) c' (all_loaded F prefixes c.set (name ∷ names))
+      by later Unasked calls more = absurd cc
+      by later (Is c'') calls more =
+          loads_join (faults_of c.findings) c'' c' (file_loaded F prefixes c.set name) (λ set. all_loaded F prefixes set names)
+          (one_loads c c'' name calls) (later c'' more)
+
+  loaded_both : (set : Set) (first second : List (List ℕ))
+      → all_loaded F prefixes set (first ++ second) ≡ then_by (all_loaded F prefixes set first) (λ next. all_loaded F prefixes next second)
+  loaded_both set [] second = refl
+  loaded_both set (name ∷ first) second = by (λ next. loaded_both next first second) (file_loaded F prefixes set name)
+    where
+      by : ((next : Set) → all_loaded F prefixes next (first ++ second)
+          ≡ then_by (all_loaded F prefixes next first) (λ after. all_loaded F prefixes after second))
+          → (known : Known (Result Set SpecsFault)) → then_by known (λ next. all_loaded F prefixes next (first ++ second))
+          ≡ then_by (then_by known (λ next. all_loaded F prefixes next first)) (λ next. all_loaded F prefixes next second)
+      by later Unasked = refl
+      by later (Is (Err fault)) = refl
+      by later (Is (Ok next)) = later next
+
+-- what isn't meant is no fault
+
+faults_stay : (findings : List Finding) → faults_of (filter tells_fault findings) ≡ faults_of findings
+faults_stay [] = refl
+faults_stay (finding ∷ findings) = by finding.note refl (faults_stay findings)
+  where
+    by : (note : Note) → finding.note ≡ note → faults_of (filter tells_fault findings) ≡ faults_of findings
+        → faults_of (if is_fault note then finding ∷ filter tells_fault findings else filter tells_fault findings)
+        ≡ fault_in note ++ faults_of findings
+    by (Fault fault) is same = ap (λ n. fault_in n ++ faults_of (filter tells_fault findings)) is ∙ ap (λ fs. fault ∷ fs) same
+    by (Warned warning) is same = same
+
+pieces_well : (set : Set) (file : OpenFile) (pieces : List Piece) → faults_of (pieces_judged set file pieces) ≡ []
+pieces_well set file [] = refl
+pieces_well set file (piece ∷ later) =
+    faults_with (map (finding_of file piece) (whole_marks set later piece.text)) (pieces_judged set file later) (pieces_well set file later) ∙ no_faults file piece (whole_marks set later piece.text)
+
+sources_well : (set : Set) (n : ℕ) (sources : List Source) → faults_of (sources_judged set n sources) ≡ []
+sources_well set n [] = refl
+sources_well set n (source ∷ sources) =
+    faults_with (file_judged set (open_file n source.text)) (sources_judged set (n + 1) sources) (sources_well set (n + 1) sources)
+    ∙ pieces_well set (open_file n source.text) (open_file n source.text).pieces
+
+judged_well : (first : ℕ) (c : Checking) → faults_of (judged first c).findings ≡ faults_of c.findings
+judged_well first c = faults_with c.findings (sources_judged c.set first (drop first c.sources)) (sources_well c.set first (drop first c.sources))
+
+agrees : (F : Facts) (prefixes : Prefixes) (c : Checking) (known : Known (Result Set SpecsFault)) → Loads F prefixes [] c known
+    → Agrees (faults_of c.findings) known
+agrees F prefixes c Unasked loads = loads
+agrees F prefixes c (Is (Ok set)) loads = loads.0
+agrees F prefixes c (Is (Err fault)) loads = loads
+
+module _ (F : Facts) (prefixes : Prefixes) (over names : List (List ℕ)) (c : Checking) where
+  base_faults : (base : Checking) → based F prefixes over ≡ Is base → Loads F prefixes [] base (all_loaded F prefixes builtin_specs over)
+  base_faults base is = by (all_called F prefixes unchecked over) refl is
+    where
+      by : (known : Known Checking) → all_called F prefixes unchecked over ≡ known → (known >>= λ d. Is (faults_alone d)) ≡ Is base
+          → Loads F prefixes [] base (all_loaded F prefixes builtin_specs over)
+      by Unasked calls more = absurd cc
+      by (Is d) calls more =
+          subst (λ x. Loads F prefixes [] x (all_loaded F prefixes builtin_specs over)) (same_in more)
+          (loads_alike F prefixes [] d (faults_alone d) (all_loaded F prefixes builtin_specs over) (faults_stay d.findings) refl
+          (all_load F prefixes unchecked d over calls))
+
+  over_agrees : checked_over F prefixes over names ≡ Is c → Agrees (faults_of c.findings) (all_loaded F prefixes builtin_specs (over ++ names))
+  over_agrees is = by_base (based F prefixes over) refl is
+    where
+      by_rest : (base : Checking) → based F prefixes over ≡ Is base → (known : Known Checking)
+          → all_called F prefixes base names ≡ known → (known >>= λ d. Is (judged (length base.sources) d)) ≡ Is c
+          → Agrees (faults_of c.findings) (all_loaded F prefixes builtin_specs (over ++ names))
+      by_rest base first Unasked rest more = absurd cc
+      by_rest base first (Is d) rest more =
+          subst (λ k. Agrees (faults_of c.findings) k) (sym (loaded_both F prefixes builtin_specs over names))
+          (subst (λ fs. Agrees fs (then_by (all_loaded F prefixes builtin_specs over) (λ next. all_loaded F prefixes next names)))
+          (sym (judged_well (length base.sources) d) ∙ ap (λ x. faults_of x.findings) (same_in more))
+          (agrees F prefixes d _ (loads_join F prefixes [] base d (all_loaded F prefixes builtin_specs over)
+          (λ next. all_loaded F prefixes next names) (base_faults base first) (all_load F prefixes base d names rest))))
+
+      by_base : (known : Known Checking) → based F prefixes over ≡ known
+          → (known >>= λ base. all_called F prefixes base names >>= λ d. Is (judged (length base.sources) d)) ≡ Is c
+          → Agrees (faults_of c.findings) (all_loaded F prefixes builtin_specs (over ++ names))
+      by_base Unasked first more = absurd cc
+      by_base (Is base) first more = by_rest base first (all_called F prefixes base names) refl more
+
+  pub checked_agrees : prefixes_of F [] ≡ Is prefixes → checked F over names ≡ Is c
+      → Agrees (faults_of c.findings) (all_loaded F prefixes builtin_specs (over ++ names))
+  unfolding checked
+  checked_agrees known is = over_agrees (ap (λ k. k >>= λ p. checked_over F p over names) (sym known) ∙ is)

@@ -1,0 +1,45 @@
+use Rattle.drv_check.specs.Pieces.{begun_after, ended_by, pieces_from}
+use Rattle.drv_check.specs.declared.pieces.Piece.{Piece}
+use Rattle.drv_specs.proofs.Lining.{one_piece, pieces_then}
+use Rattle.drv_specs.proofs.Found.{line_alone, line_clean, line_found}
+use Rattle.drv_specs.specs.Lines.{ends_line, lines_of}
+use Rattle.bstr.specs.Find.{IsFirstByte, is_byte}
+use Rattle.drv_words.specs.Bytes.{newline}
+use Rattle.std.proofs.Common.{◌≡◌, ◌∙◌, ◌+◌, ◌++◌, ◌∷◌, List, [], None, Option, Some, ap, append_assoc, drop, length, not}
+use Rattle.std.proofs.Common.{refl, sym, take, true, ℕ}
+use Rattle.std.specs.List.{list_all}
+
+-- For check_files: a text is cut into lines, one after another.
+
+first_of : (text line rest : List ℕ) → text ≡ line ++ newline ∷ rest → list_all (λ b. not (ends_line b)) line ≡ true
+    → lines_of text ≡ line ∷ lines_of rest
+first_of text line rest is clean =
+    ap lines_of is ∙ pieces_then line [] rest ∙ ap (λ lines. lines ++ lines_of rest) (one_piece line [] clean)
+
+pub first_line : (text : List ℕ) (found : Option ℕ) (at : ℕ) → IsFirstByte (is_byte newline) text found → found ≡ Some at
+    → lines_of text ≡ take at text ∷ lines_of (drop (at + 1) text)
+first_line text found at h is =
+    first_of text (take at text) (drop (at + 1) text) (line_found text found at h is) (line_clean text found at h is)
+
+pub only_line : (text : List ℕ) (found : Option ℕ) → IsFirstByte (is_byte newline) text found → found ≡ None → lines_of text ≡ text ∷ []
+only_line text found h is = one_piece text [] (line_alone text found h is)
+
+-- one more line
+
+more : (begun : Option Piece) (n at : ℕ) (line : List ℕ) (rest : List (List ℕ))
+    → pieces_from begun n at (line ∷ rest)
+    ≡ ended_by begun n at line ++ pieces_from (begun_after begun n at line) (n + 1) (at + length line + 1) rest
+more None n at line rest = refl
+more (Some piece) n at line rest = refl
+
+pub pieces_more : (before after all : List Piece) (begun next : Option Piece) (n at : ℕ) (line : List ℕ) (lines rest : List (List ℕ))
+    → before ++ pieces_from begun n at lines ≡ all → lines ≡ line ∷ rest → after ≡ before ++ ended_by begun n at line
+    → next ≡ begun_after begun n at line
+    → after ++ pieces_from next (n + 1) (at + length line + 1) rest ≡ all
+pieces_more before after all begun next n at line lines rest is first ended opens =
+    ap (λ ps. ps ++ pieces_from next (n + 1) (at + length line + 1) rest) ended
+    ∙ append_assoc before (ended_by begun n at line) (pieces_from next (n + 1) (at + length line + 1) rest)
+    ∙ ap (λ o. before ++ (ended_by begun n at line ++ pieces_from o (n + 1) (at + length line + 1) rest)) opens
+    ∙ ap (λ ps. before ++ ps) (sym (more begun n at line rest))
+    ∙ ap (λ ls. before ++ pieces_from begun n at ls) (sym first)
+    ∙ is

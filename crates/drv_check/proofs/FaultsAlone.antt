@@ -1,0 +1,60 @@
+use Rattle.drv_check.specs.Checked.{based, checked, checked_over, faults_alone, is_fault, tells_fault}
+use Rattle.drv_check.specs.Checks.{all_called, unchecked}
+use Rattle.drv_check.specs.Whole.{judged}
+use Rattle.drv_check.specs.declared.findings.Checking.{Checking}
+use Rattle.drv_check.specs.declared.findings.Finding.{Finding}
+use Rattle.drv_search.specs.Search.{prefixes_of}
+use Rattle.drv_search.specs.declared.prefixes.Prefixes.{Prefixes}
+use Rattle.drv_system.specs.Facts.{Facts}
+use Rattle.drv_system.specs.Known.{◌>>=◌, Is}
+use Rattle.std.proofs.Common.{◌≡◌, ◌∙◌, ◌++◌, ◌∷◌, Bool, Err, IfOk, List, Ok, Result, [], ap, false, if◌then◌else◌, length, refl, sym, true, ℕ}
+use Rattle.std.proofs.lemmas.List.{append-nil}
+use Rattle.std.specs.Prelude.{filter}
+
+-- Files that are checked over others.
+
+more_kept : (findings : List Finding) (finding : Finding)
+    → filter tells_fault (findings ++ finding ∷ []) ≡ filter tells_fault findings ++ filter tells_fault (finding ∷ [])
+more_kept [] finding = refl
+more_kept (first ∷ findings) finding = by (tells_fault first) (more_kept findings finding)
+  where
+    by : (t : Bool) → filter tells_fault (findings ++ finding ∷ []) ≡ filter tells_fault findings ++ filter tells_fault (finding ∷ [])
+        → (if t then first ∷ filter tells_fault (findings ++ finding ∷ []) else filter tells_fault (findings ++ finding ∷ []))
+        ≡ (if t then first ∷ filter tells_fault findings else filter tells_fault findings) ++ filter tells_fault (finding ∷ [])
+    by true more = ap (λ fs. first ∷ fs) more
+    by false more = more
+
+pub fault_stays : (kept after yielded : List Finding) (finding : Finding) → is_fault finding.note ≡ true → kept ≡ filter tells_fault yielded
+    → after ≡ kept ++ finding ∷ [] → after ≡ filter tells_fault (yielded ++ finding ∷ [])
+fault_stays kept after yielded finding is before grows =
+    grows ∙ ap (λ fs. fs ++ finding ∷ []) before
+    ∙ ap (λ t. filter tells_fault yielded ++ (if t then finding ∷ [] else [])) (sym is) ∙ sym (more_kept yielded finding)
+
+pub warning_goes : (kept yielded : List Finding) (finding : Finding) → is_fault finding.note ≡ false → kept ≡ filter tells_fault yielded
+    → kept ≡ filter tells_fault (yielded ++ finding ∷ [])
+warning_goes kept yielded finding is before =
+    before ∙ sym (append-nil (filter tells_fault yielded))
+    ∙ ap (λ t. filter tells_fault yielded ++ (if t then finding ∷ [] else [])) (sym is) ∙ sym (more_kept yielded finding)
+
+module _ (F : Facts) (prefixes : Prefixes) (over : List (List ℕ)) where
+  pub base_checked : {E : Type 0} (start loaded : Checking) (result : Result Checking E) → start ≡ unchecked
+      → all_called F prefixes start over ≡ Is loaded → IfOk result (λ kept. kept ≡ faults_alone loaded) → IfOk result (λ kept. based F prefixes over ≡ Is kept)
+  base_checked start loaded (Err e) starts loads keeps = keeps
+  base_checked start loaded (Ok kept) starts loads keeps =
+      ap (λ s. all_called F prefixes s over >>= λ c. Is (faults_alone c)) (sym starts) ∙ ap (λ k. k >>= λ c. Is (faults_alone c)) loads
+      ∙ ap Is (sym keeps)
+
+  pub over_checked : (names : List (List ℕ)) (base c whole : Checking) (first : ℕ) → based F prefixes over ≡ Is base → first ≡ length base.sources
+      → all_called F prefixes base names ≡ Is c → whole ≡ judged first c → checked_over F prefixes over names ≡ Is whole
+  over_checked names base c whole first loads at goes judges =
+      ap (λ k. k >>= λ b. all_called F prefixes b names >>= λ d. Is (judged (length b.sources) d)) loads
+      ∙ ap (λ k. k >>= λ d. Is (judged (length base.sources) d)) goes
+      ∙ ap (λ n. Is (judged n c)) (sym at) ∙ ap Is (sym judges)
+
+  pub checks_files : {E : Type 0} (names dirs : List (List ℕ)) (result : Result Checking E) → dirs ≡ [] → prefixes_of F dirs ≡ Is prefixes
+      → IfOk result (λ c. checked_over F prefixes over names ≡ Is c) → IfOk result (λ c. checked F over names ≡ Is c)
+  unfolding checked
+  checks_files names dirs (Err e) none is goes = goes
+  checks_files names dirs (Ok c) none is goes =
+      ap (λ ds. prefixes_of F ds >>= λ p. checked_over F p over names) (sym none)
+      ∙ ap (λ k. k >>= λ p. checked_over F p over names) is ∙ goes

@@ -1,0 +1,67 @@
+use Rattle.drv_check.specs.Checks.{by_text, found_text, noted, opened, opened_of}
+use Rattle.drv_check.specs.declared.findings.Checking.{Checking}
+use Rattle.drv_check.specs.declared.findings.Note.TheVariants.{Fault}
+use Rattle.drv_check.specs.declared.findings.Spot.{Spot}
+use Rattle.drv_check.specs.declared.including.Inclusion.{Inclusion}
+use Rattle.drv_check.specs.declared.opening.OpenFile.{OpenFile}
+use Rattle.drv_search.specs.declared.prefixes.Prefixes.{Prefixes}
+use Rattle.drv_specs.specs.declared.fault.SpecsFault.TheVariants.{IncludeTooDeep, TooManyIncludes}
+use Rattle.drv_specs.specs.declared.fault.SpecsFault.{SpecsFault}
+use Rattle.drv_check.specs.Includes.{read_text}
+use Rattle.drv_search.specs.Search.{file_found}
+use Rattle.drv_system.specs.Asking.{Extends}
+use Rattle.drv_system.specs.Facts.{Facts, read_of}
+use Rattle.drv_system.specs.Known.{◌>>=◌, Is, asked}
+use Rattle.drv_system.specs.declared.event.ReadAnswer.{ReadAnswer}
+use Rattle.std.proofs.Common.{◌≡◌, ◌∙◌, ◌<◌, ◌-◌, Err, IfOk, List, None, Ok, Option, Result, Some, ap, arith, refl, suc, sym, zero, ℕ}
+
+-- For check_files: an included file is opened within the limits, or the reason is noted.
+
+module _ (F : Facts) (prefixes : Prefixes) (c : Checking) (from : Option Spot) (inclusion : Inclusion) where
+  deep : (levels : ℕ) → levels ≡ 0 → opened F prefixes levels c from inclusion ≡ Is (noted c from (Fault IncludeTooDeep), None)
+  deep zero is = refl
+  deep (suc levels) is = absurd cc
+
+  within : (levels : ℕ) → 0 < levels → opened F prefixes levels c from inclusion ≡ opened_of F prefixes c.files c from inclusion
+  within zero is = absurd (omega (arith, is))
+  within (suc levels) is = refl
+
+  many : (left : ℕ) → left ≡ 0 → opened_of F prefixes left c from inclusion ≡ Is (noted c from (Fault TooManyIncludes), None)
+  many zero is = refl
+  many (suc left) is = absurd cc
+
+  one_read : (left : ℕ) → 0 < left
+      → opened_of F prefixes left c from inclusion
+      ≡ (found_text F prefixes inclusion >>= λ found. Is (by_text (record c { files = left - 1 }) from found.0 found.1))
+  one_read zero is = absurd (omega (arith, is))
+  one_read (suc left) is =
+      let less : left ≡ suc left - 1 = omega arith in
+      ap (λ n. found_text F prefixes inclusion >>= λ found. Is (by_text (record c { files = n }) from found.0 found.1)) less
+
+  pub opens_deep : (levels : ℕ) (new : Checking) → levels ≡ 0 → new ≡ noted c from (Fault IncludeTooDeep)
+      → opened F prefixes levels c from inclusion ≡ Is (new, None)
+  opens_deep levels new is noted_so = deep levels is ∙ ap (λ d. Is (d, None)) (sym noted_so)
+
+  pub opens_none : (levels : ℕ) (new : Checking) → 0 < levels → c.files ≡ 0 → new ≡ noted c from (Fault TooManyIncludes)
+      → opened F prefixes levels c from inclusion ≡ Is (new, None)
+  opens_none levels new some is noted_so = within levels some ∙ many c.files is ∙ ap (λ d. Is (d, None)) (sym noted_so)
+
+  pub opens : {E : Type 0} (levels : ℕ) (d new : Checking) (path : List ℕ) (text : Result (List ℕ) SpecsFault) (result : Result (Option OpenFile) E)
+      → 0 < levels → 0 < c.files → found_text F prefixes inclusion ≡ Is (path, text) → d ≡ record c { files = c.files - 1 }
+      → IfOk result (λ file. (new, file) ≡ by_text d from path text)
+      → IfOk result (λ file. opened F prefixes levels c from inclusion ≡ Is (new, file))
+  opens levels d new path text (Err e) some more is less takes = takes
+  opens levels d new path text (Ok file) some more is less takes =
+      within levels some ∙ one_read c.files more
+      ∙ ap (λ known. known >>= λ found. Is (by_text (record c { files = c.files - 1 }) from found.0 found.1)) is
+      ∙ ap (λ e. Is (by_text e from path text)) (sym less) ∙ ap Is (sym takes)
+
+-- the text of a file that was found
+
+pub found_is : (F G : Facts) (prefixes : Prefixes) (inclusion : Inclusion) (path : List ℕ) (answer : ReadAnswer) (text : Result (List ℕ) SpecsFault)
+    → file_found F prefixes inclusion.file ≡ Is path → Extends G F → read_of G path ≡ Some answer → text ≡ read_text inclusion.may_miss path answer
+    → found_text F prefixes inclusion ≡ Is (path, text)
+found_is F G prefixes inclusion path answer text finds e known is =
+    ap (λ k. k >>= λ p. asked (read_of F p) >>= λ a. Is (p, read_text inclusion.may_miss p a)) finds
+    ∙ ap (λ a. asked a >>= λ a'. Is (path, read_text inclusion.may_miss path a')) (e.reads path answer known)
+    ∙ ap (λ t. Is (path, t)) (sym is)

@@ -1,0 +1,16 @@
+use Rattle.drv_check.specs.Includes.{inclusion_of, may_miss}
+use Rattle.drv_specs.specs.Directives.{by_keyword, renamed}
+use Rattle.std.proofs.Common.{◌≡◌, Bool, List, [], ◌∷◌, None, codes, nat_eq, refl, sym, true, ℕ}
+use Rattle.std.specs.Cmp.Lexicographic.{pointwise}
+
+-- For check_files: a line that renames a text includes no file.
+
+none_renamed : (missing : Bool) (words : List (List ℕ)) → inclusion_of missing (renamed 1 words) ≡ None
+none_renamed missing [] = refl
+none_renamed missing (old ∷ []) = refl
+none_renamed missing (old ∷ new ∷ []) = refl
+none_renamed missing (old ∷ new ∷ word ∷ words) = refl
+
+pub renames : (line word : List ℕ) (words all : List (List ℕ)) → all ≡ word ∷ words → pointwise nat_eq word (codes "%rename") ≡ true
+    → None ≡ inclusion_of (may_miss all) (by_keyword 1 line all)
+renames line word words all is named = rw is (rw named (sym (none_renamed (may_miss (word ∷ words)) words)))

@@ -1,0 +1,25 @@
+use Rattle.drv_forms.specs.PlanJson.{list_json, number_json, word_json}
+use Rattle.json.specs.Json.{string}
+use Rattle.json.specs.Token.{Token}
+use Rattle.json.specs.Tree.{json_tokens}
+use Rattle.std.proofs.Common.{◌≡◌, ◌∷◌, [], Bool, false, true, List, if◌then◌else◌, refl, sym, ap, ◌∙◌, ℕ}
+use Rattle.std.proofs.lemmas.Str.{IsUtf8-from_is_utf8, is_utf8-from_IsUtf8}
+use Rattle.std.specs.Str.{IsUtf8, is_utf8}
+
+-- For report_json: a word is a string if its bytes are UTF-8, or else a list of bytes.
+
+pub text_word : (word : List ℕ) → IsUtf8 word → word_json word ≡ string word
+text_word word is = rw (is_utf8-from_IsUtf8 word is) refl
+
+pub bytes_word : (word : List ℕ) → ¬ (IsUtf8 word) → word_json word ≡ list_json number_json word
+bytes_word word isnt = by (is_utf8 word) refl
+  where
+    by : (t : Bool) → is_utf8 word ≡ t → (if t then string word else list_json number_json word) ≡ list_json number_json word
+    by true is = absurd (isnt (IsUtf8-from_is_utf8 word is))
+    by false is = refl
+
+pub text_tokens : (word text : List ℕ) → text ≡ word → IsUtf8 word → Token.string text ∷ [] ≡ json_tokens (word_json word)
+text_tokens word text is utf8 = ap (λ t. Token.string t ∷ []) is ∙ sym (ap json_tokens (text_word word utf8))
+
+pub bytes_tokens : (word bytes : List ℕ) → bytes ≡ word → ¬ (IsUtf8 word) → json_tokens (list_json number_json bytes) ≡ json_tokens (word_json word)
+bytes_tokens word bytes is isnt = ap (λ b. json_tokens (list_json number_json b)) is ∙ sym (ap json_tokens (bytes_word word isnt))

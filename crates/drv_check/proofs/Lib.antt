@@ -1,0 +1,17 @@
+mod Agreeing
+mod Cutting
+mod DumpsDiffer
+mod FaultsAlone
+mod FilesOpened
+mod IncludesRead
+mod Inclusions
+mod JsonWords
+mod Judged
+mod LinesNumbered
+mod Marks
+mod OwnTrees
+mod PieceSteps
+mod PiecesChecked
+mod PiecesRead
+mod Reports
+mod TokenMarks

@@ -1,0 +1,10 @@
+use Rattle.drv_syntax.specs.Outcome.{parsed}
+use Rattle.drv_syntax.specs.Parsed.{tree_in, tree_of}
+use Rattle.drv_syntax.specs.Tree.{none}
+use Rattle.drv_syntax.specs.declared.fault.SyntaxFault.{SyntaxFault}
+use Rattle.std.proofs.Common.{◌≡◌, Err, List, ap, sym, ℕ}
+
+-- A text that the grammar refuses has no tree.
+
+pub refused : (text : List ℕ) (fault : SyntaxFault) → parsed text ≡ Err fault → none ≡ tree_of text
+refused text fault is = sym (ap tree_in is)

@@ -1,0 +1,329 @@
+use Rattle.drv_check.proofs.IncludesRead.{body_as, keyword_as}
+use Rattle.drv_check.specs.Includes.{inclusion_at, inclusion_in, may_miss}
+use Rattle.drv_check.specs.Numbers.{AreRead, IncludesAs, IsRead, renumbered}
+use Rattle.drv_check.specs.Pieces.{alone, kind_of, line_kind, longer, opened, piece_of, pieces_from, pieces_of}
+use Rattle.drv_check.specs.declared.including.Inclusion.{Inclusion}
+use Rattle.drv_check.specs.declared.pieces.LineKind.TheVariants as kind
+use Rattle.drv_check.specs.declared.pieces.LineKind.{LineKind}
+use Rattle.drv_check.specs.declared.pieces.Piece.{Piece}
+use Rattle.drv_specs.proofs.Booleans.{and_first, and_second, not_true}
+use Rattle.drv_specs.proofs.Lining.{inside_next, is_full, one_piece, pieces_then}
+use Rattle.drv_specs.proofs.SettledLines.{Clean, last_back, last_is, settled_clean}
+use Rattle.drv_specs.proofs.SettledTexts.{is_line_byte, is_settled, settled_same}
+use Rattle.drv_specs.specs.Blanks.{is_blank}
+use Rattle.drv_specs.specs.Directives.{Alone, Bad, Directive, Include, Pair, Passed, Start, Text, WithBody, body_lines, body_of, by_colon, by_key, by_keyword, directive_in, directives_of, first_line, included, is_colon, is_inside, opens_body, read_lines, read_settled, renamed, start_at, start_of}
+use Rattle.drv_specs.specs.Lines.{ends_line, is_empty_line, is_kept, lines_of, settled, trimmed, without_front, words_of}
+use Rattle.drv_specs.specs.Sets.{ends_with_backslash}
+use Rattle.drv_words.specs.Bytes.{asterisk, greater_than, less_than, newline, number_sign, percent}
+use Rattle.std.proofs.Common.{◌≡◌, ◌⊎◌, ◌+◌, ◌-◌, ◌∙◌, ◌==◌, ◌&&◌, Bool, List, [], ◌∷◌, ◌++◌, None, Option, Some, ap, append_assoc, codes, drop, false, if◌then◌else◌, inl, inr, length, nat_eq, not, refl, subst, sym, take, true, ℕ}
+use Rattle.std.proofs.lemmas.List.{append-nil}
+use Rattle.std.proofs.lemmas.List.Folds.{list_all-append}
+use Rattle.std.specs.Cmp.Lexicographic.{pointwise}
+use Rattle.std.specs.List.{ends_with, join_with_byte, list_all, position}
+
+-- For pieces_are_directives: each piece of a settled text, read alone, is one of its directives.
+
+-- the number of a line changes a directive that is none, and no other
+
+key_renumbered : (n : ℕ) (key body : List ℕ) → renumbered n (by_key key body) ≡ by_key key body
+key_renumbered n [] body = refl
+key_renumbered n (b ∷ key) body = by (b == asterisk)
+  where
+    by : (t : Bool) → renumbered n (if t then Text key body else Pair (b ∷ key) body) ≡ (if t then Text key body else Pair (b ∷ key) body)
+    by true = refl
+    by false = refl
+
+colon_renumbered : (m n : ℕ) (line : List ℕ) (lines : List (List ℕ)) (at : Option ℕ)
+    → renumbered m (by_colon n line lines at) ≡ by_colon m line lines at
+colon_renumbered m n line lines None = refl
+colon_renumbered m n line lines (Some at) = key_renumbered m (take at line) (body_of (drop (at + 1) line) lines)
+
+rename_renumbered : (m n : ℕ) (words : List (List ℕ)) → renumbered m (renamed n words) ≡ renamed m words
+rename_renumbered m n [] = refl
+rename_renumbered m n (old ∷ []) = refl
+rename_renumbered m n (old ∷ new ∷ []) = refl
+rename_renumbered m n (old ∷ new ∷ word ∷ words) = refl
+
+include_renumbered : (m n : ℕ) (missing : _) (text : List ℕ) → renumbered m (included n missing text) ≡ included m missing text
+include_renumbered m n missing [] = refl
+include_renumbered m n missing (b ∷ text) = by (b == less_than && ends_with nat_eq text (greater_than ∷ []))
+  where
+    by : (t : Bool) → renumbered m (if t then Include missing (take (length text - 1) text) else Bad n)
+        ≡ (if t then Include missing (take (length text - 1) text) else Bad m)
+    by true = refl
+    by false = refl
+
+keyword_renumbered : (m n : ℕ) (line : List ℕ) (words : List (List ℕ)) → renumbered m (by_keyword n line words) ≡ by_keyword m line words
+keyword_renumbered m n line [] = refl
+keyword_renumbered m n line (word ∷ words) =
+    by (pointwise nat_eq word (codes "%rename")) refl (pointwise nat_eq word (codes "%include")) refl
+    (pointwise nat_eq word (codes "%include_noerr")) refl
+  where
+    by : (r : Bool) → pointwise nat_eq word (codes "%rename") ≡ r → (i : Bool) → pointwise nat_eq word (codes "%include") ≡ i
+        → (e : Bool) → pointwise nat_eq word (codes "%include_noerr") ≡ e
+        → renumbered m (by_keyword n line (word ∷ words)) ≡ by_keyword m line (word ∷ words)
+    by true r i i' e e' = rw r (rename_renumbered m n words)
+    by false r true i e e' = rw r (rw i (include_renumbered m n _ (trimmed (drop (length word) line))))
+    by false r false i true e = rw r (rw i (rw e (include_renumbered m n _ (trimmed (drop (length word) line)))))
+    by false r false i false e = rw r (rw i (rw e refl))
+
+-- the lines of a body, once more
+
+body_again : (lines : List (List ℕ)) → body_lines (body_lines lines) ≡ body_lines lines
+body_again [] = refl
+body_again (line ∷ lines) = by (is_empty_line line) refl (body_again lines)
+  where
+    by : (e : Bool) → is_empty_line line ≡ e → body_lines (body_lines lines) ≡ body_lines lines
+        → body_lines (if e then [] else line ∷ body_lines lines) ≡ (if e then [] else line ∷ body_lines lines)
+    by true is again = refl
+    by false is again = rw is (ap (λ ls. line ∷ ls) again)
+
+-- what a line with a body begins
+abbrev entry_of : ℕ → List ℕ → List (List ℕ) → Directive
+entry_of n line lines = by_colon n line lines (position is_colon line)
+
+entry_again : (n : ℕ) (line : List ℕ) (lines : List (List ℕ)) (at : Option ℕ)
+    → by_colon n line (body_lines lines) at ≡ by_colon n line lines at
+entry_again n line lines None = refl
+entry_again n line lines (Some at) =
+    ap (λ ls. by_key (take at line) (join_with_byte newline (first_line (drop (at + 1) line) ++ ls))) (body_again lines)
+
+-- texts and their lines
+
+settled_both : (text rest : List ℕ) (back : Bool) → is_settled back text ≡ true → is_settled (last_back back text) rest ≡ true
+    → is_settled back (text ++ rest) ≡ true
+settled_both [] rest back is later = later
+settled_both (b ∷ text) rest back is later =
+    let more = and_second (is_kept b) _ is in
+    rw (and_first (is_kept b) _ is) (rw (and_first (not (b == newline && back)) _ more)
+    (settled_both text rest (ends_with_backslash (b ∷ [])) (and_second (not (b == newline && back)) _ more) later))
+
+line_settled : (line : List ℕ) (back : Bool) → list_all is_line_byte line ≡ true → is_settled back line ≡ true
+line_settled [] back is = refl
+line_settled (b ∷ line) back is =
+    let fit = and_first (is_line_byte b) _ is in
+    let apart : (b == newline) ≡ false = not_true _ (and_second (is_kept b) _ fit) in
+    rw (and_first (is_kept b) _ fit)
+    (rw apart (line_settled line (ends_with_backslash (b ∷ [])) (and_second (is_line_byte b) _ is)))
+
+line_alone : (line : List ℕ) → list_all is_line_byte line ≡ true → list_all (λ b. not (ends_line b)) line ≡ true
+line_alone [] is = refl
+line_alone (b ∷ line) is =
+    rw (and_second (is_kept b) _ (and_first (is_line_byte b) _ is)) (line_alone line (and_second (is_line_byte b) _ is))
+
+last_both : (text rest : List ℕ) (back : Bool) → last_back back (text ++ rest) ≡ last_back (last_back back text) rest
+last_both [] rest back = refl
+last_both (b ∷ text) rest back = last_both text rest (ends_with_backslash (b ∷ []))
+
+longer_settled : (text line : List ℕ) → is_settled false text ≡ true → ends_with_backslash text ≡ false → list_all is_line_byte line ≡ true
+    → is_settled false (text ++ newline ∷ line) ≡ true
+longer_settled text line is ends bytes =
+    settled_both text (newline ∷ line) false is
+    (ap (λ back. is_settled back (newline ∷ line)) (last_is text ∙ ends) ∙ line_settled line false bytes)
+
+longer_lines : (text line : List ℕ) (lines : List (List ℕ)) → lines_of text ≡ lines → list_all is_line_byte line ≡ true
+    → lines_of (text ++ newline ∷ line) ≡ lines ++ line ∷ []
+longer_lines text line lines is bytes =
+    pieces_then text [] line ∙ ap (λ ls. ls ++ lines_of line) is ∙ ap (λ ls. lines ++ ls) (one_piece line [] (line_alone line bytes))
+
+longer_ends : (text line : List ℕ) → ends_with_backslash (text ++ newline ∷ line) ≡ ends_with_backslash line
+longer_ends text line = sym (last_is (text ++ newline ∷ line)) ∙ last_both text (newline ∷ line) false ∙ last_is line
+
+inside_all : (body : List (List ℕ)) (n : ℕ) → list_all is_full body ≡ true → read_lines true n body ≡ []
+inside_all [] n is = refl
+inside_all (line ∷ body) n is =
+    inside_next line body n (not_true (is_empty_line line) (and_first (is_full line) _ is))
+    ∙ inside_all body (n + 1) (and_second (is_full line) _ is)
+
+-- what a line begins, without the blanks at its front
+
+data Begins (line : List ℕ) : Type 0 where
+  begins_nothing : ((n : ℕ) (lines : List (List ℕ)) → start_of n line lines ≡ Passed) → Begins line
+  begins_alone : ((n : ℕ) (lines : List (List ℕ)) → start_of n line lines ≡ Alone (by_keyword n line (words_of line))) → Begins line
+  begins_body : ((n : ℕ) (lines : List (List ℕ)) → start_of n line lines ≡ WithBody (entry_of n line lines)) → Begins line
+
+begins : (line : List ℕ) → Begins line
+begins [] = begins_nothing (λ n lines. refl)
+begins (b ∷ line) = by (b == number_sign) refl (b == percent) refl
+  where
+    by : (c : Bool) → (b == number_sign) ≡ c → (k : Bool) → (b == percent) ≡ k → Begins (b ∷ line)
+    by true c k k' = begins_nothing (λ n lines. rw c refl)
+    by false c true k' = begins_alone (λ n lines. rw c (rw k' refl))
+    by false c false k' = begins_body (λ n lines. rw c (rw k' refl))
+
+no_front : (line : List ℕ) → is_empty_line line ≡ true → without_front is_blank line ≡ []
+no_front [] is = refl
+no_front (b ∷ line) is = rw (and_first (is_blank b) _ is) (no_front line (and_second (is_blank b) _ is))
+
+-- a piece of one line, and one that goes on before lines
+
+alone_read : (n at : ℕ) (line : List ℕ) → list_all is_line_byte line ≡ true → is_empty_line line ≡ false
+    → ((n : ℕ) (lines : List (List ℕ)) → start_of n (without_front is_blank line) lines
+    ≡ Alone (by_keyword n (without_front is_blank line) (words_of (without_front is_blank line))))
+    → IsRead (piece_of n at line) (by_keyword n (without_front is_blank line) (words_of (without_front is_blank line)))
+alone_read n at line bytes full is = record {
+  alone =
+      ap read_settled (settled_same line (line_settled line false bytes))
+      ∙ ap (read_lines false 1) (one_piece line [] (line_alone line bytes))
+      ∙ ap (λ e. directive_in (start_at e false 1 line []) ++ read_lines (is_inside e false (start_at e false 1 line [])) 2 []) full
+      ∙ ap (λ s. directive_in s ++ []) (is 1 [])
+      ∙ ap (λ d. d ∷ []) (sym (keyword_renumbered 1 n (without_front is_blank line) (words_of (without_front is_blank line))));
+  here = sym (keyword_renumbered n n (without_front is_blank line) (words_of (without_front is_blank line)));
+  includes =
+      subst (λ s. IncludesAs (inclusion_at (may_miss (words_of (without_front is_blank line))) s)
+      (by_keyword n (without_front is_blank line) (words_of (without_front is_blank line)))) (sym (is 1 []))
+      (keyword_as 1 n (without_front is_blank line) (words_of (without_front is_blank line)));
+}
+
+record Going (piece : Piece) (first : List ℕ) (body lines : List (List ℕ)) : Type 0 where
+  settles : is_settled false piece.text ≡ true
+  lines_are : lines_of piece.text ≡ first ∷ body
+  full : is_empty_line first ≡ false
+  opens : (n : ℕ) (lines : List (List ℕ)) → start_of n (without_front is_blank first) lines ≡ WithBody (entry_of n (without_front is_blank first) lines)
+  body_full : list_all is_full body ≡ true
+  ends : (lines ≡ []) ⊎ (ends_with_backslash piece.text ≡ false)
+  begins : (rest : List ℕ) × (piece.text ≡ first ++ rest)
+
+entry_as : (inclusion : Option Inclusion) (n : ℕ) (line : List ℕ) (lines : List (List ℕ)) (at : Option ℕ) → inclusion ≡ None
+    → IncludesAs inclusion (by_colon n line lines at)
+entry_as inclusion n line lines None is = is
+entry_as inclusion n line lines (Some at) is = by (take at line)
+  where
+    by : (key : List ℕ) → IncludesAs inclusion (by_key key (body_of (drop (at + 1) line) lines))
+    by [] = is
+    by (b ∷ key) = by_star (b == asterisk)
+      where
+        by_star : (t : Bool) → IncludesAs inclusion (if t then Text key (body_of (drop (at + 1) line) lines) else Pair (b ∷ key) (body_of (drop (at + 1) line) lines))
+        by_star true = is
+        by_star false = is
+
+entry_read : (piece : Piece) (first : List ℕ) (body lines : List (List ℕ)) → Going piece first body lines
+    → IsRead piece (entry_of piece.number (without_front is_blank first) body)
+entry_read piece first body lines g =
+    record {
+      alone =
+          ap read_settled (settled_same piece.text g.settles) ∙ ap (read_lines false 1) g.lines_are
+          ∙ ap (λ e. directive_in (start_at e false 1 first body) ++ read_lines (is_inside e false (start_at e false 1 first body)) 2 body) g.full
+          ∙ ap (λ s. directive_in s ++ read_lines (opens_body s) 2 body) (g.opens 1 body)
+          ∙ ap (λ ds. entry_of 1 (without_front is_blank first) body ∷ ds) (inside_all body 2 g.body_full)
+          ∙ ap (λ d. d ∷ []) (sym (colon_renumbered 1 piece.number (without_front is_blank first) body (position is_colon (without_front is_blank first))));
+      here = sym (colon_renumbered piece.number piece.number (without_front is_blank first) body (position is_colon (without_front is_blank first)));
+      includes =
+          entry_as (inclusion_in piece.text) piece.number (without_front is_blank first) body (position is_colon (without_front is_blank first))
+          (body_as piece.text first g.begins.0 g.begins.1 g.full (ap kind_of (g.opens 1 [])));
+    }
+
+-- all pieces of lines, by induction
+
+abbrev Outside : List (List ℕ) → Type 0
+Outside lines = (n at : ℕ) → AreRead (pieces_from None n at lines) (read_lines false n lines)
+
+abbrev Inside : List (List ℕ) → Type 0
+Inside lines = (piece : Piece) (first : List ℕ) (body : List (List ℕ)) (n at : ℕ) → Going piece first body lines
+    → AreRead (pieces_from (Some piece) n at lines) (entry_of piece.number (without_front is_blank first) (body ++ body_lines lines) ∷ read_lines true n lines)
+
+inside_end : Inside []
+inside_end piece first body n at g =
+    subst (λ b. AreRead (piece ∷ []) (entry_of piece.number (without_front is_blank first) b ∷ [])) (sym (append-nil body))
+    (entry_read piece first body [] g, tt)
+
+apart_of : {line : List ℕ} {lines : List (List ℕ)} {t : Bool} → ((line ∷ lines) ≡ []) ⊎ (t ≡ false) → t ≡ false
+apart_of (inl none) = absurd cc
+apart_of (inr apart) = apart
+
+inside_more : (line : List ℕ) (lines : List (List ℕ)) → list_all is_line_byte line ≡ true
+    → (lines ≡ []) ⊎ (ends_with_backslash line ≡ false) → Outside lines → Inside lines → Inside (line ∷ lines)
+inside_more line lines bytes ends out within piece first body n at g = by (is_empty_line line) refl
+  where
+    f : List ℕ
+    f = without_front is_blank first
+
+    goal : Bool → Type 0
+    goal e = AreRead ((if e then piece ∷ [] else []) ++ pieces_from (if e then None else Some (longer piece line)) (n + 1) (at + length line + 1) lines)
+        (entry_of piece.number f (body ++ (if e then [] else line ∷ body_lines lines))
+        ∷ directive_in (start_at e true n line lines) ++ read_lines (is_inside e true (start_at e true n line lines)) (n + 1) lines)
+
+    solid : ends_with_backslash piece.text ≡ false
+    solid = apart_of g.ends
+
+    still : (lines ≡ []) ⊎ (ends_with_backslash line ≡ false) → (lines ≡ []) ⊎ (ends_with_backslash (piece.text ++ newline ∷ line) ≡ false)
+    still (inl none) = inl none
+    still (inr apart) = inr (longer_ends piece.text line ∙ apart)
+
+    longer_goes : is_empty_line line ≡ false → Going (longer piece line) first (body ++ line ∷ []) lines
+    longer_goes is = record {
+      settles = longer_settled piece.text line g.settles solid bytes;
+      lines_are = longer_lines piece.text line (first ∷ body) g.lines_are bytes;
+      full = g.full;
+      opens = g.opens;
+      body_full = list_all-append is_full body (line ∷ []) ∙ ap (λ t. t && (is_full line && true)) g.body_full ∙ ap (λ e. not e && true) is;
+      ends = still ends;
+      begins = (g.begins.0 ++ newline ∷ line, ap (λ t. t ++ newline ∷ line) g.begins.1 ∙ append_assoc first g.begins.0 (newline ∷ line));
+    }
+
+    by : (e : Bool) → is_empty_line line ≡ e → goal (is_empty_line line)
+    by true is =
+        subst goal (sym is) (subst (λ b. IsRead piece (entry_of piece.number f b)) (sym (append-nil body)) (entry_read piece first body (line ∷ lines) g), out (n + 1) (at + length line + 1))
+    by false is =
+        subst goal (sym is) (subst (λ b. AreRead (pieces_from (Some (longer piece line)) (n + 1) (at + length line + 1) lines) (entry_of piece.number f b ∷ read_lines true (n + 1) lines))
+        (append_assoc body (line ∷ []) (body_lines lines))
+        (within (longer piece line) first (body ++ line ∷ []) (n + 1) (at + length line + 1) (longer_goes is)))
+
+outside_more : (line : List ℕ) (lines : List (List ℕ)) → list_all is_line_byte line ≡ true
+    → (lines ≡ []) ⊎ (ends_with_backslash line ≡ false) → Outside lines → Inside lines → Outside (line ∷ lines)
+outside_more line lines bytes ends out within n at = by (is_empty_line line) refl
+  where
+    f : List ℕ
+    f = without_front is_blank line
+
+    p : Piece
+    p = piece_of n at line
+
+    goal : LineKind → Start → Type 0
+    goal k s = AreRead (alone k p ++ pieces_from (opened k p) (n + 1) (at + length line + 1) lines) (directive_in s ++ read_lines (opens_body s) (n + 1) lines)
+
+    whole : Bool → Type 0
+    whole e = AreRead (alone (line_kind line) p ++ pieces_from (opened (line_kind line) p) (n + 1) (at + length line + 1) lines)
+        (directive_in (start_at e false n line lines) ++ read_lines (is_inside e false (start_at e false n line lines)) (n + 1) lines)
+
+    goes : is_empty_line line ≡ false → ((m : ℕ) (ls : List (List ℕ)) → start_of m f ls ≡ WithBody (entry_of m f ls)) → Going p line [] lines
+    goes full is = record {
+      settles = line_settled line false bytes;
+      lines_are = one_piece line [] (line_alone line bytes);
+      full = full;
+      opens = is;
+      body_full = refl;
+      ends = ends;
+      begins = ([], sym (append-nil line));
+    }
+
+    by_start : is_empty_line line ≡ false → Begins f → goal (line_kind line) (start_of n f lines)
+    by_start full (begins_nothing is) =
+        subst (λ k. goal k (start_of n f lines)) (sym (ap kind_of (is 1 [])))
+        (subst (goal kind.Passed) (sym (is n lines)) (out (n + 1) (at + length line + 1)))
+    by_start full (begins_alone is) =
+        subst (λ k. goal k (start_of n f lines)) (sym (ap kind_of (is 1 [])))
+        (subst (goal kind.Alone) (sym (is n lines)) (alone_read n at line bytes full is, out (n + 1) (at + length line + 1)))
+    by_start full (begins_body is) =
+        subst (λ k. goal k (start_of n f lines)) (sym (ap kind_of (is 1 [])))
+        (subst (goal kind.Opens) (sym (is n lines))
+        (subst (λ d. AreRead (pieces_from (Some p) (n + 1) (at + length line + 1) lines) (d ∷ read_lines true (n + 1) lines))
+        (entry_again n f lines (position is_colon f))
+        (within p line [] (n + 1) (at + length line + 1) (goes full is))))
+
+    by : (e : Bool) → is_empty_line line ≡ e → whole (is_empty_line line)
+    by true is =
+        subst whole (sym is)
+        (subst (λ k. AreRead (alone k p ++ pieces_from (opened k p) (n + 1) (at + length line + 1) lines) (read_lines false (n + 1) lines))
+        (sym (ap (λ l. kind_of (start_of 1 l [])) (no_front line is))) (out (n + 1) (at + length line + 1)))
+    by false is = subst whole (sym is) (by_start is (begins f))
+
+both : (lines : List (List ℕ)) → Clean lines → Outside lines × Inside lines
+both [] clean = (λ n at. tt, inside_end)
+both (line ∷ lines) clean =
+    let rest = both lines clean.1.1 in
+    (outside_more line lines clean.0 clean.1.0 rest.0 rest.1, inside_more line lines clean.0 clean.1.0 rest.0 rest.1)
+
+-- the pieces of what is left of a text are its directives
+pub pieces_read : (text : List ℕ) → AreRead (pieces_of (settled text)) (directives_of text)
+pieces_read text = (both (lines_of (settled text)) (settled_clean text)).0 1 0

@@ -1,0 +1,30 @@
+use Rattle.drv_check.specs.Told.{from_text}
+use Rattle.drv_check.specs.declared.told.Place.{Place}
+use Rattle.json.specs.Token.{Token}
+use Rattle.std.proofs.Common.{◌≡◌, ◌∙◌, ◌<◌, ◌+◌, ◌++◌, ◌∷◌, Err, List, Ok, OnOk, Result, [], ap, append_assoc, drop, length, sym, ℕ}
+use Rattle.std.proofs.lemmas.List.{drop_more}
+use Rattle.std.specs.List.{flat_map}
+use Rattle.std.specs.Prelude.{get_or}
+
+-- For report_text and report_json: findings are printed one after another.
+
+-- the places where files are included
+pub places_next : (before after : List ℕ) (places : List Place) (n : ℕ) (place : Place) (whole : List ℕ) → n < length places
+    → place ≡ get_or places n place → after ≡ before ++ from_text place → before ++ flat_map from_text (drop n places) ≡ whole
+    → after ++ flat_map from_text (drop (n + 1) places) ≡ whole
+places_next before after places n place whole below here grows is =
+    ap (λ text. text ++ flat_map from_text (drop (n + 1) places)) grows
+    ∙ append_assoc before (from_text place) (flat_map from_text (drop (n + 1) places))
+    ∙ ap (λ p. before ++ (from_text p ++ flat_map from_text (drop (n + 1) places))) here
+    ∙ ap (λ ps. before ++ flat_map from_text ps) (sym (drop_more places n place below)) ∙ is
+
+-- two members, the last of an object
+pub two_members : {X E : Type 0} (result : Result X E) (old t1 t2 t3 t4 new value values : List Token) (k k' end : Token) → t1 ≡ old ++ k ∷ []
+    → t2 ≡ t1 ++ value → t3 ≡ t2 ++ k' ∷ [] → t4 ≡ t3 ++ values → OnOk result (new ≡ t4 ++ end ∷ [])
+    → OnOk result (new ≡ old ++ k ∷ (value ++ k' ∷ (values ++ end ∷ [])))
+two_members (Err e) old t1 t2 t3 t4 new value values k k' end one two three four last = last
+two_members (Ok x) old t1 t2 t3 t4 new value values k k' end one two three four last =
+    last ∙ ap (λ t. t ++ end ∷ []) four ∙ append_assoc t3 values (end ∷ []) ∙ ap (λ t. t ++ (values ++ end ∷ [])) three
+    ∙ append_assoc t2 (k' ∷ []) (values ++ end ∷ []) ∙ ap (λ t. t ++ k' ∷ (values ++ end ∷ [])) two
+    ∙ append_assoc t1 value (k' ∷ (values ++ end ∷ [])) ∙ ap (λ t. t ++ (value ++ k' ∷ (values ++ end ∷ []))) one
+    ∙ append_assoc old (k ∷ []) (value ++ k' ∷ (values ++ end ∷ []))

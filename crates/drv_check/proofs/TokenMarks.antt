@@ -1,0 +1,49 @@
+use Rattle.drv_check.specs.Code.OwnTrees.{tree_or_none}
+use Rattle.drv_check.specs.OwnTexts.{own_start, own_text, own_tree}
+use Rattle.drv_check.specs.TokenWarnings.{mark_at, own_marks, token_warning, tokens_marks}
+use Rattle.drv_check.specs.declared.findings.Warning.{Warning}
+use Rattle.drv_check.specs.declared.warning.Mark.{Mark}
+use Rattle.drv_specs.specs.Sets.{Set}
+use Rattle.drv_syntax.specs.Labels.{label_at}
+use Rattle.drv_syntax.specs.Parsed.{tree_of}
+use Rattle.drv_syntax.specs.Tokens.{tokens_of}
+use Rattle.drv_syntax.specs.Tree.{Items}
+use Rattle.drv_syntax.specs.declared.token.Token.{Token}
+use Rattle.std.proofs.Common.{◌≡◌, ◌∙◌, ◌<◌, ◌+◌, ◌++◌, ◌∷◌, List, None, OnOk, Option, Result, Err, Ok, Some, ap, append_assoc, drop, length, sym, ℕ}
+use Rattle.std.proofs.lemmas.List.{append-nil, drop_more}
+use Rattle.std.specs.Prelude.{get_or}
+
+-- The warnings of tokens, one after another.
+
+pub marks_next : (set : Set) (text : List ℕ) (items : Items) (start n at : ℕ) (tokens : List Token) (token : Token) (warning : Option Warning)
+    (before after whole : List Mark) → n < length tokens → token ≡ get_or tokens n token
+    → warning ≡ token_warning set text token (label_at items n) → at ≡ start + token.start → after ≡ before ++ mark_at at warning
+    → before ++ tokens_marks set text items start n (drop n tokens) ≡ whole
+    → after ++ tokens_marks set text items start (n + 1) (drop (n + 1) tokens) ≡ whole
+marks_next set text items start n at tokens token warning before after whole below here warns place grows is =
+    ap (λ ms. ms ++ tokens_marks set text items start (n + 1) (drop (n + 1) tokens)) grows
+    ∙ ap (λ m. (before ++ mark_at m warning) ++ tokens_marks set text items start (n + 1) (drop (n + 1) tokens)) place
+    ∙ ap (λ w. (before ++ mark_at (start + token.start) w) ++ tokens_marks set text items start (n + 1) (drop (n + 1) tokens)) warns
+    ∙ append_assoc before (mark_at (start + token.start) (token_warning set text token (label_at items n)))
+    (tokens_marks set text items start (n + 1) (drop (n + 1) tokens))
+    ∙ ap (λ t. before ++ tokens_marks set text items start n (t ∷ drop (n + 1) tokens)) here
+    ∙ ap (λ ts. before ++ tokens_marks set text items start n ts) (sym (drop_more tokens n token below)) ∙ is
+
+-- of the tree of the text that a piece gives
+
+pub marks_of_tree : {X E : Type 0} (set : Set) (text tree : List ℕ) (start : ℕ) (own : Option (List ℕ)) (before after : List Mark) (result : Result X E)
+    → own ≡ Some tree → tree_or_none own ≡ own_tree text → tree ≡ own_text text → start ≡ own_start text
+    → OnOk result (after ≡ before ++ tokens_marks set tree (tree_of tree) start 0 (tokens_of (tree_of tree)))
+    → OnOk result (after ≡ before ++ own_marks set text)
+marks_of_tree set text tree start own before after (Err e) has is same at grows = grows
+marks_of_tree set text tree start own before after (Ok x) has is same at grows =
+    grows
+    ∙ ap (λ t. before ++ tokens_marks set tree t start 0 (tokens_of t)) (sym (ap tree_or_none has) ∙ is)
+    ∙ ap (λ t. before ++ tokens_marks set t (own_tree text) start 0 (tokens_of (own_tree text))) same
+    ∙ ap (λ n. before ++ tokens_marks set (own_text text) (own_tree text) n 0 (tokens_of (own_tree text))) at
+
+pub marks_of_none : (set : Set) (text : List ℕ) (own : Option (List ℕ)) (before : List Mark) → own ≡ None → tree_or_none own ≡ own_tree text
+    → before ≡ before ++ own_marks set text
+marks_of_none set text own before has is =
+    sym (append-nil before)
+    ∙ ap (λ t. before ++ tokens_marks set (own_text text) t (own_start text) 0 (tokens_of t)) (sym (ap tree_or_none has) ∙ is)

@@ -1,0 +1,10 @@
+use Rattle.drv_check.proofs.Cutting.{first_line}
+use Rattle.drv_check.proofs.bytes.cut_line.Goals as goal
+use Rattle.drv_specs.specs.Lines.{lines_of}
+use Rattle.std.proofs.Common.{◌+◌, ◌∙◌, ◌∷◌, ap, sym, take}
+use Rattle.std.proofs.lemmas.List.{take_rest}
+
+pub returns-in-Some-clause-lines : goal.returns-in-Some-clause-lines
+returns-in-Some-clause-lines c =
+    first_line c.args.text.now c.find_byte.result c.in-Some.at c.find_byte.ensures c.in-Some.is
+    ∙ ap (λ rest. take c.in-Some.at c.args.text.now ∷ lines_of rest) (sym (take_rest c.args.text.now (c.in-Some.at + 1)))

@@ -1,0 +1,15 @@
+use Rattle.drv_check.proofs.pieces.pieces_of.Given as goal
+use Rattle.drv_check.specs.Pieces.{pieces_from, pieces_of}
+use Rattle.drv_specs.specs.Code.Slices.{bytes_from, lines_from}
+use Rattle.std.proofs.Common.{◌≡◌, ◌≤◌, ◌+◌, ◌++◌, length}
+use Rattle.std.specs.Option.{option_map}
+
+abbrev pub invariant-loop-left : goal.invariant-loop-left
+invariant-loop-left l = record {
+  cut : l.pieces.items ++ pieces_from l.begun l.number l.at (lines_from (option_map (λ bytes. bytes.now) l.left)) ≡ pieces_of l.text;
+  number : l.number ≤ l.at + 1;
+  room : l.at + length (bytes_from (option_map (λ bytes. bytes.now) l.left)) ≤ length l.text + 1;
+}
+
+abbrev pub decreases-loop-left : goal.decreases-loop-left
+decreases-loop-left l = length (bytes_from (option_map (λ bytes. bytes.now) l.left))

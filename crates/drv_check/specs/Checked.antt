@@ -1,0 +1,34 @@
+use Rattle.drv_check.specs.Checks.{all_called, unchecked}
+use Rattle.drv_check.specs.Whole.{judged}
+use Rattle.drv_check.specs.declared.findings.Checking.{Checking}
+use Rattle.drv_check.specs.declared.findings.Finding.{Finding}
+use Rattle.drv_check.specs.declared.findings.Note.TheVariants.{Fault, Warned}
+use Rattle.drv_check.specs.declared.findings.Note.{Note}
+use Rattle.drv_search.specs.Search.{prefixes_of}
+use Rattle.drv_search.specs.declared.prefixes.Prefixes.{Prefixes}
+use Rattle.drv_system.specs.Facts.{Facts}
+use Rattle.drv_system.specs.Known.{◌>>=◌, Is, Known}
+use Rattle.std.specs.Prelude.{Bool, List, [], false, filter, length, true, ℕ}
+
+-- Spec files checked (GCC manual, "Spec Files"): over the built-in set and what other files make of it, each over what the earlier ones made.
+-- What is surely not meant in the other files is not told, only their faults.
+
+abbrev pub is_fault : Note → Bool
+is_fault (Fault fault) = true
+is_fault (Warned warning) = false
+
+abbrev pub tells_fault : Finding → Bool
+tells_fault finding = is_fault finding.note
+
+abbrev pub faults_alone : Checking → Checking
+faults_alone c = record c { findings = filter tells_fault c.findings }
+
+abbrev pub based : Facts → Prefixes → List (List ℕ) → Known Checking
+based F prefixes over = all_called F prefixes unchecked over >>= λ c. Is (faults_alone c)
+
+abbrev pub checked_over : Facts → Prefixes → List (List ℕ) → List (List ℕ) → Known Checking
+checked_over F prefixes over names =
+    based F prefixes over >>= λ base. all_called F prefixes base names >>= λ c. Is (judged (length base.sources) c)
+
+unfoldable pub checked : Facts → List (List ℕ) → List (List ℕ) → Known Checking
+checked F over names = prefixes_of F [] >>= λ prefixes. checked_over F prefixes over names

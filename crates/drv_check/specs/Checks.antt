@@ -1,0 +1,136 @@
+use Rattle.drv_check.specs.Includes.{inclusion_in, read_text}
+use Rattle.drv_check.specs.Pieces.{pieces_of}
+use Rattle.drv_check.specs.Points.{front_length, point}
+use Rattle.drv_check.specs.Warnings.{marks_of}
+use Rattle.drv_check.specs.declared.findings.Checking.{Checking}
+use Rattle.drv_check.specs.declared.findings.Finding.{Finding}
+use Rattle.drv_check.specs.declared.findings.Note.TheVariants.{Fault, Warned}
+use Rattle.drv_check.specs.declared.findings.Note.{Note}
+use Rattle.drv_check.specs.declared.findings.Spot.{Spot}
+use Rattle.drv_check.specs.declared.including.Inclusion.{Inclusion}
+use Rattle.drv_check.specs.declared.opening.OpenFile.{OpenFile}
+use Rattle.drv_check.specs.declared.pieces.Piece.{Piece}
+use Rattle.drv_check.specs.declared.warning.Mark.{Mark}
+use Rattle.drv_place.specs.Settling.{places_of}
+use Rattle.drv_search.specs.Search.{file_found}
+use Rattle.drv_search.specs.declared.prefixes.Prefixes.{Prefixes}
+use Rattle.drv_specs.specs.Blanks.{is_blank}
+use Rattle.drv_specs.specs.Builtin.{builtin_specs}
+use Rattle.drv_specs.specs.Lines.{settled}
+use Rattle.drv_specs.specs.Loading.{loaded, most_files, most_levels}
+use Rattle.drv_specs.specs.Sets.{Set}
+use Rattle.drv_specs.specs.declared.fault.SpecsFault.TheVariants.{BadLine, IncludeTooDeep, TooManyIncludes}
+use Rattle.drv_specs.specs.declared.fault.SpecsFault.{SpecsFault}
+use Rattle.drv_system.specs.Facts.{Facts, read_of}
+use Rattle.drv_system.specs.Known.{◌>>=◌, Is, Known, Unasked, asked}
+use Rattle.std.specs.Prelude.{Err, List, [], ◌∷◌, ◌++◌, None, Ok, Option, Result, Some, drop, get_or, false, length, map, suc, zero, ℕ}
+
+-- All faults of spec files, and what is surely not meant (GCC manual, "Spec Files"; that a check goes on after a fault is this project's
+-- profile). The pieces of a file are loaded one after another, those of an included file in its place; a piece that is refused changes
+-- nothing. The limits of loading hold for the whole: how many files are read for each file of the call, and how deep they are within one
+-- another.
+
+abbrev pub noted : Checking → Option Spot → Note → Checking
+noted c spot note = record c { findings = c.findings ++ record { spot = spot; note = note } ∷ [] }
+
+-- a line that is no directive has its number in its file
+abbrev pub numbered : ℕ → SpecsFault → SpecsFault
+numbered n (BadLine m) = BadLine n
+numbered n fault = fault
+
+-- where a byte of a piece is in its file
+abbrev pub spot_at : OpenFile → ℕ → Option Spot
+spot_at file at = Some (record { source = file.number; at = at })
+
+abbrev pub spot_in : OpenFile → Piece → ℕ → Option Spot
+spot_in file piece at = spot_at file (get_or (drop piece.start file.places) at file.size)
+
+-- what is surely not meant
+abbrev pub finding_of : OpenFile → Piece → Mark → Finding
+finding_of file piece mark = record { spot = spot_in file piece mark.at; note = Warned mark.warning }
+
+abbrev pub warned : Checking → OpenFile → Piece → Checking
+warned c file piece = record c { findings = c.findings ++ map (finding_of file piece) (marks_of c.set piece.text) }
+
+-- the effect of a piece that is loaded as a text by itself
+abbrev pub faulty : Checking → OpenFile → Piece → SpecsFault → Checking
+faulty c file piece fault =
+    noted c (spot_at file (point c.set piece.text (drop piece.start file.places) file.size fault)) (Fault (numbered piece.number fault))
+
+abbrev pub changed : Checking → OpenFile → Piece → Known (Result Set SpecsFault) → Known Checking
+changed c file piece Unasked = Unasked
+changed c file piece (Is (Ok set)) = Is (record c { set = set })
+changed c file piece (Is (Err fault)) = Is (faulty c file piece fault)
+
+-- a file whose text was read: it is the next of the sources
+abbrev pub open_file : ℕ → List ℕ → OpenFile
+open_file number text = record { number = number; size = length text; places = places_of text; pieces = pieces_of (settled text) }
+
+abbrev pub by_text : Checking → Option Spot → List ℕ → Result (List ℕ) SpecsFault → Checking × Option OpenFile
+by_text c from path (Err fault) = (noted c from (Fault fault), None)
+by_text c from path (Ok text) =
+    (record c { sources = c.sources ++ record { name = path; text = text; from = from } ∷ [] }, Some (open_file (length c.sources) text))
+
+-- the path of an included file, and its text
+abbrev pub found_text : Facts → Prefixes → Inclusion → Known (List ℕ × Result (List ℕ) SpecsFault)
+found_text F prefixes inclusion =
+    file_found F prefixes inclusion.file >>= λ path. asked (read_of F path)
+    >>= λ answer. Is (path, read_text inclusion.may_miss path answer)
+
+-- a file opened where so many more may be read, and so many more be within one another
+abbrev pub opened_of : Facts → Prefixes → ℕ → Checking → Option Spot → Inclusion → Known (Checking × Option OpenFile)
+opened_of F prefixes zero c from inclusion = Is (noted c from (Fault TooManyIncludes), None)
+opened_of F prefixes (suc left) c from inclusion =
+    found_text F prefixes inclusion >>= λ found. Is (by_text (record c { files = left }) from found.0 found.1)
+
+abbrev pub opened : Facts → Prefixes → ℕ → Checking → Option Spot → Inclusion → Known (Checking × Option OpenFile)
+opened F prefixes zero c from inclusion = Is (noted c from (Fault IncludeTooDeep), None)
+opened F prefixes (suc levels) c from inclusion = opened_of F prefixes c.files c from inclusion
+
+-- one piece: it opens a file, or changes the set
+abbrev pub put_aside : Known Checking → Known (Checking × Option OpenFile)
+put_aside known = known >>= λ c. Is (c, None)
+
+abbrev pub stepped : Facts → Prefixes → ℕ → Checking → OpenFile → Piece → Option Inclusion → Known (Checking × Option OpenFile)
+stepped F prefixes levels c file piece None = put_aside (changed (warned c file piece) file piece (loaded F prefixes c.set piece.text))
+stepped F prefixes levels c file piece (Some inclusion) = opened F prefixes levels c (spot_in file piece (front_length is_blank piece.text)) inclusion
+
+abbrev pub step : Facts → Prefixes → ℕ → Checking → OpenFile → Piece → Known (Checking × Option OpenFile)
+step F prefixes levels c file piece = stepped F prefixes levels c file piece (inclusion_in piece.text)
+
+-- how an open file is checked
+abbrev pub Enters : Type 0
+Enters = Checking → OpenFile → Known Checking
+
+abbrev pub entered : Enters → Checking → Option OpenFile → Known Checking
+entered enters c None = Is c
+entered enters c (Some file) = enters c file
+
+abbrev pub pieces_checked : Facts → Prefixes → ℕ → Enters → Checking → OpenFile → List Piece → Known Checking
+pieces_checked F prefixes levels enters c file [] = Is c
+pieces_checked F prefixes levels enters c file (piece ∷ pieces) =
+    step F prefixes levels c file piece >>= λ next. entered enters next.0 next.1
+    >>= λ c'. pieces_checked F prefixes levels enters c' file pieces
+
+-- an open file, in which so many more may be within one another; where none may, no piece opens one
+unfoldable pub file_checked : Facts → Prefixes → ℕ → Enters
+file_checked F prefixes zero c file = pieces_checked F prefixes zero (λ c' inner. Is c') c file file.pieces
+file_checked F prefixes (suc levels) c file = pieces_checked F prefixes (suc levels) (file_checked F prefixes levels) c file file.pieces
+
+-- how a file is checked that is opened within one where so many more may be
+abbrev pub enters_at : Facts → Prefixes → ℕ → Enters
+enters_at F prefixes zero = λ c file. Is c
+enters_at F prefixes (suc levels) = file_checked F prefixes levels
+
+-- a file of the call, found as -specs= finds it
+abbrev pub called : Facts → Prefixes → Checking → List ℕ → Known Checking
+called F prefixes c name =
+    opened F prefixes most_levels (record c { files = most_files }) None (record { may_miss = false; file = name })
+    >>= λ next. entered (file_checked F prefixes 15) next.0 next.1
+
+abbrev pub all_called : Facts → Prefixes → Checking → List (List ℕ) → Known Checking
+all_called F prefixes c [] = Is c
+all_called F prefixes c (name ∷ names) = called F prefixes c name >>= λ c'. all_called F prefixes c' names
+
+abbrev pub unchecked : Checking
+unchecked = record { set = builtin_specs; files = most_files; sources = []; findings = [] }

@@ -1,0 +1,2 @@
+-- How the code keeps what it reads. No public contract rests on these.
+pub mod OwnTrees

@@ -1,0 +1,15 @@
+pub mod Agreement
+pub mod Checked
+pub mod Checks
+pub mod Code
+pub mod Differing
+pub mod Includes
+pub mod Numbers
+pub mod OwnTexts
+pub mod Pieces
+pub mod Points
+pub mod Shown
+pub mod TokenWarnings
+pub mod Told
+pub mod Warnings
+pub mod Whole

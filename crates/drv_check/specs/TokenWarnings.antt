@@ -1,0 +1,83 @@
+use Rattle.drv_check.specs.OwnTexts.{own_start, own_text, own_tree}
+use Rattle.drv_check.specs.declared.findings.Warning.TheVariants.{NeverTrue, QuotedWord, UnknownText}
+use Rattle.drv_check.specs.declared.findings.Warning.{Warning}
+use Rattle.drv_check.specs.declared.warning.Mark.{Mark}
+use Rattle.drv_specs.specs.Blanks.{is_white}
+use Rattle.drv_specs.specs.Directives.{is_colon}
+use Rattle.drv_specs.specs.Sets.{Set, text_of}
+use Rattle.drv_syntax.specs.Labels.{Label, label_at}
+use Rattle.drv_syntax.specs.Tokens.{tokens_of}
+use Rattle.drv_syntax.specs.Tree.{Items}
+use Rattle.drv_syntax.specs.declared.token.TestKind.TheVariants as asking
+use Rattle.drv_syntax.specs.declared.token.TestKind.{TestKind}
+use Rattle.drv_syntax.specs.declared.token.Token.{Token}
+use Rattle.drv_syntax.specs.declared.token.TokenKind.TheVariants as kinds
+use Rattle.drv_syntax.specs.declared.token.TokenKind.{TokenKind}
+use Rattle.drv_words.specs.Bytes.{double_quote, single_quote}
+use Rattle.std.specs.Prelude.{◌+◌, ◌-◌, ◌==◌, ◌&&◌, ◌||◌, Bool, List, [], ◌∷◌, ◌++◌, None, Option, Some, false, if◌then◌else◌, is_some, nat_lt, slice_get, true, ℕ}
+
+-- What is surely not meant in the tokens of a text (GCC manual, "Spec Files"; that it is a warning is this project's profile).
+
+-- a quote that begins a word, which is a byte of it as any other: the text begins with it, or white space or a colon precedes it
+
+abbrev pub byte_before : List ℕ → ℕ → Option ℕ
+byte_before text at = if nat_lt 0 at then slice_get text (at - 1) else None
+
+abbrev pub ends_before : Option ℕ → Bool
+ends_before None = true
+ends_before (Some b) = is_white b || is_colon b
+
+abbrev pub is_quote : List ℕ → Bool
+is_quote [] = false
+is_quote (b ∷ word) = b == double_quote || b == single_quote
+
+abbrev pub quote_warning : Option ℕ → List ℕ → Option Warning
+quote_warning before word = if is_quote word && ends_before before then Some QuotedWord else None
+
+-- a pattern that no switch has: -DX is the switch D with the argument X, and so are -U and -I
+
+abbrev pub takes_argument : ℕ → Bool
+takes_argument b = b == 68 || b == 85 || b == 73
+
+abbrev pub is_never : List ℕ → Bool
+is_never [] = false
+is_never (b ∷ []) = false
+is_never (b ∷ c ∷ word) = takes_argument b
+
+abbrev pub switch_warning : List ℕ → Option Warning
+switch_warning word = if is_never word then Some NeverTrue else None
+
+abbrev pub test_warning : TestKind → List ℕ → Option Warning
+test_warning asking.Switch word = switch_warning word
+test_warning asking.Suffix word = None
+test_warning asking.Language word = None
+test_warning asking.Result word = None
+
+-- a text that the set hasn't
+abbrev pub name_warning : Set → List ℕ → Option Warning
+name_warning set name = if is_some (text_of set name) then None else Some UnknownText
+
+abbrev pub warning_of : Set → Option ℕ → TokenKind → Label → Option Warning
+warning_of set before kinds.Plain label = quote_warning before label.word
+warning_of set before kinds.Test label = test_warning label.asks label.word
+warning_of set before kinds.Pattern label = switch_warning label.word
+warning_of set before kinds.NamedText label = name_warning set label.word
+warning_of set before kind label = None
+
+-- of a token of a text, with its label
+abbrev pub token_warning : Set → List ℕ → Token → Label → Option Warning
+token_warning set text token label = warning_of set (byte_before text token.start) token.kind label
+
+abbrev pub mark_at : ℕ → Option Warning → List Mark
+mark_at at None = []
+mark_at at (Some warning) = record { at = at; warning = warning } ∷ []
+
+-- of tokens, the first of which has this place in the list of all
+abbrev pub tokens_marks : Set → List ℕ → Items → ℕ → ℕ → List Token → List Mark
+tokens_marks set text items start n [] = []
+tokens_marks set text items start n (token ∷ tokens) =
+    mark_at (start + token.start) (token_warning set text token (label_at items n)) ++ tokens_marks set text items start (n + 1) tokens
+
+-- of the text that a piece gives, each at a byte of the piece
+abbrev pub own_marks : Set → List ℕ → List Mark
+own_marks set text = tokens_marks set (own_text text) (own_tree text) (own_start text) 0 (tokens_of (own_tree text))

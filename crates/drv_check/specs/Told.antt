@@ -1,0 +1,63 @@
+use Rattle.drv_check.specs.Shown.{padding, shown}
+use Rattle.drv_check.specs.declared.told.Place.{Place}
+use Rattle.drv_check.specs.declared.told.Told.{Told}
+use Rattle.drv_forms.specs.PlanJson.{list_json, number_json, option_json, word_json}
+use Rattle.drv_words.specs.Bytes.{newline}
+use Rattle.json.specs.Json.{Json, Members, member, no_members, object, string}
+use Rattle.json.specs.Layout.{pretty}
+use Rattle.json.specs.Tree.{json_tokens}
+use Rattle.std.specs.List.{flat_map}
+use Rattle.std.specs.Prelude.{Bool, List, [], ◌∷◌, ◌++◌, None, Option, Some, codes, decimal, if◌then◌else◌, ℕ}
+
+-- What a check prints of findings: text (GNU coding standards, "Formatting Error Messages"), or JSON (RFC 8259; the names of members are this
+-- project's profile).
+
+abbrev pub place_text : Place → List ℕ
+place_text place = place.file ++ codes ":" ++ decimal place.line ++ codes ":" ++ decimal place.column
+
+abbrev pub kind_text : Bool → List ℕ
+kind_text is_error = if is_error then codes "error" else codes "warning"
+
+-- what begins its line: the place, or the name of the program
+abbrev pub head_text : Option Place → List ℕ
+head_text None = codes "gdrv-specs"
+head_text (Some place) = place_text place
+
+-- the line of the place, and a caret below its byte
+abbrev pub excerpt : Option Place → List ℕ → List ℕ → List ℕ
+excerpt None before after = []
+excerpt (Some place) before after = codes " " ++ shown before ++ shown after ++ codes "\n " ++ padding before ++ codes "^\n"
+
+abbrev pub from_text : Place → List ℕ
+from_text place = codes "  included from " ++ place_text place ++ codes "\n"
+
+abbrev pub told_text : Told → List ℕ
+told_text told =
+    head_text told.place ++ codes ": " ++ kind_text told.is_error ++ codes ": " ++ told.message ++ codes "\n"
+    ++ excerpt told.place told.before told.after ++ flat_map from_text told.from
+
+abbrev pub report_text : List Told → List ℕ
+report_text = flat_map told_text
+
+abbrev pub place_json : Place → Json
+place_json place =
+    object
+    (member (codes "file") (word_json place.file)
+    (member (codes "line") (number_json place.line)
+    (member (codes "column") (number_json place.column)
+    no_members)))
+
+abbrev pub kind_json : Bool → Json
+kind_json is_error = string (kind_text is_error)
+
+-- what it is, and where its file is included
+abbrev pub told_members : Told → Members
+told_members told = member (codes "message") (word_json told.message) (member (codes "included_from") (list_json place_json told.from) no_members)
+
+abbrev pub told_json : Told → Json
+told_json told =
+    object (member (codes "place") (option_json place_json told.place) (member (codes "kind") (kind_json told.is_error) (told_members told)))
+
+-- one object for each finding, in an array, with a newline at its end
+abbrev pub report_json : List Told → List ℕ
+report_json all = pretty (json_tokens (list_json told_json all)) ++ newline ∷ []

@@ -1,0 +1,64 @@
+use Rattle.drv_check.specs.Points.{body_start, front_length, is_addition, name_in, old_length}
+use Rattle.drv_check.specs.declared.findings.Warning.TheVariants.{AppendToNothing, DirectiveInBody}
+use Rattle.drv_check.specs.declared.warning.Mark.{Mark}
+use Rattle.drv_specs.specs.Blanks.{is_blank}
+use Rattle.drv_specs.specs.Directives.{is_colon}
+use Rattle.drv_specs.specs.Lines.{lines_of, without_front, words_of}
+use Rattle.drv_specs.specs.Sets.{Set, is_name}
+use Rattle.drv_words.specs.Bytes.{asterisk}
+use Rattle.std.specs.Cmp.Lexicographic.{pointwise}
+use Rattle.std.specs.List.{position}
+use Rattle.std.specs.Prelude.{◌+◌, ◌==◌, ◌&&◌, ◌||◌, Bool, List, [], ◌∷◌, ◌++◌, None, Option, Some, codes, drop, false, if◌then◌else◌, length, nat_eq, not, take, ℕ}
+
+-- What is legal in a piece and surely not meant, each at a byte of the piece (this project's profile).
+
+-- An addition to a text that isn't there. gcc has a text self_spec without bytes, which the front gdrv-cc runs (GCC, "gcc.cc", static_specs,
+-- do_self_spec).
+
+abbrev pub is_self_spec : Option (List ℕ) → Bool
+is_self_spec None = false
+is_self_spec (Some name) = pointwise nat_eq name (codes "self_spec")
+
+abbrev pub adds_to_nothing : Option (Option ℕ) → List ℕ → Bool
+adds_to_nothing None body = false
+adds_to_nothing (Some None) body = is_addition body
+adds_to_nothing (Some (Some size)) body = false
+
+abbrev pub append_marks : Set → List ℕ → List Mark
+append_marks set text =
+    if adds_to_nothing (old_length set (name_in text)) (drop (body_start text) text) && not (is_self_spec (name_in text))
+    then record { at = front_length is_blank text; warning = AppendToNothing } ∷ [] else []
+
+-- a line of a body that would begin a directive, were the line before it empty
+
+abbrev pub is_named : Option ℕ → List ℕ → Bool
+is_named None line = false
+is_named (Some at) line = is_name (take at line)
+
+abbrev pub begins_name : List ℕ → Bool
+begins_name [] = false
+begins_name (b ∷ line) = b == asterisk && is_named (position is_colon line) line
+
+abbrev pub is_keyword : List (List ℕ) → Bool
+is_keyword [] = false
+is_keyword (word ∷ words) =
+    pointwise nat_eq word (codes "%rename") || pointwise nat_eq word (codes "%include") || pointwise nat_eq word (codes "%include_noerr")
+
+abbrev pub begins_directive : List ℕ → Bool
+begins_directive line = begins_name (without_front is_blank line) || is_keyword (words_of line)
+
+abbrev pub line_marks : ℕ → List ℕ → List Mark
+line_marks at line = if begins_directive line then record { at = at + front_length is_blank line; warning = DirectiveInBody } ∷ [] else []
+
+-- lines, the first of which begins at this byte
+abbrev pub lines_marks : ℕ → List (List ℕ) → List Mark
+lines_marks at [] = []
+lines_marks at (line ∷ lines) = line_marks at line ++ lines_marks (at + length line + 1) lines
+
+-- the lines after the first
+abbrev pub body_marks : List (List ℕ) → List Mark
+body_marks [] = []
+body_marks (line ∷ lines) = lines_marks (length line + 1) lines
+
+abbrev pub marks_of : Set → List ℕ → List Mark
+marks_of set text = append_marks set text ++ body_marks (lines_of text)

@@ -1,0 +1,64 @@
+use Rattle.drv_check.specs.Checks.{finding_of, open_file}
+use Rattle.drv_check.specs.Points.{front_length}
+use Rattle.drv_check.specs.TokenWarnings.{own_marks}
+use Rattle.drv_check.specs.declared.findings.Checking.{Checking}
+use Rattle.drv_check.specs.declared.findings.Finding.{Finding}
+use Rattle.drv_check.specs.declared.findings.Source.{Source}
+use Rattle.drv_check.specs.declared.findings.Warning.TheVariants.{HiddenPair}
+use Rattle.drv_check.specs.declared.opening.OpenFile.{OpenFile}
+use Rattle.drv_check.specs.declared.pieces.Piece.{Piece}
+use Rattle.drv_check.specs.declared.warning.Mark.{Mark}
+use Rattle.drv_specs.specs.Blanks.{is_blank}
+use Rattle.drv_specs.specs.Directives.{is_colon}
+use Rattle.drv_specs.specs.Sets.{Set}
+use Rattle.drv_words.specs.Bytes.{asterisk, percent}
+use Rattle.std.specs.Cmp.Lexicographic.{pointwise}
+use Rattle.std.specs.List.{list_any, position}
+use Rattle.std.specs.Prelude.{◌+◌, ◌==◌, ◌||◌, Bool, List, [], ◌∷◌, ◌++◌, None, Option, Some, drop, false, if◌then◌else◌, map, nat_eq, take, ℕ}
+
+-- What spec files show once all of them are loaded that is legal and surely not meant (GCC manual, "Spec Files"; this project's profile).
+
+-- the key of a pair, before the colon
+
+abbrev pub key_before : Option ℕ → List ℕ → Option (List ℕ)
+key_before None line = None
+key_before (Some at) [] = None
+key_before (Some at) (b ∷ line) = if b == asterisk || b == percent then None else Some (take at (b ∷ line))
+
+abbrev pub key_in : List ℕ → Option (List ℕ)
+key_in text = key_before (position is_colon (drop (front_length is_blank text) text)) (drop (front_length is_blank text) text)
+
+-- a pair that is never used: of pairs with one key the last counts, and a later piece of the file has this one's
+
+abbrev pub is_key : List ℕ → Option (List ℕ) → Bool
+is_key key None = false
+is_key key (Some other) = pointwise nat_eq key other
+
+abbrev pub puts_key : List ℕ → Piece → Bool
+puts_key key piece = is_key key (key_in piece.text)
+
+abbrev pub is_hidden : Option (List ℕ) → List Piece → Bool
+is_hidden None later = false
+is_hidden (Some key) later = list_any (puts_key key) later
+
+abbrev pub pair_marks : List Piece → List ℕ → List Mark
+pair_marks later text = if is_hidden (key_in text) later then record { at = front_length is_blank text; warning = HiddenPair } ∷ [] else []
+
+-- of a piece before these in its file, over the set that the files make
+abbrev pub whole_marks : Set → List Piece → List ℕ → List Mark
+whole_marks set later text = pair_marks later text ++ own_marks set text
+
+abbrev pub pieces_judged : Set → OpenFile → List Piece → List Finding
+pieces_judged set file [] = []
+pieces_judged set file (piece ∷ later) = map (finding_of file piece) (whole_marks set later piece.text) ++ pieces_judged set file later
+
+abbrev pub file_judged : Set → OpenFile → List Finding
+file_judged set file = pieces_judged set file file.pieces
+
+-- of sources, the first of which has this place among all
+abbrev pub sources_judged : Set → ℕ → List Source → List Finding
+sources_judged set n [] = []
+sources_judged set n (source ∷ sources) = file_judged set (open_file n source.text) ++ sources_judged set (n + 1) sources
+
+abbrev pub judged : ℕ → Checking → Checking
+judged first c = record c { findings = c.findings ++ sources_judged c.set first (drop first c.sources) }

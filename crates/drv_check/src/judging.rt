@@ -1,0 +1,162 @@
+//! What spec files show once all of them are loaded that is surely not meant.
+
+ghost use Rattle.drv_check.specs.Checks.{finding_of};
+ghost use Rattle.drv_check.specs.Whole.{file_judged, is_hidden, is_key, judged, key_in, pair_marks};
+ghost use Rattle.drv_check.specs.Whole.{puts_key, sources_judged, whole_marks};
+ghost use Rattle.std.specs.List.{list_any};
+ghost use Rattle.std.specs.Option.{option_map};
+ghost use Rattle.std.specs.Prelude.{◌≡◌, ◌++◌, IfOk, OnOk, drop, map};
+
+use crate::bytes::blanks_before;
+use crate::findings::{Checking, Finding, Source, Warning};
+use crate::opening::{OpenFile, open_file};
+use crate::pieces::Piece;
+use crate::pointing::colon_in;
+use crate::stepping::push_warnings;
+use crate::token_warning::push_own;
+use crate::warning::Mark;
+use drv_specs::SpecSet;
+use drv_words::Listing;
+use std::alloc::{AllocError, Global};
+
+/// The key of a pair that a piece puts.
+fn key_in(text: &[u8]) -> Option<&[u8]>
+    ensures { option_map (λ key. key.now) result ≡ key_in text.now }
+{
+    let line = &text[blanks_before(text)..];
+    let at = colon_in(line)?;
+    match line {
+        [] | [b'*' | b'%', ..] => None,
+        _ => Some(&line[..at]),
+    }
+}
+
+/// Whether a piece puts a pair of this key.
+fn puts_key(key: &[u8], piece: &Piece) -> bool
+    ensures { result ≡ puts_key key.now piece.now }
+{
+    match key_in(piece.text.as_bytes()) {
+        Some(other) => key == other,
+        None => false,
+    }
+}
+
+/// Whether a piece among these puts a pair of this key.
+fn is_put(key: &[u8], later: &[Piece]) -> bool
+    ensures { result ≡ list_any (puts_key key.now) later.now }
+{
+    for piece in later {
+        if puts_key(key, piece) {
+            return true;
+        }
+    }
+    false
+}
+
+/// Whether a later piece hides the pair of this key.
+fn is_hidden(key: Option<&[u8]>, later: &[Piece]) -> bool
+    ensures { result ≡ is_hidden (option_map (λ key. key.now) key.entry) later.now }
+{
+    match key {
+        Some(key) => is_put(key, later),
+        None => false,
+    }
+}
+
+/// Adds the warning of a pair that a later one hides.
+fn push_pair(marks: &mut Vec<Mark>, later: &[Piece], text: &[u8]) -> Result<(), AllocError>
+    ensures { OnOk result (marks.new.items ≡ marks.old.items ++ pair_marks later.now text.now) }
+{
+    if is_hidden(key_in(text), later) {
+        marks.push(Mark {
+            at: blanks_before(text),
+            warning: Warning::HiddenPair,
+        })?;
+    }
+    Ok(())
+}
+
+/// What the whole of the files shows of a piece before these in its file.
+fn whole_marks(
+    alloc: Global,
+    set: &SpecSet,
+    later: &[Piece],
+    text: &[u8],
+) -> Result<Vec<Mark>, AllocError>
+    ensures { IfOk result (λ marks. marks.items ≡ whole_marks set.now later.now text.now) }
+{
+    let mut marks = Vec::new(alloc);
+    push_pair(&mut marks, later, text)?;
+    push_own(alloc, &mut marks, set, text)?;
+    Ok(marks)
+}
+
+/// Adds what the whole of the files shows of a piece.
+fn judge_piece(
+    alloc: Global,
+    findings: &mut Listing<Finding>,
+    set: &SpecSet,
+    file: &OpenFile,
+    later: &[Piece],
+    piece: &Piece,
+) -> Result<(), AllocError>
+    ensures { OnOk result
+        (findings.new ≡ findings.old
+        ++ map (finding_of file.now piece.now) (whole_marks set.now later.now piece.now.text)) }
+{
+    let marks = whole_marks(alloc, set, later, piece.text.as_bytes())?;
+    push_warnings(findings, file, piece, marks.as_slice())
+}
+
+/// Adds what the whole of the files shows of one.
+#[tactic(auto, using(crate::proofs::Judged::pieces_next))]
+fn judge_file(
+    alloc: Global,
+    findings: &mut Listing<Finding>,
+    set: &SpecSet,
+    file: &OpenFile,
+) -> Result<(), AllocError>
+    ensures { OnOk result (findings.new ≡ findings.old ++ file_judged set.now file.now) }
+{
+    let mut left = file.pieces.as_slice();
+    while let [piece, later @ ..] = left {
+        judge_piece(alloc, findings, set, file, later, piece)?;
+        left = later;
+    }
+    Ok(())
+}
+
+/// Adds what the whole of the files shows of the sources from this place on.
+#[tactic(auto, using(crate::proofs::Judged::sources_next))]
+fn judge_sources(
+    alloc: Global,
+    findings: &mut Listing<Finding>,
+    set: &SpecSet,
+    first: usize,
+    sources: &[Source],
+) -> Result<(), AllocError>
+    ensures { OnOk result
+        (findings.new ≡ findings.old ++ sources_judged set.now first (drop first sources.now)) }
+{
+    let mut number = first;
+    while number < sources.len() {
+        let source = &sources[number];
+        let file = open_file(alloc, number, source.text.as_bytes())?;
+        judge_file(alloc, findings, set, &file)?;
+        number += 1;
+    }
+    Ok(())
+}
+
+/// Adds what the whole of the files shows of those from this place among the sources on.
+pub(crate) fn judge(alloc: Global, checking: &mut Checking, first: usize) -> Result<(), AllocError>
+    ensures { OnOk result (checking.new ≡ judged first checking.old) }
+{
+    judge_sources(
+        alloc,
+        &mut checking.findings,
+        &checking.set,
+        first,
+        checking.sources.as_slice(),
+    )
+}

@@ -1,0 +1,33 @@
+//! Laws of pieces.
+
+ghost use Rattle.drv_check.specs.Agreement.{Agrees, all_loaded, faults_of};
+ghost use Rattle.drv_check.specs.Checked.{checked};
+ghost use Rattle.drv_check.specs.Numbers.{AreRead};
+ghost use Rattle.drv_check.specs.Pieces.{pieces_of};
+ghost use Rattle.drv_check.specs.declared.findings.Checking.{Checking};
+ghost use Rattle.drv_search.specs.Search.{prefixes_of};
+ghost use Rattle.drv_search.specs.declared.prefixes.Prefixes.{Prefixes};
+ghost use Rattle.drv_specs.specs.Builtin.{builtin_specs};
+ghost use Rattle.drv_specs.specs.Directives.{directives_of};
+ghost use Rattle.drv_specs.specs.Lines.{settled};
+ghost use Rattle.drv_system.specs.Facts.{Facts};
+ghost use Rattle.drv_system.specs.Known.{Is};
+ghost use Rattle.std.specs.Prelude.{◌≡◌, ◌++◌, List, [], ℕ};
+
+/// The law that the pieces of what is left of a text are its directives, one by one: each piece,
+/// read alone, is that directive, and the number of a line that is none is the piece's. It takes
+/// and gives nothing.
+#[tactic(auto, using(crate::proofs::PiecesRead::pieces_read))]
+pub fn pieces_are_directives()
+    ensures { (text : List ℕ) → AreRead (pieces_of (settled text)) (directives_of text) }
+{}
+
+/// The law that a check finds no fault exactly where the driver loads the files, those that are
+/// loaded first among them, and that its first fault is the driver's refusal. It takes and gives
+/// nothing.
+#[tactic(auto, using(crate::proofs::Agreeing::checked_agrees))]
+pub fn first_fault_is_refusal()
+    ensures { (F : Facts) (prefixes : Prefixes) (over names : List (List ℕ)) (c : Checking)
+        → prefixes_of F [] ≡ Is prefixes → checked F over names ≡ Is c
+        → Agrees (faults_of c.findings) (all_loaded F prefixes builtin_specs (over ++ names)) }
+{}

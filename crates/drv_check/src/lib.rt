@@ -1,0 +1,27 @@
+//! Every fault of spec files and what is surely not meant, each with its place in its file.
+#![tactic(auto)]
+
+mod bytes;
+mod checking;
+mod differing;
+mod findings;
+mod including;
+mod judging;
+mod laws;
+mod opening;
+mod own_text;
+mod pieces;
+mod pointing;
+mod stepping;
+mod token_warning;
+mod told;
+mod told_json;
+mod warning;
+
+pub use checking::check_files;
+pub use differing::texts_difference;
+pub use findings::{Checking, Finding, Note, Source, Spot, Warning};
+pub use laws::{first_fault_is_refusal, pieces_are_directives};
+pub use pieces::{Piece, pieces_of};
+pub use told::{Place, Told, report_text};
+pub use told_json::report_json;

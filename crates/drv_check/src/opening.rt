@@ -1,0 +1,143 @@
+//! Files whose directives are checked.
+
+ghost use Rattle.drv_check.specs.Checks.{by_text, found_text, open_file, opened};
+ghost use Rattle.drv_check.specs.Includes.{read_text};
+ghost use Rattle.drv_system.specs.Asking.{Extends};
+ghost use Rattle.drv_system.specs.Code.Asked.{Asked};
+ghost use Rattle.drv_system.specs.Facts.{Facts};
+ghost use Rattle.drv_system.specs.Known.{Is};
+ghost use Rattle.std.specs.Prelude.{◌≡◌, ◌<◌, IfOk, IfSome};
+
+use crate::findings::{Checking, Note, Source, Spot, add_note};
+use crate::including::Inclusion;
+use crate::pieces::{Piece, pieces_of};
+use drv_place::settle;
+use drv_search::{Prefixes, find_file};
+use drv_specs::SpecsFault;
+use drv_system::{Outside, ReadAnswer, System};
+use drv_words::{Listing, Word};
+use std::alloc::{AllocError, Global};
+
+/// A file whose directives are checked.
+#[derive(Drop)]
+pub(crate) struct OpenFile {
+    /// Its place among the sources.
+    pub(crate) number: usize,
+    /// The size of its text.
+    pub(crate) size: usize,
+    /// Where each byte is in that text that is left of it.
+    pub(crate) places: Listing<usize>,
+    /// Its directives.
+    pub(crate) pieces: Listing<Piece>,
+}
+
+/// A file with this text, the next of the sources.
+pub(crate) fn open_file(alloc: Global, number: usize, text: &[u8]) -> Result<OpenFile, AllocError>
+    ensures { IfOk result (λ file. file ≡ open_file number text.now) }
+{
+    let settled = settle(alloc, text)?;
+    let pieces = pieces_of(alloc, settled.text.as_bytes())?;
+    Ok(OpenFile {
+        number,
+        size: text.len(),
+        places: settled.places,
+        pieces,
+    })
+}
+
+/// The text that an answer gives.
+fn read_text(
+    alloc: Global,
+    may_miss: bool,
+    path: &Word,
+    answer: &ReadAnswer,
+) -> Result<Result<Word, SpecsFault>, AllocError>
+    ensures { IfOk result
+        (λ text. text ≡ read_text may_miss path.now answer.now) }
+{
+    match answer {
+        ReadAnswer::Read(text) => Ok(Ok(text.clone()?)),
+        ReadAnswer::Missing if may_miss => Ok(Ok(Word::empty(alloc))),
+        ReadAnswer::Missing => Ok(Err(SpecsFault::NoSuchFile(path.clone()?))),
+        ReadAnswer::Failed | ReadAnswer::TooLarge => {
+            Ok(Err(SpecsFault::Unreadable(path.clone()?)))
+        }
+    }
+}
+
+/// The path of an included file, and its text.
+#[tactic(auto, using(drv_system::proofs::AskedCalls::asked_further))]
+fn find_text<S: System>(
+    alloc: Global,
+    inclusion: &Inclusion,
+    prefixes: &Prefixes,
+    outside: &mut Outside<'_, S>,
+) -> Result<(Word, Result<Word, SpecsFault>), AllocError>
+    ensures asks { Asked S.events outside.old outside.new }
+    ensures finds { (F : Facts) → Extends outside.new.facts.now F
+        → IfOk result (λ found. found_text F prefixes.now inclusion.now ≡ Is found) }
+{
+    let path = find_file(alloc, prefixes, &inclusion.file, outside.sys, outside.facts)?;
+    outside.facts.read(outside.sys, &path)?;
+    let answer = outside.facts.read_answer(&path);
+    let text = read_text(alloc, inclusion.may_miss, &path, answer)?;
+    Ok((path, text))
+}
+
+/// Adds a file with this text to the sources, or why it has none.
+fn take_text(
+    alloc: Global,
+    checking: &mut Checking,
+    from: Option<Spot>,
+    path: Word,
+    text: Result<Word, SpecsFault>,
+) -> Result<Option<OpenFile>, AllocError>
+    ensures { IfOk result (λ file. (checking.new, file) ≡ by_text checking.old from path text) }
+{
+    match text {
+        Ok(text) => {
+            let file = open_file(alloc, checking.sources.len(), text.as_bytes())?;
+            checking.sources.push(Source {
+                name: path,
+                text,
+                from,
+            })?;
+            Ok(Some(file))
+        }
+        Err(fault) => {
+            add_note(checking, from, Note::Fault(fault))?;
+            Ok(None)
+        }
+    }
+}
+
+/// Opens a file that is included at a spot, or adds why it can't be opened. `levels` more files may
+/// be nested.
+#[tactic(auto, using(crate::proofs::FilesOpened::opens, crate::proofs::FilesOpened::opens_none, crate::proofs::FilesOpened::opens_deep))]
+pub(crate) fn open<S: System>(
+    alloc: Global,
+    checking: &mut Checking,
+    levels: usize,
+    from: Option<Spot>,
+    inclusion: &Inclusion,
+    prefixes: &Prefixes,
+    outside: &mut Outside<'_, S>,
+) -> Result<Option<OpenFile>, AllocError>
+    ensures asks { Asked S.events outside.old outside.new }
+    ensures opens { (F : Facts) → Extends outside.new.facts.now F
+        → IfOk result (λ file. opened F prefixes.now levels checking.old from inclusion.now
+        ≡ Is (checking.new, file)) }
+    ensures within { IfOk result (λ file. IfSome file (λ _. 0 < levels)) }
+{
+    if levels == 0 {
+        add_note(checking, from, Note::Fault(SpecsFault::IncludeTooDeep))?;
+        return Ok(None);
+    }
+    if checking.files == 0 {
+        add_note(checking, from, Note::Fault(SpecsFault::TooManyIncludes))?;
+        return Ok(None);
+    }
+    checking.files -= 1;
+    let (path, text) = find_text(alloc, inclusion, prefixes, outside)?;
+    take_text(alloc, checking, from, path, text)
+}

@@ -1,0 +1,166 @@
+//! One piece of a file is checked.
+
+ghost use Rattle.drv_check.specs.Checks.{changed, faulty, finding_of, numbered, spot_in, step, warned};
+ghost use Rattle.drv_specs.specs.Loading.{loaded};
+ghost use Rattle.drv_system.specs.Asking.{Extends};
+ghost use Rattle.drv_system.specs.Code.Asked.{Asked};
+ghost use Rattle.drv_system.specs.Facts.{Facts};
+ghost use Rattle.drv_system.specs.Known.{Is};
+ghost use Rattle.std.specs.Prelude.{◌≡◌, ◌<◌, ◌++◌, IfOk, IfSome, OnOk, map, Some};
+
+use crate::bytes::{blanks_before, following};
+use crate::findings::{Checking, Finding, Note, Spot, add_note};
+use crate::including::inclusion_in;
+use crate::opening::{OpenFile, open};
+use crate::pieces::Piece;
+use crate::pointing::point;
+use crate::warning::{Mark, marks_of};
+use drv_search::Prefixes;
+use drv_specs::SpecsFault;
+use drv_system::{Outside, System};
+use drv_words::Listing;
+use std::alloc::{AllocError, Global};
+
+/// A fault with this number, if it is of a line.
+fn numbered(number: usize, fault: SpecsFault) -> SpecsFault
+    ensures { result ≡ numbered number fault }
+{
+    match fault {
+        SpecsFault::BadLine(_) => SpecsFault::BadLine(number),
+        other => other,
+    }
+}
+
+/// Where a byte of a piece is.
+fn spot_in(file: &OpenFile, piece: &Piece, at: usize) -> Spot
+    ensures { Some result ≡ spot_in file.now piece.now at }
+{
+    let places = following(file.places.as_slice(), piece.start);
+    Spot {
+        source: file.number,
+        at: places.get(at).copied().unwrap_or(file.size),
+    }
+}
+
+/// Adds a fault of a piece.
+fn note_fault(
+    checking: &mut Checking,
+    file: &OpenFile,
+    piece: &Piece,
+    fault: SpecsFault,
+) -> Result<(), AllocError>
+    ensures { OnOk result (checking.new ≡ faulty checking.old file.now piece.now fault) }
+{
+    let places = following(file.places.as_slice(), piece.start);
+    let at = point(
+        &checking.set,
+        piece.text.as_bytes(),
+        places,
+        file.size,
+        &fault,
+    );
+    let spot = Spot {
+        source: file.number,
+        at,
+    };
+    add_note(
+        checking,
+        Some(spot),
+        Note::Fault(numbered(piece.number, fault)),
+    )
+}
+
+/// Adds the warnings of a piece.
+pub(crate) fn push_warnings(
+    findings: &mut Listing<Finding>,
+    file: &OpenFile,
+    piece: &Piece,
+    marks: &[Mark],
+) -> Result<(), AllocError>
+    ensures { OnOk result
+        (findings.new ≡ findings.old ++ map (finding_of file.now piece.now) marks.now) }
+{
+    for mark in marks {
+        findings.push(Finding {
+            spot: Some(spot_in(file, piece, mark.at)),
+            note: Note::Warned(mark.warning),
+        })?;
+    }
+    Ok(())
+}
+
+/// Adds what is surely not meant in a piece.
+fn warn(
+    alloc: Global,
+    checking: &mut Checking,
+    file: &OpenFile,
+    piece: &Piece,
+) -> Result<(), AllocError>
+    ensures { OnOk result (checking.new ≡ warned checking.old file.now piece.now) }
+{
+    let marks = marks_of(alloc, &checking.set, piece.text.as_bytes())?;
+    push_warnings(&mut checking.findings, file, piece, marks.as_slice())
+}
+
+/// Loads a piece as a text by itself, or adds its fault.
+#[tactic(auto, using(crate::proofs::PieceSteps::changes, crate::proofs::PieceSteps::faults))]
+fn change<S: System>(
+    checking: &mut Checking,
+    file: &OpenFile,
+    piece: &Piece,
+    prefixes: &Prefixes,
+    outside: &mut Outside<'_, S>,
+) -> Result<(), AllocError>
+    ensures asks { Asked S.events outside.old outside.new }
+    ensures changes { (F : Facts) → Extends outside.new.facts.now F
+        → IfOk result (λ _. changed checking.old file.now piece.now
+        (loaded F prefixes.now checking.old.set piece.now.text) ≡ Is checking.new) }
+{
+    let text = piece.text.as_bytes();
+    match checking
+        .set
+        .load(text, prefixes, outside.sys, outside.facts)
+    {
+        Ok(()) => Ok(()),
+        Err(SpecsFault::Memory) => Err(AllocError),
+        Err(fault) => note_fault(checking, file, piece, fault),
+    }
+}
+
+/// Checks a piece: it changes the set, or opens a file. `levels` more files may be nested.
+#[tactic(auto, using(crate::proofs::PieceSteps::steps_in, crate::proofs::PieceSteps::steps_on))]
+pub(crate) fn step<S: System>(
+    alloc: Global,
+    checking: &mut Checking,
+    levels: usize,
+    file: &OpenFile,
+    piece: &Piece,
+    prefixes: &Prefixes,
+    outside: &mut Outside<'_, S>,
+) -> Result<Option<OpenFile>, AllocError>
+    ensures asks { Asked S.events outside.old outside.new }
+    ensures steps { (F : Facts) → Extends outside.new.facts.now F
+        → IfOk result (λ next. step F prefixes.now levels checking.old file.now piece.now
+        ≡ Is (checking.new, next)) }
+    ensures within { IfOk result (λ next. IfSome next (λ _. 0 < levels)) }
+{
+    match inclusion_in(alloc, piece.text.as_bytes())? {
+        Some(inclusion) => {
+            let spot = spot_in(file, piece, blanks_before(piece.text.as_bytes()));
+            open(
+                alloc,
+                checking,
+                levels,
+                Some(spot),
+                &inclusion,
+                prefixes,
+                outside,
+            )
+        }
+        None => {
+            warn(alloc, checking, file, piece)?;
+            change(checking, file, piece, prefixes, outside)?;
+            Ok(None)
+        }
+    }
+}

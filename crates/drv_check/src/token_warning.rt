@@ -1,0 +1,183 @@
+//! What is surely not meant in the tokens of a text.
+
+ghost use Rattle.drv_check.specs.TokenWarnings.{byte_before, ends_before, is_never, is_quote, name_warning, own_marks};
+ghost use Rattle.drv_check.specs.TokenWarnings.{mark_at, quote_warning, switch_warning, takes_argument, test_warning};
+ghost use Rattle.drv_check.specs.TokenWarnings.{token_warning, tokens_marks, warning_of};
+ghost use Rattle.drv_specs.specs.Blanks.{is_white};
+ghost use Rattle.drv_specs.specs.Directives.{is_colon};
+ghost use Rattle.drv_syntax.specs.Labels.{label_at};
+ghost use Rattle.drv_syntax.specs.Parsed.{tree_of};
+ghost use Rattle.drv_syntax.specs.Tokens.{tokens_of};
+ghost use Rattle.std.specs.Option.{option_map};
+ghost use Rattle.std.specs.Prelude.{◌≡◌, ◌<◌, ◌^◌, ◌++◌, OnOk, length};
+
+use crate::bytes::is_white;
+use crate::findings::Warning;
+use crate::own_text::{own_start, own_tree};
+use crate::warning::Mark;
+use drv_specs::SpecSet;
+use drv_syntax::{SpecTree, TestKind, Token, TokenKind};
+use std::alloc::{AllocError, Global};
+
+/// The byte before a place of a text.
+fn byte_before(text: &[u8], at: usize) -> Option<u8>
+    ensures { result ≡ byte_before text.now at }
+{
+    if at > 0 {
+        text.get(at - 1).copied()
+    } else {
+        None
+    }
+}
+
+/// Whether a byte is a colon.
+fn is_colon(byte: u8) -> bool
+    ensures { result ≡ is_colon byte }
+{
+    byte == b':'
+}
+
+/// Whether a word begins after this byte.
+fn ends_before(before: Option<u8>) -> bool
+    ensures { result ≡ ends_before before }
+{
+    match before {
+        Some(byte) => is_white(byte) || is_colon(byte),
+        None => true,
+    }
+}
+
+/// Whether a word begins with a quote.
+fn is_quote(word: &[u8]) -> bool
+    ensures { result ≡ is_quote word.now }
+{
+    matches!(word, [b'"' | b'\'', ..])
+}
+
+/// The warning of a plain byte, by the one before it.
+fn quote_warning(before: Option<u8>, word: &[u8]) -> Option<Warning>
+    ensures { result ≡ quote_warning before word.now }
+{
+    if is_quote(word) && ends_before(before) {
+        Some(Warning::QuotedWord)
+    } else {
+        None
+    }
+}
+
+/// Whether what follows this byte in an option is its argument.
+fn takes_argument(byte: u8) -> bool
+    ensures { result ≡ takes_argument byte }
+{
+    byte == b'D' || byte == b'U' || byte == b'I'
+}
+
+/// Whether no switch has such a name.
+fn is_never(word: &[u8]) -> bool
+    ensures { result ≡ is_never word.now }
+{
+    match word {
+        [first, _, ..] => takes_argument(*first),
+        _ => false,
+    }
+}
+
+/// The warning of a pattern for switches.
+fn switch_warning(word: &[u8]) -> Option<Warning>
+    ensures { result ≡ switch_warning word.now }
+{
+    if is_never(word) {
+        Some(Warning::NeverTrue)
+    } else {
+        None
+    }
+}
+
+/// The warning of a test.
+fn test_warning(asks: TestKind, word: &[u8]) -> Option<Warning>
+    ensures { result ≡ test_warning asks word.now }
+{
+    match asks {
+        TestKind::Switch => switch_warning(word),
+        TestKind::Suffix | TestKind::Language | TestKind::Result => None,
+    }
+}
+
+/// The warning of the name of a text.
+fn name_warning(set: &SpecSet, name: &[u8]) -> Option<Warning>
+    ensures { result ≡ name_warning set.now name.now }
+{
+    match set.text(name) {
+        Some(_) => None,
+        None => Some(Warning::UnknownText),
+    }
+}
+
+/// The warning of the token at this place of a tree.
+fn token_warning(set: &SpecSet, tree: &SpecTree, place: usize, token: Token) -> Option<Warning>
+    requires { place < length (tokens_of (tree_of tree.now)) }
+    ensures { result
+        ≡ token_warning set.now tree.now token (label_at (tree_of tree.now) place) }
+{
+    match token.kind {
+        TokenKind::Plain => {
+            let before = byte_before(tree.text(), token.start as usize);
+            quote_warning(before, tree.word(place))
+        }
+        TokenKind::Test => test_warning(tree.asks(place), tree.word(place)),
+        TokenKind::Pattern => switch_warning(tree.word(place)),
+        TokenKind::NamedText => name_warning(set, tree.word(place)),
+        _ => None,
+    }
+}
+
+/// Adds a warning, if there is one.
+fn push_mark(marks: &mut Vec<Mark>, at: usize, warning: Option<Warning>) -> Result<(), AllocError>
+    ensures { OnOk result (marks.new.items ≡ marks.old.items ++ mark_at at warning) }
+{
+    match warning {
+        Some(warning) => marks.push(Mark { at, warning })?,
+        None => (),
+    }
+    Ok(())
+}
+
+/// Adds the warnings of a tree, whose text begins at this byte of the piece.
+#[tactic(auto, using(crate::proofs::TokenMarks::marks_next))]
+fn push_tree(
+    marks: &mut Vec<Mark>,
+    set: &SpecSet,
+    tree: &SpecTree,
+    start: usize,
+) -> Result<(), AllocError>
+    requires { start < 2 ^ 63 }
+    ensures { OnOk result
+        (marks.new.items ≡ marks.old.items
+        ++ tokens_marks set.now tree.now (tree_of tree.now) start 0 (tokens_of (tree_of tree.now))) }
+{
+    let tokens = tree.tokens();
+    let mut place = 0;
+    while place < tokens.len() {
+        let token = tokens[place];
+        let warning = token_warning(set, tree, place, token);
+        push_mark(marks, start + token.start as usize, warning)?;
+        place += 1;
+    }
+    Ok(())
+}
+
+/// Adds the warnings of the text that a piece gives.
+#[tactic(auto, using(crate::proofs::TokenMarks::marks_of_tree, crate::proofs::TokenMarks::marks_of_none))]
+pub(crate) fn push_own(
+    alloc: Global,
+    marks: &mut Vec<Mark>,
+    set: &SpecSet,
+    text: &[u8],
+) -> Result<(), AllocError>
+    ensures { OnOk result (marks.new.items ≡ marks.old.items ++ own_marks set.now text.now) }
+{
+    match own_tree(alloc, text)? {
+        Some(tree) => push_tree(marks, set, &tree, own_start(text)),
+        None => Ok(()),
+    }
+}

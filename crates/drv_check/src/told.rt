@@ -1,0 +1,175 @@
+//! What a check prints of findings, as text.
+
+ghost use Rattle.drv_check.specs.Shown.{pad_byte, padding, shown};
+ghost use Rattle.drv_check.specs.Told.{excerpt, from_text, head_text, kind_text, place_text, report_text};
+ghost use Rattle.drv_check.specs.Told.{told_text};
+ghost use Rattle.std.specs.List.{flat_map};
+ghost use Rattle.std.specs.Prelude.{◌≡◌, ◌++◌, IfOk, OnOk, decimal};
+
+use drv_words::{Listing, Word};
+use itoa::Buffer;
+use std::alloc::{AllocError, Global};
+
+/// A byte of a file, by its line and its column, both from 1.
+#[derive(Debug, Drop)]
+pub struct Place {
+    /// The file's path.
+    pub file: Word,
+    /// The line.
+    pub line: usize,
+    /// The column.
+    pub column: usize,
+}
+
+/// What a check prints of one finding.
+#[derive(Debug, Drop)]
+pub struct Told {
+    /// Where it is, if it is in a file.
+    pub place: Option<Place>,
+    /// Whether it is an error, and no warning.
+    pub is_error: bool,
+    /// What it is.
+    pub message: Word,
+    /// Its line up to the place.
+    pub before: Word,
+    /// The rest of that line.
+    pub after: Word,
+    /// Where its file is included, and where that one is, and so on.
+    pub from: Listing<Place>,
+}
+
+/// Adds a number in decimal digits.
+fn push_number(text: &mut Word, number: usize) -> Result<(), AllocError>
+    ensures { OnOk result (text.new ≡ text.old ++ decimal number) }
+{
+    text.extend_from_slice(Buffer::new().format(number).as_bytes())
+}
+
+/// Adds a place: the file, its line and its column.
+fn push_place(text: &mut Word, place: &Place) -> Result<(), AllocError>
+    ensures { OnOk result (text.new ≡ text.old ++ place_text place.now) }
+{
+    text.extend_from_slice(place.file.as_bytes())?;
+    text.extend_from_slice(b":")?;
+    push_number(text, place.line)?;
+    text.extend_from_slice(b":")?;
+    push_number(text, place.column)
+}
+
+/// What one finding is.
+pub(crate) fn kind_text(is_error: bool) -> &'static str
+    ensures { result.now ≡ kind_text is_error }
+{
+    if is_error { "error" } else { "warning" }
+}
+
+/// Adds what begins the line of a finding.
+fn push_head(text: &mut Word, place: &Option<Place>) -> Result<(), AllocError>
+    ensures { OnOk result (text.new ≡ text.old ++ head_text place.now) }
+{
+    match place {
+        Some(place) => push_place(text, place),
+        None => text.extend_from_slice(b"gdrv-specs"),
+    }
+}
+
+/// Adds bytes of a line, without carriage returns.
+fn push_shown(text: &mut Word, line: &[u8]) -> Result<(), AllocError>
+    ensures { OnOk result (text.new ≡ text.old ++ shown line.now) }
+{
+    for &byte in line {
+        if byte != b'\r' {
+            text.push(byte)?;
+        }
+    }
+    Ok(())
+}
+
+/// The byte that a byte before the caret has below it.
+fn pad_byte(byte: u8) -> u8
+    ensures { result ≡ pad_byte byte }
+{
+    if byte == b'\t' { b'\t' } else { b' ' }
+}
+
+/// Adds the bytes that those of a line before the caret have below them.
+fn push_padding(text: &mut Word, line: &[u8]) -> Result<(), AllocError>
+    ensures { OnOk result (text.new ≡ text.old ++ padding line.now) }
+{
+    for &byte in line {
+        if byte != b'\r' {
+            text.push(pad_byte(byte))?;
+        }
+    }
+    Ok(())
+}
+
+/// Adds the line of a place, and a caret below its byte.
+fn push_excerpt(
+    text: &mut Word,
+    place: &Option<Place>,
+    before: &[u8],
+    after: &[u8],
+) -> Result<(), AllocError>
+    ensures { OnOk result (text.new ≡ text.old ++ excerpt place.now before.now after.now) }
+{
+    if place.is_none() {
+        return Ok(());
+    }
+    text.extend_from_slice(b" ")?;
+    push_shown(text, before)?;
+    push_shown(text, after)?;
+    text.extend_from_slice(b"\n ")?;
+    push_padding(text, before)?;
+    text.extend_from_slice(b"^\n")
+}
+
+/// Adds where a file is included.
+fn push_from(text: &mut Word, place: &Place) -> Result<(), AllocError>
+    ensures { OnOk result (text.new ≡ text.old ++ from_text place.now) }
+{
+    text.extend_from_slice(b"  included from ")?;
+    push_place(text, place)?;
+    text.extend_from_slice(b"\n")
+}
+
+/// Adds where files are included.
+fn push_all_from(text: &mut Word, places: &[Place]) -> Result<(), AllocError>
+    ensures { OnOk result (text.new ≡ text.old ++ flat_map from_text places.now) }
+{
+    for place in places {
+        push_from(text, place)?;
+    }
+    Ok(())
+}
+
+/// Adds the text of one finding.
+fn push_told(text: &mut Word, told: &Told) -> Result<(), AllocError>
+    ensures { OnOk result (text.new ≡ text.old ++ told_text told.now) }
+{
+    push_head(text, &told.place)?;
+    text.extend_from_slice(b": ")?;
+    text.extend_from_slice(kind_text(told.is_error).as_bytes())?;
+    text.extend_from_slice(b": ")?;
+    text.extend_from_slice(told.message.as_bytes())?;
+    text.extend_from_slice(b"\n")?;
+    push_excerpt(
+        text,
+        &told.place,
+        told.before.as_bytes(),
+        told.after.as_bytes(),
+    )?;
+    push_all_from(text, told.from.as_slice())
+}
+
+/// The text of findings: for each its place and what it is, then its line with a caret below its
+/// byte, and where its file is included.
+pub fn report_text(alloc: Global, all: &[Told]) -> Result<Word, AllocError>
+    ensures { IfOk result (λ text. text ≡ report_text all.now) }
+{
+    let mut text = Word::empty(alloc);
+    for told in all {
+        push_told(&mut text, told)?;
+    }
+    Ok(text)
+}

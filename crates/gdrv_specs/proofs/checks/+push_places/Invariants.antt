@@ -1,0 +1,4 @@
+use Rattle.gdrv_specs.proofs.checks.+push_places.Given as goal
+
+abbrev pub decreases-push_places : goal.decreases-push_places
+decreases-push_places l = l.more

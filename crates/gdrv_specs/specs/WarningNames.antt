@@ -1,0 +1,34 @@
+use Rattle.drv_check.specs.declared.findings.Warning.TheVariants.{AppendToNothing, DirectiveInBody, HiddenPair, NeverTrue, QuotedWord, UnknownText}
+use Rattle.drv_check.specs.declared.findings.Warning.{Warning}
+use Rattle.std.specs.Cmp.Lexicographic.{pointwise}
+use Rattle.std.specs.Prelude.{◌||◌, ◌++◌, Bool, List, codes, nat_eq, ℕ}
+
+-- The names of the warnings of a check, and what they say (this project's profile).
+
+abbrev pub warning_name : Warning → List ℕ
+warning_name AppendToNothing = codes "append-to-nothing"
+warning_name DirectiveInBody = codes "directive-in-body"
+warning_name QuotedWord = codes "quoted-word"
+warning_name NeverTrue = codes "never-true"
+warning_name UnknownText = codes "unknown-text"
+warning_name HiddenPair = codes "hidden-pair"
+
+abbrev pub warning_words : Warning → List ℕ
+warning_words AppendToNothing = codes "there is no text to append to"
+warning_words DirectiveInBody = codes "this line belongs to the text above it, as no line before it is empty"
+warning_words QuotedWord = codes "this quote is a byte of the word, as texts have no quotes"
+warning_words NeverTrue = codes "no switch has this name, as -DX is the switch D with the argument X"
+warning_words UnknownText = codes "there is no text of this name"
+warning_words HiddenPair = codes "a later pair of this file has the same key, and it is the one that counts"
+
+-- what a warning says, with its name
+abbrev pub warning_text : Warning → List ℕ
+warning_text warning = warning_words warning ++ codes " [-W" ++ warning_name warning ++ codes "]"
+
+abbrev pub is_name_of : List ℕ → Warning → Bool
+is_name_of name warning = pointwise nat_eq name (warning_name warning)
+
+abbrev pub is_warning : List ℕ → Bool
+is_warning name =
+    is_name_of name AppendToNothing || is_name_of name DirectiveInBody || is_name_of name QuotedWord || is_name_of name NeverTrue
+    || is_name_of name UnknownText || is_name_of name HiddenPair

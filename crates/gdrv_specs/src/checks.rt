@@ -1,0 +1,337 @@
+//! Prints what is found in spec files.
+
+ghost use Rattle.drv_check.specs.Checked.{checked};
+ghost use Rattle.drv_check.specs.declared.findings.Checking.{Checking};
+ghost use Rattle.drv_run.specs.declared.ending.Refusal.TheVariants.{Specs};
+ghost use Rattle.drv_system.specs.Known.{Is};
+ghost use Rattle.gdrv_specs.specs.Checks.{PutsReport, TellsCheck, TellsFound, all_told, filled, has_any, included_at, is_error, is_named, is_on};
+ghost use Rattle.gdrv_specs.specs.Checks.{note_text, place_in, places_from, report, status_with, told_at};
+ghost use Rattle.gdrv_specs.specs.Checks.{told_error, told_in, told_nowhere, told_of, verdict};
+ghost use Rattle.gdrv_specs.specs.Told.{PutsText};
+ghost use Rattle.std.specs.List.{list_any};
+ghost use Rattle.std.specs.Option.{option_map};
+ghost use Rattle.std.specs.Prelude.{◌≡◌, ◌++◌, IfOk, OnErr, OnOk, Some, slice_get};
+
+use crate::outcome::Outcome;
+use crate::requesting::Request;
+use crate::warning_names::{is_name_of, warning_text};
+use drv_check::{
+    Checking, Finding, Note, Place, Source, Spot, Told, Warning, check_files, report_json,
+    report_text,
+};
+use drv_place::{line_after, line_before, line_number};
+use drv_run::{Ending, Refusal, refusal_text, status_of};
+use drv_specs::SpecsFault;
+use drv_syntax::SyntaxFault;
+use drv_system::{FactTable, System};
+use drv_words::{Listing, Word};
+use std::alloc::{AllocError, Global};
+
+/// The most files that include one another.
+const MOST_LEVELS: usize = 16;
+
+/// A copy of why a text has no tree.
+fn syntax_copy(fault: &SyntaxFault) -> SyntaxFault
+    ensures { result ≡ fault.now }
+{
+    match fault {
+        SyntaxFault::Memory => SyntaxFault::Memory,
+        SyntaxFault::BadDirective(at) => SyntaxFault::BadDirective(*at),
+        SyntaxFault::Unclosed(at) => SyntaxFault::Unclosed(*at),
+        SyntaxFault::StarOutside(at) => SyntaxFault::StarOutside(*at),
+        SyntaxFault::MixedStar(at) => SyntaxFault::MixedStar(*at),
+        SyntaxFault::TooNested(at) => SyntaxFault::TooNested(*at),
+        SyntaxFault::UnknownFunction(at) => SyntaxFault::UnknownFunction(*at),
+        SyntaxFault::EmptyTest(at) => SyntaxFault::EmptyTest(*at),
+        SyntaxFault::TextTooLong => SyntaxFault::TextTooLong,
+    }
+}
+
+/// A copy of why a spec file is refused.
+fn fault_copy(fault: &SpecsFault) -> Result<SpecsFault, AllocError>
+    ensures { IfOk result (λ copy. copy ≡ fault.now) }
+{
+    match fault {
+        SpecsFault::Memory => Ok(SpecsFault::Memory),
+        SpecsFault::NoSuchFile(path) => Ok(SpecsFault::NoSuchFile(path.clone()?)),
+        SpecsFault::Unreadable(path) => Ok(SpecsFault::Unreadable(path.clone()?)),
+        SpecsFault::RenameMissing(name) => Ok(SpecsFault::RenameMissing(name.clone()?)),
+        SpecsFault::RenameTaken(name) => Ok(SpecsFault::RenameTaken(name.clone()?)),
+        SpecsFault::BadLine(number) => Ok(SpecsFault::BadLine(*number)),
+        SpecsFault::IncludeTooDeep => Ok(SpecsFault::IncludeTooDeep),
+        SpecsFault::AliasOfAlias(key) => Ok(SpecsFault::AliasOfAlias(key.clone()?)),
+        SpecsFault::TrailingBackslash(name) => Ok(SpecsFault::TrailingBackslash(name.clone()?)),
+        SpecsFault::BadName(name) => Ok(SpecsFault::BadName(name.clone()?)),
+        SpecsFault::TooManyIncludes => Ok(SpecsFault::TooManyIncludes),
+        SpecsFault::Syntax { name, fault } => Ok(SpecsFault::Syntax {
+            name: name.clone()?,
+            fault: syntax_copy(fault),
+        }),
+    }
+}
+
+/// What is said of a spot.
+fn note_text(alloc: Global, note: &Note) -> Result<Word, AllocError>
+    ensures { IfOk result (λ text. text ≡ note_text note.now) }
+{
+    match note {
+        Note::Fault(fault) => {
+            let refusal = Refusal::Specs(fault_copy(fault)?);
+            refusal_text(alloc, &refusal)
+        }
+        Note::Warned(warning) => warning_text(alloc, *warning),
+    }
+}
+
+/// Whether it is an error.
+fn is_error(note: &Note) -> bool
+    ensures { result ≡ is_error note.now }
+{
+    matches!(note, Note::Fault(_))
+}
+
+/// A byte of a source, by its line and its column.
+fn place_in(source: &Source, at: usize) -> Result<Place, AllocError>
+    ensures { IfOk result (λ place. place ≡ place_in source.now at) }
+{
+    let text = source.text.as_bytes();
+    Ok(Place {
+        file: source.name.clone()?,
+        line: line_number(text, at),
+        column: line_before(text, at).len() + 1,
+    })
+}
+
+/// The source at a place.
+fn source_at(sources: &[Source], place: usize) -> Option<&Source>
+    ensures { option_map (λ source. source.now) result ≡ slice_get sources.now place }
+{
+    sources.get(place)
+}
+
+/// Where a source is included, where that source is included, and so on, up to a number of places.
+#[tactic(auto, using(crate::proofs::FilesChecked::places_more, crate::proofs::FilesChecked::places_end, crate::proofs::FilesChecked::places_none, crate::proofs::FilesChecked::places_lost))]
+fn push_places(
+    places: &mut Listing<Place>,
+    sources: &[Source],
+    more: usize,
+    from: Option<Spot>,
+) -> Result<(), AllocError>
+    ensures { OnOk result (places.new ≡ places.old ++ places_from sources.now more from) }
+{
+    let Some(spot) = from else {
+        return Ok(());
+    };
+    if more == 0 {
+        return Ok(());
+    }
+    let Some(source) = source_at(sources, spot.source) else {
+        return Ok(());
+    };
+    places.push(place_in(source, spot.at)?)?;
+    push_places(places, sources, more - 1, source.from)
+}
+
+/// What a check prints of what is in no file.
+fn told_nowhere(alloc: Global, note: &Note) -> Result<Told, AllocError>
+    ensures { IfOk result (λ told. told ≡ told_nowhere note.now) }
+{
+    Ok(Told {
+        place: None,
+        is_error: is_error(note),
+        message: note_text(alloc, note)?,
+        before: Word::empty(alloc),
+        after: Word::empty(alloc),
+        from: Listing::new(alloc),
+    })
+}
+
+/// Adds the place of what a check prints, its line, and where its file is included.
+fn fill(told: &mut Told, sources: &[Source], source: &Source, at: usize) -> Result<(), AllocError>
+    ensures { OnOk result (told.new ≡ filled sources.now source.now at told.old) }
+{
+    let text = source.text.as_bytes();
+    told.before.extend_from_slice(line_before(text, at))?;
+    told.after.extend_from_slice(line_after(text, at))?;
+    push_places(&mut told.from, sources, MOST_LEVELS, source.from)?;
+    told.place = Some(place_in(source, at)?);
+    Ok(())
+}
+
+/// What a check prints of a byte of a source.
+fn told_in(
+    alloc: Global,
+    sources: &[Source],
+    source: &Source,
+    at: usize,
+    note: &Note,
+) -> Result<Told, AllocError>
+    ensures { IfOk result (λ told. told ≡ told_in sources.now (Some source.now) at note.now) }
+{
+    let mut told = told_nowhere(alloc, note)?;
+    fill(&mut told, sources, source, at)?;
+    Ok(told)
+}
+
+/// What a check prints of one finding.
+fn told_of(alloc: Global, sources: &[Source], finding: &Finding) -> Result<Told, AllocError>
+    ensures { IfOk result (λ told. told ≡ told_of sources.now finding.now) }
+{
+    let Some(spot) = finding.spot else {
+        return told_nowhere(alloc, &finding.note);
+    };
+    match sources.get(spot.source) {
+        Some(source) => told_in(alloc, sources, source, spot.at, &finding.note),
+        None => told_nowhere(alloc, &finding.note),
+    }
+}
+
+/// Whether one of these names is that of a warning.
+fn is_named(warning: Warning, names: &[Word]) -> bool
+    ensures { result ≡ list_any (is_named warning) names.now }
+{
+    for name in names {
+        if is_name_of(name.as_bytes(), warning) {
+            return true;
+        }
+    }
+    false
+}
+
+/// Whether a check prints this.
+fn is_on(request: &Request, note: &Note) -> bool
+    ensures { result ≡ is_on request.now note.now }
+{
+    match note {
+        Note::Fault(_) => true,
+        Note::Warned(warning) => !is_named(*warning, request.off.as_slice()),
+    }
+}
+
+/// What a check prints of all that it found.
+#[tactic(auto, using(crate::proofs::FilesChecked::told_more, crate::proofs::FilesChecked::told_passed))]
+fn all_told(
+    alloc: Global,
+    request: &Request,
+    sources: &[Source],
+    findings: &[Finding],
+) -> Result<Vec<Told>, AllocError>
+    ensures { IfOk result
+        (λ all. all.items ≡ all_told request.now sources.now findings.now) }
+{
+    let mut all = Vec::new(alloc);
+    for finding in findings {
+        if !is_on(request, &finding.note) {
+            continue;
+        }
+        all.push(told_of(alloc, sources, finding)?)?;
+    }
+    Ok(all)
+}
+
+/// What is written of it.
+fn report(alloc: Global, json: bool, all: &[Told]) -> Result<Word, AllocError>
+    ensures { IfOk result (λ text. text ≡ report json all.now) }
+{
+    if json {
+        report_json(alloc, all)
+    } else {
+        report_text(alloc, all)
+    }
+}
+
+/// Whether there is any.
+fn has_any(all: &[Told]) -> bool
+    ensures { result ≡ has_any all.now }
+{
+    !matches!(all, [])
+}
+
+/// Whether any is an error.
+fn has_errors(all: &[Told]) -> bool
+    ensures { result ≡ list_any told_error all.now }
+{
+    all.iter().any(|told| told.is_error)
+}
+
+/// The exit status for what a check prints.
+fn verdict(strict: bool, all: &[Told]) -> u8
+    ensures { result ≡ verdict strict all.now }
+{
+    if has_errors(all) {
+        return 2;
+    }
+    if !strict {
+        return 0;
+    }
+    if has_any(all) {
+        return 1;
+    }
+    0
+}
+
+/// The exit status of a call, by that of what it wrote.
+fn status_with(written: u8, status: u8) -> u8
+    ensures { result ≡ status_with written status }
+{
+    if written == 0 { status } else { written }
+}
+
+/// Writes a text to standard output, and answers the exit status.
+fn put_text<S: System>(sys: &mut S, text: &Word) -> Result<u8, AllocError>
+    ensures puts { IfOk result
+        (λ status. PutsText (S.events sys.old) (S.events sys.new) text.now status) }
+    ensures memory { OnErr result (S.events sys.new ≡ S.events sys.old) }
+{
+    Ok(status_of(sys.put(text)?))
+}
+
+/// Writes what was found to standard output, and answers the exit status.
+#[tactic(auto, using(crate::proofs::FilesChecked::puts_report))]
+fn put_report<S: System>(
+    alloc: Global,
+    sys: &mut S,
+    request: &Request,
+    checking: &Checking,
+) -> Result<u8, AllocError>
+    ensures puts { IfOk result
+        (λ status. PutsReport (S.events sys.old) (S.events sys.new)
+        request.now checking.now status) }
+    ensures memory { OnErr result (S.events sys.new ≡ S.events sys.old) }
+{
+    let sources = checking.sources.as_slice();
+    let all = all_told(alloc, request, sources, checking.findings.as_slice())?;
+    let text = report(alloc, request.json, all.as_slice())?;
+    let written = put_text(sys, &text)?;
+    Ok(status_with(written, verdict(request.strict, all.as_slice())))
+}
+
+/// Prints what was found.
+#[tactic(auto, using(crate::proofs::FilesChecked::reports_put, crate::proofs::FilesChecked::reports_short))]
+fn tell_found<S: System>(
+    alloc: Global,
+    sys: &mut S,
+    request: &Request,
+    checking: &Checking,
+) -> Outcome
+    ensures { TellsFound (S.events sys.old) (S.events sys.new) request.now checking.now result }
+{
+    match put_report(alloc, sys, request, checking) {
+        Ok(status) => Outcome::Ended(Ending::Done(status)),
+        Err(_) => Outcome::Ended(Ending::OutOfMemory),
+    }
+}
+
+/// Writes every fault of spec files to standard output and what is surely not meant, each with its
+/// place (GCC manual, "Spec Files"). It reads the files and those that they include, and does
+/// nothing else: it starts no program and makes, changes and removes no file.
+pub fn tell_check<S: System>(alloc: Global, sys: &mut S, request: &Request) -> Outcome
+    ensures { TellsCheck (S.events sys.old) (S.events sys.new) request.now result }
+{
+    let facts = &mut FactTable::new(alloc);
+    let files = request.files.as_slice();
+    match check_files(alloc, request.over.as_slice(), files, sys, facts) {
+        Ok(checking) => tell_found(alloc, sys, request, &checking),
+        Err(_) => Outcome::Ended(Ending::OutOfMemory),
+    }
+}

@@ -1,0 +1,72 @@
+//! The names of the warnings of a check, and what they say.
+
+ghost use Rattle.gdrv_specs.specs.WarningNames.{is_name_of, is_warning, warning_name, warning_text};
+ghost use Rattle.gdrv_specs.specs.WarningNames.{warning_words};
+ghost use Rattle.std.specs.Prelude.{◌≡◌, IfOk};
+
+use drv_check::Warning;
+use drv_words::Word;
+use std::alloc::{AllocError, Global};
+
+/// The name of a warning.
+fn warning_name(warning: Warning) -> &'static [u8]
+    ensures { result.now ≡ warning_name warning }
+{
+    match warning {
+        Warning::AppendToNothing => b"append-to-nothing",
+        Warning::DirectiveInBody => b"directive-in-body",
+        Warning::QuotedWord => b"quoted-word",
+        Warning::NeverTrue => b"never-true",
+        Warning::UnknownText => b"unknown-text",
+        Warning::HiddenPair => b"hidden-pair",
+    }
+}
+
+/// What a warning says, without its name.
+fn warning_words(warning: Warning) -> &'static [u8]
+    ensures { result.now ≡ warning_words warning }
+{
+    match warning {
+        Warning::AppendToNothing => b"there is no text to append to",
+        Warning::DirectiveInBody => {
+            b"this line belongs to the text above it, as no line before it is empty"
+        }
+        Warning::QuotedWord => b"this quote is a byte of the word, as texts have no quotes",
+        Warning::NeverTrue =>
+            b"no switch has this name, as -DX is the switch D with the argument X",
+        Warning::UnknownText => b"there is no text of this name",
+        Warning::HiddenPair => {
+            b"a later pair of this file has the same key, and it is the one that counts"
+        }
+    }
+}
+
+/// What a warning says, with its name.
+pub fn warning_text(alloc: Global, warning: Warning) -> Result<Word, AllocError>
+    ensures { IfOk result (λ text. text ≡ warning_text warning) }
+{
+    let mut text = Word::from_bytes(alloc, warning_words(warning))?;
+    text.extend_from_slice(b" [-W")?;
+    text.extend_from_slice(warning_name(warning))?;
+    text.extend_from_slice(b"]")?;
+    Ok(text)
+}
+
+/// Whether this is the name of a warning.
+pub fn is_name_of(name: &[u8], warning: Warning) -> bool
+    ensures { result ≡ is_name_of name.now warning }
+{
+    name == warning_name(warning)
+}
+
+/// Whether some warning has this name.
+pub fn is_warning(name: &[u8]) -> bool
+    ensures { result ≡ is_warning name.now }
+{
+    is_name_of(name, Warning::AppendToNothing)
+        || is_name_of(name, Warning::DirectiveInBody)
+        || is_name_of(name, Warning::QuotedWord)
+        || is_name_of(name, Warning::NeverTrue)
+        || is_name_of(name, Warning::UnknownText)
+        || is_name_of(name, Warning::HiddenPair)
+}
