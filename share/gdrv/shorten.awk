@@ -82,9 +82,9 @@ function left_of(asked,    count, list, n, test, negated, out) {
 }
 
 # Alternatives up to the first that always holds. Where that is the only one, its body is all that is left.
-function braces(    open, out, asked, left, body, decided) {
+function braces(    open, out, kept, asked, left, body, decided) {
     open = up_to("{")
-    out = ""
+    out = kept = ""
     for (;;) {
         asked = shortened(":;}")
         if (substr(whole, at, 1) == "}") {
@@ -97,14 +97,16 @@ function braces(    open, out, asked, left, body, decided) {
         if (left == "always") {
             decided = out == "" && open == "%{" ? "alone" body : "always"
             if (body != "") out = out ";:" body
+            kept = kept body
         } else if (left != "never") {
             out = out (out == "" ? "" : ";") left ":" body
+            kept = kept body
         }
         at++
         if (substr(whole, at - 1, 1) == "}") break
     }
     if (decided ~ /^alone/) return substr(decided, 6)
-    return out == "" ? "" : open out "}"
+    return out == "" || (kept == "" && open == "%{") ? "" : open out "}"
 }
 
 # A text with one blank where there are several, and none beside a newline.
