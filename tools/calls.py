@@ -1,11 +1,11 @@
 #!/usr/bin/env python3
 """Lists the public calls of the crates, each with the wrong bodies of tests/edits that turn its meaning, and then those that have none.
 
-usage: tools/calls.py [CRATE..]
+usage: tools/calls.py [--check] [CRATE..]
 
 A public call is a function that a crate shows, a method of a type that it shows, or the `main` of a program. A law gives and changes
 nothing, so that no body of it can be wrong; why another call has none is said here. The exit status is 1 where a call has neither an edit
-nor such a reason, and where an edit names no call, or one that isn't there.
+nor such a reason, and where an edit names no call, or one that isn't there. With --check it prints only these.
 """
 
 import os
@@ -37,7 +37,7 @@ REASONS = {
 
 
 def split_outside(text):
-    """The parts between the commas that stand in no braces."""
+    """The parts between the commas that are in no braces."""
     parts, depth = [""], 0
     for byte in text:
         depth += (byte == "{") - (byte == "}")
@@ -48,12 +48,12 @@ def split_outside(text):
     return [it.strip() for it in parts if it.strip()]
 
 
-def used(text):
+def used_paths(text):
     """What the words after a `use` name: each path, as a list of its names, with the name that it gets."""
     front, brace, inside = text.partition("{")
     if brace:
         begins = [it for it in front.strip().split("::") if it]
-        return [(begins + path, name) for part in split_outside(inside.rpartition("}")[0]) for path, name in used(part)]
+        return [(begins + path, name) for part in split_outside(inside.rpartition("}")[0]) for path, name in used_paths(part)]
     path, _, name = (it.strip() for it in text.partition(" as "))
     names = path.split("::")
     return [(names, name or names[-1])]
@@ -70,7 +70,7 @@ class Texts:
                 self.files[self.module_of(file)] = file
         self.texts = {it: text_of(f"{folder}/{file}") for it, file in self.files.items()}
         self.items = {it: {name: bool(is_pub) for is_pub, name in ITEM.findall(text)} for it, text in self.texts.items()}
-        self.uses = {it: [(bool(is_pub), *names) for is_pub, words in USE.findall(text) for names in used(words)] for it, text in self.texts.items()}
+        self.uses = {it: [(bool(is_pub), *names) for is_pub, words in USE.findall(text) for names in used_paths(words)] for it, text in self.texts.items()}
         self.functions = {it: functions_of(file, self.texts[it]) for it, file in self.files.items()}
 
     @staticmethod
@@ -78,21 +78,21 @@ class Texts:
         path = re.sub(r"(/mod)?\.rt$", "", file.removeprefix("src/"))
         return () if path in ("lib", "main") else tuple(path.split("/"))
 
-    def found(self, module, path):
+    def definition_of(self, module, path):
         """The module that defines what a path names in a module, and its name there; none for what another crate defines."""
         first, *rest = path
         if first in ("crate", "self", "super"):
-            return self.found({"crate": (), "self": module, "super": module[:-1]}[first], rest) if rest else None
+            return self.definition_of({"crate": (), "self": module, "super": module[:-1]}[first], rest) if rest else None
         if rest and (*module, first) in self.texts:
-            return self.found((*module, first), rest)
+            return self.definition_of((*module, first), rest)
         if not rest and first in self.items[module]:
             return module, first
         for _, other, name in self.uses[module]:
             if name == first and other != path:
-                return self.found(module, other + rest)
+                return self.definition_of(module, other + rest)
         return None
 
-    def shown(self, module=()):
+    def shown_items(self, module=()):
         """The items that a module shows, each by the name that it gets, with the module that defines it and its name there."""
         made = {name: (module, name) for name, is_pub in self.items[module].items() if is_pub}
         for is_pub, path, name in self.uses[module]:
@@ -100,11 +100,11 @@ class Texts:
                 continue
             if name == "*":
                 inner = (*module, *(it for it in path[:-1] if it not in ("crate", "self")))
-                made |= self.shown(inner) if inner in self.texts else {}
+                made |= self.shown_items(inner) if inner in self.texts else {}
             else:
-                made[name] = self.found(module, path)
+                made[name] = self.definition_of(module, path)
         for inner in PUBLIC_MODULE.findall(self.texts[module]):
-            made |= {f"{inner}::{name}": it for name, it in self.shown((*module, inner)).items()}
+            made |= {f"{inner}::{name}": it for name, it in self.shown_items((*module, inner)).items()}
         return {name: it for name, it in made.items() if it}
 
 
@@ -124,7 +124,7 @@ def is_law(lines):
 def public_calls(folder, crate):
     """The public calls of the crate in a folder, in the order of their names: each with whether it is a law."""
     texts = Texts(folder)
-    shown = {"main": ((), "main")} if os.path.isfile(f"{folder}/src/main.rt") else texts.shown()
+    shown = {"main": ((), "main")} if os.path.isfile(f"{folder}/src/main.rt") else texts.shown_items()
     names = {}
     for name, item in shown.items():
         names.setdefault(item, []).append(name)
@@ -132,7 +132,7 @@ def public_calls(folder, crate):
     for module, functions in texts.functions.items():
         lines = texts.texts[module].split("\n")
         for it in functions:
-            item, method = texts.found(module, [it.type or it.name]), f"::{it.name}" if it.type else ""
+            item, method = texts.definition_of(module, [it.type or it.name]), f"::{it.name}" if it.type else ""
             for name in names.get(item, []) if is_called(it, lines) else []:
                 found[f"{crate}::{name}{method}"] = is_law(lines[it.head - 1 : it.closes])
     return dict(sorted(found.items()))
@@ -148,23 +148,30 @@ def main():
     with open(f"{ROOT}/crates.txt", encoding="utf-8") as file:
         crates = [line.partition(":")[0] for line in file if line.partition("#")[0].strip()]
     bare, laws, reasoned, wrong, count = [], [], [], [], 0
-    for crate in [it for it in crates if it in (sys.argv[1:] or crates)]:
+    is_check = "--check" in sys.argv
+    named = [it for it in sys.argv[1:] if it != "--check"] or crates
+    for crate in [it for it in crates if it in named]:
         calls, edits = public_calls(f"{ROOT}/crates/{crate}", crate), edits_of(crate)
         count += len(calls)
         wrong += [f"{crate}/{name}: {', '.join(named) or 'no call'}" for name, named in edits.items() if not named or not calls.keys() >= set(named)]
         for call, gives_nothing in calls.items():
             turned = [name for name, named in edits.items() if call in named]
-            if turned:
+            if turned and not is_check:
                 print("\n    ".join([call, *turned]))
-            else:
+            if not turned:
                 (laws if gives_nothing else reasoned if call in REASONS else bare).append(call)
     reasons = [f"{it}: {REASONS[it]}" for it in reasoned]
-    parts = ("laws", laws), ("calls of which no body can be refused", reasons), ("calls without an edit", bare)
-    for title, names in (*parts, ("edits that name no public call", wrong)):
+    said = [("laws", laws), ("calls of which no body can be refused", reasons)]
+    faults = [("calls without an edit", bare), ("edits that name no public call", wrong)]
+    for title, names in [it for it in faults if it[1]] if is_check else said + faults:
         print("\n    ".join([f"{title}: {len(names)}", *names]))
-    print(f"{count} public calls")
+    if not is_check:
+        print(f"{count} public calls")
     return int(bool(wrong or bare))
 
 
 if __name__ == "__main__":
+    if sys.argv[1:] == ["--help"]:
+        print(__doc__.strip())
+        sys.exit()
     sys.exit(main())

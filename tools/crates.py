@@ -1,7 +1,8 @@
 """The repository's crates, the rooms in which rt works on them, and lanes in which work on several goes on side by side.
 
-rt lets one command in at a time where a library is shared. So each crate is worked on in a room of its own: a folder with that crate,
-what earlier runs kept of its proofs, and the libraries below it.
+rt lets one command in at a time where a library is shared. So each crate has a room of its own: a folder with that crate,
+what earlier runs kept of its proofs, and the libraries below it. It links the files of these: rt makes such a file new, and doesn't write
+into one. What is kept takes some 10 GB of disk; copies would take 22 GB.
 """
 
 import contextlib
@@ -32,7 +33,7 @@ INNER = "drv_"
 
 
 class Crates:
-    """The crates of a repository, lowest first, each with those that it stands on."""
+    """The crates of a repository, lowest first, each with those that it uses."""
 
     def __init__(self, root):
         self.root = os.path.realpath(root)
@@ -50,11 +51,11 @@ class Crates:
         return os.path.isfile(f"{self.folder(name)}/src/main.rt")
 
     def below(self, name):
-        """All crates that a crate stands on."""
+        """All crates that a crate uses, directly or not."""
         return set(self.uses[name]).union(*(self.below(it) for it in self.uses[name]))
 
     def with_below(self, names):
-        """These crates and all that they stand on, lowest first."""
+        """These crates and all that they use, lowest first."""
         found = set(names)
         found = found.union(*(self.below(it) for it in found))
         return [it for it in self.names if it in found]
@@ -85,7 +86,7 @@ class Crates:
 
 
 class Runs:
-    """The runs of rt that go on, each in a process group of its own, so that none goes on where this process is told to end."""
+    """The runs of rt that go on, each in a process group of its own, so that a signal to this process ends all of them."""
 
     lock, processes, is_stopped = threading.Lock(), set(), False
 
@@ -93,7 +94,7 @@ class Runs:
     def begin(cls, words, **how):
         with cls.lock:
             if cls.is_stopped:
-                raise InterruptedError("it was told to end")
+                raise InterruptedError("a signal ended it")
             process = subprocess.Popen(words, start_new_session=True, **how)
             cls.processes.add(process)
             return process
@@ -127,7 +128,7 @@ def stop(number, _):
     sys.exit(128 + number)
 
 
-def taken(source, to):
+def link_or_copy(source, to):
     """Links a file that rt replaces and doesn't write into, and copies any other. (A library's checked.a has up to 300 MB.)"""
     return os.link(source, to) if source.endswith((".rt", ".antt", ".oantt", ".json", ".a")) else shutil.copy2(source, to)
 
@@ -155,7 +156,7 @@ class Room:
 
     def take(self, name, part):
         if os.path.isdir(f"{self.crates.folder(name)}/{part}"):
-            shutil.copytree(f"{self.crates.folder(name)}/{part}", f"{self.room}/crates/{name}/{part}", copy_function=taken)
+            shutil.copytree(f"{self.crates.folder(name)}/{part}", f"{self.room}/crates/{name}/{part}", copy_function=link_or_copy)
 
     def check(self, texts):
         """Has rt check the crate with these texts in place of its own, over the work that is kept of it and nothing else."""
@@ -183,7 +184,7 @@ class Room:
 
 @dataclass
 class Proof:
-    """What came of proving and building a crate: what rt said where that failed, otherwise nothing; and processor seconds."""
+    """The result of proving and building a crate: what rt said if that failed, otherwise nothing; and processor seconds."""
 
     said: str
     seconds: float
@@ -216,8 +217,8 @@ def kit():
 
 
 class Stamps:
-    """What a crate's proof rests on and what came of it, as sums in crates/NAME/out/proved: the texts of the crate and of those below, its
-    line of crates.txt, HANDLES and the kit; and place, size and time of each file that was built. A crate whose sums are those of
+    """What a crate's proof rests on and its result, as sums in crates/NAME/out/proved: the texts of the crate and of those below, its
+    line of crates.txt, HANDLES and the kit. With them are place, size and time of each file that was built. A crate whose sums are those of
     its stamp is proved and built."""
 
     def __init__(self, crates):
@@ -296,23 +297,23 @@ def lanes():
 
 
 def chains(tasks):
-    """The seconds of the longest chain of tasks from each one on. A task stands after those that it waits for."""
+    """The seconds of the longest chain of tasks from each one on. A task follows those that it waits for."""
     found = {}
     for it in reversed(tasks):
         found[it.name] = it.seconds + max((found[other.name] for other in tasks if it.name in other.after), default=0)
     return found
 
 
-def given(future):
+def result_of(future):
     """What a task gave; of one that broke off, why it did."""
     broken = future.exception()
     return Proof(f"it broke off: {repr(broken)[:400]}\n", 0) if broken else future.result()
 
 
 def in_lanes(tasks, begun, ended):
-    """Does tasks side by side, those of the longest chain first, and tells whether all were done. That of the longest chain has one job
-    more and one for each lane that stands idle, where memory allows. `begun` is told each task, and `ended` each with what it gave;
-    where that answers no, no further task begins."""
+    """Does tasks side by side, those of the longest chain first. Returns whether all were done. That of the longest chain has one job more
+    and one for each idle lane, if memory allows. It calls `begun` with each task, and `ended` with each task and its result; if that
+    answers no, no further task begins."""
     number, length, left = lanes(), chains(tasks), list(tasks)
     running, done, goes_on = {}, set(), True
     with ThreadPoolExecutor(number) as pool:
@@ -332,7 +333,7 @@ def in_lanes(tasks, begun, ended):
             for future in wait(running, return_when=FIRST_COMPLETED).done:
                 it, _ = running.pop(future)
                 done.add(it.name)
-                goes_on = ended(it, given(future)) and goes_on
+                goes_on = ended(it, result_of(future)) and goes_on
 
 
 class Clock:

@@ -1,4 +1,4 @@
-"""Wrong bodies: edits of a crate's text, the functions that they stand in, and what the check says of these.
+"""Wrong bodies: edits of a crate's text, the functions that they are in, and what the check says of these.
 
 A check proves each function by its own body and by the contracts of what it calls. So edits in different functions can be tried in one
 check: its report tells a function's own goal that is not proved from a call of a function that is not.
@@ -9,7 +9,7 @@ import re
 from dataclasses import dataclass
 
 HEAD = re.compile(r"( *)(?:pub(?:\([^)]*\))? )?(?:const )?(?:unsafe )?fn (\w+)")
-# A goal of a function's, by the place in the text, stands before the line of that function.
+# A goal of a function's, by the place in the text, precedes the line of that function.
 GOAL = re.compile(r"note: (?:\./)?(src/\S+?):(\d+):\d+: it is not proved (.*)")
 # A goal of an operator in the body itself, which says nothing of a contract: that a sum fits, or that an index is below the length.
 SAFETY = re.compile(r"\(`(overflow_|bounds-)[^`]*`\)")
@@ -17,7 +17,7 @@ SAFETY = re.compile(r"\(`(overflow_|bounds-)[^`]*`\)")
 ERROR = re.compile(r"(?:\./)?proofs/(\S+)/\w+\.antt:\d+:\d+: error: (.*)")
 OF_NAMES = re.compile(r"has no field|is not in scope|has no `|was not admitted")
 ENDED = re.compile(r"fn (\S+): (?:not proved|no proof)")
-# A goal that stands in the line of its function alone, where the search for it broke off.
+# A goal that is in the line of its function alone, if the search for it broke off.
 BROKEN = re.compile(r"fn \S+: no proof: .*(`search` did not prove .*)")
 UNREAD = re.compile(r"(?:\./)?(\S+?):\d+:\d+: error: (?:`[^`]*`: )?(.*)")
 OF_TEXT = re.compile(r"is not in scope|has no field|is no name|operand is missing|expected the end|cannot continue")
@@ -30,8 +30,8 @@ def text_of(path):
 
 @dataclass(frozen=True)
 class Function:
-    """A function of a file, with the trait and the type of the impl that it stands in, whether it is `pub`, and its lines (from 1) in the
-    layout of rt fmt: those of its body begin after the contract and end with the first closing brace below the `fn`."""
+    """A function of a file, with the trait and the type of the impl that it is in, whether it is `pub`, and its lines (from 1). In the
+    layout of rt fmt those of its body begin after the contract and end with the first closing brace below the `fn`."""
 
     file: str
     trait: str
@@ -98,14 +98,14 @@ def functions_of(file, text):
 
 
 class Edit:
-    """The public calls whose meaning it turns, and pairs of texts, each with its file: what stands there once, and what stands there in
-    its place."""
+    """The public calls whose meaning it turns, and pairs of texts, each with its file: a text that is there once, and the one
+    that replaces it."""
 
     def __init__(self, path, folder):
         self.path, self.folder, self.calls, self.pairs = path, folder, [], []
         self.read()
         self.texts, self.why = self.applied({})
-        self.places = None if self.why else self.found()
+        self.places = None if self.why else self.changed_functions()
 
     def read(self):
         """Takes the lines of its file; those of one kind that follow each other are the lines of one text."""
@@ -132,12 +132,12 @@ class Edit:
                 return texts, f"there is no file {file}"
             text = texts.get(file) or text_of(f"{self.folder}/{file}")
             if text.count(old) != 1:
-                return texts, f"what is old stands in {file} {text.count(old)} times, and not once"
+                return texts, f"the old text is in {file} {text.count(old)} times, and not once"
             texts[file] = text.replace(old, new)
         return texts, "" if self.pairs else "it has no pair of old and new"
 
-    def found(self):
-        """The functions whose bodies hold the edit, by file, owner and name; none where it stands anywhere else."""
+    def changed_functions(self):
+        """The functions whose bodies hold the edit, by file, owner and name; none if it is anywhere else."""
         places, texts = set(), {}
         for file, old, new in self.pairs:
             text = texts.get(file) or text_of(f"{self.folder}/{file}")
@@ -158,7 +158,7 @@ def is_read(said, texts):
 
 @dataclass
 class Lost:
-    """A goal of a function that is not proved: the function, the file and line where the goal stands (none of an error in what was
+    """A goal of a function that is not proved: the function, the file and line of the goal (none of an error in what was
     written of the proof), and what it is."""
 
     function: str
@@ -171,7 +171,7 @@ class Lost:
         return bool(SAFETY.search(self.why))
 
     def is_of(self, function):
-        """Whether it is that function's, by its name or by its place. (The goal of a trait's clause stands in the trait.)"""
+        """Whether it is that function's, by its name or by its place. (The goal of a trait's clause is in the trait.)"""
         named = "/".join(self.function.split("::")[1:]) == function.proof()
         return named or self.file == function.file and function.has(self.line)
 
@@ -212,7 +212,7 @@ def refused_in(said, texts, places):
     return hits[0] if hits else None
 
 
-def together(texts):
+def call_cycles(texts):
     """Which names of functions can call each other, directly or not: each with those that it reaches and that reach it."""
     calls = {}
     for text in texts:

@@ -53,4 +53,7 @@ def main(arguments):
 
 
 if __name__ == "__main__":
+    if sys.argv[1:] == ["--help"]:
+        print(__doc__.strip())
+        sys.exit()
     sys.exit(main(sys.argv[1:]))

@@ -1,11 +1,11 @@
-"""Crates with wrong bodies: each crate proved as it stands, and its edits tried over that work."""
+"""Crates with wrong bodies: each crate proved as it is, and its edits tried over that work."""
 
 import os
 from dataclasses import dataclass, replace
 
 from calls import public_calls
 from crates import Clock, Crates, Proof, Room, Task, costs, in_lanes, prove
-from edits import Edit, is_read, lost_goals, outdated_proof, refused_in, text_of, together
+from edits import Edit, call_cycles, is_read, lost_goals, outdated_proof, refused_in, text_of
 
 # The most edits that are tried in one check.
 MOST = 40
@@ -15,13 +15,13 @@ SECONDS_OF_ONE = 10
 
 @dataclass
 class Verdict:
-    """Whether an edit was refused, and how that was told."""
+    """Whether an edit was refused, and the text that says so."""
 
     is_refused: bool
     text: str
 
 
-UNTRIED = Verdict(False, "NOT TRIED, since a crate is not proved as it stands, or a check broke off")
+UNTRIED = Verdict(False, "NOT TRIED, since a crate is not proved by itself, or a check broke off")
 
 
 class Trial:
@@ -36,9 +36,9 @@ class Trial:
         self.told.update({it: Verdict(False, f"BAD EDIT: {why}") for it, why in bad.items() if why})
 
     def batches(self):
-        """The edits such that no two of a batch stand in one function, in functions that can call each other, or on one text."""
+        """The edits such that no two of a batch are in one function, in functions that can call each other, or on one text."""
         folder = f"{self.crates.folder(self.name)}/src"
-        cycles = together(text_of(f"{at}/{it}") for at, _, names in os.walk(folder) for it in names)
+        cycles = call_cycles(text_of(f"{at}/{it}") for at, _, names in os.walk(folder) for it in names)
         made = []
         for edit in [it for it in self.edits if it not in self.told]:
             names = {name for _, _, name in edit.places or ()}
@@ -106,7 +106,7 @@ class Batch:
         self.names |= {name for _, _, name in edit.places}
 
 
-def tried(root, names):
+def try_edits(root, names):
     """Tries the edits of these crates, and gives each by its path, with whether it was refused and how."""
     crates, clock = Crates(root), Clock()
     trials = [Trial(crates, it) for it in crates.names if it in names]
