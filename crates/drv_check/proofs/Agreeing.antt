@@ -36,7 +36,7 @@ use Rattle.std.proofs.Common.{◌≡◌, ◌∙◌, ◌+◌, ◌++◌, ◌∷◌
 use Rattle.std.proofs.lemmas.List.{append-nil}
 use Rattle.std.specs.Prelude.{filter, map}
 
--- A check finds no fault exactly where the driver loads the files, and its first fault is the driver's refusal.
+-- For first_fault_is_refusal: a check finds no fault exactly where the driver loads the files, and its first fault is the driver's refusal.
 
 -- what is known is one thing
 

@@ -3,7 +3,7 @@ use Rattle.drv_check.specs.declared.pieces.Piece.{Piece}
 use Rattle.std.proofs.Common.{◌≡◌, ◌∙◌, ◌++◌, ◌∷◌, List, ap, append_assoc, sym, ℕ}
 use Rattle.std.specs.List.{flat_map}
 
--- What differs between two dumps, step by step.
+-- For `texts_difference`: what differs between two dumps, step by step.
 
 pub lines_next : (mark before after line all : List ℕ) (lines rest : List (List ℕ)) → lines ≡ line ∷ rest → after ≡ before ++ marked_line mark line
     → before ++ flat_map (marked_line mark) lines ≡ all → after ++ flat_map (marked_line mark) rest ≡ all

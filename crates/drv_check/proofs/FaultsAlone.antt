@@ -11,7 +11,7 @@ use Rattle.std.proofs.Common.{◌≡◌, ◌∙◌, ◌++◌, ◌∷◌, Bool, E
 use Rattle.std.proofs.lemmas.List.{append-nil}
 use Rattle.std.specs.Prelude.{filter}
 
--- Files that are checked over others.
+-- For check_files: of files that are loaded first, the faults stay and the warnings go.
 
 more_kept : (findings : List Finding) (finding : Finding)
     → filter tells_fault (findings ++ finding ∷ []) ≡ filter tells_fault findings ++ filter tells_fault (finding ∷ [])

@@ -16,7 +16,7 @@ use Rattle.std.specs.List.{ends_with}
 use Rattle.std.specs.Ordering.{is_eq}
 use Rattle.std.specs.declared.cmp.Ordering.TheVariants.{Equal, Greater, Less}
 
--- The file that a piece includes is the one that its directive includes.
+-- For first_fault_is_refusal and pieces_are_directives: the file that a piece includes is the one that its directive includes.
 
 is_equal : (o : Ordering) → is_eq o ≡ true → o ≡ Equal
 is_equal Less e = absurd cc

@@ -9,7 +9,7 @@ use Rattle.std.proofs.Common.{◌≡◌, ◌∙◌, ◌<◌, ◌+◌, ◌++◌, 
 use Rattle.std.proofs.lemmas.List.{drop_more}
 use Rattle.std.specs.Prelude.{get_or, map}
 
--- What the whole of the files shows, piece by piece.
+-- For check_files: the warnings that show in the whole of the files, piece by piece.
 
 pub pieces_next : (set : Set) (file : OpenFile) (piece : Piece) (later left : List Piece) (before after whole : List Finding)
     → left ≡ piece ∷ later → after ≡ before ++ map (finding_of file piece) (whole_marks set later piece.text)

@@ -13,7 +13,7 @@ use Rattle.std.specs.List.{list_all}
 use Rattle.std.specs.Map.{set_key}
 use Rattle.std.specs.Prelude.{⊤}
 
--- The faults of a directive have no number of a line, unless the line is none.
+-- For first_fault_is_refusal: the faults of a directive have no number of a line, unless the line is none.
 
 abbrev pub Same : ℕ → {X : Type 0} → Result X SpecsFault → Type 0
 Same n (Ok x) = ⊤

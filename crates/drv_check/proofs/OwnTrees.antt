@@ -4,7 +4,7 @@ use Rattle.drv_syntax.specs.Tree.{none}
 use Rattle.drv_syntax.specs.declared.fault.SyntaxFault.{SyntaxFault}
 use Rattle.std.proofs.Common.{◌≡◌, Err, List, ap, sym, ℕ}
 
--- A text that the grammar refuses has no tree.
+-- For check_files: a text that the grammar refuses has no tree, so its tokens get no warnings.
 
 pub refused : (text : List ℕ) (fault : SyntaxFault) → parsed text ≡ Err fault → none ≡ tree_of text
 refused text fault is = sym (ap tree_in is)

@@ -13,7 +13,7 @@ use Rattle.std.proofs.Common.{◌≡◌, ◌∙◌, ◌<◌, ◌+◌, ◌++◌, 
 use Rattle.std.proofs.lemmas.List.{append-nil, drop_more}
 use Rattle.std.specs.Prelude.{get_or}
 
--- The warnings of tokens, one after another.
+-- For check_files: the warnings of the tokens of a text, one after another.
 
 pub marks_next : (set : Set) (text : List ℕ) (items : Items) (start n at : ℕ) (tokens : List Token) (token : Token) (warning : Option Warning)
     (before after whole : List Mark) → n < length tokens → token ≡ get_or tokens n token

@@ -3,6 +3,8 @@ use Rattle.drv_dump.specs.Passed.{passed_from, passed_word, with_option}
 use Rattle.std.proofs.Common.{◌≡◌, ◌-◌, ◌≤◌, ◌∙◌, List, [], ◌∷◌, ◌++◌, ap, append_assoc, arith, codes, drop, false, get_or, if◌then◌else◌, length, sym, take, true, ℕ}
 use Rattle.std.proofs.lemmas.List.{take_all}
 
+-- For `pass_libraries`: the loop that copies the names of libraries, byte by byte.
+
 -- a word after the option
 pub option_put : (copy mid after word : List ℕ) → mid ≡ copy ++ codes "-plugin-opt=-pass-through=" → after ≡ mid ++ word → after ≡ copy ++ with_option word
 option_put copy mid after word one put = put ∙ ap (λ l. l ++ word) one ∙ append_assoc copy (codes "-plugin-opt=-pass-through=") word

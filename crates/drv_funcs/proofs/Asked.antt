@@ -4,6 +4,7 @@ use Rattle.drv_system.specs.Facts.{Facts}
 use Rattle.drv_system.specs.declared.event.Event.{Event}
 use Rattle.std.proofs.Common.{List}
 
--- A call that asks nothing, as a lemma that a function can cite.
+-- For the functions of spec texts that ask nothing: they leave the journal and the facts as they were.
+
 pub asks_nothing_more : {journal : List Event} {F : Facts} → Asks journal journal F F
 asks_nothing_more {journal} {F} = asks_nothing journal F

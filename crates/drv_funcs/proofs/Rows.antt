@@ -14,7 +14,7 @@ use Rattle.std.specs.List.{list_all}
 use Rattle.std.specs.Ordering.{is_eq, is_gt, is_lt, is_some_and}
 use Rattle.std.specs.Prelude.{codes, is_some}
 
--- Examples, which the prover computes from the definitions.
+-- Examples of functions and versions, which the prover computes from the definitions.
 
 -- pairs of versions whose first one is earlier
 abbrev earlier : List (List ℕ × List ℕ)

@@ -1,6 +1,6 @@
 use Rattle.std.proofs.Common.{◌≡◌, ◌∙◌, ◌==◌, ◌&&◌, Bool, ap, eqb-true, false, not, refl, sym, true, ℕ}
 
--- Tests that hold together, for all lemmas of this crate.
+-- For all lemmas of this crate: tests that hold together.
 
 pub and_first : (a b : Bool) → (a && b) ≡ true → a ≡ true
 and_first true b both = refl

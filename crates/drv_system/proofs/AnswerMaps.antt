@@ -11,7 +11,7 @@ use Rattle.std.specs.declared.cmp.Ordering.{Ordering}
 use Rattle.std.specs.declared.cmp.Ordering.TheVariants.{Less, Equal, Greater}
 use Rattle.std.specs.Prelude.{◌≡◌, Bool, IsSome, List, [], ◌∷◌, None, Option, Some, false, if◌then◌else◌, is_some, true, ℕ}
 
--- Maps of answers: the effect of one more pair. Each lemma goes by how the new key compares with the first key.
+-- For `FactTable`: the effect of one more pair on a map of answers. Each lemma goes by how the new key compares with the first key.
 
 -- the key has its answer
 here_first : {Y : Type 0} (e : List ℕ × Y) (es : List (List ℕ × Y)) (key : List ℕ) (answer : Y) (w : Ordering)

@@ -4,7 +4,7 @@ use Rattle.std.proofs.Common.{eqb-true, false, get_or, length, refl, suc, sym, t
 use Rattle.std.proofs.lemmas.Bool.Decides.{nat_tests}
 use Rattle.std.proofs.lemmas.List.{drop_more, get_or-drop, length-drop, take-append-drop, take_all}
 
--- A search from the end finds the last byte of a kind.
+-- For `parted`: a search from the end of a name finds the last byte of a kind.
 
 -- the byte is at the front, and none comes after it
 parted_here : (mark b : ℕ) (name : List ℕ) → (b == mark) ≡ true → parted mark name ≡ None → parted mark (b ∷ name) ≡ Some ([], name)

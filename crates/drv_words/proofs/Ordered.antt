@@ -5,7 +5,7 @@ use Rattle.std.specs.Int.{from_be_bytes, w64}
 use Rattle.std.specs.Ordering.{MatchOrdering, nat_cmp, ordering_then}
 use Rattle.std.specs.Prelude.{get_or}
 
--- Texts are ordered as the numbers are that their bytes spell, and eight bytes that are the same are passed over.
+-- For `order`: texts are ordered as the numbers are that their bytes spell, and eight bytes that are the same are passed over.
 
 is_less : (x y : ℕ) (r : Ordering) → MatchOrdering r (x < y) (x ≡ y) (y < x) → x < y → r ≡ Less
 is_less x y Less h l = refl

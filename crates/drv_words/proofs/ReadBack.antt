@@ -12,7 +12,7 @@ use Rattle.std.proofs.lemmas.List.{append-nil}
 use Rattle.std.proofs.Math.Seq.{append_snoc}
 use Rattle.std.specs.List.{list_all}
 
--- Reading a printed text gives its lines: the reader goes over the text as a derivation of `Shows` is built.
+-- For `read_back`: reading a printed text gives its lines. The reader goes over the text as a derivation of `Shows` is built.
 
 -- a reader with these fields
 abbrev pub at : List PlanLine → Option (List ℕ) → List (List ℕ) → List ℕ → Standing → LineReader

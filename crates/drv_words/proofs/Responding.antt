@@ -2,7 +2,7 @@ use Rattle.drv_words.specs.Response.{ArePieces, Splits, at_space, escaped, is_ma
 use Rattle.drv_words.specs.Response.{one_word, plain, quoted, response, response_text, run_closed, space}
 use Rattle.std.proofs.Common.{◌≡◌, ◌||◌, ◌==◌, Bool, false, true, List, [], ◌∷◌, ◌++◌, if◌then◌else◌, refl, sym, subst, append_assoc, ℕ}
 
--- Splitting the response text of words gives the words back.
+-- For `respond_text`: splitting the response text of words gives the words back.
 
 none_of : (a b c : Bool) → (a || b || c) ≡ false → (a ≡ false) × (b ≡ false) × (c ≡ false)
 none_of false false c e = (refl, refl, e)

@@ -11,7 +11,7 @@ use Rattle.std.proofs.lemmas.List.Recursion.{is_position_or_len}
 use Rattle.std.specs.List.{position, position_or_len}
 use Rattle.std.specs.Prelude.{unwrap_or}
 
--- Taking a run of plain bytes at once equals taking its bytes one by one.
+-- For `split_onto`: taking a run of plain bytes at once equals taking its bytes one by one.
 
 -- a splitter outside quotes
 abbrev outside : List (List ℕ) → Option (List ℕ) → Splitter

@@ -4,7 +4,7 @@ use Rattle.drv_words.specs.Printed.{special, words_text}
 use Rattle.drv_words.specs.declared.plan.PlanLine.{PlanLine}
 use Rattle.std.proofs.Common.{◌≡◌, Bool, false, true, List, [], ◌∷◌, ◌++◌, if◌then◌else◌, refl, sym, subst, ap, ◌∙◌, ℕ}
 
--- The grammar of printed lines agrees with the functions that print them.
+-- For `render` and `read_back`: the grammar of printed lines agrees with the functions that print them.
 
 -- the escaped text shows the bytes
 pub escapes_of : (word : List ℕ) → Escapes (escaped word) word

@@ -18,7 +18,7 @@ use Rattle.std.specs.Cmp.Derive.{both_true}
 use Rattle.std.specs.List.{list_all}
 use Rattle.std.specs.Option.{IfSome}
 
--- The printed form of what the reader holds is the text that it has read. So a text that it accepts shows the lines.
+-- For `read_back`: the printed form of what the reader holds is the text that it has read. So a text that it accepts shows the lines.
 
 -- the text of the open line
 abbrev open_text : Option (List ℕ) → List (List ℕ) → List ℕ

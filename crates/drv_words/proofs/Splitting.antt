@@ -9,7 +9,7 @@ use Rattle.std.proofs.Math.Seq.{append_snoc}
 use Rattle.std.proofs.lemmas.Bool.{eq-eqb, eqb-true}
 use Rattle.std.proofs.lemmas.List.{append-nil}
 
--- The splitter agrees with the grammar of response text.
+-- For `split` and `split_onto`: the splitter agrees with the grammar of response text.
 
 -- a splitter with these fields
 abbrev at : List (List ℕ) → Option (List ℕ) → Option ℕ → Bool → Splitter
