@@ -9,6 +9,7 @@ use Rattle.std.specs.List.{All, AllByRecursion, filter}
 use Rattle.std.specs.Prelude.{cond, if◌then◌else◌}
 
 -- For `builtin`: the built-in specs are what their rows give.
+
 pub builtin_put : all_put no_specs builtin_named ≡ record { named = builtin_named; pairs = [] }
 unfolding builtin_named
 builtin_put = refl
