@@ -162,9 +162,9 @@ fn check_over<S: System>(
 /// All faults of spec files and what is surely not meant, in the order of their lines, those of an
 /// included file in its place (GCC manual, "Spec Files"); then what shows only in the whole of them.
 /// Each file is loaded over the built-in set and what the earlier ones made of it, and found as
-/// `-specs=` finds it; `over` are loaded first, and told are only their faults. A directive that is
-/// refused changes nothing, and the check goes on. It asks the system only where the table has no
-/// answer.
+/// `-specs=` finds it; `over` are loaded first, and of them only the faults are given. A directive
+/// that is refused changes nothing, and the check goes on. It asks the system only where the table
+/// has no answer.
 ///
 /// # Errors
 /// Lack of memory; nothing else is refused.

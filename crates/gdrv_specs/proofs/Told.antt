@@ -39,7 +39,7 @@ tells_before {journal} {F' = F'} T line seed ending empty asks comes = record {
       (extends_refl F'))));
 }
 
--- with its work told
+-- a work whose text was written
 pub tells_after : {journal journal' journal'' : List Event} {F F' : Facts} (T : Telling) (line : List (List ℕ)) (seed : ℕ) (work : Work)
     (outcome : Outcome)
     → F ≡ no_facts → Asks journal journal' F F' → ((G : Facts) → Extends F' G → Comes G line seed (Ok work))

@@ -1,4 +1,4 @@
-//! The tools for spec files: what a line of the driver would do, told before it does it.
+//! The tools for spec files: they say what a line of the driver would do, and do not do it.
 #![tactic(auto)]
 
 ghost use Rattle.gdrv_specs.specs.Outcomes.{status_of};

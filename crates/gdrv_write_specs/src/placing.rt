@@ -161,7 +161,7 @@ fn write_in(
     let mut gathered = gather(rt, room, gcc)?;
     tell(
         rt,
-        b"texts that have no form here, and refuse their lines:",
+        b"texts that cannot be translated, so lines that use them are refused:",
         gathered.lacking.as_slice(),
     )?;
     put_beside(rt, room, gcc, gathered.toolchain.folders.as_slice())?;
