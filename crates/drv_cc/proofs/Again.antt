@@ -1,11 +1,14 @@
+use Rattle.drv_cc.proofs.LongNames.{no_rename}
 use Rattle.drv_cc.specs.Code.Known.{again, by_names, is_unknown}
-use Rattle.drv_cc.specs.Items.{Start, Wants, Whole, accepts, begins, beyond, by_row, first_row, head_of, is_among, is_file, is_known, is_longer, is_number, items_of, judges, paired, renamed, renamed_by, start_of, start_option, start_renamed, value_of, with_rest, with_start}
+use Rattle.drv_cc.specs.Items.{Start, Wants, Whole, accepts, begins, beyond, by_row, first_row, head_of, is_among, is_file, is_known, is_longer, is_number, is_open, item, items_of, judges, known_item, paired, plain, renamed, renamed_by, start_of, start_option, start_renamed, takes_value, turns_off, value_of, with_rest, with_start}
 use Rattle.drv_cc.specs.Table.{OptionRow, ignored, renames, sections, table, texts}
 use Rattle.drv_cc.specs.declared.item.Item.{Item}
+use Rattle.drv_cc.specs.declared.table.Part.TheVariants.{Question, Switch, Unknown}
+use Rattle.drv_cc.specs.declared.table.Spelling.TheVariants.{Nowhere}
 use Rattle.drv_cc.specs.declared.table.Takes.TheVariants.{Attached, Either, Next, Nothing, Rest}
 use Rattle.drv_cc.specs.declared.table.Takes.{Takes}
 use Rattle.drv_words.specs.Bytes.{equals}
-use Rattle.std.proofs.Common.{Err, IfOk, Ok, Result, ◌≡◌, ◌==◌, ◌&&◌, ◌||◌, ◌∙◌, ◌<◌, ◌++◌, Bool, List, [], ◌∷◌, None, Option, Some, ap, arith, codes, cond, drop, false, find, length, map, nat_lt, refl, sym, true, ℕ}
+use Rattle.std.proofs.Common.{Err, IfOk, Ok, Result, ◌≡◌, ◌==◌, ◌&&◌, ◌||◌, ◌∙◌, ◌<◌, ◌++◌, Bool, List, [], ◌∷◌, None, Option, Some, ap, arith, codes, cond, drop, false, find, length, map, nat_eq, nat_lt, not, refl, sym, true, ℕ}
 use Rattle.std.proofs.lemmas.Bool.{eqb-true}
 use Rattle.std.proofs.lemmas.Bool.Decides.{nat_tests}
 use Rattle.std.proofs.lemmas.List.{append-nil, length-drop}
@@ -71,8 +74,8 @@ some_head b name more = by (b == equals)
     by true = omega arith
     by false = omega arith
 
-none_accepted : (b : ℕ) (name : List ℕ) → accepts [] (b ∷ name) ≡ false
-none_accepted b name =
+no_value : (b : ℕ) (name : List ℕ) → takes_value [] (b ∷ name) ≡ false
+no_value b name =
     let head : is_known [] (head_of (b ∷ name)) ≡ false =
     ap (is_known []) (sym (append-nil (head_of (b ∷ name)))) ∙ unknown_some (head_of (b ∷ name) ++ []) (some_head b name []) in
     rw (head, by (is_number (value_of (b ∷ name))) head) refl
@@ -80,6 +83,13 @@ none_accepted b name =
     by : (t : Bool) → is_known [] (head_of (b ∷ name)) ≡ false → is_known [] (cond t (head_of (b ∷ name) ++ codes "#") (head_of (b ∷ name))) ≡ false
     by true head = unknown_some (head_of (b ∷ name) ++ codes "#") (some_head b name (codes "#"))
     by false head = head
+
+none_accepted : (b : ℕ) (name : List ℕ) → accepts [] (b ∷ name) ≡ false
+none_accepted b name = by (is_open (b ∷ name))
+  where
+    by : (t : Bool) → cond t (takes_value [] (b ∷ name)) (takes_value [] (b ∷ name)) ≡ false
+    by true = no_value b name
+    by false = no_value b name
 
 none_judged : (b : ℕ) (name : List ℕ) → judges [] (b ∷ name) ≡ false
 none_judged b name =
@@ -111,15 +121,63 @@ other_begins (a ∷ b ∷ name) e = by (45 == a) (109 == b) (87 == b) refl refl 
     by true u false m w e = absurd cc
     by true true true m w e = absurd (omega (arith, eqb-true 109 b m, eqb-true 87 b w))
 
+-- what turns a warning off without names does so with any names, and is no long name
+off_alone : (b e : Bool) → (b && (not e || false)) ≡ true → (b ≡ true) × (e ≡ false)
+off_alone true false is = (refl, refl)
+off_alone true true is = absurd cc
+off_alone false e is = absurd cc
+
+off_begins : (word : List ℕ) → begins (codes "-Wno-") word ≡ true → false ≡ begins (codes "--") word
+off_begins [] e = absurd cc
+off_begins (a ∷ []) e = by (45 == a)
+  where
+    by : (t : Bool) → false ≡ (t && false)
+    by true = refl
+    by false = refl
+off_begins (a ∷ b ∷ word) e = by (45 == a) (45 == b) (87 == b) refl refl e
+  where
+    by : (t u v : Bool) → (45 == b) ≡ u → (87 == b) ≡ v → (t && (v && begins (codes "no-") word)) ≡ true → false ≡ (t && (u && true))
+    by false u v m w e = refl
+    by true false v m w e = refl
+    by true u false m w e = absurd cc
+    by true true true m w e = absurd (omega (arith, eqb-true 45 b m, eqb-true 87 b w))
+
+off_named : (word : List ℕ) → begins (codes "-Wno-") word ≡ true → renamed word ≡ word
+off_named word e = ap (renamed_by word) (sym (no_rename word false (off_begins word e) refl))
+
+off_again : (known word : List ℕ) (b : ℕ) (name : List ℕ) → renamed word ≡ b ∷ name → turns_off [] word ≡ true
+    → (turns_off known word ≡ true) × (begins (codes "-mcpu=") (b ∷ name) ≡ false)
+off_again known word b name is off =
+    let (begun, alone) = off_alone (begins (codes "-Wno-") word) (list_any (nat_eq equals) word) off in
+    (rw (begun, alone) refl, ap (begins (codes "-mcpu=")) (sym is ∙ off_named word begun) ∙ other_begins word begun)
+
+-- what a word is that no row fits, by what is known of it
+abbrev chosen : Bool → Bool → Bool → Item → Item → Item → Item
+chosen off taken judged known question unknown = cond (off || taken) known (cond judged question unknown)
+
+unknown_first : (word : List ℕ) (b : ℕ) (name : List ℕ) → is_among (texts ignored) (paired (b ∷ name)) ≡ false → turns_off [] word ≡ false
+    → beyond [] word (b ∷ name) ≡ plain Unknown word
+unknown_first word b name e off =
+    ap (λ t. cond t (item (b ∷ name) [] Nowhere Switch) (by_names [] word (b ∷ name))) e
+    ∙ ap (λ t. chosen t (accepts [] (b ∷ name)) (judges [] (b ∷ name)) (known_item [] (b ∷ name)) (plain Question word) (plain Unknown word)) off
+    ∙ ap (λ t. chosen false t (judges [] (b ∷ name)) (known_item [] (b ∷ name)) (plain Question word) (plain Unknown word)) (none_accepted b name)
+    ∙ ap (λ t. chosen false false t (known_item [] (b ∷ name)) (plain Question word) (plain Unknown word)) (none_judged b name)
+
+named_then : (known word : List ℕ) (b : ℕ) (name : List ℕ) → is_among (texts ignored) (paired (b ∷ name)) ≡ false
+    → by_names known word (b ∷ name) ≡ beyond known word (b ∷ name)
+named_then known word b name e = sym (ap (λ t. cond t (item (b ∷ name) [] Nowhere Switch) (by_names known word (b ∷ name))) e)
+
 -- a word that no row fits
 beyond_again : (known word : List ℕ) (b : ℕ) (name : List ℕ) → renamed word ≡ b ∷ name → again known (beyond [] word (b ∷ name)) ≡ beyond known word (b ∷ name)
-beyond_again known word b name is = by (is_among (texts ignored) (paired (b ∷ name))) (begins (codes "-Wno-") (b ∷ name)) refl refl
+beyond_again known word b name is = by (is_among (texts ignored) (paired (b ∷ name))) (turns_off [] word) refl refl
   where
-    by : (t u : Bool) → is_among (texts ignored) (paired (b ∷ name)) ≡ t → begins (codes "-Wno-") (b ∷ name) ≡ u
+    by : (t u : Bool) → is_among (texts ignored) (paired (b ∷ name)) ≡ t → turns_off [] word ≡ u
         → again known (beyond [] word (b ∷ name)) ≡ beyond known word (b ∷ name)
     by true u e e' = rw e refl
-    by false true e e' = rw (e, e', other_begins (b ∷ name) e') refl
-    by false false e e' = rw (e, e', none_accepted b name, none_judged b name) (ap (by_names known word) is ∙ rw e' refl)
+    by false true e e' =
+        let (off, other) = off_again known word b name is e' in
+        rw (e, e', off, other) refl
+    by false false e e' = ap (again known) (unknown_first word b name e e') ∙ ap (by_names known word) is ∙ named_then known word b name e
 
 some_left : (n : ℕ) (word : List ℕ) → n < length word → (b : ℕ) × (rest : List ℕ) × (drop n word ≡ b ∷ rest)
 some_left n word less = by (drop n word) refl

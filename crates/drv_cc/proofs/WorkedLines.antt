@@ -175,7 +175,7 @@ own_machine : line_by (codes "-mcpu=") (codes "-c a.c -mcpu=a53 -mtune=a72") ≡
 unfolding sections ignored unpaired debugged_by
 own_machine = refl
 
-no_machine : front_by (codes "-mcpu=") (codes "-c a.c -mcpu=") ≡ Refuse (NoArgument (codes "-mcpu=") ∷ [])
+no_machine : front_by (codes "-mcpu=") (codes "-c a.c -mcpu=") ≡ Ask
 unfolding sections ignored unpaired debugged_by
 no_machine = refl
 
@@ -250,6 +250,34 @@ trapping = refl
 threads : line (codes "-c a.c -fopenmp --coverage") ≡ gives (codes "-c a.c -fopenmp -coverage -pthread --gdrv-base=a.c --gdrv-ext=.c -pipe")
 unfolding sections ignored unpaired debugged_by
 threads = refl
+
+two_formats : front (codes "o.o -gdwarf-4 -gstabs") ≡ Ask
+unfolding sections ignored unpaired debugged_by
+two_formats = refl
+
+no_loops : front (codes "o.o -ftree-parallelize-loops=x") ≡ Ask
+unfolding sections ignored unpaired debugged_by
+no_loops = refl
+
+no_error_named : front_by (codes "-Werror=") (codes "o.o -Werror=") ≡ Ask
+unfolding sections ignored unpaired debugged_by
+no_error_named = refl
+
+map_to_nothing : line_by (codes "-ffile-prefix-map=") (codes "o.o -ffile-prefix-map=a=") ≡ gives (codes "o.o -ffile-prefix-map=a=")
+unfolding sections ignored unpaired debugged_by
+map_to_nothing = refl
+
+no_negative : front_by (codes "-Wabi=#") (codes "o.o -Wno-abi=1") ≡ Refuse (UnknownOption (codes "-Wno-abi=1") ∷ [])
+unfolding sections ignored unpaired debugged_by
+no_negative = refl
+
+parameter_of_a_link : front (codes "o.o --param x=1") ≡ Ask
+unfolding sections ignored unpaired debugged_by
+parameter_of_a_link = refl
+
+parameter_of_a_source : line (codes "-c a.c --param x=1") ≡ gives (codes "-c a.c --param=x=1 --gdrv-base=a.c --gdrv-ext=.c -pipe")
+unfolding sections ignored unpaired debugged_by
+parameter_of_a_source = refl
 
 parallel_loops : line (codes "a.c -ftree-parallelize-loops=4") ≡ gives (codes "a.c -ftree-parallelize-loops=4 -pthread --gdrv-base=a.c --gdrv-ext=.c -pipe")
 unfolding sections ignored unpaired debugged_by

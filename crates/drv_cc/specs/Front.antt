@@ -1,8 +1,9 @@
 use Rattle.drv_args.specs.declared.items.Item.{Item as LineItem}
 use Rattle.drv_args.specs.declared.option_table.Effect.TheVariants as effect
 use Rattle.drv_args.specs.declared.option_table.Setting.TheVariants as setting
+use Rattle.drv_cc.specs.Asked.{is_asked}
 use Rattle.drv_cc.specs.Items.{begins, is_among, items_of, same, words_of}
-use Rattle.drv_cc.specs.Kept.{has, is_asked, is_file_part, is_vendors, kept, last_argument, refusals}
+use Rattle.drv_cc.specs.Kept.{has, is_file_part, is_vendors, kept, last_argument, refusals}
 use Rattle.drv_cc.specs.Levels.{check_words, debug_words}
 use Rattle.drv_cc.specs.LineItems.{alone, item_of, line_item}
 use Rattle.drv_cc.specs.SideFiles.{inputs, is_some, link_beginning, side_words, sources, stops, with_value, worked}

@@ -8,7 +8,7 @@ use Rattle.drv_cc.specs.declared.table.Takes.TheVariants.{Attached, Either, Next
 use Rattle.drv_cc.specs.declared.table.Takes.{Takes}
 use Rattle.drv_words.specs.Bytes.{equals, hyphen, newline}
 use Rattle.std.specs.Cmp.Lexicographic.{pointwise}
-use Rattle.std.specs.List.{list_all, list_any, slice_split, starts_with}
+use Rattle.std.specs.List.{ends_with, list_all, list_any, slice_split, starts_with}
 use Rattle.std.specs.Prelude.{◌==◌, ◌&&◌, ◌||◌, Bool, List, [], ◌∷◌, ◌++◌, None, Option, Some, codes, drop, false, find, if◌then◌else◌, length, nat_eq, nat_lt, not, true, ℕ}
 
 -- A line of gcc as a list of items (GCC manual, "Invoking GCC"; "Option Summary").
@@ -120,8 +120,7 @@ abbrev pub machine_name : List ℕ → List ℕ
 machine_name known = if is_known known (codes "-mcpu=>-mtune=") then codes "-mtune=" else codes "-mcpu="
 
 abbrev pub machine_item : List ℕ → List ℕ → Item
-machine_item known [] = plain Lacking (codes "-mcpu=")
-machine_item known (b ∷ machine) = item (machine_name known) (b ∷ machine) Joined Switch
+machine_item known machine = item (machine_name known) machine Joined Switch
 
 abbrev pub known_item : List ℕ → List ℕ → Item
 known_item known name =
@@ -140,20 +139,35 @@ is_number value = nat_lt 0 (length value) && list_all is_digit value
 abbrev pub numbered : List ℕ → List ℕ
 numbered name = if is_number (value_of name) then head_of name ++ codes "#" else head_of name
 
+abbrev pub takes_value : List ℕ → List ℕ → Bool
+takes_value known name = is_known known (head_of name) || is_known known (numbered name)
+
+-- a name that ends so is no whole option: its argument follows, or it has a mark
+abbrev pub is_open : List ℕ → Bool
+is_open name = list_any (ends_with nat_eq name) (texts (codes "= - ? #"))
+
 abbrev pub accepts : List ℕ → List ℕ → Bool
-accepts known name = is_known known name || (is_known known (head_of name) || is_known known (numbered name))
+accepts known name = if is_open name then not (is_known known name) && takes_value known name else is_known known name || takes_value known name
 
--- of these options gcc's driver judges the argument ("opts-common.cc", decode_cmdline_option): of those with a number, and of those with
--- listed arguments, whose mark is another
+-- gcc's driver judges the argument of an option ("opts-common.cc", decode_cmdline_option): one that is missing, a number, and one of those
+-- that are listed, whose mark is another
 abbrev pub judges : List ℕ → List ℕ → Bool
-judges known name = is_known known (head_of name ++ codes "?") || is_known known (head_of name ++ codes "#")
+judges known name = is_known known name || (is_known known (head_of name ++ codes "?") || is_known known (head_of name ++ codes "#"))
 
--- A word that no row fits: names that are known beyond the table are taken as they are, and so is -Wno-X, of which the compiler
--- speaks where it speaks at all. An argument that gcc's driver judges makes the line a question: the compiler refuses it in its own words.
+-- An unknown word that begins so is left to the compiler, which speaks of it where it speaks at all, but not the negative of an option with
+-- an argument ("gcc.cc", driver_unknown_option_callback; CL_ERR_NEGATIVE). Without names nothing is known of such an option.
+abbrev pub leaves : List ℕ → List ℕ → Bool
+leaves known positive = nat_lt 0 (length known) && not (is_known known (head_of positive) || judges known positive)
+
+abbrev pub turns_off : List ℕ → List ℕ → Bool
+turns_off known word = begins (codes "-Wno-") word && (not (list_any (nat_eq equals) word) || leaves known (paired word))
+
+-- A word that no row fits: names that are known beyond the table are taken as they are. An argument that gcc's driver judges makes the line
+-- a question: the compiler refuses it in its own words.
 abbrev pub beyond : List ℕ → List ℕ → List ℕ → Item
 beyond known word name =
     if is_among (texts ignored) (paired name) then item name [] Nowhere Switch
-    else if begins (codes "-Wno-") name || accepts known name then known_item known name
+    else if turns_off known word || accepts known name then known_item known name
     else if judges known name then plain Question word
     else plain Unknown word
 

@@ -1,4 +1,3 @@
-use Rattle.drv_cc.specs.Checks.{names_no_check}
 use Rattle.drv_cc.specs.Items.{begins, same}
 use Rattle.drv_cc.specs.declared.item.Item.{Item}
 use Rattle.drv_cc.specs.declared.refusal.Refusal.TheVariants as refusal
@@ -9,7 +8,7 @@ use Rattle.std.specs.Cmp.Lexicographic.{pointwise}
 use Rattle.std.specs.List.{flat_map, list_any}
 use Rattle.std.specs.Prelude.{◌&&◌, ◌-◌, ◌||◌, Bool, List, [], ◌∷◌, ◌++◌, None, Option, Some, codes, drop, false, if◌then◌else◌, length, nat_eq, nat_lt, not, take, true, ℕ}
 
--- What is asked, what is refused, and which items stay (GCC manual, "Overall Options", "Developer Options"; GCC Internals, "Option
+-- What is refused, and which items stay (GCC manual, "Overall Options", "Developer Options"; GCC Internals, "Option
 -- Properties", Negative).
 
 abbrev pub has : List ℕ → List Item → Bool
@@ -33,28 +32,12 @@ is_input part.Input = true
 is_input part.Library = true
 is_input _ = false
 
-abbrev pub is_question : Part → Bool
-is_question part.Question = true
-is_question _ = false
-
-abbrev pub tells : Part → Bool
-tells part.Tells = true
-tells _ = false
-
 abbrev pub is_file_part : Part → Bool
 is_file_part part.Input = true
 is_file_part _ = false
 
 abbrev pub has_input : List Item → Bool
 has_input items = list_any (λ i. is_input i.part) items
-
--- Asked: the line has a question, or a check that is none, which gcc's driver refuses in its own words; or it has an option that says more
--- of a run, and has nothing to run.
-abbrev pub asks : Item → Bool
-asks i = is_question i.part || names_no_check i
-
-abbrev pub is_asked : List Item → Bool
-is_asked items = list_any asks items || (list_any (λ i. tells i.part) items && not (has_input items))
 
 -- the line names a spec file
 abbrev pub is_vendors : List Item → Bool

@@ -52,7 +52,7 @@ abbrev pub section_rows : Section → List OptionRow
 section_rows s = map (row_of s) (texts s.entries)
 
 -- an option that takes the rest of a word follows those that begin with it
--- each value of -std= is an option of its own ("C Dialect Options"): one that is not here is known by the compiler, or by nobody
+-- each value of -std= ("C Dialect Options") and of -fdiagnostics-color= is an option of its own
 unfoldable pub sections : List Section
 sections =
     section Nothing Alone Switch
@@ -82,7 +82,10 @@ sections =
     (codes "-dumpspecs -dumpversion -dumpfullversion -dumpmachine --help --version --target-help -fhelp -fversion -ftarget-help "
     ++ codes "-print-search-dirs -print-libgcc-file-name -print-multi-lib -print-multi-directory -print-multiarch -print-sysroot "
     ++ codes "-print-multi-os-directory -print-sysroot-headers-suffix --print-search-dirs --print-libgcc-file-name --print-multi-lib "
-    ++ codes "--print-multi-directory --print-multiarch --print-sysroot --print-multi-os-directory --print-sysroot-headers-suffix")
+    ++ codes "--print-multi-directory --print-multiarch --print-sysroot --print-multi-os-directory --print-sysroot-headers-suffix "
+    ++ codes "-debuglib= -defaultlib= -dump-body= -dump-level= -fdump-c++-spec= -fdump-final-insns= -fdump-go-spec= "
+    ++ codes "-Wno-no-alloc-size-larger-than -Wno-no-alloca-larger-than -Wno-no-frame-larger-than -Wno-no-larger-than "
+    ++ codes "-Wno-no-stack-usage -Wno-no-vla-larger-than")
     ∷ section Nothing Alone Refused
     (codes "-time --time -canonical-prefixes -quiet -version -lang-asm -list -objects -fcompare-debug")
     ∷ section Nothing Nowhere Switch
@@ -127,7 +130,8 @@ sections =
     ++ codes "-fdiagnostics-color>-fdiagnostics-color=always -fno-diagnostics-color>-fdiagnostics-color=never "
     ++ codes "-fcf-protection>-fcf-protection=full -flive-patching>-flive-patching=inline-clone")
     ∷ section Nothing Alone Switch
-    (codes "-fstack-check>-fstack-check=specific -fno-stack-check>-fstack-check=no -fvect-cost-model>-fvect-cost-model=dynamic "
+    (codes "-fdiagnostics-color=always -fdiagnostics-color=never -fdiagnostics-color=auto "
+    ++ codes "-fstack-check>-fstack-check=specific -fno-stack-check>-fstack-check=no -fvect-cost-model>-fvect-cost-model=dynamic "
     ++ codes "-fno-vect-cost-model>-fvect-cost-model=unlimited -floop-block>-floop-nest-optimize "
     ++ codes "-fno-loop-block>-fno-loop-nest-optimize -floop-strip-mine>-floop-nest-optimize "
     ++ codes "-fno-loop-strip-mine>-fno-loop-nest-optimize -ftree-loop-linear>-floop-nest-optimize "
@@ -191,9 +195,11 @@ sections =
     (codes "-specs= --specs=>-specs= --param= --sysroot=")
     ∷ section Attached Separate Switch
     (codes "-aux-info=>-aux-info")
+    ∷ section Rest Joined Question
+    (codes "-ffixed-line-length- -Wno-larger-than-")
     ∷ section Attached Joined Switch
     (codes "-Tbss= -Tdata= -Ttext= -march= -mtune= -fsanitize= -fno-sanitize= -ftree-parallelize-loops= "
-    ++ codes "-fdiagnostics-color= -flto= -Wlarger-than->-Wlarger-than= -finline-limit->-finline-limit= -fno-builtin- -fbuiltin- "
+    ++ codes "-flto= -Wlarger-than->-Wlarger-than= -finline-limit->-finline-limit= -fno-builtin- -fbuiltin- "
     ++ codes "-fcall-saved- -fcall-used- -fdisable- -fdump- -fenable- -ffixed- -fopt-info- -fplugin-arg-")
     ∷ section Rest Joined Piece
     (codes "-Wa, -Wp,")
@@ -204,7 +210,9 @@ sections =
     ∷ section Either Separate Refused
     (codes "-imultilib -imultiarch")
     ∷ section Rest Joined Switch
-    (codes "-O -d")
+    (codes "-O")
+    ∷ section Attached Joined Switch
+    (codes "-d")
     ∷ section Either Separate Switch
     (codes "-A -D -U -I -B -T -e -o -u -z")
     ∷ section Either Joined Switch
@@ -253,7 +261,7 @@ rings =
     codes "-pie -no-pie -static-pie -shared" ∷ codes "-fpic -fPIC -fpie -fPIE -fno-pic -fno-PIC -fno-pie -fno-PIE" ∷ codes "-m32 -m64 -mx32 -m16"
     ∷ codes "--sysroot=" ∷ codes "-march=" ∷ codes "-mtune=" ∷ codes "-mlong-double-64 -mlong-double-80 -mlong-double-128"
     ∷ codes "-mbionic -mglibc -muclibc -mmusl"
-    ∷ codes "-fuse-ld=bfd -fuse-ld=gold -fuse-ld=lld -fuse-ld=mold" ∷ codes "-gpubnames -ggnu-pubnames -gno-pubnames" ∷ codes "-Qy -Qn" ∷ codes "-fdiagnostics-color= -fdiagnostics-color=always -fdiagnostics-color=never" ∷ []
+    ∷ codes "-fuse-ld=bfd -fuse-ld=gold -fuse-ld=lld -fuse-ld=mold" ∷ codes "-gpubnames -ggnu-pubnames -gno-pubnames" ∷ codes "-Qy -Qn" ∷ codes "-fdiagnostics-color=always -fdiagnostics-color=never -fdiagnostics-color=auto" ∷ []
 
 -- options that no other sign of theirs takes back (GCC Internals, "Option Properties", RejectNegative)
 unfoldable pub unpaired : List ℕ

@@ -38,7 +38,7 @@ const GROUP_3: &[Row] = group! {
 };
 
 const GROUP_4: &[Row] = group! {
-    b"-d" b"-d" Rest Joined Switch
+    b"-d" b"-d" Attached Joined Switch
     b"-L" b"-L" Either Joined Switch
 };
 
@@ -52,10 +52,10 @@ const GROUP_5: &[Row] = group! {
 const GROUP_6: &[Row] = group! {
     b"-fhelp=" b"-fhelp=" Attached Joined Question
     b"-fcompare-debug=" b"-fcompare-debug=" Attached Joined Refused
+    b"-ffixed-line-length-" b"-ffixed-line-length-" Rest Joined Question
     b"-fsanitize=" b"-fsanitize=" Attached Joined Switch
     b"-fno-sanitize=" b"-fno-sanitize=" Attached Joined Switch
     b"-ftree-parallelize-loops=" b"-ftree-parallelize-loops=" Attached Joined Switch
-    b"-fdiagnostics-color=" b"-fdiagnostics-color=" Attached Joined Switch
     b"-flto=" b"-flto=" Attached Joined Switch
     b"-finline-limit-" b"-finline-limit=" Attached Joined Switch
     b"-fno-builtin-" b"-fno-builtin-" Attached Joined Switch
@@ -117,6 +117,7 @@ const GROUP_14: &[Row] = group! {
 };
 
 const GROUP_15: &[Row] = group! {
+    b"-Wno-larger-than-" b"-Wno-larger-than-" Rest Joined Question
     b"-Wlarger-than-" b"-Wlarger-than=" Attached Joined Switch
     b"-Wa," b"-Wa," Rest Joined Piece
     b"-Wp," b"-Wp," Rest Joined Piece

@@ -4,9 +4,10 @@ ghost use Rattle.drv_cc.specs.Front.{answer_of, front_of, line_items, refused_or
 ghost use Rattle.drv_cc.specs.Kept.{kept, last_argument, refusals};
 ghost use Rattle.std.specs.Prelude.{◌≡◌, IfOk, codes};
 
+use crate::asking::is_asked;
 use crate::item::Item;
 use crate::judging::refusals;
-use crate::keeping::{is_asked, kept, last_argument};
+use crate::keeping::{kept, last_argument};
 use crate::line_adding::add_items;
 use crate::line_items::add_kept;
 use crate::quoting::children;

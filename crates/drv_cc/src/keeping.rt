@@ -1,13 +1,10 @@
 //! What a line has, and which of its items stay.
 
 ghost use Rattle.drv_cc.specs.Code.Staying.{Notes, is_seen, stays_before};
-ghost use Rattle.drv_cc.specs.Kept.{asks, has, has_input, is_asked, is_input, kept};
-ghost use Rattle.drv_cc.specs.Kept.{last_argument, tells};
-ghost use Rattle.std.specs.List.{list_any};
+ghost use Rattle.drv_cc.specs.Kept.{has, has_input, is_input, kept, last_argument};
 ghost use Rattle.std.specs.Option.{option_map};
 ghost use Rattle.std.specs.Prelude.{◌≡◌, IfOk, OnOk, reverse};
 
-use crate::checks::names_no_check;
 use crate::item::Item;
 use crate::table::Part;
 use drv_words::{Listing, Word};
@@ -46,41 +43,6 @@ pub(crate) fn has_input(items: &[Item]) -> bool
     ensures { result ≡ has_input items.now }
 {
     items.iter().any(is_input)
-}
-
-/// Whether an item is a question.
-fn asks(item: &Item) -> bool
-    ensures { result ≡ asks item.now }
-{
-    matches!(item.part, Part::Question) || names_no_check(item)
-}
-
-/// Whether an item is a question where there is no input.
-fn tells(item: &Item) -> bool
-    ensures { result ≡ tells item.now.part }
-{
-    matches!(item.part, Part::Tells)
-}
-
-/// Whether a question is among them.
-fn has_question(items: &[Item]) -> bool
-    ensures { result ≡ list_any asks items.now }
-{
-    items.iter().any(asks)
-}
-
-/// Whether a question is among them that is one where there is no input.
-fn has_telling(items: &[Item]) -> bool
-    ensures { result ≡ list_any (λ i. tells i.part) items.now }
-{
-    items.iter().any(tells)
-}
-
-/// Whether a line is a question for the compiler.
-pub(crate) fn is_asked(items: &[Item]) -> bool
-    ensures { result ≡ is_asked items.now }
-{
-    has_question(items) | (has_telling(items) & !has_input(items))
 }
 
 /// Notes the class of an item, and tells whether the item stays: whether none after it, whose

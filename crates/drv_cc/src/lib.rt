@@ -3,6 +3,7 @@
 
 mod adding;
 mod answer;
+mod asking;
 mod beginnings;
 mod checks;
 mod classes;

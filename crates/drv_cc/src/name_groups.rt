@@ -358,7 +358,6 @@ const RINGED_7: &[Ringed] = ringed! {
 
 const RINGED_8: &[Ringed] = ringed! {
     b"-march=" b"-march="
-    b"-fdiagnostics-color=" b"-fdiagnostics-color= -fdiagnostics-color=always -fdiagnostics-color=never"
 };
 
 const RINGED_9: &[Ringed] = ringed! {
@@ -379,6 +378,7 @@ const RINGED_12: &[Ringed] = ringed! {
     b"-mlong-double-64" b"-mlong-double-64 -mlong-double-80 -mlong-double-128"
     b"-mlong-double-80" b"-mlong-double-64 -mlong-double-80 -mlong-double-128"
     b"-Qy" b"-Qy -Qn"
+    b"-fdiagnostics-color=auto" b"-fdiagnostics-color=always -fdiagnostics-color=never -fdiagnostics-color=auto"
 };
 
 const RINGED_13: &[Ringed] = ringed! {
@@ -387,12 +387,12 @@ const RINGED_13: &[Ringed] = ringed! {
     b"--sysroot=" b"--sysroot="
     b"-mlong-double-128" b"-mlong-double-64 -mlong-double-80 -mlong-double-128"
     b"-muclibc" b"-mbionic -mglibc -muclibc -mmusl"
-    b"-fdiagnostics-color=never" b"-fdiagnostics-color= -fdiagnostics-color=always -fdiagnostics-color=never"
+    b"-fdiagnostics-color=never" b"-fdiagnostics-color=always -fdiagnostics-color=never -fdiagnostics-color=auto"
 };
 
 const RINGED_14: &[Ringed] = ringed! {
     b"-mglibc" b"-mbionic -mglibc -muclibc -mmusl"
-    b"-fdiagnostics-color=always" b"-fdiagnostics-color= -fdiagnostics-color=always -fdiagnostics-color=never"
+    b"-fdiagnostics-color=always" b"-fdiagnostics-color=always -fdiagnostics-color=never -fdiagnostics-color=auto"
 };
 
 const RINGED_15: &[Ringed] = ringed! {

@@ -12,7 +12,7 @@ use crate::item::Item;
 use crate::known::is_known_line;
 use crate::renaming::{is_renamed, renamed};
 use crate::table::{Part, Row, Spelling, Takes, first_row};
-use crate::values::{accepts, judges};
+use crate::values::{accepts, judges, turns_off};
 use drv_words::{Listing, Word};
 use std::alloc::{AllocError, Global};
 
@@ -64,9 +64,6 @@ fn machine_name(known: &[u8]) -> &'static [u8]
 fn machine_item(alloc: Global, known: &[u8], machine: &[u8]) -> Result<Item, AllocError>
     ensures { IfOk result (λ item. item ≡ machine_item known.now machine.now) }
 {
-    if machine.is_empty() {
-        return Item::plain(alloc, Part::Lacking, b"-mcpu=");
-    }
     let name = machine_name(known);
     Item::new(alloc, name, machine, Spelling::Joined, Part::Switch)
 }
@@ -76,13 +73,6 @@ fn names_machine(name: &[u8]) -> bool
     ensures { result ≡ begins (codes "-mcpu=") name.now }
 {
     matches!(name, [b'-', b'm', b'c', b'p', b'u', b'=', ..])
-}
-
-/// Whether an option turns a warning off.
-fn turns_off(name: &[u8]) -> bool
-    ensures { result ≡ begins (codes "-Wno-") name.now }
-{
-    matches!(name, [b'-', b'W', b'n', b'o', b'-', ..])
 }
 
 /// An option that is known beyond the table.
@@ -104,7 +94,7 @@ pub(crate) fn by_names(
 ) -> Result<Item, AllocError>
     ensures { IfOk result (λ item. item ≡ by_names known.now word.now name.now) }
 {
-    if turns_off(name) || accepts(alloc, known, name)? {
+    if turns_off(alloc, known, word)? || accepts(alloc, known, name)? {
         return known_item(alloc, known, name);
     }
     let part = if judges(alloc, known, name)? {

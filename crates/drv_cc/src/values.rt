@@ -1,12 +1,14 @@
 //! What arguments an option takes that is known beyond the table: any, a number, or listed ones. A
 //! mark behind the name says so.
 
-ghost use Rattle.drv_cc.specs.Items.{accepts, head_of, is_digit, is_number, judges, numbered};
-ghost use Rattle.drv_cc.specs.Items.{value_of};
+ghost use Rattle.drv_cc.specs.Items.{accepts, begins, head_of, is_digit, is_known};
+ghost use Rattle.drv_cc.specs.Items.{is_number, is_open, judges, leaves, numbered, takes_value};
+ghost use Rattle.drv_cc.specs.Items.{turns_off, value_of};
 ghost use Rattle.std.specs.List.{list_all};
-ghost use Rattle.std.specs.Prelude.{◌≡◌, ◌++◌, IfOk};
+ghost use Rattle.std.specs.Prelude.{◌≡◌, ◌++◌, ◌&&◌, IfOk, codes, not};
 
-use crate::known::{are_known, is_either_known, is_found};
+use crate::classes::paired;
+use crate::known::{are_known, is_either_known, is_found, is_known_line};
 use crate::places::first_place;
 use crate::reading::rest_after;
 use drv_words::Word;
@@ -45,7 +47,7 @@ fn are_digits(value: &[u8]) -> bool
 }
 
 /// Whether an argument is a number.
-fn is_number(value: &[u8]) -> bool
+pub(crate) fn is_number(value: &[u8]) -> bool
     ensures { result ≡ is_number value.now }
 {
     0 < value.len() && are_digits(value)
@@ -71,6 +73,25 @@ fn numbered(alloc: Global, name: &[u8]) -> Result<Word, AllocError>
     }
 }
 
+/// Whether a name is no whole option: its argument follows it, or it has a mark.
+fn is_open(name: &[u8]) -> bool
+    ensures { result ≡ is_open name.now }
+{
+    name.ends_with(b"=") || name.ends_with(b"-") || name.ends_with(b"?") || name.ends_with(b"#")
+}
+
+/// Whether an option is known by a name that ends so, and has its argument before that.
+fn accepts_open(alloc: Global, known: &[u8], name: &[u8]) -> Result<bool, AllocError>
+    ensures { IfOk result (λ is. is
+        ≡ (not (is_known known.now name.now) && takes_value known.now name.now)) }
+{
+    if is_known_line(known, name) {
+        return Ok(false);
+    }
+    let numbered = numbered(alloc, name)?;
+    Ok(is_either_known(known, head_of(name), numbered.as_bytes()))
+}
+
 /// Whether an option is known, with its argument.
 #[tactic(auto, using(crate::proofs::Again::no_names_accept))]
 pub(crate) fn accepts(alloc: Global, known: &[u8], name: &[u8]) -> Result<bool, AllocError>
@@ -78,6 +99,9 @@ pub(crate) fn accepts(alloc: Global, known: &[u8], name: &[u8]) -> Result<bool, 
 {
     if known.is_empty() && !name.is_empty() {
         return Ok(false);
+    }
+    if is_open(name) {
+        return accepts_open(alloc, known, name);
     }
     if is_found(known, name) {
         return Ok(true);
@@ -96,5 +120,40 @@ pub(crate) fn judges(alloc: Global, known: &[u8], name: &[u8]) -> Result<bool, A
     }
     let listed = marked(alloc, name, b"?")?;
     let number = marked(alloc, name, b"#")?;
-    Ok(is_either_known(known, listed.as_bytes(), number.as_bytes()))
+    Ok(are_known(known, name, listed.as_bytes(), number.as_bytes()))
+}
+
+/// Whether the compiler is left the negative of an option: names are known, and none of them takes
+/// an argument so.
+fn leaves(alloc: Global, known: &[u8], positive: &[u8]) -> Result<bool, AllocError>
+    ensures { IfOk result (λ is. is ≡ leaves known.now positive.now) }
+{
+    if known.is_empty() {
+        return Ok(false);
+    }
+    if is_known_line(known, head_of(positive)) {
+        return Ok(false);
+    }
+    Ok(!judges(alloc, known, positive)?)
+}
+
+/// Whether a word begins as the options do that turn a warning off.
+fn is_off(word: &[u8]) -> bool
+    ensures { result ≡ begins (codes "-Wno-") word.now }
+{
+    matches!(word, [b'-', b'W', b'n', b'o', b'-', ..])
+}
+
+/// Whether a word turns a warning off, as far as gcc's driver knows.
+pub(crate) fn turns_off(alloc: Global, known: &[u8], word: &[u8]) -> Result<bool, AllocError>
+    ensures { IfOk result (λ is. is ≡ turns_off known.now word.now) }
+{
+    if !is_off(word) {
+        return Ok(false);
+    }
+    if !word.contains(&b'=') {
+        return Ok(true);
+    }
+    let positive = paired(alloc, word)?;
+    leaves(alloc, known, positive.as_bytes())
 }

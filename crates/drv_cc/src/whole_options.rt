@@ -124,6 +124,7 @@ const GROUP_6: &[Row] = group! {
     b"-gdwarf64" b"-gdwarf64" Nothing Alone Switch
     b"-Qn" b"-Qn" Nothing Alone Switch
     b"-Qy" b"-Qy" Nothing Alone Switch
+    b"-Wno-no-frame-larger-than" b"-Wno-no-frame-larger-than" Nothing Alone Question
     b"-Wshadow-compatible-local" b"-Wshadow=compatible-local" Nothing Alone Switch
     b"-Wno-implicit-fallthrough" b"-Wimplicit-fallthrough=0" Nothing Alone Switch
 };
@@ -162,6 +163,7 @@ const GROUP_9: &[Row] = group! {
     b"-m16" b"-m16" Nothing Alone Switch
     b"-MMD" b"-MMD" Nothing Alone Switch
     b"-nostartfiles" b"-nostartfiles" Nothing Alone Switch
+    b"-Wno-no-alloc-size-larger-than" b"-Wno-no-alloc-size-larger-than" Nothing Alone Question
 };
 
 const GROUP_10: &[Row] = group! {
@@ -171,6 +173,7 @@ const GROUP_10: &[Row] = group! {
     b"-gvms" b"-gvms" Nothing Alone Switch
     b"-dumpspecs" b"-dumpspecs" Nothing Alone Question
     b"-print-multi-directory" b"-print-multi-directory" Nothing Alone Question
+    b"-debuglib=" b"-debuglib=" Nothing Alone Question
     b"-std=iso9899:1990" b"-std=c90" Nothing Alone Switch
     b"-std=iso9899:1999" b"-std=c99" Nothing Alone Switch
     b"-std=iso9899:199x" b"-std=c99" Nothing Alone Switch
@@ -187,6 +190,7 @@ const GROUP_11: &[Row] = group! {
     b"-std=c99" b"-std=c99" Nothing Alone Switch
     b"-std=c11" b"-std=c11" Nothing Alone Switch
     b"-std=c17" b"-std=c17" Nothing Alone Switch
+    b"-fdump-final-insns=" b"-fdump-final-insns=" Nothing Alone Question
     b"-lang-asm" b"-lang-asm" Nothing Alone Refused
     b"-std=c89" b"-std=c90" Nothing Alone Switch
     b"-std=c9x" b"-std=c99" Nothing Alone Switch
@@ -219,6 +223,7 @@ const GROUP_13: &[Row] = group! {
     b"-gen-decls" b"-gen-decls" Nothing Alone Switch
     b"-nostdinc" b"-nostdinc" Nothing Alone Switch
     b"-nostdlib" b"-nostdlib" Nothing Alone Switch
+    b"-Wno-no-alloca-larger-than" b"-Wno-no-alloca-larger-than" Nothing Alone Question
     b"-Wmissing-format-attribute" b"-Wsuggest-attribute=format" Nothing Alone Switch
     b"-Wno-unused-const-variable" b"-Wunused-const-variable=0" Nothing Alone Switch
 };
@@ -234,11 +239,13 @@ const GROUP_14: &[Row] = group! {
     b"-Wformat-overflow" b"-Wformat-overflow=1" Nothing Alone Switch
     b"-Wattribute-alias" b"-Wattribute-alias=1" Nothing Alone Switch
     b"-Warray-parameter" b"-Warray-parameter=2" Nothing Alone Switch
+    b"-fdiagnostics-color=auto" b"-fdiagnostics-color=auto" Nothing Alone Switch
     b"--no-standard-libraries" b"-nostdlib" Nothing Alone Switch
 };
 
 const GROUP_15: &[Row] = group! {
     b"-mno-push-args" b"-mno-push-args" Nothing Alone Switch
+    b"-fdump-go-spec=" b"-fdump-go-spec=" Nothing Alone Question
     b"-list" b"-list" Nothing Alone Refused
     b"-fcompare-debug" b"-fcompare-debug" Nothing Alone Refused
     b"-wrapper" b"-wrapper" Next Nowhere Switch
@@ -271,6 +278,7 @@ const GROUP_17: &[Row] = group! {
     b"-C" b"-C" Nothing Alone Switch
     b"-rdynamic" b"-rdynamic" Nothing Alone Switch
     b"-print-libgcc-file-name" b"-print-libgcc-file-name" Nothing Alone Question
+    b"-dump-body=" b"-dump-body=" Nothing Alone Question
     b"-save-temps=object" b"-save-temps=obj" Nothing Alone Switch
     b"-gnatO" b"-gnatO" Next Nowhere Switch
     b"-Wno-format-truncation" b"-Wformat-truncation=0" Nothing Alone Switch
@@ -329,12 +337,14 @@ const GROUP_21: &[Row] = group! {
     b"-Wmissing-noreturn" b"-Wsuggest-attribute=noreturn" Nothing Alone Switch
     b"-Wno-shadow=global" b"-Wno-shadow" Nothing Alone Switch
     b"-Wdangling-pointer" b"-Wdangling-pointer=2" Nothing Alone Switch
+    b"-fdiagnostics-color=never" b"-fdiagnostics-color=never" Nothing Alone Switch
 };
 
 const GROUP_22: &[Row] = group! {
     b"-fcallgraph-info" b"-fcallgraph-info" Nothing Alone Switch
     b"-H" b"-H" Nothing Alone Switch
     b"--print-sysroot" b"--print-sysroot" Nothing Alone Question
+    b"-fdump-c++-spec=" b"-fdump-c++-spec=" Nothing Alone Question
     b"-fcompare-debug=" b"-fcompare-debug=" Nothing Alone Switch
     b"-fno-stack-check" b"-fstack-check=no" Nothing Alone Switch
     b"-mno-fused-madd" b"-ffp-contract=off" Nothing Alone Switch
@@ -366,6 +376,9 @@ const GROUP_24: &[Row] = group! {
     b"-CC" b"-CC" Nothing Alone Switch
     b"-dumpversion" b"-dumpversion" Nothing Alone Question
     b"-dumpmachine" b"-dumpmachine" Nothing Alone Question
+    b"-defaultlib=" b"-defaultlib=" Nothing Alone Question
+    b"-dump-level=" b"-dump-level=" Nothing Alone Question
+    b"-Wno-no-vla-larger-than" b"-Wno-no-vla-larger-than" Nothing Alone Question
     b"-Wunused-const-variable" b"-Wunused-const-variable=2" Nothing Alone Switch
     b"-Wno-alloca-larger-than" b"-Walloca-larger-than=18446744073709551615EiB" Nothing Alone Switch
 };
@@ -418,10 +431,13 @@ const GROUP_28: &[Row] = group! {
     b"-g3" b"-g3" Nothing Alone Switch
     b"-fstack-protector-explicit" b"-fstack-protector-explicit" Nothing Alone Switch
     b"-remap" b"-remap" Nothing Alone Switch
+    b"-Wno-no-larger-than" b"-Wno-no-larger-than" Nothing Alone Question
+    b"-Wno-no-stack-usage" b"-Wno-no-stack-usage" Nothing Alone Question
     b"-dumpdir" b"-dumpdir" Next Nowhere Switch
     b"-Wno-shift-overflow" b"-Wshift-overflow=0" Nothing Alone Switch
     b"-Wformat-truncation" b"-Wformat-truncation=1" Nothing Alone Switch
     b"-Wstringop-overflow" b"-Wstringop-overflow=2" Nothing Alone Switch
+    b"-fdiagnostics-color=always" b"-fdiagnostics-color=always" Nothing Alone Switch
     b"--write-user-dependencies" b"-MMD" Nothing Alone Switch
     b"--include-directory-after" b"-idirafter" Next Separate Switch
 };

@@ -1,9 +1,9 @@
-use Rattle.drv_cc.specs.Items.{accepts, begins, judges, known_item, plain, renamed}
+use Rattle.drv_cc.specs.Items.{accepts, judges, known_item, plain, renamed, turns_off}
 use Rattle.drv_cc.specs.declared.item.Item.{Item}
 use Rattle.drv_cc.specs.declared.table.Part.TheVariants.{Input, Lacking, Library, Piece, Question, Refused, Switch, Tells, Unknown}
 use Rattle.drv_cc.specs.declared.table.Part.{Part}
 use Rattle.drv_words.specs.Bytes.{newline}
-use Rattle.std.specs.Prelude.{◌==◌, ◌||◌, Bool, List, [], ◌∷◌, codes, false, if◌then◌else◌, true, ℕ}
+use Rattle.std.specs.Prelude.{◌==◌, ◌||◌, Bool, List, [], ◌∷◌, false, if◌then◌else◌, true, ℕ}
 
 -- How the code looks for a line of a text, and how it asks unknown words again. Only private clauses cite them.
 
@@ -26,7 +26,7 @@ is_unknown Lacking = false
 -- a word that no row fits and that is not passed over
 abbrev pub by_names : List ℕ → List ℕ → List ℕ → Item
 by_names known word name =
-    if begins (codes "-Wno-") name || accepts known name then known_item known name
+    if turns_off known word || accepts known name then known_item known name
     else if judges known name then plain Question word
     else plain Unknown word
 

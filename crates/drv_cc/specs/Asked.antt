@@ -1,0 +1,71 @@
+use Rattle.drv_cc.specs.Checks.{names_no_check}
+use Rattle.drv_cc.specs.Items.{is_among, is_number}
+use Rattle.drv_cc.specs.Kept.{has, has_input}
+use Rattle.drv_cc.specs.SideFiles.{is_some, preprocessed, sources}
+use Rattle.drv_cc.specs.Table.{texts}
+use Rattle.drv_cc.specs.declared.item.Item.{Item}
+use Rattle.drv_cc.specs.declared.table.Part.TheVariants as part
+use Rattle.drv_cc.specs.declared.table.Part.{Part}
+use Rattle.std.specs.List.{list_any}
+use Rattle.std.specs.Prelude.{◌&&◌, ◌||◌, Bool, List, codes, false, not, true, ℕ}
+
+-- Lines that gcc itself answers (GCC manual, "Overall Options"; GCC, "opts-common.cc", read_cmdline_option).
+
+-- Asked: the line has a question, or an argument that gcc's driver refuses in its own words; or it has an option that says more of a run,
+-- and has nothing to run.
+abbrev pub is_question : Part → Bool
+is_question part.Question = true
+is_question _ = false
+
+abbrev pub tells : Part → Bool
+tells part.Tells = true
+tells _ = false
+
+-- a number; gcc knows more ways to write one (integral_argument)
+abbrev pub numeric : List (List ℕ)
+numeric = texts (codes "-ftree-parallelize-loops= -finline-limit= -Wlarger-than=")
+
+abbrev pub has_no_number : Item → Bool
+has_no_number i = is_among numeric i.name && not (is_number i.argument)
+
+abbrev pub asks : Item → Bool
+asks i = is_question i.part || (names_no_check i || has_no_number i)
+
+-- the compiler judges what --param sets ("Optimize Options"), and it is started for sources of C and those that are preprocessed
+abbrev pub sets_unjudged : List Item → Bool
+sets_unjudged items = has (codes "--param=") items && not (is_some (sources preprocessed items))
+
+-- two formats of records that exclude each other ("opts.cc", set_debug_level: "conflicts with prior selection"): CTF or BTF may be beside DWARF
+abbrev pub is_stabs : Item → Bool
+is_stabs i = is_among (texts (codes "-gstabs -gstabs+")) i.name
+
+abbrev pub is_xcoff : Item → Bool
+is_xcoff i = is_among (texts (codes "-gxcoff -gxcoff+")) i.name
+
+abbrev pub is_newer : Item → Bool
+is_newer i = is_among (texts (codes "-gdwarf -gdwarf-2 -gdwarf-3 -gdwarf-4 -gdwarf-5 -gctf -gbtf")) i.name
+
+abbrev pub has_vms_or_newer : List Item → Bool
+has_vms_or_newer items = has (codes "-gvms") items || list_any is_newer items
+
+abbrev pub mixes_stabs : List Item → Bool
+mixes_stabs items = list_any is_stabs items && (list_any is_xcoff items || has_vms_or_newer items)
+
+abbrev pub mixes_xcoff : List Item → Bool
+mixes_xcoff items = list_any is_xcoff items && has_vms_or_newer items
+
+abbrev pub mixes_vms : List Item → Bool
+mixes_vms items = has (codes "-gvms") items && list_any is_newer items
+
+abbrev pub mixes_newer : List Item → Bool
+mixes_newer items = has (codes "-gctf") items && has (codes "-gbtf") items
+
+abbrev pub mixes_formats : List Item → Bool
+mixes_formats items = ((mixes_stabs items || mixes_xcoff items) || mixes_vms items) || mixes_newer items
+
+-- a question where there is no input
+abbrev pub tells_alone : List Item → Bool
+tells_alone items = list_any (λ i. tells i.part) items && not (has_input items)
+
+abbrev pub is_asked : List Item → Bool
+is_asked items = ((list_any asks items || tells_alone items) || sets_unjudged items) || mixes_formats items
