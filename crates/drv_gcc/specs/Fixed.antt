@@ -11,16 +11,33 @@ first_texts = written_entry (codes "distro_defaults") (codes "%{-gdrv-none:}") +
 -- what a line is refused for: the front sees what no pattern can
 unfoldable pub guards : List ℕ
 guards =
-    written_entry (codes "without_front") (codes "%{!-gdrv-front:%ethis spec file is for gdrv-cc}")
-    ++ written_entry (codes "several_suffixes") (codes "%{fstack-usage|fcallgraph-info*|coverage|ftest-coverage|fprofile-*|fdump-final-insns*|gsplit-dwarf:"
+    written_entry (codes "several_suffixes") (codes "%{fstack-usage|fcallgraph-info*|coverage|ftest-coverage|fprofile-*|fdump-final-insns*|gsplit-dwarf:"
     ++ codes "%enames of side files of sources with several suffixes of other languages are not in this spec file}")
     ++ written_entry (codes "refused_here") (codes "%(refused_root)%{mmusl*|muclibc*|mbionic*|mandroid*:%eanother C library is not in this spec file}"
     ++ codes "%{-gdrv-wrapper=:%e-wrapper with an empty word is not in this spec file}"
-    ++ codes "%{-gdrv-suffixes:%(several_suffixes)} %(without_front) %(refused_options)")
+    ++ codes "%{-gdrv-suffixes:%(several_suffixes)} %(refused_options)%{!-gdrv-front:%(without_front)}")
     ++ written_entry (codes "gdrv_self") (codes "/ %(self_spec)\n/ %{*}") ++ written_entry (codes "self_spec") (codes "%{-gdrv-none:}")
     ++ written_entry (codes "driver_alone") (codes "%<foffload=* %<fdump-core")
     ++ written_entry (codes "sysroot_folder") (codes "%{-gdrv-none:}") ++ written_entry (codes "multilib_folder") (codes ".")
     ++ written_entry (codes "lto_pass_through") (codes "%(pass_link_gcc_c_sequence)")
+
+-- What a line without the front is refused for: options that the front alone reads, two of which the last counts, and each switch that is
+-- in no list. The list hides the others, so it follows all that asks for them.
+unfoldable pub alone : List ℕ
+alone =
+    written_entry (codes "last_one") (codes "%ewhich of two options is the last needs gdrv-cc")
+    ++ written_entry (codes "without_front")
+    (codes "%{B*:%e-B needs gdrv-cc}%{fsanitize=*:%e-fsanitize= needs gdrv-cc}%{flto*:%e-flto needs gdrv-cc}"
+    ++ codes "%{fopenmp|fopenacc|fgnu-tm|ftree-parallelize-loops=*:%e-fopenmp and other threads need gdrv-cc}"
+    ++ codes "%{save-temps*|gsplit-dwarf|fprofile-*|ftest-coverage|coverage|-coverage|fstack-usage|fcallgraph-info*|fdump-*|"
+    ++ codes "fopt-info*|fcompare-debug*:%enames of side files need gdrv-cc}%{MD|MMD:%{!MF*:%{o*:%e-MD with -o needs gdrv-cc}}}"
+    ++ codes "%{gtoggle|g0:%{g|g1|g2|g3|ggdb*|gdwarf*:%(last_one)}}%{m64:%{m32|mx32|m16:%(last_one)}}%{m32:%{mx32|m16:%(last_one)}}"
+    ++ codes "%{mx32:%{m16:%(last_one)}}%{no-pie:%{pie|static-pie:%(last_one)}} %<A* %<C %<CC %<D %<E %<F* %<H %<I %<L* %<M* %<N "
+    ++ codes "%<O* %<P %<Q %<Qn %<Qy %<S %<T* %<U %<W* %<Z %<ansi %<aux-info %<c %<d* %<e* %<f* %<g* %<h* %<i* %<m* %<n "
+    ++ codes "%<no-integrated-cpp %<no-pie %<nodefaultlibs %<nolibc %<nostartfiles %<nostdinc* %<nostdlib %<o %<p %<pedantic* %<pg "
+    ++ codes "%<pie %<pipe %<posix %<profile %<pthread %<r %<rdynamic %<remap %<s %<shared %<shared-libgcc %<specs=* %<static "
+    ++ codes "%<static-lib* %<static-pie %<std=* %<symbolic %<t %<traditional* %<trigraphs %<u* %<undef %<v %<w %<z* %<-param* "
+    ++ codes "%{*:%eunknown option}")
 
 -- the names of side files
 unfoldable pub side_files : List ℕ
@@ -78,4 +95,4 @@ link_guard = written_entry (codes "link_command") (codes "+ %{fsyntax-only|c|M|M
     ++ codes "%{fvtable-verify=*:%e-fvtable-verify= is not in this spec file}} %(refused_here)")
 
 unfoldable pub last_texts : List ℕ
-last_texts = guards ++ side_files ++ wrappers ++ commands ++ link_guard ++ languages
+last_texts = guards ++ alone ++ side_files ++ wrappers ++ commands ++ link_guard ++ languages

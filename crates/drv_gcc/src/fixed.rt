@@ -1,7 +1,7 @@
 //! What no dump has: how gcc compiles a source of each language, and where files go whose names the
 //! front of gdrv-cc hands on.
 
-ghost use Rattle.drv_gcc.specs.Fixed.{commands, first_texts, guards, languages, last_texts};
+ghost use Rattle.drv_gcc.specs.Fixed.{alone, commands, first_texts, guards, languages, last_texts};
 ghost use Rattle.drv_gcc.specs.Fixed.{link_guard, side_files, wrappers};
 ghost use Rattle.std.specs.Prelude.{◌≡◌, ◌++◌, OnOk};
 
@@ -19,9 +19,6 @@ const FIRST: &[u8] = b"\
 
 /// What a line is refused for: the front sees what no pattern can.
 const GUARDS: &[u8] = b"\
-    *without_front:\n\
-    %{!-gdrv-front:%ethis spec file is for gdrv-cc}\n\
-    \n\
     *several_suffixes:\n\
     %{fstack-usage|fcallgraph-info*|coverage|ftest-coverage|fprofile-*|fdump-final-insns*|gs\
     plit-dwarf:%enames of side files of sources with several suffixes of other languages are \
@@ -30,7 +27,7 @@ const GUARDS: &[u8] = b"\
     *refused_here:\n\
     %(refused_root)%{mmusl*|muclibc*|mbionic*|mandroid*:%eanother C library is not in this sp\
     ec file}%{-gdrv-wrapper=:%e-wrapper with an empty word is not in this spec file}%{-gdrv-s\
-    uffixes:%(several_suffixes)} %(without_front) %(refused_options)\n\
+    uffixes:%(several_suffixes)} %(refused_options)%{!-gdrv-front:%(without_front)}\n\
     \n\
     *gdrv_self:\n\
     / %(self_spec)\n\
@@ -50,6 +47,28 @@ const GUARDS: &[u8] = b"\
     \n\
     *lto_pass_through:\n\
     %(pass_link_gcc_c_sequence)\n\
+    \n";
+
+/// What a line without the front is refused for: options that the front alone reads, two of which
+/// the last counts, and each switch that is in no list.
+const ALONE: &[u8] = b"\
+    *last_one:\n\
+    %ewhich of two options is the last needs gdrv-cc\n\
+    \n\
+    *without_front:\n\
+    %{B*:%e-B needs gdrv-cc}%{fsanitize=*:%e-fsanitize= needs gdrv-cc}%{flto*:%e-flto needs gdrv-cc}\
+    %{fopenmp|fopenacc|fgnu-tm|ftree-parallelize-loops=*:%e-fopenmp and other threads need gdrv-cc}\
+    %{save-temps*|gsplit-dwarf|fprofile-*|ftest-coverage|coverage|-coverage|fstack-usage|\
+    fcallgraph-info*|fdump-*|fopt-info*|fcompare-debug*:%enames of side files need gdrv-cc}\
+    %{MD|MMD:%{!MF*:%{o*:%e-MD with -o needs gdrv-cc}}}\
+    %{gtoggle|g0:%{g|g1|g2|g3|ggdb*|gdwarf*:%(last_one)}}%{m64:%{m32|mx32|m16:%(last_one)}}\
+    %{m32:%{mx32|m16:%(last_one)}}%{mx32:%{m16:%(last_one)}}%{no-pie:%{pie|static-pie:%(last_one)}} \
+    %<A* %<C %<CC %<D %<E %<F* %<H %<I %<L* %<M* %<N %<O* %<P %<Q %<Qn %<Qy %<S %<T* %<U %<W* %<Z \
+    %<ansi %<aux-info %<c %<d* %<e* %<f* %<g* %<h* %<i* %<m* %<n %<no-integrated-cpp %<no-pie \
+    %<nodefaultlibs %<nolibc %<nostartfiles %<nostdinc* %<nostdlib %<o %<p %<pedantic* %<pg %<pie \
+    %<pipe %<posix %<profile %<pthread %<r %<rdynamic %<remap %<s %<shared %<shared-libgcc %<specs=* \
+    %<static %<static-lib* %<static-pie %<std=* %<symbolic %<t %<traditional* %<trigraphs %<u* \
+    %<undef %<v %<w %<z* %<-param* %{*:%eunknown option}\n\
     \n";
 
 /// The names of side files.
@@ -153,6 +172,14 @@ fn push_guards(text: &mut Word) -> Result<(), AllocError>
     text.extend_from_slice(GUARDS)
 }
 
+/// Adds what a line without the front is refused for.
+#[tactic(auto, unfolding(crate::specs::Fixed::alone))]
+fn push_alone(text: &mut Word) -> Result<(), AllocError>
+    ensures { OnOk result (text.new ≡ text.old ++ alone) }
+{
+    text.extend_from_slice(ALONE)
+}
+
 /// Adds the names of side files.
 #[tactic(auto, unfolding(crate::specs::Fixed::side_files))]
 fn push_side_files(text: &mut Word) -> Result<(), AllocError>
@@ -203,6 +230,7 @@ pub(crate) fn push_last(text: &mut Word) -> Result<(), AllocError>
     ensures { OnOk result (text.new ≡ text.old ++ last_texts) }
 {
     push_guards(text)?;
+    push_alone(text)?;
     push_side_files(text)?;
     push_wrappers(text)?;
     push_commands(text)?;
