@@ -6,6 +6,15 @@ use crate::room::Room;
 use drv_words::{Listing, Word};
 use std::alloc::Global;
 
+/// Where the texts of a gcc look for its files.
+#[derive(Clone, Copy)]
+pub enum Places {
+    /// Where gcc looks: also along the folders of the line.
+    Searched,
+    /// Where it has them, whatever the line says.
+    Fixed,
+}
+
 /// A gcc that is asked in a room, by its path, with an option that chooses its machine or an empty
 /// word.
 #[derive(Clone, Copy)]
@@ -14,6 +23,7 @@ pub struct Asked<'a> {
     pub room: &'a Room,
     pub gcc: &'a Word,
     pub option: &'a Word,
+    pub places: Places,
 }
 
 impl<'a> Asked<'a> {

@@ -8,7 +8,7 @@ use drv_words::{Listing, Word};
 use std::alloc::Global;
 
 /// The lines that must have gcc's plan: each way to compile, to assemble and to link.
-const LINES: [&[u8]; 34] = [
+const LINES: [&[u8]; 31] = [
     b"-c x.c -o made",
     b"-c x.c -O2 -g -o made",
     b"-c x.c -g3 -gdwarf-4 -o made",
@@ -38,10 +38,14 @@ const LINES: [&[u8]; 34] = [
     b"x.o -static-libgcc -fopenmp -o made",
     b"x.o -fsanitize=address -o made",
     b"-c x.c -flto -O2 -o made",
-    b"-BB -c x.c -o made",
-    b"-BB x.o -o made",
     b"-c x.c -save-temps -o made",
     b"-wrapper W,w -c x.c -o made",
+];
+
+/// The lines with a folder in which gcc looks for files: they have its plan, or are refused.
+const FOLDER_LINES: [&[u8]; 3] = [
+    b"-BB -c x.c -o made",
+    b"-BB x.o -o made",
     b"-wrapper W -BB -c x.S -o made",
 ];
 
@@ -133,6 +137,11 @@ impl<'a> Pair<'a> {
                 Verdict::Refused | Verdict::Other => {
                     lines.push(Word::from_bytes(self.rt.alloc(), line)?)?;
                 }
+            }
+        }
+        for line in FOLDER_LINES {
+            if let Verdict::Other = self.verdict(line, b"")? {
+                lines.push(Word::from_bytes(self.rt.alloc(), line)?)?;
             }
         }
         Ok(lines)

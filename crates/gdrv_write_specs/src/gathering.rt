@@ -1,12 +1,13 @@
 //! What is known of a gcc is gathered from its answers.
 
-use crate::asked::Asked;
-use crate::asking::{ask, commands, named, text};
+use crate::asked::{Asked, Places};
+use crate::asking::{commands, named, text};
 use crate::defaults::with_defaults;
 use crate::fault::Fault;
 use crate::finding::{command_named, has_word, word_beginning};
 use crate::machines::{Facts, Part, choice, facts_for, machine_of, own_folder};
 use crate::room::{Room, joined, write};
+use crate::wording::{own_records, with_other_words};
 use drv_dump::{OurDump, pass_libraries, translate_dump};
 use drv_gcc::{
     Choice, Included, MachineOptions, MachineWord, NamedText, Programs, Toolchain, folder_text,
@@ -149,6 +150,10 @@ pub struct Gathered {
     probes: Listing<Word>,
     /// The folder of its own library.
     folder: Word,
+    /// Where its texts look for its files.
+    places: Places,
+    /// What it hands to the assembler for `-g`; empty if nothing.
+    records: Word,
     /// What it does for its own machine.
     own: Facts,
     /// What it does for those that an option chooses.
@@ -204,50 +209,11 @@ fn with_natives(asked: Asked<'_>, dump: Word) -> Result<(Word, Listing<Word>), F
     Ok((texts, probes))
 }
 
-/// Words of gcc's texts, and the same in fewer steps. It hides `-march=native` where the options for
-/// the machine do, and switches that the front never hands on. Few lines have rules for `make` made,
-/// or plugins.
-const FEWER: [(&[u8], &[u8]); 5] = [
-    (b"%>march=native ", b""),
-    (b"%>mtune=native ", b""),
-    (b"%<dumpdir %<dumpbase %<dumpbase-ext ", b""),
-    (
-        b"%{MD:-MD %(dependencies)} %{MMD:-MMD %(dependencies)} %{M} %{MM} %{MF*} %{MG} %{MP} \
-%{MQ*} %{MT*} %{Mmodules} %{Mno-modules}",
-        b"%{M*:%{MD:-MD %(dependencies)} %{MMD:-MMD %(dependencies)} %{M} %{MM} %{MF*} %{MG} %{MP} \
-%{MQ*} %{MT*} %{Mmodules} %{Mno-modules}}",
-    ),
-    (
-        b"%{!iplugindir*:%{fplugin*:%(plugin_folder)}}",
-        b"%{fplugin*:%{!iplugindir*:%(plugin_folder)}}",
-    ),
-];
-
-/// Texts with these words.
-fn with_fewer(alloc: Global, texts: &Word) -> Result<Word, Fault> {
-    let mut whole = texts.clone()?;
-    for (words, fewer) in FEWER {
-        whole = replace(alloc, whole.as_bytes(), words, fewer)?;
-    }
-    Ok(whole)
-}
-
 impl<'a> Asked<'a> {
-    /// The dump of the gcc.
-    fn dump(self) -> Result<Word, Fault> {
-        let Ok(said) = ask(self.rt, &self.room.lines, self.gcc, b"-dumpspecs") else {
-            return Err(Fault::NoGcc(self.gcc.clone()?));
-        };
-        if !said.is_done || said.out.is_empty() {
-            return Err(Fault::NoDump(self.gcc.clone()?));
-        }
-        Ok(said.out)
-    }
-
-    /// The texts of the dump.
+    /// Its texts in this driver's language.
     fn translated(self) -> Result<Translated, Fault> {
         let alloc = self.alloc();
-        let (dump, probes) = with_natives(self, self.dump()?)?;
+        let (dump, probes) = with_natives(self, self.own_texts()?)?;
         let (Ok(OurDump { texts, refused }), Ok(passed)) = (
             translate_dump(alloc, dump.as_bytes()),
             pass_libraries(alloc, dump.as_bytes()),
@@ -255,7 +221,7 @@ impl<'a> Asked<'a> {
             return Err(Fault::BadDump(self.gcc.clone()?));
         };
         Ok(Translated {
-            texts: with_fewer(alloc, &texts)?,
+            texts: with_other_words(alloc, &texts)?,
             passed,
             lacking: refused,
             probes,
@@ -271,6 +237,13 @@ impl<'a> Asked<'a> {
             None => &[],
         };
         word_beginning(self.alloc(), link, b"--sysroot=")
+    }
+
+    /// What the assembler is given for `-g`; empty if nothing.
+    fn records(self) -> Result<Word, Fault> {
+        let planned = self.planned(b"-### -g -c x.c -o x.o")?;
+        let assembler = command_named(planned.as_slice(), b"as").unwrap_or(&[]);
+        word_beginning(self.alloc(), assembler, b"--gdwarf")
     }
 
     /// Whether the linker is given the root of the line.
@@ -364,6 +337,8 @@ impl<'a> Asked<'a> {
             names,
             probes,
             folder,
+            places: self.places,
+            records: self.records()?,
             own,
             others: Listing::new(alloc),
         })
@@ -546,9 +521,14 @@ impl Gathered {
             own,
             others,
         )?;
+        let records = NamedText {
+            name: Word::from_bytes(alloc, b"own_records")?,
+            choice: own_records(alloc, self.records.as_bytes())?,
+        };
         let has_native = !self.probes.is_empty();
         choose_for(alloc, &mut self.toolchain, own, others, has_native)?;
         self.toolchain.named = named;
+        self.toolchain.named.push(records)?;
         Ok(())
     }
 
@@ -565,6 +545,7 @@ impl Gathered {
             room,
             gcc,
             option,
+            places: self.places,
         };
         if let Some(machine) = machine_of(asked)? {
             self.others.push(facts_for(
@@ -587,6 +568,14 @@ pub fn gather(rt: &HostRuntime, room: &Room, gcc: &Word) -> Result<Gathered, Fau
         room,
         gcc,
         option: &option,
+        places: Places::Searched,
+    };
+    let asked = Asked {
+        rt,
+        room,
+        gcc,
+        option: &option,
+        places: asked.places_of()?,
     };
     let mut gathered = asked.gathered(asked.translated()?)?;
     gathered.choose(rt.alloc())?;

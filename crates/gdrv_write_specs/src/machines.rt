@@ -1,6 +1,6 @@
 //! What a gcc does for each machine that an option chooses.
 
-use crate::asked::Asked;
+use crate::asked::{Asked, Places};
 use crate::asking::named;
 use crate::fault::Fault;
 use crate::finding::{command_named, has_word, words_between};
@@ -260,12 +260,12 @@ fn own_place(
     Ok(placed_text(alloc, name, Buffer::new().format(number).as_bytes())?)
 }
 
-/// The text that finds a file. With an option for another machine a file that gcc doesn't find has
-/// its plain name.
+/// The text that finds a file. In a fixed place, and with an option for another machine, a file that
+/// gcc doesn't find has its plain name.
 fn place(asked: Asked<'_>, name: &Word, folders: &mut Listing<Word>) -> Result<Word, Fault> {
     let alloc = asked.alloc();
     let path = asked.path_of(name.as_bytes())?;
-    if asked.option.is_empty() {
+    if let (true, Places::Searched) = (asked.option.is_empty(), asked.places) {
         return own_place(alloc, name.as_bytes(), path.as_bytes(), folders);
     }
     let one = [if path.is_empty() { name.clone()? } else { path }];

@@ -6,6 +6,7 @@ mod asking;
 mod calling;
 mod checking;
 mod defaults;
+mod dumping;
 mod fault;
 mod finding;
 mod gathering;
@@ -17,6 +18,7 @@ mod placing;
 mod programs;
 mod room;
 mod shortening;
+mod wording;
 
 use calling::{Call, CallFault, Manner, call_of};
 use drv_run::VERSION;

@@ -189,6 +189,17 @@ fn entries_of(alloc: Global, file: &[u8]) -> Result<Vec<Entry>, Fault> {
     Ok(entries)
 }
 
+/// The texts of a spec file after its renames and additions, as a dump has them.
+pub fn dump_of(alloc: Global, file: &[u8]) -> Result<Word, Fault> {
+    let mut dump = Word::empty(alloc);
+    for it in entries_of(alloc, file)? {
+        push_head(&mut dump, it.name.as_bytes())?;
+        dump.extend_from_slice(it.body.as_bytes())?;
+        dump.extend_from_slice(b"\n\n")?;
+    }
+    Ok(dump)
+}
+
 /// The names of texts.
 fn names_of(alloc: Global, entries: &[Entry]) -> Result<Listing<Word>, Fault> {
     let mut names = Listing::new(alloc);
@@ -328,13 +339,18 @@ fn grow(alloc: Global, entries: &mut [Entry]) -> Result<(), Fault> {
     Ok(())
 }
 
-/// Adds a text.
-fn push_entry(file: &mut Word, name: &[u8], body: &[u8]) -> Result<(), Fault> {
+/// Adds the line of a text's name.
+fn push_head(file: &mut Word, name: &[u8]) -> Result<(), Fault> {
     if !matches!(name, [b'.' | b'@', ..]) {
         file.push(b'*')?;
     }
     file.extend_from_slice(name)?;
-    file.extend_from_slice(b":\n")?;
+    Ok(file.extend_from_slice(b":\n")?)
+}
+
+/// Adds a text.
+fn push_entry(file: &mut Word, name: &[u8], body: &[u8]) -> Result<(), Fault> {
+    push_head(file, name)?;
     let text = body.trim_ascii();
     file.extend_from_slice(if text.is_empty() {
         b"%{-gdrv-none:}"

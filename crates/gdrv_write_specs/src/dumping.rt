@@ -1,0 +1,99 @@
+//! The texts of a gcc: its dump, and the spec files that it reads for each line.
+
+use crate::asked::{Asked, Places};
+use crate::asking::{ask, named, text};
+use crate::fault::Fault;
+use crate::parts::dump_of;
+use drv_gcc::{named_texts, replace, values};
+use drv_words::{Listing, Word};
+use std::fs;
+
+/// The texts that refuse `-B`: those of each command, which don't look for files along folders of
+/// the line.
+const WITHOUT_FOLDERS: &[u8] = b"*cpp_unique_options:\n+ %(refused_folders)\n\n\
+    *asm_options:\n+ %(refused_folders)\n\n\
+    *link:\n+ %(refused_folders)\n\n\
+    *refused_folders:\n\
+    %{-gdrv-dirs:%(own_folders)%{B*:%e-B is not in this spec file}}\n\n";
+
+/// How a function begins that says a file's name if the file is there.
+const IF_EXISTS: &[u8] = b"%:if-exists(";
+
+impl<'a> Asked<'a> {
+    /// What the gcc dumps.
+    fn dump(self) -> Result<Word, Fault> {
+        let Ok(said) = ask(self.rt, &self.room.lines, self.gcc, b"-dumpspecs") else {
+            return Err(Fault::NoGcc(self.gcc.clone()?));
+        };
+        if !said.is_done || said.out.is_empty() {
+            return Err(Fault::NoDump(self.gcc.clone()?));
+        }
+        Ok(said.out)
+    }
+
+    /// The spec files that it reads for each line, as `musl-gcc` does, which calls another gcc.
+    fn files_read(self) -> Result<Listing<Word>, Fault> {
+        let said = self.ask(b"-v")?;
+        Ok(values(self.alloc(), b"Reading specs from ", said.err.as_bytes())?)
+    }
+
+    /// Where its texts look for its files: where it has them if such a file names some, since its
+    /// names may be those of folders.
+    pub fn places_of(self) -> Result<Places, Fault> {
+        Ok(if self.files_read()?.is_empty() {
+            Places::Searched
+        } else {
+            Places::Fixed
+        })
+    }
+
+    /// A dump and the texts of these files.
+    fn with_files(self, dump: Word, files: &[Word]) -> Result<Word, Fault> {
+        let alloc = self.alloc();
+        let mut whole = dump;
+        for path in files {
+            let Ok(content) = fs::read(self.rt, text(path.as_bytes())?) else {
+                return Err(Fault::BadDump(self.gcc.clone()?));
+            };
+            if !values(alloc, b"%include", content.as_slice())?.is_empty() {
+                return Err(Fault::BadDump(self.gcc.clone()?));
+            }
+            whole.push(b'\n')?;
+            whole.extend_from_slice(content.as_slice())?;
+            whole.extend_from_slice(b"\n\n")?;
+        }
+        whole.extend_from_slice(WITHOUT_FOLDERS)?;
+        dump_of(alloc, whole.as_bytes())
+    }
+
+    /// Texts that name a file outright if gcc finds it, in place of asking at each call.
+    fn with_found(self, texts: Word) -> Result<Word, Fault> {
+        let alloc = self.alloc();
+        let mut whole = texts;
+        for file in named_texts(alloc, IF_EXISTS, whole.as_bytes())?.as_slice() {
+            let Some(name) = file.as_bytes().strip_suffix(b"%s".as_slice()) else {
+                continue;
+            };
+            let mut call = named(alloc, IF_EXISTS, file.as_bytes())?;
+            call.push(b')')?;
+            let found = if self.path_of(name)?.is_empty() {
+                b"".as_slice()
+            } else {
+                file.as_bytes()
+            };
+            whole = replace(alloc, whole.as_bytes(), call.as_bytes(), found)?;
+        }
+        Ok(whole)
+    }
+
+    /// The texts of the gcc.
+    pub fn own_texts(self) -> Result<Word, Fault> {
+        let dump = self.dump()?;
+        let files = self.files_read()?;
+        if files.is_empty() {
+            return Ok(dump);
+        }
+        let whole = self.with_files(dump, files.as_slice())?;
+        self.with_found(whole)
+    }
+}
