@@ -12,9 +12,25 @@ use std::fs;
 /// the line.
 const WITHOUT_FOLDERS: &[u8] = b"*cpp_unique_options:\n+ %(refused_folders)\n\n\
     *asm_options:\n+ %(refused_folders)\n\n\
-    *link:\n+ %(refused_folders)\n\n\
+    *link:\n+ %(refused_folders) %{flto*:%{fno-lto:;fno-use-linker-plugin:%e-flto without the \
+    plugin of the linker is not in this spec file}}\n\n\
     *refused_folders:\n\
     %{-gdrv-dirs:%(own_folders)%{B*:%e-B is not in this spec file}}\n\n";
+
+/// The texts that refuse `-flto` without the plugin of the linker: there `collect2` does the link's
+/// work, and the spec file starts the linker itself.
+const GUARDED: [(&[u8], &[u8]); 2] = [
+    (
+        b"*cc1_options:\n",
+        b"*cc1_options:\n%{flto*:%{fno-lto:;fno-use-linker-plugin:%e-flto without the plugin of the \
+linker is not in this spec file}} ",
+    ),
+    (
+        b"*link:\n",
+        b"*link:\n%{flto*:%{fno-lto:;fno-use-linker-plugin:%e-flto without the plugin of the linker \
+is not in this spec file}} ",
+    ),
+];
 
 /// How a function begins that says a file's name if the file is there.
 const IF_EXISTS: &[u8] = b"%:if-exists(";
@@ -33,7 +49,9 @@ impl<'a> Asked<'a> {
 
     /// The spec files that it reads for each line, as `musl-gcc` does, which calls another gcc.
     fn files_read(self) -> Result<Listing<Word>, Fault> {
-        let said = self.ask(b"-v")?;
+        let Ok(said) = ask(self.rt, &self.room.lines, self.gcc, b"-v") else {
+            return Err(Fault::NoGcc(self.gcc.clone()?));
+        };
         Ok(values(self.alloc(), b"Reading specs from ", said.err.as_bytes())?)
     }
 
@@ -86,9 +104,18 @@ impl<'a> Asked<'a> {
         Ok(whole)
     }
 
+    /// The dump with the texts that refuse lines.
+    fn guarded(self) -> Result<Word, Fault> {
+        let mut dump = self.dump()?;
+        for (head, guarded) in GUARDED {
+            dump = replace(self.alloc(), dump.as_bytes(), head, guarded)?;
+        }
+        Ok(dump)
+    }
+
     /// The texts of the gcc.
     pub fn own_texts(self) -> Result<Word, Fault> {
-        let dump = self.dump()?;
+        let dump = self.guarded()?;
         let files = self.files_read()?;
         if files.is_empty() {
             return Ok(dump);
