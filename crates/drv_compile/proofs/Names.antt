@@ -6,16 +6,23 @@ use Rattle.drv_cc.specs.declared.answer.Answer.{Answer}
 use Rattle.drv_cc.specs.declared.answer.Surroundings.{Surroundings}
 use Rattle.drv_cc.specs.declared.item.Item.{Item as Read}
 use Rattle.drv_cc.specs.declared.refusal.Refusal.{Refusal}
-use Rattle.drv_compile.specs.Beside.{known_names}
-use Rattle.drv_compile.specs.Reading.{answer_names, file_names, files_names, folders_given, has_unknown, items_names, known_answer, line_read, names_read, or_by_files, read_by, refused_answer, specs_given, unknown_switches}
+use Rattle.drv_compile.specs.Beside.{bytes_read, known_names}
+use Rattle.drv_compile.specs.Code.Naming.{items_at, items_beside, items_named}
+use Rattle.drv_compile.specs.Places.{companion}
+use Rattle.drv_compile.specs.Reading.{answer_names, file_names, files_names, folders_given, has_unknown, items_names, kept, known_answer, line_read, names_read, or_by_files, read_beside, read_by, reads_again, refused_answer, specs_given, unknown_switches}
+use Rattle.drv_compile.specs.Written.{whole_lines}
 use Rattle.drv_compile.specs.declared.reading.Reading.{Reading}
-use Rattle.drv_search.specs.Search.{Adds, file_found, prefixes_of}
+use Rattle.drv_search.specs.Search.{Adds, file_found, is_plain, prefixes_of}
 use Rattle.drv_search.specs.declared.prefixes.Prefixes.{Prefixes}
-use Rattle.drv_system.specs.Facts.{Facts, read_of}
+use Rattle.drv_system.specs.Facts.{Facts, kind_of, read_of}
 use Rattle.drv_system.specs.Known.{◌>>=◌, Is, Known, Unasked}
+use Rattle.drv_system.specs.declared.event.PathKind.{PathKind}
+use Rattle.drv_system.specs.declared.event.ReadAnswer.TheVariants as read_answer
 use Rattle.drv_system.specs.declared.event.ReadAnswer.{ReadAnswer}
-use Rattle.std.proofs.Common.{◌≡◌, ◌<◌, ◌+◌, ◌∙◌, ◌∷◌, ◌++◌, [], Err, IfOk, List, None, Ok, OnOk, Option, Result, Some, ap, append_assoc, drop, false, length, refl, sym, true, ℕ}
+use Rattle.std.proofs.Common.{◌≡◌, ◌<◌, ◌+◌, ◌∙◌, ◌∷◌, ◌++◌, [], Bool, Err, IfOk, List, None, Ok, OnOk, Option, Result, Some, ap, append_assoc, codes, drop, false, length, refl, sym, true, ℕ}
+use Rattle.std.proofs.lemmas.Bool.{false≢true}
 use Rattle.std.proofs.lemmas.List.{drop_more}
+use Rattle.std.specs.Option.{option_and_then, unwrap_or}
 use Rattle.std.specs.Prelude.{get_or}
 
 -- For the reading of a line: the names that its files list, and the answer by them.
@@ -104,17 +111,78 @@ known_refused F known around words items answer refusals slice (Ok a) items_are 
     ap (or_by_files F known around words) (ap (answer_of [] around) (sym items_are) ∙ sym is ∙ refused)
     ∙ ap (refused_answer F known around words) (sym same) ∙ ends
 
--- with names of options that are known
-pub read_known : (F : Facts) (known : List ℕ) (given : Option (List ℕ)) (slice : List ℕ) (around : Surroundings) (words : List (List ℕ)) (answer : Answer)
-    → given ≡ Some known → slice ≡ known → known_answer F slice around words ≡ Is answer → read_by F around words given ≡ Is (Some (record { known = known; answer = answer }))
-read_known F known given slice around words answer some same is = rw some (ap (λ k. known_answer F k around words >>= λ a. Is (Some (record { known = known; answer = a }))) (sym same) ∙ ap (λ k. k >>= λ a. Is (Some (record { known = known; answer = a }))) is)
+-- with names of options that are known, or without them
+
+abbrev is_there : {X : Type 0} → Known (Option X) → Bool
+is_there Unasked = false
+is_there (Is None) = false
+is_there (Is (Some x)) = true
+
+abbrev is_asked : {X : Type 0} → Known X → Bool
+is_asked Unasked = false
+is_asked (Is x) = true
+
+abbrev or_nothing : {X : Type 0} → Known (Option (List X)) → List X
+or_nothing Unasked = []
+or_nothing (Is None) = []
+or_nothing (Is (Some xs)) = xs
+
+pub whole_named : (words : List (List ℕ)) (answer : ReadAnswer) (text slice : List ℕ) (found : Option (List ℕ)) (names : List ℕ) (named : List Read)
+    → answer ≡ read_answer.Read text → slice ≡ text → found ≡ whole_lines slice → found ≡ Some names → named ≡ items_of names None words
+    → Some named ≡ items_named words (option_and_then whole_lines (bytes_read answer))
+whole_named words answer text slice found names named is same seen some named_is =
+    ap Some named_is ∙ ap (items_named words) (sym some ∙ seen ∙ ap whole_lines same)
+    ∙ ap (λ a. items_named words (option_and_then whole_lines (bytes_read a))) (sym is)
+
+pub items_read_at : {E : Type 0} (F : Facts) (path : List ℕ) (words : List (List ℕ)) (kind : PathKind) (answer : ReadAnswer) (result : Result (Option (List Read)) E)
+    → is_plain kind ≡ true → kind_of F path ≡ Some kind → read_of F path ≡ Some answer
+    → IfOk result (λ named. named ≡ items_named words (option_and_then whole_lines (bytes_read answer))) → IfOk result (λ named. items_at F path words ≡ Is named)
+items_read_at F path words kind answer (Ok named) plain known read is = rw (known, plain, read, is) refl
+items_read_at F path words kind answer (Err e) plain known read is = tt
+
+pub items_known : {E : Type 0} (F : Facts) (specs path : List ℕ) (words : List (List ℕ)) (result : Result (Option (List Read)) E) → path ≡ companion specs (codes ".options")
+    → IfOk result (λ named. items_at F path words ≡ Is named) → IfOk result (λ named. items_beside F specs words ≡ Is named)
+items_known F specs path words (Ok named) is read = ap (λ p. items_at F p words) (sym is) ∙ read
+items_known F specs path words (Err e) is read = tt
+
+pub kept_so : (F : Facts) (specs : List ℕ) (answer : Answer) (known : List ℕ) (found : Option (List ℕ)) (names : List ℕ) → reads_again answer ≡ true
+    → known_names F specs ≡ Is (Some known) → known_names F specs ≡ Is found → names ≡ unwrap_or found [] → names ≡ kept answer known
+kept_so F specs answer known found names reads some is names_are = rw reads (names_are ∙ from_found found ∙ ap or_nothing (sym is ∙ some))
+  where
+    from_found : (found : Option (List ℕ)) → unwrap_or found [] ≡ or_nothing (Is found)
+    from_found None = refl
+    from_found (Some xs) = refl
+
+pub read_named : (F : Facts) (specs : List ℕ) (around : Surroundings) (words : List (List ℕ)) (named : Option (List Read)) (items : List Read) (answer : Answer) (names : List ℕ)
+    → items_beside F specs words ≡ Is named → named ≡ Some items
+    → ((known : List ℕ) → items ≡ items_of known None words → known_answer F known around words ≡ Is answer)
+    → ((known : List ℕ) → known_names F specs ≡ Is (Some known) → names ≡ kept answer known)
+    → read_beside F specs around words ≡ Is (Some (record { known = names; answer = answer }))
+read_named F specs around words named items answer names asked some answers keeps = by (known_names F specs) refl asked
+  where
+    by : (found : Known (Option (List ℕ))) → known_names F specs ≡ found → (found >>= λ known. Is (items_named words known)) ≡ Is named
+        → (found >>= λ known. read_by F around words known) ≡ Is (Some (record { known = names; answer = answer }))
+    by Unasked is none = absurd (false≢true (ap is_there (none ∙ ap Is some)))
+    by (Is None) is none = absurd (false≢true (ap is_there (none ∙ ap Is some)))
+    by (Is (Some known)) is there =
+        ap (λ k. k >>= λ a. Is (Some (record { known = kept a known; answer = a }))) (answers known (sym (ap or_nothing (there ∙ ap Is some))))
+        ∙ ap (λ n. Is (Some (record { known = n; answer = answer }))) (sym (keeps known is))
+
+pub read_unnamed : (F : Facts) (specs : List ℕ) (around : Surroundings) (words : List (List ℕ)) (named : Option (List Read))
+    → items_beside F specs words ≡ Is named → named ≡ None → read_beside F specs around words ≡ Is None
+read_unnamed F specs around words named asked none = by (known_names F specs) asked
+  where
+    by : (found : Known (Option (List ℕ))) → (found >>= λ known. Is (items_named words known)) ≡ Is named → (found >>= λ known. read_by F around words known) ≡ Is None
+    by Unasked is = absurd (false≢true (ap is_asked is))
+    by (Is None) is = refl
+    by (Is (Some known)) is = absurd (false≢true (sym (ap is_there (is ∙ ap Is none))))
 
 -- a line with an unknown word
-pub line_unknown : {E : Type 0} (F : Facts) (specs : List ℕ) (around : Surroundings) (words : List (List ℕ)) (answer : Answer) (known : Option (List ℕ)) (result : Result (Option Reading) E)
-    → answer ≡ front_of [] [] around words → has_unknown answer ≡ true → known_names F specs ≡ Is known
-    → IfOk result (λ reading. read_by F around words known ≡ Is reading) → IfOk result (λ reading. line_read F specs around words ≡ Is reading)
-line_unknown F specs around words answer known (Err e) is unknown names reading_is = tt
-line_unknown F specs around words answer known (Ok reading) is unknown names reading_is = rw (ap has_unknown (sym is) ∙ unknown, names) reading_is
+pub line_unknown : {E : Type 0} (F : Facts) (specs : List ℕ) (around : Surroundings) (words : List (List ℕ)) (answer : Answer) (result : Result (Option Reading) E)
+    → answer ≡ front_of [] [] around words → has_unknown answer ≡ true
+    → IfOk result (λ reading. read_beside F specs around words ≡ Is reading) → IfOk result (λ reading. line_read F specs around words ≡ Is reading)
+line_unknown F specs around words answer (Err e) is unknown reading_is = tt
+line_unknown F specs around words answer (Ok reading) is unknown reading_is = rw (ap has_unknown (sym is) ∙ unknown) reading_is
 
 -- a line without one
 pub line_known : (F : Facts) (specs : List ℕ) (around : Surroundings) (words : List (List ℕ)) (answer : Answer) (known : List ℕ)

@@ -16,6 +16,7 @@ use Rattle.drv_system.specs.Known.{◌>>=◌, Is, Known, asked}
 use Rattle.drv_system.specs.declared.event.ReadAnswer.TheVariants.{Failed, Missing, Read, TooLarge}
 use Rattle.drv_system.specs.declared.event.ReadAnswer.{ReadAnswer}
 use Rattle.std.specs.List.{filter_map, flat_map, list_any}
+use Rattle.std.specs.Option.{is_some}
 use Rattle.std.specs.Prelude.{Bool, List, [], ◌∷◌, ◌++◌, None, Option, Some, false, if◌then◌else◌, true, ℕ}
 
 -- The answer to a line, over facts: by the names of the compiler's options, and by those that the spec files of the line have (GCC,
@@ -96,12 +97,27 @@ or_by_files F known around words (Run call) = Is (Run call)
 abbrev pub known_answer : Facts → List ℕ → Surroundings → List (List ℕ) → Known Answer
 known_answer F known around words = or_by_files F known around words (front_of known [] around words)
 
--- the answer to a line, with the names of options that this took; none where the file that has them is not whole
+-- The names of options are read again where the line is refused, for its text, and where it names spec files, which may give it options.
+abbrev pub names_specs : Item → Bool
+names_specs i = is_some (spec_of i.effect i.argument)
+
+abbrev pub reads_again : Answer → Bool
+reads_again Ask = false
+reads_again (Refuse refusals) = true
+reads_again (Run call) = list_any names_specs call.items
+
+abbrev pub kept : Answer → List ℕ → List ℕ
+kept answer known = if reads_again answer then known else []
+
+-- the answer to a line, with the names of options that it took and that are read again; none where the file that has them is not whole
 abbrev pub read_by : Facts → Surroundings → List (List ℕ) → Option (List ℕ) → Known (Option Reading)
 read_by F around words None = Is None
-read_by F around words (Some known) = known_answer F known around words >>= λ answer. Is (Some (record { known = known; answer = answer }))
+read_by F around words (Some known) = known_answer F known around words >>= λ answer. Is (Some (record { known = kept answer known; answer = answer }))
+
+abbrev pub read_beside : Facts → List ℕ → Surroundings → List (List ℕ) → Known (Option Reading)
+read_beside F specs around words = known_names F specs >>= λ known. read_by F around words known
 
 abbrev pub line_read : Facts → List ℕ → Surroundings → List (List ℕ) → Known (Option Reading)
 line_read F specs around words =
-    if has_unknown (front_of [] [] around words) then (known_names F specs >>= λ known. read_by F around words known)
+    if has_unknown (front_of [] [] around words) then read_beside F specs around words
     else Is (Some (record { known = []; answer = front_of [] [] around words }))

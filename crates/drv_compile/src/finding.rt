@@ -16,7 +16,7 @@ use drv_words::Word;
 use std::alloc::{AllocError, Global};
 
 /// Whether a path is that of a plain file.
-fn is_plain(kind: PathKind) -> bool
+pub(crate) fn is_plain(kind: PathKind) -> bool
     ensures { result ≡ is_plain kind }
 {
     matches!(kind, PathKind::Plain)

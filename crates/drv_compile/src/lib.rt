@@ -11,6 +11,7 @@ mod expanding;
 mod finding;
 mod host;
 mod inputs;
+mod naming;
 mod nearest;
 mod parts;
 mod places;

@@ -4,7 +4,7 @@ ghost use Rattle.drv_args.specs.Lines.{prefix_of, spec_of};
 ghost use Rattle.drv_cc.specs.Items.{items_of};
 ghost use Rattle.drv_compile.specs.Reading.{answer_names, file_names, files_names, folders_given};
 ghost use Rattle.drv_compile.specs.Reading.{has_unknown, is_unknown, known_answer, line_read};
-ghost use Rattle.drv_compile.specs.Reading.{names_read, read_by, refused_answer, specs_given};
+ghost use Rattle.drv_compile.specs.Reading.{names_read, read_beside, refused_answer, specs_given};
 ghost use Rattle.drv_compile.specs.Reading.{unknown_switch, unknown_switches, items_names};
 ghost use Rattle.drv_search.specs.Code.Telling.{Tells, TellsMore};
 ghost use Rattle.drv_system.specs.Code.Asked.{Asked};
@@ -13,7 +13,7 @@ ghost use Rattle.std.specs.Option.{option_copied};
 ghost use Rattle.std.specs.Prelude.{◌≡◌, ◌++◌, [], IfOk, List, None, OnOk, ℕ};
 
 use crate::compilers::names_in;
-use crate::finding::known_names;
+use crate::naming::{items_beside, names_kept};
 use drv_args::{Effect, Item};
 use drv_cc::{Answer, Items, Refusal, Surroundings};
 use drv_search::{Prefixes, find_file};
@@ -21,11 +21,11 @@ use drv_system::{Outside, ReadAnswer, System};
 use drv_words::{Listing, Word};
 use std::alloc::{AllocError, Global};
 
-/// The answer to a line, with the names of options that this took.
+/// The answer to a line, with the names of options that it took and that are read again.
 #[derive(Drop)]
 pub(crate) struct Reading {
     /// The names of the compiler's options, a line each, where some word of the line is none that is
-    /// known without them; else none.
+    /// known without them, and the names are read again; else none.
     pub(crate) known: Word,
     /// The answer to the line.
     pub(crate) answer: Answer,
@@ -83,7 +83,7 @@ fn unknown_switches(alloc: Global, refusals: &[Refusal]) -> Result<Listing<Word>
 }
 
 /// The spec file that an item names, if it names one.
-fn spec_of(item: &Item) -> Option<&[u8]>
+pub(crate) fn spec_of(item: &Item) -> Option<&[u8]>
     ensures { option_copied result ≡ spec_of item.now.effect item.now.argument }
 {
     match item.effect {
@@ -254,30 +254,32 @@ fn known_answer<S: System>(
     refused_answer(alloc, items, around, refusals.as_slice(), outside)
 }
 
-/// The answer to a line of these items, which were read without names of options. These are the
-/// names of the compiler's, if they are known.
+/// The answer to a line of these items, which were read without names of options, by those of the
+/// compiler, if the file that has them is whole.
+#[tactic(auto, using(drv_system::proofs::AskedCalls::asked_further))]
 fn read_by<S: System>(
     alloc: Global,
-    known: Option<Word>,
+    specs: &[u8],
     around: &Surroundings,
     items: Items,
     outside: &mut Outside<'_, S>,
 ) -> Result<Option<Reading>, AllocError>
     ensures asks { Asked S.events outside.old outside.new }
     ensures reading { (words : List (List ℕ)) → items ≡ items_of [] None words
-        → Tells outside.new result (λ F. read_by F around.now words known) }
+        → Tells outside.new result (λ F. read_beside F specs.now around.now words) }
 {
-    let Some(known) = known else {
+    let named = items_beside(alloc, specs, items, outside)?;
+    let Some(items) = named else {
         return Ok(None);
     };
-    let items = items.with_names(alloc, known.as_bytes())?;
     let answer = known_answer(alloc, &items, around, outside)?;
+    let known = names_kept(alloc, specs, &answer, outside)?;
     Ok(Some(Reading { known, answer }))
 }
 
 /// The answer to a line, over the files beside a spec file; none where that of the compiler's
 /// options is not whole. It is read only where a word of the line needs it.
-#[tactic(auto, using(drv_system::proofs::AskedCalls::asked_further))]
+#[tactic(auto, using(drv_system::proofs::AskedCalls::asked_none))]
 pub(crate) fn read_line<S: System>(
     alloc: Global,
     specs: &[u8],
@@ -291,8 +293,7 @@ pub(crate) fn read_line<S: System>(
     let items = Items::of(alloc, b"", words)?;
     let answer = items.answer(alloc, &[], around)?;
     if has_unknown(&answer) {
-        let known = known_names(alloc, specs, outside)?;
-        return read_by(alloc, known, around, items, outside);
+        return read_by(alloc, specs, around, items, outside);
     }
     let known = Word::empty(alloc);
     Ok(Some(Reading { known, answer }))

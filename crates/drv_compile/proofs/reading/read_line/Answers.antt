@@ -1,15 +1,13 @@
 use Rattle.drv_cc.specs.Front.{answer_of}
 use Rattle.drv_compile.proofs.Names.{line_known, line_unknown}
 use Rattle.drv_compile.proofs.reading.read_line.Goals as goal
-use Rattle.drv_system.proofs.AskedCalls.{extends_before}
 use Rattle.std.proofs.Common.{◌∙◌, [], ap, sym}
 
 pub returns-then-has_unknown-clause-reading : goal.returns-then-has_unknown-clause-reading
 returns-then-has_unknown-clause-reading g c F e =
-    line_unknown F c.args.specs.now c.args.around.now c.args.words.now c.in_ok-answer.answer c.in_ok-known.known c.read_by.result
+    line_unknown F c.args.specs.now c.args.around.now c.args.words.now c.in_ok-answer.answer c.read_by.result
     (c.in_ok-answer.ensures ∙ ap (answer_of [] c.args.around.now) c.in_ok-items.ensures)
-    (sym c.has_unknown.ensures ∙ c.if-has_unknown.true) (c.in_ok-known.ensures.names F (extends_before c.read_by.ensures.asks e))
-    (c.read_by.ensures.reading c.args.words.now c.in_ok-items.ensures F e)
+    (sym c.has_unknown.ensures ∙ c.if-has_unknown.true) (c.read_by.ensures.reading c.args.words.now c.in_ok-items.ensures F e)
 
 pub returns-clause-reading : goal.returns-clause-reading
 returns-clause-reading g c F e =

@@ -1,0 +1,19 @@
+use Rattle.drv_cc.specs.Items.{items_of}
+use Rattle.drv_cc.specs.declared.item.Item.{Item}
+use Rattle.drv_compile.specs.Beside.{known_names, written}
+use Rattle.drv_system.specs.Facts.{Facts}
+use Rattle.drv_system.specs.Known.{◌>>=◌, Is, Known}
+use Rattle.std.specs.Prelude.{List, None, Option, Some, ℕ}
+
+-- The items of a line by names of options in a file. Only private clauses cite it.
+
+abbrev pub items_named : List (List ℕ) → Option (List ℕ) → Option (List Item)
+items_named words None = None
+items_named words (Some known) = Some (items_of known None words)
+
+-- that at a path, and that of the compiler beside a spec file
+abbrev pub items_at : Facts → List ℕ → List (List ℕ) → Known (Option (List Item))
+items_at F path words = written F path >>= λ known. Is (items_named words known)
+
+abbrev pub items_beside : Facts → List ℕ → List (List ℕ) → Known (Option (List Item))
+items_beside F specs words = known_names F specs >>= λ known. Is (items_named words known)
