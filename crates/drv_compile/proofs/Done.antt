@@ -3,7 +3,7 @@ use Rattle.drv_compile.proofs.Joined.{joined}
 use Rattle.drv_compile.proofs.Settled.{goes_by}
 use Rattle.drv_compile.specs.Code.Compiling.{Carried, DoesNoted, IsClosed, IsOpened, Noting, OpensWork, Spoken, TellsStop, Worked}
 use Rattle.drv_compile.specs.Code.Settling.{BeginsToGo, Going}
-use Rattle.drv_compile.specs.Compiles.{Closes, Comes, Compiled, Ends, Opens, Refuses, closed, closing, cut_short, jobs_before_link, lacks_program, noted, refused, settings, silent, spoken, unnoted, unsettled, worked}
+use Rattle.drv_compile.specs.Compiles.{Closes, Comes, Compiled, Ends, Opens, Refuses, closed, closing, cut_short, lacks_program, noted, refused, settings, silent, spoken, unnoted, unsettled, worked}
 use Rattle.drv_compile.specs.Inputs.{Noted}
 use Rattle.drv_compile.specs.Tasks.{IfTold}
 use Rattle.drv_compile.specs.declared.calling.Calling.{Calling}
@@ -87,18 +87,17 @@ text_unclosed journal journal' (b ∷ text) status some same = ([], same ∙ sym
 
 -- the hint or the remark
 pub closing_noted : (journal journal' : List Event) (before : ℕ) (prepared : Prepared) (lacks : Bool) (text : List ℕ) (status : ℕ) (outcome : Outcome)
-    → lacks_program (jobs_before_link prepared.work) (drop before journal) ≡ lacks → text ≡ closing prepared lacks → IsClosed journal journal' text status outcome
+    → lacks_program prepared (drop before journal) ≡ lacks → text ≡ closing prepared lacks → IsClosed journal journal' text status outcome
     → Noting journal journal' before prepared status outcome
 closing_noted journal journal' before prepared lacks text status outcome finds is closes =
     subst (λ t. IsClosed journal journal' t status outcome) (is ∙ ap (closing prepared) (sym finds)) closes
 
 -- the events after so many are all that are left
-pub after_all : (jobs counted : ℕ) (shown journal : List Event) (before : ℕ) → counted ≡ jobs → shown ≡ journal
-    → lacks_program jobs (drop before journal) ≡ lacks_program counted (take (length shown - before) (drop before shown))
-after_all jobs counted shown journal before are same =
-    ap (λ n. lacks_program n (drop before journal)) (sym are)
-    ∙ ap (λ j. lacks_program counted (drop before j)) (sym same)
-    ∙ ap (lacks_program counted) (sym (ap (λ n. take n (drop before shown)) (sym (length-drop before shown)) ∙ take-length (drop before shown)))
+pub after_all : (prepared : Prepared) (shown journal : List Event) (before : ℕ) → shown ≡ journal
+    → lacks_program prepared (drop before journal) ≡ lacks_program prepared (take (length shown - before) (drop before shown))
+after_all prepared shown journal before same =
+    ap (λ j. lacks_program prepared (drop before j)) (sym same)
+    ∙ ap (lacks_program prepared) (sym (ap (λ n. take n (drop before shown)) (sym (length-drop before shown)) ∙ take-length (drop before shown)))
 
 -- no pipe is pending after a text
 
@@ -125,7 +124,7 @@ by_note name journal journal' journal'' prepared status outcome does notes = rec
   journal_grows = notes.1 ∙ ap (λ j. j ++ notes.0) does.1;
   does = does.2;
   told =
-      subst (λ events. Closes status (closing prepared (lacks_program (jobs_before_link prepared.work) events)) outcome notes.0)
+      subst (λ events. Closes status (closing prepared (lacks_program prepared events)) outcome notes.0)
       (ap (drop (length journal)) does.1 ∙ drop-append_seam journal does.0) notes.2;
 }
 

@@ -13,6 +13,7 @@ use Rattle.drv_compile.specs.Runs.{Works}
 use Rattle.drv_compile.specs.Tasks.{Declines, IfTold, Leads}
 use Rattle.drv_compile.specs.Texts.{gone_text, overwritten_text}
 use Rattle.drv_compile.specs.Words.{RefusesWords, Words}
+use Rattle.drv_compile.specs.Wrapper.{wrapper_of}
 use Rattle.drv_compile.specs.declared.calling.Calling.{Calling}
 use Rattle.drv_compile.specs.declared.deciding.Decision.{Decision}
 use Rattle.drv_compile.specs.declared.driving.Driven.{Driven}
@@ -96,6 +97,7 @@ fails_planned F calling chain call given seed events (Ok prepared) free apart pl
       opens = planned.opens;
       works = planned.works;
       children = planned.children;
+      wrapper = planned.wrapper;
       hint = planned.hint;
       remark = planned.remark;
     }
@@ -141,17 +143,18 @@ performs_noted calling chain call given seed before after result knows free (eve
 
 -- the work of a line
 
-pub planned_so : (F : Facts) (calling : Calling) (chain : Toolchain) (call : Call) (given : Expanded) (seed : ℕ) (driven : Driven) (specs said hint remark : List ℕ) (items : List Item)
+pub planned_so : (F : Facts) (calling : Calling) (chain : Toolchain) (call : Call) (given : Expanded) (seed : ℕ) (driven : Driven) (specs wrapper said hint remark : List ℕ) (items : List Item)
     (children : List Variable) (work : Work) → specs ≡ chain.specs → items ≡ driven.line.items → children ≡ driven.children → Drives F chain call given driven
-    → opening F specs items children ≡ Is said → Works F driven.line seed work → hint ≡ gone_text calling.name chain.specs calling.machine → remark ≡ []
-    → IsPlanned F calling chain call given seed (record { work = work; children = driven.children; said = said; hint = hint; remark = remark })
-planned_so F calling chain call given seed driven specs said hint remark items children work same are set drives opens works hints none = record {
+    → wrapper ≡ wrapper_of items → opening F specs items children ≡ Is said → Works F driven.line seed work → hint ≡ gone_text calling.name chain.specs calling.machine → remark ≡ []
+    → IsPlanned F calling chain call given seed (record { work = work; children = driven.children; wrapper = wrapper; said = said; hint = hint; remark = remark })
+planned_so F calling chain call given seed driven specs wrapper said hint remark items children work same are set drives wraps opens works hints none = record {
   driven = driven;
   drives = drives;
   opens =
       sym (ap (λ s. opening F s items children) same ∙ ap (λ w. opening F chain.specs w children) are ∙ ap (opening F chain.specs driven.line.items) set) ∙ opens;
   works = works;
   children = refl;
+  wrapper = wraps ∙ ap wrapper_of are;
   hint = hints;
   remark = none;
 }

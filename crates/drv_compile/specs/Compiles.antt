@@ -10,6 +10,7 @@ use Rattle.drv_compile.specs.Tasks.{Declines, Leads}
 use Rattle.drv_compile.specs.TempFolder.{Chooses, IsSettled, folder_names}
 use Rattle.drv_compile.specs.Texts.{gone_text, help_text, overwritten_text, version_text}
 use Rattle.drv_compile.specs.Words.{RefusesWords, Words, told_refusal}
+use Rattle.drv_compile.specs.Wrapper.{wrapper_of}
 use Rattle.drv_compile.specs.declared.calling.Calling.{Calling}
 use Rattle.drv_compile.specs.declared.compiling.Outcome.TheVariants.{Done, OutOfMemory, Unnoted}
 use Rattle.drv_compile.specs.declared.compiling.Outcome.{Outcome}
@@ -33,17 +34,21 @@ use Rattle.drv_system.specs.Known.{Is}
 use Rattle.drv_system.specs.declared.event.Event.TheVariants.{Run, Say}
 use Rattle.drv_system.specs.declared.event.Event.{Event}
 use Rattle.drv_system.specs.declared.event.TellAnswer.{TellAnswer}
+use Rattle.drv_words.specs.Places.{group_at, no_job}
 use Rattle.drv_words.specs.declared.answers.Answer.TheVariants as answer
 use Rattle.drv_words.specs.declared.answers.Answer.{Answer}
 use Rattle.drv_words.specs.declared.answers.NotStarted.TheVariants.{NotFound}
 use Rattle.drv_words.specs.declared.answers.StartAnswer.TheVariants as start
 use Rattle.drv_words.specs.declared.plan.Command.{Command}
+use Rattle.drv_words.specs.declared.plan.Job.{Job}
 use Rattle.drv_words.specs.declared.plan.Plan.{Plan}
 use Rattle.drv_words.specs.declared.steps.Place.TheVariants as place
 use Rattle.drv_words.specs.declared.steps.Step.TheVariants as step
 use Rattle.drv_words.specs.declared.steps.Step.{Step}
+use Rattle.std.specs.Cmp.Lexicographic.{pointwise}
 use Rattle.std.specs.List.{list_any}
-use Rattle.std.specs.Prelude.{◌≡◌, ◌&&◌, Bool, List, [], ◌∷◌, ◌++◌, None, Option, Some, false, length, map, nat_lt, true, zero, ℕ}
+use Rattle.std.specs.Option.{option_map}
+use Rattle.std.specs.Prelude.{◌≡◌, ◌&&◌, Bool, List, [], ◌∷◌, ◌++◌, None, Option, Some, false, get_or, length, map, nat_eq, not, slice_get, true, ℕ}
 
 -- A call of gdrv-cc (GCC manual, "Invoking GCC"): what its words ask for, and what the journal has after it.
 
@@ -67,6 +72,7 @@ pub record Performs (F : Facts) (calling : Calling) (chain : Toolchain) (call : 
   pub opens : opening F chain.specs driven.line.items driven.children ≡ Is prepared.said
   pub works : Works F driven.line seed prepared.work
   pub children : prepared.children ≡ driven.children
+  pub wrapper : prepared.wrapper ≡ wrapper_of driven.line.items
   pub hint : prepared.hint ≡ gone_text calling.name chain.specs calling.machine
   pub remark : prepared.remark ≡ []
 
@@ -88,6 +94,7 @@ pub data Comes (F : Facts) (calling : Calling) (own : Option (List ℕ)) (args :
       → Comes F calling own args seed [] (record {
         work = question compiler args;
         children = [];
+        wrapper = [];
         said = help_text calling.name compiler args;
         hint = gone_text calling.name specs calling.machine;
         remark = version_text calling.name compiler args;
@@ -105,28 +112,35 @@ pub data Refuses (F : Facts) (calling : Calling) (own : Option (List ℕ)) (args
       → Fails F calling chain call words seed events text → Refuses F calling own args seed events text
 
 -- After a run that did not find a program of a source, or the compiler of a question, the call says the hint, and after another its remark, if
--- it has one. A line may choose a linker that is not there (GCC manual, "Link Options", -fuse-ld=). Where memory lacked for a text, the
--- outcome says so.
+-- it has one. A line may choose a linker that is not there (GCC manual, "Link Options", -fuse-ld=), or a wrapper (-wrapper): the hint is about
+-- neither. Where memory lacked for a text, the outcome says so.
 abbrev pub is_missing : Answer → Bool
 is_missing (answer.Start (start.NotStarted NotFound)) = true
 is_missing _ = false
 
 -- the jobs of a work that are no link
-abbrev pub jobs_before_link : Work → ℕ
-jobs_before_link (Dump text) = zero
-jobs_before_link (Show plan) = length plan.jobs
-jobs_before_link (CarryOut plan manner) = length plan.jobs
+abbrev pub jobs_before_link : Work → List Job
+jobs_before_link (Dump text) = []
+jobs_before_link (Show plan) = plan.jobs
+jobs_before_link (CarryOut plan manner) = plan.jobs
 
-abbrev pub is_before_link : ℕ → Step → Bool
-is_before_link jobs (step.Start (place.Command job group index) from_pipe to_pipe) = nat_lt job jobs
-is_before_link jobs _ = false
+-- the program that a step starts for one of these jobs
+abbrev pub program_of : List Job → Step → Option (List ℕ)
+program_of jobs (step.Start (place.Command job group index) from_pipe to_pipe) =
+    option_map (λ (c : Command). c.program) (slice_get (group_at (get_or jobs job no_job) group) index)
+program_of jobs _ = None
 
-abbrev pub is_absent : ℕ → Event → Bool
-is_absent jobs (Run e) = is_before_link jobs e.step && is_missing e.answer
-is_absent jobs _ = false
+-- whether it is another than the wrapper of the line
+abbrev pub is_own : List ℕ → Option (List ℕ) → Bool
+is_own wrapper None = false
+is_own wrapper (Some program) = not (pointwise nat_eq program wrapper)
 
-abbrev pub lacks_program : ℕ → List Event → Bool
-lacks_program jobs = list_any (is_absent jobs)
+abbrev pub is_absent : List Job → List ℕ → Event → Bool
+is_absent jobs wrapper (Run e) = is_missing e.answer && is_own wrapper (program_of jobs e.step)
+is_absent jobs wrapper _ = false
+
+abbrev pub lacks_program : Prepared → List Event → Bool
+lacks_program prepared = list_any (is_absent (jobs_before_link prepared.work) prepared.wrapper)
 
 abbrev pub closing : Prepared → Bool → List ℕ
 closing prepared true = prepared.hint
@@ -155,7 +169,7 @@ pub data Ends (F : Facts) (at : ℕ) (calling : Calling) (own : Option (List ℕ
       → Ends F at calling own args seed (Done 1) asked [] (Say text told ∷ [])
   worked : {asked : List HostEvent} {prepared : Prepared} (opened did : List Event) {noted : List Event} {status : ℕ} {outcome : Outcome}
       → Comes F calling own args seed asked prepared → Opens prepared.said opened → Does calling.name prepared.work status did
-      → Closes status (closing prepared (lacks_program (jobs_before_link prepared.work) did)) outcome noted
+      → Closes status (closing prepared (lacks_program prepared did)) outcome noted
       → Ends F at calling own args seed outcome asked (settings at prepared.children) (opened ++ did ++ noted)
   cut_short : {asked set : List HostEvent} {said : List Event} → AreSaid said → Ends F at calling own args seed OutOfMemory asked set said
 

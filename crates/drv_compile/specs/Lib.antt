@@ -18,4 +18,5 @@ pub mod Tasks
 pub mod TempFolder
 pub mod Texts
 pub mod Words
+pub mod Wrapper
 pub mod Written

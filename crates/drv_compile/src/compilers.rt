@@ -80,7 +80,7 @@ pub(crate) fn first_value(
 }
 
 /// What follows a key in a line that begins with it.
-fn rest_of<'l>(key: &[u8], line: &'l [u8]) -> &'l [u8]
+pub(crate) fn rest_of<'l>(key: &[u8], line: &'l [u8]) -> &'l [u8]
     ensures { result.now ≡ drop (length key.now) line.now }
 {
     line.get(key.len()..).unwrap_or(&[])

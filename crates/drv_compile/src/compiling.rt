@@ -2,8 +2,8 @@
 
 ghost use Rattle.drv_compile.specs.Code.Compiling.{Carried, IsClosed, IsOpened, Noting, Spoken};
 ghost use Rattle.drv_compile.specs.Code.Compiling.{TellsStop, Worked};
-ghost use Rattle.drv_compile.specs.Compiles.{Compiled, is_absent, is_before_link, is_missing};
-ghost use Rattle.drv_compile.specs.Compiles.{jobs_before_link, lacks_program, settings};
+ghost use Rattle.drv_compile.specs.Compiles.{Compiled, is_absent, is_missing, is_own};
+ghost use Rattle.drv_compile.specs.Compiles.{jobs_before_link, lacks_program, program_of, settings};
 ghost use Rattle.drv_compile.specs.Code.Settling.{Going};
 ghost use Rattle.drv_compile.specs.Inputs.{Noted};
 ghost use Rattle.drv_run.specs.Calls.{HasWindow};
@@ -11,6 +11,7 @@ ghost use Rattle.drv_compile.specs.declared.host.HostEvent.{HostEvent};
 ghost use Rattle.drv_system.specs.Running.{run_of};
 ghost use Rattle.drv_system.specs.declared.event.Event.{Event};
 ghost use Rattle.drv_words.specs.Stepping.{pipe_pending};
+ghost use Rattle.std.specs.Option.{option_copied};
 ghost use Rattle.std.specs.Prelude.{◌≡◌, ◌≤◌, List, OnErr, OnOk, false, length};
 
 use crate::calling::Calling;
@@ -21,7 +22,7 @@ use crate::temp_folder::settle;
 use drv_cc::Variable;
 use drv_run::{Work, do_work};
 use drv_system::{Event, FactTable, Outside, System};
-use drv_words::{Answer, Listing, NotStarted, Place, RunEvent, StartAnswer, Step, Word};
+use drv_words::{Answer, Job, Listing, NotStarted, Place, RunEvent, StartAnswer, Step, Word};
 use std::alloc::{AllocError, Global};
 
 /// How a call ends.
@@ -62,46 +63,63 @@ fn is_missing(answer: Answer) -> bool
     )
 }
 
-/// The number of a work's jobs before the link.
-fn jobs_before_link(work: &Work) -> usize
-    ensures { result ≡ jobs_before_link work.now }
+/// The jobs of a work before its link.
+fn jobs_before_link(work: &Work) -> &[Job]
+    ensures { result.now ≡ jobs_before_link work.now }
 {
     match work {
-        Work::Dump(_) => 0,
-        Work::Show(plan) | Work::CarryOut { plan, .. } => plan.jobs.len(),
+        Work::Dump(_) => &[],
+        Work::Show(plan) | Work::CarryOut { plan, .. } => plan.jobs.as_slice(),
     }
 }
 
-/// Whether a step starts a command of one of the first `jobs` jobs.
-fn is_before_link(jobs: usize, step: Step) -> bool
-    ensures { result ≡ is_before_link jobs step }
+/// The program that a step starts for one of these jobs, if it starts one.
+fn program_of(jobs: &[Job], step: Step) -> Option<&Word>
+    ensures { option_copied result ≡ program_of jobs.now step }
 {
     match step {
         Step::Start {
-            place: Place::Command { job, .. },
+            place: Place::Command { job, group, index },
             ..
-        } => job < jobs,
-        _ => false,
+        } => {
+            let group = jobs.get(job)?.groups.as_slice().get(group)?;
+            Some(&group.as_slice().get(index)?.program)
+        }
+        _ => None,
     }
 }
 
-/// Whether an event says that a program of one of the first `jobs` jobs was not found.
-fn is_absent(jobs: usize, event: &Event) -> bool
-    ensures { result ≡ is_absent jobs event.now }
+/// Whether there is a program, and it is another than the wrapper of the line.
+fn is_own(wrapper: &Word, program: Option<&Word>) -> bool
+    ensures { result ≡ is_own wrapper.now (option_copied program.entry) }
+{
+    match program {
+        Some(program) => program.as_bytes() != wrapper.as_bytes(),
+        None => false,
+    }
+}
+
+/// Whether an event says that a program of one of these jobs was not found, which is not the
+/// wrapper of the line.
+fn is_absent(jobs: &[Job], wrapper: &Word, event: &Event) -> bool
+    ensures { result ≡ is_absent jobs.now wrapper.now event.now }
 {
     match event {
         Event::Run(RunEvent { step, answer }) => {
-            is_before_link(jobs, *step) && is_missing(*answer)
+            is_missing(*answer) && is_own(wrapper, program_of(jobs, *step))
         }
         _ => false,
     }
 }
 
-/// Whether a program of one of the first `jobs` jobs was not found.
-fn lacks_program(jobs: usize, events: &[Event]) -> bool
-    ensures { result ≡ lacks_program jobs events.now }
+/// Whether a program of the compiler was not found, which is no linker and no wrapper.
+fn lacks_program(prepared: &Prepared, events: &[Event]) -> bool
+    ensures { result ≡ lacks_program prepared.now events.now }
 {
-    events.iter().any(|event| is_absent(jobs, event))
+    let jobs = jobs_before_link(&prepared.work);
+    events
+        .iter()
+        .any(|event| is_absent(jobs, &prepared.wrapper, event))
 }
 
 /// Says a text after a work, if there is one.
@@ -119,16 +137,15 @@ fn closed<S: System>(sys: &mut S, text: &Word, status: u8) -> Outcome
     }
 }
 
-/// Says the hint if the work after the first `before` events did not find a program before its
-/// link, or else the remark.
+/// Says the hint if the work after the first `before` events did not find a program of the
+/// compiler, or else the remark.
 fn noted<S: System>(sys: &mut S, before: usize, prepared: &Prepared, status: u8) -> Outcome
     requires pipe { pipe_pending (run_of (S.events sys.old)) ≡ false }
     requires before { before ≤ length (S.events sys.old) }
     ensures notes { Noting (S.events sys.old) (S.events sys.new) before prepared.now status result }
     ensures pipe { pipe_pending (run_of (S.events sys.new)) ≡ false }
 {
-    let jobs = jobs_before_link(&prepared.work);
-    let text = if lacks_program(jobs, &sys.journal()[before..]) {
+    let text = if lacks_program(prepared, &sys.journal()[before..]) {
         &prepared.hint
     } else {
         &prepared.remark
@@ -136,7 +153,7 @@ fn noted<S: System>(sys: &mut S, before: usize, prepared: &Prepared, status: u8)
     closed(sys, text, status)
 }
 
-/// Does what is prepared, and says the hint where its run does not find a program before its link,
+/// Does what is prepared, and says the hint where its run does not find a program of the compiler,
 /// or else the remark.
 fn done<S: System>(alloc: Global, name: &[u8], prepared: &Prepared, sys: &mut S) -> Outcome
     requires pipe { pipe_pending (run_of (S.events sys.old)) ≡ false }
@@ -257,7 +274,8 @@ fn compile_settled<S: System, H: Host<S>>(
 /// arguments, and its status is the answer. Of a refused line the call says why, with the status 1.
 /// Any other line is carried out by the driver over the set of that spec file, with its variables
 /// set for the children. Where the run does not find a program of a source, or the compiler of a
-/// question, the call says a hint.
+/// question, the call says a hint. It says none about a linker or a wrapper, which the line may
+/// choose.
 ///
 /// A refused call, and one that lacks memory, makes and starts nothing. No pipe is pending after a
 /// call.

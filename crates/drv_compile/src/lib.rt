@@ -27,6 +27,7 @@ mod tasks;
 mod telling;
 mod temp_folder;
 mod wording;
+mod wrapping;
 mod written;
 
 pub use calling::{Calling, Front, calling_of};

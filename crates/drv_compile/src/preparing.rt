@@ -25,6 +25,7 @@ use crate::speaking::opening;
 use crate::stop::Stop;
 use crate::tasks::{Task, Toolchain, task_of};
 use crate::wording::{gone, help_text, overwritten, version_text};
+use crate::wrapping::wrapper_of;
 use drv_args::Expanded;
 use drv_cc::{Call, Variable};
 use drv_core::FailureStatus;
@@ -40,9 +41,11 @@ pub(crate) struct Prepared {
     pub(crate) work: Work,
     /// The variables that are set for its children.
     pub(crate) children: Listing<Variable>,
+    /// The program that the line has as wrapper of its commands, or empty.
+    pub(crate) wrapper: Word,
     /// What is said before it.
     pub(crate) said: Word,
-    /// What is said after a run that did not find a program.
+    /// What is said after a run that did not find a program of the compiler.
     pub(crate) hint: Word,
     /// What is said after any other.
     pub(crate) remark: Word,
@@ -171,11 +174,13 @@ fn planned<S: System>(
     let hint = gone(alloc, name, specs, calling.machine.as_bytes())?;
     let driven = driver_call(alloc, calling, chain, call, given, outside)?;
     let items = driven.line.items.as_slice();
+    let wrapper = Word::from_bytes(alloc, wrapper_of(items))?;
     let said = opening(alloc, specs, items, driven.children.as_slice(), outside)?;
     let work = work_of(alloc, name, &driven.line, seed, outside)?;
     Ok(Prepared {
         work,
         children: driven.children,
+        wrapper,
         said,
         hint,
         remark: Word::empty(alloc),
@@ -234,6 +239,7 @@ fn asked(
     Ok(Prepared {
         work,
         children: Listing::new(alloc),
+        wrapper: Word::empty(alloc),
         said,
         hint,
         remark,

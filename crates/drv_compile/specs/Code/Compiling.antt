@@ -1,4 +1,4 @@
-use Rattle.drv_compile.specs.Compiles.{Closes, Opens, closing, jobs_before_link, lacks_program, settings}
+use Rattle.drv_compile.specs.Compiles.{Closes, Opens, closing, lacks_program, settings}
 use Rattle.drv_compile.specs.declared.compiling.Outcome.TheVariants.{Done, OutOfMemory, Unnoted}
 use Rattle.drv_compile.specs.declared.compiling.Outcome.{Outcome}
 use Rattle.drv_compile.specs.declared.host.HostEvent.{HostEvent}
@@ -20,7 +20,7 @@ IsClosed journal journal' text status outcome = (noted : List Event) × (journal
 -- the hint or the remark is said by what was done after so many events
 abbrev pub Noting : List Event → List Event → ℕ → Prepared → ℕ → Outcome → Type 0
 Noting journal journal' before prepared status outcome =
-    IsClosed journal journal' (closing prepared (lacks_program (jobs_before_link prepared.work) (drop before journal))) status outcome
+    IsClosed journal journal' (closing prepared (lacks_program prepared (drop before journal))) status outcome
 
 -- a work was done, and the hint or the remark said by it
 pub record DoesNoted (name : List ℕ) (journal journal' : List Event) (prepared : Prepared) (outcome : Outcome) : Type 0 where
@@ -29,7 +29,7 @@ pub record DoesNoted (name : List ℕ) (journal journal' : List Event) (prepared
   pub status : ℕ
   pub journal_grows : journal' ≡ journal ++ did ++ noted
   pub does : Does name prepared.work status did
-  pub told : Closes status (closing prepared (lacks_program (jobs_before_link prepared.work) did)) outcome noted
+  pub told : Closes status (closing prepared (lacks_program prepared did)) outcome noted
 
 abbrev pub Worked : List ℕ → List Event → List Event → Prepared → Outcome → Type 0
 Worked name journal journal' prepared OutOfMemory = OnlySays journal journal'

@@ -7,6 +7,7 @@ use Rattle.drv_compile.specs.Opening.{opening}
 use Rattle.drv_compile.specs.Runs.{Stops, Works}
 use Rattle.drv_compile.specs.Texts.{gone_text, help_text, overwritten_text, version_text}
 use Rattle.drv_compile.specs.Words.{told_refusal}
+use Rattle.drv_compile.specs.Wrapper.{wrapper_of}
 use Rattle.drv_compile.specs.declared.calling.Calling.{Calling}
 use Rattle.drv_compile.specs.declared.driving.Driven.{Driven}
 use Rattle.drv_compile.specs.declared.host.HostEvent.{HostEvent}
@@ -39,6 +40,7 @@ pub record IsPlanned (F : Facts) (calling : Calling) (chain : Toolchain) (call :
   pub opens : opening F chain.specs driven.line.items driven.children ≡ Is prepared.said
   pub works : Works F driven.line seed prepared.work
   pub children : prepared.children ≡ driven.children
+  pub wrapper : prepared.wrapper ≡ wrapper_of driven.line.items
   pub hint : prepared.hint ≡ gone_text calling.name chain.specs calling.machine
   pub remark : prepared.remark ≡ []
 
@@ -53,6 +55,7 @@ IsQuestion calling specs compiler args prepared =
     prepared ≡ record {
       work = question compiler args;
       children = [];
+      wrapper = [];
       said = help_text calling.name compiler args;
       hint = gone_text calling.name specs calling.machine;
       remark = version_text calling.name compiler args;

@@ -7,7 +7,7 @@ use Rattle.std.specs.Prelude.{false, true}
 pub returns-clause-notes : goal.returns-clause-notes
 returns-clause-notes g c =
     let finds =
-    after_all _ _ _ _ c.args.before c.jobs_before_link-jobs.ensures c.journal.ensures ∙ sym c.lacks_program.ensures
+    after_all c.args.prepared.now _ _ c.args.before c.journal.ensures ∙ sym c.lacks_program.ensures
     in elim c.if-lacks_program.branch [
       | then-lacks_program w ↦
           closing_noted _ _ c.args.before c.args.prepared.now true _ c.args.status c.closed.result (finds ∙ w.if-lacks_program.true)

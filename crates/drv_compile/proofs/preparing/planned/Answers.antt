@@ -17,10 +17,10 @@ returns-in_err-work-clause-plans g c F e =
 
 pub returns-clause-plans : goal.returns-clause-plans
 returns-clause-plans g c F e =
-    planned_so F c.args.calling.now c.args.chain.now c.args.call c.args.given.now c.args.seed c.in_ok-driven.driven c.as_bytes-specs.result.now c.in_ok-said.said c.in_ok-hint.hint c.empty.result
+    planned_so F c.args.calling.now c.args.chain.now c.args.call c.args.given.now c.args.seed c.in_ok-driven.driven c.as_bytes-specs.result.now c.in_ok-wrapper.wrapper c.in_ok-said.said c.in_ok-hint.hint c.empty.result
     c.as_slice-items.result.now c.as_slice.result.now c.in_ok-work.work c.as_bytes-specs.ensures c.as_slice-items.ensures c.as_slice.ensures
     (c.in_ok-driven.ensures.drives F (extends_before c.opening.ensures.asks (extends_before c.work_of.ensures.asks e)))
-    (c.in_ok-said.ensures.text F (extends_before c.work_of.ensures.asks e)) (c.in_ok-work.ensures.works F e)
+    (c.in_ok-wrapper.ensures ∙ c.wrapper_of.ensures) (c.in_ok-said.ensures.text F (extends_before c.work_of.ensures.asks e)) (c.in_ok-work.ensures.works F e)
     (c.in_ok-hint.ensures ∙ ap (λ n. gone_text n c.as_bytes-specs.result.now c.as_bytes.result.now) c.as_bytes-name.ensures
     ∙ ap (λ s. gone_text c.args.calling.now.name s c.as_bytes.result.now) c.as_bytes-specs.ensures
     ∙ ap (gone_text c.args.calling.now.name c.args.chain.now.specs) c.as_bytes.ensures) c.empty.ensures
