@@ -1,9 +1,9 @@
 use Rattle.drv_cc.specs.declared.answer.Variable.{Variable}
 use Rattle.drv_compile.proofs.Joined.{joined}
-use Rattle.drv_compile.proofs.Settled.{goes_by}
+use Rattle.drv_compile.proofs.Settled.{goes_by, tried_goes}
 use Rattle.drv_compile.specs.Code.Compiling.{Carried, DoesNoted, IsClosed, IsOpened, Noting, OpensWork, Spoken, TellsStop, Worked}
 use Rattle.drv_compile.specs.Code.Settling.{BeginsToGo, Going}
-use Rattle.drv_compile.specs.Compiles.{Closes, Comes, Compiled, Ends, Opens, Refuses, closed, closing, cut_short, lacks_program, noted, refused, settings, silent, spoken, unnoted, unsettled, worked}
+use Rattle.drv_compile.specs.Compiles.{Closes, Comes, Compiled, Ends, Opens, Refuses, closed, closing, cut_short, lacks_program, noted, refused, settings, silent, spoken, unnoted, worked}
 use Rattle.drv_compile.specs.Inputs.{Noted}
 use Rattle.drv_compile.specs.Tasks.{IfTold}
 use Rattle.drv_compile.specs.declared.calling.Calling.{Calling}
@@ -303,6 +303,6 @@ compiled_by_none {journal} {notes = notes} calling own args seed before = record
   questions = before.questions;
   journal_grows = before.journal_grows ∙ sym (append-nil (journal ++ before.asked));
   notes_grow = before.notes_grow ∙ sym (append-nil (notes ++ before.tried)) ∙ sym (append-nil (notes ++ before.tried ++ []));
-  goes_by = unsettled;
+  goes_by = tried_goes before.is_tried;
   ends = cut_short tt;
 }

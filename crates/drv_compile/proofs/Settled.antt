@@ -1,7 +1,8 @@
-use Rattle.drv_compile.specs.Code.Settling.{BeginsToGo, Going, IsFolder}
-use Rattle.drv_compile.specs.Compiles.{GoesBy, settled}
+use Rattle.drv_compile.specs.Code.Settling.{BeginsToGo, Going, IsFolder, IsTried}
+use Rattle.drv_compile.specs.Compiles.{GoesBy, settled, unnamed, unsettled}
 use Rattle.drv_compile.specs.Inputs.{Noted}
-use Rattle.drv_compile.specs.TempFolder.{Chooses, IsSettled, folder_names, folders_of_all, if_set, named_by, own, unusable, usable}
+use Rattle.drv_compile.specs.TempFolder.{Chooses, IsSettled, Tries, folder_names, folders_of_all, if_set, named_by, own, tries_last, tries_next, tries_none, unusable, usable}
+use Rattle.drv_compile.specs.declared.compiling.Outcome.TheVariants.{OutOfMemory}
 use Rattle.drv_compile.specs.declared.compiling.Outcome.{Outcome}
 use Rattle.drv_compile.specs.declared.host.HostEvent.TheVariants.{Tried}
 use Rattle.drv_compile.specs.declared.host.HostEvent.{HostEvent}
@@ -16,7 +17,7 @@ use Rattle.drv_system.specs.Running.{run_of}
 use Rattle.drv_system.specs.declared.event.Event.TheVariants.{Kind, Put, Read, Run, Say, Variable}
 use Rattle.drv_system.specs.declared.event.Event.{Event}
 use Rattle.drv_words.specs.Stepping.{pipe_pending}
-use Rattle.std.proofs.Common.{◌≡◌, ◌<◌, ◌≤◌, ◌+◌, ◌∙◌, ◌∷◌, ◌++◌, [], Bool, Err, IfOk, IsErrAnd, List, None, Ok, OnOk, Option, Result, Some, ap, append_assoc, codes, drop, false, length, refl, subst, sym, true, ℕ}
+use Rattle.std.proofs.Common.{◌≡◌, ◌<◌, ◌≤◌, ◌+◌, ◌∙◌, ◌∷◌, ◌++◌, [], Bool, Err, IfOk, IsErrAnd, List, None, Ok, OnOk, Option, Result, Some, ap, append_assoc, codes, drop, false, inl, inr, length, refl, subst, sym, true, ℕ}
 use Rattle.std.proofs.lemmas.Bool.{false≢true}
 use Rattle.std.proofs.lemmas.List.{append-nil, drop_all, drop_more}
 use Rattle.std.proofs.lemmas.Map.Lookups.{exact_bytes}
@@ -100,6 +101,38 @@ chooses_own names i before so (Ok folder) past (events, is, so_far) same = (
       (so_far [] (codes ".") (subst (λ xs. Chooses xs [] (codes ".")) (sym (drop_all i names past)) own))),
 )
 
+-- the same for what was tried
+
+abbrev pub Trying : List (List ℕ) → ℕ → List HostEvent → List HostEvent → Type 0
+Trying names i before so = Noted before so (λ events. (more : List HostEvent) → Tries (drop i names) more → Tries names (events ++ more))
+
+pub tries_none_yet : (names : List (List ℕ)) (before : List HostEvent) → Trying names 0 before before
+tries_none_yet names before = ([], sym (append-nil before), λ more tries. tries)
+
+pub tries_later : (names : List (List ℕ)) (i : ℕ) (name : List ℕ) (answer : Bool) (before so after : List HostEvent) → i < length names → name ≡ get_or names i name
+    → answer ≡ false → after ≡ so ++ Tried name answer ∷ [] → Trying names i before so → Trying names (i + 1) before after
+tries_later names i name answer before so after below here says grown (events, is, so_far) = (
+  events ++ Tried name false ∷ [],
+  grown ∙ ap (λ b. so ++ Tried name b ∷ []) says ∙ ap (λ e. e ++ Tried name false ∷ []) is ∙ append_assoc before events (Tried name false ∷ []),
+  λ more tries.
+      subst (λ e. Tries names e) (sym (append_assoc events (Tried name false ∷ []) more))
+      (so_far (Tried name false ∷ more)
+      (subst (λ xs. Tries xs (Tried name false ∷ more)) (sym (drop_more names i name below ∙ ap (λ x. x ∷ drop (i + 1) names) (sym here)))
+      (tries_next tries))),
+)
+
+pub tries_it : (names : List (List ℕ)) (i : ℕ) (name : List ℕ) (answer : Bool) (before so after : List HostEvent) → i < length names → name ≡ get_or names i name
+    → after ≡ so ++ Tried name answer ∷ [] → Trying names i before so → Noted before after (Tries names)
+tries_it names i name answer before so after below here grown (events, is, so_far) = (
+  events ++ Tried name answer ∷ [],
+  grown ∙ ap (λ e. e ++ Tried name answer ∷ []) is ∙ append_assoc before events (Tried name answer ∷ []),
+  so_far (Tried name answer ∷ [])
+      (subst (λ xs. Tries xs (Tried name answer ∷ [])) (sym (drop_more names i name below ∙ ap (λ x. x ∷ drop (i + 1) names) (sym here))) tries_last),
+)
+
+pub tries_no_more : (names : List (List ℕ)) (i : ℕ) (before so after : List HostEvent) → after ≡ so → Trying names i before so → Noted before after (Tries names)
+tries_no_more names i before so after same (events, is, so_far) = (events, same ∙ is, subst (λ e. Tries names e) (append-nil events) (so_far [] tries_none))
+
 -- no choice for lack of memory
 pub chooses_none : {X E : Type 0} (names : List (List ℕ)) (i : ℕ) (before so after : List HostEvent) (result : Result X E) (what : E → Type 0) (chosen : List HostEvent → X → Type 0)
     → Choosing names i before so → after ≡ so → IsErrAnd result what → Noted before after (λ events. IfOk result (chosen events))
@@ -114,6 +147,15 @@ pub folder_chosen : {E : Type 0} (known : Facts) (names slice : List (List ℕ))
 folder_chosen known names slice before after (Err e) same told (events, grown, chooses) = (events, grown, λ F e. tt)
 folder_chosen known names slice before after (Ok folder) same told (events, grown, chooses) =
     (events, grown, λ F e. (names, told F e, subst (λ xs. Chooses xs events folder) same chooses))
+
+pub folder_tried : (known : Facts) (names slice : List (List ℕ)) (before after : List HostEvent) → slice ≡ names
+    → ((F : Facts) → Extends known F → folder_names F ≡ Is names) → Noted before after (Tries slice)
+    → Noted before after (λ events. (F : Facts) → Extends known F → IsTried F events)
+folder_tried known names slice before after same told (events, grown, tries) =
+    (events, grown, λ F e. inr (names, told F e, subst (λ xs. Tries xs events) same tries))
+
+pub nothing_tried : (known : Facts) (notes : List HostEvent) → Noted notes notes (λ events. (F : Facts) → Extends known F → IsTried F events)
+nothing_tried known notes = ([], sym (append-nil notes), λ F e. inl refl)
 
 -- a table with the folder
 
@@ -183,17 +225,23 @@ settled_learn F G folder (event ∷ events) is new =
 -- what a call goes by
 
 pub nothing_begun : (journal : List Event) (notes : List HostEvent) → BeginsToGo journal journal notes notes
-nothing_begun journal notes = record { asked = []; tried = []; questions = tt; journal_grows = sym (append-nil journal); notes_grow = sym (append-nil notes) }
+nothing_begun journal notes = record { asked = []; tried = []; questions = tt; journal_grows = sym (append-nil journal); notes_grow = sym (append-nil notes); is_tried = inl refl }
 
-pub begun : {journal journal' : List Event} {F known : Facts} {notes notes' : List HostEvent} {what : List HostEvent → Type 0} → F ≡ no_facts → Asks journal journal' F known
-    → Noted notes notes' what → BeginsToGo journal journal' notes notes'
-begun empty asks (tried, grown, is) = record {
-  asked = asks.asked;
-  tried = tried;
-  questions = subst (λ G. AreNew G asks.asked) empty asks.questions;
-  journal_grows = asks.journal_grows;
-  notes_grow = grown;
-}
+pub begun : {journal journal' : List Event} {F known : Facts} {notes notes' : List HostEvent} → F ≡ no_facts → Asks journal journal' F known
+    → Noted notes notes' (λ events. (G : Facts) → Extends known G → IsTried G events) → BeginsToGo journal journal' notes notes'
+begun {known = known} empty asks (tried, grown, is_tried) =
+    let known_is : known ≡ learn no_facts asks.asked = asks.facts_grow ∙ ap (λ G. learn G asks.asked) empty in record {
+      asked = asks.asked;
+      tried = tried;
+      questions = subst (λ G. AreNew G asks.asked) empty asks.questions;
+      journal_grows = asks.journal_grows;
+      notes_grow = grown;
+      is_tried = subst (λ G. IsTried G tried) known_is (is_tried known (extends_refl known));
+    }
+
+pub tried_goes : {asked : List Event} {tried : List HostEvent} → IsTried (learn no_facts asked) tried → GoesBy asked tried OutOfMemory no_facts
+tried_goes {asked} (inl none) = subst (λ t. GoesBy asked t OutOfMemory no_facts) (sym none) unnamed
+tried_goes (inr (names, known, tries)) = unsettled known tries
 
 pub going : {journal journal' : List Event} {F known : Facts} {notes notes' : List HostEvent} (folder : List ℕ) (table : Facts) → F ≡ no_facts
     → Asks journal journal' F known → Noted notes notes' (λ events. (G : Facts) → Extends known G → IsFolder G events folder)

@@ -7,7 +7,7 @@ use Rattle.drv_compile.specs.Inputs.{Overwrites, objection}
 use Rattle.drv_compile.specs.Opening.{opening}
 use Rattle.drv_compile.specs.Runs.{Stops, Works}
 use Rattle.drv_compile.specs.Tasks.{Declines, Leads}
-use Rattle.drv_compile.specs.TempFolder.{Chooses, IsSettled, folder_names}
+use Rattle.drv_compile.specs.TempFolder.{Chooses, IsSettled, Tries, folder_names}
 use Rattle.drv_compile.specs.Texts.{gone_text, help_text, overwritten_text, version_text}
 use Rattle.drv_compile.specs.Words.{RefusesWords, Words, told_refusal}
 use Rattle.drv_compile.specs.Wrapper.{wrapper_of}
@@ -174,11 +174,13 @@ pub data Ends (F : Facts) (at : ℕ) (calling : Calling) (own : Option (List ℕ
   cut_short : {asked set : List HostEvent} {said : List Event} → AreSaid said → Ends F at calling own args seed OutOfMemory asked set said
 
 -- What a call goes by: the answers to its questions, with the folder of temporaries that the host was asked for. Where memory lacked for
--- that, it goes by nothing.
+-- that, it goes by nothing: the host was asked for none of the names, as they were not known, or for some of them.
 pub data GoesBy : List Event → List HostEvent → Outcome → Facts → Type 0 where
   settled : {asked : List Event} {names : List (List ℕ)} {tried : List HostEvent} {folder : List ℕ} {G : Facts} {outcome : Outcome}
       → folder_names (learn no_facts asked) ≡ Is names → Chooses names tried folder → IsSettled (learn no_facts asked) folder G → GoesBy asked tried outcome G
-  unsettled : {asked : List Event} {tried : List HostEvent} → GoesBy asked tried OutOfMemory no_facts
+  unnamed : {asked : List Event} → GoesBy asked [] OutOfMemory no_facts
+  unsettled : {asked : List Event} {names : List (List ℕ)} {tried : List HostEvent}
+      → folder_names (learn no_facts asked) ≡ Is names → Tries names tried → GoesBy asked tried OutOfMemory no_facts
 
 -- A call: it asked what it did not know, each thing once, and ends as the answers say.
 pub record Compiled (journal journal' : List Event) (notes notes' : List HostEvent) (calling : Calling) (own : Option (List ℕ)) (args : List (List ℕ)) (seed : ℕ) (outcome : Outcome) : Type 0 where

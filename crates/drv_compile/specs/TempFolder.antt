@@ -2,7 +2,7 @@ use Rattle.drv_compile.specs.declared.host.HostEvent.TheVariants.{Tried}
 use Rattle.drv_compile.specs.declared.host.HostEvent.{HostEvent}
 use Rattle.drv_system.specs.Facts.{Facts, kind_of, read_of, variable_of}
 use Rattle.drv_system.specs.Known.{◌>>=◌, Is, Known, asked}
-use Rattle.std.specs.Prelude.{◌≡◌, ◌≢◌, List, [], ◌∷◌, ◌++◌, None, Option, Some, codes, false, true, ℕ}
+use Rattle.std.specs.Prelude.{◌≡◌, ◌≢◌, Bool, List, [], ◌∷◌, ◌++◌, None, Option, Some, codes, false, true, ℕ}
 
 -- The folder of temporaries (GCC manual, "Environment Variables", TMPDIR; GCC, "libiberty/make-temp-file.c", choose_tmpdir).
 
@@ -28,6 +28,12 @@ pub data Chooses : List (List ℕ) → List HostEvent → List ℕ → Type 0 wh
   usable : {name : List ℕ} {names : List (List ℕ)} → Chooses (name ∷ names) (Tried name true ∷ []) name
   unusable : {name folder : List ℕ} {names : List (List ℕ)} {events : List HostEvent} → Chooses names events folder
       → Chooses (name ∷ names) (Tried name false ∷ events) folder
+
+-- Where memory lacks before one is chosen, the host was asked for some of them, one after another, and none but the last was usable.
+pub data Tries : List (List ℕ) → List HostEvent → Type 0 where
+  tries_none : {names : List (List ℕ)} → Tries names []
+  tries_last : {name : List ℕ} {names : List (List ℕ)} {answer : Bool} → Tries (name ∷ names) (Tried name answer ∷ [])
+  tries_next : {name : List ℕ} {names : List (List ℕ)} {events : List HostEvent} → Tries names events → Tries (name ∷ names) (Tried name false ∷ events)
 
 -- Facts that answer as others do, but for the value of TMPDIR, which is a folder.
 pub record IsSettled (F : Facts) (folder : List ℕ) (G : Facts) : Type 0 where

@@ -1,8 +1,9 @@
 //! The folder of temporaries.
 
-ghost use Rattle.drv_compile.specs.Code.Settling.{BeginsToGo, Going, IsFolder};
+ghost use Rattle.drv_compile.specs.Code.Settling.{BeginsToGo, Going, IsFolder, IsTried};
 ghost use Rattle.drv_compile.specs.Inputs.{Noted};
-ghost use Rattle.drv_compile.specs.TempFolder.{Chooses, folder_names, folders_of_all, if_set, named_by};
+ghost use Rattle.drv_compile.specs.TempFolder.{Chooses, Tries, folder_names, folders_of_all, if_set};
+ghost use Rattle.drv_compile.specs.TempFolder.{named_by};
 ghost use Rattle.drv_search.specs.Code.Telling.{Tells, TellsMore};
 ghost use Rattle.drv_system.specs.Asking.{Asks, Extends};
 ghost use Rattle.drv_system.specs.Code.Asked.{Asked};
@@ -85,8 +86,9 @@ fn chosen<S: System, H: Host<S>>(
     names: &[Word],
     host: &mut H,
 ) -> Result<Word, AllocError>
-    ensures { Noted (H.notes host.old) (H.notes host.new)
+    ensures chooses { Noted (H.notes host.old) (H.notes host.new)
         (λ events. IfOk result (λ folder. Chooses names.now events folder)) }
+    ensures tries { Noted (H.notes host.old) (H.notes host.new) (Tries names.now) }
 {
     for name in names {
         if host.is_usable(name)? {
@@ -106,6 +108,8 @@ fn folder_asked<S: System, H: Host<S>>(
     ensures folder { Noted (H.notes host.old) (H.notes host.new)
         (λ events. (F : Facts) → Extends outside.new.facts.now F
         → IfOk result (λ folder. IsFolder F events folder)) }
+    ensures tries { Noted (H.notes host.old) (H.notes host.new)
+        (λ events. (F : Facts) → Extends outside.new.facts.now F → IsTried F events) }
 {
     let names = folder_names(alloc, outside)?;
     chosen(alloc, names.as_slice(), host)

@@ -1,16 +1,20 @@
-use Rattle.drv_compile.specs.TempFolder.{Chooses, IsSettled, folder_names}
+use Rattle.drv_compile.specs.TempFolder.{Chooses, IsSettled, Tries, folder_names}
 use Rattle.drv_compile.specs.declared.host.HostEvent.{HostEvent}
 use Rattle.drv_system.specs.Asking.{AreNew, Extends}
 use Rattle.drv_system.specs.Facts.{Facts, learn, no_facts}
 use Rattle.drv_system.specs.Known.{Is}
 use Rattle.drv_system.specs.declared.event.Event.{Event}
-use Rattle.std.specs.Prelude.{◌≡◌, List, ◌++◌, ℕ}
+use Rattle.std.specs.Prelude.{◌≡◌, ◌⊎◌, List, [], ◌++◌, ℕ}
 
 -- What a call goes by while it asks, of two journals. Only private clauses cite it.
 
 -- a folder of temporaries, by these facts and all that extend them
 abbrev pub IsFolder : Facts → List HostEvent → List ℕ → Type 0
 IsFolder F events folder = (names : List (List ℕ)) × (folder_names F ≡ Is names) × Chooses names events folder
+
+-- what the host was asked for, by these facts and all that extend them: nothing, or some of the names
+abbrev pub IsTried : Facts → List HostEvent → Type 0
+IsTried F events = (events ≡ []) ⊎ ((names : List (List ℕ)) × (folder_names F ≡ Is names) × Tries names events)
 
 -- What was asked since a journal began: first for the folder of temporaries, of the system and then of the host.
 pub record Going (journal journal' : List Event) (notes notes' : List HostEvent) (G : Facts) : Type 0 where
@@ -30,3 +34,4 @@ pub record BeginsToGo (journal journal' : List Event) (notes notes' : List HostE
   pub questions : AreNew no_facts asked
   pub journal_grows : journal' ≡ journal ++ asked
   pub notes_grow : notes' ≡ notes ++ tried
+  pub is_tried : IsTried (learn no_facts asked) tried

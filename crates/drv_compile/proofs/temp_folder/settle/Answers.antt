@@ -1,9 +1,15 @@
-use Rattle.drv_compile.proofs.Settled.{nothing_begun, table_settled}
+use Rattle.drv_compile.proofs.Settled.{begun, nothing_begun, table_settled}
 use Rattle.drv_compile.proofs.temp_folder.settle.Goals as goal
 use Rattle.std.proofs.Common.{rules}
 
 pub returns-in_err-name-clause-asks : goal.returns-in_err-name-clause-asks
 returns-in_err-name-clause-asks g c = nothing_begun _ _
+
+pub returns-in_err-folder-clause-asks : goal.returns-in_err-folder-clause-asks
+returns-in_err-folder-clause-asks g c = let asks = c.folder_asked.ensures.asks.asks in begun c.requires (search rules) c.folder_asked.ensures.tries
+
+pub returns-clause-asks : goal.returns-clause-asks
+returns-clause-asks g c = let asks = c.folder_asked.ensures.asks.asks in begun c.requires (search rules) c.folder_asked.ensures.tries
 
 pub returns-clause-settles : goal.returns-clause-settles
 returns-clause-settles g c =
