@@ -15,3 +15,4 @@ mod PiecesChecked
 mod PiecesRead
 mod Reports
 mod TokenMarks
+mod Unreached

@@ -1,12 +1,11 @@
 use Rattle.drv_check.specs.Code.OwnTrees.{tree_or_none}
 use Rattle.drv_check.specs.OwnTexts.{own_start, own_text, own_tree}
-use Rattle.drv_check.specs.TokenWarnings.{mark_at, own_marks, token_warning, tokens_marks}
+use Rattle.drv_check.specs.TokenWarnings.{mark_at, own_marks, token_warning, tokens_marks, tree_marks}
 use Rattle.drv_check.specs.declared.findings.Warning.{Warning}
 use Rattle.drv_check.specs.declared.warning.Mark.{Mark}
 use Rattle.drv_specs.specs.Sets.{Set}
 use Rattle.drv_syntax.specs.Labels.{label_at}
 use Rattle.drv_syntax.specs.Parsed.{tree_of}
-use Rattle.drv_syntax.specs.Tokens.{tokens_of}
 use Rattle.drv_syntax.specs.Tree.{Items}
 use Rattle.drv_syntax.specs.declared.token.Token.{Token}
 use Rattle.std.proofs.Common.{◌≡◌, ◌∙◌, ◌<◌, ◌+◌, ◌++◌, ◌∷◌, List, None, OnOk, Option, Result, Err, Ok, Some, ap, append_assoc, drop, length, sym, ℕ}
@@ -33,17 +32,17 @@ marks_next set text items start n at tokens token warning before after whole bel
 
 pub marks_of_tree : {X E : Type 0} (set : Set) (text tree : List ℕ) (start : ℕ) (own : Option (List ℕ)) (before after : List Mark) (result : Result X E)
     → own ≡ Some tree → tree_or_none own ≡ own_tree text → tree ≡ own_text text → start ≡ own_start text
-    → OnOk result (after ≡ before ++ tokens_marks set tree (tree_of tree) start 0 (tokens_of (tree_of tree)))
+    → OnOk result (after ≡ before ++ tree_marks set tree (tree_of tree) start)
     → OnOk result (after ≡ before ++ own_marks set text)
 marks_of_tree set text tree start own before after (Err e) has is same at grows = grows
 marks_of_tree set text tree start own before after (Ok x) has is same at grows =
     grows
-    ∙ ap (λ t. before ++ tokens_marks set tree t start 0 (tokens_of t)) (sym (ap tree_or_none has) ∙ is)
-    ∙ ap (λ t. before ++ tokens_marks set t (own_tree text) start 0 (tokens_of (own_tree text))) same
-    ∙ ap (λ n. before ++ tokens_marks set (own_text text) (own_tree text) n 0 (tokens_of (own_tree text))) at
+    ∙ ap (λ t. before ++ tree_marks set tree t start) (sym (ap tree_or_none has) ∙ is)
+    ∙ ap (λ t. before ++ tree_marks set t (own_tree text) start) same
+    ∙ ap (λ n. before ++ tree_marks set (own_text text) (own_tree text) n) at
 
 pub marks_of_none : (set : Set) (text : List ℕ) (own : Option (List ℕ)) (before : List Mark) → own ≡ None → tree_or_none own ≡ own_tree text
     → before ≡ before ++ own_marks set text
 marks_of_none set text own before has is =
     sym (append-nil before)
-    ∙ ap (λ t. before ++ tokens_marks set (own_text text) t (own_start text) 0 (tokens_of t)) (sym (ap tree_or_none has) ∙ is)
+    ∙ ap (λ t. before ++ tree_marks set (own_text text) t (own_start text)) (sym (ap tree_or_none has) ∙ is)

@@ -1,4 +1,5 @@
 pub mod Agreement
+pub mod Branches
 pub mod Checked
 pub mod Checks
 pub mod Code

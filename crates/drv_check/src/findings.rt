@@ -42,6 +42,9 @@ pub enum Warning {
     UnknownText,
     /// A pair whose key a later one of its file has.
     HiddenPair,
+    /// A branch of a choice that can't be reached, as a test of an earlier one covers each of its
+    /// own, or an earlier one has no test.
+    Unreachable,
 }
 
 /// What a finding says.

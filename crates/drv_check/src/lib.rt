@@ -1,6 +1,7 @@
 //! Every fault of spec files and what is surely not meant, each with its place in its file.
 #![tactic(auto)]
 
+mod branches;
 mod bytes;
 mod checking;
 mod differing;

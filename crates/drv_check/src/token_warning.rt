@@ -2,7 +2,7 @@
 
 ghost use Rattle.drv_check.specs.TokenWarnings.{byte_before, ends_before, is_never, is_quote, name_warning, own_marks};
 ghost use Rattle.drv_check.specs.TokenWarnings.{mark_at, quote_warning, switch_warning, takes_argument, test_warning};
-ghost use Rattle.drv_check.specs.TokenWarnings.{token_warning, tokens_marks, warning_of};
+ghost use Rattle.drv_check.specs.TokenWarnings.{token_warning, tokens_marks, tree_marks, warning_of};
 ghost use Rattle.drv_specs.specs.Blanks.{is_white};
 ghost use Rattle.drv_specs.specs.Directives.{is_colon};
 ghost use Rattle.drv_syntax.specs.Labels.{label_at};
@@ -11,6 +11,7 @@ ghost use Rattle.drv_syntax.specs.Tokens.{tokens_of};
 ghost use Rattle.std.specs.Option.{option_map};
 ghost use Rattle.std.specs.Prelude.{◌≡◌, ◌<◌, ◌^◌, ◌++◌, OnOk, length};
 
+use crate::branches::push_choices;
 use crate::bytes::is_white;
 use crate::findings::Warning;
 use crate::own_text::{own_start, own_tree};
@@ -166,6 +167,22 @@ fn push_tree(
     Ok(())
 }
 
+/// Adds the warnings of a tree and its choices, whose text begins at this byte of the piece.
+fn push_whole(
+    alloc: Global,
+    marks: &mut Vec<Mark>,
+    set: &SpecSet,
+    tree: &SpecTree,
+    start: usize,
+) -> Result<(), AllocError>
+    requires { start < 2 ^ 63 }
+    ensures { OnOk result
+        (marks.new.items ≡ marks.old.items ++ tree_marks set.now tree.now (tree_of tree.now) start) }
+{
+    push_tree(marks, set, tree, start)?;
+    push_choices(alloc, marks, tree, start)
+}
+
 /// Adds the warnings of the text that a piece gives.
 #[tactic(auto, using(crate::proofs::TokenMarks::marks_of_tree, crate::proofs::TokenMarks::marks_of_none))]
 pub(crate) fn push_own(
@@ -177,7 +194,7 @@ pub(crate) fn push_own(
     ensures { OnOk result (marks.new.items ≡ marks.old.items ++ own_marks set.now text.now) }
 {
     match own_tree(alloc, text)? {
-        Some(tree) => push_tree(marks, set, &tree, own_start(text)),
+        Some(tree) => push_whole(alloc, marks, set, &tree, own_start(text)),
         None => Ok(()),
     }
 }

@@ -1,4 +1,4 @@
-use Rattle.drv_check.specs.declared.findings.Warning.TheVariants.{AppendToNothing, DirectiveInBody, HiddenPair, NeverTrue, QuotedWord, UnknownText}
+use Rattle.drv_check.specs.declared.findings.Warning.TheVariants.{AppendToNothing, DirectiveInBody, HiddenPair, NeverTrue, QuotedWord, UnknownText, Unreachable}
 use Rattle.drv_check.specs.declared.findings.Warning.{Warning}
 use Rattle.std.specs.Cmp.Lexicographic.{pointwise}
 use Rattle.std.specs.Prelude.{◌||◌, ◌++◌, Bool, List, codes, nat_eq, ℕ}
@@ -12,6 +12,7 @@ warning_name QuotedWord = codes "quoted-word"
 warning_name NeverTrue = codes "never-true"
 warning_name UnknownText = codes "unknown-text"
 warning_name HiddenPair = codes "hidden-pair"
+warning_name Unreachable = codes "unreachable"
 
 abbrev pub warning_words : Warning → List ℕ
 warning_words AppendToNothing = codes "there is no text to append to"
@@ -20,6 +21,7 @@ warning_words QuotedWord = codes "this quote is a byte of the word, as texts hav
 warning_words NeverTrue = codes "no switch has this name, as -DX is the switch D with the argument X"
 warning_words UnknownText = codes "there is no text of this name"
 warning_words HiddenPair = codes "a later pair of this file has the same key, and it is the one that counts"
+warning_words Unreachable = codes "no line reaches this branch, as an earlier one is taken in its place"
 
 -- what a warning says, with its name
 abbrev pub warning_text : Warning → List ℕ
@@ -31,4 +33,4 @@ is_name_of name warning = pointwise nat_eq name (warning_name warning)
 abbrev pub is_warning : List ℕ → Bool
 is_warning name =
     is_name_of name AppendToNothing || is_name_of name DirectiveInBody || is_name_of name QuotedWord || is_name_of name NeverTrue
-    || is_name_of name UnknownText || is_name_of name HiddenPair
+    || is_name_of name UnknownText || is_name_of name HiddenPair || is_name_of name Unreachable

@@ -19,6 +19,7 @@ fn warning_name(warning: Warning) -> &'static [u8]
         Warning::NeverTrue => b"never-true",
         Warning::UnknownText => b"unknown-text",
         Warning::HiddenPair => b"hidden-pair",
+        Warning::Unreachable => b"unreachable",
     }
 }
 
@@ -37,6 +38,9 @@ fn warning_words(warning: Warning) -> &'static [u8]
         Warning::UnknownText => b"there is no text of this name",
         Warning::HiddenPair => {
             b"a later pair of this file has the same key, and it is the one that counts"
+        }
+        Warning::Unreachable => {
+            b"no line reaches this branch, as an earlier one is taken in its place"
         }
     }
 }
@@ -69,4 +73,5 @@ pub fn is_warning(name: &[u8]) -> bool
         || is_name_of(name, Warning::NeverTrue)
         || is_name_of(name, Warning::UnknownText)
         || is_name_of(name, Warning::HiddenPair)
+        || is_name_of(name, Warning::Unreachable)
 }
