@@ -9,6 +9,7 @@ use Rattle.drv_check.specs.Includes.{inclusion_in, read_text}
 use Rattle.drv_check.specs.Numbers.{AreRead, IsRead}
 use Rattle.drv_check.specs.Points.{front_length}
 use Rattle.drv_check.specs.Warnings.{marks_of}
+use Rattle.drv_check.specs.UnusedTexts.{source_names}
 use Rattle.drv_check.specs.Whole.{file_judged, judged, pieces_judged, sources_judged, whole_marks}
 use Rattle.drv_check.specs.declared.findings.Checking.{Checking}
 use Rattle.drv_check.specs.declared.findings.Finding.{Finding}
@@ -34,6 +35,7 @@ use Rattle.drv_system.specs.Known.{◌>>=◌, Is, Known, Unasked, asked}
 use Rattle.drv_system.specs.declared.event.ReadAnswer.{ReadAnswer}
 use Rattle.std.proofs.Common.{◌≡◌, ◌∙◌, ◌+◌, ◌++◌, ◌∷◌, Bool, Err, List, None, Ok, Option, Result, Some, [], ap, append_assoc, drop, false, if◌then◌else◌, length, refl, subst, suc, sym, zero, ℕ}
 use Rattle.std.proofs.lemmas.List.{append-nil}
+use Rattle.std.specs.List.{flat_map}
 use Rattle.std.specs.Prelude.{filter, map}
 
 -- For first_fault_is_refusal: a check finds no fault exactly where the driver loads the files, and its first fault is the driver's refusal.
@@ -368,19 +370,19 @@ faults_stay (finding ∷ findings) = by finding.note refl (faults_stay findings)
     by (Fault fault) is same = ap (λ n. fault_in n ++ faults_of (filter tells_fault findings)) is ∙ ap (λ fs. fault ∷ fs) same
     by (Warned warning) is same = same
 
-pieces_well : (set : Set) (file : OpenFile) (pieces : List Piece) → faults_of (pieces_judged set file pieces) ≡ []
-pieces_well set file [] = refl
-pieces_well set file (piece ∷ later) =
-    faults_with (map (finding_of file piece) (whole_marks set later piece.text)) (pieces_judged set file later) (pieces_well set file later) ∙ no_faults file piece (whole_marks set later piece.text)
+pieces_well : (set : Set) (worked : List (List ℕ)) (file : OpenFile) (pieces : List Piece) → faults_of (pieces_judged set worked file pieces) ≡ []
+pieces_well set worked file [] = refl
+pieces_well set worked file (piece ∷ later) =
+    faults_with (map (finding_of file piece) (whole_marks set worked later piece.text)) (pieces_judged set worked file later) (pieces_well set worked file later) ∙ no_faults file piece (whole_marks set worked later piece.text)
 
-sources_well : (set : Set) (n : ℕ) (sources : List Source) → faults_of (sources_judged set n sources) ≡ []
-sources_well set n [] = refl
-sources_well set n (source ∷ sources) =
-    faults_with (file_judged set (open_file n source.text)) (sources_judged set (n + 1) sources) (sources_well set (n + 1) sources)
-    ∙ pieces_well set (open_file n source.text) (open_file n source.text).pieces
+sources_well : (set : Set) (worked : List (List ℕ)) (n : ℕ) (sources : List Source) → faults_of (sources_judged set worked n sources) ≡ []
+sources_well set worked n [] = refl
+sources_well set worked n (source ∷ sources) =
+    faults_with (file_judged set worked (open_file n source.text)) (sources_judged set worked (n + 1) sources) (sources_well set worked (n + 1) sources)
+    ∙ pieces_well set worked (open_file n source.text) (open_file n source.text).pieces
 
 judged_well : (first : ℕ) (c : Checking) → faults_of (judged first c).findings ≡ faults_of c.findings
-judged_well first c = faults_with c.findings (sources_judged c.set first (drop first c.sources)) (sources_well c.set first (drop first c.sources))
+judged_well first c = faults_with c.findings (sources_judged c.set (flat_map source_names c.sources) first (drop first c.sources)) (sources_well c.set (flat_map source_names c.sources) first (drop first c.sources))
 
 agrees : (F : Facts) (prefixes : Prefixes) (c : Checking) (known : Known (Result Set SpecsFault)) → Loads F prefixes [] c known
     → Agrees (faults_of c.findings) known

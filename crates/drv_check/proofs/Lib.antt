@@ -8,6 +8,7 @@ mod Inclusions
 mod JsonWords
 mod Judged
 mod LinesNumbered
+mod Lost
 mod Marks
 mod OwnTrees
 mod PieceSteps
@@ -16,3 +17,4 @@ mod PiecesRead
 mod Reports
 mod TokenMarks
 mod Unreached
+mod Unused

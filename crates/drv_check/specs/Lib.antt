@@ -5,6 +5,7 @@ pub mod Checks
 pub mod Code
 pub mod Differing
 pub mod Includes
+pub mod LostMarks
 pub mod Numbers
 pub mod OwnTexts
 pub mod Pieces
@@ -12,5 +13,6 @@ pub mod Points
 pub mod Shown
 pub mod TokenWarnings
 pub mod Told
+pub mod UnusedTexts
 pub mod Warnings
 pub mod Whole

@@ -1,6 +1,7 @@
 use Rattle.drv_check.specs.Checks.{finding_of, open_file}
 use Rattle.drv_check.specs.Points.{front_length}
 use Rattle.drv_check.specs.TokenWarnings.{own_marks}
+use Rattle.drv_check.specs.UnusedTexts.{source_names, unused_marks}
 use Rattle.drv_check.specs.declared.findings.Checking.{Checking}
 use Rattle.drv_check.specs.declared.findings.Finding.{Finding}
 use Rattle.drv_check.specs.declared.findings.Source.{Source}
@@ -13,7 +14,7 @@ use Rattle.drv_specs.specs.Directives.{is_colon}
 use Rattle.drv_specs.specs.Sets.{Set}
 use Rattle.drv_words.specs.Bytes.{asterisk, percent}
 use Rattle.std.specs.Cmp.Lexicographic.{pointwise}
-use Rattle.std.specs.List.{list_any, position}
+use Rattle.std.specs.List.{flat_map, list_any, position}
 use Rattle.std.specs.Prelude.{◌+◌, ◌==◌, ◌||◌, Bool, List, [], ◌∷◌, ◌++◌, None, Option, Some, drop, false, if◌then◌else◌, map, nat_eq, take, ℕ}
 
 -- What spec files show once all of them are loaded that is legal and surely not meant (GCC manual, "Spec Files"; this project's profile).
@@ -44,21 +45,24 @@ is_hidden (Some key) later = list_any (puts_key key) later
 abbrev pub pair_marks : List Piece → List ℕ → List Mark
 pair_marks later text = if is_hidden (key_in text) later then record { at = front_length is_blank text; warning = HiddenPair } ∷ [] else []
 
--- of a piece before these in its file, over the set that the files make
-abbrev pub whole_marks : Set → List Piece → List ℕ → List Mark
-whole_marks set later text = pair_marks later text ++ own_marks set text
+-- of a piece before these in its file, over the set that the files make and the names that their texts work
+abbrev pub whole_marks : Set → List (List ℕ) → List Piece → List ℕ → List Mark
+whole_marks set worked later text = pair_marks later text ++ unused_marks set worked text ++ own_marks set text
 
-abbrev pub pieces_judged : Set → OpenFile → List Piece → List Finding
-pieces_judged set file [] = []
-pieces_judged set file (piece ∷ later) = map (finding_of file piece) (whole_marks set later piece.text) ++ pieces_judged set file later
+abbrev pub pieces_judged : Set → List (List ℕ) → OpenFile → List Piece → List Finding
+pieces_judged set worked file [] = []
+pieces_judged set worked file (piece ∷ later) =
+    map (finding_of file piece) (whole_marks set worked later piece.text) ++ pieces_judged set worked file later
 
-abbrev pub file_judged : Set → OpenFile → List Finding
-file_judged set file = pieces_judged set file file.pieces
+abbrev pub file_judged : Set → List (List ℕ) → OpenFile → List Finding
+file_judged set worked file = pieces_judged set worked file file.pieces
 
 -- of sources, the first of which has this place among all
-abbrev pub sources_judged : Set → ℕ → List Source → List Finding
-sources_judged set n [] = []
-sources_judged set n (source ∷ sources) = file_judged set (open_file n source.text) ++ sources_judged set (n + 1) sources
+abbrev pub sources_judged : Set → List (List ℕ) → ℕ → List Source → List Finding
+sources_judged set worked n [] = []
+sources_judged set worked n (source ∷ sources) =
+    file_judged set worked (open_file n source.text) ++ sources_judged set worked (n + 1) sources
 
 abbrev pub judged : ℕ → Checking → Checking
-judged first c = record c { findings = c.findings ++ sources_judged c.set first (drop first c.sources) }
+judged first c =
+    record c { findings = c.findings ++ sources_judged c.set (flat_map source_names c.sources) first (drop first c.sources) }

@@ -45,6 +45,10 @@ pub enum Warning {
     /// A branch of a choice that can't be reached, as a test of an earlier one covers each of its
     /// own, or an earlier one has no test.
     Unreachable,
+    /// A directive that marks a word, with white space on both sides, so that no word has the mark.
+    LostMark,
+    /// A text that no text works, and that gcc and the driver don't work themselves.
+    UnusedText,
 }
 
 /// What a finding says.

@@ -14,9 +14,10 @@ use crate::pieces::Piece;
 use crate::pointing::colon_in;
 use crate::stepping::push_warnings;
 use crate::token_warning::push_own;
+use crate::unused_text::{names_worked, push_unused};
 use crate::warning::Mark;
 use drv_specs::SpecSet;
-use drv_words::Listing;
+use drv_words::{Listing, Word};
 use std::alloc::{AllocError, Global};
 
 /// The key of a pair that a piece puts.
@@ -80,13 +81,16 @@ fn push_pair(marks: &mut Vec<Mark>, later: &[Piece], text: &[u8]) -> Result<(), 
 fn whole_marks(
     alloc: Global,
     set: &SpecSet,
+    worked: &[Word],
     later: &[Piece],
     text: &[u8],
 ) -> Result<Vec<Mark>, AllocError>
-    ensures { IfOk result (λ marks. marks.items ≡ whole_marks set.now later.now text.now) }
+    ensures { IfOk result
+        (λ marks. marks.items ≡ whole_marks set.now worked.now later.now text.now) }
 {
     let mut marks = Vec::new(alloc);
     push_pair(&mut marks, later, text)?;
+    push_unused(&mut marks, set, worked, text)?;
     push_own(alloc, &mut marks, set, text)?;
     Ok(marks)
 }
@@ -96,15 +100,17 @@ fn judge_piece(
     alloc: Global,
     findings: &mut Listing<Finding>,
     set: &SpecSet,
+    worked: &[Word],
     file: &OpenFile,
     later: &[Piece],
     piece: &Piece,
 ) -> Result<(), AllocError>
     ensures { OnOk result
         (findings.new ≡ findings.old
-        ++ map (finding_of file.now piece.now) (whole_marks set.now later.now piece.now.text)) }
+        ++ map (finding_of file.now piece.now)
+        (whole_marks set.now worked.now later.now piece.now.text)) }
 {
-    let marks = whole_marks(alloc, set, later, piece.text.as_bytes())?;
+    let marks = whole_marks(alloc, set, worked, later, piece.text.as_bytes())?;
     push_warnings(findings, file, piece, marks.as_slice())
 }
 
@@ -114,13 +120,14 @@ fn judge_file(
     alloc: Global,
     findings: &mut Listing<Finding>,
     set: &SpecSet,
+    worked: &[Word],
     file: &OpenFile,
 ) -> Result<(), AllocError>
-    ensures { OnOk result (findings.new ≡ findings.old ++ file_judged set.now file.now) }
+    ensures { OnOk result (findings.new ≡ findings.old ++ file_judged set.now worked.now file.now) }
 {
     let mut left = file.pieces.as_slice();
     while let [piece, later @ ..] = left {
-        judge_piece(alloc, findings, set, file, later, piece)?;
+        judge_piece(alloc, findings, set, worked, file, later, piece)?;
         left = later;
     }
     Ok(())
@@ -132,17 +139,19 @@ fn judge_sources(
     alloc: Global,
     findings: &mut Listing<Finding>,
     set: &SpecSet,
+    worked: &[Word],
     first: usize,
     sources: &[Source],
 ) -> Result<(), AllocError>
     ensures { OnOk result
-        (findings.new ≡ findings.old ++ sources_judged set.now first (drop first sources.now)) }
+        (findings.new
+        ≡ findings.old ++ sources_judged set.now worked.now first (drop first sources.now)) }
 {
     let mut number = first;
     while number < sources.len() {
         let source = &sources[number];
         let file = open_file(alloc, number, source.text.as_bytes())?;
-        judge_file(alloc, findings, set, &file)?;
+        judge_file(alloc, findings, set, worked, &file)?;
         number += 1;
     }
     Ok(())
@@ -152,10 +161,12 @@ fn judge_sources(
 pub(crate) fn judge(alloc: Global, checking: &mut Checking, first: usize) -> Result<(), AllocError>
     ensures { OnOk result (checking.new ≡ judged first checking.old) }
 {
+    let worked = names_worked(alloc, checking.sources.as_slice())?;
     judge_sources(
         alloc,
         &mut checking.findings,
         &checking.set,
+        worked.as_slice(),
         first,
         checking.sources.as_slice(),
     )

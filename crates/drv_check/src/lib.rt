@@ -9,6 +9,7 @@ mod findings;
 mod including;
 mod judging;
 mod laws;
+mod lost_marks;
 mod opening;
 mod own_text;
 mod pieces;
@@ -17,6 +18,7 @@ mod stepping;
 mod token_warning;
 mod told;
 mod told_json;
+mod unused_text;
 mod warning;
 
 pub use checking::check_files;

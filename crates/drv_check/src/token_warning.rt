@@ -14,6 +14,7 @@ ghost use Rattle.std.specs.Prelude.{◌≡◌, ◌<◌, ◌^◌, ◌++◌, OnOk,
 use crate::branches::push_choices;
 use crate::bytes::is_white;
 use crate::findings::Warning;
+use crate::lost_marks::push_all_lost;
 use crate::own_text::{own_start, own_tree};
 use crate::warning::Mark;
 use drv_specs::SpecSet;
@@ -180,6 +181,7 @@ fn push_whole(
         (marks.new.items ≡ marks.old.items ++ tree_marks set.now tree.now (tree_of tree.now) start) }
 {
     push_tree(marks, set, tree, start)?;
+    push_all_lost(marks, tree, start)?;
     push_choices(alloc, marks, tree, start)
 }
 

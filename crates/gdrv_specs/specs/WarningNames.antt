@@ -1,4 +1,4 @@
-use Rattle.drv_check.specs.declared.findings.Warning.TheVariants.{AppendToNothing, DirectiveInBody, HiddenPair, NeverTrue, QuotedWord, UnknownText, Unreachable}
+use Rattle.drv_check.specs.declared.findings.Warning.TheVariants.{AppendToNothing, DirectiveInBody, HiddenPair, LostMark, NeverTrue, QuotedWord, UnknownText, Unreachable, UnusedText}
 use Rattle.drv_check.specs.declared.findings.Warning.{Warning}
 use Rattle.std.specs.Cmp.Lexicographic.{pointwise}
 use Rattle.std.specs.Prelude.{◌||◌, ◌++◌, Bool, List, codes, nat_eq, ℕ}
@@ -13,6 +13,8 @@ warning_name NeverTrue = codes "never-true"
 warning_name UnknownText = codes "unknown-text"
 warning_name HiddenPair = codes "hidden-pair"
 warning_name Unreachable = codes "unreachable"
+warning_name LostMark = codes "lost-mark"
+warning_name UnusedText = codes "unused-text"
 
 abbrev pub warning_words : Warning → List ℕ
 warning_words AppendToNothing = codes "there is no text to append to"
@@ -22,6 +24,8 @@ warning_words NeverTrue = codes "no switch has this name, as -DX is the switch D
 warning_words UnknownText = codes "there is no text of this name"
 warning_words HiddenPair = codes "a later pair of this file has the same key, and it is the one that counts"
 warning_words Unreachable = codes "no line reaches this branch, as an earlier one is taken in its place"
+warning_words LostMark = codes "this marks no word, as white space is on both sides"
+warning_words UnusedText = codes "no text names this one, and it is none of those that gcc names itself"
 
 -- what a warning says, with its name
 abbrev pub warning_text : Warning → List ℕ
@@ -34,3 +38,4 @@ abbrev pub is_warning : List ℕ → Bool
 is_warning name =
     is_name_of name AppendToNothing || is_name_of name DirectiveInBody || is_name_of name QuotedWord || is_name_of name NeverTrue
     || is_name_of name UnknownText || is_name_of name HiddenPair || is_name_of name Unreachable
+    || is_name_of name LostMark || is_name_of name UnusedText

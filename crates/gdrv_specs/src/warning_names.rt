@@ -20,6 +20,8 @@ fn warning_name(warning: Warning) -> &'static [u8]
         Warning::UnknownText => b"unknown-text",
         Warning::HiddenPair => b"hidden-pair",
         Warning::Unreachable => b"unreachable",
+        Warning::LostMark => b"lost-mark",
+        Warning::UnusedText => b"unused-text",
     }
 }
 
@@ -42,6 +44,9 @@ fn warning_words(warning: Warning) -> &'static [u8]
         Warning::Unreachable => {
             b"no line reaches this branch, as an earlier one is taken in its place"
         }
+        Warning::LostMark => b"this marks no word, as white space is on both sides",
+        Warning::UnusedText =>
+            b"no text names this one, and it is none of those that gcc names itself",
     }
 }
 
@@ -74,4 +79,6 @@ pub fn is_warning(name: &[u8]) -> bool
         || is_name_of(name, Warning::UnknownText)
         || is_name_of(name, Warning::HiddenPair)
         || is_name_of(name, Warning::Unreachable)
+        || is_name_of(name, Warning::LostMark)
+        || is_name_of(name, Warning::UnusedText)
 }

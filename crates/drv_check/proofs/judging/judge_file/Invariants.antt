@@ -3,7 +3,7 @@ use Rattle.drv_check.specs.Whole.{file_judged, pieces_judged}
 use Rattle.std.proofs.Common.{◌≡◌, ◌++◌, length}
 
 abbrev pub invariant-loop-left : goal.invariant-loop-left
-invariant-loop-left l = l.findings ++ pieces_judged l.set l.file l.left ≡ l.fn.findings ++ file_judged l.set l.file
+invariant-loop-left l = l.findings ++ pieces_judged l.set l.worked l.file l.left ≡ l.fn.findings ++ file_judged l.set l.worked l.file
 
 abbrev pub decreases-loop-left : goal.decreases-loop-left
 decreases-loop-left l = length l.left

@@ -1,0 +1,161 @@
+//! Texts that no other one works.
+
+ghost use Rattle.drv_check.specs.UnusedTexts.{is_among, is_known, is_unused, name_worked, names_between};
+ghost use Rattle.drv_check.specs.UnusedTexts.{names_in, piece_names, source_names, unused_marks};
+ghost use Rattle.drv_syntax.specs.Labels.{label_at};
+ghost use Rattle.drv_syntax.specs.Parsed.{tree_of};
+ghost use Rattle.drv_syntax.specs.Tokens.{tokens_of};
+ghost use Rattle.std.specs.List.{flat_map};
+ghost use Rattle.std.specs.Option.{option_map};
+ghost use Rattle.std.specs.Prelude.{◌≡◌, ◌<◌, ◌++◌, IfOk, OnOk, length};
+
+use crate::bytes::{blanks_before, following};
+use crate::findings::{Source, Warning};
+use crate::opening::open_file;
+use crate::own_text::own_tree;
+use crate::pieces::Piece;
+use crate::pointing::{body_start, is_addition, name_in};
+use crate::warning::Mark;
+use drv_specs::SpecSet;
+use drv_syntax::{SpecTree, TokenKind};
+use drv_words::Word;
+use std::alloc::{AllocError, Global};
+
+/// The names of gcc's own texts (GCC, "gcc.cc", static_specs; `-dumpspecs` adds that of the link),
+/// and those that the driver's set has besides.
+const KNOWN: &[u8] =
+    b"asm asm_debug asm_debug_option asm_final asm_options invoke_as cpp cpp_options \
+      cpp_debug_options cpp_unique_options trad_capable_cpp cc1 cc1_options cc1plus \
+      link_gcc_c_sequence link_ssp endfile link lib link_gomp libgcc startfile cross_compile version \
+      multilib multilib_defaults multilib_extra multilib_matches multilib_exclusions \
+      multilib_options multilib_reuse linker linker_plugin_file lto_wrapper lto_gcc post_link \
+      link_libgcc md_exec_prefix md_startfile_prefix md_startfile_prefix_1 startfile_prefix_spec \
+      sysroot_spec sysroot_suffix_spec sysroot_hdrs_suffix_spec self_spec link_command signed_char \
+      cpp_cmd cc1_cmd as_cmd";
+
+/// Whether a text has a name between spaces.
+fn stands_in(text: &[u8], name: &[u8]) -> bool
+    ensures { result ≡ is_among (names_between text.now) name.now }
+{
+    text.split(|byte| *byte == b' ').any(|other| name == other)
+}
+
+/// Whether gcc or the driver has a text of this name.
+fn is_known(name: &[u8]) -> bool
+    ensures { result ≡ is_known name.now }
+{
+    stands_in(KNOWN, name)
+}
+
+/// Whether a name is one of these.
+fn is_among(names: &[Word], name: &[u8]) -> bool
+    ensures { result ≡ is_among names.now name.now }
+{
+    names.iter().any(|other| name == other.as_bytes())
+}
+
+/// Adds the name that the part at this place works, if it works one.
+fn push_name(
+    alloc: Global,
+    names: &mut Vec<Word>,
+    tree: &SpecTree,
+    place: usize,
+    kind: TokenKind,
+) -> Result<(), AllocError>
+    requires { place < length (tokens_of (tree_of tree.now)) }
+    ensures { OnOk result
+        (names.new.items ≡ names.old.items
+        ++ name_worked kind (label_at (tree_of tree.now) place)) }
+{
+    match kind {
+        TokenKind::NamedText | TokenKind::BuiltinText => {
+            names.push(Word::from_bytes(alloc, tree.word(place))?)?;
+            Ok(())
+        }
+        _ => Ok(()),
+    }
+}
+
+/// Adds the names that a tree works.
+#[tactic(auto, using(crate::proofs::Unused::names_next))]
+fn push_tree(alloc: Global, names: &mut Vec<Word>, tree: &SpecTree) -> Result<(), AllocError>
+    ensures { OnOk result (names.new.items ≡ names.old.items ++ names_in (tree_of tree.now)) }
+{
+    let tokens = tree.tokens();
+    let mut place = 0;
+    while place < tokens.len() {
+        push_name(alloc, names, tree, place, tokens[place].kind)?;
+        place += 1;
+    }
+    Ok(())
+}
+
+/// Adds the names that the text of a piece works.
+#[tactic(auto, using(crate::proofs::Unused::names_of_tree, crate::proofs::Unused::names_of_none))]
+fn push_piece(alloc: Global, names: &mut Vec<Word>, piece: &Piece) -> Result<(), AllocError>
+    ensures { OnOk result (names.new.items ≡ names.old.items ++ piece_names piece.now) }
+{
+    match own_tree(alloc, piece.text.as_bytes())? {
+        Some(tree) => push_tree(alloc, names, &tree),
+        None => Ok(()),
+    }
+}
+
+/// Adds the names that pieces work.
+fn push_pieces(alloc: Global, names: &mut Vec<Word>, pieces: &[Piece]) -> Result<(), AllocError>
+    ensures { OnOk result (names.new.items ≡ names.old.items ++ flat_map piece_names pieces.now) }
+{
+    for piece in pieces {
+        push_piece(alloc, names, piece)?;
+    }
+    Ok(())
+}
+
+/// Adds the names that the texts of a source work.
+fn push_source(alloc: Global, names: &mut Vec<Word>, source: &Source) -> Result<(), AllocError>
+    ensures { OnOk result (names.new.items ≡ names.old.items ++ source_names source.now) }
+{
+    let file = open_file(alloc, 0, source.text.as_bytes())?;
+    push_pieces(alloc, names, file.pieces.as_slice())
+}
+
+/// The names that the texts of these sources work.
+pub(crate) fn names_worked(alloc: Global, sources: &[Source]) -> Result<Vec<Word>, AllocError>
+    ensures { IfOk result (λ names. names.items ≡ flat_map source_names sources.now) }
+{
+    let mut names = Vec::new(alloc);
+    for source in sources {
+        push_source(alloc, &mut names, source)?;
+    }
+    Ok(names)
+}
+
+/// Whether the set has a text of this name, which is none of these names and no known one.
+fn is_unused(set: &SpecSet, worked: &[Word], name: Option<&[u8]>) -> bool
+    ensures { result ≡ is_unused set.now worked.now (option_map (λ name. name.now) name.entry) }
+{
+    match name {
+        Some(name) => set.text(name).is_some() && !is_known(name) && !is_among(worked, name),
+        None => false,
+    }
+}
+
+/// Adds the warning of a piece whose text no other one works.
+pub(crate) fn push_unused(
+    marks: &mut Vec<Mark>,
+    set: &SpecSet,
+    worked: &[Word],
+    text: &[u8],
+) -> Result<(), AllocError>
+    ensures { OnOk result
+        (marks.new.items ≡ marks.old.items ++ unused_marks set.now worked.now text.now) }
+{
+    let body = following(text, body_start(text));
+    if !is_addition(body) && is_unused(set, worked, name_in(text)) {
+        marks.push(Mark {
+            at: blanks_before(text),
+            warning: Warning::UnusedText,
+        })?;
+    }
+    Ok(())
+}
