@@ -22,13 +22,22 @@ fn calls_cpu_tune(rt: &HostRuntime, room: &Room, gcc: &Word) -> Result<bool, Fau
     )
 }
 
+/// Options whose values the front knows.
+const OWN: [&[u8]; 4] = [
+    b"-fsanitize=",
+    b"-fno-sanitize=",
+    b"-fuse-ld=",
+    b"-fcompare-debug=",
+];
+
 /// The name of an option with a value, up to its equals sign; none for another option, or for one
 /// whose value the front knows.
 fn open_name(option: &[u8]) -> Option<&[u8]> {
     let is_judged = matches!(option, [b'-', b'f' | b'W' | b'm' | b'g', ..]);
     let end = option.iter().position(|byte| *byte == b'=')?;
-    if is_judged {
-        option.get(..end + 1)
+    let name = option.get(..end + 1)?;
+    if is_judged && !OWN.iter().any(|own| name == *own) {
+        Some(name)
     } else {
         None
     }
@@ -48,13 +57,60 @@ fn with_no_value(alloc: Global, known: &[Word]) -> Result<Listing<Word>, Fault> 
     Ok(words)
 }
 
+/// What an option takes, as a gcc says where it refuses a value.
+#[derive(Drop)]
+enum Takes {
+    /// A number.
+    Number,
+    /// One of these values.
+    Listed(Listing<Word>),
+}
+
 /// What a gcc says of the value of an option that it refuses.
 #[derive(Drop)]
 struct Judged {
     /// The name, up to its equals sign.
     name: Word,
-    /// The values that it lists; none if it takes a number.
-    listed: Listing<Word>,
+    /// What it takes.
+    takes: Takes,
+}
+
+/// A number of one digit or two.
+fn small(text: &[u8]) -> Option<u8> {
+    match text {
+        [b'0'..=b'9'] => Some(text[0] - b'0'),
+        [b'1'..=b'9', b'0'..=b'9'] => Some((text[0] - b'0') * 10 + (text[1] - b'0')),
+        _ => None,
+    }
+}
+
+/// The numbers from one to another, each as a word.
+fn numbers(alloc: Global, from: u8, to: u8) -> Result<Listing<Word>, Fault> {
+    let mut words = Listing::new(alloc);
+    for number in from..=to {
+        let mut word = Word::empty(alloc);
+        if 9 < number {
+            word.push(b'0' + number / 10 % 10)?;
+        }
+        word.push(b'0' + number % 10)?;
+        words.push(word)?;
+    }
+    Ok(words)
+}
+
+/// The numbers between two small ones, if a text names such: ` is not between 0 and 2`.
+fn between(alloc: Global, text: &[u8]) -> Result<Option<Listing<Word>>, Fault> {
+    let Some(ends) = text.strip_prefix(b" is not between ".as_slice()) else {
+        return Ok(None);
+    };
+    let words = split(alloc, ends)?;
+    let [first, _, last] = words.as_slice() else {
+        return Ok(None);
+    };
+    match (small(first.as_bytes()), small(last.as_bytes())) {
+        (Some(from), Some(to)) => Ok(Some(numbers(alloc, from, to)?)),
+        _ => Ok(None),
+    }
 }
 
 /// The part of a line before a quote, and what follows it.
@@ -77,23 +133,48 @@ fn listed(alloc: Global, text: &[u8]) -> Result<Listing<Word>, Fault> {
     Ok(split(alloc, text.get(..end).unwrap_or(text))?)
 }
 
+/// What follows the name of an option whose values are listed.
+fn list_after(after: &[u8]) -> Option<&[u8]> {
+    match after.strip_prefix(b" are: ".as_slice()) {
+        Some(list) => Some(list),
+        None => after.strip_prefix(b" arguments are: ".as_slice()),
+    }
+}
+
+/// What a text behind the name of an option says that the option takes, if it does.
+fn taken(alloc: Global, after: &[u8]) -> Result<Option<Takes>, Fault> {
+    if after.starts_with(b" should be a non-negative integer") {
+        return Ok(Some(Takes::Number));
+    }
+    if let Some(list) = list_after(after) {
+        return Ok(Some(Takes::Listed(listed(alloc, list)?)));
+    }
+    match between(alloc, after)? {
+        Some(numbers) => Ok(Some(Takes::Listed(numbers))),
+        None => Ok(None),
+    }
+}
+
 /// What a line says of a value, if it does.
 fn judged_in(alloc: Global, line: &[u8]) -> Result<Option<Judged>, Fault> {
-    let (before, rest) = before_quote(line);
+    let (_, rest) = before_quote(line);
     let (name, after) = before_quote(rest);
-    if after == b" should be a non-negative integer".as_slice() {
-        return Ok(Some(Judged {
+    match taken(alloc, after)? {
+        Some(takes) => Ok(Some(Judged {
             name: Word::from_bytes(alloc, name)?,
-            listed: Listing::new(alloc),
-        }));
-    }
-    match after.strip_prefix(b" are: ".as_slice()) {
-        Some(list) if before.ends_with(b" valid arguments to ") => Ok(Some(Judged {
-            name: Word::from_bytes(alloc, name)?,
-            listed: listed(alloc, list)?,
+            takes,
         })),
-        _ => Ok(None),
+        None => Ok(None),
     }
+}
+
+/// What a gcc says of these words.
+fn said_of(rt: &HostRuntime, room: &Room, gcc: &Word, tried: &[Word]) -> Result<Word, Fault> {
+    let mut words = split(rt.alloc(), b"-### -c x.s")?;
+    for word in tried {
+        words.push(word.clone()?)?;
+    }
+    Ok(ask_words(rt, &room.lines, gcc, words.as_slice())?.err)
 }
 
 /// What a gcc says of the values of these options.
@@ -104,13 +185,9 @@ fn judgements(
     tried: &[Word],
 ) -> Result<Listing<Judged>, Fault> {
     let alloc = rt.alloc();
-    let mut words = split(alloc, b"-### -c x.s")?;
-    for word in tried {
-        words.push(word.clone()?)?;
-    }
-    let said = ask_words(rt, &room.lines, gcc, words.as_slice())?;
+    let said = said_of(rt, room, gcc, tried)?;
     let mut found = Listing::new(alloc);
-    for line in said.err.as_bytes().split(|byte| *byte == b'\n') {
+    for line in said.as_bytes().split(|byte| *byte == b'\n') {
         if let Some(one) = judged_in(alloc, line)? {
             found.push(one)?;
         }
@@ -118,36 +195,50 @@ fn judgements(
     Ok(found)
 }
 
-/// Each option that lists two values, with both between commas.
-fn pairs(alloc: Global, found: &[Judged]) -> Result<Listing<Word>, Fault> {
+/// Whether a gcc knows the option of a word, and refuses the word.
+fn is_refused(rt: &HostRuntime, room: &Room, gcc: &Word, word: &Word) -> Result<bool, Fault> {
+    let mut words = split(rt.alloc(), b"-### -Wl,x")?;
+    words.push(word.clone()?)?;
+    let said = ask_words(rt, &room.lines, gcc, words.as_slice())?;
+    let unknown = b"unrecognized command-line option".as_slice();
+    Ok(
+        !said.is_done
+            && !said
+                .err
+                .as_bytes()
+                .windows(unknown.len())
+                .any(|it| it == unknown),
+    )
+}
+
+/// The options that take numbers, each with one that is too large for a list.
+fn with_large(alloc: Global, found: &[Judged]) -> Result<Listing<Word>, Fault> {
     let mut words = Listing::new(alloc);
     for it in found {
-        if let [first, second, ..] = it.listed.as_slice() {
-            let mut word = named(alloc, it.name.as_bytes(), first.as_bytes())?;
-            word.push(b',')?;
-            word.extend_from_slice(second.as_bytes())?;
-            words.push(word)?;
+        if let Takes::Number = it.takes {
+            words.push(named(alloc, it.name.as_bytes(), b"99999999999999999999")?)?;
         }
     }
     Ok(words)
 }
 
-/// Adds the names of an option whose value is a number, or one of a list.
-fn add_names(alloc: Global, it: &Judged, names: &mut Listing<Word>) -> Result<(), Fault> {
-    let is_number = it.listed.is_empty();
-    names.push(named(
-        alloc,
-        it.name.as_bytes(),
-        if is_number { b"#" } else { b"?" },
-    )?)?;
-    for value in it.listed.as_slice() {
-        names.push(named(alloc, it.name.as_bytes(), value.as_bytes())?)?;
+/// Adds the values of an option that are listed.
+fn add_values(alloc: Global, it: &Judged, names: &mut Listing<Word>) -> Result<(), Fault> {
+    if let Takes::Listed(values) = &it.takes {
+        for value in values.as_slice() {
+            names.push(named(alloc, it.name.as_bytes(), value.as_bytes())?)?;
+        }
     }
     Ok(())
 }
 
+/// Whether one of these is about an option.
+fn speaks_of(found: &[Judged], name: &Word) -> bool {
+    found.iter().any(|it| it.name.as_bytes() == name.as_bytes())
+}
+
 /// The options whose value is judged: `NAME=#` takes a number, and `NAME=?` what is listed, which
-/// follows. One that takes several listed values between commas takes any.
+/// follows. Numbers up to a small one are a list.
 fn judged_names(
     rt: &HostRuntime,
     room: &Room,
@@ -156,17 +247,23 @@ fn judged_names(
 ) -> Result<Listing<Word>, Fault> {
     let alloc = rt.alloc();
     let mut names = Listing::new(alloc);
-    let found = judgements(rt, room, gcc, with_no_value(alloc, known)?.as_slice())?;
-    for it in found.as_slice() {
-        if it.listed.is_empty() {
-            add_names(alloc, it, &mut names)?;
+    let tried = with_no_value(alloc, known)?;
+    for word in tried.as_slice() {
+        if is_refused(rt, room, gcc, word)? {
+            names.push(word.clone()?)?;
         }
     }
-    let tried = pairs(alloc, found.as_slice())?;
-    for it in judgements(rt, room, gcc, tried.as_slice())?.as_slice() {
-        if !it.listed.is_empty() {
-            add_names(alloc, it, &mut names)?;
+    let found = judgements(rt, room, gcc, tried.as_slice())?;
+    let large = with_large(alloc, found.as_slice())?;
+    let few = judgements(rt, room, gcc, large.as_slice())?;
+    for it in found.as_slice() {
+        add_values(alloc, it, &mut names)?;
+        if !speaks_of(few.as_slice(), &it.name) && matches!(it.takes, Takes::Number) {
+            names.push(named(alloc, it.name.as_bytes(), b"#")?)?;
         }
+    }
+    for it in few.as_slice() {
+        add_values(alloc, it, &mut names)?;
     }
     Ok(names)
 }
@@ -201,14 +298,28 @@ fn sorted(alloc: Global, text: &Word) -> Result<Word, Fault> {
     Ok(whole)
 }
 
+/// Adds the options that turn a warning off and have a value.
+fn add_negatives(alloc: Global, said: &[u8], known: &mut Listing<Word>) -> Result<(), Fault> {
+    for rest in values(alloc, b"-Wno-", said)?.as_slice() {
+        if !rest.as_bytes().contains(&b'=') {
+            continue;
+        }
+        if let [option, ..] = split(alloc, rest.as_bytes())?.as_slice() {
+            known.push(named(alloc, b"-Wno-", option.as_bytes())?)?;
+        }
+    }
+    Ok(())
+}
+
 /// All options that a gcc knows, by their names, a line each.
 pub fn names_of(rt: &HostRuntime, room: &Room, gcc: &Word) -> Result<Word, Fault> {
     let alloc = rt.alloc();
     let said = ask(rt, &room.lines, gcc, b"--completion=-")?;
-    let known = options(alloc, said.out.as_bytes())?;
+    let mut known = options(alloc, said.out.as_bytes())?;
     if known.is_empty() {
         return Err(Fault::NoOptions(gcc.clone()?));
     }
+    add_negatives(alloc, said.out.as_bytes(), &mut known)?;
     let judged = judged_names(rt, room, gcc, known.as_slice())?;
     let mut names = Listing::new(alloc);
     for option in known.as_slice() {
