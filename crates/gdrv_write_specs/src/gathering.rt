@@ -63,12 +63,19 @@ impl<'a> Asked<'a> {
         })
     }
 
+    /// Adds a spec file that the texts include.
+    fn add_included(self, name: &Word, included: &mut Listing<Included>) -> Result<(), Fault> {
+        let file = self.included(name)?;
+        included.push(file)?;
+        Ok(())
+    }
+
     /// The spec files that the texts include. `%(include_words)` is a text of another kind.
     fn all_included(self, names: &[Word]) -> Result<Listing<Included>, Fault> {
         let mut included = Listing::new(self.alloc());
         for name in names {
             if name.as_bytes() != b"words".as_slice() {
-                included.push(self.included(name)?)?;
+                self.add_included(name, &mut included)?;
             }
         }
         Ok(included)
