@@ -298,12 +298,9 @@ fn sorted(alloc: Global, text: &Word) -> Result<Word, Fault> {
     Ok(whole)
 }
 
-/// Adds the options that turn a warning off and have a value.
+/// Adds the options that turn a warning off.
 fn add_negatives(alloc: Global, said: &[u8], known: &mut Listing<Word>) -> Result<(), Fault> {
     for rest in values(alloc, b"-Wno-", said)?.as_slice() {
-        if !rest.as_bytes().contains(&b'=') {
-            continue;
-        }
         if let [option, ..] = split(alloc, rest.as_bytes())?.as_slice() {
             known.push(named(alloc, b"-Wno-", option.as_bytes())?)?;
         }
