@@ -425,15 +425,9 @@ fn result(
     r.rest.take(1);
     let outer = outermost(outer, at);
     let name = function(outer, percent, r)?;
-    let choice = opened(so_far, begun.start, r)?;
-    let part = open(
-        TokenKind::Test,
-        begun.start,
-        name,
-        begun.negated,
-        TestKind::Result,
-        r,
-    )?;
+    let Begun { start, negated, .. } = begun;
+    let choice = opened(so_far, start, r)?;
+    let part = open(TokenKind::Test, start, name, negated, TestKind::Result, r)?;
     items(outer, in_arguments(in_braces(c)), r)?;
     r.rest.take(1);
     close(TokenKind::Test, part, r);
