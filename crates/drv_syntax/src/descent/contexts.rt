@@ -5,6 +5,8 @@ ghost use Rattle.drv_syntax.specs.Code.Writing.{open_at};
 ghost use Rattle.drv_syntax.specs.Contexts as contexts;
 ghost use Rattle.std.specs.Prelude.{◌≡◌, Some};
 
+use crate::descent::parts::Choice;
+
 /// What a list of items is.
 #[derive(Clone, Copy)]
 pub enum ListKind {
@@ -66,16 +68,16 @@ pub fn in_arguments(c: ListContext) -> ListContext
     }
 }
 
-/// In the X of an alternative in braces in such a list, whose tests are all starred patterns or are
-/// not.
+/// In the X of this alternative, in braces in such a list.
 #[inline(always)]
-pub fn in_x(c: ListContext, starred: bool) -> ListContext
-    ensures { context_seen result ≡ owner_when starred (contexts.in_braces (context_seen c)) }
+pub fn in_x(c: ListContext, choice: Choice) -> ListContext
+    ensures { context_seen result
+        ≡ owner_when choice.starred (contexts.in_braces (context_seen c)) }
 {
     ListContext {
         kind: ListKind::InX,
         in_arguments: c.in_arguments,
-        owner: if starred {
+        owner: if choice.starred {
             StarOwner::Starred
         } else {
             StarOwner::Mixed

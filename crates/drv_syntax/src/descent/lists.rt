@@ -152,7 +152,7 @@ pub fn items(outer: Option<u32>, c: ListContext, r: &mut Reader<'_>) -> Result<T
             percent(outer, c, r)?;
             tail = ended(r);
         } else {
-            tail = item(outer, c.in_arguments, b, tail, r)?;
+            tail = item(outer, c, b, tail, r)?;
         }
     }
 }
@@ -306,7 +306,7 @@ fn x(
 {
     let around = r.holds_star;
     r.holds_star = false;
-    let tail = items(outermost(outer, at), in_x(c, choice.starred), r)?;
+    let tail = items(outermost(outer, at), in_x(c, choice), r)?;
     close_choice(choice, tail, around, r);
     r.rest.take(1);
     Ok(tail.end)

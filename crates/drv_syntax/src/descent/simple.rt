@@ -106,10 +106,10 @@ pub fn directive(
 
 /// A newline, in arguments or not.
 #[inline(always)]
-fn newline(in_arguments: bool) -> TokenKind
-    ensures { result ≡ kind_of (newline_in in_arguments) }
+fn newline(c: ListContext) -> TokenKind
+    ensures { result ≡ kind_of (newline_in c.in_arguments) }
 {
-    if in_arguments {
+    if c.in_arguments {
         TokenKind::Blank
     } else {
         TokenKind::Newline
@@ -170,20 +170,15 @@ fn escape(outer: Option<u32>, r: &mut Reader<'_>) -> Result<(), SyntaxFault>
 
 /// An item that is no directive and no white space, from its first byte on.
 #[inline(always)]
-fn single(
-    outer: Option<u32>,
-    in_arguments: bool,
-    b: u8,
-    r: &mut Reader<'_>,
-) -> Result<(), SyntaxFault>
+fn single(outer: Option<u32>, c: ListContext, b: u8, r: &mut Reader<'_>) -> Result<(), SyntaxFault>
     requires { first_of r.old.rest.bytes ≡ Some b }
     ensures { Gives SyntaxFault.Memory (λ _. seen r.new) result
-        (single_given outer in_arguments b (seen r.old)) }
+        (single_given outer c.in_arguments b (seen r.old)) }
 {
     if b == b'\\' {
         return escape(outer, r);
     }
-    if b == b'|' && !in_arguments {
+    if b == b'|' && !c.in_arguments {
         let start = r.rest.at();
         r.rest.take(1);
         return unnamed(TokenKind::Pipe, start, r);
@@ -195,24 +190,24 @@ fn single(
 #[inline(always)]
 pub fn item(
     outer: Option<u32>,
-    in_arguments: bool,
+    c: ListContext,
     b: u8,
     tail: Tail,
     r: &mut Reader<'_>,
 ) -> Result<Tail, SyntaxFault>
     requires { first_of r.old.rest.bytes ≡ Some b }
     ensures { Gives SyntaxFault.Memory (λ tail. (tail, seen r.new)) result
-        (byte_given outer in_arguments b tail (seen r.old)) }
+        (byte_given outer c.in_arguments b tail (seen r.old)) }
 {
     if is_blank(b) {
         white(TokenKind::Blank, r)?;
         return Ok(tail);
     }
     if b == b'\n' {
-        white(newline(in_arguments), r)?;
+        white(newline(c), r)?;
         return Ok(tail);
     }
-    single(outer, in_arguments, b, r)?;
+    single(outer, c, b, r)?;
     Ok(ended(r))
 }
 
