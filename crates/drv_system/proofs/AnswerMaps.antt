@@ -74,7 +74,7 @@ clears_pair (e ∷ es) key blank new = cleared_first e es key blank (slice_cmp n
 
 -- One more answer belongs to its key if that had none, and no other answer changes.
 
-same_key : (other key : List ℕ) → is_at (slice_cmp nat_cmp other) key ≡ true → other ≡ key
+pub same_key : (other key : List ℕ) → is_at (slice_cmp nat_cmp other) key ≡ true → other ≡ key
 same_key other key same = exact_bytes other key ((Equal-is (slice_cmp nat_cmp other key)).0 same)
 
 pub or_none : {Y : Type 0} (x : Option Y) → x ≡ option_or x None
@@ -119,13 +119,6 @@ module _ {Y : Type 0} (es made : List (List ℕ × Y)) (key : List ℕ) (blank :
       → answer_to full key ≡ Some answer
   place_answers full answer step = ap (λ xs. answer_to xs key) (step ∙ ap (λ xs. set_value (is_at (slice_cmp nat_cmp key)) xs answer) is
       ∙ fills_pair es key blank answer) ∙ pair_here es key answer
-
-  -- a place that is left as it was made has the blank as its answer
-  pub place_kept : made ≡ with_answer es key blank
-  place_kept = rw (← new) is
-
-  pub place_blank : answer_to made key ≡ Some blank
-  place_blank = ap (λ xs. answer_to xs key) is ∙ pair_here es key blank
 
   pub place_known : (full : List (List ℕ × Y)) (answer : Y) → full ≡ set_value (is_at (slice_cmp nat_cmp key)) made answer
       → IsSome (answer_to full key)

@@ -2,3 +2,4 @@
 pub mod Asked
 pub mod Holding
 pub mod Output
+pub mod Ordered

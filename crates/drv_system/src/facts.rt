@@ -11,6 +11,7 @@ ghost use Rattle.std.specs.Prelude.{◌≡◌, IfOk, IsSome, List, OnErr, OnOk, 
 use crate::answer_map::AnswerMap;
 use crate::{PathKind, ReadAnswer, System};
 use drv_words::Word;
+use indexmap::IndexMap;
 use std::alloc::{AllocError, Global};
 use std::marker::Model;
 
@@ -18,16 +19,24 @@ use std::marker::Model;
 #[derive(Drop)]
 pub struct FactTable {
     reads: AnswerMap<ReadAnswer>,
-    kinds: AnswerMap<PathKind>,
+    /// A search asks for many: a table by hash finds them faster than a tree.
+    kinds: IndexMap<Word, PathKind>,
     variables: AnswerMap<Option<Word>>,
 }
 
 impl Model for FactTable {
+    ghost use Rattle.drv_system.specs.Code.Ordered.{SameAnswers, in_order};
     ghost use Rattle.drv_system.specs.Facts.{Facts};
 
     ghost Value = { Facts };
 
-    ghost view = { λ t. record { reads = t.reads; kinds = t.kinds; variables = t.variables } };
+    ghost invariant = { λ t. SameAnswers t.kinds.entries };
+
+    ghost view = { λ t. record {
+      reads = t.reads;
+      kinds = in_order t.kinds.entries;
+      variables = t.variables;
+    } };
 }
 
 impl FactTable {
@@ -37,7 +46,7 @@ impl FactTable {
     {
         FactTable {
             reads: AnswerMap::new(alloc),
-            kinds: AnswerMap::new(alloc),
+            kinds: IndexMap::new(alloc),
             variables: AnswerMap::new(alloc),
         }
     }
@@ -52,19 +61,12 @@ impl FactTable {
         if let Some(kind) = self.kinds.get(path) {
             return Ok(*kind);
         }
-        self.kinds.make_place(path, PathKind::Missing)?;
-        match sys.kind(path) {
-            // The place has this answer already. In a search most paths get it.
-            Ok(PathKind::Missing) => Ok(PathKind::Missing),
-            Ok(kind) => {
-                self.kinds.fill_place(path, kind);
-                Ok(kind)
-            }
-            Err(e) => {
-                self.kinds.clear_place(path);
-                Err(e)
-            }
-        }
+        // With a copy of the path and room for it, keeping the answer can't fail.
+        let key = path.clone()?;
+        self.kinds.reserve(1)?;
+        let kind = sys.kind(path)?;
+        self.kinds.insert(key, kind)?;
+        Ok(kind)
     }
 
     /// Asks for the bytes of a file, unless the table knows them. `read_answer` then returns them.

@@ -1,34 +1,37 @@
-use Rattle.drv_system.proofs.AnswerMaps.{place_answers, place_blank, place_cleared, place_filled, place_kept, place_made}
-use Rattle.drv_system.proofs.Consulting.{consulted, consults_asks, not_consulted}
+use Rattle.drv_system.proofs.Consulting.{consulted, consults_asks}
+use Rattle.drv_system.proofs.InOrder.{answers_more, appended, in_order_unknown, ordered_here, ordered_with}
 use Rattle.drv_system.proofs.facts.FactTable.kind.Goals as goal
-use Rattle.drv_system.specs.declared.event.PathKind.TheVariants.{Missing}
+use Rattle.std.proofs.Common.{◌∙◌, Some, ap, nat_eq}
+use Rattle.std.specs.Cmp.Lexicographic.{pointwise}
+use Rattle.std.specs.Map.{lookup}
+use Rattle.std.specs.Prelude.{cond}
 
-pub fill_place-requires : goal.fill_place-requires
-fill_place-requires g c = place_made _ _ _ _ c.in_ok-make_place.ensures.ok
+pub invariant_of-self-2 : goal.invariant_of-self-2
+invariant_of-self-2 g c =
+    let grows = appended c.self.inside.kinds.entries c.reserve.new.self.entries c.insert.new.self.entries c.in_ok-key.key c.args.path.now c.in_ok-kind.kind
+    c.in_ok-key.ensures.cases c.in_default.ensures.value c.in_ok-reserve.ensures.entries c.in_ok-insert.ensures.entries in
+    answers_more c.self.inside.kinds.entries c.insert.new.self.entries c.in_ok-key.key c.args.path.now c.in_ok-kind.kind c.self.invariant
+    c.in_ok-key.ensures.cases c.in_default.ensures.value grows
+    (λ other. c.in_ok-insert.ensures.updates.0 other
+    ∙ ap (λ es. cond (pointwise nat_eq c.in_ok-key.key other) (Some c.in_ok-kind.kind) (lookup (pointwise nat_eq other) es)) c.in_ok-reserve.ensures.entries)
 
-pub returns-in-Ok-Missing-clause-known : goal.returns-in-Ok-Missing-clause-known
-returns-in-Ok-Missing-clause-known g c = place_blank _ _ _ _ c.in_default.ensures c.in_ok-make_place.ensures.ok
+pub returns-clause-known : goal.returns-clause-known
+returns-clause-known g c =
+    let grows = appended c.self.inside.kinds.entries c.reserve.new.self.entries c.insert.new.self.entries c.in_ok-key.key c.args.path.now c.in_ok-kind.kind
+    c.in_ok-key.ensures.cases c.in_default.ensures.value c.in_ok-reserve.ensures.entries c.in_ok-insert.ensures.entries in
+    ordered_here c.self.inside.kinds.entries c.insert.new.self.entries c.in_ok-key.key c.args.path.now c.in_ok-kind.kind c.self.invariant
+    c.in_ok-key.ensures.cases c.in_default.ensures.value grows
 
-pub returns-in-Ok-Missing-clause-consults : goal.returns-in-Ok-Missing-clause-consults
-returns-in-Ok-Missing-clause-consults g c = rw (← c.self.view_is) (consulted _ _ _ _ _ _ _ c.in_default.ensures _ Missing Missing
-    (place_blank _ _ _ _ c.in_default.ensures c.in_ok-make_place.ensures.ok)
-    (let event = c.in-Ok-Missing.ensures.event in let missing = c.in-Ok-Missing.field-0-is in cc)
-    (let kept = place_kept c.self.inside.kinds _ c.args.path.now _ c.in_default.ensures c.in_ok-make_place.ensures.ok in cc))
+pub returns-clause-consults : goal.returns-clause-consults
+returns-clause-consults g c =
+    let grows = appended c.self.inside.kinds.entries c.reserve.new.self.entries c.insert.new.self.entries c.in_ok-key.key c.args.path.now c.in_ok-kind.kind
+    c.in_ok-key.ensures.cases c.in_default.ensures.value c.in_ok-reserve.ensures.entries c.in_ok-insert.ensures.entries in
+    let kinds = ordered_with c.self.inside.kinds.entries c.insert.new.self.entries c.in_ok-key.key c.args.path.now c.in_ok-kind.kind c.self.invariant
+    c.in_ok-key.ensures.cases c.in_default.ensures.value grows in
+    rw (← c.self.view_is) (consulted _ _ _ _ _ _ _
+    (in_order_unknown c.self.inside.kinds.entries c.args.path.now c.self.invariant c.in_default.ensures.value) _ c.in_ok-kind.kind c.in_ok-kind.kind
+    (returns-clause-known g c) c.in_ok-kind.ensures.event
+    (ap (λ kinds. record { reads = c.self.inside.reads; kinds = kinds; variables = c.self.inside.variables }) kinds))
 
-pub returns-in-Ok-clause-known : goal.returns-in-Ok-clause-known
-returns-in-Ok-clause-known g c = place_answers _ _ _ _ c.in_default.ensures c.in_ok-make_place.ensures.ok _ _ c.fill_place.ensures
-
-pub returns-in-Ok-clause-consults : goal.returns-in-Ok-clause-consults
-returns-in-Ok-clause-consults g c = rw (← c.self.view_is) (consulted _ _ _ _ _ _ _ c.in_default.ensures _ _ _
-    (place_answers _ _ _ _ c.in_default.ensures c.in_ok-make_place.ensures.ok _ _ c.fill_place.ensures) c.in-Ok.ensures.event
-    (let kept = place_filled c.self.inside.kinds _ c.args.path.now _ c.in_default.ensures c.in_ok-make_place.ensures.ok _ _ c.fill_place.ensures in cc))
-
-pub returns-in-Ok-clause-asks : goal.returns-in-Ok-clause-asks
-returns-in-Ok-clause-asks g c = consults_asks _ _ _ _ _ _ _ _ (λ kind new. new) (returns-in-Ok-clause-consults g c)
-
-pub returns-in-Err-clause-consults : goal.returns-in-Err-clause-consults
-returns-in-Err-clause-consults g c = rw (← c.self.view_is) (not_consulted _ _ _ _ _ _ _ c.in_default.ensures _ _ c.in-Err.ensures.memory
-    (let left = place_cleared c.self.inside.kinds _ c.args.path.now _ c.in_default.ensures c.in_ok-make_place.ensures.ok _ c.clear_place.ensures in cc))
-
-pub returns-in-Err-clause-asks : goal.returns-in-Err-clause-asks
-returns-in-Err-clause-asks g c = consults_asks _ _ _ _ _ _ _ _ (λ kind new. new) (returns-in-Err-clause-consults g c)
+pub returns-clause-asks : goal.returns-clause-asks
+returns-clause-asks g c = consults_asks _ _ _ _ _ _ _ _ (λ kind new. new) (returns-clause-consults g c)
