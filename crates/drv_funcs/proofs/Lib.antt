@@ -1,6 +1,6 @@
 mod Asked
 mod Giving
-pub mod Places
+mod Ends
 mod Reading
 mod Rows
 mod Values

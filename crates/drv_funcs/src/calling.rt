@@ -10,10 +10,10 @@ ghost use Rattle.std.specs.Prelude.{◌≡◌, OnErr, length};
 use crate::comparing::version_compare;
 use crate::existing::{getenv, if_exists, if_exists_else, if_exists_then_else};
 use crate::outputs::{remove_outfile, replace_outfile};
-use crate::{FuncsFault, Function, Site};
+use crate::{FuncsFault, Function, Outputs, Site};
 use drv_match::{Hidden, Switches};
 use drv_system::{FactTable, Outside, System};
-use drv_words::{Listing, Word};
+use drv_words::Word;
 use std::alloc::Global;
 
 /// The result of a function for these arguments: a word, or nothing (GCC manual, "Spec Files"). In
@@ -32,7 +32,7 @@ pub fn call<S: System>(
     switches: &Switches<'_>,
     hidden: &Hidden,
     site: Site,
-    outputs: &mut Listing<Word>,
+    outputs: &mut Outputs,
     sys: &mut S,
     facts: &mut FactTable,
 ) -> Result<Option<Word>, FuncsFault>
@@ -50,11 +50,11 @@ pub fn call<S: System>(
         Function::IfExistsElse => if_exists_else(args, outside),
         Function::IfExistsThenElse => if_exists_then_else(args, outside),
         Function::ReplaceOutfile => {
-            replace_outfile(alloc, args, site, outputs)?;
+            replace_outfile(args, site, outputs)?;
             Ok(None)
         }
         Function::RemoveOutfile => {
-            remove_outfile(alloc, args, site, outputs)?;
+            remove_outfile(args, site, outputs)?;
             Ok(None)
         }
         Function::VersionCompare => version_compare(alloc, args, switches, hidden),

@@ -2,6 +2,7 @@
 #![tactic(auto)]
 
 mod calling;
+mod changes;
 mod comparing;
 mod existing;
 mod fault;
@@ -14,5 +15,6 @@ mod version;
 pub use calling::call;
 pub use fault::FuncsFault;
 pub use function::Function;
+pub use outputs::Outputs;
 pub use site::Site;
 pub use version::compare_versions;

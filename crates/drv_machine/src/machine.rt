@@ -30,6 +30,7 @@ mod whole_words;
 use crate::{Context, MachineFault};
 pub(crate) use cutter::Cutter;
 use drawn_names::DrawnNames;
+use drv_funcs::Outputs;
 use drv_match::{Hidden, Pattern, Switches};
 use drv_system::{Outside, System};
 use drv_words::{Listing, Word};
@@ -135,7 +136,7 @@ pub(crate) struct Machine {
     /// The number of the next name that is drawn.
     number: usize,
     /// The outputs of the jobs so far.
-    outputs: Listing<Word>,
+    outputs: Outputs,
     notices: Listing<Word>,
     /// Whether words go to the file of a `%@`.
     is_in_file: bool,
@@ -196,7 +197,7 @@ impl Machine {
             options: IndexedWords::new(alloc, copied_words(alloc, context.options())?),
             drawn: DrawnNames::new(alloc),
             number: context.number(),
-            outputs: copied_words(alloc, context.outputs())?,
+            outputs: Outputs::new(alloc, copied_words(alloc, context.outputs())?),
             notices: Listing::new(alloc),
             is_in_file: false,
             items: 0,

@@ -42,11 +42,11 @@ pub(crate) fn outcome_of<S: System>(
         (finished F context.now machine.old.world machine.old.cut) }
 {
     let job = job_of(machine, context, outside)?;
-    let alloc = machine.alloc;
+    let outs = machine.outputs.take()?;
     Ok(Outcome {
         job,
-        notices: mem::replace(&mut machine.notices, Listing::new(alloc)),
-        outs: mem::replace(&mut machine.outputs, Listing::new(alloc)),
+        notices: mem::replace(&mut machine.notices, Listing::new(machine.alloc)),
+        outs,
         accumulated: options_of(machine),
         next_number: machine.number,
         cost: machine.items,

@@ -11,15 +11,15 @@ ghost use Rattle.drv_system.specs.Asking.{Extends};
 ghost use Rattle.drv_system.specs.Facts.{Facts};
 ghost use Rattle.drv_system.specs.Gives.{GivesKnown};
 ghost use Rattle.drv_system.specs.Known.{Is};
-ghost use Rattle.std.specs.Prelude.{◌≡◌, ◌∷◌, ◌++◌, [], IfOk, OnOk, flat_map, length};
+ghost use Rattle.std.specs.Prelude.{◌≡◌, ◌∷◌, ◌++◌, [], IfOk, OnErr, OnOk, flat_map, length};
 
 use super::Machine;
 use crate::{Context, MachineFault};
+use drv_funcs::Outputs;
 use drv_search::dir_options;
 use drv_system::{Outside, System};
 use drv_words::{Listing, Word};
 use std::alloc::{AllocError, Global};
-use std::mem;
 
 /// Copies of words.
 pub(crate) fn copied_words(alloc: Global, words: &[Word]) -> Result<Listing<Word>, AllocError>
@@ -140,13 +140,14 @@ impl Machine {
         self.put_words(list, context, outside)
     }
 
-    /// Takes the outputs of the jobs so far out.
-    fn take_outputs(&mut self) -> Listing<Word>
-        ensures taken { result ≡ self.old.world.outputs }
-        ensures left { self.new ≡ record self.old
-            { world = record self.old.world { outputs = [] } } }
+    /// Takes the outputs of the jobs so far out. On an error nothing changes.
+    fn take_outputs(&mut self) -> Result<Listing<Word>, AllocError>
+        ensures taken { IfOk result (λ outputs. outputs ≡ self.old.world.outputs) }
+        ensures left { OnOk result (self.new ≡ record self.old
+            { world = record self.old.world { outputs = [] } }) }
+        ensures err { OnErr result (self.new ≡ self.old) }
     {
-        mem::replace(&mut self.outputs, Listing::new(self.alloc))
+        self.outputs.take()
     }
 
     /// Puts the outputs of the jobs so far back.
@@ -154,7 +155,7 @@ impl Machine {
         ensures { self.new ≡ record self.old
             { world = record self.old.world { outputs = outputs } } }
     {
-        self.outputs = outputs;
+        self.outputs = Outputs::new(self.alloc, outputs);
     }
 
     /// The outputs of the jobs so far are put, each as a word of its own. They are taken out while
@@ -178,7 +179,7 @@ impl Machine {
         if context.input().is_some() {
             return Err(MachineFault::NotInLink);
         }
-        let outputs = self.take_outputs();
+        let outputs = self.take_outputs()?;
         let put = self.put_apart(outputs.as_slice(), context, outside);
         self.give_back(outputs);
         put

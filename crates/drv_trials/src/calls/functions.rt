@@ -3,7 +3,7 @@
 use super::NO_CALL;
 use crate::transcript::Transcript;
 use drv_args::Switch;
-use drv_funcs::{FuncsFault, Function, Site, call, compare_versions};
+use drv_funcs::{FuncsFault, Function, Outputs, Site, call, compare_versions};
 use drv_match::{Hidden, Switches};
 use drv_system::{FactTable, System};
 use drv_words::{Listing, Word, split};
@@ -39,11 +39,12 @@ fn switches_of(alloc: Global, names: &Word) -> Result<Vec<Switch>, AllocError> {
 }
 
 /// The outputs that a text names, if there is one.
-fn outputs_of(alloc: Global, outputs: Option<&Word>) -> Result<Listing<Word>, AllocError> {
-    match outputs {
-        Some(outputs) => split(alloc, outputs.as_bytes()),
-        None => Ok(Listing::new(alloc)),
-    }
+fn outputs_of(alloc: Global, outputs: Option<&Word>) -> Result<Outputs, AllocError> {
+    let words = match outputs {
+        Some(outputs) => split(alloc, outputs.as_bytes())?,
+        None => Listing::new(alloc),
+    };
+    Ok(Outputs::new(alloc, words))
 }
 
 /// Adds the name of a refusal, followed by its value in parentheses.
@@ -123,7 +124,7 @@ impl Called<'_> {
         sys: &mut S,
         function: Function,
         switches: &Switches<'_>,
-        outputs: &mut Listing<Word>,
+        outputs: &mut Outputs,
     ) -> Result<Option<Word>, FuncsFault> {
         let hidden = Hidden::new(alloc, switches)?;
         let mut facts = FactTable::new(alloc);
@@ -146,7 +147,7 @@ impl Called<'_> {
             &self.call(alloc, sys, function, switches, &mut outputs),
             out,
         )?;
-        add_outputs(outputs.as_slice(), out)
+        add_outputs(outputs.take()?.as_slice(), out)
     }
 
     /// Adds the result of the function, followed by the outputs.
