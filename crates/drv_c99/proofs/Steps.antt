@@ -5,8 +5,8 @@ use Rattle.drv_c99.specs.declared.building.Front.{Front}
 use Rattle.drv_c99.specs.declared.fault.C99Fault.TheVariants.{Memory}
 use Rattle.drv_c99.specs.declared.fault.C99Fault.{C99Fault}
 use Rattle.drv_c99.specs.declared.option.Taking.{Taking}
-use Rattle.drv_c99.specs.declared.option.Part.TheVariants.{AfterEnd}
-use Rattle.drv_c99.specs.declared.option.Part.{Part}
+use Rattle.drv_c99.specs.declared.option.Side.TheVariants.{AfterEnd}
+use Rattle.drv_c99.specs.declared.option.Side.{Side}
 use Rattle.drv_words.specs.Gives.{Gives}
 use Rattle.std.specs.Prelude.{IsErrAnd}
 use Rattle.std.proofs.Common.{◌≡◌, ◌⊎◌, ◌≤◌, ◌-◌, inl, inr, List, arith, drop, get_or, length, take, [], ◌∷◌, ◌++◌, Err, Ok, Result, ap}
@@ -18,33 +18,33 @@ use Rattle.std.proofs.lemmas.List.{append-nil, take_all}
 
 -- The result for the first word, by how it begins.
 
-pub flag_first : (part : Part) (w : List ℕ) (words : List (List ℕ)) → start_of part w ≡ Flag
-    → items_of part (w ∷ words) ≡ and_items (Ok (Passed (w ∷ []))) (items_of part words)
-flag_first part w [] starts = ap (λ s. at_last s w) starts
-flag_first part w (n ∷ words) starts = ap (λ s. at_word s w n (items_of part (n ∷ words)) (items_of part words)
+pub flag_first : (side : Side) (w : List ℕ) (words : List (List ℕ)) → start_of side w ≡ Flag
+    → items_of side (w ∷ words) ≡ and_items (Ok (Passed (w ∷ []))) (items_of side words)
+flag_first side w [] starts = ap (λ s. at_last s w) starts
+flag_first side w (n ∷ words) starts = ap (λ s. at_word s w n (items_of side (n ∷ words)) (items_of side words)
     (items_of AfterEnd (n ∷ words))) starts
 
-pub names_first : (part : Part) (prefix w : List ℕ) (words : List (List ℕ)) → start_of part w ≡ Names prefix
-    → items_of part (w ∷ words) ≡ and_items (Ok (Operand (prefix ++ w))) (items_of part words)
-names_first part prefix w [] starts = ap (λ s. at_last s w) starts
-names_first part prefix w (n ∷ words) starts = ap (λ s. at_word s w n (items_of part (n ∷ words)) (items_of part words)
+pub names_first : (side : Side) (prefix w : List ℕ) (words : List (List ℕ)) → start_of side w ≡ Names prefix
+    → items_of side (w ∷ words) ≡ and_items (Ok (Operand (prefix ++ w))) (items_of side words)
+names_first side prefix w [] starts = ap (λ s. at_last s w) starts
+names_first side prefix w (n ∷ words) starts = ap (λ s. at_word s w n (items_of side (n ∷ words)) (items_of side words)
     (items_of AfterEnd (n ∷ words))) starts
 
-pub joined_first : (part : Part) (option : Taking) (argument w : List ℕ) (words : List (List ℕ)) → start_of part w ≡ Joined option argument
-    → items_of part (w ∷ words) ≡ and_items (given option argument) (items_of part words)
-joined_first part option argument w [] starts = ap (λ s. at_last s w) starts
-joined_first part option argument w (n ∷ words) starts = ap (λ s. at_word s w n (items_of part (n ∷ words)) (items_of part words)
+pub joined_first : (side : Side) (option : Taking) (argument w : List ℕ) (words : List (List ℕ)) → start_of side w ≡ Joined option argument
+    → items_of side (w ∷ words) ≡ and_items (given option argument) (items_of side words)
+joined_first side option argument w [] starts = ap (λ s. at_last s w) starts
+joined_first side option argument w (n ∷ words) starts = ap (λ s. at_word s w n (items_of side (n ∷ words)) (items_of side words)
     (items_of AfterEnd (n ∷ words))) starts
 
-pub wants_first : (part : Part) (option : Taking) (w n : List ℕ) (words : List (List ℕ)) → start_of part w ≡ Wants option
-    → items_of part (w ∷ n ∷ words) ≡ and_items (given option n) (items_of part words)
-wants_first part option w n words starts = ap (λ s. at_word s w n (items_of part (n ∷ words)) (items_of part words)
+pub wants_first : (side : Side) (option : Taking) (w n : List ℕ) (words : List (List ℕ)) → start_of side w ≡ Wants option
+    → items_of side (w ∷ n ∷ words) ≡ and_items (given option n) (items_of side words)
+wants_first side option w n words starts = ap (λ s. at_word s w n (items_of side (n ∷ words)) (items_of side words)
     (items_of AfterEnd (n ∷ words))) starts
 
-pub ends_first : (part : Part) (w : List ℕ) (words : List (List ℕ)) → start_of part w ≡ Ends
-    → items_of part (w ∷ words) ≡ items_of AfterEnd words
-ends_first part w [] starts = ap (λ s. at_last s w) starts
-ends_first part w (n ∷ words) starts = ap (λ s. at_word s w n (items_of part (n ∷ words)) (items_of part words)
+pub ends_first : (side : Side) (w : List ℕ) (words : List (List ℕ)) → start_of side w ≡ Ends
+    → items_of side (w ∷ words) ≡ items_of AfterEnd words
+ends_first side w [] starts = ap (λ s. at_last s w) starts
+ends_first side w (n ∷ words) starts = ap (λ s. at_word s w n (items_of side (n ∷ words)) (items_of side words)
     (items_of AfterEnd (n ∷ words))) starts
 
 -- An item that is noted first comes first among all items.
@@ -65,43 +65,43 @@ after_first word words = take_all (length (word ∷ words) - 1) words (omega ari
 
 -- The next word, by how it begins.
 
-next_is : (w : List ℕ) (words : List (List ℕ)) (part : Part) (f f' : Front) (r : Result Item C99Fault)
+next_is : (w : List ℕ) (words : List (List ℕ)) (side : Side) (f f' : Front) (r : Result Item C99Fault)
     (whole : Result (List (List ℕ)) C99Fault)
-    → items_of part (w ∷ words) ≡ and_items r (items_of part words) → noted f r ≡ Ok f' → front_with f (items_of part (w ∷ words)) ≡ whole
-    → front_with f' (items_of part (take (length (w ∷ words) - 1) words)) ≡ whole
-next_is w words part f f' r whole first added so_far =
-    ap (λ l. front_with f' (items_of part l)) (after_first w words) ∙ note_rest f f' r (items_of part words) added
+    → items_of side (w ∷ words) ≡ and_items r (items_of side words) → noted f r ≡ Ok f' → front_with f (items_of side (w ∷ words)) ≡ whole
+    → front_with f' (items_of side (take (length (w ∷ words) - 1) words)) ≡ whole
+next_is w words side f f' r whole first added so_far =
+    ap (λ l. front_with f' (items_of side l)) (after_first w words) ∙ note_rest f f' r (items_of side words) added
     ∙ ap (front_with f) (sym first) ∙ so_far
 
-pub flag_next : (left : List (List ℕ)) (word bytes : List ℕ) (part : Part) (f f' : Front) (whole : Result (List (List ℕ)) C99Fault)
-    → 1 ≤ length left → word ≡ get_or left 0 word → bytes ≡ word → Flag ≡ start_of part bytes → noted f (Ok (Passed (bytes ∷ []))) ≡ Ok f'
-    → front_with f (items_of part left) ≡ whole → front_with f' (items_of part (take (length left - 1) (drop 1 left))) ≡ whole
-flag_next [] word bytes part f f' whole some first same starts added so_far = absurd (omega arith)
-flag_next (w ∷ words) word bytes part f f' whole some first same starts added so_far =
+pub flag_next : (left : List (List ℕ)) (word bytes : List ℕ) (side : Side) (f f' : Front) (whole : Result (List (List ℕ)) C99Fault)
+    → 1 ≤ length left → word ≡ get_or left 0 word → bytes ≡ word → Flag ≡ start_of side bytes → noted f (Ok (Passed (bytes ∷ []))) ≡ Ok f'
+    → front_with f (items_of side left) ≡ whole → front_with f' (items_of side (take (length left - 1) (drop 1 left))) ≡ whole
+flag_next [] word bytes side f f' whole some first same starts added so_far = absurd (omega arith)
+flag_next (w ∷ words) word bytes side f f' whole some first same starts added so_far =
     let is = same ∙ first in
-    next_is w words part f f' (Ok (Passed (w ∷ []))) whole (flag_first part w words (ap (start_of part) (sym is) ∙ sym starts))
+    next_is w words side f f' (Ok (Passed (w ∷ []))) whole (flag_first side w words (ap (start_of side) (sym is) ∙ sym starts))
     (ap (λ b. noted f (Ok (Passed (b ∷ [])))) (sym is) ∙ added) so_far
 
-pub operand_next : (left : List (List ℕ)) (word bytes prefix : List ℕ) (part : Part) (f f' : Front)
+pub operand_next : (left : List (List ℕ)) (word bytes prefix : List ℕ) (side : Side) (f f' : Front)
     (whole : Result (List (List ℕ)) C99Fault)
-    → 1 ≤ length left → word ≡ get_or left 0 word → bytes ≡ word → Names prefix ≡ start_of part bytes
+    → 1 ≤ length left → word ≡ get_or left 0 word → bytes ≡ word → Names prefix ≡ start_of side bytes
     → noted f (Ok (Operand (prefix ++ bytes))) ≡ Ok f'
-    → front_with f (items_of part left) ≡ whole → front_with f' (items_of part (take (length left - 1) (drop 1 left))) ≡ whole
-operand_next [] word bytes prefix part f f' whole some first same starts added so_far = absurd (omega arith)
-operand_next (w ∷ words) word bytes prefix part f f' whole some first same starts added so_far =
+    → front_with f (items_of side left) ≡ whole → front_with f' (items_of side (take (length left - 1) (drop 1 left))) ≡ whole
+operand_next [] word bytes prefix side f f' whole some first same starts added so_far = absurd (omega arith)
+operand_next (w ∷ words) word bytes prefix side f f' whole some first same starts added so_far =
     let is = same ∙ first in
-    next_is w words part f f' (Ok (Operand (prefix ++ w))) whole (names_first part prefix w words (ap (start_of part) (sym is)
+    next_is w words side f f' (Ok (Operand (prefix ++ w))) whole (names_first side prefix w words (ap (start_of side) (sym is)
     ∙ sym starts)) (ap (λ b. noted f (Ok (Operand (prefix ++ b)))) (sym is) ∙ added) so_far
 
-pub joined_next : (left : List (List ℕ)) (word bytes argument : List ℕ) (option : Taking) (part : Part) (f f' : Front)
+pub joined_next : (left : List (List ℕ)) (word bytes argument : List ℕ) (option : Taking) (side : Side) (f f' : Front)
     (whole : Result (List (List ℕ)) C99Fault)
-    → 1 ≤ length left → word ≡ get_or left 0 word → bytes ≡ word → Joined option argument ≡ start_of part bytes
+    → 1 ≤ length left → word ≡ get_or left 0 word → bytes ≡ word → Joined option argument ≡ start_of side bytes
     → noted f (given option argument) ≡ Ok f'
-    → front_with f (items_of part left) ≡ whole → front_with f' (items_of part (take (length left - 1) (drop 1 left))) ≡ whole
-joined_next [] word bytes argument option part f f' whole some first same starts added so_far = absurd (omega arith)
-joined_next (w ∷ words) word bytes argument option part f f' whole some first same starts added so_far =
-    next_is w words part f f' (given option argument) whole (joined_first part option argument w words
-    (ap (start_of part) (sym (same ∙ first)) ∙ sym starts)) added so_far
+    → front_with f (items_of side left) ≡ whole → front_with f' (items_of side (take (length left - 1) (drop 1 left))) ≡ whole
+joined_next [] word bytes argument option side f f' whole some first same starts added so_far = absurd (omega arith)
+joined_next (w ∷ words) word bytes argument option side f f' whole some first same starts added so_far =
+    next_is w words side f f' (given option argument) whole (joined_first side option argument w words
+    (ap (start_of side) (sym (same ∙ first)) ∙ sym starts)) added so_far
 
 refused_rest : (f : Front) (r : Result Item C99Fault) (fault : C99Fault) (rest : Result (List Item) C99Fault) → noted f r ≡ Err fault
     → front_with f (and_items r rest) ≡ Err fault
@@ -110,43 +110,43 @@ refused_rest f (Err e) fault rest is =
     ap Err same
 refused_rest f (Ok i) fault rest is = absurd cc
 
-joined_refused : (left : List (List ℕ)) (word bytes argument : List ℕ) (option : Taking) (part : Part) (f : Front) (fault : C99Fault)
+joined_refused : (left : List (List ℕ)) (word bytes argument : List ℕ) (option : Taking) (side : Side) (f : Front) (fault : C99Fault)
     (whole : Result (List (List ℕ)) C99Fault)
-    → 1 ≤ length left → word ≡ get_or left 0 word → bytes ≡ word → Joined option argument ≡ start_of part bytes
+    → 1 ≤ length left → word ≡ get_or left 0 word → bytes ≡ word → Joined option argument ≡ start_of side bytes
     → noted f (given option argument) ≡ Err fault
-    → front_with f (items_of part left) ≡ whole → whole ≡ Err fault
-joined_refused [] word bytes argument option part f fault whole some first same starts refused so_far = absurd (omega arith)
-joined_refused (w ∷ words) word bytes argument option part f fault whole some first same starts refused so_far =
-    sym so_far ∙ ap (front_with f) (joined_first part option argument w words (ap (start_of part) (sym (same ∙ first)) ∙ sym starts))
-    ∙ refused_rest f (given option argument) fault (items_of part words) refused
+    → front_with f (items_of side left) ≡ whole → whole ≡ Err fault
+joined_refused [] word bytes argument option side f fault whole some first same starts refused so_far = absurd (omega arith)
+joined_refused (w ∷ words) word bytes argument option side f fault whole some first same starts refused so_far =
+    sym so_far ∙ ap (front_with f) (joined_first side option argument w words (ap (start_of side) (sym (same ∙ first)) ∙ sym starts))
+    ∙ refused_rest f (given option argument) fault (items_of side words) refused
 
-pub ends_next : (left : List (List ℕ)) (word bytes : List ℕ) (part : Part) (f : Front) (whole : Result (List (List ℕ)) C99Fault)
-    → 1 ≤ length left → word ≡ get_or left 0 word → bytes ≡ word → Ends ≡ start_of part bytes
-    → front_with f (items_of part left) ≡ whole → front_with f (items_of AfterEnd (take (length left - 1) (drop 1 left))) ≡ whole
-ends_next [] word bytes part f whole some first same starts so_far = absurd (omega arith)
-ends_next (w ∷ words) word bytes part f whole some first same starts so_far =
+pub ends_next : (left : List (List ℕ)) (word bytes : List ℕ) (side : Side) (f : Front) (whole : Result (List (List ℕ)) C99Fault)
+    → 1 ≤ length left → word ≡ get_or left 0 word → bytes ≡ word → Ends ≡ start_of side bytes
+    → front_with f (items_of side left) ≡ whole → front_with f (items_of AfterEnd (take (length left - 1) (drop 1 left))) ≡ whole
+ends_next [] word bytes side f whole some first same starts so_far = absurd (omega arith)
+ends_next (w ∷ words) word bytes side f whole some first same starts so_far =
     ap (λ l. front_with f (items_of AfterEnd l)) (after_first w words)
-    ∙ ap (front_with f) (sym (ends_first part w words (ap (start_of part) (sym (same ∙ first)) ∙ sym starts))) ∙ so_far
+    ∙ ap (front_with f) (sym (ends_first side w words (ap (start_of side) (sym (same ∙ first)) ∙ sym starts))) ∙ so_far
 
 -- An option that needs the next word.
 
-pub wants_next : (left : List (List ℕ)) (word bytes next next_bytes : List ℕ) (option : Taking) (part : Part) (f f' : Front)
+pub wants_next : (left : List (List ℕ)) (word bytes next next_bytes : List ℕ) (option : Taking) (side : Side) (f f' : Front)
     (whole : Result (List (List ℕ)) C99Fault)
-    → 1 ≤ length left → word ≡ get_or left 0 word → bytes ≡ word → Wants option ≡ start_of part bytes
+    → 1 ≤ length left → word ≡ get_or left 0 word → bytes ≡ word → Wants option ≡ start_of side bytes
     → 1 ≤ length (take (length left - 1) (drop 1 left)) → next ≡ get_or (take (length left - 1) (drop 1 left)) 0 next → next_bytes ≡ next
     → noted f (given option next_bytes) ≡ Ok f'
-    → front_with f (items_of part left) ≡ whole
-    → front_with f' (items_of part (take (length (take (length left - 1) (drop 1 left)) - 1)
+    → front_with f (items_of side left) ≡ whole
+    → front_with f' (items_of side (take (length (take (length left - 1) (drop 1 left)) - 1)
     (drop 1 (take (length left - 1) (drop 1 left))))) ≡ whole
-wants_next [] word bytes next next_bytes option part f f' whole some first same starts more second alike added so_far = absurd (omega arith)
-wants_next (w ∷ []) word bytes next next_bytes option part f f' whole some first same starts more second alike added so_far = absurd
+wants_next [] word bytes next next_bytes option side f f' whole some first same starts more second alike added so_far = absurd (omega arith)
+wants_next (w ∷ []) word bytes next next_bytes option side f f' whole some first same starts more second alike added so_far = absurd
     (omega arith)
-wants_next (w ∷ n ∷ words) word bytes next next_bytes option part f f' whole some first same starts more second alike added so_far =
+wants_next (w ∷ n ∷ words) word bytes next next_bytes option side f f' whole some first same starts more second alike added so_far =
     let following = after_first w (n ∷ words) in
     let is_next : next_bytes ≡ n = alike ∙ second ∙ ap (λ l. get_or l 0 next) following in
-    ap (λ l. front_with f' (items_of part l)) (ap (λ l. take (length l - 1) (drop 1 l)) following ∙ after_first n words)
-    ∙ note_rest f f' (given option n) (items_of part words) (ap (λ b. noted f (given option b)) (sym is_next) ∙ added)
-    ∙ ap (front_with f) (sym (wants_first part option w n words (ap (start_of part) (sym (same ∙ first)) ∙ sym starts)))
+    ap (λ l. front_with f' (items_of side l)) (ap (λ l. take (length l - 1) (drop 1 l)) following ∙ after_first n words)
+    ∙ note_rest f f' (given option n) (items_of side words) (ap (λ b. noted f (given option b)) (sym is_next) ∙ added)
+    ∙ ap (front_with f) (sym (wants_first side option w n words (ap (start_of side) (sym (same ∙ first)) ∙ sym starts)))
     ∙ so_far
 
 refusal_given : (fault : C99Fault) (end : Result (List (List ℕ)) C99Fault) (result : Result (Unit {0}) C99Fault)
@@ -156,47 +156,47 @@ refusal_given fault end (Ok u) whole is refused = absurd is
 refusal_given fault end (Err e) whole is (inl memory) = inl (is ∙ memory)
 refusal_given fault end (Err e) whole is (inr refused) = inr (refused ∙ ap Err (sym is))
 
-pub joined_gives : (left : List (List ℕ)) (word bytes argument : List ℕ) (option : Taking) (part : Part) (f : Front) (fault : C99Fault)
+pub joined_gives : (left : List (List ℕ)) (word bytes argument : List ℕ) (option : Taking) (side : Side) (f : Front) (fault : C99Fault)
     (end : Result (List (List ℕ)) C99Fault) (result : Result (Unit {0}) C99Fault) (whole : Result (List (List ℕ)) C99Fault)
-    → 1 ≤ length left → word ≡ get_or left 0 word → bytes ≡ word → Joined option argument ≡ start_of part bytes
+    → 1 ≤ length left → word ≡ get_or left 0 word → bytes ≡ word → Joined option argument ≡ start_of side bytes
     → (fault ≡ Memory) ⊎ (noted f (given option argument) ≡ Err fault)
-    → IsErrAnd result (λ e. e ≡ fault) → front_with f (items_of part left) ≡ whole → Goes end result whole
-joined_gives left word bytes argument option part f fault end result whole some first same starts (inl memory) is so_far = refusal_given
+    → IsErrAnd result (λ e. e ≡ fault) → front_with f (items_of side left) ≡ whole → Goes end result whole
+joined_gives left word bytes argument option side f fault end result whole some first same starts (inl memory) is so_far = refusal_given
     fault end result whole is (inl memory)
-joined_gives left word bytes argument option part f fault end result whole some first same starts (inr refused) is so_far =
-    refusal_given fault end result whole is (inr (joined_refused left word bytes argument option part f fault whole some first same starts
+joined_gives left word bytes argument option side f fault end result whole some first same starts (inr refused) is so_far =
+    refusal_given fault end result whole is (inr (joined_refused left word bytes argument option side f fault whole some first same starts
     refused so_far))
 
 pub memory_goes : (end : Result (List (List ℕ)) C99Fault) (result : Result (Unit {0}) C99Fault) (whole : Result (List (List ℕ)) C99Fault)
     → IsErrAnd result (λ e. e ≡ Memory) → Goes end result whole
 memory_goes end result whole is = refusal_given Memory end result whole is (inl refl)
 
-wants_refused : (left : List (List ℕ)) (word bytes next next_bytes : List ℕ) (option : Taking) (part : Part) (f : Front) (fault : C99Fault)
+wants_refused : (left : List (List ℕ)) (word bytes next next_bytes : List ℕ) (option : Taking) (side : Side) (f : Front) (fault : C99Fault)
     (whole : Result (List (List ℕ)) C99Fault)
-    → 1 ≤ length left → word ≡ get_or left 0 word → bytes ≡ word → Wants option ≡ start_of part bytes
+    → 1 ≤ length left → word ≡ get_or left 0 word → bytes ≡ word → Wants option ≡ start_of side bytes
     → 1 ≤ length (take (length left - 1) (drop 1 left)) → next ≡ get_or (take (length left - 1) (drop 1 left)) 0 next → next_bytes ≡ next
     → noted f (given option next_bytes) ≡ Err fault
-    → front_with f (items_of part left) ≡ whole → whole ≡ Err fault
-wants_refused [] word bytes next next_bytes option part f fault whole some first same starts more second alike refused so_far = absurd
+    → front_with f (items_of side left) ≡ whole → whole ≡ Err fault
+wants_refused [] word bytes next next_bytes option side f fault whole some first same starts more second alike refused so_far = absurd
     (omega arith)
-wants_refused (w ∷ []) word bytes next next_bytes option part f fault whole some first same starts more second alike refused so_far = absurd
+wants_refused (w ∷ []) word bytes next next_bytes option side f fault whole some first same starts more second alike refused so_far = absurd
     (omega arith)
-wants_refused (w ∷ n ∷ words) word bytes next next_bytes option part f fault whole some first same starts more second alike refused so_far =
+wants_refused (w ∷ n ∷ words) word bytes next next_bytes option side f fault whole some first same starts more second alike refused so_far =
     let is_next : next_bytes ≡ n = alike ∙ second ∙ ap (λ l. get_or l 0 next) (after_first w (n ∷ words)) in
     sym so_far
-    ∙ ap (front_with f) (wants_first part option w n words (ap (start_of part) (sym (same ∙ first)) ∙ sym starts))
-    ∙ refused_rest f (given option n) fault (items_of part words) (ap (λ b. noted f (given option b)) (sym is_next) ∙ refused)
+    ∙ ap (front_with f) (wants_first side option w n words (ap (start_of side) (sym (same ∙ first)) ∙ sym starts))
+    ∙ refused_rest f (given option n) fault (items_of side words) (ap (λ b. noted f (given option b)) (sym is_next) ∙ refused)
 
-pub wants_gives : (left : List (List ℕ)) (word bytes next next_bytes : List ℕ) (option : Taking) (part : Part) (f : Front)
+pub wants_gives : (left : List (List ℕ)) (word bytes next next_bytes : List ℕ) (option : Taking) (side : Side) (f : Front)
     (fault : C99Fault) (end : Result (List (List ℕ)) C99Fault) (result : Result (Unit {0}) C99Fault)
     (whole : Result (List (List ℕ)) C99Fault)
-    → 1 ≤ length left → word ≡ get_or left 0 word → bytes ≡ word → Wants option ≡ start_of part bytes
+    → 1 ≤ length left → word ≡ get_or left 0 word → bytes ≡ word → Wants option ≡ start_of side bytes
     → 1 ≤ length (take (length left - 1) (drop 1 left)) → next ≡ get_or (take (length left - 1) (drop 1 left)) 0 next → next_bytes ≡ next
     → (fault ≡ Memory) ⊎ (noted f (given option next_bytes) ≡ Err fault) → IsErrAnd result (λ e. e ≡ fault)
-    → front_with f (items_of part left) ≡ whole → Goes end result whole
-wants_gives left word bytes next next_bytes option part f fault end result whole some first same starts more second alike (inl memory) is so_far = refusal_given fault end result whole is (inl memory)
-wants_gives left word bytes next next_bytes option part f fault end result whole some first same starts more second alike (inr refused) is so_far =
-    refusal_given fault end result whole is (inr (wants_refused left word bytes next next_bytes option part f fault whole some first same
+    → front_with f (items_of side left) ≡ whole → Goes end result whole
+wants_gives left word bytes next next_bytes option side f fault end result whole some first same starts more second alike (inl memory) is so_far = refusal_given fault end result whole is (inl memory)
+wants_gives left word bytes next next_bytes option side f fault end result whole some first same starts more second alike (inr refused) is so_far =
+    refusal_given fault end result whole is (inr (wants_refused left word bytes next next_bytes option side f fault whole some first same
     starts more second alike refused so_far))
 
 -- A front without items, followed by the items of a line.

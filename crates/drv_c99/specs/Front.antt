@@ -2,8 +2,8 @@ use Rattle.drv_c99.specs.declared.fault.C99Fault.TheVariants.{BadLevel, MissingA
 use Rattle.drv_c99.specs.declared.fault.C99Fault.{C99Fault}
 use Rattle.drv_c99.specs.declared.option.Taking.TheVariants.{Define, IncludeFolder, Level, Library, LibraryFolder, Output, Undefine}
 use Rattle.drv_c99.specs.declared.option.Taking.{Taking}
-use Rattle.drv_c99.specs.declared.option.Part.TheVariants.{BeforeEnd, AfterEnd}
-use Rattle.drv_c99.specs.declared.option.Part.{Part}
+use Rattle.drv_c99.specs.declared.option.Side.TheVariants.{BeforeEnd, AfterEnd}
+use Rattle.drv_c99.specs.declared.option.Side.{Side}
 use Rattle.drv_words.specs.Bytes.{hyphen}
 use Rattle.std.specs.Cmp.Lexicographic.{pointwise}
 use Rattle.std.specs.List.{flat_map, list_any}
@@ -80,7 +80,7 @@ abbrev pub start_after : List ℕ → Start
 start_after [] = Names []
 start_after (b ∷ rest) = if b == hyphen then hyphened_start rest else Names []
 
-abbrev pub start_of : Part → List ℕ → Start
+abbrev pub start_of : Side → List ℕ → Start
 start_of BeforeEnd word = start_before word
 start_of AfterEnd word = start_after word
 
@@ -128,10 +128,10 @@ at_word (Wants option) word next from_next after_next ended = and_items (given o
 at_word Ends word next from_next after_next ended = ended
 at_word Unknown word next from_next after_next ended = Err (UnknownOption word)
 
-abbrev pub items_of : Part → List (List ℕ) → Result (List Item) C99Fault
-items_of part [] = Ok []
-items_of part (word ∷ []) = at_last (start_of part word) word
-items_of part (word ∷ next ∷ words) = at_word (start_of part word) word next (items_of part (next ∷ words)) (items_of part words)
+abbrev pub items_of : Side → List (List ℕ) → Result (List Item) C99Fault
+items_of side [] = Ok []
+items_of side (word ∷ []) = at_last (start_of side word) word
+items_of side (word ∷ next ∷ words) = at_word (start_of side word) word next (items_of side (next ∷ words)) (items_of side words)
     (items_of AfterEnd (next ∷ words))
 
 -- the words of the driver: the standard, the defined macros, the undefined macros, and the rest in order

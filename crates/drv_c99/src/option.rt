@@ -125,21 +125,21 @@ fn start_after<'a>(word: &'a [u8]) -> Start<'a>
     }
 }
 
-/// A part of a line.
+/// The sides of the word that ends the options of a line.
 #[derive(Clone, Copy)]
-pub(crate) enum Part {
-    /// The part before the end of the options.
+pub(crate) enum Side {
+    /// Before that word.
     BeforeEnd,
-    /// The part after it.
+    /// After it.
     AfterEnd,
 }
 
-/// How a word of this part begins.
-pub(crate) fn start_of<'a>(part: Part, word: &'a [u8]) -> Start<'a>
-    ensures { start_shown result ≡ start_of part word.now }
+/// How a word on this side begins.
+pub(crate) fn start_of<'a>(side: Side, word: &'a [u8]) -> Start<'a>
+    ensures { start_shown result ≡ start_of side word.now }
 {
-    match part {
-        Part::BeforeEnd => start_before(word),
-        Part::AfterEnd => start_after(word),
+    match side {
+        Side::BeforeEnd => start_before(word),
+        Side::AfterEnd => start_after(word),
     }
 }

@@ -2,14 +2,14 @@
 
 ghost use Rattle.drv_c99.specs.Code.Building.{Goes, finished, front_with};
 ghost use Rattle.drv_c99.specs.Front.{front_of, items_of};
-ghost use Rattle.drv_c99.specs.declared.option.Part.TheVariants.{BeforeEnd};
+ghost use Rattle.drv_c99.specs.declared.option.Side.TheVariants.{BeforeEnd};
 ghost use Rattle.drv_c99.specs.declared.fault.C99Fault.TheVariants as fault;
 ghost use Rattle.drv_words.specs.Gives.{Gives};
 ghost use Rattle.std.specs.Prelude.{false};
 
 use crate::C99Fault;
 use crate::building::{Front, missing_argument};
-use crate::option::{Part, Start, start_of};
+use crate::option::{Side, Start, start_of};
 use drv_words::{Listing, Word};
 use std::alloc::Global;
 
@@ -18,12 +18,12 @@ fn add_words(alloc: Global, front: &mut Front, words: &[Word]) -> Result<(), C99
     ensures { Goes (finished front.new) result
         (front_with front.old (items_of BeforeEnd words.now)) }
 {
-    let mut part = Part::BeforeEnd;
+    let mut side = Side::BeforeEnd;
     let mut left = words;
     while let [word, following @ ..] = left {
         left = following;
         let bytes = word.as_bytes();
-        match start_of(part, bytes) {
+        match start_of(side, bytes) {
             Start::Flag => front.add_flag(alloc, bytes)?,
             Start::Operand { prefix } => front.add_operand(alloc, prefix, bytes)?,
             Start::Joined { option, argument } => front.add_option(alloc, option, argument)?,
@@ -34,7 +34,7 @@ fn add_words(alloc: Global, front: &mut Front, words: &[Word]) -> Result<(), C99
                 front.add_option(alloc, option, argument.as_bytes())?;
                 left = others;
             }
-            Start::Ends => part = Part::AfterEnd,
+            Start::Ends => side = Side::AfterEnd,
             Start::Unknown => return Err(C99Fault::UnknownOption(word.clone()?)),
         }
     }

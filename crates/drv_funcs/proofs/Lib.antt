@@ -1,4 +1,3 @@
-mod Asked
 mod Giving
 mod Ends
 mod Reading

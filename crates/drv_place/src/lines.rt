@@ -15,7 +15,7 @@ fn ends_line(byte: u8) -> bool
 }
 
 /// The first bytes of a text.
-fn front(text: &[u8], count: usize) -> &[u8]
+fn first_bytes(text: &[u8], count: usize) -> &[u8]
     ensures is { result.now ≡ take count text.now }
     ensures within { length result.now ≤ length text.now }
 {
@@ -57,14 +57,14 @@ fn newline_in(bytes: &[u8]) -> Option<usize>
 pub fn line_number(text: &[u8], at: usize) -> usize
     ensures { result ≡ line_number text.now at }
 {
-    count_newlines(front(text, at)) + 1
+    count_newlines(first_bytes(text, at)) + 1
 }
 
 /// What precedes a byte in its line. The byte's column, from 1, is one more than its length.
 pub fn line_before(text: &[u8], at: usize) -> &[u8]
     ensures { result.now ≡ line_before text.now at }
 {
-    let bytes = front(text, at);
+    let bytes = first_bytes(text, at);
     match parted(b'\n', bytes) {
         Some((_, line)) => line,
         None => bytes,

@@ -71,7 +71,7 @@ fn full_line<'a>(lines: Lines<'a>) -> Option<(&'a [u8], Lines<'a>)>
 }
 
 /// The first lines of a text, which have this many bytes with a newline before each.
-fn front(text: Option<&[u8]>, size: usize) -> &[u8]
+fn first_lines(text: Option<&[u8]>, size: usize) -> &[u8]
     requires { size ≤ length (bytes_from (option_map (λ bytes. bytes.now) text)) }
     ensures { result.now
         ≡ drop 1 (take size (bytes_from (option_map (λ bytes. bytes.now) text.entry))) }
@@ -99,7 +99,7 @@ pub(crate) fn cut_body<'a>(lines: Lines<'a>) -> Body<'a>
         left = following;
     }
     Body {
-        text: front(lines.text, size),
+        text: first_lines(lines.text, size),
         left,
     }
 }

@@ -1,4 +1,4 @@
-use Rattle.drv_c99.specs.declared.option.Part.TheVariants.{BeforeEnd}
+use Rattle.drv_c99.specs.declared.option.Side.TheVariants.{BeforeEnd}
 use Rattle.drv_c99.proofs.Steps.{front_given, front_refused}
 use Rattle.drv_c99.proofs.translating.front.Goals as goal
 use Rattle.drv_c99.specs.Front.{items_of}

@@ -26,7 +26,7 @@ loop-line-preserved c =
 
 pub returns-clause-body : goal.returns-clause-body
 returns-clause-body c =
-    c.front.ensures
+    c.first_lines.ensures
     ∙ ap (drop 1) (sym (append-nil (take c.loop-line.size (bytes_from (text_left c.args.lines))))
     ∙ ap (λ ls. take c.loop-line.size (bytes_from (text_left c.args.lines)) ++ flat_map (λ l. newline ∷ l) ls) (sym c.in_default.ensures.none) ∙ c.loop-line.invariant.body)
     ∙ joined_lines (body_lines (lines_left c.args.lines))
