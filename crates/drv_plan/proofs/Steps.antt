@@ -174,10 +174,10 @@ prefixes_first F line set seed dirs inputs prefixes C dirs_are inputs_are made i
     ∙ ap (planned F set line.inputs) (sym is) ∙ ap (λ list. planned F set list C) (sym inputs_are)
 
 -- the effect of a text that was kept
-pub text_kept : (g : Progress) (done : Outcome) (C : Context) (notes : List (List ℕ)) → notes ≡ g.notes ++ done.notices → C ≡ record g.context { options = done.accumulated; number = done.next_number }
-    → after_text done g ≡ record g { context = C; notes = notes }
-text_kept g done C notes told kept =
-    ap (λ (D : Context). record g { context = D; notes = g.notes ++ done.notices }) (sym kept) ∙ ap (λ list. record g { context = C; notes = list }) (sym told)
+pub text_kept : (g : Progress) (done : Outcome) (C : Context) (notices : List (List ℕ)) → notices ≡ g.notices ++ done.notices → C ≡ record g.context { options = done.accumulated; number = done.next_number }
+    → after_text done g ≡ record g { context = C; notices = notices }
+text_kept g done C notices told kept =
+    ap (λ (D : Context). record g { context = D; notices = g.notices ++ done.notices }) (sym kept) ∙ ap (λ list. record g { context = C; notices = list }) (sym told)
 
 pub text_worked : (F : Facts) (text : List ℕ) (g after : Progress) (done : Outcome) (job : Job)
     → outcome F g.context (tree_of text) ≡ Is (Ok done)

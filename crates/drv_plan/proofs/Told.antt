@@ -30,20 +30,20 @@ use Rattle.std.specs.Prelude.{◌==◌, codes}
 
 -- the progress after a text
 abbrev state : Context → Option Outcome → Option Source → List (List ℕ) → List Job → List (List ℕ) → List (List ℕ) → Progress
-state C before input notes jobs words names = record {
+state C before input notices jobs words names = record {
   context = record (context_after before C) { input = input };
-  notes = notes;
+  notices = notices;
   jobs = jobs;
   outputs = words;
   passed_on = names;
 }
 
 -- the progress after these parts too, with their results
-record Ran (F : Facts) (C : Context) (before : Option Outcome) (ps : List Part) (notes : List (List ℕ)) (jobs : List Job) (words names : List (List ℕ)) (g : Progress) : Type 0 where
+record Ran (F : Facts) (C : Context) (before : Option Outcome) (ps : List Part) (notices : List (List ℕ)) (jobs : List Job) (words names : List (List ℕ)) (g : Progress) : Type 0 where
   outcomes : List Outcome
   input : Option Source
   each : EachWorked F C before ps outcomes
-  is : g ≡ state C (last before outcomes) input (notes ++ flat_map (λ o. o.notices) outcomes) (jobs ++ jobs_of ps outcomes)
+  is : g ≡ state C (last before outcomes) input (notices ++ flat_map (λ o. o.notices) outcomes) (jobs ++ jobs_of ps outcomes)
       (words ++ link_words ps outcomes) (names ++ objects ps)
 
 same_state : (C : Context) (b : Option Outcome) (i : Option Source) {ns ns' : List (List ℕ)} {js js' : List Job}
@@ -58,24 +58,24 @@ with_outcome g o = Is (Ok (o.job, after_text o g))
 
 -- the rest of the plan after a part, if that succeeds
 abbrev Follows : Facts → Context → List Part → (Progress → Planned Progress) → Progress → Type 0
-Follows F C ps next g = (before : Option Outcome) (input : Option Source) (notes : List (List ℕ)) (jobs : List Job)
+Follows F C ps next g = (before : Option Outcome) (input : Option Source) (notices : List (List ℕ)) (jobs : List Job)
     (words names : List (List ℕ))
-    → next (state C before input notes jobs words names) ≡ Is (Ok g) → Ran F C before ps notes jobs words names g
+    → next (state C before input notices jobs words names) ≡ Is (Ok g) → Ran F C before ps notices jobs words names g
 
-a_word : (F : Facts) (C : Context) (before : Option Outcome) (word : List ℕ) (ps : List Part) (notes : List (List ℕ)) (jobs : List Job)
+a_word : (F : Facts) (C : Context) (before : Option Outcome) (word : List ℕ) (ps : List Part) (notices : List (List ℕ)) (jobs : List Job)
     (words names : List (List ℕ)) (g : Progress)
-    → Ran F C before ps notes jobs (words ++ word ∷ []) names g → Ran F C before (Word word ∷ ps) notes jobs words names g
-a_word F C before word ps notes jobs words names g r = record {
+    → Ran F C before ps notices jobs (words ++ word ∷ []) names g → Ran F C before (Word word ∷ ps) notices jobs words names g
+a_word F C before word ps notices jobs words names g r = record {
   outcomes = r.outcomes;
   input = r.input;
   each = r.each;
   is = r.is ∙ same_state C (last before r.outcomes) r.input refl refl (append_assoc words (word ∷ []) (link_words ps r.outcomes)) refl;
 }
 
-an_object : (F : Facts) (C : Context) (before : Option Outcome) (name : List ℕ) (ps : List Part) (notes : List (List ℕ)) (jobs : List Job)
+an_object : (F : Facts) (C : Context) (before : Option Outcome) (name : List ℕ) (ps : List Part) (notices : List (List ℕ)) (jobs : List Job)
     (words names : List (List ℕ)) (g : Progress)
-    → Ran F C before ps notes jobs (words ++ name ∷ []) (names ++ name ∷ []) g → Ran F C before (Object name ∷ ps) notes jobs words names g
-an_object F C before name ps notes jobs words names g r = record {
+    → Ran F C before ps notices jobs (words ++ name ∷ []) (names ++ name ∷ []) g → Ran F C before (Object name ∷ ps) notices jobs words names g
+an_object F C before name ps notices jobs words names g r = record {
   outcomes = r.outcomes;
   input = r.input;
   each = r.each;
@@ -84,71 +84,71 @@ an_object F C before name ps notes jobs words names g r = record {
 }
 
 a_file : (F : Facts) (C : Context) (before : Option Outcome) (input : Option Source) (place : ℕ) (name : List ℕ)
-    (r : Result (Option Chosen) PlanFault) (ps : List Part) (next : Progress → Planned Progress) (notes : List (List ℕ)) (jobs : List Job)
+    (r : Result (Option Chosen) PlanFault) (ps : List Part) (next : Progress → Planned Progress) (notices : List (List ℕ)) (jobs : List Job)
     (words names : List (List ℕ)) (g : Progress)
-    → Follows F C ps next g → then_by (with_file F place name r (state C before input notes jobs words names)) next ≡ Is (Ok g)
-    → Ran F C before (file_part place name r ++ ps) notes jobs words names g
-a_file F C before input place name (Err fault) ps next notes jobs words names g follows e = absurd cc
-a_file F C before input place name (Ok None) ps next notes jobs words names g follows e = an_object F C before name ps notes jobs words
-    names g (follows before input notes jobs (words ++ name ∷ []) (names ++ name ∷ []) e)
-a_file F C before input place name (Ok (Some c)) ps next notes jobs words names g follows e = by (outcome F (record (context_after before C) { input = Some source }) (tree_of c.text)) refl e
+    → Follows F C ps next g → then_by (with_file F place name r (state C before input notices jobs words names)) next ≡ Is (Ok g)
+    → Ran F C before (file_part place name r ++ ps) notices jobs words names g
+a_file F C before input place name (Err fault) ps next notices jobs words names g follows e = absurd cc
+a_file F C before input place name (Ok None) ps next notices jobs words names g follows e = an_object F C before name ps notices jobs words
+    names g (follows before input notices jobs (words ++ name ∷ []) (names ++ name ∷ []) e)
+a_file F C before input place name (Ok (Some c)) ps next notices jobs words names g follows e = by (outcome F (record (context_after before C) { input = Some source }) (tree_of c.text)) refl e
   where
     source : Source
     source = record { name = name; language = c.name }
 
     by : (answer : Answer Outcome) → outcome F (record (context_after before C) { input = Some (record { name = name; language = c.name }) }) (tree_of c.text) ≡ answer
         → then_by (then_by (then_by (of_text answer)
-        (with_outcome (for_source (record { name = name; language = c.name }) (state C before input notes jobs words names))))
+        (with_outcome (for_source (record { name = name; language = c.name }) (state C before input notices jobs words names))))
         (λ done. Is (Ok (after_job (of_source place done.0) done.1)))) next ≡ Is (Ok g)
-        → Ran F C before (file_part place name (Ok (Some c)) ++ ps) notes jobs words names g
+        → Ran F C before (file_part place name (Ok (Some c)) ++ ps) notices jobs words names g
     by Unasked is e = absurd cc
     by (Is (Err fault)) is e = absurd cc
     by (Is (Ok o)) is e =
-        let r = follows (Some o) (Some (record { name = name; language = c.name })) (notes ++ o.notices) (jobs ++ of_source place o.job ∷ []) (words ++ output_list o.job.output) names e in
+        let r = follows (Some o) (Some (record { name = name; language = c.name })) (notices ++ o.notices) (jobs ++ of_source place o.job ∷ []) (words ++ output_list o.job.output) names e in
         record {
           outcomes = o ∷ r.outcomes;
           input = r.input;
           each = (is, r.each);
-          is = r.is ∙ same_state C (last (Some o) r.outcomes) r.input (append_assoc notes o.notices (flat_map (λ o. o.notices) r.outcomes))
+          is = r.is ∙ same_state C (last (Some o) r.outcomes) r.input (append_assoc notices o.notices (flat_map (λ o. o.notices) r.outcomes))
               (append_assoc jobs (of_source place o.job ∷ []) (jobs_of ps r.outcomes))
               (append_assoc words (output_list o.job.output) (link_words ps r.outcomes)) refl;
         }
 
 ran : (F : Facts) (C : Context) (set : Set) (place : ℕ) (inputs : List Input) (g : Progress)
     → Follows F C (parts set place inputs) (λ p. with_inputs F set place inputs p) g
-ran F C set place [] g before input notes jobs words names e = record {
+ran F C set place [] g before input notices jobs words names e = record {
   outcomes = [];
   input = input;
   each = tt;
   is =
-      let at : g ≡ state C before input notes jobs words names = cc in
-      at ∙ same_state C before input (sym (append-nil notes)) (sym (append-nil jobs)) (sym (append-nil words)) (sym (append-nil names));
+      let at : g ≡ state C before input notices jobs words names = cc in
+      at ∙ same_state C before input (sym (append-nil notices)) (sym (append-nil jobs)) (sym (append-nil words)) (sym (append-nil names));
 }
-ran F C set place (File name language ∷ inputs) g before input notes jobs words names e =
+ran F C set place (File name language ∷ inputs) g before input notices jobs words names e =
     a_file F C before input place name (chosen_for set (File name language)) (parts set (place + 1) inputs)
-    (λ p. with_inputs F set (place + 1) inputs p) notes jobs words names g (ran F C set (place + 1) inputs g) e
-ran F C set place (Library word ∷ inputs) g before input notes jobs words names e =
-    a_word F C before word (parts set (place + 1) inputs) notes jobs words names g (ran F C set (place + 1) inputs g before input notes jobs
+    (λ p. with_inputs F set (place + 1) inputs p) notices jobs words names g (ran F C set (place + 1) inputs g) e
+ran F C set place (Library word ∷ inputs) g before input notices jobs words names e =
+    a_word F C before word (parts set (place + 1) inputs) notices jobs words names g (ran F C set (place + 1) inputs g before input notices jobs
     (words ++ word ∷ []) names e)
-ran F C set place (LinkWord word ∷ inputs) g before input notes jobs words names e =
-    a_word F C before word (parts set (place + 1) inputs) notes jobs words names g (ran F C set (place + 1) inputs g before input notes jobs
+ran F C set place (LinkWord word ∷ inputs) g before input notices jobs words names e =
+    a_word F C before word (parts set (place + 1) inputs) notices jobs words names g (ran F C set (place + 1) inputs g before input notices jobs
     (words ++ word ∷ []) names e)
 
 -- the link
 
 record Ends (F : Facts) (C : Context) (text : Option (List ℕ)) (g : Progress) (plan : Plan) : Type 0 where
   jobs_are : plan.jobs ≡ g.jobs
-  link_notes : List (List ℕ)
-  link_is : LinkIs F (record g.context { input = None; outputs = g.outputs }) text plan.link link_notes
-  notices_are : plan.notices ≡ g.notes ++ link_notes ++ unused plan.link g.passed_on
+  link_notices : List (List ℕ)
+  link_is : LinkIs F (record g.context { input = None; outputs = g.outputs }) text plan.link link_notices
+  notices_are : plan.notices ≡ g.notices ++ link_notices ++ unused plan.link g.passed_on
 
 with_no_link : (F : Facts) (C : Context) (g : Progress) → Ends F C None g (plan_of (None, g))
 with_no_link F C g = record {
   jobs_are = refl;
-  link_notes = [];
+  link_notices = [];
   link_is = (refl, refl);
   notices_are = ap (λ l. l ++ unused None g.passed_on)
-      (sym (append-nil g.notes));
+      (sym (append-nil g.notices));
 }
 
 ended : (F : Facts) (C : Context) (text : Option (List ℕ)) (g : Progress) (plan : Plan)
@@ -166,8 +166,8 @@ ended F C (Some text) g plan e = by (outcome F (record g.context { input = None;
         let at : plan_of (linked (o.job, after_text o (for_link g))) ≡ plan = cc in
         subst (λ p. Ends F C (Some text) g p) at (record {
           jobs_are = refl;
-          link_notes = o.notices;
-          link_is = record { o = o; is = is; link_is = refl; notes_are = refl };
+          link_notices = o.notices;
+          link_is = record { o = o; is = is; link_is = refl; notices_are = refl };
           notices_are = refl;
         })
 
@@ -209,7 +209,7 @@ over F line set seed plan prefixes known e = by (with_inputs F set 0 line.inputs
               outcomes = r.outcomes;
               each = r.each;
               jobs_are = x.jobs_are;
-              link_notes = x.link_notes;
+              link_notices = x.link_notices;
               link_is = x.link_is;
               notices_are = x.notices_are;
             }

@@ -63,13 +63,13 @@ context_of line set prefixes seed = record {
 
 -- before the first text
 abbrev pub begun : Context → Progress
-begun C = record { context = C; notes = []; jobs = []; outputs = []; passed_on = [] }
+begun C = record { context = C; notices = []; jobs = []; outputs = []; passed_on = [] }
 
 -- after a text: the options of %x and the number of the next temporary go on to the next text; hidden switches don't
 abbrev pub after_text : Outcome → Progress → Progress
 after_text worked g = record g {
   context = record g.context { options = worked.accumulated; number = worked.next_number };
-  notes = g.notes ++ worked.notices;
+  notices = g.notices ++ worked.notices;
 }
 
 -- a text is run: its job, and the progress after it
@@ -150,7 +150,7 @@ unused None names = map (between (codes "warning: ") (codes ": linker input file
 
 -- the notices of the texts, followed by those for files that no link takes
 abbrev pub notices : Option Job → Progress → List (List ℕ)
-notices link g = g.notes ++ unused link g.passed_on
+notices link g = g.notices ++ unused link g.passed_on
 
 abbrev pub plan_of : Option Job × Progress → Plan
 plan_of done = record { notices = notices done.0 done.1; jobs = done.1.jobs; link = done.0 }

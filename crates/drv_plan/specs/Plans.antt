@@ -98,15 +98,15 @@ abbrev pub link_text : Set → List (List ℕ) → Option (List ℕ)
 link_text set words = if length words == 0 then None else text_of set (codes "link_command")
 
 -- the link is the outcome of its text, if the job has a command; its notices are these
-pub record LinkWorked (F : Facts) (C : Context) (text : List ℕ) (link : Option Job) (notes : List (List ℕ)) : Type 0 where
+pub record LinkWorked (F : Facts) (C : Context) (text : List ℕ) (link : Option Job) (notices : List (List ℕ)) : Type 0 where
   pub o : Outcome
   pub is : outcome F C (tree_of text) ≡ Is (Ok o)
   pub link_is : link ≡ with_command o.job
-  pub notes_are : notes ≡ o.notices
+  pub notices_are : notices ≡ o.notices
 
 abbrev pub LinkIs : Facts → Context → Option (List ℕ) → Option Job → List (List ℕ) → Type 0
-LinkIs F C None link notes = (link ≡ None) × (notes ≡ [])
-LinkIs F C (Some text) link notes = LinkWorked F C text link notes
+LinkIs F C None link notices = (link ≡ None) × (notices ≡ [])
+LinkIs F C (Some text) link notices = LinkWorked F C text link notices
 
 -- Each source's text is run in the order of the line, with the options and numbers that the text before it leaves. These jobs are the jobs
 -- of the plan. The link's text is run last, over the words of the link. The notices are those of the texts in this order, followed by those
@@ -117,8 +117,8 @@ pub record IsPlanOf (F : Facts) (line : Line) (set : Set) (seed : ℕ) (plan : P
   pub outcomes : List Outcome
   pub each : EachWorked F (context_of line set prefixes seed) None (parts set 0 line.inputs) outcomes
   pub jobs_are : plan.jobs ≡ jobs_of (parts set 0 line.inputs) outcomes
-  pub link_notes : List (List ℕ)
+  pub link_notices : List (List ℕ)
   pub link_is :
       LinkIs F (record (context_after (last None outcomes) (context_of line set prefixes seed)) { outputs = link_words (parts set 0 line.inputs) outcomes })
-      (link_text set (link_words (parts set 0 line.inputs) outcomes)) plan.link link_notes
-  pub notices_are : plan.notices ≡ flat_map (λ o. o.notices) outcomes ++ link_notes ++ unused plan.link (objects (parts set 0 line.inputs))
+      (link_text set (link_words (parts set 0 line.inputs) outcomes)) plan.link link_notices
+  pub notices_are : plan.notices ≡ flat_map (λ o. o.notices) outcomes ++ link_notices ++ unused plan.link (objects (parts set 0 line.inputs))

@@ -67,7 +67,7 @@ pub(crate) fn notices_of(
     ensures told { IfOk result (λ told. told ≡ notices link.now progress.old) }
     ensures jobs { progress.new.jobs ≡ progress.old.jobs }
 {
-    let mut told = mem::replace(&mut progress.notes, Listing::new(alloc));
+    let mut told = mem::replace(&mut progress.notices, Listing::new(alloc));
     push_unused(alloc, &mut told, link, progress.passed_on.as_slice())?;
     Ok(told)
 }

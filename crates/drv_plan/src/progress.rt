@@ -23,7 +23,7 @@ pub(crate) struct Progress<'a> {
     /// The context of the last text, with what that passed to the next one.
     pub(crate) context: Context<'a>,
     /// The notices of the texts.
-    pub(crate) notes: Listing<Word>,
+    pub(crate) notices: Listing<Word>,
     /// The jobs of the sources.
     pub(crate) jobs: Listing<Job>,
     /// The words of the link.
@@ -32,12 +32,12 @@ pub(crate) struct Progress<'a> {
     pub(crate) passed_on: Listing<Word>,
 }
 
-/// Adds copies of words.
-fn push_words(list: &mut Listing<Word>, words: &[Word]) -> Result<(), AllocError>
-    ensures { OnOk result (list.new ≡ list.old ++ words.now) }
+/// Moves words to the end of a list.
+fn move_words(list: &mut Listing<Word>, words: Listing<Word>) -> Result<(), AllocError>
+    ensures { OnOk result (list.new ≡ list.old ++ words) }
 {
-    for word in words {
-        list.push(word.clone()?)?;
+    for word in words.into_vec() {
+        list.push(word)?;
     }
     Ok(())
 }
@@ -81,7 +81,7 @@ impl<'a> Progress<'a> {
     {
         Ok(Progress {
             context,
-            notes: Listing::new(alloc),
+            notices: Listing::new(alloc),
             jobs: Listing::new(alloc),
             outputs: Listing::from_vec(Vec::with_capacity(alloc, inputs)?),
             passed_on: Listing::new(alloc),
@@ -114,12 +114,14 @@ impl<'a> Progress<'a> {
         Ok(())
     }
 
-    /// Keeps what goes on from a text to the next one. The options are moved out of its outcome.
+    /// Keeps what goes on from a text to the next one. Notices and options are moved
+    /// out of its outcome.
     fn go_on(&mut self, alloc: Global, done: &mut Outcome) -> Result<(), AllocError>
         ensures keeps { OnOk result (self.new ≡ after_text done.old self.old) }
         ensures job { done.new.job ≡ done.old.job }
     {
-        push_words(&mut self.notes, done.notices.as_slice())?;
+        let notices = mem::replace(&mut done.notices, Listing::new(alloc));
+        move_words(&mut self.notices, notices)?;
         let options = mem::replace(&mut done.accumulated, Listing::new(alloc));
         self.context.go_on(options, done.next_number);
         Ok(())

@@ -66,9 +66,11 @@ fn add_input<'a, S: System>(
         (with_input F set.now place input.now progress.old) }
     ensures apart { IfErr result (λ fault. fault ≢ PlanFault.Machine machine.Memory) }
 {
-    let chosen = language(alloc, input, set)?;
     match input {
-        Input::File { name, .. } => add_file(alloc, place, name, chosen, progress, outside),
+        Input::File { name, .. } => {
+            let chosen = language(alloc, input, set)?;
+            add_file(alloc, place, name, chosen, progress, outside)
+        }
         Input::Library(word) => {
             progress.add_word(word)?;
             Ok(())

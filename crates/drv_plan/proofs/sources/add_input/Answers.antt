@@ -4,19 +4,19 @@ use Rattle.drv_plan.proofs.sources.add_input.Goals as goal
 use Rattle.drv_plan.specs.Denoted.{with_file, with_input}
 use Rattle.std.proofs.Common.{Ok, rules}
 
-pub returns-in_err-chosen-clause-apart : goal.returns-in_err-chosen-clause-apart
-returns-in_err-chosen-clause-apart g c =
-    let none = no_want c.args.set.now c.args.input.now c.in_err-chosen.field-0.0 c.in_err-chosen.ensures in
+pub returns-in_err-chosen-in-File-clause-apart : goal.returns-in_err-chosen-in-File-clause-apart
+returns-in_err-chosen-in-File-clause-apart g c =
+    let none = no_want c.args.set.now c.args.input.now c.in_err-chosen-in-File.field-0.0 c.in_err-chosen-in-File.ensures in
     let handed = c.from_residual.ensures in search rules
 
-pub returns-in_err-chosen-clause-works : goal.returns-in_err-chosen-clause-works
-returns-in_err-chosen-clause-works g c F e =
-    refusal_given c.in_err-chosen.field-0.0 c.from_residual.result _ (with_input F c.args.set.now c.args.place c.args.input.now
+pub returns-in_err-chosen-in-File-clause-works : goal.returns-in_err-chosen-in-File-clause-works
+returns-in_err-chosen-in-File-clause-works g c F e =
+    refusal_given c.in_err-chosen-in-File.field-0.0 c.from_residual.result _ (with_input F c.args.set.now c.args.place c.args.input.now
     c.args.progress.now) c.from_residual.ensures.1
-    (language_refused F c.args.set.now c.args.place c.args.input.now c.args.progress.now c.in_err-chosen.field-0.0 c.in_err-chosen.ensures)
+    (language_refused F c.args.set.now c.args.place c.args.input.now c.args.progress.now c.in_err-chosen-in-File.field-0.0 c.in_err-chosen-in-File.ensures)
 
-pub returns-in-File-clause-works : goal.returns-in-File-clause-works
-returns-in-File-clause-works g c F e =
-    given_alike _ c.add_file.result (with_file F c.args.place c.in-File.name (Ok c.in_ok-chosen.chosen) c.args.progress.now) (with_input F c.args.set.now c.args.place c.args.input.now c.args.progress.now)
-    (file_chosen F c.args.set.now c.args.place c.args.input.now _ _ c.in_ok-chosen.chosen c.args.progress.now c.in-File.is c.in_ok-chosen.ensures)
+pub returns-in_ok-chosen-in-File-clause-works : goal.returns-in_ok-chosen-in-File-clause-works
+returns-in_ok-chosen-in-File-clause-works g c F e =
+    given_alike _ c.add_file.result (with_file F c.args.place c.in-File.name (Ok c.in_ok-chosen-in-File.chosen) c.args.progress.now) (with_input F c.args.set.now c.args.place c.args.input.now c.args.progress.now)
+    (file_chosen F c.args.set.now c.args.place c.args.input.now _ _ c.in_ok-chosen-in-File.chosen c.args.progress.now c.in-File.is c.in_ok-chosen-in-File.ensures)
     (c.add_file.ensures.works F e)

@@ -1,0 +1,5 @@
+use Rattle.drv_plan.proofs.progress.move_words.Given as goal
+use Rattle.std.proofs.Common.{◌≡◌, ◌++◌}
+
+abbrev pub invariant-loop-word : goal.invariant-loop-word
+invariant-loop-word l = l.list ≡ l.initial.list ++ l.yielded
