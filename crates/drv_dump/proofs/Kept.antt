@@ -4,7 +4,7 @@ use Rattle.drv_dump.specs.declared.fault.TextFault.{TextFault}
 use Rattle.drv_dump.specs.declared.piece.Kind.{Kind}
 use Rattle.drv_dump.specs.declared.piece.Piece.{Piece}
 use Rattle.drv_dump.specs.declared.reading.Reader.{Reader}
-use Rattle.drv_dump.specs.declared.turn.Part.TheVariants.{First, Later}
+use Rattle.drv_dump.specs.declared.turn.InPiece.TheVariants.{First, Later}
 use Rattle.drv_dump.specs.declared.turn.Turn.TheVariants.{Reads, Refused}
 use Rattle.drv_dump.specs.declared.turn.Turn.{Turn}
 use Rattle.std.proofs.Common.{◌≡◌, ◌+◌, ◌∙◌, Bool, Err, List, [], ◌∷◌, ◌++◌, Ok, Result, ap, append-nil, append_assoc, false, refl, sym, true, ℕ}

@@ -45,8 +45,8 @@ abbrev pub is_whole_word : Joint → List ℕ → Bool
 is_whole_word Open front = true
 is_whole_word Glued front = nat_lt 0 (length front)
 
-abbrev pub names_file : Joint → LastWord → Bool
-names_file joint last = is_name last.word && is_whole_word joint last.front
+abbrev pub ends_in_name : Joint → LastWord → Bool
+ends_in_name joint last = is_name last.word && is_whole_word joint last.front
 
 abbrev pub is_text : Kind → Bool
 is_text kind.Text = true
@@ -69,7 +69,7 @@ is_text kind.Closing = false
 
 -- what follows a piece, if its last word is the name of a file
 abbrev pub ending_in : Joint → Piece → List Piece → Ending
-ending_in joint piece rest = if is_text piece.kind && names_file joint (split_from [] [] piece.bytes) then ending_of rest else Other
+ending_in joint piece rest = if is_text piece.kind && ends_in_name joint (split_from [] [] piece.bytes) then ending_of rest else Other
 
 -- a named text in place of the last word
 abbrev pub file_pieces : List ℕ → List ℕ → List Piece

@@ -1,8 +1,8 @@
 use Rattle.drv_dump.specs.declared.fault.Misfit.TheVariants.{BadFunction, BadTest, BareBrace, EscapedMark, TooNested, UnknownDirective}
 use Rattle.drv_dump.specs.declared.piece.Kind.TheVariants as kind
 use Rattle.drv_dump.specs.declared.piece.Kind.{Kind}
-use Rattle.drv_dump.specs.declared.turn.Part.TheVariants.{First, Later}
-use Rattle.drv_dump.specs.declared.turn.Part.{Part}
+use Rattle.drv_dump.specs.declared.turn.InPiece.TheVariants.{First, Later}
+use Rattle.drv_dump.specs.declared.turn.InPiece.{InPiece}
 use Rattle.drv_dump.specs.declared.turn.Place.TheVariants as place
 use Rattle.drv_dump.specs.declared.turn.Place.{Place}
 use Rattle.drv_dump.specs.declared.turn.Side.TheVariants.{AmongTests, InText, Negated}
@@ -45,8 +45,8 @@ is_mark b = is_of (codes "{};") b
 abbrev pub most_levels : ℕ
 most_levels = 64
 
-abbrev pub reads : Part → Kind → Place → ℕ → Turn
-reads part piece after depth = Reads part piece after depth
+abbrev pub reads : InPiece → Kind → Place → ℕ → Turn
+reads in_piece piece after depth = Reads in_piece piece after depth
 
 -- the brace that opens, and the one that closes
 abbrev pub opens : ℕ → Turn
@@ -56,14 +56,14 @@ abbrev pub closes : ℕ → Turn
 closes depth = if depth == 0 then Refused BareBrace else reads First kind.Closing place.Ready (depth - 1)
 
 -- in a text: a piece of text goes on, if there is one
-abbrev pub text_turn : Part → ℕ → ℕ → Turn
-text_turn part depth b =
+abbrev pub text_turn : InPiece → ℕ → ℕ → Turn
+text_turn in_piece depth b =
     if b == byte.percent then reads First kind.Directive place.Percent depth
-    else if b == byte.backslash then reads part kind.Text place.Escape depth
+    else if b == byte.backslash then reads in_piece kind.Text place.Escape depth
     else if b == byte.opening_brace then Refused BareBrace
     else if b == byte.closing_brace then closes depth
     else if b == byte.semicolon && nat_lt 0 depth then reads First kind.Otherwise place.BeforeChoice depth
-    else reads part kind.Text place.Text depth
+    else reads in_piece kind.Text place.Text depth
 
 -- after a backslash
 abbrev pub escape_turn : ℕ → ℕ → Turn

@@ -6,8 +6,8 @@ use Rattle.drv_dump.specs.declared.piece.Kind.TheVariants as kind
 use Rattle.drv_dump.specs.declared.piece.Kind.{Kind}
 use Rattle.drv_dump.specs.declared.piece.Piece.{Piece}
 use Rattle.drv_dump.specs.declared.reading.Reader.{Reader}
-use Rattle.drv_dump.specs.declared.turn.Part.TheVariants.{First, Later}
-use Rattle.drv_dump.specs.declared.turn.Part.{Part}
+use Rattle.drv_dump.specs.declared.turn.InPiece.TheVariants.{First, Later}
+use Rattle.drv_dump.specs.declared.turn.InPiece.{InPiece}
 use Rattle.drv_dump.specs.declared.turn.Place.TheVariants.{Ready}
 use Rattle.drv_dump.specs.declared.turn.Place.{Place}
 use Rattle.drv_dump.specs.declared.turn.Turn.TheVariants.{Reads, Refused}
@@ -31,13 +31,13 @@ abbrev pub closed : Reader → List Piece
 closed r = with_piece r.done r.last.kind r.last.bytes
 
 -- a byte begins a piece, or is part of the last one
-abbrev pub with_byte : Reader → Part → Kind → Place → ℕ → ℕ → Reader
+abbrev pub with_byte : Reader → InPiece → Kind → Place → ℕ → ℕ → Reader
 with_byte r First kind place depth b = record { done = closed r; last = record { kind = kind; bytes = b ∷ [] }; place = place; depth = depth }
 with_byte r Later kind place depth b = record { done = r.done; last = record { kind = kind; bytes = r.last.bytes ++ b ∷ [] }; place = place; depth = depth }
 
 -- what is read with the byte at this place of the text
 abbrev pub taken : Turn → Reader → ℕ → ℕ → Result Reader TextFault
-taken (Reads part kind place depth) r at b = Ok (with_byte r part kind place depth b)
+taken (Reads in_piece kind place depth) r at b = Ok (with_byte r in_piece kind place depth b)
 taken (Refused misfit) r at b = Err (Unreadable misfit at)
 
 abbrev pub read_at : Reader → ℕ → ℕ → Result Reader TextFault

@@ -2,7 +2,7 @@
 
 ghost use Rattle.drv_dump.specs.Files.{ending_in, ending_of, file_pieces, files_from, is_name_byte};
 ghost use Rattle.drv_dump.specs.Files.{is_name, is_other_byte, is_text, is_whole_word, joint_after};
-ghost use Rattle.drv_dump.specs.Files.{names_file, put_piece, skip_after, split_from};
+ghost use Rattle.drv_dump.specs.Files.{ends_in_name, put_piece, skip_after, split_from};
 ghost use Rattle.drv_dump.specs.declared.files.Joint.TheVariants.{Open};
 ghost use Rattle.std.specs.List.{list_any};
 ghost use Rattle.std.specs.Prelude.{◌≡◌, ◌++◌, [], IfOk, OnOk, not};
@@ -98,7 +98,7 @@ fn has_other_byte(word: &[u8]) -> bool
 fn is_name(word: &[u8]) -> bool
     ensures { result ≡ is_name word.now }
 {
-    word.len() > 0 && !has_other_byte(word)
+    !word.is_empty() && !has_other_byte(word)
 }
 
 /// A word after this text is whole.
@@ -107,13 +107,13 @@ fn is_whole_word(joint: Joint, front: &[u8]) -> bool
 {
     match joint {
         Joint::Open => true,
-        Joint::Glued => front.len() > 0,
+        Joint::Glued => !front.is_empty(),
     }
 }
 
 /// The last word is whole, and the name of a file that can become a named text.
-fn names_file(joint: Joint, last: &LastWord) -> bool
-    ensures { result ≡ names_file joint last.now }
+fn ends_in_name(joint: Joint, last: &LastWord) -> bool
+    ensures { result ≡ ends_in_name joint last.now }
 {
     is_name(last.word.as_bytes()) && is_whole_word(joint, last.front.as_bytes())
 }
@@ -131,7 +131,7 @@ fn ending_in(
         return Ok(Ending::Other);
     }
     let last = split_last(alloc, piece.bytes.as_bytes())?;
-    if names_file(joint, &last) {
+    if ends_in_name(joint, &last) {
         Ok(ending_of(rest))
     } else {
         Ok(Ending::Other)
@@ -208,9 +208,12 @@ fn joint_after(piece: &Piece) -> Joint
     }
 }
 
-/// Pieces with a named text in place of each name of a file and the `%s` after it.
+/// The pieces with a named text in place of each name of a file and the `%s` after it.
 #[tactic(auto, using(crate::proofs::Naming::piece_skipped, crate::proofs::Naming::piece_named))]
-pub(crate) fn name_files(alloc: Global, pieces: &[Piece]) -> Result<Listing<Piece>, AllocError>
+pub(crate) fn with_named_texts(
+    alloc: Global,
+    pieces: &[Piece],
+) -> Result<Listing<Piece>, AllocError>
     ensures { IfOk result (λ named. named ≡ files_from 0 Open pieces.now) }
 {
     let mut named = Listing::new(alloc);

@@ -11,7 +11,7 @@ ghost use Rattle.std.specs.Map.{lookup};
 ghost use Rattle.std.specs.Option.{option_map};
 ghost use Rattle.std.specs.Prelude.{◌≡◌, ◌≤◌, ◌++◌, OnOk, length, nat_eq};
 
-use crate::files::name_files;
+use crate::files::with_named_texts;
 use crate::forms::{call_of, directive_of, either_test_of, form_at, is_lacking, is_ours, test_of};
 use crate::{Kind, OursFault, Piece, TextFault, read_text};
 use drv_words::Word;
@@ -178,7 +178,7 @@ pub fn translate_text(alloc: Global, text: &[u8]) -> Result<Word, OursFault>
         Err(TextFault::Memory) => return Err(OursFault::Memory),
         Err(TextFault::Unreadable(misfit, at)) => return Err(OursFault::Unreadable(misfit, at)),
     };
-    let named = name_files(alloc, pieces.as_slice())?;
+    let named = with_named_texts(alloc, pieces.as_slice())?;
     let mut word = Word::empty(alloc);
     for piece in named.as_slice() {
         push_piece(alloc, piece, &mut word)?;

@@ -10,7 +10,7 @@ ghost use Rattle.drv_words.specs.Gives.{Gives};
 ghost use Rattle.std.specs.Prelude.{◌≡◌, ◌++◌, [], OnOk, Ok};
 
 use crate::dump::{Entry, entries};
-use crate::files::name_files;
+use crate::files::with_named_texts;
 use crate::ours::push_piece;
 use crate::turns_of_tests::is_white;
 use crate::{DumpFault, Kind, OursFault, Piece, TextFault, read_text};
@@ -111,7 +111,7 @@ fn pass_text(alloc: Global, text: &[u8]) -> Result<Word, OursFault>
         Err(TextFault::Memory) => return Err(OursFault::Memory),
         Err(TextFault::Unreadable(misfit, at)) => return Err(OursFault::Unreadable(misfit, at)),
     };
-    let named = name_files(alloc, pieces.as_slice())?;
+    let named = with_named_texts(alloc, pieces.as_slice())?;
     let mut copy = Word::empty(alloc);
     for piece in named.as_slice() {
         push_passed(alloc, piece, &mut copy)?;

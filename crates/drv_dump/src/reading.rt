@@ -6,7 +6,7 @@ ghost use Rattle.drv_dump.specs.declared.fault.TextFault.TheVariants.{Memory};
 ghost use Rattle.drv_words.specs.Gives.{Gives};
 ghost use Rattle.std.specs.Prelude.{◌≡◌, ◌∷◌, ◌++◌, [], OnOk};
 
-use crate::turn::{Part, Place, Turn, turn_at};
+use crate::turn::{InPiece, Place, Turn, turn_at};
 use crate::{Kind, Misfit, Piece, TextFault};
 use drv_words::{Listing, Word};
 use std::alloc::{AllocError, Global};
@@ -62,10 +62,16 @@ impl Reader {
     }
 
     /// Adds a byte to a new piece, or to the last one.
-    fn push(&mut self, alloc: Global, part: Part, kind: Kind, byte: u8) -> Result<(), AllocError>
-        ensures { OnOk result (self.new ≡ with_byte self.old part kind self.new.place self.new.depth byte) }
+    fn push(
+        &mut self,
+        alloc: Global,
+        in_piece: InPiece,
+        kind: Kind,
+        byte: u8,
+    ) -> Result<(), AllocError>
+        ensures { OnOk result (self.new ≡ with_byte self.old in_piece kind self.new.place self.new.depth byte) }
     {
-        if let Part::First = part {
+        if let InPiece::First = in_piece {
             self.close(alloc)?;
         }
         self.last.kind = kind;
@@ -78,12 +84,12 @@ impl Reader {
     {
         match turn_at(self.place, self.depth, byte) {
             Turn::Reads {
-                part,
+                in_piece,
                 kind,
                 place,
                 depth,
             } => {
-                self.push(alloc, part, kind, byte)?;
+                self.push(alloc, in_piece, kind, byte)?;
                 self.place = place;
                 self.depth = depth;
                 Ok(())

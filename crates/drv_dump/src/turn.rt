@@ -63,7 +63,7 @@ pub(crate) enum Place {
 
 /// Whether a byte begins a piece.
 #[derive(Clone, Copy, Debug)]
-pub(crate) enum Part {
+pub(crate) enum InPiece {
     /// It is the first of a piece.
     First,
     /// It is part of the piece before it.
@@ -75,7 +75,7 @@ pub(crate) enum Part {
 pub(crate) enum Turn {
     /// A byte of a piece of this kind; the place of the next one, and in how many braces that is.
     Reads {
-        part: Part,
+        in_piece: InPiece,
         kind: Kind,
         place: Place,
         depth: usize,
@@ -143,11 +143,11 @@ fn is_function_byte(byte: u8) -> bool
 }
 
 /// A byte of a piece that leaves the braces as they are.
-pub(crate) fn reads(part: Part, kind: Kind, place: Place, depth: usize) -> Turn
-    ensures { result ≡ grammar.reads part kind place depth }
+pub(crate) fn reads(in_piece: InPiece, kind: Kind, place: Place, depth: usize) -> Turn
+    ensures { result ≡ grammar.reads in_piece kind place depth }
 {
     Turn::Reads {
-        part,
+        in_piece,
         kind,
         place,
         depth,
@@ -159,7 +159,7 @@ fn opens(depth: usize) -> Turn
     ensures { result ≡ grammar.opens depth }
 {
     if depth < MOST_LEVELS {
-        reads(Part::Later, Kind::Opening, Place::BeforeTest, depth + 1)
+        reads(InPiece::Later, Kind::Opening, Place::BeforeTest, depth + 1)
     } else {
         Turn::Refused(Misfit::TooNested)
     }
@@ -172,21 +172,21 @@ pub(crate) fn closes(depth: usize) -> Turn
     if depth == 0 {
         Turn::Refused(Misfit::BareBrace)
     } else {
-        reads(Part::First, Kind::Closing, Place::Ready, depth - 1)
+        reads(InPiece::First, Kind::Closing, Place::Ready, depth - 1)
     }
 }
 
 /// A byte of a text, which would be the first or a later one of a piece.
-fn text_turn(part: Part, depth: usize, byte: u8) -> Turn
-    ensures { result ≡ grammar.text_turn part depth byte }
+fn text_turn(in_piece: InPiece, depth: usize, byte: u8) -> Turn
+    ensures { result ≡ grammar.text_turn in_piece depth byte }
 {
     match byte {
-        b'%' => reads(Part::First, Kind::Directive, Place::Percent, depth),
-        b'\\' => reads(part, Kind::Text, Place::Escape, depth),
+        b'%' => reads(InPiece::First, Kind::Directive, Place::Percent, depth),
+        b'\\' => reads(in_piece, Kind::Text, Place::Escape, depth),
         b'{' => Turn::Refused(Misfit::BareBrace),
         b'}' => closes(depth),
-        b';' if depth > 0 => reads(Part::First, Kind::Otherwise, Place::BeforeChoice, depth),
-        _ => reads(part, Kind::Text, Place::Text, depth),
+        b';' if depth > 0 => reads(InPiece::First, Kind::Otherwise, Place::BeforeChoice, depth),
+        _ => reads(in_piece, Kind::Text, Place::Text, depth),
     }
 }
 
@@ -197,7 +197,7 @@ fn escape_turn(depth: usize, byte: u8) -> Turn
     if depth > 0 && matches!(byte, b'{' | b'}' | b';') {
         Turn::Refused(Misfit::EscapedMark)
     } else {
-        reads(Part::Later, Kind::Text, Place::Text, depth)
+        reads(InPiece::Later, Kind::Text, Place::Text, depth)
     }
 }
 
@@ -207,17 +207,27 @@ fn percent_turn(depth: usize, byte: u8) -> Turn
 {
     match byte {
         b'{' => opens(depth),
-        b'W' | b'@' => reads(Part::Later, Kind::Opening, Place::WantsBrace, depth),
-        b'(' => reads(Part::Later, Kind::NamedText, Place::NamedText, depth),
+        b'W' | b'@' => reads(InPiece::Later, Kind::Opening, Place::WantsBrace, depth),
+        b'(' => reads(InPiece::Later, Kind::NamedText, Place::NamedText, depth),
         b':' => reads(
-            Part::Later,
+            InPiece::Later,
             Kind::Call,
             Place::Function(Side::InText),
             depth,
         ),
-        b'x' => reads(Part::Later, Kind::LinkerOption, Place::WantsOption, depth),
-        b'e' | b'n' => reads(Part::Later, Kind::Message, Place::Message, depth),
-        _ if is_whole_directive(byte) => reads(Part::Later, Kind::Directive, Place::Ready, depth),
+        b'x' => reads(
+            InPiece::Later,
+            Kind::LinkerOption,
+            Place::WantsOption,
+            depth,
+        ),
+        b'e' | b'n' => reads(InPiece::Later, Kind::Message, Place::Message, depth),
+        _ if is_whole_directive(byte) => reads(
+            InPiece::Later,
+            Kind::Directive,
+            Place::Ready,
+            depth,
+        ),
         _ => Turn::Refused(Misfit::UnknownDirective),
     }
 }
@@ -227,9 +237,9 @@ fn message_turn(depth: usize, byte: u8) -> Turn
     ensures { result ≡ grammar.message_turn depth byte }
 {
     if byte == b'\n' || depth > 0 && matches!(byte, b'{' | b'}' | b';') {
-        text_turn(Part::First, depth, byte)
+        text_turn(InPiece::First, depth, byte)
     } else {
-        reads(Part::Later, Kind::Message, Place::Message, depth)
+        reads(InPiece::Later, Kind::Message, Place::Message, depth)
     }
 }
 
@@ -238,9 +248,9 @@ fn closed_turn(kind: Kind, place: Place, end: u8, depth: usize, byte: u8) -> Tur
     ensures { result ≡ grammar.closed_turn kind place end depth byte }
 {
     if byte == end {
-        reads(Part::Later, kind, Place::Ready, depth)
+        reads(InPiece::Later, kind, Place::Ready, depth)
     } else {
-        reads(Part::Later, kind, place, depth)
+        reads(InPiece::Later, kind, place, depth)
     }
 }
 
@@ -260,7 +270,7 @@ fn option_turn(depth: usize, byte: u8) -> Turn
     ensures { result ≡ grammar.option_turn depth byte }
 {
     if byte == b'{' {
-        reads(Part::Later, Kind::LinkerOption, Place::Option, depth)
+        reads(InPiece::Later, Kind::LinkerOption, Place::Option, depth)
     } else {
         Turn::Refused(Misfit::UnknownDirective)
     }
@@ -283,13 +293,18 @@ fn function_turn(side: Side, depth: usize, byte: u8) -> Turn
 {
     if byte == b'(' {
         reads(
-            Part::Later,
+            InPiece::Later,
             call_kind(side),
             Place::Arguments(side, 0),
             depth,
         )
     } else if is_function_byte(byte) {
-        reads(Part::Later, call_kind(side), Place::Function(side), depth)
+        reads(
+            InPiece::Later,
+            call_kind(side),
+            Place::Function(side),
+            depth,
+        )
     } else {
         Turn::Refused(Misfit::BadFunction)
     }
@@ -316,7 +331,7 @@ fn argument_turn(side: Side, inside: usize, depth: usize, byte: u8) -> Turn
         b')' => Place::Arguments(side, inside - 1),
         _ => Place::Arguments(side, inside),
     };
-    reads(Part::Later, call_kind(side), place, depth)
+    reads(InPiece::Later, call_kind(side), place, depth)
 }
 
 /// What a byte is at a place, inside this many braces.
@@ -324,8 +339,8 @@ pub(crate) fn turn_at(place: Place, depth: usize, byte: u8) -> Turn
     ensures { result ≡ grammar.turn place depth byte }
 {
     match place {
-        Place::Ready => text_turn(Part::First, depth, byte),
-        Place::Text => text_turn(Part::Later, depth, byte),
+        Place::Ready => text_turn(InPiece::First, depth, byte),
+        Place::Text => text_turn(InPiece::Later, depth, byte),
         Place::Escape => escape_turn(depth, byte),
         Place::Percent => percent_turn(depth, byte),
         Place::Message => message_turn(depth, byte),

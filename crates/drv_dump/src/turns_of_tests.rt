@@ -3,7 +3,7 @@
 ghost use Rattle.drv_dump.specs.Grammar as grammar;
 ghost use Rattle.std.specs.Prelude.{◌≡◌};
 
-use crate::turn::{Part, Place, Side, Turn, call_kind, closes, reads};
+use crate::turn::{InPiece, Place, Side, Turn, call_kind, closes, reads};
 use crate::{Kind, Misfit};
 
 /// In a test: a letter, a digit, or one of `_-+=,.@`.
@@ -26,13 +26,13 @@ fn asked_turn(side: Side, depth: usize, byte: u8) -> Turn
 {
     if byte == b'%' {
         reads(
-            Part::First,
+            InPiece::First,
             call_kind(side),
             Place::TestPercent(side),
             depth,
         )
     } else if is_test_byte(byte) {
-        reads(Part::First, Kind::Test, Place::Test, depth)
+        reads(InPiece::First, Kind::Test, Place::Test, depth)
     } else {
         Turn::Refused(Misfit::BadTest)
     }
@@ -43,7 +43,7 @@ pub(crate) fn negated_turn(depth: usize, byte: u8) -> Turn
     ensures { result ≡ grammar.negated_turn depth byte }
 {
     if is_white(byte) {
-        reads(Part::First, Kind::Blank, Place::Negated, depth)
+        reads(InPiece::First, Kind::Blank, Place::Negated, depth)
     } else {
         asked_turn(Side::Negated, depth, byte)
     }
@@ -54,9 +54,9 @@ pub(crate) fn test_turn(depth: usize, byte: u8) -> Turn
     ensures { result ≡ grammar.test_turn depth byte }
 {
     if is_white(byte) {
-        reads(Part::First, Kind::Blank, Place::BeforeTest, depth)
+        reads(InPiece::First, Kind::Blank, Place::BeforeTest, depth)
     } else if byte == b'!' {
-        reads(Part::First, Kind::Negation, Place::Negated, depth)
+        reads(InPiece::First, Kind::Negation, Place::Negated, depth)
     } else {
         asked_turn(Side::AmongTests, depth, byte)
     }
@@ -67,9 +67,9 @@ pub(crate) fn choice_turn(depth: usize, byte: u8) -> Turn
     ensures { result ≡ grammar.choice_turn depth byte }
 {
     if is_white(byte) {
-        reads(Part::First, Kind::Blank, Place::BeforeChoice, depth)
+        reads(InPiece::First, Kind::Blank, Place::BeforeChoice, depth)
     } else if byte == b':' {
-        reads(Part::First, Kind::Then, Place::Ready, depth)
+        reads(InPiece::First, Kind::Then, Place::Ready, depth)
     } else {
         test_turn(depth, byte)
     }
@@ -80,7 +80,12 @@ pub(crate) fn percent_test_turn(side: Side, depth: usize, byte: u8) -> Turn
     ensures { result ≡ grammar.percent_test_turn side depth byte }
 {
     if byte == b':' {
-        reads(Part::Later, call_kind(side), Place::Function(side), depth)
+        reads(
+            InPiece::Later,
+            call_kind(side),
+            Place::Function(side),
+            depth,
+        )
     } else {
         Turn::Refused(Misfit::BadTest)
     }
@@ -91,10 +96,10 @@ pub(crate) fn after_test_turn(depth: usize, byte: u8) -> Turn
     ensures { result ≡ grammar.after_test_turn depth byte }
 {
     match byte {
-        b' ' | b'\t' | b'\n' => reads(Part::First, Kind::Blank, Place::AfterTest, depth),
-        b'|' => reads(Part::First, Kind::Either, Place::BeforeTest, depth),
-        b'&' => reads(Part::First, Kind::Both, Place::BeforeTest, depth),
-        b':' => reads(Part::First, Kind::Then, Place::Ready, depth),
+        b' ' | b'\t' | b'\n' => reads(InPiece::First, Kind::Blank, Place::AfterTest, depth),
+        b'|' => reads(InPiece::First, Kind::Either, Place::BeforeTest, depth),
+        b'&' => reads(InPiece::First, Kind::Both, Place::BeforeTest, depth),
+        b':' => reads(InPiece::First, Kind::Then, Place::Ready, depth),
         b'}' => closes(depth),
         _ => Turn::Refused(Misfit::BadTest),
     }
@@ -105,9 +110,9 @@ pub(crate) fn inner_test_turn(depth: usize, byte: u8) -> Turn
     ensures { result ≡ grammar.inner_test_turn depth byte }
 {
     if is_test_byte(byte) {
-        reads(Part::Later, Kind::Test, Place::Test, depth)
+        reads(InPiece::Later, Kind::Test, Place::Test, depth)
     } else if byte == b'*' {
-        reads(Part::Later, Kind::Test, Place::AfterTest, depth)
+        reads(InPiece::Later, Kind::Test, Place::AfterTest, depth)
     } else {
         after_test_turn(depth, byte)
     }

@@ -84,15 +84,15 @@ abbrev pub removal_in : Option Answer → Option RemoveAnswer
 removal_in (Some (answer.Remove x)) = Some x
 removal_in other = None
 
-abbrev pub front : Script → Option Answer
-front script = slice_get script.answers 0
+abbrev pub first_answer : Script → Option Answer
+first_answer script = slice_get script.answers 0
 
 -- the script after a call: an answer that was taken is gone
 abbrev pub following : {X : Type 0} → Option X → Script → Script
 following taken script = if is_some taken then record script { answers = drop 1 script.answers } else script
 
 abbrev pub scripted_claim : Script → ClaimAnswer
-scripted_claim script = unwrap_or (claim_in (front script)) claim.Claimed
+scripted_claim script = unwrap_or (claim_in (first_answer script)) claim.Claimed
 
 -- a started child gets the next number, from 0
 abbrev pub start_numbered : ℕ → Option StartAnswer → StartAnswer
@@ -100,13 +100,13 @@ start_numbered id (Some (start.NotStarted why)) = start.NotStarted why
 start_numbered id other = start.Started id
 
 abbrev pub scripted_start : ℕ → Script → StartAnswer
-scripted_start id script = start_numbered id (start_in (front script))
+scripted_start id script = start_numbered id (start_in (first_answer script))
 
 abbrev pub scripted_wait : Script → WaitAnswer
-scripted_wait script = unwrap_or (wait_in (front script)) (wait.Exit 0)
+scripted_wait script = unwrap_or (wait_in (first_answer script)) (wait.Exit 0)
 
 abbrev pub scripted_removal : Script → RemoveAnswer
-scripted_removal script = unwrap_or (removal_in (front script)) remove.Removed
+scripted_removal script = unwrap_or (removal_in (first_answer script)) remove.Removed
 
 -- the number of children after a start
 abbrev pub children_after : ℕ → StartAnswer → ℕ

@@ -2,7 +2,7 @@
 
 ghost use Rattle.drv_system.specs.Limit.{IsWithinLimit};
 ghost use Rattle.drv_system.specs.Running.{is_told, made, run_of};
-ghost use Rattle.drv_system.specs.Script.{following, children_after, claim_in, front, read_as};
+ghost use Rattle.drv_system.specs.Script.{following, children_after, claim_in, first_answer, read_as};
 ghost use Rattle.drv_system.specs.Script.{removal_in, script_children, scripted_claim};
 ghost use Rattle.drv_system.specs.Script.{scripted_kind, scripted_read, scripted_removal};
 ghost use Rattle.drv_system.specs.Script.{scripted_start, scripted_telling, scripted_variable};
@@ -246,7 +246,7 @@ impl System for ScriptSystem {
         ensures room { self.old.spare_events ≤ self.new.spare_events + 1 }
         ensures answer { result ≡ scripted_claim self.old.script }
         ensures script { self.new.script
-            ≡ following (claim_in (front self.old.script)) self.old.script }
+            ≡ following (claim_in (first_answer self.old.script)) self.old.script }
         ensures started { self.new.children ≡ self.old.children }
     {
         let _asked = plan;
@@ -270,7 +270,7 @@ impl System for ScriptSystem {
         ensures room { self.old.spare_events ≤ self.new.spare_events + 1 }
         ensures answer { result ≡ scripted_start self.old.children self.old.script }
         ensures script { self.new.script
-            ≡ following (start_in (front self.old.script)) self.old.script }
+            ≡ following (start_in (first_answer self.old.script)) self.old.script }
         ensures started { self.new.children ≡ children_after self.old.children result }
     {
         let _asked = plan;
@@ -312,7 +312,7 @@ impl System for ScriptSystem {
         ensures room { self.old.spare_events ≤ self.new.spare_events + 1 }
         ensures answer { result ≡ scripted_wait self.old.script }
         ensures script { self.new.script
-            ≡ following (wait_in (front self.old.script)) self.old.script }
+            ≡ following (wait_in (first_answer self.old.script)) self.old.script }
         ensures started { self.new.children ≡ self.old.children }
     {
         let given = wait_in(front_of(self.answers.as_slice(), self.taken));
@@ -348,7 +348,7 @@ impl System for ScriptSystem {
         ensures room { self.old.spare_events ≤ self.new.spare_events + 1 }
         ensures answer { result ≡ scripted_removal self.old.script }
         ensures script { self.new.script
-            ≡ following (removal_in (front self.old.script)) self.old.script }
+            ≡ following (removal_in (first_answer self.old.script)) self.old.script }
         ensures started { self.new.children ≡ self.old.children }
     {
         let _asked = plan;
@@ -408,40 +408,40 @@ fn pass_over<A>(answers: &[Answer], taken: &mut usize, answer: &Option<A>)
 }
 
 /// The answer to a claim, if it is one.
-fn claim_in(front: Option<Answer>) -> Option<ClaimAnswer>
-    ensures { result ≡ claim_in front }
+fn claim_in(answer: Option<Answer>) -> Option<ClaimAnswer>
+    ensures { result ≡ claim_in answer }
 {
-    match front {
+    match answer {
         Some(Answer::Claim(answer)) => Some(answer),
         _ => None,
     }
 }
 
 /// The answer to a start, if it is one.
-fn start_in(front: Option<Answer>) -> Option<StartAnswer>
-    ensures { result ≡ start_in front }
+fn start_in(answer: Option<Answer>) -> Option<StartAnswer>
+    ensures { result ≡ start_in answer }
 {
-    match front {
+    match answer {
         Some(Answer::Start(answer)) => Some(answer),
         _ => None,
     }
 }
 
 /// The answer to a wait, if it is one.
-fn wait_in(front: Option<Answer>) -> Option<WaitAnswer>
-    ensures { result ≡ wait_in front }
+fn wait_in(answer: Option<Answer>) -> Option<WaitAnswer>
+    ensures { result ≡ wait_in answer }
 {
-    match front {
+    match answer {
         Some(Answer::Wait(answer)) => Some(answer),
         _ => None,
     }
 }
 
 /// The answer to a removal, if it is one.
-fn removal_in(front: Option<Answer>) -> Option<RemoveAnswer>
-    ensures { result ≡ removal_in front }
+fn removal_in(answer: Option<Answer>) -> Option<RemoveAnswer>
+    ensures { result ≡ removal_in answer }
 {
-    match front {
+    match answer {
         Some(Answer::Remove(answer)) => Some(answer),
         _ => None,
     }

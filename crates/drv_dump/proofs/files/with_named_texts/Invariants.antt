@@ -1,4 +1,4 @@
-use Rattle.drv_dump.proofs.files.name_files.Given as goal
+use Rattle.drv_dump.proofs.files.with_named_texts.Given as goal
 use Rattle.drv_dump.specs.Files.{files_from}
 use Rattle.drv_dump.specs.declared.files.Joint.TheVariants.{Open}
 use Rattle.std.proofs.Common.{◌≡◌, ◌++◌, length}
