@@ -4,6 +4,7 @@ ghost use Rattle.drv_system.specs.declared.event.TellAnswer.TheVariants as tell;
 ghost use Rattle.std.specs.Io.KnownBytes.{Appends};
 ghost use Rattle.std.specs.Prelude.{◌≡◌, ◌∷◌, ◌++◌, [], IfOk, OnErr};
 
+use crate::environment::Environment;
 use crate::files::{make_file, remove_file};
 use crate::noting::{note_kind, note_read, note_variable};
 use crate::places::{command_at, name_at, temp_at};
@@ -17,7 +18,6 @@ use drv_words::{
     WaitAnswer, Word,
 };
 use std::alloc::AllocError;
-use std::env::{self, VarError};
 use std::io::{self, ErrorKind, PipeReader, Write};
 use std::marker::Model;
 use std::process::Child;
@@ -39,6 +39,8 @@ pub struct HostSystem {
     children: Vec<Option<Child>>,
     /// The reading end of the pending pipe.
     pending: Option<PipeReader>,
+    /// The variables that children get from it.
+    own: Environment,
     /// The variables that only children get, with their values.
     variables: Vec<(Word, Word)>,
     reports: Reports,
@@ -73,6 +75,7 @@ impl HostSystem {
             journal,
             children,
             pending: None,
+            own: Environment::Unread,
             variables,
             reports: Reports::new(reporter),
         }
@@ -121,10 +124,7 @@ impl System for HostSystem {
 
     #[tactic(auto, using(crate::proofs::Holding::holds_beside, crate::proofs::Holding::holds_same))]
     fn variable(&mut self, name: &Word) -> Result<Option<Word>, AllocError> {
-        let value = match as_text(name.as_bytes()) {
-            Some(name) => value_of(&self.rt, name)?,
-            None => None,
-        };
+        let value = self.own.value(&self.rt, name)?;
         note_variable(&mut self.journal, name, &value)?;
         Ok(value)
     }
@@ -292,15 +292,6 @@ fn kind_at(rt: &HostRuntime, path: &str) -> Result<PathKind, AllocError> {
         Ok(_) => Ok(PathKind::Other),
         Err(e) if e.kind() == ErrorKind::OutOfMemory => Err(AllocError),
         Err(_) => Ok(PathKind::Missing),
-    }
-}
-
-/// The value of a variable, if it is set and is text.
-pub(crate) fn value_of(rt: &HostRuntime, name: &str) -> Result<Option<Word>, AllocError> {
-    match env::var(rt, name) {
-        Ok(value) => Ok(Some(Word::from_vec(value.into_bytes()))),
-        Err(VarError::OutOfMemory) => Err(AllocError),
-        Err(_) => Ok(None),
     }
 }
 

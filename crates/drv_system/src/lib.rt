@@ -4,6 +4,7 @@
 
 mod answer_map;
 mod command_line;
+mod environment;
 mod event;
 mod facts;
 mod files;

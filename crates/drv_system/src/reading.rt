@@ -20,6 +20,9 @@ const MOST_READS: u32 = 33_554_432;
 /// The room for the first read of what doesn't tell its size, in bytes.
 const FIRST_ROOM: usize = 2048;
 
+/// The room for a read after the first one, in bytes: it should find the end.
+const END_ROOM: usize = 256;
+
 /// The most room for a read, in bytes.
 const MOST_ROOM: usize = 65536;
 
@@ -106,7 +109,7 @@ fn add_read(bytes: &mut Vec<u8>, room: &mut Vec<u8>, count: usize) -> Result<(),
     if bytes.is_empty() {
         swap(bytes, room);
         bytes.truncate(count);
-        room.resize(FIRST_ROOM, 0)?;
+        room.resize(END_ROOM, 0)?;
         return Ok(());
     }
     bytes.extend_from_slice(&room.as_slice()[..count])?;

@@ -3,7 +3,7 @@
 ghost use Rattle.drv_system.specs.Seed.{digit_of, joined, seed_named};
 ghost use Rattle.std.specs.Prelude.{◌≡◌, ◌<◌, IfSome};
 
-use crate::host::value_of;
+use crate::environment::value_of;
 use std::alloc::AllocError;
 use std::rt::Clock;
 
