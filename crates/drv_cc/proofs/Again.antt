@@ -256,8 +256,17 @@ pub all_again : (known : List ℕ) (args : List (List ℕ)) (before after : List
     → after ≡ items_of known None args
 all_again known args before after is are = are ∙ ap (map (again known)) is ∙ items_again known None args tt
 
-pub asked_again : {E : Type 0} (known : List ℕ) (i : Item) (word name : List ℕ) (result : Result Item E) → is_unknown i.part ≡ true → word ≡ i.name
-    → name ≡ renamed i.name → IfOk result (λ found. found ≡ by_names known word name) → IfOk result (λ found. found ≡ again known i)
-asked_again known i word name (Ok found) unknown word_is name_is is =
-    is ∙ ap (λ w. by_names known w name) word_is ∙ ap (by_names known i.name) name_is ∙ sym (rw unknown refl)
-asked_again known i word name (Err e) unknown word_is name_is is = tt
+pub unrenamed_named : {E : Type 0} (known word : List ℕ) (result : Result Item E) → renamed word ≡ word
+    → IfOk result (λ found. found ≡ by_names known word word) → IfOk result (λ found. found ≡ by_names known word (renamed word))
+unrenamed_named known word (Ok found) same is = is ∙ ap (by_names known word) (sym same)
+unrenamed_named known word (Err e) same is = tt
+
+pub renamed_named : {E : Type 0} (known word name : List ℕ) (result : Result Item E) → name ≡ renamed word
+    → IfOk result (λ found. found ≡ by_names known word name) → IfOk result (λ found. found ≡ by_names known word (renamed word))
+renamed_named known word name (Ok found) same is = is ∙ ap (by_names known word) same
+renamed_named known word name (Err e) same is = tt
+
+pub asked_again : {E : Type 0} (known : List ℕ) (i : Item) (word : List ℕ) (result : Result Item E) → is_unknown i.part ≡ true → word ≡ i.name
+    → IfOk result (λ found. found ≡ by_names known word (renamed word)) → IfOk result (λ found. found ≡ again known i)
+asked_again known i word (Ok found) unknown word_is is = is ∙ ap (λ w. by_names known w (renamed w)) word_is ∙ sym (rw unknown refl)
+asked_again known i word (Err e) unknown word_is is = tt

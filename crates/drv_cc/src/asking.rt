@@ -2,32 +2,20 @@
 
 ghost use Rattle.drv_cc.specs.Asked.{asks, has_no_number, has_vms_or_newer, is_asked, is_newer};
 ghost use Rattle.drv_cc.specs.Asked.{is_stabs, is_xcoff, mixes_formats, mixes_newer, mixes_stabs};
-ghost use Rattle.drv_cc.specs.Asked.{mixes_vms, mixes_xcoff, sets_unjudged, tells, tells_alone};
+ghost use Rattle.drv_cc.specs.Asked.{mixes_vms, mixes_xcoff, numeric, sets_unjudged, tells, tells_alone};
+ghost use Rattle.drv_cc.specs.Items.{is_among};
 ghost use Rattle.std.specs.List.{list_any};
 ghost use Rattle.std.specs.Prelude.{◌≡◌};
 
 use crate::checks::names_no_check;
-use crate::classes::is_one_of;
+use crate::classes::{is, is_one_of};
 use crate::item::Item;
 use crate::keeping::{has, has_input};
 use crate::sources::has_preprocessed;
 use crate::table::Part;
 use crate::values::is_number;
 
-/// Options of the table that take a number.
-const NUMERIC: [&[u8]; 3] = [
-    b"-ftree-parallelize-loops=",
-    b"-finline-limit=",
-    b"-Wlarger-than=",
-];
-
-/// Options that ask for records in a format (GCC manual, "Debugging Options").
-const STABS: [&[u8]; 2] = [b"-gstabs", b"-gstabs+"];
-
-/// The same for another format.
-const XCOFF: [&[u8]; 2] = [b"-gxcoff", b"-gxcoff+"];
-
-/// The same for formats that are still in use.
+/// Options that ask for records in a format that is still in use (GCC manual, "Debugging Options").
 const NEWER: [&[u8]; 7] = [
     b"-gdwarf",
     b"-gdwarf-2",
@@ -38,11 +26,20 @@ const NEWER: [&[u8]; 7] = [
     b"-gbtf",
 ];
 
+/// Whether an option of the table takes a number.
+fn is_numeric(name: &[u8]) -> bool
+    ensures { result ≡ is_among numeric name.now }
+{
+    is(name, b"-ftree-parallelize-loops=")
+        || is(name, b"-finline-limit=")
+        || is(name, b"-Wlarger-than=")
+}
+
 /// Whether an item of an option that takes a number has none.
 fn has_no_number(item: &Item) -> bool
     ensures { result ≡ has_no_number item.now }
 {
-    is_one_of(&NUMERIC, item.name.as_bytes()) && !is_number(item.argument.as_bytes())
+    is_numeric(item.name.as_bytes()) && !is_number(item.argument.as_bytes())
 }
 
 /// Whether an item is a question, or has an argument that gcc refuses.
@@ -84,14 +81,16 @@ fn sets_unjudged(items: &[Item]) -> bool
 fn is_stabs(item: &Item) -> bool
     ensures { result ≡ is_stabs item.now }
 {
-    is_one_of(&STABS, item.name.as_bytes())
+    let name = item.name.as_bytes();
+    is(name, b"-gstabs") || is(name, b"-gstabs+")
 }
 
 /// Whether an item asks for records in xcoff.
 fn is_xcoff(item: &Item) -> bool
     ensures { result ≡ is_xcoff item.now }
 {
-    is_one_of(&XCOFF, item.name.as_bytes())
+    let name = item.name.as_bytes();
+    is(name, b"-gxcoff") || is(name, b"-gxcoff+")
 }
 
 /// Whether an item asks for records in a format that is still in use.

@@ -9,7 +9,7 @@ ghost use Rattle.drv_words.specs.Bytes.{comma};
 ghost use Rattle.std.specs.List.{list_any, slice_split};
 ghost use Rattle.std.specs.Prelude.{◌≡◌, ◌==◌, ◌++◌, Bool, OnOk, not, unwrap_or};
 
-use crate::classes::{is, is_one_of, stands_in};
+use crate::classes::{is, stands_in};
 use crate::item::Item;
 use crate::keeping::has;
 use crate::words::add_joined;
@@ -37,9 +37,6 @@ const CHECKS: &[u8] =
       signed-integer-overflow bool enum bounds alignment nonnull-attribute \
       returns-nonnull-attribute object-size vptr pointer-overflow builtin";
 
-/// Options that name checks.
-const OF_CHECKS: [&[u8]; 2] = [b"-fsanitize=", b"-fno-sanitize="];
-
 /// Whether an option may have this name between its commas: a check's name, or nothing.
 fn is_check(option: &[u8], name: &[u8]) -> bool
     ensures { result ≡ is_check option.now name.now }
@@ -62,7 +59,8 @@ pub(crate) fn names_no_check(item: &Item) -> bool
     ensures { result ≡ names_no_check item.now }
 {
     let name = item.name.as_bytes();
-    is_one_of(&OF_CHECKS, name) && has_no_check(name, item.argument.as_bytes())
+    (is(name, b"-fsanitize=") || is(name, b"-fno-sanitize="))
+        && has_no_check(name, item.argument.as_bytes())
 }
 
 /// Whether a name includes a check.

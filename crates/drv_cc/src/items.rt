@@ -7,8 +7,7 @@ ghost use Rattle.std.specs.Prelude.{◌≡◌, [], IfOk, List, None, ℕ};
 
 use crate::fronting::answer_of;
 use crate::item::Item;
-use crate::reading::{by_names, items_of};
-use crate::renaming::renamed;
+use crate::reading::{by_own_name, items_of};
 use crate::table::Part;
 use crate::{Answer, Surroundings};
 use drv_words::{Listing, Word};
@@ -29,8 +28,7 @@ fn again(alloc: Global, known: &[u8], item: Item) -> Result<Item, AllocError>
     if !is_unknown(item.part) {
         return Ok(item);
     }
-    let name = renamed(alloc, item.name.as_bytes())?;
-    by_names(alloc, known, item.name.as_bytes(), name.as_bytes())
+    by_own_name(alloc, known, item.name.as_bytes())
 }
 
 /// The items of a line of `gcc`: options with their arguments, files, and words that are neither.

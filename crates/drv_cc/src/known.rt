@@ -33,10 +33,26 @@ fn line_end(text: &[u8], at: usize) -> usize
     end
 }
 
+/// Whether a text comes before another one, where their first eight bytes tell that.
+fn is_before_by_eight(text: &[u8], other: &[u8]) -> Option<bool> {
+    let (front, _) = text.split_first_chunk::<8>()?;
+    let (beside, _) = other.split_first_chunk::<8>()?;
+    let number = u64::from_be_bytes(*front);
+    let wanted = u64::from_be_bytes(*beside);
+    if number == wanted {
+        None
+    } else {
+        Some(number < wanted)
+    }
+}
+
 /// Whether the line at a place of a text comes before another one, by their bytes. All bytes of
 /// names come after the end of a line.
 fn is_before(text: &[u8], at: usize, line: &[u8]) -> bool {
     let rest = rest_from(text, at);
+    if let Some(is) = is_before_by_eight(rest, line) {
+        return is;
+    }
     order(&rest[..line.len().min(rest.len())], line).is_lt()
 }
 

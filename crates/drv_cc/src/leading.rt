@@ -24,7 +24,7 @@ use std::alloc::{AllocError, Global};
 pub(crate) fn stops(items: &[Item]) -> bool
     ensures { result ≡ stops items.now }
 {
-    has(items, b"-c") | has(items, b"-S") | has(items, b"-E")
+    has(items, b"-c") || has(items, b"-S") || has(items, b"-E")
 }
 
 /// The output, where it is a file.
@@ -70,9 +70,10 @@ fn is_given(folder: Option<&[u8]>) -> bool
 fn any_folder(items: &[Item]) -> &[u8]
     ensures { result.now ≡ given_or (own_folder items.now) (given_folder items.now) }
 {
-    match given_folder(items) {
+    let own = own_folder(items);
+    match placed_folder(own, items) {
         Some(given) => given,
-        None => own_folder(items),
+        None => own,
     }
 }
 

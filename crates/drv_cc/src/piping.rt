@@ -1,32 +1,35 @@
 //! Whether the option for pipes is added.
 
 ghost use Rattle.drv_cc.specs.Front.{is_output, is_piped, is_unpiped, lists, names_output};
-ghost use Rattle.drv_cc.specs.Front.{pieces, pipe_words, prints};
-ghost use Rattle.drv_cc.specs.Items.{begins};
+ghost use Rattle.drv_cc.specs.Front.{pieces, pipe_words, prints, unpiped};
+ghost use Rattle.drv_cc.specs.Items.{begins, is_among};
 ghost use Rattle.std.specs.List.{list_any};
 ghost use Rattle.std.specs.Prelude.{◌≡◌, ◌++◌, OnOk, codes};
 
-use crate::classes::{is, is_one_of};
+use crate::classes::is;
 use crate::item::Item;
 use crate::sources::has_source;
 use crate::words::add_word;
 use drv_words::{Listing, Word};
 use std::alloc::{AllocError, Global};
 
-/// Options that exclude pipes, or have them already (GCC manual, "Overall Options", -pipe).
-const UNPIPED: [&[u8]; 11] = [
-    b"-pipe",
-    b"-save-temps",
-    b"-save-temps=cwd",
-    b"-save-temps=obj",
-    b"-S",
-    b"-E",
-    b"-M",
-    b"-MM",
-    b"-fsyntax-only",
-    b"-no-integrated-cpp",
-    b"-wrapper",
-];
+/// Whether an option by itself excludes pipes, or has them already (GCC manual, "Overall Options",
+/// -pipe).
+fn is_alone_unpiped(name: &[u8]) -> bool
+    ensures { result ≡ is_among unpiped name.now }
+{
+    is(name, b"-pipe")
+        || is(name, b"-save-temps")
+        || is(name, b"-save-temps=cwd")
+        || is(name, b"-save-temps=obj")
+        || is(name, b"-S")
+        || is(name, b"-E")
+        || is(name, b"-M")
+        || is(name, b"-MM")
+        || is(name, b"-fsyntax-only")
+        || is(name, b"-no-integrated-cpp")
+        || is(name, b"-wrapper")
+}
 
 /// Whether a file's name means standard output.
 fn is_output(name: &[u8]) -> bool
@@ -90,7 +93,7 @@ fn lists(item: &Item) -> bool
 fn is_unpiped(item: &Item) -> bool
     ensures { result ≡ is_unpiped item.now }
 {
-    is_one_of(&UNPIPED, item.name.as_bytes()) || prints(item) || lists(item)
+    is_alone_unpiped(item.name.as_bytes()) || prints(item) || lists(item)
 }
 
 /// Whether one of the options excludes pipes.

@@ -2,9 +2,10 @@
 
 ghost use Rattle.drv_cc.specs.Code.Building.{Notes, row_shown, shown, start_shown};
 ghost use Rattle.drv_cc.specs.Code.Known.{by_names};
-ghost use Rattle.drv_cc.specs.Items.{begins, beyond, first_row, is_file, items_of, known_item};
-ghost use Rattle.drv_cc.specs.Items.{machine_item, machine_name, renamed, start_of};
-ghost use Rattle.drv_cc.specs.Items.{start_renamed, with_rest};
+ghost use Rattle.drv_cc.specs.Items.{begins, beyond, first_row, is_among, is_file, items_of};
+ghost use Rattle.drv_cc.specs.Items.{known_item, machine_item, machine_name, paired, renamed};
+ghost use Rattle.drv_cc.specs.Items.{start_of, start_renamed, with_rest};
+ghost use Rattle.drv_cc.specs.Table.{ignored, texts};
 ghost use Rattle.std.specs.Prelude.{◌≡◌, IfOk, None, codes, drop, length};
 
 use crate::classes::{is_ignored, paired};
@@ -86,12 +87,7 @@ fn known_item(alloc: Global, known: &[u8], name: &[u8]) -> Result<Item, AllocErr
 }
 
 /// A word that no row fits and that is not passed over, by the name that it has.
-pub(crate) fn by_names(
-    alloc: Global,
-    known: &[u8],
-    word: &[u8],
-    name: &[u8],
-) -> Result<Item, AllocError>
+fn by_names(alloc: Global, known: &[u8], word: &[u8], name: &[u8]) -> Result<Item, AllocError>
     ensures { IfOk result (λ item. item ≡ by_names known.now word.now name.now) }
 {
     if turns_off(alloc, known, word)? || accepts(alloc, known, name)? {
@@ -105,12 +101,36 @@ pub(crate) fn by_names(
     Item::plain(alloc, part, word)
 }
 
+/// The same, by the name that the word has itself.
+#[tactic(auto, using(crate::proofs::Again::unrenamed_named, crate::proofs::Again::renamed_named))]
+pub(crate) fn by_own_name(alloc: Global, known: &[u8], word: &[u8]) -> Result<Item, AllocError>
+    ensures { IfOk result (λ item. item ≡ by_names known.now word.now (renamed word.now)) }
+{
+    if !is_renamed(word) {
+        return by_names(alloc, known, word, word);
+    }
+    let name = renamed(alloc, word)?;
+    by_names(alloc, known, word, name.as_bytes())
+}
+
+/// Whether an option is passed over, or its other sign is.
+fn is_passed_over(alloc: Global, name: &[u8]) -> Result<bool, AllocError>
+    ensures { IfOk result (λ is. is ≡ is_among (texts ignored) (paired name.now)) }
+{
+    match name {
+        [_, _, b'n', b'o', b'-', ..] => {
+            let positive = paired(alloc, name)?;
+            Ok(is_ignored(positive.as_bytes()))
+        }
+        _ => Ok(is_ignored(name)),
+    }
+}
+
 /// A word that no row fits, as an item of its own name.
 fn beyond(alloc: Global, known: &[u8], word: &[u8], name: &[u8]) -> Result<Item, AllocError>
     ensures { IfOk result (λ item. item ≡ beyond known.now word.now name.now) }
 {
-    let positive = paired(alloc, name)?;
-    if is_ignored(positive.as_bytes()) {
+    if is_passed_over(alloc, name)? {
         return Item::new(alloc, name, b"", Spelling::Nowhere, Part::Switch);
     }
     by_names(alloc, known, word, name)

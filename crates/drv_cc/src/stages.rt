@@ -6,22 +6,22 @@ ghost use Rattle.std.specs.List.{list_any};
 ghost use Rattle.std.specs.Prelude.{◌≡◌};
 
 use crate::Stages;
-use crate::classes::is_one_of;
+use crate::classes::is;
 use crate::item::Item;
 use crate::keeping::has;
 use crate::sources::is_file;
-
-/// Options that leave the link out.
-const UNLINKED: [&[u8]; 6] = [b"-c", b"-S", b"-E", b"-M", b"-MM", b"-fsyntax-only"];
-
-/// Options that ask for the preprocessor alone.
-const PREPROCESS: [&[u8]; 3] = [b"-E", b"-M", b"-MM"];
 
 /// Whether an option leaves the link out.
 fn is_unlinked(item: &Item) -> bool
     ensures { result ≡ is_unlinked item.now }
 {
-    is_one_of(&UNLINKED, item.name.as_bytes())
+    let name = item.name.as_bytes();
+    is(name, b"-c")
+        || is(name, b"-S")
+        || is(name, b"-E")
+        || is(name, b"-M")
+        || is(name, b"-MM")
+        || is(name, b"-fsyntax-only")
 }
 
 /// Whether an option leaves the link out.
@@ -76,7 +76,8 @@ fn has_other_file(items: &[Item]) -> bool
 fn preprocesses(item: &Item) -> bool
     ensures { result ≡ preprocesses item.now }
 {
-    is_one_of(&PREPROCESS, item.name.as_bytes())
+    let name = item.name.as_bytes();
+    is(name, b"-E") || is(name, b"-M") || is(name, b"-MM")
 }
 
 /// Whether some option asks for the preprocessor alone.
