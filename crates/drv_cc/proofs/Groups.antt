@@ -3,7 +3,7 @@ use Rattle.drv_cc.specs.Items.{begins, first_row, fits, option_fits, same, takes
 use Rattle.drv_cc.specs.Table.{OptionRow, sections, table}
 use Rattle.drv_cc.specs.declared.table.Takes.TheVariants.{Attached, Either, Next, Nothing, Rest}
 use Rattle.drv_cc.specs.declared.table.Takes.{Takes}
-use Rattle.std.proofs.Common.{◌≡◌, ◌==◌, ◌&&◌, ◌||◌, ◌∙◌, ◌++◌, ◌%◌, Bool, List, [], ◌∷◌, None, Option, Some, ap, cond, false, find, length, nat_lt, not, refl, sym, true, ℕ}
+use Rattle.std.proofs.Common.{arith, ◌≡◌, ◌==◌, ◌&&◌, ◌||◌, ◌∙◌, ◌++◌, ◌<◌, ◌%◌, Bool, List, [], ◌∷◌, None, Option, Some, ap, cond, false, find, length, nat_lt, not, refl, sym, true, ℕ}
 use Rattle.std.proofs.lemmas.Bool.{eq-eqb, eqb-true}
 use Rattle.std.proofs.lemmas.List.Folds.{find-append}
 use Rattle.std.specs.List.{filter}
@@ -103,6 +103,24 @@ found_begun word rows begun found is none are sought = found_by word None found 
 and_false : (t : Bool) → (t && false) ≡ false
 and_false true = refl
 and_false false = refl
+
+-- an option that is longer than a word doesn't fit it
+longer_begins : (option word : List ℕ) → length word < length option → begins option word ≡ false
+longer_begins [] word less = absurd (omega (arith, less))
+longer_begins (a ∷ option) [] less = refl
+longer_begins (a ∷ option) (x ∷ word) less = ap (λ t. (a == x) && t) (longer_begins option word (omega (arith, less))) ∙ and_false (a == x)
+
+longer_same : (option word : List ℕ) → length word < length option → same option word ≡ false
+longer_same [] word less = absurd (omega (arith, less))
+longer_same (a ∷ option) [] less = refl
+longer_same (a ∷ option) (x ∷ word) less = ap (λ t. (a == x) && t) (longer_same option word (omega (arith, less))) ∙ and_false (a == x)
+
+pub longer_fits : (takes : Takes) (word option : List ℕ) → length word < length option → option_fits takes word option ≡ false
+longer_fits Nothing word option less = longer_same option word less
+longer_fits Next word option less = longer_same option word less
+longer_fits Attached word option less = longer_begins option word less
+longer_fits Rest word option less = longer_begins option word less
+longer_fits Either word option less = longer_begins option word less
 
 -- a word with another third byte does not begin with an option that has one
 pub third_differs : (option word : List ℕ) (own other : ℕ) (differs : Bool) → own ≡ third option → other ≡ third word → (own == 0) ≡ false

@@ -83,11 +83,14 @@ impl Takes {
         matches!(self, Takes::Attached | Takes::Rest | Takes::Either)
     }
 
-    /// Whether an option fits a word.
+    /// Whether an option fits a word. Most are longer than it.
+    #[tactic(auto, using(crate::proofs::Groups::longer_fits))]
     fn fits(self, option: &[u8], word: &[u8]) -> bool
         ensures { result ≡ option_fits self word.now option.now }
     {
-        if self.takes_rest() {
+        if word.len() < option.len() {
+            false
+        } else if self.takes_rest() {
             begins(option, word)
         } else {
             option == word
