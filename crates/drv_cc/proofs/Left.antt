@@ -1,13 +1,18 @@
+use Rattle.drv_cc.specs.Code.Hiding.{left_after, live_item}
 use Rattle.drv_cc.specs.SelfSpecs.{is_left, live, written}
 use Rattle.drv_cc.specs.declared.item.Item.{Item}
-use Rattle.std.proofs.Common.{◌≡◌, List, ◌∷◌, drop, false, length, refl, sym, true, ℕ}
+use Rattle.std.proofs.Common.{◌≡◌, Bool, List, ◌∷◌, ◌++◌, ◌∙◌, ap, append_assoc, false, refl, sym, true, ℕ}
 
 -- For `front_with`: the switches that a self spec leaves, and those that it hides.
 
-pub one_left : (i : Item) (tail : List Item) (words left : List (List ℕ)) → words ≡ written i → is_left words left ≡ true
-    → live (i ∷ tail) left ≡ i ∷ live tail (drop (length words) left)
-one_left i tail words left is stays = rw (sym is, stays) refl
+live_more : (i : Item) (tail : List Item) (left : List (List ℕ)) → live (i ∷ tail) left ≡ live_item i left ++ live tail (left_after i left)
+live_more i tail left = by (is_left (written i) left) refl
+  where
+    by : (t : Bool) → is_left (written i) left ≡ t → live (i ∷ tail) left ≡ live_item i left ++ live tail (left_after i left)
+    by true e = rw e refl
+    by false e = rw e refl
 
-pub one_hidden : (i : Item) (tail : List Item) (words left : List (List ℕ)) → words ≡ written i → is_left words left ≡ false
-    → live (i ∷ tail) left ≡ live tail left
-one_hidden i tail words left is hides = rw (sym is, hides) refl
+-- one item more
+pub one_more : (i : Item) (tail stay : List Item) (left : List (List ℕ))
+    → (stay ++ live_item i left) ++ live tail (left_after i left) ≡ stay ++ live (i ∷ tail) left
+one_more i tail stay left = append_assoc stay (live_item i left) (live tail (left_after i left)) ∙ ap (λ l. stay ++ l) (sym (live_more i tail left))

@@ -1,10 +1,11 @@
-use Rattle.drv_cc.specs.Code.Staying.{Keeping, Notes, stays_before}
+use Rattle.drv_cc.specs.Code.Staying.{Keeping, Notes, kept_before, stays_before}
 use Rattle.drv_cc.specs.Items.{same}
 use Rattle.drv_cc.specs.Kept.{goes, kept}
 use Rattle.drv_cc.specs.declared.item.Item.{Item}
-use Rattle.std.proofs.Common.{◌≡◌, ◌<◌, ◌∙◌, ◌&&◌, ◌||◌, Bool, List, [], ◌∷◌, ◌++◌, ap, append-nil, append_assoc, arith, cond, false, if◌then◌else◌, length, nat_lt, not, refl, subst, sym, true, ℕ}
+use Rattle.std.proofs.Common.{◌≡◌, ◌<◌, ◌≤◌, ◌+◌, ◌-◌, ◌∙◌, ◌&&◌, ◌||◌, Bool, List, [], ◌∷◌, ◌++◌, ap, append-nil, append_assoc, arith, cond, false, get_or, if◌then◌else◌, length, nat_lt, not, refl, sym, take, true, ℕ}
+use Rattle.std.proofs.Math.Seq.{take-length}
 use Rattle.std.proofs.lemmas.Cmp.{nat_list_eq_equiv}
-use Rattle.std.proofs.lemmas.List.{reverse-append}
+use Rattle.std.proofs.lemmas.List.{reverse-append, take_more}
 use Rattle.std.specs.List.{list_any}
 use Rattle.std.specs.Prelude.{reverse}
 
@@ -51,32 +52,26 @@ not_same (b ∷ p) some = refl
 pub not_noted : (p class : List ℕ) (old : Bool) → 0 < length p → class ≡ [] → old ≡ (same p class || old)
 not_noted p class old some none = ap (λ b. b || old) (sym (ap (same p) none ∙ not_same p some))
 
+-- the last part of a list
+pub last_part : {X : Type 0} (xs : List X) (x : X) → 1 ≤ length xs → x ≡ get_or xs (length xs - 1) x → xs ≡ take (length xs - 1) xs ++ x ∷ []
+last_part xs x some at =
+    let same : length xs ≡ length xs - 1 + 1 = omega (arith, some) in
+    let less : length xs - 1 < length xs = omega (arith, some) in
+    sym (take-length xs) ∙ ap (λ n. take n xs) same ∙ take_more xs (length xs - 1) x less ∙ ap (λ y. take (length xs - 1) xs ++ y ∷ []) (sym at)
+
 -- one item more
-keeping_more : (items left before stay : List Item) (i : Item) (seen new : List ℕ → Bool) (stays : Bool)
-    → Keeping items left stay seen → left ≡ before ++ i ∷ [] → stays ≡ stays_before i.class seen → Notes i.class seen new
-    → Keeping items before (if stays then stay ++ i ∷ [] else stay) new
-keeping_more items left before stay i seen new stays h parts is notes = record {
+pub keeping_more : (items left before stay now : List Item) (i : Item) (seen new : List ℕ → Bool)
+    → Keeping items left stay seen → left ≡ before ++ i ∷ [] → now ≡ kept_before i seen stay → Notes i.class seen new → Keeping items before now new
+keeping_more items left before stay now i seen new h parts is notes = record {
   following = i ∷ h.following;
   parts = sym (append_assoc before (i ∷ []) h.following) ∙ ap (λ l. l ++ h.following) (sym parts) ∙ h.parts;
-  stays = by stays refl ∙ sym (kept_on i h.following stays (is ∙ ap not (sym (goes_by i h.following seen h.seen_are))));
+  stays = ap reverse is ∙ by (stays_before i.class seen) ∙ sym (kept_on i h.following (stays_before i.class seen) (ap not (sym (goes_by i h.following seen h.seen_are))));
   seen_are = λ p some. notes p some ∙ ap (λ b. same p i.class || b) (h.seen_are p some);
 }
   where
-    by : (t : Bool) → stays ≡ t → reverse (if stays then stay ++ i ∷ [] else stay) ≡ (if stays then i ∷ kept h.following else kept h.following)
-    by true e = rw e (reverse-append stay (i ∷ []) ∙ ap (λ l. i ∷ l) h.stays)
-    by false e = rw e h.stays
-
-pub keeping_stays : (items left before stay now : List Item) (i : Item) (seen new : List ℕ → Bool) (stays : Bool)
-    → Keeping items left stay seen → left ≡ before ++ i ∷ [] → stays ≡ stays_before i.class seen → Notes i.class seen new
-    → stays ≡ true → now ≡ stay ++ i ∷ [] → Keeping items before now new
-keeping_stays items left before stay now i seen new stays h parts is notes e now_is =
-    subst (λ l. Keeping items before l new) (ap (λ b. if b then stay ++ i ∷ [] else stay) e ∙ sym now_is) (keeping_more items left before stay i seen new stays h parts is notes)
-
-pub keeping_goes : (items left before stay : List Item) (i : Item) (seen new : List ℕ → Bool) (stays : Bool)
-    → Keeping items left stay seen → left ≡ before ++ i ∷ [] → stays ≡ stays_before i.class seen → Notes i.class seen new
-    → stays ≡ false → Keeping items before stay new
-keeping_goes items left before stay i seen new stays h parts is notes e =
-    subst (λ l. Keeping items before l new) (ap (λ b. if b then stay ++ i ∷ [] else stay) e) (keeping_more items left before stay i seen new stays h parts is notes)
+    by : (t : Bool) → reverse (if t then stay ++ i ∷ [] else stay) ≡ (if t then i ∷ kept h.following else kept h.following)
+    by true = reverse-append stay (i ∷ []) ∙ ap (λ l. i ∷ l) h.stays
+    by false = h.stays
 
 -- none is left
 pub keeping_ends : (items left stay : List Item) (seen : List ℕ → Bool) → Keeping items left stay seen → left ≡ [] → reverse stay ≡ kept items

@@ -1,6 +1,7 @@
 -- How the code goes over its input, step by step: what links the code with the definitions. No public contract rests on these.
 pub mod Building
 pub mod Groups
+pub mod Hiding
 pub mod Known
 pub mod Looking
 pub mod Staying

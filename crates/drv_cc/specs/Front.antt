@@ -130,9 +130,11 @@ abbrev pub pipe_words : List Item → List (List ℕ)
 pipe_words items = if is_piped items then codes "-pipe" ∷ [] else []
 
 -- All that is added: each word is a switch, and the pipe a setting too.
+abbrev pub first_words : Surroundings → List Item → List (List ℕ)
+first_words around items = folder_words items ++ flat_map library_words (folders around.library_path) ++ wrapper_words items
+
 abbrev pub added_switches : Surroundings → List Item → List (List ℕ)
-added_switches around items =
-    folder_words items ++ flat_map library_words (folders around.library_path) ++ wrapper_words items ++ side_words items ++ debug_words items ++ check_words items
+added_switches around items = first_words around items ++ side_words items ++ debug_words items ++ check_words items
 
 abbrev pub added_pipe : List Item → List LineItem
 added_pipe items = map (alone (effect.TurnsOn setting.Pipe)) (pipe_words items)
@@ -161,8 +163,11 @@ is_switch _ = false
 abbrev pub switch_words : List Item → List (List ℕ)
 switch_words items = flat_map words_of (filter (λ i. is_switch i.part) items)
 
+abbrev pub dump_words : List Item → List (List ℕ)
+dump_words items = codes "-dumpdir" ∷ link_beginning items ∷ []
+
 abbrev pub collected : List Item → List (List ℕ)
-collected items = switch_words items ++ thread_words items ++ codes "-dumpdir" ∷ link_beginning items ∷ []
+collected items = switch_words items ++ thread_words items ++ dump_words items
 
 -- The pieces for the assembler, each between quotes: those of -Wa, between commas, and those of -Xassembler ("Assembler Options").
 abbrev pub piece_byte : ℕ → List ℕ
@@ -191,9 +196,11 @@ piece_variables items = variable (codes "COLLECT_AS_OPTIONS") (assembler_line it
 abbrev pub assembler_variables : List Item → List Variable
 assembler_variables items = if has_pieces items then piece_variables items else []
 
+abbrev pub variables_by : Surroundings → List (List ℕ) → List Variable
+variables_by around words = variable (codes "COLLECT_GCC") around.compiler ∷ variable (codes "COLLECT_GCC_OPTIONS") (quoted_line words) ∷ []
+
 abbrev pub compiler_variables : Surroundings → List Item → List Variable
-compiler_variables around items =
-    variable (codes "COLLECT_GCC") around.compiler ∷ variable (codes "COLLECT_GCC_OPTIONS") (quoted_line (collected items)) ∷ []
+compiler_variables around items = variables_by around (collected items)
 
 abbrev pub children : Surroundings → List Item → List Variable
 children around items =

@@ -2,12 +2,12 @@ use Rattle.drv_args.specs.declared.items.Item.{Item as LineItem}
 use Rattle.drv_args.specs.declared.option_table.Effect.TheVariants as effect
 use Rattle.drv_args.specs.declared.option_table.Effect.{Effect}
 use Rattle.drv_args.specs.declared.option_table.Setting.TheVariants as setting
-use Rattle.drv_cc.specs.Front.{added_pipe, assembler_variables, folder_words, folders, library_words, program_items, quoted_line, switch_words, thread_words, variable, wrapper_words}
+use Rattle.drv_cc.specs.Front.{added_pipe, assembler_variables, dump_words, first_words, program_items, switch_words, thread_words, variables_by}
 use Rattle.drv_cc.specs.Items.{is_among, item, items_of, same}
 use Rattle.drv_cc.specs.Kept.{has, kept, last_argument, refused_part}
 use Rattle.drv_cc.specs.Levels.{check_words, debug_words_of, debugged, no_debugging, toggled}
 use Rattle.drv_cc.specs.LineItems.{alone, effect_of, line_item}
-use Rattle.drv_cc.specs.SideFiles.{inputs, link_beginning, side_words, stops}
+use Rattle.drv_cc.specs.SideFiles.{inputs, side_words, stops}
 use Rattle.drv_cc.specs.Table.{texts}
 use Rattle.drv_cc.specs.declared.answer.Answer.TheVariants.{Refuse, Run}
 use Rattle.drv_cc.specs.declared.answer.Answer.{Answer}
@@ -98,24 +98,25 @@ debugged_with items given = debugged (settled (debugged no_debugging items)) giv
 abbrev pub levels_with : Debugging → List (List ℕ)
 levels_with d = debug_words_of d.level d.version
 
--- The items: the switches that were left and those that are given, and what is added to the line as it was read.
-abbrev pub switches_with : Surroundings → List Item → List Item → List (List ℕ)
-switches_with around items given =
-    folder_words (items ++ given) ++ flat_map library_words (folders around.library_path) ++ wrapper_words (items ++ given) ++ side_words items
-    ++ levels_with (debugged_with items given) ++ check_words (items ++ given)
+-- The items: the switches that were left and those that are given, and what is added to the line as it was read. `all` are the items of the
+-- line and those that are given.
+abbrev pub switches_with : Surroundings → List Item → List Item → List Item → List (List ℕ)
+switches_with around items given all = first_words around all ++ side_words items ++ levels_with (debugged_with items given) ++ check_words all
+
+abbrev pub added_with : Surroundings → List Item → List Item → List Item → List LineItem
+added_with around items given all =
+    program_items around all ++ map (alone effect.Switch) (switches_with around items given all) ++ added_pipe all
 
 abbrev pub items_with : Surroundings → List Item → List Item → List Item → List LineItem
 items_with around items left given =
-    filter_map line_item left ++ filter_map line_item given ++ program_items around (items ++ given)
-    ++ map (alone effect.Switch) (switches_with around items given) ++ added_pipe (items ++ given)
+    filter_map line_item left ++ filter_map line_item given ++ added_with around items given (items ++ given)
 
 -- The variables of a link's children.
 abbrev pub collected_with : List Item → List Item → List (List ℕ)
-collected_with items switches = switch_words switches ++ codes "-dumpdir" ∷ link_beginning items ∷ []
+collected_with items switches = switch_words switches ++ dump_words items
 
 abbrev pub variables_with : Surroundings → List Item → List Item → List Variable
-variables_with around items switches =
-    variable (codes "COLLECT_GCC") around.compiler ∷ variable (codes "COLLECT_GCC_OPTIONS") (quoted_line (collected_with items switches)) ∷ []
+variables_with around items switches = variables_by around (collected_with items switches)
 
 abbrev pub children_with : Surroundings → List Item → List Item → List Item → List Variable
 children_with around items left given =

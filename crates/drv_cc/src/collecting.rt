@@ -7,9 +7,8 @@ ghost use Rattle.std.specs.Prelude.{◌≡◌, ◌++◌, IfOk};
 use crate::giving::both;
 use crate::item::Item;
 use crate::keeping::has;
-use crate::leading::{link_beginning, stops};
-use crate::quoting::{add_assembler_variables, add_switches, add_variable, quoted_line};
-use crate::words::add_word;
+use crate::leading::stops;
+use crate::quoting::{add_assembler_variables, add_dump_words, add_switches, variables_by};
 use crate::{Surroundings, Variable};
 use drv_words::{Listing, Word};
 use std::alloc::{AllocError, Global};
@@ -24,8 +23,7 @@ fn collected_with(
 {
     let mut words = Listing::new(alloc);
     add_switches(switches, &mut words)?;
-    add_word(alloc, &mut words, b"-dumpdir")?;
-    words.push(link_beginning(alloc, items)?)?;
+    add_dump_words(alloc, items, &mut words)?;
     Ok(words)
 }
 
@@ -38,13 +36,8 @@ fn variables_with(
 ) -> Result<Listing<Variable>, AllocError>
     ensures { IfOk result (λ made. made ≡ variables_with around.now items.now switches.now) }
 {
-    let mut children = Listing::new(alloc);
-    let compiler = around.compiler.clone()?;
-    add_variable(alloc, b"COLLECT_GCC", compiler, &mut children)?;
     let words = collected_with(alloc, items, switches)?;
-    let options = quoted_line(alloc, words.as_slice())?;
-    add_variable(alloc, b"COLLECT_GCC_OPTIONS", options, &mut children)?;
-    Ok(children)
+    variables_by(alloc, around, words.as_slice())
 }
 
 /// The same with those of the pieces for the assembler.

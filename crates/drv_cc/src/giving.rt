@@ -1,15 +1,18 @@
 //! A line whose spec files give it options.
 
+ghost use Rattle.drv_args.specs.declared.option_table.Effect.TheVariants as added;
 ghost use Rattle.drv_cc.specs.Items.{items_of};
 ghost use Rattle.drv_cc.specs.Kept.{kept};
-ghost use Rattle.drv_cc.specs.SelfSpecs.{answer_with, front_with, given_items, given_refusals};
-ghost use Rattle.drv_cc.specs.SelfSpecs.{given_refused, is_late, refused_or_run_with, run_with};
-ghost use Rattle.drv_cc.specs.SelfSpecs.{items_with, seen, seen_items, switches_with};
+ghost use Rattle.drv_cc.specs.LineItems.{alone};
+ghost use Rattle.drv_cc.specs.SelfSpecs.{added_with, answer_with, front_with, given_items};
+ghost use Rattle.drv_cc.specs.SelfSpecs.{given_refusals, given_refused, is_late, items_with};
+ghost use Rattle.drv_cc.specs.SelfSpecs.{refused_or_run_with, run_with, seen, seen_items};
+ghost use Rattle.drv_cc.specs.SelfSpecs.{switches_with};
 ghost use Rattle.drv_cc.specs.SelfSpecs.{thread_item};
 ghost use Rattle.std.specs.List.{filter};
 ghost use Rattle.std.specs.Prelude.{◌≡◌, ◌++◌, IfOk, None, OnOk, map, not};
 
-use crate::adding::{LookedFor, add_path, add_thread_words};
+use crate::adding::add_thread_words;
 use crate::checks::add_check_words;
 use crate::classes::is;
 use crate::collecting::children_with;
@@ -19,13 +22,12 @@ use crate::item::Item;
 use crate::judging::refuse;
 use crate::keeping::kept;
 use crate::levels::add_levels_with;
-use crate::line_adding::{add_folder_words, add_pipe, add_program_items, add_switches};
+use crate::line_adding::{add_first_words, add_pipe, add_program_items, add_switches};
 use crate::line_items::add_kept;
 use crate::reading::items_of;
 use crate::sides::add_side_words;
 use crate::sources::inputs;
 use crate::table::{Part, Spelling};
-use crate::wrapping::add_wrapper_words;
 use crate::{Answer, Call, Refusal, Stages, Surroundings};
 use drv_words::{Listing, Word};
 use std::alloc::{AllocError, Global};
@@ -181,29 +183,58 @@ fn given_refusals(
     Ok(refused)
 }
 
-/// The words that are switches and follow the folders of programs.
-fn switches_with(
+/// Adds the words that are switches and follow the folders of programs. `all` are the items and
+/// those that are given.
+fn add_words_with(
     alloc: Global,
     around: &Surroundings,
     items: &[Item],
     given: &[Item],
-) -> Result<Listing<Word>, AllocError>
-    ensures { IfOk result (λ words. words ≡ switches_with around.now items.now given.now) }
+    all: &[Item],
+    words: &mut Listing<Word>,
+) -> Result<(), AllocError>
+    ensures { OnOk result (words.new
+        ≡ words.old ++ switches_with around.now items.now given.now all.now) }
+{
+    add_first_words(alloc, around, all, words)?;
+    add_side_words(alloc, items, words)?;
+    add_levels_with(alloc, items, given, words)?;
+    add_check_words(alloc, all, words)
+}
+
+/// Adds the switches that follow the folders of programs.
+fn add_switches_with(
+    alloc: Global,
+    around: &Surroundings,
+    items: &[Item],
+    given: &[Item],
+    all: &[Item],
+    made: &mut Listing<drv_args::Item>,
+) -> Result<(), AllocError>
+    ensures { OnOk result (made.new ≡ made.old
+        ++ map (alone added.Switch) (switches_with around.now items.now given.now all.now)) }
+{
+    let mut words = Listing::new(alloc);
+    add_words_with(alloc, around, items, given, all, &mut words)?;
+    add_switches(alloc, words.as_slice(), made)
+}
+
+/// Adds all that gcc's driver adds.
+fn add_with(
+    alloc: Global,
+    around: &Surroundings,
+    items: &[Item],
+    given: &[Item],
+    made: &mut Listing<drv_args::Item>,
+) -> Result<(), AllocError>
+    ensures { OnOk result (made.new ≡ made.old
+        ++ added_with around.now items.now given.now (items.now ++ given.now)) }
 {
     let all = both(alloc, items, given)?;
-    let mut words = Listing::new(alloc);
-    add_folder_words(alloc, all.as_slice(), &mut words)?;
-    add_path(
-        alloc,
-        LookedFor::Libraries,
-        &around.library_path,
-        &mut words,
-    )?;
-    add_wrapper_words(alloc, all.as_slice(), &mut words)?;
-    add_side_words(alloc, items, &mut words)?;
-    add_levels_with(alloc, items, given, &mut words)?;
-    add_check_words(alloc, all.as_slice(), &mut words)?;
-    Ok(words)
+    let all = all.as_slice();
+    add_program_items(alloc, around, all, made)?;
+    add_switches_with(alloc, around, items, given, all, made)?;
+    add_pipe(alloc, all, made)
 }
 
 /// The items of the driver's line for a line with these items, of whose switches these are left,
@@ -217,14 +248,10 @@ fn items_with(
 ) -> Result<Listing<drv_args::Item>, AllocError>
     ensures { IfOk result (λ made. made ≡ items_with around.now items.now left.now given.now) }
 {
-    let all = both(alloc, items, given)?;
-    let switches = switches_with(alloc, around, items, given)?;
     let mut made = Listing::new(alloc);
     add_kept(left, &mut made)?;
     add_kept(given, &mut made)?;
-    add_program_items(alloc, around, all.as_slice(), &mut made)?;
-    add_switches(alloc, switches.as_slice(), &mut made)?;
-    add_pipe(alloc, all.as_slice(), &mut made)?;
+    add_with(alloc, around, items, given, &mut made)?;
     Ok(made)
 }
 

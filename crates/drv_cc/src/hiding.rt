@@ -1,7 +1,8 @@
 //! Which switches of a line a spec text left, by the words that it writes for them.
 
+ghost use Rattle.drv_cc.specs.Code.Hiding.{left_after, live_item};
 ghost use Rattle.drv_cc.specs.SelfSpecs.{is_left, live, written, written_by, written_if};
-ghost use Rattle.std.specs.Prelude.{◌≡◌, IfOk, drop};
+ghost use Rattle.std.specs.Prelude.{◌≡◌, ◌++◌, IfOk, OnOk, drop};
 
 use crate::item::Item;
 use crate::line_items::effect_of;
@@ -65,8 +66,26 @@ fn after(left: &[Word], count: usize) -> &[Word]
     left.get(count..).unwrap_or(&[])
 }
 
+/// Adds an item if the words of a text left it, and gives the words that are left after it.
+fn keep_live<'l>(
+    alloc: Global,
+    item: &Item,
+    left: &'l [Word],
+    stay: &mut Listing<Item>,
+) -> Result<&'l [Word], AllocError>
+    ensures stays { OnOk result (stay.new ≡ stay.old ++ live_item item.now left.now) }
+    ensures left { IfOk result (λ rest. rest.now ≡ left_after item.now left.now) }
+{
+    let words = written(alloc, item)?;
+    if is_left(words.as_slice(), left) {
+        stay.push(item.clone()?)?;
+        return Ok(after(left, words.len()));
+    }
+    Ok(left)
+}
+
 /// The items that are no switches, and of the others those whose words are left.
-#[tactic(auto, using(crate::proofs::Left::one_left, crate::proofs::Left::one_hidden))]
+#[tactic(auto, using(crate::proofs::Left::one_more))]
 pub(crate) fn live(
     alloc: Global,
     items: &[Item],
@@ -77,11 +96,7 @@ pub(crate) fn live(
     let mut stay = Listing::new(alloc);
     let mut left = left;
     for item in items {
-        let words = written(alloc, item)?;
-        if is_left(words.as_slice(), left) {
-            stay.push(item.clone()?)?;
-            left = after(left, words.len());
-        }
+        left = keep_live(alloc, item, left, &mut stay)?;
     }
     Ok(stay)
 }

@@ -3,7 +3,7 @@
 ghost use Rattle.drv_cc.specs.Code.Known.{again, is_unknown};
 ghost use Rattle.drv_cc.specs.Front.{answer_of};
 ghost use Rattle.drv_cc.specs.Items.{items_of};
-ghost use Rattle.std.specs.Prelude.{◌≡◌, [], IfOk, List, None, ℕ};
+ghost use Rattle.std.specs.Prelude.{◌≡◌, ◌∷◌, ◌++◌, [], IfOk, List, None, OnOk, ℕ};
 
 use crate::fronting::answer_of;
 use crate::item::Item;
@@ -29,6 +29,19 @@ fn again(alloc: Global, known: &[u8], item: Item) -> Result<Item, AllocError>
         return Ok(item);
     }
     by_own_name(alloc, known, item.name.as_bytes())
+}
+
+/// Adds an item, by names of options.
+fn add_again(
+    alloc: Global,
+    known: &[u8],
+    item: Item,
+    items: &mut Listing<Item>,
+) -> Result<(), AllocError>
+    ensures { OnOk result (items.new ≡ items.old ++ again known.now item ∷ []) }
+{
+    items.push(again(alloc, known, item)?)?;
+    Ok(())
 }
 
 /// The items of a line of `gcc`: options with their arguments, files, and words that are neither.
@@ -67,7 +80,7 @@ impl Items {
     {
         let mut items = Listing::new(alloc);
         for item in self.items.into_vec() {
-            items.push(again(alloc, known, item)?)?;
+            add_again(alloc, known, item, &mut items)?;
         }
         Ok(Items { items })
     }

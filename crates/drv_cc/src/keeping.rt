@@ -1,6 +1,6 @@
 //! What a line has, and which of its items stay.
 
-ghost use Rattle.drv_cc.specs.Code.Staying.{Notes, is_seen, stays_before};
+ghost use Rattle.drv_cc.specs.Code.Staying.{Notes, is_seen, kept_before, stays_before};
 ghost use Rattle.drv_cc.specs.Kept.{has, has_input, is_input, kept, last_argument};
 ghost use Rattle.std.specs.Option.{option_map};
 ghost use Rattle.std.specs.Prelude.{◌≡◌, IfOk, OnOk, reverse};
@@ -60,8 +60,26 @@ fn note_class<'i>(seen: &mut HashSet<&'i Word>, class: &'i Word) -> Result<bool,
     Ok(seen.insert(class)?)
 }
 
+/// Adds an item if none after it, whose classes were noted before, is of its class, and notes its
+/// class.
+fn keep_item<'i>(
+    seen: &mut HashSet<&'i Word>,
+    item: &'i Item,
+    stay: &mut Vec<Item>,
+) -> Result<(), AllocError>
+    ensures kept { OnOk result (stay.new.items ≡ kept_before item.now
+        (is_seen seen.old.keys (λ k. k.now)) stay.old.items) }
+    ensures noted { OnOk result (Notes item.now.class (is_seen seen.old.keys (λ k. k.now))
+        (is_seen seen.new.keys (λ k. k.now))) }
+{
+    if note_class(seen, &item.class)? {
+        stay.push(item.clone()?)?;
+    }
+    Ok(())
+}
+
 /// The items that stay, the last one first.
-#[tactic(auto, using(crate::proofs::Staying::keeping_starts, crate::proofs::Staying::keeping_stays, crate::proofs::Staying::keeping_goes, crate::proofs::Staying::keeping_ends))]
+#[tactic(auto, using(crate::proofs::Staying::keeping_starts, crate::proofs::Staying::keeping_ends))]
 fn kept_backwards(alloc: Global, items: &[Item]) -> Result<Vec<Item>, AllocError>
     ensures { IfOk result (λ stay. reverse stay.items ≡ kept items.now) }
 {
@@ -69,9 +87,7 @@ fn kept_backwards(alloc: Global, items: &[Item]) -> Result<Vec<Item>, AllocError
     let mut stay = Vec::new(alloc);
     let mut left = items;
     while let [before @ .., item] = left {
-        if note_class(&mut seen, &item.class)? {
-            stay.push(item.clone()?)?;
-        }
+        keep_item(&mut seen, item, &mut stay)?;
         left = before;
     }
     Ok(stay)

@@ -1,8 +1,9 @@
 //! What is added to a line, as items of the driver's line.
 
 ghost use Rattle.drv_args.specs.declared.option_table.Effect.TheVariants as added;
-ghost use Rattle.drv_cc.specs.Front.{added_items, added_pipe, added_switches, folder_words};
-ghost use Rattle.drv_cc.specs.Front.{folders, has_folders, prefixes, program_items};
+ghost use Rattle.drv_cc.specs.Front.{added_items, added_pipe, added_switches, first_words};
+ghost use Rattle.drv_cc.specs.Front.{folder_words, folders, has_folders, prefixes, program_items};
+ghost use Rattle.drv_cc.specs.Front.{thread_words};
 ghost use Rattle.drv_cc.specs.LineItems.{alone, item_of};
 ghost use Rattle.std.specs.Prelude.{◌≡◌, ◌∷◌, ◌++◌, [], IfOk, OnOk, map};
 
@@ -115,7 +116,7 @@ fn has_folders(items: &[Item]) -> bool
 }
 
 /// Adds the option that start files are looked for in folders, where they are.
-pub(crate) fn add_folder_words(
+fn add_folder_words(
     alloc: Global,
     items: &[Item],
     words: &mut Listing<Word>,
@@ -144,27 +145,62 @@ pub(crate) fn add_program_items(
     }
 }
 
-/// The words that are switches and follow the folders of programs.
-fn added_switches(
+/// Adds the words of the folders and of the wrapper: `all` are the items with those that are given.
+pub(crate) fn add_first_words(
+    alloc: Global,
+    around: &Surroundings,
+    all: &[Item],
+    words: &mut Listing<Word>,
+) -> Result<(), AllocError>
+    ensures { OnOk result (words.new ≡ words.old ++ first_words around.now all.now) }
+{
+    add_folder_words(alloc, all, words)?;
+    add_path(alloc, LookedFor::Libraries, &around.library_path, words)?;
+    add_wrapper_words(alloc, all, words)
+}
+
+/// Adds the words that are switches and follow the folders of programs.
+fn add_switch_words(
     alloc: Global,
     around: &Surroundings,
     items: &[Item],
-) -> Result<Listing<Word>, AllocError>
-    ensures { IfOk result (λ words. words ≡ added_switches around.now items.now) }
+    words: &mut Listing<Word>,
+) -> Result<(), AllocError>
+    ensures { OnOk result (words.new ≡ words.old ++ added_switches around.now items.now) }
+{
+    add_first_words(alloc, around, items, words)?;
+    add_side_words(alloc, items, words)?;
+    add_debug_words(alloc, items, words)?;
+    add_check_words(alloc, items, words)
+}
+
+/// Adds the switches that follow the folders of programs.
+fn add_added_switches(
+    alloc: Global,
+    around: &Surroundings,
+    items: &[Item],
+    given: &mut Listing<drv_args::Item>,
+) -> Result<(), AllocError>
+    ensures { OnOk result (given.new
+        ≡ given.old ++ map (alone added.Switch) (added_switches around.now items.now)) }
 {
     let mut words = Listing::new(alloc);
-    add_folder_words(alloc, items, &mut words)?;
-    add_path(
-        alloc,
-        LookedFor::Libraries,
-        &around.library_path,
-        &mut words,
-    )?;
-    add_wrapper_words(alloc, items, &mut words)?;
-    add_side_words(alloc, items, &mut words)?;
-    add_debug_words(alloc, items, &mut words)?;
-    add_check_words(alloc, items, &mut words)?;
-    Ok(words)
+    add_switch_words(alloc, around, items, &mut words)?;
+    add_switches(alloc, words.as_slice(), given)
+}
+
+/// Adds the switches for threads.
+fn add_thread_switches(
+    alloc: Global,
+    items: &[Item],
+    given: &mut Listing<drv_args::Item>,
+) -> Result<(), AllocError>
+    ensures { OnOk result (given.new
+        ≡ given.old ++ map (alone added.Switch) (thread_words items.now)) }
+{
+    let mut words = Listing::new(alloc);
+    add_thread_words(alloc, items, &mut words)?;
+    add_switches(alloc, words.as_slice(), given)
 }
 
 /// Adds the pipe, where there is one.
@@ -194,11 +230,8 @@ pub(crate) fn add_items(
 ) -> Result<(), AllocError>
     ensures { OnOk result (given.new ≡ given.old ++ added_items around.now items.now) }
 {
-    let mut threads = Listing::new(alloc);
-    add_thread_words(alloc, items, &mut threads)?;
-    add_switches(alloc, threads.as_slice(), given)?;
+    add_thread_switches(alloc, items, given)?;
     add_program_items(alloc, around, items, given)?;
-    let switches = added_switches(alloc, around, items)?;
-    add_switches(alloc, switches.as_slice(), given)?;
+    add_added_switches(alloc, around, items, given)?;
     add_pipe(alloc, items, given)
 }

@@ -1,11 +1,12 @@
 //! The switches of a link as one text, for its children.
 
 ghost use Rattle.drv_cc.specs.Front.{assembler_line, assembler_variables, children, collected};
-ghost use Rattle.drv_cc.specs.Front.{compiler_variables, has_pieces, is_switch, piece_byte};
+ghost use Rattle.drv_cc.specs.Front.{compiler_variables, dump_words, has_pieces, is_switch};
+ghost use Rattle.drv_cc.specs.Front.{piece_byte, variables_by};
 ghost use Rattle.drv_cc.specs.Front.{piece_text, piece_variables, quoted, quoted_byte, quoted_line};
 ghost use Rattle.drv_cc.specs.Front.{quoted_pieces, switch_words, variable};
 ghost use Rattle.std.specs.List.{flat_map};
-ghost use Rattle.std.specs.Prelude.{◌≡◌, ◌∷◌, ◌++◌, [], IfOk, OnOk};
+ghost use Rattle.std.specs.Prelude.{◌≡◌, ◌∷◌, ◌++◌, [], IfOk, OnOk, codes};
 
 use crate::adding::add_thread_words;
 use crate::classes::is;
@@ -14,6 +15,7 @@ use crate::keeping::has;
 use crate::leading::{link_beginning, stops};
 use crate::reading::rest_after;
 use crate::table::Part;
+use crate::words::add_word;
 use crate::{Surroundings, Variable};
 use drv_words::{Listing, Word};
 use std::alloc::{AllocError, Global};
@@ -41,7 +43,7 @@ fn quote(word: &[u8], text: &mut Word) -> Result<(), AllocError>
 }
 
 /// Words between single quotes, with a blank between two.
-pub(crate) fn quoted_line(alloc: Global, words: &[Word]) -> Result<Word, AllocError>
+fn quoted_line(alloc: Global, words: &[Word]) -> Result<Word, AllocError>
     ensures { IfOk result (λ text. text ≡ quoted_line words.now) }
 {
     let mut text = Word::empty(alloc);
@@ -75,6 +77,20 @@ pub(crate) fn add_switches(items: &[Item], words: &mut Listing<Word>) -> Result<
     Ok(())
 }
 
+/// Adds the beginning of a link's dumps, as an option with its argument.
+pub(crate) fn add_dump_words(
+    alloc: Global,
+    items: &[Item],
+    words: &mut Listing<Word>,
+) -> Result<(), AllocError>
+    ensures { OnOk result (words.new ≡ words.old ++ dump_words items.now) }
+{
+    let beginning = link_beginning(alloc, items)?;
+    add_word(alloc, words, b"-dumpdir")?;
+    words.push(beginning)?;
+    Ok(())
+}
+
 /// The words that the compiler is called again with.
 fn collected(alloc: Global, items: &[Item]) -> Result<Listing<Word>, AllocError>
     ensures { IfOk result (λ words. words ≡ collected items.now) }
@@ -82,8 +98,7 @@ fn collected(alloc: Global, items: &[Item]) -> Result<Listing<Word>, AllocError>
     let mut words = Listing::new(alloc);
     add_switches(items, &mut words)?;
     add_thread_words(alloc, items, &mut words)?;
-    words.push(Word::from_bytes(alloc, b"-dumpdir")?)?;
-    words.push(link_beginning(alloc, items)?)?;
+    add_dump_words(alloc, items, &mut words)?;
     Ok(words)
 }
 
@@ -161,7 +176,7 @@ fn has_pieces(items: &[Item]) -> bool
 }
 
 /// Adds a variable.
-pub(crate) fn add_variable(
+fn add_variable(
     alloc: Global,
     name: &[u8],
     value: Word,
@@ -200,6 +215,46 @@ pub(crate) fn add_assembler_variables(
     }
 }
 
+/// Adds the variable of the compiler that is called again.
+fn add_compiler(
+    alloc: Global,
+    around: &Surroundings,
+    children: &mut Listing<Variable>,
+) -> Result<(), AllocError>
+    ensures { OnOk result (children.new
+        ≡ children.old ++ variable (codes "COLLECT_GCC") around.now.compiler ∷ []) }
+{
+    let compiler = around.compiler.clone()?;
+    add_variable(alloc, b"COLLECT_GCC", compiler, children)
+}
+
+/// Adds the variable of the words that the compiler is called again with.
+fn add_options(
+    alloc: Global,
+    words: &[Word],
+    children: &mut Listing<Variable>,
+) -> Result<(), AllocError>
+    ensures { OnOk result (children.new ≡ children.old
+        ++ variable (codes "COLLECT_GCC_OPTIONS") (quoted_line words.now) ∷ []) }
+{
+    let options = quoted_line(alloc, words)?;
+    add_variable(alloc, b"COLLECT_GCC_OPTIONS", options, children)
+}
+
+/// The variables by which the compiler is called again with these words.
+pub(crate) fn variables_by(
+    alloc: Global,
+    around: &Surroundings,
+    words: &[Word],
+) -> Result<Listing<Variable>, AllocError>
+    ensures { IfOk result (λ made. made ≡ variables_by around.now words.now) }
+{
+    let mut children = Listing::new(alloc);
+    add_compiler(alloc, around, &mut children)?;
+    add_options(alloc, words, &mut children)?;
+    Ok(children)
+}
+
 /// The variables by which the compiler is called again.
 fn compiler_variables(
     alloc: Global,
@@ -208,13 +263,8 @@ fn compiler_variables(
 ) -> Result<Listing<Variable>, AllocError>
     ensures { IfOk result (λ made. made ≡ compiler_variables around.now items.now) }
 {
-    let mut children = Listing::new(alloc);
-    let compiler = around.compiler.clone()?;
-    children.push(variable(alloc, b"COLLECT_GCC", compiler)?)?;
     let words = collected(alloc, items)?;
-    let options = quoted_line(alloc, words.as_slice())?;
-    children.push(variable(alloc, b"COLLECT_GCC_OPTIONS", options)?)?;
-    Ok(children)
+    variables_by(alloc, around, words.as_slice())
 }
 
 /// The variables of a link's children.

@@ -3,10 +3,11 @@
 ghost use Rattle.drv_cc.specs.Code.Building.{Notes, row_shown, shown, start_shown};
 ghost use Rattle.drv_cc.specs.Code.Known.{by_names};
 ghost use Rattle.drv_cc.specs.Items.{begins, beyond, first_row, is_among, is_file, items_of};
-ghost use Rattle.drv_cc.specs.Items.{known_item, machine_item, machine_name, paired, renamed};
+ghost use Rattle.drv_cc.specs.Items.{known_item, machine_item, machine_name, paired, plain, renamed};
 ghost use Rattle.drv_cc.specs.Items.{start_of, start_renamed, with_rest};
 ghost use Rattle.drv_cc.specs.Table.{ignored, texts};
-ghost use Rattle.std.specs.Prelude.{◌≡◌, IfOk, None, codes, drop, length};
+ghost use Rattle.drv_cc.specs.declared.table.Part.TheVariants as lacking;
+ghost use Rattle.std.specs.Prelude.{◌≡◌, ◌∷◌, ◌++◌, [], IfOk, None, OnOk, codes, drop, length};
 
 use crate::classes::{is_ignored, paired};
 use crate::item::Item;
@@ -198,6 +199,31 @@ fn note_word(
     }
 }
 
+/// Notes words, and gives the row that takes a word after them.
+fn note_words(
+    alloc: Global,
+    known: &[u8],
+    words: &[Word],
+    items: &mut Listing<Item>,
+) -> Result<Option<Row>, AllocError>
+    ensures { IfOk result (λ wanting. items.new ++ items_of known.now (row_shown wanting) []
+        ≡ items.old ++ items_of known.now None words.now) }
+{
+    let mut wanting = None;
+    for word in words {
+        wanting = note_word(alloc, known, items, wanting, word.as_bytes())?;
+    }
+    Ok(wanting)
+}
+
+/// Adds the option of a row, which lacks its argument.
+fn add_lacking(alloc: Global, row: Row, items: &mut Listing<Item>) -> Result<(), AllocError>
+    ensures { OnOk result (items.new ≡ items.old ++ plain lacking.Lacking row.option.now ∷ []) }
+{
+    items.push(Item::plain(alloc, Part::Lacking, row.option)?)?;
+    Ok(())
+}
+
 /// The items of a line.
 pub(crate) fn items_of(
     alloc: Global,
@@ -207,12 +233,8 @@ pub(crate) fn items_of(
     ensures { IfOk result (λ items. items ≡ items_of known.now None words.now) }
 {
     let mut items = Listing::new(alloc);
-    let mut wanting = None;
-    for word in words {
-        wanting = note_word(alloc, known, &mut items, wanting, word.as_bytes())?;
-    }
-    if let Some(row) = wanting {
-        items.push(Item::plain(alloc, Part::Lacking, row.option)?)?;
+    if let Some(row) = note_words(alloc, known, words, &mut items)? {
+        add_lacking(alloc, row, &mut items)?;
     }
     Ok(items)
 }

@@ -2,7 +2,7 @@ use Rattle.drv_cc.specs.Items.{same}
 use Rattle.drv_cc.specs.Kept.{kept}
 use Rattle.drv_cc.specs.declared.item.Item.{Item}
 use Rattle.std.specs.List.{list_any}
-use Rattle.std.specs.Prelude.{◌≡◌, ◌<◌, ◌&&◌, ◌||◌, Bool, List, ◌++◌, length, nat_lt, not, reverse, ℕ}
+use Rattle.std.specs.Prelude.{◌≡◌, ◌<◌, ◌&&◌, ◌||◌, Bool, List, [], ◌∷◌, ◌++◌, if◌then◌else◌, length, nat_lt, not, reverse, ℕ}
 
 -- How the code goes over items from the last one on, with the classes of those that it has seen. Only private clauses cite it.
 
@@ -12,6 +12,10 @@ is_seen keys class_of class = list_any (λ k. same class (class_of k)) keys
 
 abbrev pub stays_before : List ℕ → (List ℕ → Bool) → Bool
 stays_before class seen = not (nat_lt 0 (length class) && seen class)
+
+-- the items that stay with one more, by what was seen of those after it
+abbrev pub kept_before : Item → (List ℕ → Bool) → List Item → List Item
+kept_before i seen stay = if stays_before i.class seen then stay ++ i ∷ [] else stay
 
 -- one more class was seen, if it is one
 abbrev pub Notes : List ℕ → (List ℕ → Bool) → (List ℕ → Bool) → Type 0

@@ -1,0 +1,10 @@
+use Rattle.drv_cc.proofs.quoting.add_options.Goals as goal
+use Rattle.drv_cc.specs.Front.{variable}
+use Rattle.std.proofs.Common.{[], ◌∷◌, ◌++◌, ◌∙◌, ap, codes}
+use Rattle.std.proofs.lemmas.Result.{on_ok_weaker}
+
+pub returns : goal.returns
+returns c =
+    on_ok_weaker c.add_variable.result
+    (λ is. is ∙ ap (λ value. c.args.children.now ++ variable (codes "COLLECT_GCC_OPTIONS") value ∷ []) c.in_ok-options.ensures)
+    c.add_variable.ensures
