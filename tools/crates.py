@@ -40,12 +40,27 @@ class Crates:
         self.rooms = f"{self.root}/.git/rooms" if os.path.isdir(f"{self.root}/.git") else f"{self.root}/.rooms"
         with open(f"{self.root}/crates.txt", encoding="utf-8") as file:
             self.lines = {re.split(r"[\s:]", line)[0]: line for line in file if line.partition("#")[0].strip()}
-        words = {it: re.split(r"[\s,]+", line.partition("#")[0].partition(":")[2]) for it, line in self.lines.items()}
+        words = {it: re.split(r"[\s,]+", line.partition("#")[0].partition(":")[2].strip()) for it, line in self.lines.items()}
         self.uses = {it: [other for other in words[it] if other in words] for it in words}
+        self.of_kit = {it: [other for other in words[it] if other and other not in words] for it in words}
         self.names = sorted(self.uses, key=lambda it: len(self.below(it)))
+
+    @property
+    def kit(self):
+        """The folder of the kit."""
+        return os.path.dirname(os.path.dirname(os.path.realpath(shutil.which("rt"))))
 
     def folder(self, name):
         return f"{self.root}/crates/{name}"
+
+    def built(self, name):
+        """The folder with a crate's built library."""
+        return f"{self.folder(name)}/out/rlib"
+
+    def was_built(self, name, since):
+        """Whether a crate's library was built since a time. (rt ci leaves no stamp, and puts an older library back in the place of its own.)"""
+        library = f"{self.built(name)}/{name}.rlib"
+        return os.path.isdir(library) and os.stat(library).st_mtime >= since
 
     def is_program(self, name):
         return os.path.isfile(f"{self.folder(name)}/src/main.rt")
@@ -158,28 +173,22 @@ class Room:
         if os.path.isdir(f"{self.crates.folder(name)}/{part}"):
             shutil.copytree(f"{self.crates.folder(name)}/{part}", f"{self.room}/crates/{name}/{part}", copy_function=link_or_copy)
 
-    def check(self, texts):
-        """Has rt check the crate with these texts in place of its own, over the work that is kept of it and nothing else."""
-        shutil.rmtree(self.folder)
-        for part in (*TEXTS, "out/incremental"):
-            self.take(self.name, part)
-        for path, text in texts.items():
-            # (the file is a link)
-            os.remove(f"{self.folder}/{path}")
-            with open(f"{self.folder}/{path}", "w", encoding="utf-8") as file:
-                file.write(text)
-        return self.rt("check", "--jobs", "1")
-
     def rt(self, *words):
         """Runs rt in the crate's folder, and gives its exit status and what it said."""
-        with tempfile.TemporaryFile("w+", errors="replace") as said:
-            ran = Runs.begin(["rt", *words], cwd=self.folder, stdin=subprocess.DEVNULL, stdout=said, stderr=said)
-            _, status, used = os.wait4(ran.pid, 0)
-            Runs.end(ran)
-            ran.returncode = os.waitstatus_to_exitcode(status)
-            self.seconds += used.ru_utime + used.ru_stime
-            said.seek(0)
-            return ran.returncode, said.read()
+        status, said, seconds = run_in(self.folder, ["rt", *words])
+        self.seconds += seconds
+        return status, said
+
+
+def run_in(folder, words):
+    """Runs a command in a folder. Gives its exit status, what it said, and the processor seconds that it took."""
+    with tempfile.TemporaryFile("w+", errors="replace") as said:
+        ran = Runs.begin(words, cwd=folder, stdin=subprocess.DEVNULL, stdout=said, stderr=said)
+        _, status, used = os.wait4(ran.pid, 0)
+        Runs.end(ran)
+        ran.returncode = os.waitstatus_to_exitcode(status)
+        said.seek(0)
+        return ran.returncode, said.read(), used.ru_utime + used.ru_stime
 
 
 @dataclass

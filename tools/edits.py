@@ -6,8 +6,9 @@ check: its report tells a function's own goal that is not proved from a call of 
 
 import os
 import re
-from dataclasses import dataclass
+from dataclasses import dataclass, replace
 
+TYPE = re.compile(r"^(?:pub(?:\([^)]*\))? )?(?:struct|enum) (\w+)", re.M)
 HEAD = re.compile(r"( *)(?:pub(?:\([^)]*\))? )?(?:const )?(?:unsafe )?fn (\w+)")
 # A goal of a function's, by the place in the text, precedes the line of that function.
 GOAL = re.compile(r"note: (?:\./)?(src/\S+?):(\d+):\d+: it is not proved (.*)")
@@ -30,17 +31,20 @@ def text_of(path):
 
 @dataclass(frozen=True)
 class Function:
-    """A function of a file, with the trait and the type of the impl that it is in, whether it is `pub`, and its lines (from 1). In the
-    layout of rt fmt those of its body begin after the contract and end with the first closing brace below the `fn`."""
+    """A function of a file, with the trait and the type of the impl that it is in, whether that trait has arguments, whether the function is
+    `pub`, its lines (from 1), and its module. In the layout of rt fmt the lines of its body begin after the contract and end with the first
+    closing brace below the `fn`."""
 
     file: str
     trait: str
     type: str
+    has_arguments: bool
     name: str
     is_pub: bool
     head: int
     opens: int
     closes: int
+    module: str
 
     @property
     def owner(self):
@@ -52,18 +56,21 @@ class Function:
 
     def proof(self):
         """The folder of proofs/ that is this function's."""
-        module = re.sub(r"(/mod)?\.rt$", "", self.file[len("src/") :])
-        parts = [it for it in (module if module not in ("lib", "main") else "", self.owner, self.name) if it]
-        return "/".join(parts)
+        return "/".join(it for it in (self.module, self.owner, self.name) if it)
+
+    def path(self):
+        """What the prover knows it by: its path, or its module's or type's if its trait has arguments, which the prover's name has too."""
+        return (self.module or self.type if self.has_arguments else self.proof()).replace("/", "::")
 
 
 def impl_of(block):
-    """The trait, if there is one, and the type of an impl, without their paths and parameters."""
+    """The trait, if there is one, and the type of an impl, without their paths and parameters; and whether the trait has arguments."""
     words = re.sub(r"\bwhere\b.*|\{.*", "", block)
+    has_arguments = bool(re.search(r"\w<.*> for ", words))
     while re.search(r"<[^<>]*>", words):
         words = re.sub(r"<[^<>]*>", "", words)
     names = [it.split("::")[-1].lstrip("&") for it in words.split() if it != "for"]
-    return names if len(names) == 2 else ["", names[0]]
+    return (*names, has_arguments) if len(names) == 2 else ("", names[0], False)
 
 
 def closing_line(lines, at, indent):
@@ -78,13 +85,19 @@ def closing_line(lines, at, indent):
     return None
 
 
+def module_of(file):
+    """The path of a file's module, with slashes."""
+    path = re.sub(r"(/mod)?\.rt$", "", file[len("src/") :])
+    return "" if path in ("lib", "main") else path
+
+
 def functions_of(file, text):
-    lines, found, block = text.split("\n"), [], ("", "")
+    lines, found, block = text.split("\n"), [], ("", "", False)
     for at, line in enumerate(lines):
         if line.startswith("impl"):
             block = impl_of(line[4:])
         elif line == "}":
-            block = "", ""
+            block = "", "", False
         head = HEAD.match(line)
         closes = closing_line(lines, at, head[1]) if head else None
         if closes is not None:
@@ -93,19 +106,43 @@ def functions_of(file, text):
             last = next(i for i in range(at, closes + 1) if "{" in lines[i])
             opens = next(alone, last + lines[last].endswith("{"))
             is_pub = line.lstrip().startswith("pub ")
-            found.append(Function(file, *block, head[2], is_pub, at + 1, opens + 1, closes + 1))
+            found.append(Function(file, *block, head[2], is_pub, at + 1, opens + 1, closes + 1, module_of(file)))
     return found
+
+
+def files_below(folder):
+    return sorted(f"{at}/{it}" for at, _, names in os.walk(folder) for it in names)
+
+
+def functions_in(folder, texts, files=()):
+    """The functions of a crate, or of some of its files, with these texts in the place of its own. The prover has a type's methods in the
+    module that declares the type."""
+    known = [os.path.relpath(it, folder) for it in files_below(f"{folder}/src")]
+    declared = [(name, module_of(it)) for it in known for name in TYPE.findall(text_of(f"{folder}/{it}"))]
+    homes = {name: {module for other, module in declared if other == name} for name, _ in declared}
+    found = [it for file in files or known for it in functions_of(file, texts.get(file) or text_of(f"{folder}/{file}"))]
+    return [replace(it, module=min(homes[it.type])) if not it.trait and len(homes.get(it.type, ())) == 1 else it for it in found]
+
+
+def same_at_end(old, new):
+    """How many lines at the end of two texts are the same, but for the first line."""
+    pairs = list(zip(reversed(old[1:]), reversed(new[1:])))
+    return next((at for at, (one, other) in enumerate(pairs) if one != other), len(pairs))
 
 
 class Edit:
     """The public calls whose meaning it turns, and pairs of texts, each with its file: a text that is there once, and the one
-    that replaces it."""
+    that replaces it. Its places are the functions whose bodies it changes, or those that must refuse it if it changes anything else."""
 
     def __init__(self, path, folder):
-        self.path, self.folder, self.calls, self.pairs = path, folder, [], []
+        self.path, self.folder, self.calls, self.pairs, self.judged_by = path, folder, [], [], []
         self.read()
         self.texts, self.why = self.applied({})
-        self.places = None if self.why else self.changed_functions()
+        self.places = set() if self.why else self.changed_functions()
+        self.is_inside = bool(self.places)
+        if not self.why and not self.is_inside:
+            self.places = self.named_functions()
+            self.why = "" if self.places else "it changes what is in no function's body, and no line 'by' names a function that must refuse it"
 
     def read(self):
         """Takes the lines of its file; those of one kind that follow each other are the lines of one text."""
@@ -115,6 +152,8 @@ class Edit:
             rest = rest.removeprefix(" ")
             if key == "of":
                 self.calls += rest.replace(",", " ").split()
+            elif key == "by":
+                self.judged_by.append(rest.strip())
             elif key == "file":
                 file = rest.strip()
             elif key == "old":
@@ -136,16 +175,21 @@ class Edit:
             texts[file] = text.replace(old, new)
         return texts, "" if self.pairs else "it has no pair of old and new"
 
+    def named_functions(self):
+        """The functions that the edit's lines 'by' name, by file, owner and name; none if there is no such line."""
+        return {at_place(it) for it in functions_in(self.folder, {}) if it.proof().replace("/", "::") in self.judged_by}
+
     def changed_functions(self):
         """The functions whose bodies hold the edit, by file, owner and name; none if it is anywhere else."""
         places, texts = set(), {}
         for file, old, new in self.pairs:
             text = texts.get(file) or text_of(f"{self.folder}/{file}")
             first = text.count("\n", 0, text.index(old)) + 1
-            inside = [it for it in functions_of(file, text) if it.opens <= first <= it.closes] if file.startswith("src/") else []
+            last = first + old.count("\n") - same_at_end(old.split("\n"), new.split("\n"))
+            inside = [it for it in functions_of(file, text) if it.opens <= first and last <= it.closes] if file.startswith("src/") else []
             if not inside or HEAD.search(new):
-                return None
-            places.add((file, inside[0].owner, inside[0].name))
+                return set()
+            places.add(at_place(inside[0]))
             texts[file] = text.replace(old, new)
         return places
 
@@ -153,7 +197,7 @@ class Edit:
 def is_read(said, texts):
     """Whether a check could read the texts, so that the prover judged them."""
     errors = [it for it in map(UNREAD.match, said.split("\n")) if it and (it[1] in texts or it[1].startswith(("src/", "specs/")))]
-    return bool(re.search(r"^logic=", said, re.M)) and not any(OF_TEXT.search(re.sub(r"`[^`]*`", "", it[2])) for it in errors)
+    return bool(re.search(r"^(logic|only)=", said, re.M)) and not any(OF_TEXT.search(re.sub(r"`[^`]*`", "", it[2])) for it in errors)
 
 
 @dataclass
@@ -205,11 +249,19 @@ def outdated_proof(said):
     return next((it[1].replace("+", "") for it in errors if OF_NAMES.search(it[2])), None)
 
 
-def refused_in(said, texts, places):
-    """A goal that a check of these texts says is lost by one of the functions at these places, where there is one."""
-    functions = [it for file in {file for file, _, _ in places} for it in functions_of(file, texts[file]) if (file, it.owner, it.name) in places]
-    hits = [it for it in lost_goals(said) for function in functions if it.is_of(function)]
-    return hits[0] if hits else None
+def at_place(function):
+    """A function's place in a crate: its file, owner and name."""
+    return function.file, function.owner, function.name
+
+
+def at_places(folder, texts, places):
+    """The functions at these places of a crate, with the lines that they have in these texts."""
+    return [it for it in functions_in(folder, texts, {file for file, _, _ in places}) if at_place(it) in places]
+
+
+def lost_in(said, functions):
+    """The goals of these functions that a check says are lost."""
+    return [it for it in lost_goals(said) if any(it.is_of(other) for other in functions)]
 
 
 def call_cycles(texts):
