@@ -1,0 +1,2 @@
+-- How the code finds what an option takes. No public contract rests on these.
+pub mod Wanting

@@ -1,0 +1,13 @@
+use Rattle.drv_args.specs.declared.fault.ArgsFault.TheVariants.{Memory, MissingArgument}
+use Rattle.drv_args.specs.declared.fault.ArgsFault.{ArgsFault}
+use Rattle.std.specs.Prelude.{Bool, false, true}
+
+-- The refusal of a line of one word: whether the word is an option that lacks its argument, and whether it is lack of memory.
+
+abbrev pub is_missing : ArgsFault → Bool
+is_missing (MissingArgument word) = true
+is_missing fault = false
+
+abbrev pub is_memory : ArgsFault → Bool
+is_memory Memory = true
+is_memory fault = false

@@ -1,0 +1,47 @@
+//! A line without one of its parts.
+
+ghost use Rattle.drv_why.specs.Parts.{words_before, words_behind, without};
+ghost use Rattle.std.specs.Prelude.{◌≡◌, ◌++◌, IfOk, OnOk};
+
+use crate::parting::Part;
+use drv_words::{Listing, Word};
+use std::alloc::{AllocError, Global};
+
+/// Adds words.
+fn push_all(to: &mut Listing<Word>, words: &[Word]) -> Result<(), AllocError>
+    ensures { OnOk result (to.new ≡ to.old ++ words.now) }
+{
+    for word in words {
+        to.push(word.clone()?)?;
+    }
+    Ok(())
+}
+
+/// The words before a place.
+pub(crate) fn words_before(words: &[Word], place: usize) -> &[Word]
+    ensures { result.now ≡ words_before place words.now }
+{
+    if place < words.len() {
+        &words[..place]
+    } else {
+        words
+    }
+}
+
+/// The words from a place on.
+pub(crate) fn words_behind(words: &[Word], place: usize) -> &[Word]
+    ensures { result.now ≡ words_behind place words.now }
+{
+    words.get(place..).unwrap_or(&[])
+}
+
+/// The words of a line without those of a part.
+pub fn without(alloc: Global, line: &[Word], part: Part) -> Result<Listing<Word>, AllocError>
+    ensures { IfOk result (λ words. words ≡ without line.now part) }
+{
+    let mut words = Listing::new(alloc);
+    push_all(&mut words, words_before(line, part.first))?;
+    let rest = words_behind(line, part.first);
+    push_all(&mut words, words_behind(rest, part.count))?;
+    Ok(words)
+}

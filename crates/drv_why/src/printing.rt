@@ -1,0 +1,38 @@
+//! A part of a line as text.
+
+ghost use Rattle.drv_words.specs.Bytes.{space};
+ghost use Rattle.drv_words.specs.Printed.{quoted, words_text};
+ghost use Rattle.drv_why.specs.Parts.{part_words};
+ghost use Rattle.std.specs.Prelude.{◌≡◌, ◌∷◌, ◌++◌, IfOk, OnOk};
+
+use crate::leaving_out::{words_before, words_behind};
+use crate::parting::Part;
+use drv_words::{Word, quote};
+use std::alloc::{AllocError, Global};
+
+/// Adds a word after a space, as the driver prints it.
+fn push_shown(alloc: Global, text: &mut Word, word: &Word) -> Result<(), AllocError>
+    ensures { OnOk result (text.new ≡ text.old ++ space ∷ quoted word.now) }
+{
+    text.push(b' ')?;
+    text.extend_from_slice(quote(alloc, word)?.as_bytes())
+}
+
+/// Words, each after a space.
+fn words_text(alloc: Global, words: &[Word]) -> Result<Word, AllocError>
+    ensures { IfOk result (λ text. text ≡ words_text words.now) }
+{
+    let mut text = Word::empty(alloc);
+    for word in words {
+        push_shown(alloc, &mut text, word)?;
+    }
+    Ok(text)
+}
+
+/// The words of a part of a line, each after a space, as the driver prints the words of a plan.
+pub fn part_text(alloc: Global, line: &[Word], part: Part) -> Result<Word, AllocError>
+    ensures { IfOk result (λ text. text ≡ words_text (part_words line.now part)) }
+{
+    let rest = words_behind(line, part.first);
+    words_text(alloc, words_before(rest, part.count))
+}
