@@ -3,6 +3,7 @@ mod Differences
 mod FilesChecked
 mod Outcomes
 mod Plans
+mod Reasons
 mod Runs
 mod Told
 mod Translations

@@ -1,4 +1,4 @@
-use Rattle.gdrv_specs.specs.declared.calling.Call.TheVariants.{After, Ask, Check, Differ, Plan, Translate}
+use Rattle.gdrv_specs.specs.declared.calling.Call.TheVariants.{After, Ask, Check, Differ, Explain, Plan, Translate}
 use Rattle.gdrv_specs.specs.declared.calling.Call.{Call}
 use Rattle.gdrv_specs.specs.declared.calling.CallFault.TheVariants.{MissingAnswer, MissingFile, NoCommand, NoFiles, NotOneFile, NotTwoFiles, TooManyAnswers, UnknownCommand, UnknownOption}
 use Rattle.gdrv_specs.specs.declared.calling.CallFault.{CallFault}
@@ -22,6 +22,7 @@ command_named word =
     else if pointwise nat_eq word (codes "translate") then Some command.Translate
     else if pointwise nat_eq word (codes "diff") then Some command.Differ
     else if pointwise nat_eq word (codes "check") then Some command.Check
+    else if pointwise nat_eq word (codes "why") then Some command.Why
     else if pointwise nat_eq word (codes "--help") then Some (command.Ask Help)
     else if pointwise nat_eq word (codes "--version") then Some (command.Ask Version) else None
 
@@ -122,6 +123,7 @@ asked_by word words (Some command.After) = run_asked (cut_from no_words words)
 asked_by word words (Some command.Translate) = translation_asked words
 asked_by word words (Some command.Differ) = difference_asked words
 asked_by word words (Some command.Check) = check_asked (requested_from no_request words)
+asked_by word words (Some command.Why) = Ok (Explain words)
 
 abbrev pub call_of : List (List ℕ) → Result Call CallFault
 call_of [] = Err NoCommand

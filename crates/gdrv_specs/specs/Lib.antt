@@ -5,6 +5,7 @@ pub mod Differences
 pub mod Forms
 pub mod Outcomes
 pub mod Plans
+pub mod Reasons
 pub mod Requests
 pub mod Runs
 pub mod Told

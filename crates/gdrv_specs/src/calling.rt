@@ -38,6 +38,8 @@ pub enum Call {
     Differ(Comparison),
     /// What is found in spec files.
     Check(Request),
+    /// What each part of a line changes.
+    Explain(Listing<Word>),
 }
 
 /// Why a call asks for nothing.
@@ -85,6 +87,7 @@ enum Command {
     Translate,
     Differ,
     Check,
+    Why,
 }
 
 /// The most answers that a call gives ahead.
@@ -108,6 +111,9 @@ fn command_named(word: &[u8]) -> Option<Command>
     }
     if word == b"check".as_slice() {
         return Some(Command::Check);
+    }
+    if word == b"why".as_slice() {
+        return Some(Command::Why);
     }
     if word == b"--help".as_slice() {
         return Some(Command::Ask(Question::Help));
@@ -299,6 +305,7 @@ pub fn call_of(alloc: Global, args: Listing<Word>) -> Result<Call, CallFault>
         Some(Command::Translate) => translation_asked(words),
         Some(Command::Differ) => difference_asked(alloc, words),
         Some(Command::Check) => check_of_words(alloc, words.as_slice()),
+        Some(Command::Why) => Ok(Call::Explain(Listing::from_vec(words))),
         None => Err(CallFault::UnknownCommand(first)),
     }
 }

@@ -146,7 +146,11 @@ fn dumps_difference(
 }
 
 /// What differs between two works: between their plans, or between the texts of two dumps.
-fn difference_in(alloc: Global, work: &Work, other: &Work) -> Result<Option<Word>, AllocError>
+pub(crate) fn difference_in(
+    alloc: Global,
+    work: &Work,
+    other: &Work,
+) -> Result<Option<Word>, AllocError>
     ensures { IfOk result (λ text. text ≡ difference_in work.now other.now) }
 {
     let found = dumps_difference(alloc, dump_of(work), dump_of(other))?;

@@ -9,6 +9,7 @@ Usage: gdrv-specs check [--json] [-Werror] [-Wno-NAME]... [--over FILE]... FILE.
        gdrv-specs after LINE... [--fail PLACE=ANSWER]...
        gdrv-specs translate FILE
        gdrv-specs diff FILE FILE [-- LINE...]
+       gdrv-specs why LINE...
 gdrv-specs prints what gdrv would do with a line. It starts nothing and makes no
 file.
 
@@ -25,6 +26,7 @@ file.
   diff            print what differs between the commands of the line with the
                   first spec FILE and with the second; without LINE, what
                   differs between the texts
+  why             print what each option and each file of the line changes
 
 The words of LINE are those of gdrv, -specs=FILE among them. The manual page
 gdrv-specs(1) says more.

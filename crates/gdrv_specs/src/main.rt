@@ -9,6 +9,7 @@ mod calling;
 mod checks;
 mod cutting;
 mod differing;
+mod explaining;
 mod forms;
 mod help;
 mod outcome;
@@ -24,6 +25,7 @@ use differing::{Comparison, tell_difference};
 use drv_run::Ending;
 use drv_system::{HostSystem, Reporter, arguments, clock_seed, complain};
 use drv_words::{Listing, Word};
+use explaining::tell_why;
 use forms::Form;
 use help::Question;
 use outcome::Outcome;
@@ -98,6 +100,13 @@ fn compare(rt: &HostRuntime, comparison: &Comparison) -> Result<Outcome, AllocEr
     Ok(tell_difference(rt.alloc(), &mut sys, comparison, seed))
 }
 
+/// Tells what each part of a line changes to this process's user.
+fn explain(rt: &HostRuntime, line: Listing<Word>) -> Result<Outcome, AllocError> {
+    let seed = clock_seed(rt)?;
+    let mut sys = HostSystem::new(rt.clone()?, Reporter::Gdrv);
+    Ok(tell_why(rt.alloc(), &mut sys, line, seed))
+}
+
 /// Checks spec files for this process's user.
 fn check(rt: &HostRuntime, request: &Request) -> Result<Outcome, AllocError> {
     let mut sys = HostSystem::new(rt.clone()?, Reporter::Gdrv);
@@ -121,6 +130,7 @@ fn act(rt: &HostRuntime, call: Call) -> Outcome {
         Call::Translate(path) => ended(translate(rt, path)),
         Call::Differ(comparison) => ended(compare(rt, &comparison)),
         Call::Check(request) => ended(check(rt, &request)),
+        Call::Explain(line) => ended(explain(rt, line)),
     }
 }
 

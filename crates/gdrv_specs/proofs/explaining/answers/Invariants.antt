@@ -1,0 +1,13 @@
+use Rattle.drv_system.specs.Asking.{Asks, Extends}
+use Rattle.drv_system.specs.Facts.{Facts}
+use Rattle.gdrv_specs.proofs.explaining.answers.Given as goal
+use Rattle.gdrv_specs.specs.Reasons.{AnswersAll}
+use Rattle.std.proofs.Common.{◌++◌, List, drop, ℕ}
+
+abbrev pub invariant-loop-part : goal.invariant-loop-part
+invariant-loop-part g l = record {
+  asks : Asks (g.S.System.events l.fn.sys) (g.S.System.events l.sys) l.fn.facts l.facts;
+  rest : (F : Facts) → Extends l.facts F → (others : List ℕ)
+      → AnswersAll F l.explained.line l.explained.work l.explained.seed (drop l.part-index l.parts) others
+      → AnswersAll F l.explained.line l.explained.work l.explained.seed l.parts (l.text ++ others);
+}

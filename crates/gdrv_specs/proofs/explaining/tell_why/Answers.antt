@@ -1,0 +1,10 @@
+use Rattle.gdrv_specs.proofs.Reasons.{explains_after, explains_before}
+use Rattle.gdrv_specs.proofs.explaining.tell_why.Goals as goal
+
+pub returns-in-Ok : goal.returns-in-Ok
+returns-in-Ok g c =
+    explains_after c.args.line c.args.seed c.in-Ok.text c.tell_reasons.result c.new.ensures c.reasons.ensures.asks c.in-Ok.ensures.gives
+    c.tell_reasons.ensures
+
+pub returns : goal.returns
+returns g c = explains_before c.args.line c.args.seed c.in-Err.ending c.new.ensures c.reasons.ensures.asks c.in-Err.ensures.gives
