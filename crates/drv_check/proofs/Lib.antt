@@ -1,4 +1,5 @@
 mod Agreeing
+mod Covering
 mod Cutting
 mod DumpsDiffer
 mod FaultsAlone
@@ -16,5 +17,6 @@ mod PiecesChecked
 mod PiecesRead
 mod Reports
 mod TokenMarks
+mod TreeBranches
 mod Unreached
 mod Unused

@@ -1,17 +1,13 @@
-use Rattle.drv_check.specs.declared.branches.Branch.{Branch}
 use Rattle.drv_check.specs.declared.findings.Warning.TheVariants.{Unreachable}
 use Rattle.drv_check.specs.declared.warning.Mark.{Mark}
-use Rattle.drv_syntax.specs.Labels.{Label, label_at, part_label}
-use Rattle.drv_syntax.specs.Tokens.{tokens_of}
-use Rattle.drv_syntax.specs.Tree.{Items}
+use Rattle.drv_syntax.specs.Labels.{Label, test_label}
+use Rattle.drv_syntax.specs.Tree as tree
+use Rattle.drv_syntax.specs.Tree.{Asked, Brace, Choices, Item, Items, Tests}
 use Rattle.drv_syntax.specs.declared.token.TestKind.TheVariants as asking
 use Rattle.drv_syntax.specs.declared.token.TestKind.{TestKind}
-use Rattle.drv_syntax.specs.declared.token.Token.{Token}
-use Rattle.drv_syntax.specs.declared.token.TokenKind.TheVariants as kinds
-use Rattle.drv_syntax.specs.declared.token.TokenKind.{TokenKind}
 use Rattle.std.specs.Cmp.Lexicographic.{pointwise}
 use Rattle.std.specs.List.{list_all, list_any, starts_with}
-use Rattle.std.specs.Prelude.{◌+◌, ◌&&◌, Bool, List, [], ◌∷◌, ◌++◌, drop, false, if◌then◌else◌, nat_eq, nat_lt, not, true, ℕ}
+use Rattle.std.specs.Prelude.{◌+◌, ◌&&◌, Bool, List, [], ◌∷◌, ◌++◌, false, if◌then◌else◌, nat_eq, not, true, ℕ}
 
 -- Branches that no line reaches (GCC manual, "Spec Files", %{S:X; T:Y; :D}; that it is a warning is this project's profile). A branch is an
 -- alternative of braces. The first one with a true test counts.
@@ -33,46 +29,6 @@ covers first second =
     if first.negated then second.negated && asks_all second.asks first.asks second first
     else not second.negated && asks_all first.asks second.asks first second
 
--- The parts inside a part that are inside no other one of these. Its last part precedes the place `end`; the first token has the place n, and
--- those before `next` are inside another part.
-
-abbrev pub beyond : ℕ → ℕ → Token → ℕ
-beyond next n token = if nat_lt n next then next else token.next
-
-abbrev pub test_at : Items → ℕ → Label
-test_at items n = part_label (label_at items n).word (label_at items n).starred (label_at items n).negated (label_at items n).asks
-
-abbrev pub test_if : TokenKind → Label → List Label
-test_if kinds.Test label = label ∷ []
-test_if kind label = []
-
-abbrev pub test_here : Items → ℕ → ℕ → Token → List Label
-test_here items next n token = if nat_lt n next then [] else test_if token.kind (test_at items n)
-
-abbrev pub tests_from : Items → ℕ → ℕ → ℕ → List Token → List Label
-tests_from items end next n [] = []
-tests_from items end next n (token ∷ tokens) =
-    if nat_lt n end then test_here items next n token ++ tests_from items end (beyond next n token) (n + 1) tokens else []
-
-abbrev pub branch_if : TokenKind → ℕ → Token → List Branch
-branch_if kinds.Alternative n token = record { start = token.start; inside = n + 1; end = token.next } ∷ []
-branch_if kind n token = []
-
-abbrev pub branch_here : ℕ → ℕ → Token → List Branch
-branch_here next n token = if nat_lt n next then [] else branch_if token.kind n token
-
-abbrev pub branches_from : ℕ → ℕ → ℕ → List Token → List Branch
-branches_from end next n [] = []
-branches_from end next n (token ∷ tokens) =
-    if nat_lt n end then branch_here next n token ++ branches_from end (beyond next n token) (n + 1) tokens else []
-
--- the tests of a branch, and the branches of the part that begins before this place
-abbrev pub tests_of : Items → Branch → List Label
-tests_of items branch = tests_from items branch.end branch.inside branch.inside (drop branch.inside (tokens_of items))
-
-abbrev pub branches_of : Items → ℕ → ℕ → List Branch
-branches_of items end inside = branches_from end inside inside (drop inside (tokens_of items))
-
 -- A branch that can't be reached: it has a test, and a test of an earlier one covers each of its own. One without a test is the last one.
 
 abbrev pub is_covered : List Label → Label → Bool
@@ -85,18 +41,47 @@ is_default (test ∷ tests) = false
 abbrev pub is_unreachable : List Label → List Label → Bool
 is_unreachable earlier tests = not (is_default tests) && list_all (is_covered earlier) tests
 
-abbrev pub branch_marks : ℕ → Branch → Bool → List Mark
-branch_marks start branch unreachable = if unreachable then record { at = start + branch.start; warning = Unreachable } ∷ [] else []
+abbrev pub mark_if : ℕ → Bool → List Mark
+mark_if at unreachable = if unreachable then record { at = at; warning = Unreachable } ∷ [] else []
 
--- branches after those with these tests
-abbrev pub branches_marks : Items → ℕ → List Label → List Branch → List Mark
-branches_marks items start earlier [] = []
-branches_marks items start earlier (branch ∷ branches) =
-    branch_marks start branch (is_unreachable earlier (tests_of items branch))
-    ++ branches_marks items start (earlier ++ tests_of items branch) branches
+-- what the tests of a branch ask
+abbrev pub tests_of : Tests → List Label
+tests_of tree.no_test = []
+tests_of (tree.test span negated asked tests) = test_label negated asked ∷ tests_of tests
 
--- of the parts of a text, the first of which has the place n
-abbrev pub choices_marks : Items → ℕ → ℕ → List Token → List Mark
-choices_marks items start n [] = []
-choices_marks items start n (token ∷ tokens) =
-    branches_marks items start [] (branches_of items token.next (n + 1)) ++ choices_marks items start (n + 1) tokens
+-- of the branches of braces, after those with these tests; the text begins at the byte `start`
+abbrev pub branches_marks : ℕ → List Label → Choices → List Mark
+branches_marks start earlier tree.no_choice = []
+branches_marks start earlier (tree.choice span tests items choices) =
+    mark_if (start + span.start) (is_unreachable earlier (tests_of tests)) ++ branches_marks start (earlier ++ tests_of tests) choices
+
+-- of all braces of a text, outer ones first
+
+abbrev mutual
+  pub unreached : ℕ → Items → List Mark
+  unreached start tree.none = []
+  unreached start (tree.more span item items) = unreached_in start item ++ unreached start items
+
+  pub unreached_in : ℕ → Item → List Mark
+  unreached_in start (tree.Function name arguments) = unreached start arguments
+  unreached_in start (tree.Braces brace) = brace_unreached start brace
+  unreached_in start (tree.FailureFile brace) = brace_unreached start brace
+  unreached_in start (tree.ArgumentsFile brace) = brace_unreached start brace
+  unreached_in start _ = []
+
+  pub brace_unreached : ℕ → Brace → List Mark
+  brace_unreached start (tree.Emit patterns) = []
+  brace_unreached start (tree.Choose choices) = branches_marks start [] choices ++ inside_branches start choices
+
+  pub inside_branches : ℕ → Choices → List Mark
+  inside_branches start tree.no_choice = []
+  inside_branches start (tree.choice span tests items choices) =
+      (inside_tests start tests ++ unreached start items) ++ inside_branches start choices
+
+  pub inside_tests : ℕ → Tests → List Mark
+  inside_tests start tree.no_test = []
+  inside_tests start (tree.test span negated asked tests) = inside_asked start asked ++ inside_tests start tests
+
+  pub inside_asked : ℕ → Asked → List Mark
+  inside_asked start (tree.HasResult name arguments) = unreached start arguments
+  inside_asked start _ = []

@@ -1,2 +1,3 @@
--- How the code keeps what it reads. No public contract rests on these.
+-- How the code reads and keeps what it checks. No public contract rests on these.
+pub mod Branching
 pub mod OwnTrees

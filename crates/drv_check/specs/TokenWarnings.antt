@@ -1,4 +1,4 @@
-use Rattle.drv_check.specs.Branches.{choices_marks}
+use Rattle.drv_check.specs.Branches.{unreached}
 use Rattle.drv_check.specs.LostMarks.{lost_marks}
 use Rattle.drv_check.specs.OwnTexts.{own_start, own_text, own_tree}
 use Rattle.drv_check.specs.declared.findings.Warning.TheVariants.{NeverTrue, QuotedWord, UnknownText}
@@ -80,10 +80,10 @@ tokens_marks set text items start n [] = []
 tokens_marks set text items start n (token ∷ tokens) =
     mark_at (start + token.start) (token_warning set text token (label_at items n)) ++ tokens_marks set text items start (n + 1) tokens
 
--- of a tree whose text begins at this byte of the piece: of its tokens, of marks that no word has, and of its choices
+-- of a tree whose text begins at this byte of the piece: of its tokens, of marks that no word has, and of its branches
 abbrev pub tree_marks : Set → List ℕ → Items → ℕ → List Mark
 tree_marks set text items start =
-    tokens_marks set text items start 0 (tokens_of items) ++ lost_marks start None (tokens_of items) ++ choices_marks items start 0 (tokens_of items)
+    tokens_marks set text items start 0 (tokens_of items) ++ lost_marks start None (tokens_of items) ++ unreached start items
 
 -- of the text that a piece gives, each at a byte of the piece
 abbrev pub own_marks : Set → List ℕ → List Mark

@@ -1,12 +1,13 @@
 //! Branches of a choice that no line reaches.
 
-ghost use Rattle.drv_check.specs.Branches.{asks_all, beyond, branch_here, branch_marks, branches_marks, branches_of};
-ghost use Rattle.drv_check.specs.Branches.{choices_marks, covers, is_covered, is_default, is_unreachable};
-ghost use Rattle.drv_check.specs.Branches.{names_all, test_at, test_here, tests_of};
+ghost use Rattle.drv_check.specs.Branches.{asks_all, covers, is_covered, is_default, is_unreachable, mark_if};
+ghost use Rattle.drv_check.specs.Branches.{names_all, unreached};
+ghost use Rattle.drv_check.specs.Code.Branching.{beyond, branch_in, branches_of, here, listed_marks, test_at, test_in};
+ghost use Rattle.drv_check.specs.Code.Branching.{tests_of};
 ghost use Rattle.drv_syntax.specs.Parsed.{tree_of};
 ghost use Rattle.drv_syntax.specs.Tokens.{tokens_of};
 ghost use Rattle.std.specs.List.{list_all};
-ghost use Rattle.std.specs.Prelude.{◌≡◌, ◌<◌, ◌^◌, ◌++◌, [], IfOk, OnOk, length};
+ghost use Rattle.std.specs.Prelude.{◌≡◌, ◌<◌, ◌^◌, ◌+◌, ◌++◌, [], IfOk, OnOk, length};
 
 use crate::findings::Warning;
 use crate::warning::Mark;
@@ -106,7 +107,8 @@ fn push_test<'a>(
 ) -> Result<(), AllocError>
     requires { place < length (tokens_of (tree_of tree.now)) }
     ensures { OnOk result
-        (tests.new.items ≡ tests.old.items ++ test_here (tree_of tree.now) next place token) }
+        (tests.new.items ≡ tests.old.items
+        ++ here (test_in (tree_of tree.now)) next place token) }
 {
     if place < next {
         return Ok(());
@@ -151,7 +153,7 @@ fn push_branch(
 ) -> Result<(), AllocError>
     requires { place < 2 ^ 63 }
     ensures { OnOk result
-        (branches.new.items ≡ branches.old.items ++ branch_here next place token) }
+        (branches.new.items ≡ branches.old.items ++ here branch_in next place token) }
 {
     if place < next {
         return Ok(());
@@ -230,7 +232,7 @@ fn push_mark(
 ) -> Result<(), AllocError>
     requires { start < 2 ^ 63 }
     ensures { OnOk result
-        (marks.new.items ≡ marks.old.items ++ branch_marks start branch unreachable) }
+        (marks.new.items ≡ marks.old.items ++ mark_if (start + branch.start) unreachable) }
 {
     if unreachable {
         marks.push(Mark {
@@ -253,7 +255,7 @@ fn push_branches(
     requires { start < 2 ^ 63 }
     ensures { OnOk result
         (marks.new.items ≡ marks.old.items
-        ++ branches_marks (tree_of tree.now) start [] branches.now) }
+        ++ listed_marks (tree_of tree.now) start [] branches.now) }
 {
     let mut earlier = Vec::new(alloc);
     for &branch in branches {
@@ -266,7 +268,7 @@ fn push_branches(
 }
 
 /// Adds the warnings of the choices of a tree, whose text begins at this byte of the piece.
-#[tactic(auto, using(crate::proofs::Unreached::choices_next))]
+#[tactic(auto, using(crate::proofs::Unreached::choices_next, crate::proofs::TreeBranches::choices_done))]
 pub(crate) fn push_choices(
     alloc: Global,
     marks: &mut Vec<Mark>,
@@ -275,8 +277,7 @@ pub(crate) fn push_choices(
 ) -> Result<(), AllocError>
     requires { start < 2 ^ 63 }
     ensures { OnOk result
-        (marks.new.items ≡ marks.old.items
-        ++ choices_marks (tree_of tree.now) start 0 (tokens_of (tree_of tree.now))) }
+        (marks.new.items ≡ marks.old.items ++ unreached start (tree_of tree.now)) }
 {
     let tokens = tree.tokens();
     let mut place = 0;

@@ -24,7 +24,7 @@ mod warning;
 pub use checking::check_files;
 pub use differing::texts_difference;
 pub use findings::{Checking, Finding, Note, Source, Spot, Warning};
-pub use laws::{first_fault_is_refusal, pieces_are_directives};
+pub use laws::{covered_tests_are_true, first_fault_is_refusal, pieces_are_directives};
 pub use pieces::{Piece, pieces_of};
 pub use told::{Place, Told, report_text};
 pub use told_json::report_json;

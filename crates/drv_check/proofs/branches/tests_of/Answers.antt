@@ -1,16 +1,16 @@
-use Rattle.drv_check.proofs.Unreached.{tests_over, tests_past}
+use Rattle.drv_check.proofs.Unreached.{parts_over, parts_past}
 use Rattle.drv_check.proofs.branches.tests_of.Goals as goal
 use Rattle.drv_check.proofs.branches.tests_of.Goals.{then-loop-place-test+else-place-tokens, else-loop-place-test}
-use Rattle.drv_check.specs.Branches.{tests_of}
+use Rattle.drv_check.specs.Code.Branching.{test_in, tests_of}
 use Rattle.drv_syntax.specs.Parsed.{tree_of}
 use Rattle.drv_syntax.specs.Tokens.{tokens_of}
 
 pub returns : goal.returns
 returns c = elim c.loop-place-test.branch [
   | then-loop-place-test+else-place-tokens w ↦
-      tests_over (tree_of c.args.tree.now) c.args.branch.end c.loop-place.next c.loop-place.place c.tokens-tokens.result.now (tokens_of (tree_of c.args.tree.now))
+      parts_over (test_in (tree_of c.args.tree.now)) c.args.branch.end c.loop-place.next c.loop-place.place c.tokens-tokens.result.now (tokens_of (tree_of c.args.tree.now))
       c.loop-place.tests.items (tests_of (tree_of c.args.tree.now) c.args.branch) c.tokens-tokens.ensures w.if-place-tokens.false c.loop-place.invariant
   | else-loop-place-test w ↦
-      tests_past (tree_of c.args.tree.now) c.args.branch.end c.loop-place.next c.loop-place.place (tokens_of (tree_of c.args.tree.now))
+      parts_past (test_in (tree_of c.args.tree.now)) c.args.branch.end c.loop-place.next c.loop-place.place (tokens_of (tree_of c.args.tree.now))
       c.loop-place.tests.items (tests_of (tree_of c.args.tree.now) c.args.branch) w.loop-place-test.false c.loop-place.invariant
 ]

@@ -1,0 +1,73 @@
+use Rattle.drv_check.specs.Branches.{is_unreachable, mark_if}
+use Rattle.drv_check.specs.declared.branches.Branch.{Branch}
+use Rattle.drv_check.specs.declared.warning.Mark.{Mark}
+use Rattle.drv_syntax.specs.Labels.{Label, label_at, part_label}
+use Rattle.drv_syntax.specs.Tokens.{tokens_of}
+use Rattle.drv_syntax.specs.Tree.{Items}
+use Rattle.drv_syntax.specs.declared.token.Token.{Token}
+use Rattle.drv_syntax.specs.declared.token.TokenKind.TheVariants as kinds
+use Rattle.drv_syntax.specs.declared.token.TokenKind.{TokenKind}
+use Rattle.std.specs.Prelude.{◌+◌, List, [], ◌∷◌, ◌++◌, drop, if◌then◌else◌, nat_lt, ℕ}
+
+-- Branches that no line reaches, as the code finds them in the flat list of parts.
+
+-- What the parts inside a part give that are inside no other one of these. Its last part precedes the place `end`; the first token has the
+-- place n, and those before `next` are inside another part.
+
+abbrev pub beyond : ℕ → ℕ → Token → ℕ
+beyond next n token = if nat_lt n next then next else token.next
+
+abbrev pub here : {X : Type 0} → (ℕ → Token → List X) → ℕ → ℕ → Token → List X
+here f next n token = if nat_lt n next then [] else f n token
+
+abbrev pub parts_from : {X : Type 0} → (ℕ → Token → List X) → ℕ → ℕ → ℕ → List Token → List X
+parts_from f end next n [] = []
+parts_from f end next n (token ∷ tokens) =
+    if nat_lt n end then here f next n token ++ parts_from f end (beyond next n token) (n + 1) tokens else []
+
+-- its tests
+
+abbrev pub test_at : Items → ℕ → Label
+test_at items n = part_label (label_at items n).word (label_at items n).starred (label_at items n).negated (label_at items n).asks
+
+abbrev pub test_if : TokenKind → Label → List Label
+test_if kinds.Test label = label ∷ []
+test_if kind label = []
+
+abbrev pub test_in : Items → ℕ → Token → List Label
+test_in items n token = test_if token.kind (test_at items n)
+
+abbrev pub tests_from : Items → ℕ → ℕ → ℕ → List Token → List Label
+tests_from items = parts_from (test_in items)
+
+-- its branches
+
+abbrev pub branch_if : TokenKind → ℕ → Token → List Branch
+branch_if kinds.Alternative n token = record { start = token.start; inside = n + 1; end = token.next } ∷ []
+branch_if kind n token = []
+
+abbrev pub branch_in : ℕ → Token → List Branch
+branch_in n token = branch_if token.kind n token
+
+abbrev pub branches_from : ℕ → ℕ → ℕ → List Token → List Branch
+branches_from = parts_from branch_in
+
+-- the tests of a branch, and the branches of the part that begins before this place
+abbrev pub tests_of : Items → Branch → List Label
+tests_of items branch = tests_from items branch.end branch.inside branch.inside (drop branch.inside (tokens_of items))
+
+abbrev pub branches_of : Items → ℕ → ℕ → List Branch
+branches_of items end inside = branches_from end inside inside (drop inside (tokens_of items))
+
+-- branches after those with these tests
+abbrev pub listed_marks : Items → ℕ → List Label → List Branch → List Mark
+listed_marks items start earlier [] = []
+listed_marks items start earlier (branch ∷ branches) =
+    mark_if (start + branch.start) (is_unreachable earlier (tests_of items branch))
+    ++ listed_marks items start (earlier ++ tests_of items branch) branches
+
+-- of the parts of a text, the first of which has the place n
+abbrev pub parts_marks : Items → ℕ → ℕ → List Token → List Mark
+parts_marks items start n [] = []
+parts_marks items start n (token ∷ tokens) =
+    listed_marks items start [] (branches_of items token.next (n + 1)) ++ parts_marks items start (n + 1) tokens
