@@ -17,4 +17,5 @@ mod tests;
 mod tokens;
 mod words;
 
+pub use contexts::ListContext;
 pub use reading::{TextParts, ending_in, read_more, read_nothing, read_text};

@@ -3,6 +3,7 @@
 ghost use Rattle.drv_syntax.specs.Directives as directives;
 ghost use Rattle.std.specs.Prelude.{◌≡◌};
 
+use crate::descent::ListContext;
 use crate::token::{Leaf, TempKind};
 
 /// The named texts that one letter denotes.
@@ -129,11 +130,11 @@ pub fn directive_of(b: u8) -> Directive
     }
 }
 
-/// The directive of this byte is allowed here.
-pub fn allows(in_arguments: bool, b: u8) -> bool
-    ensures { result ≡ directives.is_allowed in_arguments b }
+/// The directive of this byte is allowed in such a list.
+pub fn allows(c: ListContext, b: u8) -> bool
+    ensures { result ≡ directives.is_allowed c.in_arguments b }
 {
-    if in_arguments {
+    if c.in_arguments {
         b == b'%'
             || b == b'i'
             || b == b'b'

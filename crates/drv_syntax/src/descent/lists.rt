@@ -170,7 +170,7 @@ fn percent(outer: Option<u32>, c: ListContext, r: &mut Reader<'_>) -> Result<(),
     let Some(b) = r.rest.first() else {
         return Err(unclosed(outer, at));
     };
-    if !allows(c.in_arguments, b) {
+    if !allows(c, b) {
         return Err(SyntaxFault::BadDirective(at as usize));
     }
     r.rest.take(1);

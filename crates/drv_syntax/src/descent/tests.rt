@@ -77,12 +77,12 @@ pub enum Next {
     Bars(Choice),
 }
 
-/// At a test there, with a `!` or without, the braces can still be patterns.
+/// At a test there, with this front, the braces can still be patterns.
 #[inline(always)]
-pub fn emits(order: Order, negated: bool) -> bool
-    ensures { result ≡ may_emit (order_seen order) negated }
+pub fn emits(order: Order, begun: Begun) -> bool
+    ensures { result ≡ may_emit (order_seen order) begun.negated }
 {
-    matches!(order, Order::AtFront) && !negated
+    matches!(order, Order::AtFront) && !begun.negated
 }
 
 /// What a test can be that begins with a mark.
@@ -293,7 +293,7 @@ fn emitted(
         (emitted_label o.entry.asked (spelled o.entry.word r.old.word.items)) begun.start end
         (seen r.old)) }
 {
-    if !emits(order, begun.negated) {
+    if !emits(order, begun) {
         return Err(SyntaxFault::BadDirective(at as usize));
     }
     write_pattern(begun.start, end, o, r)
@@ -401,7 +401,7 @@ pub fn plain_test(
         (descent.asked_from descent.no_lists top at (order_seen order) begun.start begun.negated
         r.old.rest.at r.old.rest.bytes)) }
 {
-    let o = plain_operand(outer, at, emits(order, begun.negated), begun.byte, r)?;
+    let o = plain_operand(outer, at, emits(order, begun), begun.byte, r)?;
     let end = r.rest.at();
     r.rest.skip_white();
     let Some(b) = r.rest.first() else {
