@@ -2,8 +2,7 @@ use Rattle.drv_syntax.proofs.Covers.{at_item, item_read, spelled_is_read}
 use Rattle.drv_syntax.proofs.FrontLeads.{IsTreeOrCut}
 use Rattle.drv_syntax.proofs.FrontsRead.{cut_place, item_front}
 use Rattle.drv_syntax.proofs.Leads.{further, same_place}
-use Rattle.drv_syntax.proofs.Sound.{read_is_spelled}
-use Rattle.drv_syntax.proofs.Unrefused.{unrefused_is_front}
+use Rattle.drv_syntax.proofs.MeantWhole.{read_is_spelled, unrefused_is_front}
 use Rattle.drv_syntax.specs.Contexts.{top}
 use Rattle.drv_syntax.specs.Directives.{directive_of}
 use Rattle.drv_syntax.specs.Faults.{IsCutAt, IsOpenAt, after_item, is_closed_by_end, open_byte, open_directive, open_last}

@@ -8,7 +8,6 @@ use Rattle.drv_syntax.proofs.DescentPatterns.{hide_goes}
 use Rattle.drv_syntax.proofs.DescentTests.{Meets, call_goes}
 use Rattle.drv_syntax.proofs.DescentBraces.{braces_go}
 use Rattle.drv_syntax.proofs.DescentLists.{From, begins, skipped}
-use Rattle.drv_syntax.proofs.RefusalKinds as kinds
 use Rattle.drv_syntax.proofs.Parts.{join_assoc, join_none}
 use Rattle.drv_syntax.specs.Bytes.{is_blank}
 use Rattle.drv_syntax.specs.Contexts.{InArguments, InX, Kind, ListContext, Mixed, Nobody, Owner, Starred, bar_in}
@@ -30,7 +29,8 @@ use Rattle.drv_syntax.specs.declared.directives.Directive.{Directive}
 use Rattle.drv_syntax.specs.declared.fault.SyntaxFault.TheVariants.{BadDirective, MixedStar, StarOutside, TooNested}
 use Rattle.std.proofs.Common.{◌≡◌, ◌⊎◌, ◌∙◌, inl, inr, ◌+◌, ◌-◌, Bool, false, true, if◌then◌else◌, List, [], ◌∷◌, ap, arith, drop}
 use Rattle.std.proofs.Common.{◌≤◌, drop-drop, length, refl, subst, suc, sym, zero, ℕ}
-use Rattle.std.specs.Prelude.{◌==◌}
+use Rattle.std.proofs.lemmas.Bool.Decides.{nat_tests}
+use Rattle.std.specs.Prelude.{◌==◌, nat_le}
 
 -- Directives and lists, as their places read them; and a whole text: the law `descent_is_read`.
 
@@ -351,8 +351,14 @@ from_top level e text =
 pub descent_is_read : (text : List ℕ) → descent text ≡ read text
 descent_is_read text = from_top 63 refl text
 
+-- what a text of an allowed size gives
+pub allowed : (text : List ℕ) (out : Out) → length text ≤ o.text_limit → read text ≡ out → o.parsed text ≡ o.judged out
+allowed text out h e =
+    let f : nat_le (length text) o.text_limit ≡ true = grind (arith, nat_tests) in
+    rw (f, e) refl
+
 pub descent_is_parsed : (text : List ℕ) → length text ≤ o.text_limit → o.parsed text ≡ o.judged (descent text)
-descent_is_parsed text h = kinds.within text (descent text) h (sym (descent_is_read text))
+descent_is_parsed text h = allowed text (descent text) h (sym (descent_is_read text))
 
 -- the same after these items
 from_there : (level : ℕ) → level ≡ 63 → (items : Items) (n : ℕ) (text : List ℕ)

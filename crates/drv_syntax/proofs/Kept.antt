@@ -1,5 +1,5 @@
 use Rattle.drv_syntax.proofs.Continued.{rest_is}
-use Rattle.drv_syntax.proofs.CutRows.{le_true}
+use Rattle.drv_syntax.proofs.Leads.{le_true}
 use Rattle.drv_syntax.proofs.DescentWhole.{descent_is_parsed}
 use Rattle.drv_syntax.proofs.ParsedGrammar.{parsed_refused, parsed_spelled}
 use Rattle.drv_syntax.specs.Code.Ending.{ending_in, goes_on}

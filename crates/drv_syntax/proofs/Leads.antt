@@ -2,9 +2,9 @@ use Rattle.drv_syntax.specs.Bytes.{is_of}
 use Rattle.drv_syntax.specs.Outcome.{Closes, Goes, On, Opens, Place, Waiting, resume, run, turn}
 use Rattle.drv_syntax.specs.Spelling.{At}
 use Rattle.drv_syntax.specs.Tree.{Items}
-use Rattle.std.proofs.Common.{◌≡◌, ◌∙◌, ◌+◌, Bool, false, true, List, [], ◌∷◌, ap, arith, length, refl, subst, sym, ℕ}
+use Rattle.std.proofs.Common.{◌≡◌, ◌≤◌, ◌∙◌, ◌+◌, Bool, false, true, List, [], ◌∷◌, ap, arith, length, refl, subst, sym, ℕ}
 use Rattle.std.proofs.lemmas.Bool.Decides.{nat_tests}
-use Rattle.std.specs.Prelude.{◌==◌}
+use Rattle.std.specs.Prelude.{◌==◌, nat_le}
 
 -- Steps of a run, and facts on classes of bytes. Nothing here knows the table. It serves the laws `spelled_is_read` and
 -- `front_is_unrefused`.
@@ -67,6 +67,17 @@ same a b h = grind (arith, nat_tests)
 
 pub differs : {A : Type 0} → true ≡ false → A
 differs h = absurd cc
+
+pub le_true : {m n : ℕ} → nat_le m n ≡ true → m ≤ n
+le_true h = grind (arith, nat_tests)
+
+-- a byte that is none of these is not the first of them
+pub not_of : (x : ℕ) (xs : List ℕ) (b : ℕ) → is_of (x ∷ xs) b ≡ false → ((b == x) ≡ false) × (is_of xs b ≡ false)
+not_of x xs b h = by (b == x) refl h
+  where
+    by : (z : Bool) → (b == x) ≡ z → is_of (x ∷ xs) b ≡ false → ((b == x) ≡ false) × (is_of xs b ≡ false)
+    by true e h = differs (rw e at h)
+    by false e h = (e, rw e at h)
 
 -- a byte of one kind is none that is not of it
 pub other : (f : ℕ → Bool) (b x : ℕ) → f b ≡ true → f x ≡ false → (b == x) ≡ false

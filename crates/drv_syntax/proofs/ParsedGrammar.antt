@@ -1,8 +1,7 @@
 use Rattle.drv_syntax.proofs.CutPlaces.{cut_at}
-use Rattle.drv_syntax.proofs.CutRows.{le_true}
+use Rattle.drv_syntax.proofs.Leads.{le_true}
 use Rattle.drv_syntax.proofs.Misfits.{misfit_at}
-use Rattle.drv_syntax.proofs.Sound.{read_is_spelled}
-use Rattle.drv_syntax.proofs.StuckRuns.{refused_kinds}
+use Rattle.drv_syntax.proofs.MeantWhole.{read_is_spelled, refused_kinds}
 use Rattle.drv_syntax.specs.Faults.{MemoryOrRefused, Refused, cut_short, misfit, too_long}
 use Rattle.drv_syntax.specs.Outcome.{Bad, Cut, Got, Out, judged, parsed, read, text_limit}
 use Rattle.drv_syntax.specs.Parsed.{tree_of}

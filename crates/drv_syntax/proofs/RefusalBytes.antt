@@ -1,7 +1,5 @@
-use Rattle.drv_syntax.proofs.Cuts.{Tested}
-use Rattle.drv_syntax.proofs.Leads.{differs, each}
+use Rattle.drv_syntax.proofs.Leads.{differs, each, not_of}
 use Rattle.drv_syntax.proofs.Parts.{HasChoice}
-use Rattle.drv_syntax.proofs.Rows.{not_of}
 use Rattle.drv_syntax.proofs.Words.{at_front, stops, stops_at}
 use Rattle.drv_syntax.specs.Bytes.{is_mark, is_of, is_white, is_word}
 use Rattle.drv_syntax.specs.declared.directives.BraceKind.{BraceKind}
@@ -19,6 +17,14 @@ use Rattle.std.proofs.Common.{◌≡◌, ◌∙◌, ◌+◌, Bool, false, true, 
 use Rattle.std.specs.Prelude.{◌==◌, None, Option, Some}
 
 -- Bytes that no longer fit, as their places refuse them. It serves the law `refusal_kinds`.
+
+abbrev pub Filled : List (Span × Pattern) → Type 0
+Filled [] = ⊥
+Filled (p ∷ ps) = Unit {0}
+
+abbrev pub Tested : Tests → Type 0
+Tested no_test = ⊥
+Tested (test s negated asked tests) = Unit {0}
 
 -- a byte in which a text ends here is refused in this place
 abbrev pub Answers : ℕ → Due → Place → ℕ → List ℕ → Type 0

@@ -1,5 +1,6 @@
 use Rattle.drv_syntax.proofs.Covers.{spelled_is_read}
 use Rattle.drv_syntax.proofs.CutPlaces.{cut_at, cut_there}
+use Rattle.drv_syntax.proofs.DescentWhole.{allowed}
 use Rattle.drv_syntax.proofs.RefusalEnds.{refusals}
 use Rattle.drv_syntax.proofs.Refusals as fronts
 use Rattle.drv_syntax.specs.Faults.{IsCutAt, Refused, cut_short, misfit, too_long}
@@ -30,22 +31,16 @@ at_end text k fault e f rest =
 pub refusal_kinds : (text rest : List ℕ) (fault : SyntaxFault) → IsRefused text fault → read (text ++ rest) ≡ Bad (length text - 1) fault
 refusal_kinds text rest fault x = let y = refusals text fault x in at_end text y.0 fault y.1 y.2 rest
 
--- what a text of an allowed size gives
-pub within : (text : List ℕ) (out : Out) → length text ≤ text_limit → read text ≡ out → parsed text ≡ judged out
-within text out h e =
-    let f : nat_le (length text) text_limit ≡ true = grind (arith, nat_tests) in
-    rw (f, e) refl
-
 pub parsed_tree : (text : List ℕ) (items : Items) → length text ≤ text_limit → Spells text items → parsed text ≡ Ok items
-parsed_tree text items h d = within text _ h (spelled_is_read text items d)
+parsed_tree text items h d = allowed text _ h (spelled_is_read text items d)
 
 pub parsed_refusal : (text rest : List ℕ) (fault : SyntaxFault) → length (text ++ rest) ≤ text_limit → IsRefused text fault
     → parsed (text ++ rest) ≡ Err fault
-parsed_refusal text rest fault h x = within (text ++ rest) _ h (refusal_kinds text rest fault x)
+parsed_refusal text rest fault h x = allowed (text ++ rest) _ h (refusal_kinds text rest fault x)
 
 pub parsed_cut : (text : List ℕ) → length text ≤ text_limit → Front text → ((items : Items) → Spells text items → ⊥) → (place : ℕ)
     × IsCutAt text place × (parsed text ≡ Err (Unclosed place))
-parsed_cut text h f g = let y = fronts.cut_front text f g in (y.0, cut_at text y.0 y.1, within text _ h y.1)
+parsed_cut text h f g = let y = fronts.cut_front text f g in (y.0, cut_at text y.0 y.1, allowed text _ h y.1)
 
 pub parsed_long : (text : List ℕ) → text_limit < length text → parsed text ≡ Err TextTooLong
 parsed_long text h =
@@ -55,7 +50,7 @@ parsed_long text h =
 -- a fault by the grammar is what the text is parsed to
 pub refused_parsed : {text : List ℕ} {fault : SyntaxFault} → Refused text fault → parsed text ≡ Err fault
 refused_parsed {text} (too_long h) = parsed_long text h
-refused_parsed {text} (cut_short {place} h c) = within text (Cut place) h (cut_there text place c)
+refused_parsed {text} (cut_short {place} h c) = allowed text (Cut place) h (cut_there text place c)
 refused_parsed {text} {fault} (misfit {place} h m r) =
     let e : take (place + 1) text ++ drop (place + 1) text ≡ text = take-append-drop (place + 1) text in
     subst (λ (x : List ℕ). parsed x ≡ Err fault) e

@@ -1,7 +1,6 @@
 use Rattle.drv_syntax.proofs.FrontsRead.{front_is_read, no_front}
 use Rattle.drv_syntax.proofs.Shortest.{not_bad, shortest}
-use Rattle.drv_syntax.proofs.Sound.{read_is_spelled}
-use Rattle.drv_syntax.proofs.Unrefused.{unrefused_is_front}
+use Rattle.drv_syntax.proofs.MeantWhole.{read_is_spelled, unrefused_is_front}
 use Rattle.drv_syntax.specs.Fronts.{Front}
 use Rattle.drv_syntax.specs.Outcome.{Bad, Cut, Got, Out, read}
 use Rattle.drv_syntax.specs.Spelling.{Spells}

@@ -1,5 +1,4 @@
 use Rattle.drv_syntax.proofs.Covers.{asked_leads, asked_read, at_item, head, item_read, items_read, list, same_asked, sign_read}
-use Rattle.drv_syntax.proofs.Cuts.{Filled, Tested}
 use Rattle.drv_syntax.proofs.Emits.{alone, first_pattern, mark_blank, marked_first, next, starred, starred_leads}
 use Rattle.drv_syntax.proofs.Leads.{Leads, closes, differs, further, goes, same, same_place, to}
 use Rattle.drv_syntax.proofs.Names.{name_end, name_read}
@@ -9,7 +8,7 @@ use Rattle.drv_syntax.proofs.Patterns.{Asks, asks_mark, asks_words, after_space,
 use Rattle.drv_syntax.proofs.Patterns.{negated_asks, negated_space, pattern_read, pattern_space, spaces_read, start_asks, start_space}
 use Rattle.drv_syntax.proofs.RefusalBytes.{Answers, NoTest, NoneThere, Stands, due_answers, due_none, either_answers, mark_answers}
 use Rattle.drv_syntax.proofs.RefusalBytes.{negated_none, no_emit, past_answers, pattern_answers, start_none, starred_answers, test_answers}
-use Rattle.drv_syntax.proofs.RefusalBytes.{word_answers}
+use Rattle.drv_syntax.proofs.RefusalBytes.{Filled, Tested, word_answers}
 use Rattle.drv_syntax.proofs.Words.{at_front, marked_word, quoted_from}
 use Rattle.drv_syntax.specs.Bytes.{is_mark, is_white, is_word}
 use Rattle.drv_syntax.specs.Directives.{directive_of, is_allowed}

@@ -1,5 +1,5 @@
-use Rattle.drv_syntax.proofs.Sound as sound
+use Rattle.drv_syntax.proofs.MeantWhole as meant
 use Rattle.drv_syntax.proofs.laws.read_is_spelled.Goals as goal
 
 pub returns : goal.returns
-returns c = sound.read_is_spelled
+returns c = meant.read_is_spelled

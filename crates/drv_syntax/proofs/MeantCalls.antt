@@ -1,0 +1,128 @@
+use Rattle.drv_words.specs.Bytes as ascii
+use Rattle.drv_syntax.proofs.Leads.{same}
+use Rattle.drv_syntax.proofs.Meant.{AtByte, Meant, Takes, meant_past, meant_then, meant_took, meant_within}
+use Rattle.drv_syntax.proofs.MeantRuns.{NameBad, NameCuts, NameIs, function_meant}
+use Rattle.drv_syntax.proofs.Steps.{Far, Near, Step, near_self, same_byte, then_byte}
+use Rattle.drv_syntax.specs.Bytes.{is_function}
+use Rattle.drv_syntax.specs.Contexts.{InArguments, InX, Kind, ListContext, Top, in_arguments, is_end}
+use Rattle.drv_syntax.specs.Descent as d
+use Rattle.drv_syntax.specs.Descent.{Ends, Lists, Read, Stops, Took, past, then_read}
+use Rattle.drv_syntax.specs.Fronts as cuts
+use Rattle.drv_syntax.specs.Fronts.{AreFrontItems, CutsCall}
+use Rattle.drv_syntax.specs.Refusals.{Due, IsNoFunction, Reaches, Refuses}
+use Rattle.drv_syntax.specs.Spelling as s
+use Rattle.drv_syntax.specs.Spelling.{AreItems, At, IsCall}
+use Rattle.drv_syntax.specs.Tree.{Items}
+use Rattle.drv_syntax.specs.declared.fault.SyntaxFault.TheVariants.{UnknownFunction}
+use Rattle.drv_syntax.specs.declared.fault.SyntaxFault.{SyntaxFault}
+use Rattle.std.proofs.Common.{◌≡◌, ◌∙◌, ◌+◌, ◌++◌, false, true, List, [], ◌∷◌, ap, arith, drop, length, refl, subst, sym, ℕ}
+use Rattle.std.specs.Prelude.{◌==◌}
+
+-- Lists of items as a part of a text, and the calls of functions that hold one, as Descent takes them (Meant).
+
+-- the byte that ends a list
+abbrev pub Ended : Kind → ℕ → List ℕ → Type 0
+Ended Top b q = q ≡ []
+Ended InX b q = (rest : List ℕ) × (q ≡ b ∷ rest) × (is_end InX b ≡ true)
+Ended InArguments b q = (rest : List ℕ) × (q ≡ b ∷ rest) × (is_end InArguments b ≡ true)
+
+abbrev pub ListIs : ListContext → List ℕ → ℕ → List ℕ → Items × ℕ → List ℕ → Type 0
+ListIs c text total t x q = Far text t × AreItems total c t x.0 q × Ended c.kind x.1 q
+
+abbrev pub ListCuts : ListContext → ℕ → List ℕ → Type 0
+ListCuts c total t = AreFrontItems total c t
+
+abbrev pub ListBad : ListContext → List ℕ → ℕ → List ℕ → SyntaxFault → Type 0
+ListBad c text total t fault = Far text t × (due : Due) × (last : List ℕ) × Reaches total c t due last × Refuses total due last fault
+
+abbrev pub ListMeant : ListContext → ℕ → List ℕ → Read (Items × ℕ) → Type 0
+ListMeant c n text r = Meant AtByte n text (ListIs c text) (ListCuts c) (ListBad c text) r
+
+-- lists with so many levels
+abbrev pub Listed : ℕ → Lists → Type 0
+Listed level lists = (c : ListContext) → c.levels ≡ level → (n : ℕ) (text : List ℕ) → ListMeant c n text (lists c n text)
+
+pub past_then : {X Y : Type 0} (k : ℕ) (r : Read X) (goes : X → ℕ → Read Y)
+    → past k (then_read r goes) ≡ then_read r (λ x size. past k (goes x size))
+past_then k (Took x size) goes = refl
+past_then k (Ends at) goes = refl
+past_then k (Stops n fault) goes = refl
+
+-- what ends a list that was taken, in the text
+pub list_ended : {c : ListContext} {n : ℕ} {text : List ℕ} {x : Items × ℕ} {size : ℕ} → Takes AtByte n text (ListIs c text) x size
+    → Ended c.kind x.1 (drop size text)
+list_ended {n = n} {text} {size = size} t =
+    (t.is (n + length (t.step.front (drop size text))) (drop size text) (near_self (drop size text)) refl).2
+
+-- a call in a list or a test with this context
+
+pub data CallBad (g : ListContext) (at total : ℕ) : List ℕ → SyntaxFault → Type 0 where
+  no_function : {t : List ℕ} → IsNoFunction t → CallBad g at total t (UnknownFunction at)
+  in_list : {u last : List ℕ} {due : Due} {fault : SyntaxFault} (name : List ℕ) → is_function name ≡ true
+      → Reaches total (in_arguments g) u due last → Refuses total due last fault
+      → CallBad g at total (name ++ ascii.opening_parenthesis ∷ u) fault
+
+module _ {X : Type 0} (make : List ℕ → Items → X) (g : ListContext) (inner : (g.levels == 0) ≡ false) (lists : Lists)
+    (meets : (n : ℕ) (text : List ℕ) → ListMeant (in_arguments g) n text (lists (in_arguments g) n text)) (at : ℕ) where
+  abbrev pub CallIs : ℕ → List ℕ → X → List ℕ → Type 0
+  CallIs total t x q = (name : List ℕ) × (items : Items) × (x ≡ make name items) × IsCall total g t name items q
+
+  abbrev CallCuts : ℕ → List ℕ → Type 0
+  CallCuts total t = CutsCall total g t
+
+  abbrev pub CallMeant : ℕ → List ℕ → Read X → Type 0
+  CallMeant n text r = Meant AtByte n text CallIs CallCuts (CallBad g at) r
+
+  abbrev ArgsMeant : List ℕ → ℕ → List ℕ → Read X → Type 0
+  ArgsMeant called n text r = Meant AtByte n text
+      (λ total t x q. (items : Items) × (x ≡ make called items) × AreItems total (in_arguments g) t items (ascii.closing_parenthesis ∷ q))
+      (ListCuts (in_arguments g))
+      (λ total t fault. (due : Due) × (last : List ℕ) × Reaches total (in_arguments g) t due last × Refuses total due last fault) r
+
+  arguments_meant : (called : List ℕ) (n : ℕ) (text : List ℕ)
+      → ArgsMeant called n text (then_read (lists (in_arguments g) n text) (λ list size. Took (make called list.0) (size + 1)))
+  arguments_meant called n text = meant_then (λ list size. Took (make called list.0) (size + 1)) (meets n text) closed
+      (λ total t place near i. i) (λ total t fault place near i. (i.1, i.2, i.3, i.4))
+    where
+      closed : (list : Items × ℕ) (size : ℕ) → Takes AtByte n text (ListIs (in_arguments g) text) list size
+          → ArgsMeant called n text (Took (make called list.0) (size + 1))
+      closed list size t =
+          let end = list_ended t in
+          let f : drop size text ≡ 41 ∷ end.0 = end.1 ∙ ap (λ (y : ℕ). y ∷ end.0) (same list.1 41 end.2) in
+          meant_took (record {
+            step = then_byte size t.step 41 end.0 f;
+            is = λ total q near place. (
+              list.0,
+              refl,
+              (t.is total (41 ∷ q) (subst (λ (u : List ℕ). Near u (41 ∷ q)) (sym f) same_byte)
+                  place).1,
+            );
+          })
+
+  pub call_meant : (n : ℕ) (text : List ℕ) (around : ℕ) → CallMeant n text
+      (d.within around (then_read (d.function_from at n [] text) (λ called k.
+      then_read (lists (in_arguments g) (n + k) (drop k text)) (λ list size. Took (make called list.0) (k + (size + 1))))))
+  call_meant n text around = meant_within around (meant_then (λ called k.
+      then_read (lists (in_arguments g) (n + k) (drop k text)) (λ list size. Took (make called list.0) (k + (size + 1))))
+      (function_meant at n [] text refl) goes (λ total t place near i. cuts.in_function inner i)
+      (λ total t fault place near i. subst (λ (f : SyntaxFault). CallBad g at total t f) (sym i.1) (no_function i.0)))
+    where
+      goes : (called : List ℕ) (k : ℕ) → Takes AtByte n text (NameIs []) called k
+          → CallMeant n text (then_read (lists (in_arguments g) (n + k) (drop k text))
+          (λ list size. Took (make called list.0) (k + (size + 1))))
+      goes called k t =
+          subst (λ (r : Read X). CallMeant n text r)
+          (past_then k (lists (in_arguments g) (n + k) (drop k text)) (λ list size. Took (make called list.0) (size + 1)))
+          (meant_past AtByte n k text t.step CallIs CallCuts (CallBad g at) (arguments_meant called (n + k) (drop k text))
+          (λ total u x q near place i.
+          let name = t.is total u near (moved total u place) in
+          (called, i.0, i.1, subst (λ (v : List ℕ). IsCall total g v called i.0 q) (sym name.0) (s.call inner name.1 i.2)))
+          (λ total u near place i.
+          let name = t.is total u near (moved total u place) in
+          subst (λ (v : List ℕ). CutsCall total g v) (sym name.0) (cuts.in_function_arguments called inner name.1 i))
+          (λ total u fault near place i.
+          let name = t.is total u near (moved total u place) in
+          subst (λ (v : List ℕ). CallBad g at total v fault) (sym name.0) (in_list called name.1 i.2 i.3)))
+        where
+          moved : (total : ℕ) (u : List ℕ) → At total (n + k) u → At total n (t.step.front u)
+          moved total u place = omega (arith, place, t.step.sized u)

@@ -1,0 +1,102 @@
+use Rattle.drv_words.specs.Bytes as ascii
+use Rattle.drv_syntax.proofs.Leads.{same}
+use Rattle.drv_syntax.specs.Spelling as s
+use Rattle.drv_syntax.specs.Spelling.{At}
+use Rattle.std.proofs.Common.{◌≡◌, ◌∙◌, ◌+◌, ◌++◌, Bool, false, true, List, [], ◌∷◌, ap, arith, drop, drop-drop, length, refl, subst, suc, sym}
+use Rattle.std.proofs.Common.{take, zero, ℕ}
+use Rattle.std.specs.List.{prefix_len}
+use Rattle.std.specs.Prelude.{◌==◌, if◌then◌else◌}
+
+-- A text of which the front is taken, with another rest after that front. Nothing here knows the grammar. It serves what
+-- Descent makes of a text (Meant).
+
+-- texts that begin alike
+pub data Near : List ℕ → List ℕ → Type 0 where
+  both_end : Near [] []
+  same_byte : {b : ℕ} {u q : List ℕ} → Near (b ∷ u) (b ∷ q)
+
+-- and go on alike after a percent sign
+pub data Far : List ℕ → List ℕ → Type 0 where
+  far_end : Far [] []
+  far_other : {b : ℕ} {u q : List ℕ} → (b == ascii.percent) ≡ false → Far (b ∷ u) (b ∷ q)
+  far_more : {b : ℕ} {u q : List ℕ} → Near u q → Far (b ∷ u) (b ∷ q)
+
+pub near_far : {u q : List ℕ} → Far u q → Near u q
+near_far far_end = both_end
+near_far (far_other e) = same_byte
+near_far (far_more n) = same_byte
+
+pub near_self : (u : List ℕ) → Near u u
+near_self [] = both_end
+near_self (b ∷ u) = same_byte
+
+pub far_self : (u : List ℕ) → Far u u
+far_self [] = far_end
+far_self (b ∷ u) = far_more (near_self u)
+
+pub near_stops : {f : ℕ → Bool} {u q : List ℕ} → Near u q → s.Stops f u → s.Stops f q
+near_stops both_end h = s.at_end
+near_stops same_byte (s.at_byte e) = s.at_byte e
+
+-- so much of a text, and the same bytes with another rest after them
+pub record Step (text : List ℕ) (size : ℕ) : Type 0 where
+  pub front : List ℕ → List ℕ
+  pub whole : front (drop size text) ≡ text
+  pub takes : (k : ℕ) → front (take k (drop size text)) ≡ take (size + k) text
+  pub sized : (q : List ℕ) → length (front q) ≡ size + length q
+  pub near : (q : List ℕ) → Near (drop size text) q → Near text (front q)
+
+abbrev pub no_step : (text : List ℕ) → Step text 0
+no_step text = record {
+  front = λ q. q;
+  whole = refl;
+  takes = λ k. (let e : k ≡ 0 + k = omega arith in ap (λ (i : ℕ). take i text) e);
+  sized = λ q. omega arith;
+  near = λ q n. n;
+}
+
+abbrev pub byte_step : (b : ℕ) (text : List ℕ) → Step (b ∷ text) 1
+byte_step b text = record {
+  front = λ q. b ∷ q;
+  whole = refl;
+  takes = λ k. (let e : suc k ≡ 1 + k = omega arith in ap (λ (i : ℕ). take i (b ∷ text)) e);
+  sized = λ q. omega arith;
+  near = λ q n. same_byte;
+}
+
+module _ {text : List ℕ} (k : ℕ) (m : Step text k) where
+  -- a step, and one from there
+  abbrev pub steps : (size : ℕ) → Step (drop k text) size → Step text (k + size)
+  steps size r = record {
+    front = λ q. m.front (r.front q);
+    whole = subst (λ (t : List ℕ). m.front (r.front t) ≡ text) (drop-drop size k text) (ap m.front r.whole ∙ m.whole);
+    takes = λ j. subst (λ (t : List ℕ). m.front (r.front (take j t)) ≡ take (k + size + j) text) (drop-drop size k text)
+        (ap m.front (r.takes j) ∙ m.takes (size + j) ∙ (let e : k + (size + j) ≡ k + size + j = omega arith in ap
+        (λ (i : ℕ). take i text) e));
+    sized = λ q. omega (arith, m.sized (r.front q), r.sized q);
+    near = λ q n. m.near (r.front q) (r.near q (subst (λ (t : List ℕ). Near t q) (sym (drop-drop size k text)) n));
+  }
+
+  pub dropped : (b : ℕ) (rest : List ℕ) → drop k text ≡ b ∷ rest → drop (k + 1) text ≡ rest
+  dropped b rest e = sym (drop-drop 1 k text) ∙ ap (λ (t : List ℕ). drop 1 t) e
+
+  -- a step, and the byte there
+  abbrev pub then_byte : (b : ℕ) (rest : List ℕ) → drop k text ≡ b ∷ rest → Step text (k + 1)
+  then_byte b rest e = record {
+    front = λ q. m.front (b ∷ q);
+    whole = ap (λ (t : List ℕ). m.front (b ∷ t)) (dropped b rest e) ∙ ap m.front (sym e) ∙ m.whole;
+    takes = λ j. ap (λ (t : List ℕ). m.front (b ∷ take j t)) (dropped b rest e) ∙ ap (λ (t : List ℕ). m.front (take (suc j) t)) (sym e)
+        ∙ m.takes (suc j) ∙ (let f : k + suc j ≡ k + 1 + j = omega arith in ap (λ (i : ℕ). take i text) f);
+    sized = λ q. omega (arith, m.sized (b ∷ q));
+    near = λ q n. m.near (b ∷ q) (subst (λ (t : List ℕ). Near t (b ∷ q)) (sym e) same_byte);
+  }
+
+-- the step of another size that is the same
+abbrev pub resized : {text : List ℕ} {size : ℕ} (other : ℕ) → size ≡ other → Step text size → Step text other
+resized {text} other e m = record {
+  front = m.front;
+  whole = subst (λ (i : ℕ). m.front (drop i text) ≡ text) e m.whole;
+  takes = λ k. subst (λ (i : ℕ). m.front (take k (drop i text)) ≡ take (i + k) text) e (m.takes k);
+  sized = λ q. subst (λ (i : ℕ). length (m.front q) ≡ i + length q) e (m.sized q);
+  near = λ q n. m.near q (subst (λ (i : ℕ). Near (drop i text) q) (sym e) n);
+}
