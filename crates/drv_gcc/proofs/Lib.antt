@@ -1,3 +1,4 @@
 pub mod Forms
+pub mod Halves
 pub mod Joining
 pub mod Naming

@@ -6,6 +6,7 @@ mod answers;
 mod choices;
 mod composing;
 mod fixed;
+mod halving;
 mod hiding;
 mod listed;
 mod plans;
@@ -19,6 +20,7 @@ pub use choices::machine_words;
 pub use composing::{
     file_text, folder_text, libraries, placed_text, rooted_text, spec_file, words_text,
 };
+pub use halving::{halve, halves_find_all};
 pub use listed::{option_lines, options};
 pub use plans::same_commands;
 pub use replacing::replace;
