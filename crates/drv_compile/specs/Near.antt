@@ -18,9 +18,9 @@ after_equals (b ∷ word) = if b == equals then word else after_equals word
 abbrev pub meant_by : List ℕ → List ℕ → List ℕ
 meant_by word name = if ends_with nat_eq name (codes "=") then name ++ after_equals word else name
 
--- a name without the mark after its =, which says what arguments it takes
+-- a name without the mark at its end, which says what arguments it takes, or that gcc refuses it
 abbrev pub is_marked : List ℕ → Bool
-is_marked name = ends_with nat_eq name (codes "=?") || ends_with nat_eq name (codes "=#")
+is_marked name = ends_with nat_eq name (codes "?") || ends_with nat_eq name (codes "=#")
 
 abbrev pub unmarked : List ℕ → List ℕ
 unmarked name = if is_marked name then take (length name - 1) name else name

@@ -112,14 +112,14 @@ fn takes_argument(name: &[u8]) -> bool
     name.ends_with(b"=".as_slice())
 }
 
-/// Whether a name has a mark after its `=`, which says what arguments it takes.
+/// Whether a name has a mark at its end, which says what arguments it takes, or that gcc refuses it.
 fn is_marked(name: &[u8]) -> bool
     ensures { result ≡ is_marked name.now }
 {
-    name.ends_with(b"=?") || name.ends_with(b"=#")
+    name.ends_with(b"?") || name.ends_with(b"=#")
 }
 
-/// A name without the mark after its `=`.
+/// A name without the mark at its end.
 fn unmarked(name: &[u8]) -> &[u8]
     ensures { result.now ≡ unmarked name.now }
 {
