@@ -9,6 +9,16 @@ pub fn has_word(words: &[Word], word: &[u8]) -> bool {
     words.iter().any(|it| it.as_bytes() == word)
 }
 
+/// Whether a text has these bytes.
+pub fn has_bytes(text: &[u8], bytes: &[u8]) -> bool {
+    for at in 0..text.len() {
+        if text.get(at..).unwrap_or(b"").starts_with(bytes) {
+            return true;
+        }
+    }
+    false
+}
+
 /// The last command of a program of this name, with its words.
 pub fn command_named<'a>(commands: &'a [Listing<Word>], name: &[u8]) -> Option<&'a [Word]> {
     let mut found = None;

@@ -16,6 +16,7 @@ mod names;
 mod parts;
 mod placing;
 mod programs;
+mod refusing;
 mod room;
 mod shortening;
 mod wording;

@@ -3,6 +3,7 @@
 use crate::asking::{ask, ask_words, commands, named};
 use crate::fault::Fault;
 use crate::finding::has_word;
+use crate::refusing::{Answer, answer_to, refused_of};
 use crate::room::Room;
 use drv_gcc::{option_lines, options, values};
 use drv_words::{Listing, Word, split};
@@ -23,7 +24,9 @@ fn calls_cpu_tune(rt: &HostRuntime, room: &Room, gcc: &Word) -> Result<bool, Fau
 }
 
 /// Options whose values the front knows.
-const OWN: [&[u8]; 4] = [
+const OWN: [&[u8]; 6] = [
+    b"-std=",
+    b"-specs=",
     b"-fsanitize=",
     b"-fno-sanitize=",
     b"-fuse-ld=",
@@ -33,7 +36,7 @@ const OWN: [&[u8]; 4] = [
 /// The name of an option with a value, up to its equals sign; none for another option, or for one
 /// whose value the front knows.
 fn open_name(option: &[u8]) -> Option<&[u8]> {
-    let is_judged = matches!(option, [b'-', b'f' | b'W' | b'm' | b'g', ..]);
+    let is_judged = matches!(option, [b'-', b'f' | b'W' | b'm' | b'g' | b's', ..]);
     let end = option.iter().position(|byte| *byte == b'=')?;
     let name = option.get(..end + 1)?;
     if is_judged && !OWN.iter().any(|own| name == *own) {
@@ -195,20 +198,73 @@ fn judgements(
     Ok(found)
 }
 
-/// Whether a gcc knows the option of a word, and refuses the word.
-fn is_refused(rt: &HostRuntime, room: &Room, gcc: &Word, word: &Word) -> Result<bool, Fault> {
-    let mut words = split(rt.alloc(), b"-### -Wl,x")?;
-    words.push(word.clone()?)?;
-    let said = ask_words(rt, &room.lines, gcc, words.as_slice())?;
-    let unknown = b"unrecognized command-line option".as_slice();
-    Ok(
-        !said.is_done
-            && !said
-                .err
-                .as_bytes()
-                .windows(unknown.len())
-                .any(|it| it == unknown),
-    )
+/// Whether gcc's driver is asked of an option as it is: it has no value and doesn't end the call, or
+/// each of its values is an option.
+fn is_whole(option: &[u8]) -> bool {
+    if option.starts_with(b"-stdlib=") {
+        return !option.ends_with(b"=");
+    }
+    let is_judged = matches!(option, [b'-', b'f' | b'W' | b'm' | b'g', ..]);
+    let ends_the_call = matches!(option, b"-fhelp" | b"-fversion" | b"-ftarget-help");
+    is_judged && !option.contains(&b'=') && !option.ends_with(b"-") && !ends_the_call
+}
+
+/// The options of which gcc's driver is asked as they are.
+fn whole_of(alloc: Global, known: &[Word]) -> Result<Listing<Word>, Fault> {
+    let mut whole = Listing::new(alloc);
+    for option in known {
+        if is_whole(option.as_bytes()) {
+            whole.push(option.clone()?)?;
+        }
+    }
+    Ok(whole)
+}
+
+/// What a gcc makes of the options that it lists.
+#[derive(Drop)]
+struct OptionNames {
+    /// The names of those that it judges, with their marks and values.
+    names: Listing<Word>,
+    /// Those that it does not know.
+    lacking: Listing<Word>,
+}
+
+/// Notes what a gcc makes of a word with the option of this name.
+fn note(
+    rt: &HostRuntime,
+    room: &Room,
+    gcc: &Word,
+    name: &[u8],
+    word: &Word,
+    options: &mut OptionNames,
+) -> Result<(), Fault> {
+    let alloc = rt.alloc();
+    match answer_to(rt, room, gcc, word)? {
+        Answer::Takes => Ok(()),
+        Answer::Refuses => Ok(options.names.push(named(alloc, name, b"?")?)?),
+        Answer::Lacks => Ok(options.lacking.push(Word::from_bytes(alloc, name)?)?),
+    }
+}
+
+/// Notes the options that a gcc lists and refuses: each as it is, and each with a value that no
+/// option has.
+fn note_refused(
+    rt: &HostRuntime,
+    room: &Room,
+    gcc: &Word,
+    whole: Listing<Word>,
+    tried: &[Word],
+    options: &mut OptionNames,
+) -> Result<(), Fault> {
+    for word in refused_of(rt, room, gcc, whole)?.as_slice() {
+        note(rt, room, gcc, word.as_bytes(), word, options)?;
+    }
+    for word in tried {
+        let bytes = word.as_bytes();
+        let name = bytes.strip_suffix(b"?".as_slice()).unwrap_or(bytes);
+        note(rt, room, gcc, name, word, options)?;
+    }
+    Ok(())
 }
 
 /// The options that take numbers, each with one that is too large for a list.
@@ -237,35 +293,49 @@ fn speaks_of(found: &[Judged], name: &Word) -> bool {
     found.iter().any(|it| it.name.as_bytes() == name.as_bytes())
 }
 
-/// The options whose value is judged: `NAME=#` takes a number, and `NAME=?` what is listed, which
-/// follows. Numbers up to a small one are a list.
-fn judged_names(
+/// Adds the names of the options whose value is judged: `NAME=#` takes a number, and what is listed
+/// follows `NAME=`. Numbers up to a small one are a list.
+fn add_judged(
     rt: &HostRuntime,
     room: &Room,
     gcc: &Word,
-    known: &[Word],
-) -> Result<Listing<Word>, Fault> {
+    tried: &[Word],
+    names: &mut Listing<Word>,
+) -> Result<(), Fault> {
     let alloc = rt.alloc();
-    let mut names = Listing::new(alloc);
-    let tried = with_no_value(alloc, known)?;
-    for word in tried.as_slice() {
-        if is_refused(rt, room, gcc, word)? {
-            names.push(word.clone()?)?;
-        }
-    }
-    let found = judgements(rt, room, gcc, tried.as_slice())?;
+    let found = judgements(rt, room, gcc, tried)?;
     let large = with_large(alloc, found.as_slice())?;
     let few = judgements(rt, room, gcc, large.as_slice())?;
     for it in found.as_slice() {
-        add_values(alloc, it, &mut names)?;
+        add_values(alloc, it, names)?;
         if !speaks_of(few.as_slice(), &it.name) && matches!(it.takes, Takes::Number) {
             names.push(named(alloc, it.name.as_bytes(), b"#")?)?;
         }
     }
     for it in few.as_slice() {
-        add_values(alloc, it, &mut names)?;
+        add_values(alloc, it, names)?;
     }
-    Ok(names)
+    Ok(())
+}
+
+/// What a gcc makes of these options. `NAME?` is known and refused; of one with a value, others
+/// than those that are listed.
+fn sorted_out(
+    rt: &HostRuntime,
+    room: &Room,
+    gcc: &Word,
+    known: &[Word],
+) -> Result<OptionNames, Fault> {
+    let alloc = rt.alloc();
+    let mut options = OptionNames {
+        names: Listing::new(alloc),
+        lacking: Listing::new(alloc),
+    };
+    let tried = with_no_value(alloc, known)?;
+    let whole = whole_of(alloc, known)?;
+    note_refused(rt, room, gcc, whole, tried.as_slice(), &mut options)?;
+    add_judged(rt, room, gcc, tried.as_slice(), &mut options.names)?;
+    Ok(options)
 }
 
 /// Whether an option is the name of one whose value is judged.
@@ -277,6 +347,23 @@ fn is_replaced(option: &[u8], judged: &[Word]) -> bool {
             None => false,
         },
     })
+}
+
+/// The options that a gcc takes whatever their values are.
+fn add_taken(
+    known: &[Word],
+    options: &OptionNames,
+    names: &mut Listing<Word>,
+) -> Result<(), Fault> {
+    for option in known {
+        let name = option.as_bytes();
+        if !is_replaced(name, options.names.as_slice())
+            && !has_word(options.lacking.as_slice(), name)
+        {
+            names.push(option.clone()?)?;
+        }
+    }
+    Ok(())
 }
 
 /// The lines of a text, sorted by their bytes, each once.
@@ -316,15 +403,11 @@ pub fn names_of(rt: &HostRuntime, room: &Room, gcc: &Word) -> Result<Word, Fault
     if known.is_empty() {
         return Err(Fault::NoOptions(gcc.clone()?));
     }
+    let judged = sorted_out(rt, room, gcc, known.as_slice())?;
     add_negatives(alloc, said.out.as_bytes(), &mut known)?;
-    let judged = judged_names(rt, room, gcc, known.as_slice())?;
     let mut names = Listing::new(alloc);
-    for option in known.as_slice() {
-        if !is_replaced(option.as_bytes(), judged.as_slice()) {
-            names.push(option.clone()?)?;
-        }
-    }
-    for name in judged.as_slice() {
+    add_taken(known.as_slice(), &judged, &mut names)?;
+    for name in judged.names.as_slice() {
         names.push(name.clone()?)?;
     }
     let mut lines = option_lines(alloc, names.as_slice())?;

@@ -1,0 +1,95 @@
+//! Which words of its line a gcc refuses.
+
+use crate::asking::{Said, ask_words};
+use crate::fault::Fault;
+use crate::finding::has_bytes;
+use crate::room::Room;
+use drv_gcc::halve;
+use drv_words::{Listing, Word, split};
+use std::slice;
+
+/// What a gcc makes of a word of its line.
+#[derive(Clone, Copy)]
+pub enum Answer {
+    /// It takes the word.
+    Takes,
+    /// It knows the option, and refuses the word.
+    Refuses,
+    /// It knows no such option.
+    Lacks,
+}
+
+/// What a gcc says of these words. The input after each of them is the argument of an option that
+/// takes the next word.
+fn tried(rt: &HostRuntime, room: &Room, gcc: &Word, words: &[Word]) -> Result<Said, Fault> {
+    let mut line = split(rt.alloc(), b"-###")?;
+    for word in words {
+        line.push(word.clone()?)?;
+        line.push(Word::from_bytes(rt.alloc(), b"-Wl,x")?)?;
+    }
+    Ok(ask_words(rt, &room.lines, gcc, line.as_slice())?)
+}
+
+/// What a gcc makes of a word.
+pub fn answer_to(rt: &HostRuntime, room: &Room, gcc: &Word, word: &Word) -> Result<Answer, Fault> {
+    let said = tried(rt, room, gcc, slice::from_ref(word))?;
+    Ok(if said.is_done {
+        Answer::Takes
+    } else if has_bytes(said.err.as_bytes(), b"unrecognized command") {
+        Answer::Lacks
+    } else {
+        Answer::Refuses
+    })
+}
+
+/// How many words a gcc is asked of at once. Its time grows by their square.
+const AT_ONCE: usize = 256;
+
+/// How often as many words as a gcc has are halved, until each is alone.
+const HALVINGS: usize = 20;
+
+/// Asks a gcc of words. Those that it refuses are halved.
+fn ask_of(
+    rt: &HostRuntime,
+    room: &Room,
+    gcc: &Word,
+    words: &[Word],
+    halves: &mut Listing<Listing<Word>>,
+    refused: &mut Listing<Word>,
+) -> Result<(), Fault> {
+    if AT_ONCE < words.len() || !tried(rt, room, gcc, words)?.is_done {
+        halve(rt.alloc(), words, halves, refused)?;
+    }
+    Ok(())
+}
+
+/// Asks a gcc of each of these lists of words, and gives the halves of those that it refuses.
+fn halves_of(
+    rt: &HostRuntime,
+    room: &Room,
+    gcc: &Word,
+    waiting: &[Listing<Word>],
+    refused: &mut Listing<Word>,
+) -> Result<Listing<Listing<Word>>, Fault> {
+    let mut halves = Listing::new(rt.alloc());
+    for words in waiting {
+        ask_of(rt, room, gcc, words.as_slice(), &mut halves, refused)?;
+    }
+    Ok(halves)
+}
+
+/// Those of these words that a gcc refuses, each by itself.
+pub fn refused_of(
+    rt: &HostRuntime,
+    room: &Room,
+    gcc: &Word,
+    words: Listing<Word>,
+) -> Result<Listing<Word>, Fault> {
+    let mut refused = Listing::new(rt.alloc());
+    let mut waiting = Listing::new(rt.alloc());
+    waiting.push(words)?;
+    for _ in 0..HALVINGS {
+        waiting = halves_of(rt, room, gcc, waiting.as_slice(), &mut refused)?;
+    }
+    Ok(refused)
+}
