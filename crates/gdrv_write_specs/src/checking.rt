@@ -2,6 +2,7 @@
 
 use crate::asking::{Said, ask, commands};
 use crate::fault::Fault;
+use crate::refusing::{Answer, answer_to};
 use crate::room::Room;
 use drv_gcc::{options, same_commands};
 use drv_words::{Listing, Word};
@@ -58,6 +59,24 @@ const ROOT_LINES: [&[u8]; 3] = [
 
 /// The lines that are compared with each option for a machine.
 const MACHINE_LINES: [&[u8]; 3] = [b"-c x.c -o made", b"-c x.S -o made", b"x.o -o made"];
+
+/// Options that gcc's driver takes only where its texts name them.
+const NAMED: [&[u8]; 14] = [
+    b"-nolibc",
+    b"-pthread",
+    b"-rdynamic",
+    b"-symbolic",
+    b"-p",
+    b"-pg",
+    b"-profile",
+    b"-pie",
+    b"-no-pie",
+    b"-static-pie",
+    b"-static",
+    b"-shared",
+    b"-static-libgcc",
+    b"-shared-libgcc",
+];
 
 /// Two drivers that are compared in a room.
 #[derive(Clone, Copy)]
@@ -166,6 +185,18 @@ impl<'a> Pair<'a> {
             }
         }
         Ok(false)
+    }
+
+    /// The options that the gcc lacks because its texts don't name them.
+    pub fn unnamed(self) -> Result<Listing<Word>, Fault> {
+        let mut unnamed = Listing::new(self.rt.alloc());
+        for option in NAMED {
+            let word = Word::from_bytes(self.rt.alloc(), option)?;
+            if let Answer::Lacks = answer_to(self.rt, self.room, self.gcc, &word)? {
+                unnamed.push(word)?;
+            }
+        }
+        Ok(unnamed)
     }
 
     /// The options for a machine that a gcc lists, each with a value if it takes one.

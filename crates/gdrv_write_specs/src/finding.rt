@@ -19,12 +19,20 @@ pub fn has_bytes(text: &[u8], bytes: &[u8]) -> bool {
     false
 }
 
+/// Whether a program has this name, alone or after that of a target: `as`, `bpf-as`.
+fn is_called(program: &[u8], name: &[u8]) -> bool {
+    match base(program).strip_suffix(name) {
+        Some(target) => target.is_empty() || target.ends_with(b"-"),
+        None => false,
+    }
+}
+
 /// The last command of a program of this name, with its words.
 pub fn command_named<'a>(commands: &'a [Listing<Word>], name: &[u8]) -> Option<&'a [Word]> {
     let mut found = None;
     for command in commands {
         if let [program, ..] = command.as_slice() {
-            if base(program.as_bytes()) == name {
+            if is_called(program.as_bytes(), name) {
                 found = Some(command.as_slice());
             }
         }

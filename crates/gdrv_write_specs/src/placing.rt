@@ -112,24 +112,6 @@ fn put_specs(pair: Pair<'_>, gathered: &Gathered) -> Result<(), Fault> {
 /// How many options that choose another machine have texts of their own.
 const MACHINES: usize = 16;
 
-/// Compares the options for machines. Those that have another plan get texts of their own, and are
-/// refused by name if that doesn't help. Gives those that have another plan all the same.
-fn check_machines(pair: Pair<'_>, gathered: &mut Gathered) -> Result<Listing<Word>, Fault> {
-    let alloc = pair.rt.alloc();
-    let others = pair.others(pair.machines()?.as_slice())?;
-    for option in others.as_slice().iter().take(MACHINES) {
-        gathered.add_machine(pair.rt, pair.room, pair.gcc, option)?;
-    }
-    gathered.choose(alloc)?;
-    put_specs(pair, gathered)?;
-    gathered.toolchain.refused = pair.others(others.as_slice())?;
-    if pair.is_rooted_otherwise()? {
-        gathered.toolchain.is_rooted = false;
-    }
-    put_specs(pair, gathered)?;
-    pair.others(gathered.toolchain.refused.as_slice())
-}
-
 /// The lines whose plans differ, whatever the user said of them.
 fn judge(pair: Pair<'_>, manner: Manner, lines: &[Word]) -> Result<(), Fault> {
     match manner {
@@ -138,16 +120,60 @@ fn judge(pair: Pair<'_>, manner: Manner, lines: &[Word]) -> Result<(), Fault> {
     }
 }
 
+/// Has some options refused by name.
+fn refuse(gathered: &mut Gathered, options: &[Word]) -> Result<(), Fault> {
+    for option in options {
+        gathered.toolchain.refused.push(option.clone()?)?;
+    }
+    Ok(())
+}
+
+/// Compares the options for machines. Those that have another plan get texts of their own, and are
+/// refused by name if that doesn't help. Gives those that are refused.
+fn check_machines(pair: Pair<'_>, gathered: &mut Gathered) -> Result<Listing<Word>, Fault> {
+    let others = pair.others(pair.machines()?.as_slice())?;
+    for option in others.as_slice().iter().take(MACHINES) {
+        gathered.add_machine(pair.rt, pair.room, pair.gcc, option)?;
+    }
+    gathered.choose(pair.rt.alloc())?;
+    put_specs(pair, gathered)?;
+    let refused = pair.others(others.as_slice())?;
+    refuse(gathered, refused.as_slice())?;
+    if pair.is_rooted_otherwise()? {
+        gathered.toolchain.is_rooted = false;
+    }
+    put_specs(pair, gathered)?;
+    Ok(refused)
+}
+
 /// Compares the plans, and has the options refused that would give others.
 fn check(pair: Pair<'_>, manner: Manner, gathered: &mut Gathered) -> Result<(), Fault> {
     judge(pair, manner, pair.differing()?.as_slice())?;
-    let left = check_machines(pair, gathered)?;
-    judge(pair, manner, left.as_slice())?;
+    let refused = check_machines(pair, gathered)?;
+    judge(pair, manner, pair.others(refused.as_slice())?.as_slice())?;
     tell(
         pair.rt,
         b"refused by name, since they would make something else:",
-        gathered.toolchain.refused.as_slice(),
+        refused.as_slice(),
     )
+}
+
+/// Makes the files of a gcc, of which this is known, and tries them.
+fn put_all(pair: Pair<'_>, manner: Manner, gathered: &mut Gathered) -> Result<(), Fault> {
+    tell(
+        pair.rt,
+        b"texts that cannot be translated, so lines that use them are refused:",
+        gathered.lacking.as_slice(),
+    )?;
+    put_beside(
+        pair.rt,
+        pair.room,
+        pair.gcc,
+        gathered.toolchain.folders.as_slice(),
+    )?;
+    refuse(gathered, pair.unnamed()?.as_slice())?;
+    put_specs(pair, gathered)?;
+    check(pair, manner, gathered)
 }
 
 /// Makes the files of a gcc in a room, tries them, and puts them in place.
@@ -159,15 +185,7 @@ fn write_in(
     gcc: &Word,
 ) -> Result<(), Fault> {
     let mut gathered = gather(rt, room, gcc)?;
-    tell(
-        rt,
-        b"texts that cannot be translated, so lines that use them are refused:",
-        gathered.lacking.as_slice(),
-    )?;
-    put_beside(rt, room, gcc, gathered.toolchain.folders.as_slice())?;
-    let pair = Pair { rt, room, gcc };
-    put_specs(pair, &gathered)?;
-    check(pair, manner, &mut gathered)?;
+    put_all(Pair { rt, room, gcc }, manner, &mut gathered)?;
     room.place(rt, stem)
 }
 
