@@ -2,10 +2,22 @@
 
 use crate::asking::named;
 use crate::fault::Fault;
+use crate::finding::has_bytes;
 use crate::shortening::{Known, name_in, shortened, squeezed};
 use drv_dump::{Kind, read_text};
 use drv_words::{Listing, Word, split};
 use std::alloc::Global;
+
+/// Which name a text has in a shorter file.
+#[derive(Clone, Copy)]
+enum Naming {
+    /// Its own, since users may name it.
+    Kept,
+    /// Its own, if it is long and used often.
+    Own,
+    /// A new one, if it is long and used often.
+    New,
+}
 
 /// A text of a spec file.
 #[derive(Drop)]
@@ -20,7 +32,8 @@ struct Entry {
     is_counted: bool,
     /// Whether others replace their names in it.
     is_grown: bool,
-    /// Its new name, if it keeps a name.
+    naming: Naming,
+    /// Its name in the shorter file, if it is long and used often.
     letter: Option<Word>,
 }
 
@@ -118,6 +131,7 @@ fn new_entry(name: Word, body: Word) -> Entry {
         is_reached: false,
         is_counted: false,
         is_grown: false,
+        naming: Naming::New,
         letter: None,
     }
 }
@@ -274,6 +288,13 @@ fn letter(alloc: Global, number: usize) -> Result<Word, Fault> {
     Ok(name)
 }
 
+/// The use of a text by its name.
+fn use_of(alloc: Global, name: &Word) -> Result<Word, Fault> {
+    let mut text = named(alloc, b"%(", name.as_bytes())?;
+    text.push(b')')?;
+    Ok(text)
+}
+
 /// What replaces a text's name: the text, or another name if it is long and used
 /// often. None if the text isn't grown yet.
 fn placed(alloc: Global, entries: &mut [Entry], name: &[u8]) -> Result<Option<Word>, Fault> {
@@ -284,6 +305,9 @@ fn placed(alloc: Global, entries: &mut [Entry], name: &[u8]) -> Result<Option<Wo
     let Some(it) = entries.get_mut(at) else {
         return Ok(None);
     };
+    if let Naming::Kept = it.naming {
+        return Ok(Some(use_of(alloc, &it.name)?));
+    }
     if !it.is_grown {
         return Ok(None);
     }
@@ -291,13 +315,13 @@ fn placed(alloc: Global, entries: &mut [Entry], name: &[u8]) -> Result<Option<Wo
     if spared <= it.uses.saturating_mul(4).saturating_add(110) {
         return Ok(Some(it.body.clone()?));
     }
-    let own = match &it.letter {
-        Some(own) => own.clone()?,
-        None => letter(alloc, letters)?,
+    let own = match (&it.letter, it.naming) {
+        (Some(own), _) => own.clone()?,
+        (None, Naming::New) => letter(alloc, letters)?,
+        (None, _) => it.name.clone()?,
     };
-    it.letter = Some(own.clone()?);
-    let mut text = named(alloc, b"%(", own.as_bytes())?;
-    text.push(b')')?;
+    let text = use_of(alloc, &own)?;
+    it.letter = Some(own);
     Ok(Some(text))
 }
 
@@ -376,6 +400,93 @@ fn printed(alloc: Global, entries: &[Entry], roots: &[Word]) -> Result<Option<Wo
         }
     }
     Ok(Some(file))
+}
+
+/// Switches that no line has, or for which each line is refused whose texts test them.
+const NEVER: &[u8] = b"-gdrv-none mandroid mmusl muclibc mbionic \
+    fvtable-verify=none fvtable-verify=preinit fvtable-verify=std";
+
+/// Whether users may name a text: all but those that find files.
+fn is_own(name: &[u8]) -> bool {
+    !name.starts_with(b"file_") && !name.starts_with(b"in_")
+}
+
+/// Keeps the texts that users may name.
+fn keep_own(entries: &mut [Entry]) {
+    for it in entries.iter_mut() {
+        it.is_reached = is_own(it.name.as_bytes());
+        it.naming = if it.is_reached {
+            Naming::Kept
+        } else {
+            Naming::Own
+        };
+    }
+}
+
+/// Whether a text finds a file.
+fn finds_file(body: &[u8]) -> bool {
+    has_bytes(body, b"%(file_") || has_bytes(body, b"%(in_")
+}
+
+/// Leaves a text as it is that has forms of this driver's own, which no dump has. False if it finds
+/// a file.
+fn leave(alloc: Global, it: &mut Entry) -> bool {
+    if read_text(alloc, it.body.as_bytes()).is_ok() {
+        return true;
+    }
+    it.is_counted = true;
+    it.is_grown = true;
+    !finds_file(it.body.as_bytes())
+}
+
+/// Leaves the texts as they are that can't be read. False if one of them finds a file.
+fn leave_unread(alloc: Global, entries: &mut [Entry]) -> bool {
+    let mut is_done = true;
+    for it in entries.iter_mut() {
+        is_done = leave(alloc, it) && is_done;
+    }
+    is_done
+}
+
+/// The name of a text of a whole file, if it has one.
+fn name_kept(it: &Entry) -> Option<&Word> {
+    match it.naming {
+        Naming::Kept => Some(&it.name),
+        _ => it.letter.as_ref(),
+    }
+}
+
+/// The texts of a whole file: those that users may name, and others that they use. None if some of
+/// them isn't grown.
+fn printed_whole(alloc: Global, entries: &[Entry]) -> Result<Option<Word>, Fault> {
+    let mut file = Word::empty(alloc);
+    for it in entries {
+        if let Some(name) = name_kept(it) {
+            if !it.is_grown {
+                return Ok(None);
+            }
+            push_entry(&mut file, name.as_bytes(), it.body.as_bytes())?;
+        }
+    }
+    Ok(Some(file))
+}
+
+/// A spec file without what no line uses; none if a text that can't be read finds a file.
+pub fn whole_of(alloc: Global, file: &Word) -> Result<Option<Word>, Fault> {
+    let mut entries = entries_of(alloc, file.as_bytes())?;
+    keep_own(entries.as_mut_slice());
+    if !leave_unread(alloc, entries.as_mut_slice()) {
+        return Ok(None);
+    }
+    let known = Known {
+        holds: Listing::new(alloc),
+        lacks: split(alloc, NEVER)?,
+    };
+    if !reach(alloc, &known, entries.as_mut_slice())? {
+        return Ok(None);
+    }
+    grow(alloc, entries.as_mut_slice())?;
+    printed_whole(alloc, entries.as_slice())
 }
 
 /// A part of a spec file; none if it has a text that can't be read, or that names itself.

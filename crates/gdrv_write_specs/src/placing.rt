@@ -6,7 +6,7 @@ use crate::checking::Pair;
 use crate::fault::Fault;
 use crate::gathering::{Gathered, gather};
 use crate::names::names_of;
-use crate::parts::{PARTS, part_of};
+use crate::parts::{PARTS, part_of, whole_of};
 use crate::programs::{is_file, program_at};
 use crate::room::{Room, absolute, joined};
 use drv_gcc::{gcc_file, spec_file, values};
@@ -106,7 +106,8 @@ fn put_specs(pair: Pair<'_>, gathered: &Gathered) -> Result<(), Fault> {
             part_of(pair.rt.alloc(), &specs, &part)?,
         )?;
     }
-    pair.room.put(pair.rt, b".specs", &specs)
+    let whole = whole_of(pair.rt.alloc(), &specs)?.unwrap_or(specs);
+    pair.room.put(pair.rt, b".specs", &whole)
 }
 
 /// How many options that choose another machine have texts of their own.
