@@ -5,7 +5,7 @@ use drv_gcc::values;
 use drv_words::{Listing, Word, split};
 use std::alloc::Global;
 use std::io::{Error, ErrorKind};
-use std::process::Command;
+use std::process::{Command, Output};
 use std::{io, str};
 
 /// What a program said.
@@ -24,20 +24,30 @@ pub fn text(word: &[u8]) -> io::Result<&str> {
     str::from_utf8(word).map_err(|_| Error::from(ErrorKind::InvalidInput))
 }
 
-/// Asks a program, in a folder, with these words.
-pub fn ask_words(rt: &HostRuntime, at: &Word, program: &Word, words: &[Word]) -> io::Result<Said> {
-    let mut made = Command::new(rt.alloc(), text(program.as_bytes())?)?;
+/// Gives a command its words, and has it run in a folder, with messages in English.
+fn prepare(made: &mut Command, at: &Word, words: &[Word]) -> io::Result<()> {
     for word in words {
         made.arg(text(word.as_bytes())?)?;
     }
     made.env("LC_ALL", "C")?;
     made.current_dir(text(at.as_bytes())?)?;
-    let output = made.output(rt)?;
-    Ok(Said {
+    Ok(())
+}
+
+/// What a program said by its output.
+fn said_of(output: Output) -> Said {
+    Said {
         is_done: output.status.success(),
         out: Word::from_vec(output.stdout),
         err: Word::from_vec(output.stderr),
-    })
+    }
+}
+
+/// Asks a program, in a folder, with these words.
+pub fn ask_words(rt: &HostRuntime, at: &Word, program: &Word, words: &[Word]) -> io::Result<Said> {
+    let mut made = Command::new(rt.alloc(), text(program.as_bytes())?)?;
+    prepare(&mut made, at, words)?;
+    Ok(said_of(made.output(rt)?))
 }
 
 /// Asks a program, in a folder, with the words of a line.

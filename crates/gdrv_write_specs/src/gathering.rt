@@ -6,12 +6,13 @@ use crate::defaults::with_defaults;
 use crate::fault::Fault;
 use crate::finding::{command_named, has_word, word_beginning};
 use crate::machines::{Facts, Part, choice, facts_for, machine_of, own_folder};
-use crate::room::{Room, joined, write};
+use crate::natives::with_natives;
+use crate::room::Room;
 use crate::wording::{own_records, with_other_words};
 use drv_dump::{OurDump, pass_libraries, translate_dump};
 use drv_gcc::{
     Choice, Included, MachineOptions, MachineWord, NamedText, Programs, Toolchain, folder_text,
-    named_texts, replace, values,
+    named_texts, values,
 };
 use drv_words::{Listing, Word};
 use itoa::Buffer;
@@ -21,66 +22,6 @@ use std::fs;
 /// A spec file that shows what the folders of gcc are (`%I`, `%D`).
 pub const PROBE: &[u8] =
     b"*link_command:\nPROBE-D %D\n\n*cpp_unique_options:\nPROBE-I %I PROBE-END\n\n";
-
-/// The texts of a dump that a line of an included file is, with the text on the line of its name.
-fn dump_of_line(alloc: Global, line: &[u8]) -> Result<Word, Fault> {
-    let mut dump = Word::empty(alloc);
-    let mut parts = line.splitn(2, |byte| *byte == b':');
-    if let (Some(name), Some(body)) = (parts.next(), parts.next()) {
-        dump.push(b'*')?;
-        dump.extend_from_slice(name)?;
-        dump.extend_from_slice(b":\n")?;
-        dump.extend_from_slice(body.trim_ascii())?;
-        dump.extend_from_slice(b"\n\n")?;
-    }
-    Ok(dump)
-}
-
-/// The texts of an included file in this driver's language.
-fn texts_of_file(alloc: Global, content: &[u8]) -> Result<Word, Fault> {
-    let mut dump = Word::empty(alloc);
-    for line in values(alloc, b"*", content)?.as_slice() {
-        dump.extend_from_slice(dump_of_line(alloc, line.as_bytes())?.as_bytes())?;
-    }
-    match translate_dump(alloc, dump.as_bytes()) {
-        Ok(OurDump { texts, .. }) => Ok(texts),
-        Err(_) => Ok(Word::empty(alloc)),
-    }
-}
-
-impl<'a> Asked<'a> {
-    /// A spec file that the texts include.
-    fn included(self, name: &Word) -> Result<Included, Fault> {
-        let path = self.path_of(name.as_bytes())?;
-        let (is_there, texts) = match fs::read(self.rt, text(path.as_bytes())?) {
-            Ok(content) => (true, texts_of_file(self.alloc(), content.as_slice())?),
-            Err(_) => (false, Word::empty(self.alloc())),
-        };
-        Ok(Included {
-            name: name.clone()?,
-            is_there,
-            texts,
-        })
-    }
-
-    /// Adds a spec file that the texts include.
-    fn add_included(self, name: &Word, included: &mut Listing<Included>) -> Result<(), Fault> {
-        let file = self.included(name)?;
-        included.push(file)?;
-        Ok(())
-    }
-
-    /// The spec files that the texts include. `%(include_words)` is a text of another kind.
-    fn all_included(self, names: &[Word]) -> Result<Listing<Included>, Fault> {
-        let mut included = Listing::new(self.alloc());
-        for name in names {
-            if name.as_bytes() != b"words".as_slice() {
-                self.add_included(name, &mut included)?;
-            }
-        }
-        Ok(included)
-    }
-}
 
 /// Adds the folders of a path that are there, and that a list lacks.
 fn add_folders(rt: &HostRuntime, path: &[u8], folders: &mut Listing<Word>) -> Result<(), Fault> {
@@ -176,46 +117,6 @@ struct Translated {
     probes: Listing<Word>,
 }
 
-/// How a function that finds out about the machine of the call is called.
-const NATIVE: &[u8] = b"%:local_cpu_detect(";
-
-/// A call of this function.
-fn native_call(alloc: Global, arguments: &Word) -> Result<Word, Fault> {
-    let mut call = named(alloc, NATIVE, arguments.as_bytes())?;
-    call.push(b')')?;
-    Ok(call)
-}
-
-/// The name of the text in the place of its call of this number.
-fn native_name(alloc: Global, number: usize) -> Result<Word, Fault> {
-    named(alloc, b"native_", Buffer::new().format(number).as_bytes())
-}
-
-/// A dump with named texts in the places of the calls of this function, and a spec file for each
-/// that shows what it gives.
-fn with_natives(asked: Asked<'_>, dump: Word) -> Result<(Word, Listing<Word>), Fault> {
-    let alloc = asked.alloc();
-    let mut texts = dump;
-    let mut probes = Listing::new(alloc);
-    for arguments in named_texts(alloc, NATIVE, texts.as_bytes())?.as_slice() {
-        let call = native_call(alloc, arguments)?;
-        let name = native_name(alloc, probes.len())?;
-        let mut body = named(alloc, b"*link_command:\nPROBE-V ", call.as_bytes())?;
-        body.extend_from_slice(b" PROBE-END\n\n")?;
-        let folder = joined(alloc, &asked.room.lines, b"/")?;
-        write(
-            asked.rt,
-            &joined(alloc, &folder, name.as_bytes())?,
-            body.as_bytes(),
-        )?;
-        let mut other = named(alloc, b"%(", name.as_bytes())?;
-        other.push(b')')?;
-        texts = replace(alloc, texts.as_bytes(), call.as_bytes(), other.as_bytes())?;
-        probes.push(name)?;
-    }
-    Ok((texts, probes))
-}
-
 impl<'a> Asked<'a> {
     /// Its texts in this driver's language.
     fn translated(self) -> Result<Translated, Fault> {
@@ -295,10 +196,16 @@ impl<'a> Asked<'a> {
         Ok(Tools { programs, folders })
     }
 
-    /// The spec files that these texts include.
-    fn included_by(self, texts: &Word) -> Result<Listing<Included>, Fault> {
-        let names = named_texts(self.alloc(), b"%(include_", texts.as_bytes())?;
-        self.all_included(names.as_slice())
+    /// What the toolchain with these texts has beside them.
+    fn around(self, texts: &Word, names: &[Word]) -> Result<Around, Fault> {
+        let included = self.included_by(texts)?;
+        let roots = self.roots()?;
+        let tools = self.tools(names)?;
+        Ok(Around {
+            included,
+            roots,
+            tools,
+        })
     }
 
     /// The toolchain with these texts, but for what it does for its machines.
@@ -309,45 +216,63 @@ impl<'a> Asked<'a> {
         names: &[Word],
         machine: &[MachineWord],
     ) -> Result<Toolchain, Fault> {
-        let included = self.included_by(&texts)?;
+        let around = self.around(&texts, names)?;
         let texts = with_defaults(self.alloc(), texts, machine)?;
-        let roots = self.roots()?;
-        let tools = self.tools(names)?;
-        Ok(assembled(self.alloc(), texts, passed, included, roots, tools))
+        Ok(assembled(self.alloc(), texts, passed, around))
     }
 
-    /// All that is known of the gcc, of which these are the texts.
-    fn gathered(self, translated: Translated) -> Result<Gathered, Fault> {
-        let alloc = self.alloc();
-        let Translated {
-            texts,
-            passed,
-            lacking,
-            probes,
-        } = translated;
-        let Some(machine) = machine_of(self)? else {
-            return Err(Fault::NoPlan(self.gcc.clone()?));
-        };
-        let names = named_texts(alloc, b"%(file_", texts.as_bytes())?;
+    /// The toolchain with these texts, and what it hands to the assembler for `-g`.
+    fn described(
+        self,
+        texts: Word,
+        passed: Word,
+        names: &[Word],
+        machine: &[MachineWord],
+    ) -> Result<(Toolchain, Word), Fault> {
+        let toolchain = self.toolchain(texts, passed, names, machine)?;
+        let records = self.records()?;
+        Ok((toolchain, records))
+    }
+
+    /// What the gcc does for its own machine.
+    fn own_machine(
+        self,
+        translated: &Translated,
+        machine: &[MachineWord],
+    ) -> Result<OwnMachine, Fault> {
+        let names = named_texts(self.alloc(), b"%(file_", translated.texts.as_bytes())?;
         let folder = own_folder(self)?;
-        let own = facts_for(
+        let facts = facts_for(
             self,
             &folder,
             names.as_slice(),
-            probes.as_slice(),
-            machine.as_slice(),
+            translated.probes.as_slice(),
+            machine,
         )?;
-        let toolchain = self.toolchain(texts, passed, names.as_slice(), machine.as_slice())?;
-        Ok(Gathered {
-            toolchain,
-            lacking,
+        Ok(OwnMachine {
             names,
-            probes,
             folder,
-            places: self.places,
-            records: self.records()?,
+            facts,
+        })
+    }
+
+    /// The words that it adds for its machine.
+    fn machine(self) -> Result<Listing<MachineWord>, Fault> {
+        match machine_of(self)? {
+            Some(machine) => Ok(machine),
+            None => Err(Fault::NoPlan(self.gcc.clone()?)),
+        }
+    }
+
+    /// What is known of the gcc before its programs are asked for.
+    fn known(self) -> Result<Known, Fault> {
+        let translated = self.translated()?;
+        let machine = self.machine()?;
+        let own = self.own_machine(&translated, machine.as_slice())?;
+        Ok(Known {
+            translated,
+            machine,
             own,
-            others: Listing::new(alloc),
         })
     }
 }
@@ -366,15 +291,38 @@ struct Tools {
     folders: Listing<Word>,
 }
 
-/// A toolchain that does nothing for its machines yet.
-fn assembled(
-    alloc: Global,
-    texts: Word,
-    passed: Word,
+/// What a toolchain has beside its texts.
+#[derive(Drop)]
+struct Around {
     included: Listing<Included>,
     roots: Roots,
     tools: Tools,
-) -> Toolchain {
+}
+
+/// What a gcc does for its own machine, the files that its texts name, and the folder of its own
+/// library.
+#[derive(Drop)]
+struct OwnMachine {
+    names: Listing<Word>,
+    folder: Word,
+    facts: Facts,
+}
+
+/// The texts of a gcc, the words that it adds for its machine, and what it does for that.
+#[derive(Drop)]
+struct Known {
+    translated: Translated,
+    machine: Listing<MachineWord>,
+    own: OwnMachine,
+}
+
+/// A toolchain that does nothing for its machines yet.
+fn assembled(alloc: Global, texts: Word, passed: Word, around: Around) -> Toolchain {
+    let Around {
+        included,
+        roots,
+        tools,
+    } = around;
     let Roots { own, is_rooted } = roots;
     let Tools { programs, folders } = tools;
     Toolchain {
@@ -567,8 +515,8 @@ impl Gathered {
     }
 }
 
-/// Asks a gcc for all that its spec file is made of.
-pub fn gather(rt: &HostRuntime, room: &Room, gcc: &Word) -> Result<Gathered, Fault> {
+/// Where the texts of a gcc look for its files.
+fn places_of(rt: &HostRuntime, room: &Room, gcc: &Word) -> Result<Places, Fault> {
     let option = Word::empty(rt.alloc());
     let asked = Asked {
         rt,
@@ -577,14 +525,45 @@ pub fn gather(rt: &HostRuntime, room: &Room, gcc: &Word) -> Result<Gathered, Fau
         option: &option,
         places: Places::Searched,
     };
+    asked.places_of()
+}
+
+/// Asks a gcc for all that its spec file is made of. The texts for its machines are not chosen yet.
+pub fn gather(rt: &HostRuntime, room: &Room, gcc: &Word) -> Result<Gathered, Fault> {
+    let option = Word::empty(rt.alloc());
     let asked = Asked {
         rt,
         room,
         gcc,
         option: &option,
-        places: asked.places_of()?,
+        places: places_of(rt, room, gcc)?,
     };
-    let mut gathered = asked.gathered(asked.translated()?)?;
-    gathered.choose(rt.alloc())?;
-    Ok(gathered)
+    let Known {
+        translated,
+        machine,
+        own,
+    } = asked.known()?;
+    let Translated {
+        texts,
+        passed,
+        lacking,
+        probes,
+    } = translated;
+    let (toolchain, records) = asked.described(
+        texts,
+        passed,
+        own.names.as_slice(),
+        machine.as_slice(),
+    )?;
+    Ok(Gathered {
+        toolchain,
+        lacking,
+        names: own.names,
+        probes,
+        folder: own.folder,
+        places: asked.places,
+        records,
+        own: own.facts,
+        others: Listing::new(rt.alloc()),
+    })
 }

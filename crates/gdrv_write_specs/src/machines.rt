@@ -14,23 +14,34 @@ use itoa::Buffer;
 use std::alloc::Global;
 use std::slice;
 
+/// The texts for the folders of headers and of libraries.
+#[derive(Drop)]
+struct Folders {
+    headers: Word,
+    libraries: Word,
+}
+
+/// The words that a gcc adds for a machine, also with `-march=native` and `-mtune=native`.
+#[derive(Drop)]
+struct Added {
+    usual: Word,
+    native: Word,
+    tuned: Word,
+}
+
 /// What a gcc does for a machine: texts, but for its option.
 #[derive(Drop)]
 pub struct Facts {
     /// The option as a test of switches; empty for the gcc's own machine.
     pub test: Word,
+    /// What the compiler and the linker get for their folders.
+    shown: Folders,
     /// Where it has the files that its texts name.
     places: Listing<Word>,
     /// The folders that these texts have by their numbers.
     pub folders: Listing<Word>,
-    /// What the compiler gets for the folders of headers.
-    include_words: Word,
-    /// What the linker gets for the folders of libraries.
-    link_folders: Word,
-    /// The words that it adds for the machine, also with `-march=native` and `-mtune=native`.
-    usual: Word,
-    native: Word,
-    tuned: Word,
+    /// The words that it adds for the machine.
+    added: Added,
     /// What its function finds out about the machine of the call.
     values: Listing<Word>,
 }
@@ -84,17 +95,22 @@ fn leave_out(
     Ok(())
 }
 
+/// A word for the machine, left out where the line has it.
+fn machine_word(alloc: Global, word: &Word) -> Result<MachineWord, Fault> {
+    let mut unless = Listing::new(alloc);
+    unless.push(test_of(alloc, word.as_bytes())?)?;
+    Ok(MachineWord {
+        word: word.clone()?,
+        unless,
+    })
+}
+
 /// The words for the machine in a compilation, each left out where the line has it.
 fn added_words(alloc: Global, option: &Word, cc1: &[Word]) -> Result<Listing<MachineWord>, Fault> {
     let mut machine = Listing::new(alloc);
     for word in cc1 {
         if word.as_bytes().starts_with(b"-m") && word.as_bytes() != option.as_bytes() {
-            let mut unless = Listing::new(alloc);
-            unless.push(test_of(alloc, word.as_bytes())?)?;
-            machine.push(MachineWord {
-                word: word.clone()?,
-                unless,
-            })?;
+            machine.push(machine_word(alloc, word)?)?;
         }
     }
     Ok(machine)
@@ -115,31 +131,35 @@ fn without(alloc: Global, machine: &[MachineWord], tests: &[&[u8]]) -> Result<Wo
     Ok(text)
 }
 
-/// The folders that gcc looks for below a root are made there.
-fn make_below(asked: Asked<'_>, root: &Word) -> Result<(), Fault> {
+/// The paths in which gcc looks for libraries below a root.
+fn library_paths(asked: Asked<'_>, root: &Word) -> Result<Listing<Word>, Fault> {
     let line = named(
         asked.alloc(),
         b"-print-search-dirs --sysroot=",
         root.as_bytes(),
     )?;
     let said = asked.ask(line.as_bytes())?;
-    for path in values(asked.alloc(), b"libraries: ", said.out.as_bytes())?.as_slice() {
-        let bytes = path.as_bytes();
-        let folders = bytes.strip_prefix(b"=".as_slice()).unwrap_or(bytes);
-        for folder in folders.split(|byte| *byte == b':') {
-            if folder.starts_with(root.as_bytes()) {
-                make_all(asked.rt, folder)?;
-            }
+    Ok(values(asked.alloc(), b"libraries: ", said.out.as_bytes())?)
+}
+
+/// Makes the folders of a path that are below a root.
+fn make_folders(rt: &HostRuntime, path: &[u8], root: &[u8]) -> Result<(), Fault> {
+    let folders = path.strip_prefix(b"=".as_slice()).unwrap_or(path);
+    for folder in folders.split(|byte| *byte == b':') {
+        if folder.starts_with(root) {
+            make_all(rt, folder)?;
         }
     }
     Ok(())
 }
 
-/// The texts for the folders of headers and of libraries.
-#[derive(Drop)]
-struct Folders {
-    headers: Word,
-    libraries: Word,
+/// The folders that gcc looks for below a root are made there.
+fn make_below(asked: Asked<'_>, root: &Word) -> Result<(), Fault> {
+    let paths = library_paths(asked, root)?;
+    for path in paths.as_slice() {
+        make_folders(asked.rt, path.as_bytes(), root.as_bytes())?;
+    }
+    Ok(())
 }
 
 /// The text for these words, of which one names gcc's own folder, and the last is apart.
@@ -152,19 +172,29 @@ fn libraries_of(alloc: Global, own: &Word, words: &[Word], last: &Word) -> Resul
     Ok(libraries(alloc, before, rest, last.as_bytes())?)
 }
 
+/// The text for the folders of headers in commands.
+fn headers_in(alloc: Global, commands: &[Listing<Word>]) -> Result<Word, Fault> {
+    let cc1 = command_named(commands, b"cc1").unwrap_or(&[]);
+    let headers = words_between(alloc, cc1, b"PROBE-I", b"PROBE-END")?;
+    Ok(words_text(alloc, headers.as_slice())?)
+}
+
+/// The text for the folders of libraries in commands.
+fn libraries_in(alloc: Global, own: &Word, commands: &[Listing<Word>]) -> Result<Word, Fault> {
+    let link = command_named(commands, b"PROBE-D").unwrap_or(&[]);
+    let mut folders = words_between(alloc, link, b"PROBE-D", b"")?;
+    let last = folders.pop().unwrap_or(Word::empty(alloc));
+    libraries_of(alloc, own, folders.as_slice(), &last)
+}
+
 /// The texts for the folders that gcc shows with these words.
 fn folders_with(asked: Asked<'_>, own: &Word, words: &[u8]) -> Result<Folders, Fault> {
     let alloc = asked.alloc();
     let line = named(alloc, b"-### -specs=probe x.c -o x ", words)?;
     let probed = asked.planned(line.as_bytes())?;
-    let cc1 = command_named(probed.as_slice(), b"cc1").unwrap_or(&[]);
-    let link = command_named(probed.as_slice(), b"PROBE-D").unwrap_or(&[]);
-    let headers = words_between(alloc, cc1, b"PROBE-I", b"PROBE-END")?;
-    let mut folders = words_between(alloc, link, b"PROBE-D", b"")?;
-    let last = folders.pop().unwrap_or(Word::empty(alloc));
     Ok(Folders {
-        headers: words_text(alloc, headers.as_slice())?,
-        libraries: libraries_of(alloc, own, folders.as_slice(), &last)?,
+        headers: headers_in(alloc, probed.as_slice())?,
+        libraries: libraries_in(alloc, own, probed.as_slice())?,
     })
 }
 
@@ -286,44 +316,92 @@ fn places(
     Ok(places)
 }
 
+/// The value that a probe shows in commands.
+fn value_in(alloc: Global, commands: &[Listing<Word>]) -> Result<Word, Fault> {
+    let link = command_named(commands, b"PROBE-V").unwrap_or(&[]);
+    let words = words_between(alloc, link, b"PROBE-V", b"PROBE-END")?;
+    Ok(words_text(alloc, words.as_slice())?)
+}
+
+/// What a probe of a function shows.
+fn value_of(asked: Asked<'_>, probe: &Word) -> Result<Word, Fault> {
+    let alloc = asked.alloc();
+    let mut line = named(alloc, b"-### x.o -o x -specs=", probe.as_bytes())?;
+    line.extend_from_slice(b" ")?;
+    let planned = asked.planned(line.as_bytes())?;
+    value_in(alloc, planned.as_slice())
+}
+
 /// What the probes of a function show.
 fn shown_by(asked: Asked<'_>, probes: &[Word]) -> Result<Listing<Word>, Fault> {
-    let alloc = asked.alloc();
-    let mut shown = Listing::new(alloc);
+    let mut shown = Listing::new(asked.alloc());
     for probe in probes {
-        let mut line = named(alloc, b"-### x.o -o x -specs=", probe.as_bytes())?;
-        line.extend_from_slice(b" ")?;
-        let planned = asked.planned(line.as_bytes())?;
-        let link = command_named(planned.as_slice(), b"PROBE-V").unwrap_or(&[]);
-        let words = words_between(alloc, link, b"PROBE-V", b"PROBE-END")?;
-        shown.push(words_text(alloc, words.as_slice())?)?;
+        shown.push(value_of(asked, probe)?)?;
     }
     Ok(shown)
+}
+
+/// The words that gcc adds for its machine, each left out where the line has it, if gcc compiles.
+fn compiled_words(asked: Asked<'_>) -> Result<Option<Listing<MachineWord>>, Fault> {
+    let planned = asked.planned(b"-### -c x.c -o x.o")?;
+    match command_named(planned.as_slice(), b"cc1") {
+        Some(cc1) => Ok(Some(added_words(asked.alloc(), asked.option, cc1)?)),
+        None => Ok(None),
+    }
+}
+
+/// Notes the words for the machine that a compilation with an option lacks, if gcc compiles with
+/// it. Returns whether it does.
+fn compare_option(
+    asked: Asked<'_>,
+    option: &Word,
+    machine: &mut [MachineWord],
+) -> Result<bool, Fault> {
+    let line = named(asked.alloc(), b"-### -c x.c -o x.o ", option.as_bytes())?;
+    let planned = asked.planned(line.as_bytes())?;
+    let Some(cc1) = command_named(planned.as_slice(), b"cc1") else {
+        return Ok(false);
+    };
+    leave_out(asked.alloc(), machine, option, cc1)?;
+    Ok(true)
+}
+
+/// Compares the plan of an option. Of those with one test, another machine is asked for one alone.
+fn try_option(
+    asked: Asked<'_>,
+    option: &Word,
+    tried: &mut Listing<Word>,
+    machine: &mut [MachineWord],
+) -> Result<(), Fault> {
+    let test = test_of(asked.alloc(), option.as_bytes())?;
+    if !asked.option.is_empty() && has_word(tried.as_slice(), test.as_bytes()) {
+        return Ok(());
+    }
+    if compare_option(asked, option, machine)? {
+        tried.push(test)?;
+    }
+    Ok(())
+}
+
+/// Compares the plans of all options for the machine.
+fn try_options(asked: Asked<'_>, machine: &mut [MachineWord]) -> Result<(), Fault> {
+    let listed = asked.ask(b"--completion=-m")?;
+    let options = options(asked.alloc(), listed.out.as_bytes())?;
+    let mut tried = Listing::new(asked.alloc());
+    for option in options.as_slice() {
+        try_option(asked, option, &mut tried, machine)?;
+    }
+    Ok(())
 }
 
 /// The words that gcc adds for its machine, with the tests of a line by which it leaves them out:
 /// that of an option whose plan lacks such a word, and that of the word itself.
 pub fn machine_of(asked: Asked<'_>) -> Result<Option<Listing<MachineWord>>, Fault> {
-    let alloc = asked.alloc();
-    let planned = asked.planned(b"-### -c x.c -o x.o")?;
-    let Some(cc1) = command_named(planned.as_slice(), b"cc1") else {
+    let Some(words) = compiled_words(asked)? else {
         return Ok(None);
     };
-    let mut machine = added_words(alloc, asked.option, cc1)?.into_vec();
-    let listed = asked.ask(b"--completion=-m")?;
-    let mut tried = Listing::new(alloc);
-    for option in options(alloc, listed.out.as_bytes())?.as_slice() {
-        let test = test_of(alloc, option.as_bytes())?;
-        if !asked.option.is_empty() && has_word(tried.as_slice(), test.as_bytes()) {
-            continue;
-        }
-        let line = named(alloc, b"-### -c x.c -o x.o ", option.as_bytes())?;
-        let planned = asked.planned(line.as_bytes())?;
-        if let Some(cc1) = command_named(planned.as_slice(), b"cc1") {
-            leave_out(alloc, machine.as_mut_slice(), option, cc1)?;
-            tried.push(test)?;
-        }
-    }
+    let mut machine = words.into_vec();
+    try_options(asked, machine.as_mut_slice())?;
     Ok(Some(Listing::from_vec(machine)))
 }
 
@@ -335,6 +413,15 @@ pub fn own_folder(asked: Asked<'_>) -> Result<Word, Fault> {
     Ok(Word::from_bytes(asked.alloc(), folder)?)
 }
 
+/// The texts for the words that gcc adds for its machine.
+fn added_texts(alloc: Global, machine: &[MachineWord]) -> Result<Added, Fault> {
+    Ok(Added {
+        usual: machine_words(alloc, machine)?,
+        native: without(alloc, machine, &[b"march=*", b"mtune=*"])?,
+        tuned: without(alloc, machine, &[b"mtune=*"])?,
+    })
+}
+
 /// What gcc does for the machine that an option chooses, of which these are the words.
 pub fn facts_for(
     asked: Asked<'_>,
@@ -344,19 +431,14 @@ pub fn facts_for(
     machine: &[MachineWord],
 ) -> Result<Facts, Fault> {
     let alloc = asked.alloc();
-    let Folders { headers, libraries } = all_folders(asked, own)?;
     let mut folders = Listing::new(alloc);
-    let places = places(asked, names, &mut folders)?;
     Ok(Facts {
-        test: test_of(alloc, asked.option.as_bytes())?,
-        places,
+        shown: all_folders(asked, own)?,
+        places: places(asked, names, &mut folders)?,
         folders,
-        include_words: headers,
-        link_folders: libraries,
-        usual: machine_words(alloc, machine)?,
-        native: without(alloc, machine, &[b"march=*", b"mtune=*"])?,
-        tuned: without(alloc, machine, &[b"mtune=*"])?,
         values: shown_by(asked, probes)?,
+        test: test_of(alloc, asked.option.as_bytes())?,
+        added: added_texts(alloc, machine)?,
     })
 }
 
@@ -365,11 +447,11 @@ impl Facts {
     pub fn text(&self, part: Part) -> &[u8] {
         let found = match part {
             Part::Place(n) => self.places.as_slice().get(n),
-            Part::IncludeWords => Some(&self.include_words),
-            Part::LinkFolders => Some(&self.link_folders),
-            Part::Usual => Some(&self.usual),
-            Part::Native => Some(&self.native),
-            Part::Tuned => Some(&self.tuned),
+            Part::IncludeWords => Some(&self.shown.headers),
+            Part::LinkFolders => Some(&self.shown.libraries),
+            Part::Usual => Some(&self.added.usual),
+            Part::Native => Some(&self.added.native),
+            Part::Tuned => Some(&self.added.tuned),
             Part::Value(n) => self.values.as_slice().get(n),
         };
         match found {
@@ -379,20 +461,34 @@ impl Facts {
     }
 }
 
-/// A text for each machine: the gcc's own, and those of which it is another one.
-pub fn choice(alloc: Global, own: &Facts, others: &[Facts], part: Part) -> Result<Choice, Fault> {
+/// The text of a machine, with the test of its option.
+fn for_machine(alloc: Global, facts: &Facts, part: Part) -> Result<ForMachine, Fault> {
+    Ok(ForMachine {
+        test: facts.test.clone()?,
+        text: Word::from_bytes(alloc, facts.text(part))?,
+    })
+}
+
+/// The texts of the machines of which it is another one.
+fn differing(
+    alloc: Global,
+    own: &Facts,
+    others: &[Facts],
+    part: Part,
+) -> Result<Listing<ForMachine>, Fault> {
     let mut differing = Listing::new(alloc);
     for it in others {
-        let text = it.text(part);
-        if text != own.text(part) {
-            differing.push(ForMachine {
-                test: it.test.clone()?,
-                text: Word::from_bytes(alloc, text)?,
-            })?;
+        if it.text(part) != own.text(part) {
+            differing.push(for_machine(alloc, it, part)?)?;
         }
     }
+    Ok(differing)
+}
+
+/// A text for each machine: the gcc's own, and those of which it is another one.
+pub fn choice(alloc: Global, own: &Facts, others: &[Facts], part: Part) -> Result<Choice, Fault> {
     Ok(Choice {
         own: Word::from_bytes(alloc, own.text(part))?,
-        others: differing,
+        others: differing(alloc, own, others, part)?,
     })
 }

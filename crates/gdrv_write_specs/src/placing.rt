@@ -160,21 +160,24 @@ fn check(pair: Pair<'_>, manner: Manner, gathered: &mut Gathered) -> Result<(), 
 }
 
 /// Makes the files of a gcc, of which this is known, and tries them.
-fn put_all(pair: Pair<'_>, manner: Manner, gathered: &mut Gathered) -> Result<(), Fault> {
+fn put_gathered(pair: Pair<'_>, manner: Manner, gathered: &mut Gathered) -> Result<(), Fault> {
+    gathered.choose(pair.rt.alloc())?;
     tell(
         pair.rt,
         b"texts that cannot be translated, so lines that use them are refused:",
         gathered.lacking.as_slice(),
     )?;
-    put_beside(
-        pair.rt,
-        pair.room,
-        pair.gcc,
-        gathered.toolchain.folders.as_slice(),
-    )?;
+    let folders = gathered.toolchain.folders.as_slice();
+    put_beside(pair.rt, pair.room, pair.gcc, folders)?;
     refuse(gathered, pair.unnamed()?.as_slice())?;
     put_specs(pair, gathered)?;
     check(pair, manner, gathered)
+}
+
+/// Makes the files of a gcc, and tries them.
+fn put_all(pair: Pair<'_>, manner: Manner) -> Result<(), Fault> {
+    let mut gathered = gather(pair.rt, pair.room, pair.gcc)?;
+    put_gathered(pair, manner, &mut gathered)
 }
 
 /// Makes the files of a gcc in a room, tries them, and puts them in place.
@@ -185,8 +188,7 @@ fn write_in(
     stem: &Word,
     gcc: &Word,
 ) -> Result<(), Fault> {
-    let mut gathered = gather(rt, room, gcc)?;
-    put_all(Pair { rt, room, gcc }, manner, &mut gathered)?;
+    put_all(Pair { rt, room, gcc }, manner)?;
     room.place(rt, stem)
 }
 

@@ -27,6 +27,17 @@ pub struct Room {
 /// The source that lines are tried with.
 const SOURCE: &[u8] = b"double half(double n) { return n / 2; }\nint main(void) { return 0; }\n";
 
+/// The folders in it.
+const FOLDERS: [&[u8]; 7] = [
+    b"/lines",
+    b"/lines/B",
+    b"/lines/B/include",
+    b"/root",
+    b"/bin",
+    b"/share",
+    b"/share/gdrv",
+];
+
 /// The endings of the parts of a spec file.
 const PARTS: [&[u8]; 5] = [b".compile", b".c.compile", b".link", b".all", b".c.all"];
 
@@ -84,41 +95,54 @@ fn room_path(rt: &HostRuntime, specs: &Word) -> Result<Word, Fault> {
 }
 
 impl Room {
-    /// The room for a spec file, with the copy of a driver in it.
-    pub fn new(rt: &HostRuntime, specs: &Word, driver: &Word) -> Result<Room, Fault> {
-        let alloc = rt.alloc();
-        let path = room_path(rt, specs)?;
-        let room = Room {
+    /// The room at a path, of which nothing is made yet.
+    fn at(alloc: Global, path: Word) -> Result<Room, Fault> {
+        Ok(Room {
             lines: joined(alloc, &path, b"/lines")?,
             driver: joined(alloc, &path, b"/bin/checked-gdrv-cc")?,
             root: joined(alloc, &path, b"/root")?,
             stem: joined(alloc, &path, b"/share/gdrv/checked")?,
             path,
-        };
-        make_folder(rt, &room.path)?;
-        for folder in [
-            b"/lines".as_slice(),
-            b"/lines/B",
-            b"/lines/B/include",
-            b"/root",
-            b"/bin",
-            b"/share",
-            b"/share/gdrv",
-        ] {
-            make_folder(rt, &joined(alloc, &room.path, folder)?)?;
+        })
+    }
+
+    /// Makes its folder, and those in it.
+    fn make_folders(&self, rt: &HostRuntime) -> Result<(), Fault> {
+        make_folder(rt, &self.path)?;
+        for folder in FOLDERS {
+            make_folder(rt, &joined(rt.alloc(), &self.path, folder)?)?;
         }
-        fs::copy(rt, text(driver.as_bytes())?, text(room.driver.as_bytes())?)?;
+        Ok(())
+    }
+
+    /// Writes a file that lines are tried with.
+    fn write_line_file(&self, rt: &HostRuntime, name: &[u8], content: &[u8]) -> Result<(), Fault> {
+        write(rt, &joined(rt.alloc(), &self.lines, name)?, content)
+    }
+
+    /// Writes the files that lines are tried with.
+    fn write_line_files(&self, rt: &HostRuntime) -> Result<(), Fault> {
         for name in [b"/x.c".as_slice(), b"/x.i"] {
-            write(rt, &joined(alloc, &room.lines, name)?, SOURCE)?;
+            self.write_line_file(rt, name, SOURCE)?;
         }
         for name in [b"/x.s".as_slice(), b"/x.S", b"/x.o"] {
-            write(
-                rt,
-                &joined(alloc, &room.lines, name)?,
-                b"\t.data\n\t.long 1\n",
-            )?;
+            self.write_line_file(rt, name, b"\t.data\n\t.long 1\n")?;
         }
-        write(rt, &joined(alloc, &room.lines, b"/probe")?, PROBE)?;
+        self.write_line_file(rt, b"/probe", PROBE)
+    }
+
+    /// Copies a driver into the room.
+    fn copy_driver(&self, rt: &HostRuntime, driver: &Word) -> Result<(), Fault> {
+        fs::copy(rt, text(driver.as_bytes())?, text(self.driver.as_bytes())?)?;
+        Ok(())
+    }
+
+    /// The room for a spec file, with the copy of a driver in it.
+    pub fn new(rt: &HostRuntime, specs: &Word, driver: &Word) -> Result<Room, Fault> {
+        let room = Room::at(rt.alloc(), room_path(rt, specs)?)?;
+        room.make_folders(rt)?;
+        room.copy_driver(rt, driver)?;
+        room.write_line_files(rt)?;
         Ok(room)
     }
 
@@ -143,21 +167,33 @@ impl Room {
         Ok(())
     }
 
+    /// Puts a part of the spec file in place of an earlier one, or removes that.
+    fn place_part(&self, rt: &HostRuntime, stem: &Word, ending: &[u8]) -> Result<(), Fault> {
+        let from = joined(rt.alloc(), &self.stem, ending)?;
+        let to = joined(rt.alloc(), stem, ending)?;
+        let _ = fs::remove_file(rt, text(to.as_bytes())?);
+        let _ = fs::rename(rt, text(from.as_bytes())?, text(to.as_bytes())?);
+        Ok(())
+    }
+
+    /// Puts a file of this ending in place.
+    fn place_file(&self, rt: &HostRuntime, stem: &Word, ending: &[u8]) -> Result<(), Fault> {
+        let from = joined(rt.alloc(), &self.stem, ending)?;
+        let to = joined(rt.alloc(), stem, ending)?;
+        match fs::rename(rt, text(from.as_bytes())?, text(to.as_bytes())?) {
+            Ok(()) => Ok(()),
+            Err(_) => Err(Fault::NoPlace(to)),
+        }
+    }
+
     /// Puts the files of the room in place. The parts of an earlier spec file, which gdrv-cc would
     /// read in its place, go first.
     pub fn place(&self, rt: &HostRuntime, stem: &Word) -> Result<(), Fault> {
         for ending in PARTS {
-            let from = joined(rt.alloc(), &self.stem, ending)?;
-            let to = joined(rt.alloc(), stem, ending)?;
-            let _ = fs::remove_file(rt, text(to.as_bytes())?);
-            let _ = fs::rename(rt, text(from.as_bytes())?, text(to.as_bytes())?);
+            self.place_part(rt, stem, ending)?;
         }
         for ending in ENDINGS {
-            let from = joined(rt.alloc(), &self.stem, ending)?;
-            let to = joined(rt.alloc(), stem, ending)?;
-            if fs::rename(rt, text(from.as_bytes())?, text(to.as_bytes())?).is_err() {
-                return Err(Fault::NoPlace(to));
-            }
+            self.place_file(rt, stem, ending)?;
         }
         Ok(())
     }

@@ -1,0 +1,58 @@
+//! The function of a gcc's texts that finds out about the machine of the call.
+
+use crate::asked::Asked;
+use crate::asking::named;
+use crate::fault::Fault;
+use crate::room::{joined, write};
+use drv_gcc::{named_texts, replace};
+use drv_words::{Listing, Word};
+use itoa::Buffer;
+use std::alloc::Global;
+
+/// How a function that finds out about the machine of the call is called.
+const NATIVE: &[u8] = b"%:local_cpu_detect(";
+
+/// A call of this function.
+fn native_call(alloc: Global, arguments: &Word) -> Result<Word, Fault> {
+    let mut call = named(alloc, NATIVE, arguments.as_bytes())?;
+    call.push(b')')?;
+    Ok(call)
+}
+
+/// The name of the text in the place of its call of this number.
+fn native_name(alloc: Global, number: usize) -> Result<Word, Fault> {
+    named(alloc, b"native_", Buffer::new().format(number).as_bytes())
+}
+
+/// Writes a spec file of this name that shows what a call gives.
+fn write_probe(asked: Asked<'_>, name: &Word, call: &Word) -> Result<(), Fault> {
+    let alloc = asked.alloc();
+    let mut body = named(alloc, b"*link_command:\nPROBE-V ", call.as_bytes())?;
+    body.extend_from_slice(b" PROBE-END\n\n")?;
+    let folder = joined(alloc, &asked.room.lines, b"/")?;
+    let path = joined(alloc, &folder, name.as_bytes())?;
+    write(asked.rt, &path, body.as_bytes())
+}
+
+/// A dump with the text of this name in the places of a call.
+fn with_native(alloc: Global, dump: &Word, name: &Word, call: &Word) -> Result<Word, Fault> {
+    let mut other = named(alloc, b"%(", name.as_bytes())?;
+    other.push(b')')?;
+    Ok(replace(alloc, dump.as_bytes(), call.as_bytes(), other.as_bytes())?)
+}
+
+/// A dump with named texts in the places of the calls of this function, and a spec file for each
+/// that shows what it gives.
+pub fn with_natives(asked: Asked<'_>, dump: Word) -> Result<(Word, Listing<Word>), Fault> {
+    let alloc = asked.alloc();
+    let mut texts = dump;
+    let mut probes = Listing::new(alloc);
+    for arguments in named_texts(alloc, NATIVE, texts.as_bytes())?.as_slice() {
+        let call = native_call(alloc, arguments)?;
+        let name = native_name(alloc, probes.len())?;
+        write_probe(asked, &name, &call)?;
+        texts = with_native(alloc, &texts, &name, &call)?;
+        probes.push(name)?;
+    }
+    Ok((texts, probes))
+}
