@@ -1,7 +1,7 @@
 use Rattle.drv_cc.specs.Checks.{names_no_check}
 use Rattle.drv_cc.specs.Items.{is_among, is_number}
 use Rattle.drv_cc.specs.Kept.{has, has_input}
-use Rattle.drv_cc.specs.SideFiles.{is_some, preprocessed, sources}
+use Rattle.drv_cc.specs.SideFiles.{compiled, is_some, sources}
 use Rattle.drv_cc.specs.Table.{texts}
 use Rattle.drv_cc.specs.declared.item.Item.{Item}
 use Rattle.drv_cc.specs.declared.table.Part.TheVariants as part
@@ -31,9 +31,12 @@ has_no_number i = is_among numeric i.name && not (is_number i.argument)
 abbrev pub asks : Item → Bool
 asks i = is_question i.part || (names_no_check i || has_no_number i)
 
--- the compiler judges what --param sets ("Optimize Options"), and it is started for sources of C and those that are preprocessed
+-- the compiler judges what --param sets ("Optimize Options"), and it is started for sources of C that are not only preprocessed
+abbrev pub only_preprocesses : List Item → Bool
+only_preprocesses items = (has (codes "-E") items || has (codes "-M") items) || has (codes "-MM") items
+
 abbrev pub sets_unjudged : List Item → Bool
-sets_unjudged items = has (codes "--param=") items && not (is_some (sources preprocessed items))
+sets_unjudged items = has (codes "--param=") items && (only_preprocesses items || not (is_some (sources compiled items)))
 
 -- two formats of records that exclude each other ("opts.cc", set_debug_level: "conflicts with prior selection"): CTF or BTF may be beside DWARF
 abbrev pub is_stabs : Item → Bool

@@ -2,7 +2,8 @@
 
 ghost use Rattle.drv_cc.specs.Asked.{asks, has_no_number, has_vms_or_newer, is_asked, is_newer};
 ghost use Rattle.drv_cc.specs.Asked.{is_stabs, is_xcoff, mixes_formats, mixes_newer, mixes_stabs};
-ghost use Rattle.drv_cc.specs.Asked.{mixes_vms, mixes_xcoff, numeric, sets_unjudged, tells, tells_alone};
+ghost use Rattle.drv_cc.specs.Asked.{mixes_vms, mixes_xcoff, numeric, only_preprocesses};
+ghost use Rattle.drv_cc.specs.Asked.{sets_unjudged, tells, tells_alone};
 ghost use Rattle.drv_cc.specs.Items.{is_among};
 ghost use Rattle.std.specs.List.{list_any};
 ghost use Rattle.std.specs.Prelude.{◌≡◌};
@@ -11,7 +12,7 @@ use crate::checks::names_no_check;
 use crate::classes::{is, is_one_of};
 use crate::item::Item;
 use crate::keeping::{has, has_input};
-use crate::sources::has_preprocessed;
+use crate::sources::has_compiled;
 use crate::table::Part;
 use crate::values::is_number;
 
@@ -70,11 +71,18 @@ fn has_telling(items: &[Item]) -> bool
     items.iter().any(tells)
 }
 
+/// Whether sources are only preprocessed.
+fn only_preprocesses(items: &[Item]) -> bool
+    ensures { result ≡ only_preprocesses items.now }
+{
+    has(items, b"-E") || has(items, b"-M") || has(items, b"-MM")
+}
+
 /// Whether a line sets parameters, and starts no compiler, which would judge them.
 fn sets_unjudged(items: &[Item]) -> bool
     ensures { result ≡ sets_unjudged items.now }
 {
-    has(items, b"--param=") && !has_preprocessed(items)
+    has(items, b"--param=") && (only_preprocesses(items) || !has_compiled(items))
 }
 
 /// Whether an item asks for records in stabs.

@@ -6,7 +6,7 @@ ghost use Rattle.drv_cc.specs.Code.Building.{kinds_shown, noted};
 ghost use Rattle.drv_cc.specs.Kept.{is_file_part};
 ghost use Rattle.drv_cc.specs.SideFiles.{are_several, files, inputs, is_looked_for, is_some, is_source};
 ghost use Rattle.drv_cc.specs.SideFiles.{is_other, language_by, only, other_suffixes, sources};
-ghost use Rattle.drv_cc.specs.SideFiles.{preprocessed, worked};
+ghost use Rattle.drv_cc.specs.SideFiles.{compiled, preprocessed, worked};
 ghost use Rattle.std.specs.Option.{option_map};
 ghost use Rattle.std.specs.Prelude.{◌≡◌, IfOk};
 
@@ -235,12 +235,12 @@ pub(crate) fn only_source(kinds: Kinds, items: &[Item]) -> Option<&[u8]>
     sources(kinds, items).only()
 }
 
-/// Whether there is a source of C, or of the assembler that is preprocessed.
+/// Whether there is a source of C.
 #[tactic(auto, using(crate::proofs::Counts::some_of))]
-pub(crate) fn has_preprocessed(items: &[Item]) -> bool
-    ensures { result ≡ is_some (sources preprocessed items.now) }
+pub(crate) fn has_compiled(items: &[Item]) -> bool
+    ensures { result ≡ is_some (sources compiled items.now) }
 {
-    sources(Kinds::Preprocessed, items).is_some()
+    sources(Kinds::Compiled, items).is_some()
 }
 
 /// Whether there is a source.
