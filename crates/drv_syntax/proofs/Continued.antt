@@ -1,42 +1,41 @@
-use Rattle.drv_syntax.proofs.DescentLeads.{out}
-use Rattle.drv_syntax.proofs.DescentWhole.{continues, descent_is_read}
+use Rattle.drv_words.specs.Bytes as ascii
+use Rattle.drv_syntax.proofs.Depth.{descent_is}
 use Rattle.drv_syntax.proofs.GivenParts.{err_same, ok_same}
-use Rattle.drv_syntax.proofs.Leads.{same}
-use Rattle.drv_syntax.proofs.RootContext.{Reached, context_at, reaches}
-use Rattle.drv_syntax.proofs.FlatNodes.{flat_both, items_flat, items_join}
+use Rattle.drv_syntax.proofs.FlatNodes.{flat_both, items_flat, items_join, join}
+use Rattle.drv_syntax.proofs.ItemsRead.{one}
+use Rattle.drv_syntax.proofs.Leads.{differs, each}
+use Rattle.drv_syntax.proofs.Longer.{brace_longer, call_longer, item_filled, item_longer, place_longer, quoted_longer, run_longer}
+use Rattle.drv_syntax.proofs.MeantWhole.{read_is_spelled}
+use Rattle.drv_syntax.proofs.WholeRead.{top_inner}
 use Rattle.drv_syntax.proofs.Wrote.{labels_both, list_wrote}
-use Rattle.drv_syntax.specs.Bytes.{is_blank}
-use Rattle.drv_syntax.specs.Code.Ending.{ending_after, ending_by, ending_in, goes_on}
+use Rattle.drv_syntax.specs.Bytes.{is_blank, is_suffix, is_word}
+use Rattle.drv_syntax.specs.Code.Ending.{begins_blank, ending_after, ending_by, ending_in, goes_on}
 use Rattle.drv_syntax.specs.Code.Left.{Left}
 use Rattle.drv_syntax.specs.Code.Lists.{listed_given, tail_at}
 use Rattle.drv_syntax.specs.Code.Whole.{rest_given, whole_given}
 use Rattle.drv_syntax.specs.Code.Writing.{Parts, Reading, flat, given}
 use Rattle.drv_syntax.specs.Contexts.{ListContext, top}
-use Rattle.drv_syntax.specs.Descent.{Ends, Read, Stops, Took, descent, levels}
+use Rattle.drv_syntax.specs.Descent.{Ends, Read, Stops, Took, item_go, levels, then_read}
 use Rattle.drv_syntax.specs.Directives.{said}
 use Rattle.drv_syntax.specs.Labels.{Label, inner_nodes, label_of, labels, labels_of, no_node, node, nodes_of}
-use Rattle.drv_syntax.specs.Outcome.{AfterBackslash, AfterPercent, AfterTest, AtItem, Bad, BraceOpen, ChoiceStart, Cut, FunctionName, Got}
-use Rattle.drv_syntax.specs.Outcome.{Here}
-use Rattle.drv_syntax.specs.Outcome.{HideEscape, HideStart, HideWord, MarkedEscape, MarkedWord, NameText, OptionEscape, OptionOpen}
-use Rattle.drv_syntax.specs.Outcome.{OptionText, Out}
-use Rattle.drv_syntax.specs.Outcome.{PatternDue, Place, SayingEscape, SayingText, SuffixPercent, SuffixRun, SuffixStart, TestDue}
-use Rattle.drv_syntax.specs.Outcome.{TestFunction, TestMark}
-use Rattle.drv_syntax.specs.Outcome.{TestNegated, TestPercent, TestWord, TestWordEscape, after, finish, join, judged, list_in, placed, read}
-use Rattle.drv_syntax.specs.Outcome.{run, turn}
+use Rattle.drv_syntax.specs.Outcome.{Bad, Cut, Got, Out, descent, judged, outcome}
 use Rattle.drv_syntax.specs.Parsed.{listed}
-use Rattle.drv_syntax.specs.Spelling.{span}
+use Rattle.drv_syntax.specs.Spelling as s
+use Rattle.drv_syntax.specs.Spelling.{AreItems, At, IsDirective, IsItem, IsPattern, IsQuoted, IsRun, IsSuffix, span}
 use Rattle.drv_syntax.specs.Tokens.{kind_of, tokens_of}
-use Rattle.drv_syntax.specs.Tree.{Hide, Item, Items, Span, TempName, more, none, pattern}
+use Rattle.drv_syntax.specs.Tree.{AddOption, ArgumentsFile, Blank, Braces, BuiltinText, Escape, FailureFile, Function, Hide, Item, Items}
+use Rattle.drv_syntax.specs.Tree.{Leaf, NamedText, Newline, Notice, Pattern, Pipe, Plain, Span, Star, TempName, UserError, more, none}
+use Rattle.drv_syntax.specs.declared.descent.ending.Ending.TheVariants as endings
+use Rattle.drv_syntax.specs.declared.descent.ending.Ending.{Ending}
 use Rattle.drv_syntax.specs.declared.descent.simple.Tail.{Tail}
+use Rattle.drv_syntax.specs.declared.directives.Directive.{Directive}
 use Rattle.drv_syntax.specs.declared.directives.SayKind.TheVariants.{AsError, AsNotice}
 use Rattle.drv_syntax.specs.declared.directives.SayKind.{SayKind}
 use Rattle.drv_syntax.specs.declared.fault.SyntaxFault.TheVariants.{Unclosed}
 use Rattle.drv_syntax.specs.declared.fault.SyntaxFault.{SyntaxFault}
-use Rattle.drv_syntax.specs.declared.descent.ending.Ending.TheVariants as endings
-use Rattle.drv_syntax.specs.declared.descent.ending.Ending.{Ending}
 use Rattle.drv_syntax.specs.declared.token.Token.{Token}
 use Rattle.std.proofs.Common.{◌≡◌, ◌∙◌, ◌+◌, ◌-◌, ◌++◌, Bool, false, true, if◌then◌else◌, List, [], ◌∷◌, ap, arith, length, length-append}
-use Rattle.std.proofs.Common.{refl, subst, sym, ℕ}
+use Rattle.std.proofs.Common.{refl, subst, suc, sym, ℕ}
 use Rattle.std.proofs.lemmas.Bool.Decides.{nat_tests}
 use Rattle.std.specs.Prelude.{◌==◌, Err, None, Ok, Option, Result, Some, slice_get}
 
@@ -57,127 +56,184 @@ ending_last ts t =
     ap (λ (i : ℕ). ending_after t.end (slice_get (ts ++ t ∷ []) i)) e ∙ ap (λ (x : Option Token). ending_after t.end x) (seam ts t)
     ∙ rw (at_end t.end) refl
 
-ends_so : (done : Items) (s : Span) (item : Item) → inner_nodes item ≡ no_node
-    → ending_in s.end (tokens_of (join done (more s item none))) ≡ ending_by (kind_of item)
-ends_so done s item e =
-    ap (λ ts. ending_in s.end ts) (items_flat 0 (join done (more s item none))
-    ∙ ap (λ ns. flat 0 ns) (items_join done (more s item none))
-    ∙ flat_both 0 (nodes_of done) (node (kind_of item) (label_of item) s (inner_nodes item) no_node)
+ends_so : (done : Items) (p : Span) (item : Item) → inner_nodes item ≡ no_node
+    → ending_in p.end (tokens_of (join done (more p item none))) ≡ ending_by (kind_of item)
+ends_so done p item e =
+    ap (λ ts. ending_in p.end ts) (items_flat 0 (join done (more p item none))
+    ∙ ap (λ ns. flat 0 ns) (items_join done (more p item none))
+    ∙ flat_both 0 (nodes_of done) (node (kind_of item) (label_of item) p (inner_nodes item) no_node)
     ∙ ap (λ ns. flat 0 (nodes_of done)
-    ++ flat (0 + length (flat 0 (nodes_of done))) (node (kind_of item) (label_of item) s ns no_node)) e)
+    ++ flat (0 + length (flat 0 (nodes_of done))) (node (kind_of item) (label_of item) p ns no_node)) e)
     ∙ ending_last (flat 0 (nodes_of done))
-    (record { kind = kind_of item; start = s.start; end = s.end; next = 0 + length (flat 0 (nodes_of done)) + 1 + 0 })
+    (record { kind = kind_of item; start = p.start; end = p.end; next = 0 + length (flat 0 (nodes_of done)) + 1 + 0 })
 
--- before a blank the place after such an item is where the next one begins
+-- what follows an item that a text ends in: a suffix and a word are closed by a blank, a message by nothing
+abbrev Fits : Item → List ℕ → Type 0
+Fits (TempName kind suffix) rest = begins_blank rest ≡ true
+Fits (Hide p) rest = begins_blank rest ≡ true
+Fits (UserError words) rest = ⊥
+Fits (Notice words) rest = ⊥
+Fits _ rest = Unit {0}
 
-at_blank : (P : ℕ → Type 0) (b : ℕ) → is_blank b ≡ true → P 32 → P 9 → P b
-at_blank P b is space tab = by (b == 32) refl is
-  where
-    tabbed : (t : Bool) → (b == 9) ≡ t → (if t then true else false) ≡ true → P b
-    tabbed true e g = subst P (sym (same b 9 e)) tab
-    tabbed false e g = absurd cc
+abbrev LastFits : Items → List ℕ → Type 0
+LastFits none rest = Unit {0}
+LastFits (more s item none) rest = Fits item rest
+LastFits (more s item (more t other items)) rest = LastFits (more t other items) rest
 
-    by : (t : Bool) → (b == 32) ≡ t → (if t then true else if b == 9 then true else false) ≡ true → P b
-    by true e g = subst P (sym (same b 32 e)) space
-    by false e g = tabbed (b == 9) refl g
+join_more : (before : Items) (p : Span) (item : Item) (items : Items) → join (join before (more p item none)) items
+    ≡ join before (more p item items)
+join_more none p item items = refl
+join_more (more t other before) p item items = ap (λ (x : Items). more t other x) (join_more before p item items)
 
-module _ (items : Items) (m : ℕ) where
-  abbrev whole : Here
-  whole = record { context = top; done = items }
+item_fits : (before : Items) (p : Span) (item : Item) (rest : List ℕ)
+    → goes_on (ending_in p.end (tokens_of (join before (more p item none)))) rest ≡ true → Fits item rest
+item_fits before p (TempName kind suffix) rest g = sym (ap (λ (e : Ending). goes_on e rest) (ends_so before p (TempName kind suffix) refl))
+    ∙ g
+item_fits before p (Hide word) rest g = sym (ap (λ (e : Ending). goes_on e rest) (ends_so before p (Hide word) refl)) ∙ g
+item_fits before p (UserError words) rest g =
+    let h : false ≡ true = sym (ap (λ (e : Ending). goes_on e rest) (ends_so before p (UserError words) refl)) ∙ g in
+    differs (sym h)
+item_fits before p (Notice words) rest g =
+    let h : false ≡ true = sym (ap (λ (e : Ending). goes_on e rest) (ends_so before p (Notice words) refl)) ∙ g in
+    differs (sym h)
+item_fits before p (Plain b) rest g = tt
+item_fits before p (Escape b) rest g = tt
+item_fits before p Blank rest g = tt
+item_fits before p Newline rest g = tt
+item_fits before p Pipe rest g = tt
+item_fits before p (Leaf leaf) rest g = tt
+item_fits before p (AddOption option) rest g = tt
+item_fits before p (NamedText name) rest g = tt
+item_fits before p (BuiltinText name) rest g = tt
+item_fits before p (Function name arguments) rest g = tt
+item_fits before p (Braces brace) rest g = tt
+item_fits before p Star rest g = tt
+item_fits before p (FailureFile brace) rest g = tt
+item_fits before p (ArgumentsFile brace) rest g = tt
 
-  got : (a : Items) → Got a ≡ Got items → a ≡ items
-  got a e = cc
+last_fits : {size : ℕ} {c : ListContext} {text : List ℕ} (rest : List ℕ) (items before : Items) → AreItems size c text items []
+    → goes_on (ending_in size (tokens_of (join before items))) rest ≡ true → LastFits items rest
+last_fits rest none before i g = tt
+last_fits {size} rest (more p item none) before (s.next_item {n = n} {m = m} a j b (s.no_item e)) g =
+    let end : size ≡ m = omega (arith, b) in
+    item_fits before (span n m) item rest
+    (subst (λ (k : ℕ). goes_on (ending_in k (tokens_of (join before (more (span n m) item none)))) rest ≡ true) end g)
+last_fits {size} rest (more p item (more t other items)) before (s.next_item {n = n} {m = m} a j b l) g =
+    last_fits rest (more t other items) (join before (more (span n m) item none)) l
+    (subst (λ (x : Items). goes_on (ending_in size (tokens_of x)) rest ≡ true)
+    (sym (join_more before (span n m) item (more t other items))) g)
 
-  at_item : (here : Here) (rest : List ℕ) → here.context ≡ top → here.done ≡ items → run [] (AtItem here) m rest
-      ≡ run [] (AtItem whole) m rest
-  at_item here rest c d =
-      ap (λ (x : ListContext). run [] (AtItem (record { context = x; done = here.done })) m rest) c
-      ∙ ap (λ (x : Items). run [] (AtItem (record { context = top; done = x })) m rest) d
+-- the item that a text ends in is the same where more follows
 
-  in_word : (q : Place) (here : Here) (at : ℕ) (item : Item) (rest : List ℕ) → inner_nodes item ≡ no_node → ending_by (kind_of item)
-      ≡ endings.Word
-      → here.context ≡ top → Got (placed here at m item).done ≡ Got items
-      → turn q m 32 ≡ turn (AtItem (placed here at m item)) m 32 → turn q m 9 ≡ turn (AtItem (placed here at m item)) m 9
-      → goes_on (ending_in m (tokens_of items)) rest ≡ true → run [] q m rest ≡ run [] (AtItem whole) m rest
-  in_word q here at item rest inner word c d space tab g = by rest (ap (λ (x : Ending). goes_on x rest) (sym ending) ∙ g)
-    where
-      done : (placed here at m item).done ≡ items
-      done = got (placed here at m item).done d
+run_on : {f : ℕ → Bool} {t run q : List ℕ} {b : ℕ} → IsRun f t run [] → f b ≡ false → IsRun f (t ++ b ∷ q) run (b ∷ q)
+run_on (s.run_ends h) e = s.run_ends (s.at_byte e)
+run_on (s.run_goes h i) e = s.run_goes h (run_on i e)
 
-      ending : ending_in m (tokens_of items) ≡ endings.Word
-      ending = ap (λ (x : Items). ending_in m (tokens_of x)) (sym done) ∙ ends_so here.done (span at m) item inner ∙ word
+quoted_on : {f : ℕ → Bool} {t word q : List ℕ} {b : ℕ} → IsQuoted f t word [] → (b == ascii.backslash) ≡ false → f b ≡ false
+    → IsQuoted f (t ++ b ∷ q) word (b ∷ q)
+quoted_on s.quoted_end e g = s.quoted_stop e g
+quoted_on (s.quoted_escape i) e g = s.quoted_escape (quoted_on i e g)
+quoted_on (s.quoted_byte h k i) e g = s.quoted_byte h k (quoted_on i e g)
 
-      turned : (b : ℕ) (text : List ℕ) → turn q m b ≡ turn (AtItem (placed here at m item)) m b
-          → run [] q m (b ∷ text) ≡ run [] (AtItem whole) m (b ∷ text)
-      turned b text e = ap (λ t. after t [] (λ w p. run w p (m + 1) text) m) e ∙ at_item (placed here at m item) (b ∷ text) c done
+-- a blank is in no word
+blank_out : (b : ℕ) → is_blank b ≡ true → ((b == ascii.backslash) ≡ false) × (is_word b ≡ false) × (is_suffix b ≡ false)
+    × ((b == ascii.percent) ≡ false) × ((b == ascii.asterisk) ≡ false)
+blank_out b h = each (λ x. ((x == ascii.backslash) ≡ false) × (is_word x ≡ false) × (is_suffix x ≡ false) × ((x == ascii.percent) ≡ false)
+    × ((x == ascii.asterisk) ≡ false)) (32 ∷ 9 ∷ []) b h ((refl, refl, refl, refl, refl), ((refl, refl, refl, refl, refl), tt))
 
-      by : (bs : List ℕ) → goes_on endings.Word bs ≡ true → run [] q m bs ≡ run [] (AtItem whole) m bs
-      by [] h = absurd cc
-      by (b ∷ text) h = at_blank (λ x. run [] q m (x ∷ text) ≡ run [] (AtItem whole) m (x ∷ text)) b h (turned 32 text space)
-          (turned 9 text tab)
+suffix_on : {t suffix : List ℕ} (q : List ℕ) → IsSuffix t suffix [] → begins_blank q ≡ true → IsSuffix (t ++ q) suffix q
+suffix_on [] i h = differs (sym h)
+suffix_on (b ∷ q) (s.suffix_run i) h = s.suffix_run (run_on i (blank_out b h).2)
+suffix_on (b ∷ q) s.suffix_object h = s.suffix_object
+suffix_on (b ∷ q) s.suffix_none h = s.suffix_other (blank_out b h).2 (blank_out b h).3
 
-  in_message : (here : Here) (at : ℕ) (kind : SayKind) (words rest : List ℕ) → Got (placed here at m (said kind words)).done ≡ Got items
-      → goes_on (ending_in m (tokens_of items)) rest ≡ true → ⊥
-  in_message here at kind words rest d g = by kind (got (placed here at m (said kind words)).done d)
-    where
-      by : (k : SayKind) → (placed here at m (said k words)).done ≡ items → ⊥
-      by AsError e =
-          let f : endings.Message ≡ ending_in m (tokens_of items) = sym (ends_so here.done (span at m) (said AsError words) refl) ∙ ap
-          (λ (x : Items). ending_in m (tokens_of x)) e in
-          let h : goes_on endings.Message rest ≡ true = ap (λ (x : Ending). goes_on x rest) f ∙ g in
-          absurd cc
-      by AsNotice e =
-          let f : endings.Message ≡ ending_in m (tokens_of items) = sym (ends_so here.done (span at m) (said AsNotice words) refl) ∙ ap
-          (λ (x : Items). ending_in m (tokens_of x)) e in
-          let h : goes_on endings.Message rest ≡ true = ap (λ (x : Ending). goes_on x rest) f ∙ g in
-          absurd cc
+pattern_on : {t : List ℕ} {p : Pattern} (q : List ℕ) → IsPattern t p [] → begins_blank q ≡ true → IsPattern (t ++ q) p q
+pattern_on [] i h = differs (sym h)
+pattern_on (b ∷ q) (s.unstarred i e) h =
+    let o = blank_out b h in
+    s.unstarred (quoted_on i o.0 o.1) (s.at_byte o.4)
+pattern_on (b ∷ q) (s.starred i) h = s.starred (quoted_longer (b ∷ q) i tt)
 
-  resumes : (q : Place) (rest : List ℕ) → context_at q ≡ top → finish q m ≡ Got items → goes_on (ending_in m (tokens_of items)) rest ≡ true
-      → run [] q m rest ≡ run [] (AtItem whole) m rest
-  resumes (AtItem here) rest c f g = at_item here rest c (got here.done f)
-  resumes (SuffixStart here at kind) rest c f g =
-      in_word (SuffixStart here at kind) here at (TempName kind []) rest refl refl c f refl refl g
-  resumes (SuffixRun here at kind suffix) rest c f g =
-      in_word (SuffixRun here at kind suffix) here at (TempName kind suffix) rest refl refl c f refl refl g
-  resumes (HideWord here at word) rest c f g =
-      in_word (HideWord here at word) here at (Hide (pattern word false)) rest refl refl c f refl refl g
-  resumes (SayingText here at kind words) rest c f g = absurd (in_message here at kind words rest f g)
-  resumes (AfterBackslash here back) rest c f g = absurd cc
-  resumes (AfterPercent here at) rest c f g = absurd cc
-  resumes (SuffixPercent here at kind percent) rest c f g = absurd cc
-  resumes (OptionOpen here at) rest c f g = absurd cc
-  resumes (OptionText here at option) rest c f g = absurd cc
-  resumes (OptionEscape here at option) rest c f g = absurd cc
-  resumes (SayingEscape here at kind words back) rest c f g = absurd cc
-  resumes (NameText here at name) rest c f g = absurd cc
-  resumes (HideStart here at) rest c f g = absurd cc
-  resumes (HideEscape here at word) rest c f g = absurd cc
-  resumes (FunctionName here at name) rest c f g = absurd cc
-  resumes (BraceOpen here at kind) rest c f g = absurd cc
-  resumes (ChoiceStart h) rest c f g = absurd cc
-  resumes (TestDue h) rest c f g = absurd cc
-  resumes (TestNegated h start) rest c f g = absurd cc
-  resumes (PatternDue h) rest c f g = absurd cc
-  resumes (TestWord h start negated word) rest c f g = absurd cc
-  resumes (TestWordEscape h start negated word) rest c f g = absurd cc
-  resumes (TestMark h start negated mark) rest c f g = absurd cc
-  resumes (MarkedWord h start negated mark word) rest c f g = absurd cc
-  resumes (MarkedEscape h start negated mark word) rest c f g = absurd cc
-  resumes (TestPercent h start negated percent) rest c f g = absurd cc
-  resumes (TestFunction h start negated percent name) rest c f g = absurd cc
-  resumes (AfterTest h patterns tests bare) rest c f g = absurd cc
+said_fits : {A : Type 0} (kind : SayKind) (words q : List ℕ) → Fits (said kind words) q → A
+said_fits AsError words q h = absurd h
+said_fits AsNotice words q h = absurd h
+
+directive_on : {size : ℕ} {c : ListContext} {f : Directive} {t : List ℕ} {x : Item} (q : List ℕ) → IsDirective size c f t x [] → Fits x q
+    → IsDirective (size + length q) c f (t ++ q) x q
+directive_on q s.whole h = s.whole
+directive_on q s.named h = s.named
+directive_on q (s.temp_name i) h = s.temp_name (suffix_on q i h)
+directive_on q (s.add_option i) h = s.add_option (quoted_longer q i tt)
+directive_on q (s.saying {kind = kind} {words = words} i e) h = said_fits kind words q h
+directive_on q (s.named_text i l) h = s.named_text (run_longer q i tt) l
+directive_on q (s.hide i) h = s.hide (pattern_on q i h)
+directive_on q (s.star e) h = s.star e
+directive_on q (s.function i) h = s.function (call_longer q i)
+directive_on q (s.braces i) h = s.braces (brace_longer q i)
+directive_on q (s.marked_braces i) h = s.marked_braces (brace_longer q i)
+
+item_on : {size : ℕ} {c : ListContext} {t : List ℕ} {x : Item} (q : List ℕ) → IsItem size c t x [] → Fits x q
+    → IsItem (size + length q) c (t ++ q) x q
+item_on q (s.plain e g) h = s.plain e g
+item_on q s.escape h = s.escape
+item_on q (s.blank e) h = s.blank e
+item_on q s.newline h = s.newline
+item_on q s.pipe h = s.pipe
+item_on q (s.directive e i) h = s.directive e (directive_on q i h)
+
+-- each item is, if those after it end so
+item_goes : {size : ℕ} {c : ListContext} {t mid : List ℕ} (q : List ℕ) (p : Span) (x : Item) (items : Items) → AreItems size c mid items []
+    → LastFits (more p x items) q → IsItem size c t x mid → IsItem (size + length q) c (t ++ q) x (mid ++ q)
+item_goes q p x none (s.no_item e) h i = item_on q i h
+item_goes q p x (more r y items) (s.next_item a j b l) h i = item_longer q i (item_filled j)
+
+rest_fits : (p : Span) (x : Item) (items : Items) (q : List ℕ) → LastFits (more p x items) q → LastFits items q
+rest_fits p x none q h = tt
+rest_fits p x (more r y items) q h = h
 
 -- a text with more after it
 
-read_on : (text rest : List ℕ) (items : Items) → read text ≡ Got items → goes_on (ending_in (length text) (tokens_of items)) rest ≡ true
-    → read (text ++ rest) ≡ run [] (AtItem (record { context = top; done = items })) (length text) rest
-read_on text rest items h g =
-    let r : Reached items top (0 + length text) (λ others. run [] (list_in top) 0 (text ++ others)) = reaches text []
-    (list_in top) 0 items h in
-    let e : 0 + length text ≡ length text = omega arith in
-    r.further rest ∙ resumes items (0 + length text) r.place rest r.there r.ends
-    (ap (λ (i : ℕ). goes_on (ending_in i (tokens_of items)) rest) e ∙ g)
-    ∙ ap (λ (i : ℕ). run [] (AtItem (record { context = top; done = items })) i rest) e
+-- what is read after these items
+abbrev after : Items → ℕ → Read (Items × ℕ) → Read (Items × ℕ)
+after items k r = then_read r (λ list used. Took (join items list.0, list.1) (k + used))
+
+after_none : (r : Read (Items × ℕ)) → after none 0 r ≡ r
+after_none (Took list used) = let e : 0 + used ≡ used = omega arith in ap (λ (i : ℕ). Took list i) e
+after_none (Ends at) = refl
+after_none (Stops n fault) = refl
+
+after_more : (n m k first : ℕ) (x : Item) (items : Items) (used size : ℕ) (r : Read (Items × ℕ)) → n ≡ first → n + 1 + used ≡ m
+    → 1 + used + k ≡ size → item_go n x used (after items k r) ≡ after (more (span first m) x items) size r
+after_more n m k first x items used size (Took list extra) f e g =
+    let z : 1 + used + (k + extra) ≡ size + extra = omega (arith, g) in
+    ap (λ (i : ℕ). Took (more (span n i) x (join items list.0), list.1) (1 + used + (k + extra))) e
+    ∙ ap (λ (i : ℕ). Took (more (span i m) x (join items list.0), list.1) (1 + used + (k + extra))) f
+    ∙ ap (λ (i : ℕ). Took (more (span first m) x (join items list.0), list.1) i) z
+after_more n m k first x items used size (Ends at) f e g = refl
+after_more n m k first x items used size (Stops i fault) f e g = refl
+
+module _ (level : ℕ) (is : level ≡ 63) (q : List ℕ) where
+  abbrev reads : ℕ → List ℕ → Read (Items × ℕ)
+  reads n t = (levels (suc level)).0 top n t
+
+  items_on : {size : ℕ} {t : List ℕ} (items : Items) (n : ℕ) → AreItems size top t items [] → LastFits items q → At size n t
+      → reads n (t ++ q) ≡ after items (length t) (reads (n + length t) q)
+  items_on none n (s.no_item e) h place =
+      let z : n ≡ n + 0 = omega arith in
+      ap (λ (i : ℕ). reads i q) z ∙ sym (after_none (reads (n + 0) q))
+  items_on {size} {t} (more p x items) n (s.next_item {n = first} {m = m} {mid = mid} a i b l) h place =
+      let known = top_inner level is (size + length q) in
+      let o = one (size + length q) (levels level).0 (levels level).1 top known.args known.xs known.deeper n
+      (item_goes q (span first m) x items l h i) (place_longer q n t place) in
+      let begins : n ≡ first = omega (arith, a, place) in
+      let sizes : length t ≡ 1 + o.used + length mid = omega (arith, o.fits, length-append t q, length-append mid q) in
+      let ends : n + 1 + o.used ≡ m = omega (arith, place, sizes, b) in
+      let there : n + 1 + o.used + length mid ≡ n + length t = omega (arith, sizes) in
+      o.is
+      ∙ ap (λ r. item_go n x o.used r)
+      (items_on items (n + 1 + o.used) l (rest_fits (span first m) x items q h) (omega (arith, place, sizes)))
+      ∙ after_more n m (length mid) first x items o.used (length t) (reads (n + 1 + o.used + length mid) q) begins ends (sym sizes)
+      ∙ ap (λ (k : ℕ). after (more (span first m) x items) (length t) (reads k q)) there
 
 tokens_joined : (items list : Items) → tokens_of (join items list) ≡ tokens_of items ++ flat (length (tokens_of items)) (nodes_of list)
 tokens_joined items list =
@@ -196,15 +252,15 @@ pub rest_is : (text rest : List ℕ) (tokens : List Token) (names : List Label) 
     → goes_on (ending_in (length text) tokens) rest ≡ true → whole_given (text ++ rest) ≡ rest_given (length text) rest tokens names
 rest_is text rest tokens names h g = by (descent text) refl h
   where
-    joined : (items : Items) (r : Read (Items × ℕ))
-        → listed (judged (out [] r (λ l size. Got (join items l.0)))) ≡ given None (record { at = length text; bytes = rest })
+    joined : (items : Items) (k : ℕ) (r : Read (Items × ℕ))
+        → listed (judged (outcome (after items k r))) ≡ given None (record { at = length text; bytes = rest })
         (λ list others. (tokens_of items ++ flat (length (tokens_of items)) (nodes_of list.0), labels_of items ++ labels (nodes_of list.0)))
         r
-    joined items (Took l size) =
+    joined items k (Took l size) =
         ap (λ ts. Ok (ts, labels_of (join items l.0))) (tokens_joined items l.0)
         ∙ ap (λ ls. Ok (tokens_of items ++ flat (length (tokens_of items)) (nodes_of l.0), ls)) (labels_joined items l.0)
-    joined items (Ends at) = refl
-    joined items (Stops n fault) = refl
+    joined items k (Ends at) = refl
+    joined items k (Stops n fault) = refl
 
     by : (o : Out) → descent text ≡ o → listed (judged o) ≡ Ok (tokens, names) → whole_given (text ++ rest)
         ≡ rest_given (length text) rest tokens names
@@ -215,9 +271,12 @@ rest_is text rest tokens names h g = by (descent text) refl h
         let ends : goes_on (ending_in (length text) (tokens_of items)) rest ≡ true =
         ap (λ (z : List Token × List Label). goes_on (ending_in (length text) z.0) rest) p
         ∙ g in
-        ap (λ (o : Out). listed (judged o)) (descent_is_read (text ++ rest)
-        ∙ read_on text rest items (sym (descent_is_read text) ∙ e) ends ∙ continues items (length text) rest)
-        ∙ joined items ((levels 64).0 top (length text) rest)
+        let tree = read_is_spelled text items e in
+        let start : 0 + length text ≡ length text = omega arith in
+        ap (λ o. listed (judged o)) (descent_is (text ++ rest))
+        ∙ ap (λ r. listed (judged (outcome r))) (items_on 63 refl rest items 0 tree (last_fits rest items none tree ends) (omega arith))
+        ∙ ap (λ (i : ℕ). listed (judged (outcome (after items (length text) ((levels 64).0 top i rest))))) start
+        ∙ joined items (length text) ((levels 64).0 top (length text) rest)
         ∙ ap (λ (z : List Token × List Label). rest_given (length text) rest z.0 z.1) p
 
 -- the code's list of the rest

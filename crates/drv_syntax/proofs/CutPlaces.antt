@@ -1,88 +1,146 @@
-use Rattle.drv_syntax.proofs.Covers.{at_item, item_read, spelled_is_read}
-use Rattle.drv_syntax.proofs.FrontLeads.{IsTreeOrCut}
-use Rattle.drv_syntax.proofs.FrontsRead.{cut_place, item_front}
-use Rattle.drv_syntax.proofs.Leads.{further, same_place}
+use Rattle.drv_syntax.proofs.Depth.{descent_is}
+use Rattle.drv_syntax.proofs.DirectivesRead.{cut_place}
+use Rattle.drv_syntax.proofs.ItemsRead as i
+use Rattle.drv_syntax.proofs.ItemsRead.{One, after_one, item_out, one, open_place}
 use Rattle.drv_syntax.proofs.MeantWhole.{read_is_spelled, unrefused_is_front}
-use Rattle.drv_syntax.specs.Contexts.{top}
+use Rattle.drv_syntax.proofs.PartsRead.{Reads}
+use Rattle.drv_syntax.proofs.WholeRead.{spelled_is_read, top_inner}
+use Rattle.drv_syntax.specs.Contexts.{Top, top}
+use Rattle.drv_syntax.specs.Descent as d
+use Rattle.drv_syntax.specs.Descent.{Ends, Read, Stops, Took, levels}
 use Rattle.drv_syntax.specs.Directives.{directive_of}
 use Rattle.drv_syntax.specs.Faults.{IsCutAt, IsOpenAt, after_item, is_closed_by_end, open_byte, open_directive, open_last}
 use Rattle.drv_syntax.specs.Fronts as cuts
 use Rattle.drv_syntax.specs.Fronts.{AreFrontItems, CutsItem}
-use Rattle.drv_syntax.specs.Outcome.{Cut, Got, join, read, run}
-use Rattle.drv_syntax.specs.Spelling.{At, Spells, span}
-use Rattle.drv_syntax.specs.Tree.{Items, more, none}
-use Rattle.std.proofs.Common.{◌≡◌, ◌∙◌, ◌-◌, Bool, false, true, List, [], ◌∷◌, arith, inl, inr, refl, subst, sym, ℕ}
+use Rattle.drv_syntax.specs.Outcome.{Cut, Got, Out, outcome, read}
+use Rattle.drv_syntax.specs.Spelling.{At, IsItem, Spells}
+use Rattle.drv_syntax.specs.Tree.{Item, Items, none}
+use Rattle.std.proofs.Common.{◌≡◌, ◌∙◌, ◌+◌, ◌-◌, ◌⊎◌, Bool, false, true, if◌then◌else◌, List, [], ◌∷◌, ap, arith, inl, inr, length}
+use Rattle.std.proofs.Common.{refl, subst}
+use Rattle.std.proofs.Common.{suc, sym, ℕ}
 
 -- A text that is cut short is cut at the place of what is open at its end, and at no other: the law `cut_at_open`.
 
-same_cut : (k n : ℕ) → Cut k ≡ Cut n → k ≡ n
-same_cut k n e = cc
+module _ (level : ℕ) (is : level ≡ 63) (size : ℕ) where
+  known : i.Inner size (levels level).0 (levels level).1 top
+  known = top_inner level is size
 
--- what is open
-open_read : {size place : ℕ} {text : List ℕ} → IsOpenAt size text place → (past : Items) (n : ℕ) → At size n text
-    → IsTreeOrCut place (run [] (at_item top past) n text)
-open_read {size} (open_byte {b} {n = k} d at) past n a =
-    subst (λ (x : ℕ). IsTreeOrCut x (run [] (at_item top past) n (b ∷ []))) (same_place size n k (b ∷ []) a at)
-    (item_front d [] past n a).is
-open_read {size} (open_directive {b} {n = k} {text} e d at) past n a =
-    subst (λ (x : ℕ). IsTreeOrCut x (run [] (at_item top past) n (37 ∷ b ∷ text))) (rw e (same_place size n k (37 ∷ b ∷ text) a at))
-    (item_front d [] past n a).is
-open_read {size} (open_last {b} {n = k} {text} e d at) past n a =
-    let last : size - 1 ≡ k = omega (arith, at) in
-    subst (λ (x : ℕ). IsTreeOrCut x (run [] (at_item top past) n (37 ∷ b ∷ text))) (rw e last) (item_front d [] past n a).is
-open_read {size} {place} {text} (after_item {rest = rest} {item} d r) past n a =
-    let l = item_read d [] past n a in
-    subst (IsTreeOrCut place) (sym l.is) (open_read r (join past (more (span n l.at) item none)) l.at
-    (further size n l.at text rest a l.fits))
+  abbrev items : ℕ → List ℕ → Read (Items × ℕ)
+  items n t = (levels (suc level)).0 top n t
 
--- the item that the text ends in
-item_open : {size : ℕ} {text : List ℕ} (place : ℕ) → CutsItem size top text → (past : Items) (n : ℕ) → At size n text
-    → run [] (at_item top past) n text ≡ Cut place → IsOpenAt size text place
-item_open {size} place cuts.cut_escape past n a h = open_byte cuts.cut_escape
-    (subst (λ (x : ℕ). At size x (92 ∷ [])) (same_cut n place h) a)
-item_open {size} place cuts.cut_percent past n a h = open_byte cuts.cut_percent
-    (subst (λ (x : ℕ). At size x (37 ∷ [])) (same_cut n place h) a)
-item_open {size} place (cuts.cut_directive {b = b} {text = text} e d) past n a h = by (item_front whole [] past n a).is
-  where
-    whole : CutsItem size top (37 ∷ b ∷ text)
-    whole = cuts.cut_directive {b = b} e d
+  -- it is cut at this place, or it has a tree
+  abbrev Ended : ℕ → List ℕ → ℕ → Type 0
+  Ended n t at = (items n t ≡ Ends at) ⊎ ((list : Items) × (top.kind ≡ Top) × Reads (items n t) t (list, 0) [])
 
-    at : (z : Bool) → is_closed_by_end (directive_of b) ≡ z → cut_place size n (directive_of b) ≡ place
-        → IsOpenAt size (37 ∷ b ∷ text) place
-    at true c g =
-        let last : size - 1 ≡ place = rw c at g in
-        open_last c whole (omega (arith, a, last))
-    at false c g = open_directive c whole (subst (λ (x : ℕ). At size x (37 ∷ b ∷ text)) (rw c at g) a)
+  abbrev Begun : ℕ → List ℕ → Item → List ℕ → Type 0
+  Begun n t x mid = One size (levels level).0 (levels level).1 top known.args known.xs known.deeper n t x mid
 
-    by : IsTreeOrCut (cut_place size n (directive_of b)) (run [] (at_item top past) n (37 ∷ b ∷ text)) → IsOpenAt size (37 ∷ b ∷ text) place
-    by (inl g) = at (is_closed_by_end (directive_of b)) refl (same_cut (cut_place size n (directive_of b)) place (sym g ∙ h))
-    by (inr (items, g)) = absurd (let z : Got items ≡ Cut place = sym g ∙ h in cc)
+  more_ended : {n at : ℕ} {t mid : List ℕ} {x : Item} (o : Begun n t x mid) → Ended (n + 1 + o.used) mid at → Ended n t at
+  more_ended o e = after_one size (levels level).0 (levels level).1 top known.args known.xs known.deeper known.args_end known.x_ends
+      known.deeper_end o e
 
-items_open : {size : ℕ} {text : List ℕ} (place : ℕ) → AreFrontItems size top text → (past : Items) (n : ℕ) → At size n text
-    → run [] (at_item top past) n text ≡ Cut place → IsOpenAt size text place
-items_open place cuts.items_end past n a h = absurd cc
-items_open {size} {text} place (cuts.whole_item {rest = rest} {item} d f) past n a h =
-    let l = item_read d [] past n a in
-    after_item d (items_open place f (join past (more (span n l.at) item none)) l.at (further size n l.at text rest a l.fits)
-    (sym l.is ∙ h))
-items_open place (cuts.cut_item d) past n a h = item_open place d past n a h
+  nothing : (n at : ℕ) → Ended n [] at
+  nothing n at = inr (none, refl, record { size = 0; is = refl; left = refl; fits = omega arith })
+
+  begun : {t mid : List ℕ} {x : Item} (n : ℕ) → IsItem size top t x mid → At size n t → Begun n t x mid
+  begun n j place = one size (levels level).0 (levels level).1 top known.args known.xs known.deeper n j place
+
+  item_ended : {t : List ℕ} (n : ℕ) (j : CutsItem size top t) → At size n t
+      → (items n t ≡ Ends (open_place size (levels level).0 (levels level).1 top known.args known.xs known.deeper n j))
+      ⊎ ((x : Item) × Begun n t x [])
+  item_ended n j place = item_out size (levels level).0 (levels level).1 top known.args known.xs known.deeper known.args_end known.x_ends
+      known.deeper_end n j place
+
+  cut_ended : {t : List ℕ} (n place : ℕ) (j : CutsItem size top t) → At size n t
+      → open_place size (levels level).0 (levels level).1 top known.args known.xs known.deeper n j ≡ place → Ended n t place
+  cut_ended {t} n place j a e = by (item_ended n j a)
+    where
+      by : (items n t ≡ Ends (open_place size (levels level).0 (levels level).1 top known.args known.xs known.deeper n j))
+          ⊎ ((x : Item) × Begun n t x []) → Ended n t place
+      by (inl h) = inl (h ∙ ap (λ (k : ℕ). Ends k) e)
+      by (inr (x, o)) = more_ended o (nothing (n + 1 + o.used) place)
+
+  -- what is open
+  open_ended : {t : List ℕ} {place : ℕ} (n : ℕ) → IsOpenAt size t place → At size n t → Ended n t place
+  open_ended {place = place} n (open_byte cuts.cut_escape at) a = cut_ended n place cuts.cut_escape a (omega (arith, at, a))
+  open_ended {place = place} n (open_byte cuts.cut_percent at) a = cut_ended n place cuts.cut_percent a (omega (arith, at, a))
+  open_ended {place = place} n (open_directive {b} {text = text} e (cuts.cut_directive al j) at) a =
+      let there : n ≡ place = omega (arith, at, a) in
+      cut_ended n place (cuts.cut_directive {b = b} al j) a (ap (λ (z : Bool). if z then size - 1 else n) e ∙ there)
+  open_ended {place = place} n (open_last {b} {text = text} e (cuts.cut_directive al j) at) a =
+      let there : size - 1 ≡ place = omega (arith, at) in
+      cut_ended n place (cuts.cut_directive {b = b} al j) a (ap (λ (z : Bool). if z then size - 1 else n) e ∙ there)
+  open_ended n (after_item j o) a =
+      let z = begun n j a in
+      more_ended z (open_ended (n + 1 + z.used) o (omega (arith, a, z.fits)))
+
+  -- the item that the text ends in
+
+  same_end : (k n : ℕ) → ◌≡◌ {A = Read (Items × ℕ)} (Ends k) (Ends n) → k ≡ n
+  same_end k n e = cc
+
+  go_ends : (n : ℕ) (x : Item) (k place : ℕ) (r : Read (Items × ℕ)) → d.item_go n x k r ≡ Ends place → r ≡ Ends place
+  go_ends n x k place (Took list used) e = absurd cc
+  go_ends n x k place (Ends at) e = e
+  go_ends n x k place (Stops i fault) e = absurd cc
+
+  nothing_ends : {A : Type 0} (n place : ℕ) → items n [] ≡ Ends place → A
+  nothing_ends n place e = clash e
+    where
+      clash : {A : Type 0} → ◌≡◌ {A = Read (Items × ℕ)} (Took (none, 0) 0) (Ends place) → A
+      clash e = absurd cc
+
+  item_open : {t : List ℕ} (n place : ℕ) (j : CutsItem size top t) → At size n t
+      → open_place size (levels level).0 (levels level).1 top known.args known.xs known.deeper n j ≡ place → IsOpenAt size t place
+  item_open n place cuts.cut_escape a e = open_byte cuts.cut_escape (omega (arith, a, e))
+  item_open n place cuts.cut_percent a e = open_byte cuts.cut_percent (omega (arith, a, e))
+  item_open n place (cuts.cut_directive {b} {text} al j) a e = by (is_closed_by_end (directive_of b)) refl e
+    where
+      by : (z : Bool) → is_closed_by_end (directive_of b) ≡ z → cut_place size n (directive_of b) ≡ place
+          → IsOpenAt size (37 ∷ b ∷ text) place
+      by true c g =
+          let last : size - 1 ≡ place = sym (ap (λ (z : Bool). if z then size - 1 else n) c) ∙ g in
+          open_last c (cuts.cut_directive al j) (omega (arith, a, last))
+      by false c g =
+          let there : n ≡ place = sym (ap (λ (z : Bool). if z then size - 1 else n) c) ∙ g in
+          open_directive c (cuts.cut_directive al j) (omega (arith, a, there))
+
+  ended_open : {t : List ℕ} (n place : ℕ) → AreFrontItems size top t → At size n t → items n t ≡ Ends place → IsOpenAt size t place
+  ended_open n place cuts.items_end a h = nothing_ends n place h
+  ended_open n place (cuts.whole_item {rest = mid} {item = x} j f) a h =
+      let z = begun n j a in
+      after_item j (ended_open (n + 1 + z.used) place f (omega (arith, a, z.fits))
+      (go_ends n x z.used place (items (n + 1 + z.used) mid) (sym z.is ∙ h)))
+  ended_open {t} n place (cuts.cut_item j) a h = by (item_ended n j a)
+    where
+      by : (items n t ≡ Ends (open_place size (levels level).0 (levels level).1 top known.args known.xs known.deeper n j))
+          ⊎ ((x : Item) × Begun n t x []) → IsOpenAt size t place
+      by (inl e) = item_open n place j a
+          (same_end (open_place size (levels level).0 (levels level).1 top known.args known.xs known.deeper n j) place (sym e ∙ h))
+      by (inr (x, o)) = nothing_ends (n + 1 + o.used) place (go_ends n x o.used place (items (n + 1 + o.used) []) (sym o.is ∙ h))
+
+cut_end : (r : Read (Items × ℕ)) (place : ℕ) → outcome r ≡ Cut place → r ≡ Ends place
+cut_end (Took list size) place e = absurd cc
+cut_end (Ends at) place e = cc
+cut_end (Stops n fault) place e = absurd cc
 
 pub cut_at : (text : List ℕ) (place : ℕ) → read text ≡ Cut place → IsCutAt text place
 cut_at text place h = record {
-  is_open = items_open place (unrefused_is_front text (inr (place, h))) none 0 (omega arith) h;
-  no_tree =
-      no_tree;
+  is_open = ended_open 63 refl (length text) 0 place (unrefused_is_front text (inr (place, h))) (omega arith)
+      (cut_end ((levels 64).0 top 0 text) place (sym (descent_is text) ∙ h));
+  no_tree = no_tree;
 }
   where
-    no_tree : (items : Items) → Spells text items → ⊥
-    no_tree items d = clash (sym h ∙ spelled_is_read text items d)
+    no_tree : (list : Items) → Spells text list → ⊥
+    no_tree list j = clash (sym h ∙ spelled_is_read text list j)
       where
-        clash : Cut place ≡ Got items → ⊥
+        clash : Cut place ≡ Got list → ⊥
         clash e = cc
 
 pub cut_there : (text : List ℕ) (place : ℕ) → IsCutAt text place → read text ≡ Cut place
-cut_there text place c = by (open_read c.is_open none 0 (omega arith))
+cut_there text place c = by (open_ended 63 refl (length text) 0 c.is_open (omega arith))
   where
-    by : IsTreeOrCut place (read text) → read text ≡ Cut place
-    by (inl e) = e
-    by (inr (items, e)) = absurd (c.no_tree items (read_is_spelled text items e))
+    by : ((levels 64).0 top 0 text ≡ Ends place) ⊎ ((list : Items) × (top.kind ≡ Top) × Reads ((levels 64).0 top 0 text) text (list, 0) [])
+        → read text ≡ Cut place
+    by (inl e) = descent_is text ∙ ap (λ r. outcome r) e
+    by (inr (list, e, m)) = absurd (c.no_tree list (read_is_spelled text list (descent_is text ∙ ap (λ r. outcome r) m.is)))

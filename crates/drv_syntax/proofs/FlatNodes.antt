@@ -1,7 +1,6 @@
 use Rattle.drv_syntax.specs.Code.Writing.{flat}
 use Rattle.drv_syntax.specs.Labels.{Label, Nodes, asked_nodes, both, brace_nodes, choice_nodes, inner_nodes, label_of, labels, labels_of}
 use Rattle.drv_syntax.specs.Labels.{no_node, node, nodes_of, pattern_nodes, test_nodes}
-use Rattle.drv_syntax.specs.Outcome.{join}
 use Rattle.drv_syntax.specs.Tokens.{asked_tokens, brace_tokens, choice_tokens, inner_tokens, item_tokens, kind_of, pattern_tokens}
 use Rattle.drv_syntax.specs.Tokens.{test_tokens, token, tokens_of}
 use Rattle.drv_syntax.specs.Tree as tree
@@ -13,6 +12,11 @@ use Rattle.std.proofs.Common.{◌≡◌, ℕ, ◌+◌, ◌-◌, List, [], ◌∷
 
 -- The tokens of a tree are those of its parts, one after the other, with as many labels. It serves `SpecTree::tokens`, `word` and their
 -- like, and what the reader writes.
+
+-- lists that grow at their end
+abbrev pub join : Items → Items → Items
+join tree.none others = others
+join (tree.more s item items) others = tree.more s item (join items others)
 
 pub same_token : (n : ℕ) (kind : TokenKind) (s : Span) {xs ys : List Token} {f g : ℕ → List Token} → xs ≡ ys → ((m : ℕ) → f m ≡ g m)
     → token n kind s xs f ≡ token n kind s ys g

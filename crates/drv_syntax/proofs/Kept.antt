@@ -1,7 +1,6 @@
 use Rattle.drv_syntax.proofs.Continued.{rest_is}
 use Rattle.drv_syntax.proofs.Leads.{le_true}
-use Rattle.drv_syntax.proofs.DescentWhole.{descent_is_parsed}
-use Rattle.drv_syntax.proofs.ParsedGrammar.{parsed_refused, parsed_spelled}
+use Rattle.drv_syntax.proofs.ParsedGrammar.{allowed, parsed_refused, parsed_spelled}
 use Rattle.drv_syntax.specs.Code.Ending.{ending_in, goes_on}
 use Rattle.drv_syntax.specs.Code.Parts.{IsKept, IsRead}
 use Rattle.drv_syntax.specs.Code.Whole.{rest_given, whole_given}
@@ -35,7 +34,7 @@ parsed_long text h = ap (λ t. if t then judged (read text) else Err TextTooLong
 
 module _ (text : List ℕ) (short : length text ≤ 1048576) where
   listed_is : listed (parsed text) ≡ whole_given text
-  listed_is = ap (λ r. listed r) (descent_is_parsed text short)
+  listed_is = ap (λ r. listed r) (allowed text (read text) short refl)
 
   pub tree_whole : (p : TextParts) → whole_given text ≡ Ok (p.tokens, p.labels) → parsed text ≡ Ok (tree_of text)
   tree_whole p h = by (parsed text) (listed_is ∙ h)

@@ -1,66 +1,9 @@
 use Rattle.drv_syntax.specs.Bytes.{is_of}
-use Rattle.drv_syntax.specs.Outcome.{Closes, Goes, On, Opens, Place, Waiting, resume, run, turn}
-use Rattle.drv_syntax.specs.Spelling.{At}
-use Rattle.drv_syntax.specs.Tree.{Items}
-use Rattle.std.proofs.Common.{◌≡◌, ◌≤◌, ◌∙◌, ◌+◌, Bool, false, true, List, [], ◌∷◌, ap, arith, length, refl, subst, sym, ℕ}
+use Rattle.std.proofs.Common.{◌≡◌, ◌≤◌, ◌∙◌, Bool, false, true, List, [], ◌∷◌, ap, arith, refl, subst, sym, ℕ}
 use Rattle.std.proofs.lemmas.Bool.Decides.{nat_tests}
 use Rattle.std.specs.Prelude.{◌==◌, nat_le}
 
--- Steps of a run, and facts on classes of bytes. Nothing here knows the table. It serves the laws `spelled_is_read` and
--- `front_is_unrefused`.
-
--- a text leads from a place to another, where the rest begins; that one may hold the place of the rest
-pub record Leads (ws : List Waiting) (p : Place) (n : ℕ) (text : List ℕ) (vs : List Waiting) (q : ℕ → Place) (rest : List ℕ) : Type 0 where
-  pub at : ℕ
-  pub fits : n + length text ≡ at + length rest
-  pub is : run ws p n text ≡ run vs (q at) at rest
-
-pub stays : (ws : List Waiting) (q : ℕ → Place) (n : ℕ) (text : List ℕ) → Leads ws (q n) n text ws q text
-stays ws q n text = record { at = n; fits = refl; is = refl }
-
--- without a byte
-pub same_run : {ws vs : List Waiting} {p : Place} {q : ℕ → Place} {n : ℕ} {text : List ℕ} → run ws p n text ≡ run vs (q n) n text
-    → Leads ws p n text vs q text
-same_run {n = n} e = record { at = n; fits = refl; is = e }
-
-pub goes : {ws vs : List Waiting} {p p' : Place} {q : ℕ → Place} {n b : ℕ} {text rest : List ℕ} → turn p n b ≡ Goes p'
-    → Leads ws p' (n + 1) text vs q rest → Leads ws p n (b ∷ text) vs q rest
-goes e l = record { at = l.at; fits = omega (arith, l.fits); is = rw e l.is }
-
-pub one : {ws : List Waiting} {p : Place} {q : ℕ → Place} {n b : ℕ} {text : List ℕ} → turn p n b ≡ Goes (q (n + 1))
-    → Leads ws p n (b ∷ text) ws q text
-one {n = n} e = record { at = n + 1; fits = omega arith; is = rw e refl }
-
-pub opens : {ws vs : List Waiting} {w : Waiting} {p p' : Place} {q : ℕ → Place} {n b : ℕ} {text rest : List ℕ} → turn p n b ≡ Opens p' w
-    → Leads (w ∷ ws) p' (n + 1) text vs q rest
-    → Leads ws p n (b ∷ text) vs q rest
-opens e l = record { at = l.at; fits = omega (arith, l.fits); is = rw e l.is }
-
-pub closes : {ws : List Waiting} {w : Waiting} {p : Place} {q : ℕ → Place} {n b c : ℕ} {items : Items} {text : List ℕ}
-    → turn p n b ≡ Closes items c → resume w items n c ≡ On (q (n + 1))
-    → Leads (w ∷ ws) p n (b ∷ text) ws q text
-closes {n = n} e f = record { at = n + 1; fits = omega arith; is = rw (e, f) refl }
-
-pub and_then : {ws vs us : List Waiting} {p : Place} {q r : ℕ → Place} {n : ℕ} {text mid rest : List ℕ} → Leads ws p n text vs q mid
-    → ((m : ℕ) → n + length text ≡ m + length mid → Leads vs (q m) m mid us r rest) → Leads ws p n text us r rest
-and_then l k =
-    let r = k l.at l.fits in
-    record { at = r.at; fits = l.fits ∙ r.fits; is = l.is ∙ r.is }
-
-pub to : {ws vs : List Waiting} {p : Place} {q r : ℕ → Place} {n : ℕ} {text rest : List ℕ}
-    → ((m : ℕ) → n + length text ≡ m + length rest → q m ≡ r m) → Leads ws p n text vs q rest
-    → Leads ws p n text vs r rest
-to {vs = vs} {rest = rest} e l = record { at = l.at; fits = l.fits; is = l.is ∙ ap (λ (x : Place). run vs x l.at rest) (e l.at l.fits) }
-
--- places
-
-pub same_place : (size a b : ℕ) (text : List ℕ) → At size a text → At size b text → a ≡ b
-same_place size a b text h g = omega arith
-
-pub further : (size n m : ℕ) (text rest : List ℕ) → At size n text → n + length text ≡ m + length rest → At size m rest
-further size n m text rest h e = sym e ∙ h
-
--- bytes
+-- Facts on bytes and classes of them.
 
 pub same : (a b : ℕ) → (a == b) ≡ true → a ≡ b
 same a b h = grind (arith, nat_tests)

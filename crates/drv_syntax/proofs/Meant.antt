@@ -2,7 +2,8 @@ use Rattle.drv_syntax.proofs.Steps.{Far, Near, Step, far_self, near_far, near_se
 use Rattle.drv_syntax.specs.Descent.{Ends, Read, Stops, Took, past, then_read, within}
 use Rattle.drv_syntax.specs.Spelling.{At}
 use Rattle.drv_syntax.specs.declared.fault.SyntaxFault.{SyntaxFault}
-use Rattle.std.proofs.Common.{◌≡◌, ◌∙◌, ◌+◌, Bool, false, true, if◌then◌else◌, List, [], ◌∷◌, ap, arith, drop, drop-drop, length, refl, subst}
+use Rattle.std.proofs.Common.{◌≡◌, ◌∙◌, ◌+◌, Bool, false, true, if◌then◌else◌, List, [], ◌∷◌, ap, arith, drop, drop-drop, length, refl}
+use Rattle.std.proofs.Common.{subst}
 use Rattle.std.proofs.Common.{sym, take, ℕ}
 
 -- What Descent makes of a part of a text is what the grammar says of that part. Three relations say it: what the part is, with a rest

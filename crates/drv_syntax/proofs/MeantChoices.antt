@@ -137,7 +137,8 @@ module _ (lists deep : Lists) (c : ListContext) (outer : (c.levels == 0) ≡ fal
         → Takes AtByte n (b ∷ text) (λ total t form q. IsForm total (in_braces c) order t form q) (Patterns ps) k
         → InsideMeant order n (b ∷ text) (Took (Emit ps) (k + 1))
     patterns_go ps k t =
-        let end = form_brace (t.is (n + length (t.step.front (drop k (b ∷ text)))) (drop k (b ∷ text)) (near_self (drop k (b ∷ text))) refl) in
+        let end = form_brace (t.is (n + length (t.step.front (drop k (b ∷ text)))) (drop k (b ∷ text))
+        (near_self (drop k (b ∷ text))) refl) in
         meant_took (record { step = then_byte k t.step 125 end.0 end.1; is = is end.0 end.1 })
       where
         is : (rest : List ℕ) → drop k (b ∷ text) ≡ 125 ∷ rest → (total : ℕ) (q : List ℕ) → Near (drop (k + 1) (b ∷ text)) q
@@ -203,7 +204,8 @@ module _ (lists deep : Lists) (c : ListContext) (outer : (c.levels == 0) ≡ fal
                   (Choose (alternative (n + k) asks list.0 no_choice)) q
               is total q near place =
                   let p = moved 125 total q place in
-                  is_choice (s.last_choice (n + k) (tests_here total (x.step.front (125 ∷ q)) p) (colon_place total (x.step.front (125 ∷ q)) p)
+                  is_choice (s.last_choice (n + k) (tests_here total (x.step.front (125 ∷ q)) p)
+                  (colon_place total (x.step.front (125 ∷ q)) p)
                   (items_here 125 e total q p))
 
           next_meant : list.1 ≡ 59 → (more : Read Brace)
@@ -251,7 +253,8 @@ module _ (lists deep : Lists) (c : ListContext) (outer : (c.levels == 0) ≡ fal
                   let far : At total (n + (k + 1 + size + 1)) (z.step.front q) = omega (arith, p, x.step.sized (59 ∷ z.step.front q)) in
                   let same_rest : drop (k + (1 + size + 1 + used)) (b ∷ text) ≡ drop used (drop (k + 1 + size + 1) (b ∷ text))
                   = ap (λ (j : ℕ). drop j (b ∷ text)) (sym (sizes used)) ∙ sym (drop-drop used (k + 1 + size + 1) (b ∷ text)) in
-                  with_next (n + k) (tests_here total (x.step.front (59 ∷ z.step.front q)) p) (colon_place total (x.step.front (59 ∷ z.step.front q)) p)
+                  with_next (n + k) (tests_here total (x.step.front (59 ∷ z.step.front q)) p)
+                  (colon_place total (x.step.front (59 ∷ z.step.front q)) p)
                   (items_here 59 e total (z.step.front q) p)
                   (z.is total q (subst (λ (v : List ℕ). Near v q) same_rest near) far)
 
@@ -301,7 +304,8 @@ module _ (lists deep : Lists) (c : ListContext) (outer : (c.levels == 0) ≡ fal
       begun = then_byte white w.0 58 rest colon
 
       module _ (list : Items × ℕ) (size : ℕ)
-          (x : Takes AtByte (n + (white + 1)) (drop (white + 1) text) (ListIs (in_x (in_braces c) no_test) (drop (white + 1) text)) list size)
+          (x : Takes AtByte (n + (white + 1)) (drop (white + 1) text) (ListIs (in_x (in_braces c) no_test)
+          (drop (white + 1) text)) list size)
         where
           default_end : Ended InX list.1 (drop size (drop (white + 1) text))
           default_end = list_ended x
@@ -312,7 +316,8 @@ module _ (lists deep : Lists) (c : ListContext) (outer : (c.levels == 0) ≡ fal
           default_items : (y : ℕ) → list.1 ≡ y → (total : ℕ) (q : List ℕ) → At total n (w.0.front (58 ∷ x.step.front (y ∷ q)))
               → AreItems total (in_x (in_braces c) no_test) (x.step.front (y ∷ q)) list.0 (y ∷ q)
           default_items y e total q place =
-              (x.is total (y ∷ q) (subst (λ (v : List ℕ). Near v (y ∷ q)) (sym (default_end.1 ∙ ap (λ (z : ℕ). z ∷ default_end.0) e)) same_byte)
+              (x.is total (y ∷ q) (subst (λ (v : List ℕ). Near v (y ∷ q))
+              (sym (default_end.1 ∙ ap (λ (z : ℕ). z ∷ default_end.0) e)) same_byte)
               (omega (arith, place, w.0.sized (58 ∷ x.step.front (y ∷ q))))).1
 
           default_went : InsideMeant order n text (past white (d.default_go at (n + white) list size))
@@ -325,11 +330,13 @@ module _ (lists deep : Lists) (c : ListContext) (outer : (c.levels == 0) ≡ fal
                     (omega (arith, place, w.0.sized (58 ∷ x.step.front (125 ∷ q)))) (default_items 125 (same list.1 125 e) total q place));
               }))
               (λ e. let f = ends_x list.1 default_end.2 e in
-              meant_stops (subst (λ (j : ℕ). meant.Breaks n text (λ total t fault. InsideBad at total (in_braces c) order t fault) j (EmptyTest at))
+              meant_stops (subst (λ (j : ℕ). meant.Breaks n text (λ total t fault. InsideBad at total (in_braces c) order t fault) j
+              (EmptyTest at))
               places (breaks_after n (white + 1 + size) text (steps (white + 1) begun size x.step) 59 default_end.0 (default_stop 59 f)
               (λ total t fault. InsideBad at total (in_braces c) order t fault) (EmptyTest at)
               (bad_later is_next (r.after_default (w.1 (58 ∷ x.step.front (59 ∷ [])))
-              (default_items 59 f (n + (white + 1 + size) + 1) [] (omega (arith, w.0.sized (58 ∷ x.step.front (59 ∷ [])), x.step.sized (59 ∷ [])))))
+              (default_items 59 f (n + (white + 1 + size) + 1) [] (omega
+              (arith, w.0.sized (58 ∷ x.step.front (59 ∷ [])), x.step.sized (59 ∷ [])))))
               r.default_goes_on))))
             where
               sizes : white + 1 + size + 1 ≡ white + (1 + size + 1)
@@ -338,7 +345,8 @@ module _ (lists deep : Lists) (c : ListContext) (outer : (c.levels == 0) ≡ fal
               places : n + (white + 1 + size) ≡ n + white + 1 + size
               places = omega arith
 
-      default_listed : InsideMeant order n text (then_read (d.within at (lists (in_x (in_braces c) no_test) (n + white + 1) (drop (white + 1) text)))
+      default_listed : InsideMeant order n text (then_read (d.within at
+          (lists (in_x (in_braces c) no_test) (n + white + 1) (drop (white + 1) text)))
           (λ x size. past white (d.default_go at (n + white) x size)))
       default_listed = meant_after begun (λ x size. past white (d.default_go at (n + white) x size)) listed
           (λ list size x. default_went list size x)

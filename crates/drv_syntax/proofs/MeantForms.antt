@@ -10,7 +10,8 @@ use Rattle.drv_syntax.proofs.Steps.{Near, Step, near_self, same_byte}
 use Rattle.drv_syntax.specs.Bytes.{is_mark, is_of, is_white}
 use Rattle.drv_syntax.specs.Contexts.{ListContext, in_arguments, in_braces}
 use Rattle.drv_syntax.specs.Descent as d
-use Rattle.drv_syntax.specs.Descent.{After, Alternative, Asks, Bars, Emits, Fails, Form, Joins, Lists, Operand, Patterns, Read, Stops, Took, Tried}
+use Rattle.drv_syntax.specs.Descent.{After, Alternative, Asks, Bars, Emits, Fails, Form, Joins, Lists, Operand, Patterns, Read, Stops}
+use Rattle.drv_syntax.specs.Descent.{Took, Tried}
 use Rattle.drv_syntax.specs.Descent.{past, then_read}
 use Rattle.drv_syntax.specs.Fronts as cuts
 use Rattle.drv_syntax.specs.Fronts.{CutsPatterns, CutsTests}
@@ -71,7 +72,8 @@ operand_pattern {p = p} (by_result i) e = none_some p e
 
 operand_asked : {total : ℕ} {g : ListContext} {emits : Bool} {t q : List ℕ} {o : Operand} {a : Asked} → IsOperand total g emits t o q
     → o.as_test ≡ Some a → IsAsked total g t a q
-operand_asked {total} {g} {a = a} (by_switch {t} {q} {p = x} h i) e = subst (λ (y : Asked). IsAsked total g t y q) (some_is _ a e) (s.switch h i)
+operand_asked {total} {g} {a = a} (by_switch {t} {q} {p = x} h i) e = subst (λ (y : Asked). IsAsked total g t y q) (some_is _ a e)
+    (s.switch h i)
 operand_asked {total} {g} {a = a} (by_mark {mark} {b} {t} {word} {q} is i h) e =
     subst (λ (y : Asked). IsAsked total g (mark ∷ t) y q) (some_is (d.marked mark (b ∷ word)) a e) (asked_marked is i)
 operand_asked {a = a} (by_star f is i) e = none_some a e
@@ -143,7 +145,8 @@ bare_bad : {at total x : ℕ} {g : ListContext} {order : Order} {negated : Bool}
 bare_bad {order = order} {negated} {t} {mark = mark} sp sign e is h z w g refuses =
     let f = emits_at order negated e in
     let b = bared_white w g h z in
-    emit_bad f.0 (r.past_mark (subst (λ (y : List ℕ). AreSpaces t y) (unsigned sign f.1 ∙ ap (λ (y : List ℕ). mark ∷ y) b.2) sp) is b.3 b.4) refuses
+    emit_bad f.0 (r.past_mark (subst (λ (y : List ℕ). AreSpaces t y) (unsigned sign f.1
+    ∙ ap (λ (y : List ℕ). mark ∷ y) b.2) sp) is b.3 b.4) refuses
 
 -- a } or & where there is no pattern
 no_pattern_bad : {at total x : ℕ} {g : ListContext} {order : Order} {t : List ℕ} {tr : Tried} → IsTried total g order t tr (x ∷ [])
@@ -264,7 +267,8 @@ module _ (at : ℕ) (g : ListContext) where
 
     bad_at : (fault : SyntaxFault) → ((total : ℕ) → IsTried total g order (t.step.front (tr.byte ∷ [])) tr (tr.byte ∷ [])
         → TestBad at total g order (t.step.front (tr.byte ∷ [])) fault) → FormMeant order n (b ∷ text) (Stops (n + k) fault)
-    bad_at fault f = meant_stops (breaks_after n k (b ∷ text) t.step tr.byte end.0 end.1 (λ total u fault. TestBad at total g order u fault) fault
+    bad_at fault f = meant_stops (breaks_after n k (b ∷ text) t.step tr.byte end.0 end.1
+        (λ total u fault. TestBad at total g order u fault) fault
         (f (n + k + 1) (t.is (n + k + 1) (tr.byte ∷ []) (subst (λ (u : List ℕ). Near u (tr.byte ∷ [])) (sym end.1) same_byte)
         (omega (arith, t.step.sized (tr.byte ∷ []))))))
 
@@ -330,7 +334,8 @@ module _ (at : ℕ) (g : ListContext) where
       where
         form : {total : ℕ} {u q : List ℕ} → (rest : List ℕ) × (q ≡ 58 ∷ rest) → Questioned total g u tr.place tr.negated a q
             → IsForm total g order u (Alternative tr.place tr.negated a no_test) q
-        form {total} {u} {q} rest z = subst (λ (v : List ℕ). IsForm total g order u (Alternative tr.place tr.negated a no_test) v) (sym rest.1)
+        form {total} {u} {q} rest z = subst (λ (v : List ℕ). IsForm total g order u (Alternative tr.place tr.negated a no_test) v)
+            (sym rest.1)
             (form_tests (asked_last (subst (λ (v : List ℕ). Questioned total g u tr.place tr.negated a v) rest.1 z)))
 
     bars : tr.byte ≡ 124 → (a : Asked) → tr.operand.as_test ≡ Some a → Goes (Bars tr.place tr.negated a)
@@ -388,7 +393,8 @@ module _ (deep : Lists) (c : ListContext) (outer : (c.levels == 0) ≡ false)
       begin : ((k : ℕ) → FormMeant at (in_braces c) AtBar (n + 1 + k) (drop k text) (d.tests deep c at AtBar (n + 1) k text))
           → FormMeant at (in_braces c) order n (b ∷ text) (then_read (d.one_test deep c at order n (b ∷ text))
           (λ t k. d.test_go (d.after at order t) n k (d.patterns at (n + 1) k text) (d.tests deep c at AtBar (n + 1) k text)))
-      begin ih = meant_then (λ t k. d.test_go (d.after at order t) n k (d.patterns at (n + 1) k text) (d.tests deep c at AtBar (n + 1) k text))
+      begin ih = meant_then (λ t k. d.test_go (d.after at order t) n k (d.patterns at (n + 1) k text)
+          (d.tests deep c at AtBar (n + 1) k text))
           (one_test_meant deep c outer meets at order n (b ∷ text) f)
           (λ tr k t. go_meant at (in_braces c) order n b k text tr t (d.patterns at (n + 1) k text) (patterns_meant at text (n + 1) k)
           (d.tests deep c at AtBar (n + 1) k text) (ih k))

@@ -1,22 +1,26 @@
 use Rattle.drv_words.specs.Bytes as ascii
+use Rattle.drv_syntax.proofs.Depth.{depth_is}
 use Rattle.drv_syntax.proofs.Leads.{differs, not_of, same}
 use Rattle.drv_syntax.proofs.Meant.{AtByte, Meant, PastPercent, Takes, breaks_here, choose, meant_after, meant_as, meant_ends, meant_far}
 use Rattle.drv_syntax.proofs.Meant.{meant_past, meant_stops, meant_then, meant_took}
 use Rattle.drv_syntax.proofs.MeantCalls.{CallBad, Ended, ListBad, ListCuts, ListIs, ListMeant, Listed, call_meant, in_list, no_function}
 use Rattle.drv_syntax.proofs.MeantChoices.{brace_meant}
-use Rattle.drv_syntax.proofs.MeantLeaves.{Bursts, DirBad, DirCuts, DirIs, DirMeant, breaks, hide_meant, hides, inside, name_meant, option_meant}
+use Rattle.drv_syntax.proofs.MeantLeaves.{Bursts, DirBad, DirCuts, DirIs, DirMeant, breaks, hide_meant, hides, inside, name_meant}
+use Rattle.drv_syntax.proofs.MeantLeaves.{option_meant}
 use Rattle.drv_syntax.proofs.MeantLeaves.{saying_meant, suffix_meant, unknown}
 use Rattle.drv_syntax.proofs.MeantPatterns.{at_rest, at_start, from_start}
 use Rattle.drv_syntax.proofs.Steps.{Far, Near, Step, both_end, byte_step, far_end, far_more, far_other, near_far, near_self, no_step}
 use Rattle.drv_syntax.proofs.Steps.{same_byte, steps}
 use Rattle.drv_syntax.specs.Bytes.{is_blank, is_of, is_plain}
-use Rattle.drv_syntax.specs.Contexts.{InArguments, InX, Kind, ListContext, Mixed, Nobody, Owner, Starred, Top, bar_in, in_arguments, in_braces}
+use Rattle.drv_syntax.specs.Contexts.{InArguments, InX, Kind, ListContext, Mixed, Nobody, Owner, Starred, Top, bar_in, in_arguments}
+use Rattle.drv_syntax.specs.Contexts.{in_braces}
 use Rattle.drv_syntax.specs.Contexts.{in_x, is_end, newline_in, top}
 use Rattle.drv_syntax.specs.Descent as d
 use Rattle.drv_syntax.specs.Descent.{Lists, Read, Stops, Took, levels, past, then_read}
 use Rattle.drv_syntax.specs.Directives.{braced, directive_of, is_allowed, text_of}
 use Rattle.drv_syntax.specs.Fronts as cuts
 use Rattle.drv_syntax.specs.Fronts.{AreFrontItems, CutsDirective, CutsItem}
+use Rattle.drv_syntax.specs.Outcome.{depth}
 use Rattle.drv_syntax.specs.Refusals as r
 use Rattle.drv_syntax.specs.Refusals.{AnItem, Breaks, Due, Reaches, ReachesIn, Refuses}
 use Rattle.drv_syntax.specs.Spelling as s
@@ -32,7 +36,8 @@ use Rattle.drv_syntax.specs.declared.directives.Directive.{Directive}
 use Rattle.drv_syntax.specs.declared.fault.SyntaxFault.TheVariants.{BadDirective, MixedStar, StarOutside, TooNested}
 use Rattle.drv_syntax.specs.declared.fault.SyntaxFault.{SyntaxFault}
 use Rattle.drv_syntax.specs.declared.token.Leaf as leaf
-use Rattle.std.proofs.Common.{◌≡◌, ◌∙◌, ◌+◌, Bool, false, true, if◌then◌else◌, List, [], ◌∷◌, ap, arith, drop, drop-drop, length, refl, subst}
+use Rattle.std.proofs.Common.{◌≡◌, ◌∙◌, ◌+◌, Bool, false, true, if◌then◌else◌, List, [], ◌∷◌, ap, arith, drop, drop-drop, length, refl}
+use Rattle.std.proofs.Common.{subst}
 use Rattle.std.proofs.Common.{suc, sym, zero, ℕ}
 use Rattle.std.specs.Prelude.{◌-◌, ◌==◌}
 
@@ -73,7 +78,8 @@ module _ (lists deep : Lists) (c : ListContext) (meets : (c.levels == 0) ≡ fal
   braces_read : (at n : ℕ) (text : List ℕ) → (c.levels == 0) ≡ false
       → DirMeant c at WithBraces n text (d.braces lists deep c at InPlace n text)
   braces_read at n text e = meant_far (meant_then (λ brace size. Took (braced InPlace brace) size)
-      (brace_meant lists deep c e (λ asks. meets e (in_x (in_braces c) asks) refl) (λ f. deeper f (in_arguments (in_braces c)) refl) at n text)
+      (brace_meant lists deep c e (λ asks. meets e (in_x (in_braces c) asks) refl)
+      (λ f. deeper f (in_arguments (in_braces c)) refl) at n text)
       (λ brace size t. meant_took (record { step = t.step; is = λ total q near place. s.braces (t.is total q near place) }))
       (λ total t place near i. cuts.cut_braces i) (λ total t fault place near i. inside (r.in_place e i.2) i.3))
 
@@ -110,7 +116,8 @@ module _ (lists deep : Lists) (c : ListContext) (meets : (c.levels == 0) ≡ fal
         (λ total t near place j. cuts.cut_directive al (subst (λ (g : Directive). CutsDirective total c g t) (sym e) j))
         (λ total t fault near place j. burst_item e al (omega (arith, place)) j)
 
-    alone : {f : Directive} (x : Item) → directive_of b ≡ f → ((total : ℕ) (q : List ℕ) → IsDirective total c f q x q) → ByteMeant (Took x 0)
+    alone : {f : Directive} (x : Item) → directive_of b ≡ f → ((total : ℕ) (q : List ℕ) → IsDirective total c f q x q)
+        → ByteMeant (Took x 0)
     alone x e g = through e (meant_took (record { step = no_step text; is = λ total q far place. g total q }))
 
     refused : (fault : SyntaxFault) → Refuses (n + 1 + 1) (AnItem c) (37 ∷ b ∷ []) fault → ByteMeant (Stops (n + 1) fault)
@@ -289,7 +296,8 @@ module _ (lists deep : Lists) (c : ListContext) (meets : (c.levels == 0) ≡ fal
           (λ one k. d.item_go n one k (d.items_with lists deep c (n + 1) k text)))
       begin ih =
           choose (ListMeant c n (b ∷ text)) (d.ends_list c.kind b) _ _ (λ e. end_read n b text e)
-          (λ e. meant_after (byte_step b text) (λ one k. d.item_go n one k (d.items_with lists deep c (n + 1) k text)) (item_read n b text e)
+          (λ e. meant_after (byte_step b text) (λ one k. d.item_go n one k (d.items_with lists deep c (n + 1) k text))
+          (item_read n b text e)
           (λ one k t. more_read n b text one k t (d.items_with lists deep c (n + 1) k text) (ih k))
           (λ total u far place z. cuts.cut_item z)
           (λ total u fault near place z. (far_more near, z.0, z.1, z.2, z.3)))
@@ -324,5 +332,5 @@ levels_read (suc level) =
 from_top : (level : ℕ) → level ≡ 64 → (text : List ℕ) → ListMeant top 0 text ((levels level).0 top 0 text)
 from_top level e text = (levels_read level).0 top (sym e) 0 text
 
-pub text_read : (text : List ℕ) → ListMeant top 0 text ((levels 64).0 top 0 text)
-text_read text = from_top 64 refl text
+pub text_read : (text : List ℕ) → ListMeant top 0 text ((levels (depth text)).0 top 0 text)
+text_read text = from_top (depth text) (depth_is text) text

@@ -18,7 +18,8 @@ use Rattle.drv_syntax.specs.Spelling.{ArePatterns, AreSpaces, At, IsPattern, spa
 use Rattle.drv_syntax.specs.Tree.{Pattern, Span}
 use Rattle.drv_syntax.specs.declared.fault.SyntaxFault.TheVariants.{BadDirective}
 use Rattle.drv_syntax.specs.declared.fault.SyntaxFault.{SyntaxFault}
-use Rattle.std.proofs.Common.{◌≡◌, ◌∙◌, ◌+◌, Bool, false, true, if◌then◌else◌, List, [], ◌∷◌, ap, arith, drop, length, refl, subst, suc, sym, zero}
+use Rattle.std.proofs.Common.{◌≡◌, ◌∙◌, ◌+◌, Bool, false, true, if◌then◌else◌, List, [], ◌∷◌, ap, arith, drop, length, refl, subst, suc}
+use Rattle.std.proofs.Common.{sym, zero}
 use Rattle.std.proofs.Common.{ℕ}
 use Rattle.std.specs.List.{prefix_len}
 use Rattle.std.specs.Prelude.{◌==◌}
@@ -38,7 +39,8 @@ pub meant_byte : {X : Type 0} (l : Looks) (n b k : ℕ) (text rest : List ℕ) (
     → Stopping total t fault → Bad total (m.front (x ∷ t)) fault)
     → Meant l n (b ∷ text) Is Cuts Bad (past (k + 1) r)
 meant_byte l n b k text rest x m e Is Cuts Bad {Inner} {Ending} {Stopping} {r} i f g h =
-    meant_past l n (k + 1) (b ∷ text) (then_byte k m x rest e) Is Cuts Bad moved (λ total t y q near place z. f total t y q begins (there t place) z)
+    meant_past l n (k + 1) (b ∷ text) (then_byte k m x rest e) Is Cuts Bad moved
+    (λ total t y q near place z. f total t y q begins (there t place) z)
     (λ total t near place z. g total t begins (there t place) z) (λ total t fault near place z. h total t fault begins (there t place) z)
   where
     begins : {t : List ℕ} → Near (drop k (b ∷ text)) (x ∷ t)
@@ -183,7 +185,8 @@ module _ (at : ℕ) where
       choose (PatternsMeant n (b ∷ text)) (x.1 == ascii.closing_brace) _ _
       (λ e. meant_took (record { step = t.step; is = λ total q near place. last total q near place (ended q near) (same x.1 125 e) }))
       (λ e. choose (PatternsMeant n (b ∷ text)) (x.1 == ascii.ampersand) _ _
-      (λ f. subst (λ (z : Read (List (Span × Pattern))). PatternsMeant n (b ∷ text) z) (past_then (k + 1) others (λ ps size. Took (x.0 ∷ ps) size))
+      (λ f. subst (λ (z : Read (List (Span × Pattern))). PatternsMeant n (b ∷ text) z)
+      (past_then (k + 1) others (λ ps size. Took (x.0 ∷ ps) size))
       (meant_byte AtByte n b k text end.0 38 t.step (end.1 ∙ ap (λ (y : ℕ). y ∷ end.0) (same x.1 38 f))
       (λ total t ps q. (rest : List ℕ) × (q ≡ ascii.closing_brace ∷ rest) × ArePatterns total t ps rest) (λ total t. CutsPatterns t)
       PatternsBad (grown others i)

@@ -13,7 +13,8 @@ use Rattle.drv_syntax.specs.Spelling.{AreSpaces, IsPattern, IsQuoted, IsRun}
 use Rattle.drv_syntax.specs.Tree.{Pattern, pattern}
 use Rattle.drv_syntax.specs.declared.fault.SyntaxFault.TheVariants.{EmptyTest, UnknownFunction}
 use Rattle.drv_syntax.specs.declared.fault.SyntaxFault.{SyntaxFault}
-use Rattle.std.proofs.Common.{◌≡◌, ◌∙◌, ◌+◌, ◌++◌, Bool, false, true, if◌then◌else◌, List, [], ◌∷◌, ap, append-nil, append_assoc, arith, drop}
+use Rattle.std.proofs.Common.{◌≡◌, ◌∙◌, ◌+◌, ◌++◌, Bool, false, true, if◌then◌else◌, List, [], ◌∷◌, ap, append-nil, append_assoc, arith}
+use Rattle.std.proofs.Common.{drop}
 use Rattle.std.proofs.Common.{drop-drop, length, refl, subst, suc, sym, take, ℕ}
 use Rattle.std.specs.List.{prefix_len}
 use Rattle.std.specs.Prelude.{◌==◌}
@@ -89,9 +90,11 @@ quotes f (b ∷ []) =
 quotes f (b ∷ c ∷ text) =
     choose (Quotes f (b ∷ c ∷ text)) (b == ascii.backslash) _ _
     (λ e. subst (λ (x : ℕ). Quotes f (x ∷ c ∷ text) (with_byte c 2 (quoted f text))) (sym (same b 92 e))
-    (grown f c 2 (92 ∷ c ∷ text) (two_steps 92 c text) (λ t word q i. s.quoted_escape i) (λ o. cuts.out_escape o) (quoted f text) (quotes f text)))
+    (grown f c 2 (92 ∷ c ∷ text) (two_steps 92 c text) (λ t word q i. s.quoted_escape i) (λ o. cuts.out_escape o) (quoted f text)
+    (quotes f text)))
     (λ e. choose (Quotes f (b ∷ c ∷ text)) (f b) _ _
-    (λ g. grown f b 1 (b ∷ c ∷ text) (byte_step b (c ∷ text)) (λ t word q i. s.quoted_byte e g i) (λ o. cuts.out_byte e g o) (quoted f (c ∷ text))
+    (λ g. grown f b 1 (b ∷ c ∷ text) (byte_step b (c ∷ text)) (λ t word q i. s.quoted_byte e g i) (λ o. cuts.out_byte e g o)
+    (quoted f (c ∷ text))
     (quotes f (c ∷ text))) (λ g. no_run f b (c ∷ text) e g))
 
 -- white space
@@ -118,7 +121,8 @@ Ran f text size = (m : Step text size) × ((q : List ℕ) → Near (drop size te
 pub runs : (f : ℕ → Bool) (text : List ℕ) → Ran f text (prefix_len f text)
 runs f [] = (no_step [], λ q n. s.run_ends (near_stops n s.at_end))
 runs f (b ∷ text) =
-    choose (Ran f (b ∷ text)) (f b) _ _ (λ e. longer e (runs f text)) (λ e. (no_step (b ∷ text), λ q n. s.run_ends (near_stops n (s.at_byte e))))
+    choose (Ran f (b ∷ text)) (f b) _ _ (λ e. longer e (runs f text)) (λ e.
+    (no_step (b ∷ text), λ q n. s.run_ends (near_stops n (s.at_byte e))))
   where
     longer : f b ≡ true → Ran f text (prefix_len f text) → Ran f (b ∷ text) (1 + prefix_len f text)
     longer e w = (
@@ -159,7 +163,11 @@ module _ (at n : ℕ) (text : List ℕ) where
 
   unstarred_meant : (x : ℕ) (word : List ℕ) (size : ℕ) → QuotedRun is_word text (x ∷ word) size
       → s.Stops (λ b. b == ascii.asterisk) (drop size text) → PatternMeant (d.Took (pattern (x ∷ word) false) size)
-  unstarred_meant x word size r h = meant_took (record { step = r.step; is = λ total q near place. s.unstarred (r.is q near) (near_stops near h) })
+  unstarred_meant x word size r h = meant_took (record {
+    step = r.step;
+    is = λ total q near place. s.unstarred (r.is q near)
+        (near_stops near h);
+  })
 
   end_meant : (word : List ℕ) (size : ℕ) → QuotedRun is_word text word size → (rest : List ℕ) → drop size text ≡ rest
       → PatternMeant (d.pattern_end at n word size rest)

@@ -3,7 +3,8 @@ use Rattle.drv_syntax.proofs.Leads.{differs, each, other, same}
 use Rattle.drv_syntax.proofs.Meant.{AtByte, Meant, Takes, breaks_after, breaks_here, choose, meant_as, meant_ends, meant_past, meant_stops}
 use Rattle.drv_syntax.proofs.Meant.{meant_then, meant_took}
 use Rattle.drv_syntax.proofs.MeantCalls.{CallBad, CallIs, CallMeant, ListMeant, call_meant, in_list, no_function}
-use Rattle.drv_syntax.proofs.MeantRuns.{PatternBad, PatternCuts, PatternIs, QuotedRun, Quotes, Spaced, empty_run, pattern_meant, quotes, spaces}
+use Rattle.drv_syntax.proofs.MeantRuns.{PatternBad, PatternCuts, PatternIs, QuotedRun, Quotes, Spaced, empty_run, pattern_meant, quotes}
+use Rattle.drv_syntax.proofs.MeantRuns.{spaces}
 use Rattle.drv_syntax.proofs.Steps.{Near, Step, byte_step, near_self, near_stops, no_step, resized, same_byte, then_byte}
 use Rattle.drv_syntax.specs.Bytes.{is_mark, is_of, is_white, is_word}
 use Rattle.drv_syntax.specs.Contexts.{ListContext, in_arguments, in_braces}
@@ -109,7 +110,11 @@ module _ (deep : Lists) (c : ListContext) (outer : (c.levels == 0) ≡ false)
       bare_took : (n b : ℕ) (rest : List ℕ) → may_emit order negated ≡ true → (b == ascii.backslash) ≡ false → is_word b ≡ false
           → (b == ascii.asterisk) ≡ false → (is_white b ≡ true) ⊎ (is_of ends_pattern b ≡ true)
           → MarkMeant n (b ∷ rest) (Took (d.bare_operand mark) 0)
-      bare_took n b rest h f g e i = meant_took (record { step = no_step (b ∷ rest); is = λ total q near place. there total q (near_head near) })
+      bare_took n b rest h f g e i = meant_took (record {
+        step = no_step (b ∷ rest);
+        is = λ total q near place. there total q
+            (near_head near);
+      })
         where
           there : (total : ℕ) (q : List ℕ) → (u : List ℕ) × (q ≡ b ∷ u) → AskedIs total (mark ∷ q) (d.bare_operand mark) q
           there total q u = subst (λ (z : List ℕ). AskedIs total (mark ∷ z) (d.bare_operand mark) z) (sym u.1)
@@ -120,7 +125,8 @@ module _ (deep : Lists) (c : ListContext) (outer : (c.levels == 0) ≡ false)
       bare_meant n b rest h f g =
           choose (MarkMeant n (b ∷ rest)) (b == ascii.asterisk) _ _ (λ e. meant_took (record {
             step = byte_step b rest;
-            is = λ total q near place. by_star h is (subst (λ (z : ℕ). IsQuoted is_word (b ∷ q) [] (z ∷ q)) (same b 42 e) (s.quoted_stop f g));
+            is = λ total q near place. by_star h is (subst (λ (z : ℕ). IsQuoted is_word (b ∷ q) [] (z ∷ q)) (same b 42 e)
+                (s.quoted_stop f g));
           }))
           (λ e. choose (MarkMeant n (b ∷ rest)) (b == ascii.closing_brace) _ _ (λ i. bare_took n b rest h f g e (inr (rw i refl)))
           (λ i. choose (MarkMeant n (b ∷ rest)) (b == ascii.ampersand) _ _ (λ j. bare_took n b rest h f g e (inr (rw (i, j) refl)))
@@ -134,7 +140,8 @@ module _ (deep : Lists) (c : ListContext) (outer : (c.levels == 0) ≡ false)
       run_none {n} {size} {b} {text} {rest} {x} q e k =
           let none = empty_run (q.is (drop size text) (near_self (drop size text))) in
           subst (λ (t : List ℕ). MarkMeant n t x) (sym (sym q.step.whole ∙ none ∙ e))
-          (k (first (subst (λ (t : List ℕ). s.Stops (λ y. y == ascii.backslash) t) e q.plain)) (first (subst (λ (t : List ℕ). s.Stops is_word t) e
+          (k (first (subst (λ (t : List ℕ). s.Stops (λ y. y == ascii.backslash) t) e q.plain))
+          (first (subst (λ (t : List ℕ). s.Stops is_word t) e
           q.stops)))
 
       marked_took : (n x size : ℕ) (text word : List ℕ) → QuotedRun is_word text (x ∷ word) size
@@ -163,7 +170,8 @@ module _ (deep : Lists) (c : ListContext) (outer : (c.levels == 0) ≡ false)
           choose (MarkMeant n text) (b == ascii.asterisk) _ _
           (λ i. let f : drop size text ≡ 42 ∷ rest = e ∙ ap (λ (y : ℕ). y ∷ rest) (same b 42 i) in
           meant_stops (breaks_after n size text q.step 42 rest f (λ total t fault. Bad total (mark ∷ t) fault) (BadDirective at)
-          (asked_bad (r.test_ends h (asked_marked is (q.is (42 ∷ []) (subst (λ (t : List ℕ). Near t (42 ∷ [])) (sym f) same_byte))) s.no_space)
+          (asked_bad (r.test_ends h (asked_marked is (q.is (42 ∷ []) (subst (λ (t : List ℕ). Near t (42 ∷ []))
+          (sym f) same_byte))) s.no_space)
           (r.no_end refl refl))))
           (λ i. marked_took n x size text word q (subst (λ (t : List ℕ). s.Stops (λ y. y == ascii.asterisk) t) (sym e) (s.at_byte i)))
 

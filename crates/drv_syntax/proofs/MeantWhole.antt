@@ -1,14 +1,13 @@
-use Rattle.drv_syntax.proofs.DescentWhole as whole
 use Rattle.drv_syntax.proofs.Meant.{AtByte, Meant, Takes, of_ends, of_stops, of_took}
 use Rattle.drv_syntax.proofs.MeantCalls.{ListBad, ListIs, ListMeant}
 use Rattle.drv_syntax.proofs.MeantItems.{text_read}
 use Rattle.drv_syntax.proofs.Steps.{near_self}
 use Rattle.drv_syntax.specs.Contexts.{ListContext, top}
 use Rattle.drv_syntax.specs.Descent as d
-use Rattle.drv_syntax.specs.Descent.{Ends, Read, Stops, Took, descent, levels}
+use Rattle.drv_syntax.specs.Descent.{Ends, Read, Stops, Took, levels}
 use Rattle.drv_syntax.specs.Fronts as cuts
 use Rattle.drv_syntax.specs.Fronts.{AreFrontItems, Front}
-use Rattle.drv_syntax.specs.Outcome.{Bad, Cut, Got, Out, Unrefused, read}
+use Rattle.drv_syntax.specs.Outcome.{Bad, Cut, Got, Out, Unrefused, depth, outcome, read}
 use Rattle.drv_syntax.specs.Refusals.{IsRefused}
 use Rattle.drv_syntax.specs.Spelling as s
 use Rattle.drv_syntax.specs.Spelling.{AreItems, Spells}
@@ -19,7 +18,7 @@ use Rattle.std.proofs.Common.{◌≡◌, ◌∙◌, ◌+◌, ◌⊎◌, List, []
 -- What Descent makes of a text is what the grammar says of it: the laws `read_is_spelled`, `unrefused_is_front` and `refused_kinds`.
 
 module _ (text : List ℕ) where
-  spelled : (r : Read (Items × ℕ)) → ListMeant top 0 text r → (items : Items) → d.outcome r ≡ Got items → Spells text items
+  spelled : (r : Read (Items × ℕ)) → ListMeant top 0 text r → (items : Items) → outcome r ≡ Got items → Spells text items
   spelled (Took list size) m items e = by (of_took m)
     where
       same_items : list.0 ≡ items
@@ -32,19 +31,20 @@ module _ (text : List ℕ) where
           let i = t.is (length text) (drop size text) (near_self (drop size text)) place in
           let here : AreItems (length text) top text list.0 (drop size text)
           = subst (λ (u : List ℕ). AreItems (length text) top u list.0 (drop size text)) whole i.1 in
-          let ended : AreItems (length text) top text list.0 [] = subst (λ (u : List ℕ). AreItems (length text) top text list.0 u) i.2 here in
+          let ended : AreItems (length text) top text list.0 [] = subst
+          (λ (u : List ℕ). AreItems (length text) top text list.0 u) i.2 here in
           subst (λ (x : Items). AreItems (length text) top text x []) same_items ended
   spelled (Ends at) m items e = absurd cc
   spelled (Stops k fault) m items e = absurd cc
 
-  cut_front : (r : Read (Items × ℕ)) → ListMeant top 0 text r → (at : ℕ) → d.outcome r ≡ Cut at → Front text
+  cut_front : (r : Read (Items × ℕ)) → ListMeant top 0 text r → (at : ℕ) → outcome r ≡ Cut at → Front text
   cut_front (Took list size) m at e = absurd cc
   cut_front (Ends n) m at e =
       let none : 0 + length text ≡ length text = omega arith in
       subst (λ (i : ℕ). AreFrontItems i top text) none (of_ends m)
   cut_front (Stops k fault) m at e = absurd cc
 
-  refused : (r : Read (Items × ℕ)) → ListMeant top 0 text r → (k : ℕ) (fault : SyntaxFault) → d.outcome r ≡ Bad k fault
+  refused : (r : Read (Items × ℕ)) → ListMeant top 0 text r → (k : ℕ) (fault : SyntaxFault) → outcome r ≡ Bad k fault
       → IsRefused (take (k + 1) text) fault
   refused (Took list size) m k fault e = absurd cc
   refused (Ends n) m k fault e = absurd cc
@@ -60,7 +60,7 @@ module _ (text : List ℕ) where
       (subst (λ (t : List ℕ). IsRefused t other) (b.taken ∙ ap (λ (j : ℕ). take j text) size) cut)
 
 pub read_is_spelled : (text : List ℕ) (items : Items) → read text ≡ Got items → Spells text items
-read_is_spelled text items e = spelled text ((levels 64).0 top 0 text) (text_read text) items (whole.descent_is_read text ∙ e)
+read_is_spelled text items e = spelled text ((levels (depth text)).0 top 0 text) (text_read text) items e
 
 -- a text with a tree is a front
 front_of : {size : ℕ} {c : ListContext} {text rest : List ℕ} {items : Items} → AreItems size c text items rest → rest ≡ []
@@ -70,7 +70,7 @@ front_of (s.next_item a i b l) z = cuts.whole_item i (front_of l z)
 
 pub unrefused_is_front : (text : List ℕ) → Unrefused text → Front text
 unrefused_is_front text (inl (items, e)) = front_of (read_is_spelled text items e) refl
-unrefused_is_front text (inr (at, e)) = cut_front text ((levels 64).0 top 0 text) (text_read text) at (whole.descent_is_read text ∙ e)
+unrefused_is_front text (inr (at, e)) = cut_front text ((levels (depth text)).0 top 0 text) (text_read text) at e
 
 pub refused_kinds : (text : List ℕ) (k : ℕ) (fault : SyntaxFault) → read text ≡ Bad k fault → IsRefused (take (k + 1) text) fault
-refused_kinds text k fault e = refused text ((levels 64).0 top 0 text) (text_read text) k fault (whole.descent_is_read text ∙ e)
+refused_kinds text k fault e = refused text ((levels (depth text)).0 top 0 text) (text_read text) k fault e

@@ -1,6 +1,5 @@
-use Rattle.drv_syntax.proofs.Leads.{Leads, differs, goes, same_run, to}
+use Rattle.drv_syntax.proofs.Leads.{differs}
 use Rattle.drv_syntax.specs.Bytes.{any_of, functions, is_front, is_function, is_function_front, is_of, is_same}
-use Rattle.drv_syntax.specs.Outcome.{Place, Turn, Waiting, run, turn, turn_function}
 use Rattle.std.proofs.Common.{◌≡◌, ◌∙◌, ◌+◌, ◌++◌, Bool, false, true, List, [], ◌∷◌, ap, append-nil, append_assoc, refl, sym, ℕ}
 use Rattle.std.specs.Prelude.{◌==◌}
 
@@ -72,20 +71,3 @@ none_front name (f ∷ fs) h = rw (no_front name f h.0) (none_front name fs h.1)
 
 pub bracket_ends : (name : List ℕ) → is_function_front (name ++ 40 ∷ []) ≡ false
 bracket_ends name = none_front name functions (refl, (refl, (refl, (refl, (refl, (refl, (refl, tt)))))))
-
--- a place for each front of a name
-
-pub name_read : (at : ℕ) (P : List ℕ → Place) (opened : List ℕ → Turn)
-    → ((w : List ℕ) (n b : ℕ) → turn (P w) n b ≡ turn_function at w b (opened w) (P (w ++ b ∷ []))) → (ws : List Waiting)
-    (w more : List ℕ) (n : ℕ) (text : List ℕ) → is_function (w ++ more) ≡ true
-    → Leads ws (P w) n (more ++ 40 ∷ text) ws (λ _. P (w ++ more)) (40 ∷ text)
-name_read at P opened e ws w [] n text h = same_run (ap (λ (x : List ℕ). run ws (P x) n (40 ∷ text)) (sym (append-nil w)))
-name_read at P opened e ws w (b ∷ more) n text h =
-    let g : is_function ((w ++ b ∷ []) ++ more) ≡ true = ap is_function (append_assoc w (b ∷ []) more) ∙ h in
-    goes (e w n b ∙ rw (function_front (w ++ b ∷ []) more g) refl)
-    (to (λ m f. ap P (append_assoc w (b ∷ []) more)) (name_read at P opened e ws (w ++ b ∷ []) more (n + 1) text g))
-
-pub name_end : (at : ℕ) (P : List ℕ → Place) (opened : List ℕ → Turn) →
-    ((w : List ℕ) (n b : ℕ) → turn (P w) n b ≡ turn_function at w b (opened w) (P (w ++ b ∷ []))) → (name : List ℕ) (n : ℕ)
-    → is_function name ≡ true → turn (P name) n 40 ≡ opened name
-name_end at P opened e name n h = e name n 40 ∙ rw (bracket_ends name, h) refl

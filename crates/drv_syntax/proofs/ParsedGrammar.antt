@@ -26,6 +26,12 @@ err_is e f h = cc
 le_false : (m n : ℕ) → nat_le m n ≡ false → n < m
 le_false m n h = grind (arith, nat_tests)
 
+-- a text that isn't too long
+pub allowed : (text : List ℕ) (out : Out) → length text ≤ text_limit → read text ≡ out → parsed text ≡ judged out
+allowed text out h e =
+    let f : nat_le (length text) text_limit ≡ true = grind (arith, nat_tests) in
+    ap (λ (z : Bool). if z then judged (read text) else Err TextTooLong) f ∙ ap (λ (o : Out). judged o) e
+
 module _ (text : List ℕ) where
   abbrev by_size : (fits : Bool) → Result Items SyntaxFault
   by_size fits = if fits then judged (read text) else Err TextTooLong

@@ -1,8 +1,7 @@
-use Rattle.drv_syntax.proofs.Covers.{spelled_is_read}
 use Rattle.drv_syntax.proofs.CutPlaces.{cut_at, cut_there}
-use Rattle.drv_syntax.proofs.DescentWhole.{allowed}
-use Rattle.drv_syntax.proofs.RefusalEnds.{refusals}
+use Rattle.drv_syntax.proofs.ParsedGrammar.{allowed}
 use Rattle.drv_syntax.proofs.Refusals as fronts
+use Rattle.drv_syntax.proofs.WholeRead.{refusal_kinds, spelled_is_read}
 use Rattle.drv_syntax.specs.Faults.{IsCutAt, Refused, cut_short, misfit, too_long}
 use Rattle.drv_syntax.specs.Fronts.{Front}
 use Rattle.drv_syntax.specs.Outcome.{Bad, Cut, Out, judged, parsed, read, text_limit}
@@ -15,21 +14,9 @@ use Rattle.std.proofs.Common.{◌≡◌, ◌<◌, ◌≤◌, ◌∙◌, ◌+◌,
 use Rattle.std.proofs.Common.{take-append-drop, ℕ}
 use Rattle.std.proofs.Math.Seq.{take-length}
 use Rattle.std.proofs.lemmas.Bool.Decides.{nat_tests}
-use Rattle.std.specs.Prelude.{Err, Ok, nat_le}
+use Rattle.std.specs.Prelude.{Bool, Err, Ok, if◌then◌else◌, nat_le}
 
--- A text that ends in the byte that no longer fits is refused at that byte, whatever follows: the law `refusal_kinds`. And what is parsed,
--- by the grammar.
-
-at_end : (text : List ℕ) (k : ℕ) (fault : SyntaxFault) → read text ≡ Bad k fault → k + 1 ≡ length text → (rest : List ℕ)
-    → read (text ++ rest) ≡ Bad (length text - 1) fault
-at_end text k fault e f rest =
-    let whole : take (k + 1) text ≡ text = ap (λ (j : ℕ). take j text) f ∙ take-length text in
-    let last : k ≡ length text - 1 = omega (arith, f) in
-    subst (λ (ys : List ℕ). read (ys ++ rest) ≡ Bad (length text - 1) fault) whole
-    (subst (λ (j : ℕ). read (take (k + 1) text ++ rest) ≡ Bad j fault) last ((fronts.refused_fronts text k fault e).3 rest))
-
-pub refusal_kinds : (text rest : List ℕ) (fault : SyntaxFault) → IsRefused text fault → read (text ++ rest) ≡ Bad (length text - 1) fault
-refusal_kinds text rest fault x = let y = refusals text fault x in at_end text y.0 fault y.1 y.2 rest
+-- What is parsed, by the grammar: the laws `parsed_by_grammar` and `refused_by_grammar`.
 
 pub parsed_tree : (text : List ℕ) (items : Items) → length text ≤ text_limit → Spells text items → parsed text ≡ Ok items
 parsed_tree text items h d = allowed text _ h (spelled_is_read text items d)
@@ -45,7 +32,7 @@ parsed_cut text h f g = let y = fronts.cut_front text f g in (y.0, cut_at text y
 pub parsed_long : (text : List ℕ) → text_limit < length text → parsed text ≡ Err TextTooLong
 parsed_long text h =
     let f : nat_le (length text) text_limit ≡ false = grind (arith, nat_tests) in
-    rw f refl
+    ap (λ (z : Bool). if z then judged (read text) else Err TextTooLong) f
 
 -- a fault by the grammar is what the text is parsed to
 pub refused_parsed : {text : List ℕ} {fault : SyntaxFault} → Refused text fault → parsed text ≡ Err fault

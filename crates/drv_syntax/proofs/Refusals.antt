@@ -1,17 +1,18 @@
-use Rattle.drv_syntax.proofs.FrontsRead.{front_is_read, no_front}
-use Rattle.drv_syntax.proofs.Shortest.{not_bad, shortest}
-use Rattle.drv_syntax.proofs.MeantWhole.{read_is_spelled, unrefused_is_front}
+use Rattle.drv_syntax.proofs.MeantWhole.{read_is_spelled, refused_kinds, unrefused_is_front}
+use Rattle.drv_syntax.proofs.WholeRead.{front_is_read, refusal_kinds, refused_filled}
 use Rattle.drv_syntax.specs.Fronts.{Front}
-use Rattle.drv_syntax.specs.Outcome.{Bad, Cut, Got, Out, read}
+use Rattle.drv_syntax.specs.Outcome.{Bad, Cut, Got, Out, Unrefused, read}
 use Rattle.drv_syntax.specs.Spelling.{Spells}
 use Rattle.drv_syntax.specs.Tree.{Items}
 use Rattle.drv_syntax.specs.declared.fault.SyntaxFault.{SyntaxFault}
-use Rattle.std.proofs.Common.{◌≡◌, ◌∙◌, ◌+◌, ◌++◌, ◌<◌, ◌≤◌, ◌⊎◌, List, [], ◌∷◌, ap, append_assoc, arith, drop, inl, inr, length}
+use Rattle.std.proofs.Common.{◌≡◌, ◌∙◌, ◌+◌, ◌++◌, ◌-◌, ◌<◌, ◌≤◌, ◌⊎◌, List, [], ◌∷◌, ap, append_assoc, arith, drop, inl, inr, length}
+use Rattle.std.proofs.Common.{length-append}
 use Rattle.std.proofs.Common.{refl, subst}
 use Rattle.std.proofs.Common.{suc, sym, take, zero, ℕ}
 use Rattle.std.proofs.lemmas.List.{length-take-le, take-append-drop}
 
--- A refusal, its place and a cut text by the fronts alone. It serves the laws `refused_after_front`, `front_prefix` and `cut_front`.
+-- A refusal, its place and a cut text by the fronts alone. It serves the laws `shortest_prefix`, `refused_after_front`, `front_prefix` and
+-- `cut_front`.
 
 take_within : (j k : ℕ) (xs : List ℕ) → j ≤ k → take j (take k xs) ≡ take j xs
 take_within zero k xs h = refl
@@ -33,16 +34,71 @@ less_or_same (suc j) (suc k) h = by (less_or_same j k (omega arith))
     by (inl x) = inl (omega arith)
     by (inr x) = inr (ap suc x)
 
--- each prefix before the byte of the refusal is a front, and no text that begins with that byte's prefix
+unrefused : (text : List ℕ) (k : ℕ) (fault : SyntaxFault) {A : Type 0} → Unrefused text → read text ≡ Bad k fault → A
+unrefused text k fault (inl (items, e)) h = clash (sym e ∙ h)
+  where
+    clash : {A : Type 0} → Got items ≡ Bad k fault → A
+    clash e = absurd cc
+unrefused text k fault (inr (at, e)) h = clash (sym e ∙ h)
+  where
+    clash : {A : Type 0} → Cut at ≡ Bad k fault → A
+    clash e = absurd cc
+
+same_byte : (j k : ℕ) (f g : SyntaxFault) → Bad j f ≡ Bad k g → j ≡ k
+same_byte j k f g e = cc
+
+-- up to that byte the text is refused for this fault, whatever follows
+module _ (text : List ℕ) (k : ℕ) (fault : SyntaxFault) (h : read text ≡ Bad k fault) where
+  again : (rest : List ℕ) → read (take (k + 1) text ++ rest) ≡ Bad (length (take (k + 1) text) - 1) fault
+  again rest = refusal_kinds (take (k + 1) text) rest fault (refused_kinds text k fault h)
+
+  whole : read text ≡ Bad (length (take (k + 1) text) - 1) fault
+  whole = subst (λ (t : List ℕ). read t ≡ Bad (length (take (k + 1) text) - 1) fault) (take-append-drop (k + 1) text)
+      (again (drop (k + 1) text))
+
+  last : length (take (k + 1) text) - 1 ≡ k
+  last = same_byte (length (take (k + 1) text) - 1) k fault fault (sym whole ∙ h)
+
+  inside : k < length text
+  inside =
+      let size = refused_filled (take (k + 1) text) (refused_kinds text k fault h) in
+      let all : length (take (k + 1) text ++ drop (k + 1) text) ≡ length text = ap (λ (t : List ℕ). length t)
+      (take-append-drop (k + 1) text) in
+      omega (arith, size, last, all, length-append (take (k + 1) text) (drop (k + 1) text))
+
+  refused_on : (rest : List ℕ) → read (take (k + 1) text ++ rest) ≡ Bad k fault
+  refused_on rest = subst (λ (j : ℕ). read (take (k + 1) text ++ rest) ≡ Bad j fault) last (again rest)
+
+  pub no_front : (rest : List ℕ) → Front (take (k + 1) text ++ rest) → ⊥
+  no_front rest f = unrefused (take (k + 1) text ++ rest) k fault (front_is_read (take (k + 1) text ++ rest) f) (refused_on rest)
+
+-- each prefix before the byte of the refusal is a front
+shortest : (text : List ℕ) (k : ℕ) (fault : SyntaxFault) → read text ≡ Bad k fault
+    → (k < length text) × ((j : ℕ) → j ≤ k → Front (take j text)) × ((rest : List ℕ) → read (take (k + 1) text ++ rest) ≡ Bad k fault)
+shortest text k fault h = (inside text k fault h, before, refused_on text k fault h)
+  where
+    before : (j : ℕ) → j ≤ k → Front (take j text)
+    before j l = by (read (take j text)) refl
+      where
+        by : (r : Out) → read (take j text) ≡ r → Front (take j text)
+        by (Got items) e = unrefused_is_front (take j text) (inl (items, e))
+        by (Cut at) e = unrefused_is_front (take j text) (inr (at, e))
+        by (Bad i f) e =
+            let short : length (take j text) ≡ j = length-take-le j text (omega (arith, l, inside text k fault h)) in
+            let within : i < length (take j text) = inside (take j text) i f e in
+            let cut : take (i + 1) (take j text) ≡ take (i + 1) text = take_within (i + 1) j text (omega (arith, short, within)) in
+            let there : read (take (i + 1) text ++ drop (i + 1) text) ≡ Bad i f =
+            subst (λ (t : List ℕ). read (t ++ drop (i + 1) text) ≡ Bad i f) cut (refused_on (take j text) i f e (drop (i + 1) text)) in
+            let all : read text ≡ Bad i f = subst (λ (t : List ℕ). read t ≡ Bad i f) (take-append-drop (i + 1) text) there in
+            let same_place : i ≡ k = same_byte i k f fault (sym all ∙ h) in
+            absurd (let over : k < k = omega (arith, short, within, same_place, l) in omega (arith, over))
+
 pub refused_fronts : (text : List ℕ) (k : ℕ) (fault : SyntaxFault) → read text ≡ Bad k fault
     → (k < length text) × ((j : ℕ) → j ≤ k → Front (take j text)) × ((rest : List ℕ) → Front (take (k + 1) text ++ rest) → ⊥)
     × ((rest : List ℕ) → read (take (k + 1) text ++ rest) ≡ Bad k fault)
-refused_fronts text k fault h = (
-  (shortest text k fault h).0,
-  λ j l. unrefused_is_front (take j text) ((shortest text k fault h).1 j l),
-  no_front text k fault h,
-  (shortest text k fault h).2,
-)
+refused_fronts text k fault h =
+    let s = shortest text k fault h in
+    (s.0, s.1, no_front text k fault h, s.2)
 
 -- a text is refused at the byte after its longest front
 pub refused_after : (text : List ℕ) (k : ℕ) → k < length text → Front (take k text) → (Front (take (k + 1) text) → ⊥)
@@ -104,4 +160,4 @@ cut_front text f g = by (read text) refl
     by : (r : Out) → read text ≡ r → (at : ℕ) × (read text ≡ Cut at)
     by (Got items) e = absurd (g items (read_is_spelled text items e))
     by (Cut at) e = (at, e)
-    by (Bad k fault) e = not_bad (read text) k fault (front_is_read text f) e
+    by (Bad k fault) e = unrefused text k fault (front_is_read text f) e

@@ -3,7 +3,6 @@ use Rattle.drv_syntax.specs.Bytes.{is_function, is_function_front, is_mark, is_b
 use Rattle.drv_syntax.specs.Contexts.{InArguments, InX, Kind, ListContext, Mixed, Nobody, Owner, Starred, Top, bar_in, in_arguments}
 use Rattle.drv_syntax.specs.Contexts.{in_braces, in_x, is_end, is_said, newline_in, top}
 use Rattle.drv_syntax.specs.Directives.{braced, directive_of, is_allowed, said, text_of}
-use Rattle.drv_syntax.specs.Outcome.{Bad, Cut, Got, Out}
 use Rattle.drv_syntax.specs.Refusals.{AtBar, AtFront, AtNext, Order, may_emit}
 use Rattle.drv_syntax.specs.Spelling.{span}
 use Rattle.drv_syntax.specs.Tree.{AddOption, Asked, Blank, Brace, BuiltinText, Choose, Emit, Escape, Function, HasLanguage}
@@ -25,7 +24,7 @@ use Rattle.std.specs.Prelude.{◌+◌, ◌-◌, ◌==◌, Bool, false, true, if�
 use Rattle.std.specs.Prelude.{None, Some, codes, suc, zero, ℕ}
 
 -- What each part of a spec text gives: the grammar as functions, each on the text from its part on (GCC manual, "Spec
--- Files"; this project's profile). The last function, descent, takes a whole text.
+-- Files"; this project's profile). The last function, levels, gives what takes the list that a whole text is.
 --
 -- A text is a list of items (items_with). An item is an escape, a directive, a blank, a newline, a bar or a plain byte
 -- (item). A directive may go on with a suffix, an option, a text, a name or a pattern, or with a list in arguments (call)
@@ -464,12 +463,3 @@ no_lists c n text = Ends n
 abbrev pub levels : ℕ → Lists × Lists
 levels zero = (λ c n text. items_with no_lists no_lists c n 0 text, λ c n text. items_with no_lists no_lists c n 0 text)
 levels (suc level) = (λ c n text. items_with (levels level).0 (levels level).1 c n 0 text, (levels level).0)
-
-abbrev pub outcome : Read (Items × ℕ) → Out
-outcome (Took list size) = Got list.0
-outcome (Ends at) = Cut at
-outcome (Stops n fault) = Bad n fault
-
--- what a text gives: its tree; that it is cut short; or the first byte that doesn't fit
-abbrev pub descent : List ℕ → Out
-descent text = outcome ((levels 64).0 top 0 text)

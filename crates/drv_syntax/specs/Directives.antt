@@ -15,7 +15,7 @@ use Rattle.drv_syntax.specs.declared.token.Leaf.TheVariants.{AssemblerOptions, B
 use Rattle.drv_syntax.specs.declared.token.Leaf.TheVariants.{InputName, LinkerOptions, NoOutput, ObjectSuffix, Output, Outputs, Percent}
 use Rattle.drv_syntax.specs.declared.token.Leaf.TheVariants.{PreprocessorOptions, Removed}
 use Rattle.drv_syntax.specs.declared.token.TempKind.TheVariants.{Last, New, PipedIn, PipedOut, Shared}
-use Rattle.std.specs.Prelude.{◌==◌, Bool, false, true, if◌then◌else◌, List, [], ◌∷◌, codes, ℕ}
+use Rattle.std.specs.Prelude.{◌==◌, Bool, false, true, if◌then◌else◌, List, [], ◌∷◌, ◌++◌, codes, ℕ}
 
 -- The directives, by the byte after their % (GCC manual, "Spec Files").
 
@@ -29,9 +29,9 @@ abbrev pub found : {X : Type 0} → X → List (ℕ × X) → ℕ → X
 found otherwise [] b = otherwise
 found otherwise (row ∷ rows) b = if b == row.0 then row.1 else found otherwise rows b
 
--- what each goes on with, in the order of the manual
-abbrev pub directives : List (ℕ × Directive)
-directives =
+-- what each goes on with, in the order of the manual: the directives of files and their names
+abbrev pub file_directives : List (ℕ × Directive)
+file_directives =
     on (codes "%") (Whole Percent) ∷  -- %%
     on (codes "i") (Whole InputName) ∷  -- %i
     on (codes "b") (Whole BaseStem) ∷  -- %b
@@ -48,6 +48,11 @@ directives =
     on (codes "O") (Whole ObjectSuffix) ∷  -- %O
     on (codes "s") (Whole FoundFile) ∷  -- %s
     on (codes "T") (Whole FoundScript) ∷  -- %T
+    []
+
+-- and those of options and texts, with an inside or without one
+abbrev pub text_directives : List (ℕ × Directive)
+text_directives =
     on (codes "e") (WithSaying AsError) ∷  -- %eTEXT
     on (codes "n") (WithSaying AsNotice) ∷  -- %nTEXT
     on (codes "x") WithOption ∷  -- %x{OPTION}
@@ -74,6 +79,12 @@ directives =
     on (codes "W") (WithMarkedBraces IntoFailureFile) ∷  -- %W{..}
     on (codes "@") (WithMarkedBraces IntoArgumentsFile) ∷  -- %@{..}
     []
+
+abbrev pub text_directive_of : ℕ → Directive
+text_directive_of b = found Nowhere text_directives b
+
+abbrev pub directives : List (ℕ × Directive)
+directives = file_directives ++ text_directives
 
 abbrev pub directive_of : ℕ → Directive
 directive_of b = found Nowhere directives b

@@ -101,6 +101,16 @@ pub fn directive_of(b: u8) -> Directive
         b'O' => Directive::Whole(Leaf::ObjectSuffix), // %O
         b's' => Directive::Whole(Leaf::FoundFile), // %s
         b'T' => Directive::Whole(Leaf::FoundScript), // %T
+        _ => text_directive(b),
+    }
+}
+
+/// The same for directives that are none of files and their names.
+#[inline(always)]
+fn text_directive(b: u8) -> Directive
+    ensures { result ≡ directives.text_directive_of b }
+{
+    match b {
         b'e' => Directive::WithSaying(SayKind::AsError), // %eTEXT
         b'n' => Directive::WithSaying(SayKind::AsNotice), // %nTEXT
         b'x' => Directive::WithOption, // %x{OPTION}

@@ -1,9 +1,8 @@
 //! Laws of the grammar. The functions do nothing: each is its contract.
 
-ghost use Rattle.drv_syntax.specs.Descent.{descent};
 ghost use Rattle.drv_syntax.specs.Faults.{IsCutAt, IsMisfit, Refused};
 ghost use Rattle.drv_syntax.specs.Fronts.{Front};
-ghost use Rattle.drv_syntax.specs.Outcome.{Bad, Cut, Got, Unrefused, judged, parsed, read, text_limit};
+ghost use Rattle.drv_syntax.specs.Outcome.{Bad, Cut, Got, Unrefused, descent, judged, parsed, read, text_limit};
 ghost use Rattle.drv_syntax.specs.Refusals.{IsRefused};
 ghost use Rattle.drv_syntax.specs.Spelling.{Spells};
 ghost use Rattle.drv_syntax.specs.Tree.{Items};

@@ -63,7 +63,6 @@ impl SpecTree {
     }
 
     /// The tree of a text without bytes. The call allocates nothing.
-    #[tactic(auto, using(crate::proofs::Kept::nothing_kept))]
     pub fn empty(alloc: Global) -> SpecTree
         ensures { result ≡ [] }
     {

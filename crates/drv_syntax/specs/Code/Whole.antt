@@ -1,8 +1,8 @@
 use Rattle.drv_syntax.specs.Code.Writing.{flat, given}
 use Rattle.drv_syntax.specs.Contexts.{top}
-use Rattle.drv_syntax.specs.Descent.{descent, levels}
+use Rattle.drv_syntax.specs.Descent.{levels}
 use Rattle.drv_syntax.specs.Labels.{Label, labels, nodes_of}
-use Rattle.drv_syntax.specs.Outcome.{judged}
+use Rattle.drv_syntax.specs.Outcome.{descent, judged}
 use Rattle.drv_syntax.specs.Parsed.{listed}
 use Rattle.drv_syntax.specs.declared.fault.SyntaxFault.{SyntaxFault}
 use Rattle.drv_syntax.specs.declared.token.Token.{Token}

@@ -1,8 +1,10 @@
-use Rattle.drv_syntax.proofs.DescentWhole.{descent_is_parsed, descent_is_read}
+use Rattle.drv_syntax.proofs.ParsedGrammar.{allowed}
 use Rattle.drv_syntax.proofs.laws.descent_is_read.Goals as goal
+use Rattle.drv_syntax.specs.Outcome.{descent}
+use Rattle.std.proofs.Common.{refl}
 
 pub returns-clause-outcome : goal.returns-clause-outcome
-returns-clause-outcome c = descent_is_read
+returns-clause-outcome c = λ text. refl
 
 pub returns-clause-parsed : goal.returns-clause-parsed
-returns-clause-parsed c = descent_is_parsed
+returns-clause-parsed c = λ text h. allowed text (descent text) h refl

@@ -1,4 +1,4 @@
-use Rattle.drv_syntax.proofs.FrontsRead.{front_is_read}
+use Rattle.drv_syntax.proofs.WholeRead.{front_is_read}
 use Rattle.drv_syntax.proofs.laws.front_is_unrefused.Goals as goal
 
 pub returns : goal.returns

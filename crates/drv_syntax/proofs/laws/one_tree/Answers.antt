@@ -1,4 +1,4 @@
-use Rattle.drv_syntax.proofs.Covers.{only_tree}
+use Rattle.drv_syntax.proofs.WholeRead.{only_tree}
 use Rattle.drv_syntax.proofs.laws.one_tree.Goals as goal
 
 pub returns : goal.returns

@@ -1,5 +1,5 @@
-use Rattle.drv_syntax.proofs.Covers as covers
+use Rattle.drv_syntax.proofs.WholeRead as whole
 use Rattle.drv_syntax.proofs.laws.spelled_is_read.Goals as goal
 
 pub returns : goal.returns
-returns c = covers.spelled_is_read
+returns c = whole.spelled_is_read

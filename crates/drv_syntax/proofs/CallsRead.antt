@@ -1,0 +1,100 @@
+use Rattle.drv_words.specs.Bytes as ascii
+use Rattle.drv_syntax.proofs.Failing.{Failure, Fails, around, failed, past_fails, within_then}
+use Rattle.drv_syntax.proofs.PartsRead.{Reads, byte_next, function_reads, past_past, reads_past}
+use Rattle.drv_syntax.specs.Bytes.{is_function}
+use Rattle.drv_syntax.specs.Contexts.{ListContext, in_arguments, in_braces}
+use Rattle.drv_syntax.specs.Descent as d
+use Rattle.drv_syntax.specs.Descent.{Lists, Operand, Read, Took, past, then_read, within}
+use Rattle.drv_syntax.specs.Spelling as s
+use Rattle.drv_syntax.specs.Spelling.{AreItems, At, IsCall}
+use Rattle.drv_syntax.specs.Tree.{Items}
+use Rattle.std.proofs.Common.{◌≡◌, ◌∙◌, ◌+◌, ◌++◌, Bool, false, true, List, [], ◌∷◌, ap, arith, drop, drop-drop, length, refl, subst}
+use Rattle.std.proofs.Common.{suc, sym, ℕ}
+use Rattle.std.specs.Prelude.{◌-◌, ◌==◌}
+
+-- What the grammar says of a call, Descent makes of it. It is to serve the laws `spelled_is_read`, `front_is_unrefused` and
+-- `refusal_kinds`.
+
+-- the byte that ends a list, or 0 where the text ends
+abbrev pub first_of : List ℕ → ℕ
+first_of [] = 0
+first_of (b ∷ rest) = b
+
+-- lists with this context are read
+abbrev pub ListReads : ℕ → Lists → ListContext → Type 0
+ListReads size lists c =
+    (n : ℕ) (text rest : List ℕ) (items : Items) → AreItems size c text items rest → At size n text
+    → Reads (lists c n text) text (items, first_of rest) rest
+
+module _ {X : Type 0} (make : List ℕ → Items → X) (g : ListContext) (lists : Lists) (at outer : ℕ) where
+  abbrev pub called : ℕ → List ℕ → Read X
+  called n text = within outer (then_read (d.function_from at n [] text) (λ name k.
+      then_read (lists (in_arguments g) (n + k) (drop k text)) (λ list used. Took (make name list.0) (k + (used + 1)))))
+
+  -- after the name, which takes so many bytes
+  abbrev pub listed : List ℕ → ℕ → Read (Items × ℕ) → Read X
+  listed name k r = within outer (then_read r (λ list used. Took (make name list.0) (k + (used + 1))))
+
+  call_goes : (n : ℕ) (name text : List ℕ) → is_function name ≡ true
+      → (k : ℕ) × (drop k (name ++ 40 ∷ text) ≡ text) × (length (name ++ 40 ∷ text) ≡ k + length text)
+      × (called n (name ++ 40 ∷ text) ≡ listed name k (lists (in_arguments g) (n + k) text))
+  call_goes n name text h =
+      let m = function_reads at n [] name text h in (
+        m.size,
+        m.left,
+        m.fits,
+        ap (λ r. within outer (then_read r (λ it k.
+            then_read (lists (in_arguments g) (n + k) (drop k (name ++ 40 ∷ text)))
+            (λ list used. Took (make it list.0) (k + (used + 1)))))) m.is
+            ∙ ap (λ (t : List ℕ). listed name m.size (lists (in_arguments g) (n + m.size) t)) m.left,
+      )
+
+  pub call_reads : {size : ℕ} (ih : ListReads size lists (in_arguments g)) {text name rest : List ℕ} {items : Items} (n : ℕ)
+      → IsCall size g text name items rest → At size n text → Reads (called n text) text (make name items) rest
+  call_reads ih {rest = rest} {items} n (s.call {text = u} {name = name} e is l) a =
+      let z = call_goes n name u is in
+      let m = ih (n + z.0) u (41 ∷ rest) items l (omega (arith, a, z.2)) in
+      let more = byte_next u m.size m.left m.fits in
+      let one : suc m.size ≡ m.size + 1 = omega arith in
+      record {
+        size = z.0 + (m.size + 1);
+        is = z.3 ∙ ap (λ r. listed name z.0 r) m.is;
+        left = sym (drop-drop (m.size + 1) z.0 (name ++ 40 ∷ u)) ∙ ap (λ (t : List ℕ). drop (m.size + 1) t) z.1
+            ∙ ap (λ (i : ℕ). drop i u) (sym one) ∙ more.0;
+        fits = omega (arith, z.2, more.1);
+      }
+
+  -- its list fails
+  pub call_fails : (f : Failure) (n : ℕ) (name text : List ℕ) → is_function name ≡ true
+      → ((m : ℕ) → n + length (name ++ 40 ∷ text) ≡ m + length text → Fails (lists (in_arguments g) m text) f)
+      → called n (name ++ 40 ∷ text) ≡ failed (around outer f)
+  call_fails f n name text is h =
+      let z = call_goes n name text is in
+      let k = z.0 in
+      z.3 ∙ within_then (lists (in_arguments g) (n + k) text) f outer (λ list used. Took (make name list.0) (k + (used + 1)))
+      (h (n + k) (omega (arith, z.2)))
+
+-- the call of a test of a result, whose % has the place n
+module _ (deep : Lists) (c : ListContext) (at : ℕ) (emits : Bool) where
+  result_is : (n : ℕ) (text : List ℕ) → (c.levels - 1 == 0) ≡ false
+      → d.asked deep c at emits n (37 ∷ 58 ∷ text) ≡ past 2 (called d.result_operand (in_braces c) deep n at (n + 2) text)
+  result_is n text e = rw e (past_past 1 1 (called d.result_operand (in_braces c) deep n at (n + 2) text))
+
+  pub result_reads : {size : ℕ} (ih : ListReads size deep (in_arguments (in_braces c))) (n : ℕ) (text name rest : List ℕ) (items : Items)
+      → IsCall size (in_braces c) text name items rest → At size n (37 ∷ 58 ∷ text)
+      → Reads (d.asked deep c at emits n (37 ∷ 58 ∷ text)) (37 ∷ 58 ∷ text) (d.result_operand name items) rest
+  result_reads {size} ih n text name rest items i a =
+      let m = reads_past 2 (37 ∷ 58 ∷ text) refl (omega arith) (call_reads d.result_operand (in_braces c) deep n at ih (n + 2) i
+      (omega (arith, a))) in
+      record { size = m.size; is = result_is n text (level i) ∙ m.is; left = m.left; fits = m.fits }
+    where
+      level : {text name rest : List ℕ} {items : Items} → IsCall size (in_braces c) text name items rest → (c.levels - 1 == 0) ≡ false
+      level (s.call e is l) = e
+
+  pub result_fails : (f : Failure) (n : ℕ) (name text : List ℕ) → (c.levels - 1 == 0) ≡ false → is_function name ≡ true
+      → ((m : ℕ) → n + length (37 ∷ 58 ∷ name ++ 40 ∷ text) ≡ m + length text → Fails (deep (in_arguments (in_braces c)) m text) f)
+      → d.asked deep c at emits n (37 ∷ 58 ∷ name ++ 40 ∷ text) ≡ failed (around at f)
+  result_fails f n name text e is h =
+      result_is n (name ++ 40 ∷ text) e
+      ∙ past_fails (around at f) 2 (call_fails d.result_operand (in_braces c) deep n at f (n + 2) name text is
+      (λ m p. h m (omega (arith, p))))

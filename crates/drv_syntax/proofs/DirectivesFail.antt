@@ -1,0 +1,142 @@
+use Rattle.drv_words.specs.Bytes as ascii
+use Rattle.drv_syntax.proofs.Leads.{differs}
+use Rattle.drv_syntax.proofs.Names.{bracket_ends, front_front}
+use Rattle.drv_syntax.specs.Bytes.{is_function, is_function_front, is_name_byte, is_option, is_word}
+use Rattle.drv_syntax.specs.Contexts.{ListContext, Mixed, Nobody}
+use Rattle.drv_syntax.specs.Descent as d
+use Rattle.drv_syntax.specs.Descent.{Lists, Quoted, Read, Run, Stops, Took, past, quoted, then_read}
+use Rattle.drv_syntax.specs.Refusals as r
+use Rattle.drv_syntax.specs.Refusals.{Breaks, Empty, IsNoFunction, nests}
+use Rattle.drv_syntax.specs.Spelling as s
+use Rattle.drv_syntax.specs.Spelling.{IsRun}
+use Rattle.drv_syntax.specs.Tree.{Hide, Item, Pattern, pattern}
+use Rattle.drv_syntax.specs.declared.directives.Directive.TheVariants as kinds
+use Rattle.drv_syntax.specs.declared.directives.Directive.{Directive}
+use Rattle.drv_syntax.specs.declared.fault.SyntaxFault.TheVariants.{BadDirective, EmptyTest, TooNested, UnknownFunction}
+use Rattle.drv_syntax.specs.declared.fault.SyntaxFault.{SyntaxFault}
+use Rattle.std.proofs.Common.{◌≡◌, ◌≤◌, ◌∙◌, ◌+◌, ◌++◌, Bool, false, true, if◌then◌else◌, List, [], ◌∷◌, ap, append-nil, append_assoc}
+use Rattle.std.proofs.Common.{arith}
+use Rattle.std.proofs.Common.{length, length-append, refl, subst, sym, ℕ}
+use Rattle.std.proofs.lemmas.Bool.Decides.{nat_tests}
+use Rattle.std.specs.Prelude.{◌==◌, nat_le}
+
+-- Where a byte of a directive doesn't fit, Descent stops at it. It is to serve the law `refusal_kinds`.
+
+-- at this place, with this fault
+pub stops_at : {X : Type 0} {i j m n : ℕ} (make : ℕ → SyntaxFault) → i ≡ j → m ≡ n
+    → ◌≡◌ {A = Read X} (Stops i (make m)) (Stops j (make n))
+stops_at {j = j} {m} make e f = ap (λ (k : ℕ). Stops k (make m)) e ∙ ap (λ (k : ℕ). Stops j (make k)) f
+
+-- a byte that begins no run
+pub none_quoted : (f : ℕ → Bool) {b : ℕ} (q : List ℕ) → (b == ascii.backslash) ≡ false → f b ≡ false → quoted f (b ∷ q) ≡ Run [] 0
+none_quoted f [] e g = rw (e, g) refl
+none_quoted f (c ∷ q) e g = rw (e, g) refl
+
+pub pattern_stops : (x at m : ℕ) (q : List ℕ) → Empty x → d.pattern_at at m (x ∷ q) ≡ Stops (m + 0) (EmptyTest at)
+pattern_stops x at m q e = ap (λ (z : Quoted). d.pattern_text at m z (x ∷ q)) (none_quoted is_word q e.0 e.1)
+    ∙ ap (λ (z : Bool). if z then Took (pattern [] true) (0 + 1) else Stops (m + 0) (EmptyTest at)) e.2
+
+-- the name of no function
+
+module _ (at : ℕ) (x : ℕ) (q : List ℕ) where
+  name_stops : (m : ℕ) (done name : List ℕ) → is_function_front (done ++ name) ≡ true
+      → ((k : ℕ) → d.function_from at k (done ++ name) (x ∷ q) ≡ Stops k (UnknownFunction at))
+      → d.function_from at m done (name ++ x ∷ q) ≡ Stops (m + length name) (UnknownFunction at)
+  name_stops m done [] e h =
+      let z : m ≡ m + 0 = omega arith in
+      ap (λ (w : List ℕ). d.function_from at m w (x ∷ q)) (sym (append-nil done)) ∙ h m ∙ ap (λ (k : ℕ). Stops k (UnknownFunction at)) z
+  name_stops m done (b ∷ name) e h =
+      let g = append_assoc done (b ∷ []) name in
+      let front : is_function_front ((done ++ b ∷ []) ++ name) ≡ true = ap is_function_front g ∙ e in
+      let z : m + 1 + length name ≡ m + length (b ∷ name) = omega arith in
+      rw (front_front (done ++ b ∷ []) name front) (ap (λ r. past 1 r) (name_stops (m + 1) (done ++ b ∷ []) name front
+      (λ k. ap (λ (w : List ℕ). d.function_from at k w (x ∷ q)) g ∙ h k)) ∙ ap (λ (k : ℕ). Stops k (UnknownFunction at)) z)
+
+pub function_stops : {last : List ℕ} (at m : ℕ) (q : List ℕ) → IsNoFunction last
+    → (k : ℕ) × (k + 1 ≡ m + length last) × (d.function_from at m [] (last ++ q) ≡ Stops k (UnknownFunction at))
+function_stops at m q (r.not_a_front name b h e g) = (
+  m + length name,
+  omega (arith, length-append name (b ∷ [])),
+  ap (λ (w : List ℕ). d.function_from at m [] w) (append_assoc name (b ∷ []) q) ∙ name_stops at b q m [] name h (λ k. rw (e, g) refl),
+)
+function_stops at m q (r.not_a_name name h e) = (
+  m + length name,
+  omega (arith, length-append name (40 ∷ [])),
+  ap (λ (w : List ℕ). d.function_from at m [] w) (append_assoc name (40 ∷ []) q)
+      ∙ name_stops at 40 q m [] name h (λ k. rw (bracket_ends name, e) refl),
+)
+
+-- the name of a named text
+
+run_length : {f : ℕ → Bool} {t w u : List ℕ} → IsRun f t w u → length t ≡ length w + length u
+run_length (s.run_ends {rest} h) = omega arith
+run_length (s.run_goes e i) = omega (arith, run_length i)
+
+module _ (at : ℕ) (q : List ℕ) where
+  shorter : (done : List ℕ) (b : ℕ) (w : List ℕ) → length (done ++ b ∷ w) ≤ 255 → nat_le (length (done ++ b ∷ [])) 255 ≡ true
+  shorter done b w l =
+      let short : length (done ++ b ∷ []) ≤ 255 = omega (arith, l, length-append done (b ∷ w), length-append done (b ∷ [])) in
+      grind (arith, nat_tests)
+
+  -- a byte that can't be in it
+  names_stop : {t w : List ℕ} {b : ℕ} (k : ℕ) (done : List ℕ) → IsRun is_name_byte t w (b ∷ []) → length (done ++ w) ≤ 255
+      → (b == ascii.closing_parenthesis) ≡ false → d.name_from at k done (t ++ q) ≡ Stops (k + length w) (BadDirective at)
+  names_stop k [] (s.run_ends (s.at_byte h)) l e = rw h refl
+  names_stop k (x ∷ done) (s.run_ends (s.at_byte h)) l e = rw (h, e) refl
+  names_stop k done (s.run_goes {b = c} {text} {run} h i) l e =
+      let g = append_assoc done (c ∷ []) run in
+      let z : k + 1 + length run ≡ k + length (c ∷ run) = omega arith in
+      rw (h, shorter done c run l) (ap (λ r. past 1 r)
+      (names_stop (k + 1) (done ++ c ∷ []) i (subst (λ (v : List ℕ). length v ≤ 255) (sym g) l) e)
+      ∙ ap (λ (j : ℕ). Stops j (BadDirective at)) z)
+
+  -- its 256th byte
+  names_long : {t w : List ℕ} (k : ℕ) (done : List ℕ) → IsRun is_name_byte t w [] → length (done ++ w) ≡ 256 → length done ≤ 255
+      → (j : ℕ) × (j + 1 ≡ k + length w) × (d.name_from at k done (t ++ q) ≡ Stops j (BadDirective at))
+  names_long k done (s.run_ends h) l e = absurd (let z : length done ≡ 256 = ap length (sym (append-nil done)) ∙ l in omega (arith, z, e))
+  names_long k done (s.run_goes {b = c} h (s.run_ends z)) l e =
+      let long : nat_le (length (done ++ c ∷ [])) 255 ≡ false = grind (arith, nat_tests) in
+      (k, omega arith, rw (h, long) refl)
+  names_long k done (s.run_goes {b = c} h (s.run_goes {b = x} {text = t} {run = run} g i)) l e =
+      let y = append_assoc done (c ∷ []) (x ∷ run) in
+      let more : length (done ++ c ∷ []) ≤ 255 = omega (arith, l, length-append done (c ∷ x ∷ run), length-append done (c ∷ [])) in
+      let short : nat_le (length (done ++ c ∷ [])) 255 ≡ true = grind (arith, nat_tests) in
+      let m = names_long (k + 1) (done ++ c ∷ []) (s.run_goes g i) (ap (λ (v : List ℕ). length v) y ∙ l) more in
+      (m.0, omega (arith, m.1), rw (h, short) (ap (λ r. past 1 r) m.2))
+
+module _ (lists deep : Lists) (c : ListContext) (at m : ℕ) where
+  -- braces or arguments within 64 others
+  pub nested_stops : (f : Directive) (text : List ℕ) → nests f ≡ true → (c.levels == 0) ≡ true
+      → d.directive_by lists deep c at m f text ≡ Stops m (TooNested at)
+  nested_stops kinds.WithCall text h e = rw e refl
+  nested_stops kinds.WithBraces text h e = rw e refl
+  nested_stops (kinds.WithMarkedBraces kind) text h e = rw e refl
+  nested_stops kinds.Nowhere text h e = differs (sym h)
+  nested_stops (kinds.Whole leaf) text h e = differs (sym h)
+  nested_stops (kinds.Named name) text h e = differs (sym h)
+  nested_stops (kinds.WithSuffix kind) text h e = differs (sym h)
+  nested_stops kinds.WithOption text h e = differs (sym h)
+  nested_stops (kinds.WithSaying kind) text h e = differs (sym h)
+  nested_stops kinds.WithName text h e = differs (sym h)
+  nested_stops kinds.WithPattern text h e = differs (sym h)
+  nested_stops kinds.OfStar text h e = differs (sym h)
+
+  -- a directive that breaks off
+  pub break_stops : {f : Directive} {last : List ℕ} (q : List ℕ) → Breaks c f last
+      → (k : ℕ) × (k ≡ m + length last) × (d.directive_by lists deep c at m f (last ++ q) ≡ Stops k (BadDirective at))
+  break_stops q (r.no_option e) = (m + 1, refl, rw e refl)
+  break_stops q r.empty_option = (m + 1 + 1 + 0, omega arith, empty)
+    where
+      empty : d.option at (m + 1) (123 ∷ 125 ∷ q) ≡ Stops (m + 1 + 1 + 0) (BadDirective at)
+      empty = ap (λ (z : Quoted). past 1 (d.option_text at (m + 1 + 1) z (125 ∷ q))) (none_quoted is_option {b = 125} q refl refl)
+  break_stops q (r.no_name e) = (m + 1 + 0, omega arith, rw e refl)
+  break_stops q (r.open_name {name = name} i l e) =
+      (m + 1 + length name, omega (arith, run_length i), names_stop at q (m + 1) [] i l e)
+  break_stops q (r.long_name i l) =
+      let z = names_long at q (m + 1) [] i l (omega arith) in
+      (z.0, omega (arith, z.1, run_length i), z.2)
+  break_stops q (r.no_brace {kind = kind} {b = b} level e) = (m + 1, refl, nested ∙ rw e refl)
+    where
+      nested : d.directive_by lists deep c at m (kinds.WithMarkedBraces kind) (b ∷ q)
+          ≡ d.marked_braces lists deep c at kind (m + 1) (b ∷ q)
+      nested = rw level refl

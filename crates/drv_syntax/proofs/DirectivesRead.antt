@@ -1,0 +1,170 @@
+use Rattle.drv_words.specs.Bytes as ascii
+use Rattle.drv_syntax.proofs.CallsRead.{ListReads, call_fails, call_reads}
+use Rattle.drv_syntax.proofs.ChoicesRead.{brace_ends, brace_reads}
+use Rattle.drv_syntax.proofs.Failing.{AtEnd, EndsOut, HangsOut, runs_out}
+use Rattle.drv_syntax.proofs.PartsRead.{Reads, name_reads, option_reads, pattern_reads, reads_as, reads_past, reads_then, saying_reads}
+use Rattle.drv_syntax.proofs.PartsRead.{suffix_reads}
+use Rattle.drv_syntax.proofs.TestsEnd.{ListEnds, name_ends}
+use Rattle.drv_syntax.specs.Bytes.{is_name_byte, is_option, is_word}
+use Rattle.drv_syntax.specs.Contexts.{ListContext, Starred, in_arguments, in_braces, in_x, is_said}
+use Rattle.drv_syntax.specs.Descent as d
+use Rattle.drv_syntax.specs.Descent.{Ends, Hangs, Lists, Quoted, Read, Run, Took, past, quoted, then_read}
+use Rattle.drv_syntax.specs.Directives.{braced, directive_of, said, text_of}
+use Rattle.drv_syntax.specs.Faults.{is_closed_by_end}
+use Rattle.drv_syntax.specs.Fronts as cuts
+use Rattle.drv_syntax.specs.Fronts.{CutsBrace, CutsDirective, RunsOut}
+use Rattle.drv_syntax.specs.Refusals.{AtFront}
+use Rattle.drv_syntax.specs.Spelling as s
+use Rattle.drv_syntax.specs.Spelling.{At, IsBrace, IsCall, IsDirective, IsRun}
+use Rattle.drv_syntax.specs.Tree.{Brace, BuiltinText, Function, Hide, Item, Items, Leaf, Star, Tests, pattern}
+use Rattle.drv_syntax.specs.declared.directives.BraceKind.TheVariants.{InPlace}
+use Rattle.drv_syntax.specs.declared.directives.BraceKind.{BraceKind}
+use Rattle.drv_syntax.specs.declared.directives.Directive.TheVariants.{WithCall, WithPattern, WithSaying}
+use Rattle.drv_syntax.specs.declared.directives.Directive.{Directive}
+use Rattle.drv_syntax.specs.declared.directives.SayKind.{SayKind}
+use Rattle.drv_syntax.specs.declared.fault.SyntaxFault.TheVariants.{TooNested}
+use Rattle.std.proofs.Common.{◌≡◌, ◌≤◌, ◌∙◌, ◌+◌, ◌-◌, ◌++◌, ◌⊎◌, Bool, false, true, if◌then◌else◌, List, [], ◌∷◌, ap, append_assoc}
+use Rattle.std.proofs.Common.{arith, drop, inl}
+use Rattle.std.proofs.Common.{inr, length, length-append, refl, subst, suc, sym, ℕ}
+use Rattle.std.proofs.lemmas.Bool.Decides.{nat_tests}
+use Rattle.std.specs.Prelude.{◌==◌, nat_le}
+
+-- What the grammar says of a directive, Descent makes of it. It is to serve the laws `spelled_is_read` and `front_is_unrefused`.
+
+-- where a text of this size is cut that ends in this directive, whose % has the place n
+abbrev pub cut_place : ℕ → ℕ → Directive → ℕ
+cut_place size n f = if is_closed_by_end f then size - 1 else n
+
+-- a name that isn't closed, after so much of it
+names_end : (at n : ℕ) (done : List ℕ) {t name : List ℕ} → IsRun is_name_byte t name [] → length (done ++ name) ≤ 255
+    → d.name_from at n done t ≡ Ends at
+names_end at n done (s.run_ends h) l = refl
+names_end at n done (s.run_goes {b} {text} {run} e i) l =
+    let regrouped = append_assoc done (b ∷ []) run in
+    let short : length (done ++ b ∷ []) ≤ 255 = omega (arith, l, length-append done (b ∷ run), length-append done (b ∷ [])) in
+    let fits : nat_le (length (done ++ b ∷ [])) 255 ≡ true = grind (arith, nat_tests) in
+    rw (e, fits) (ap (λ r. past 1 r) (names_end at (n + 1) (done ++ b ∷ []) i (subst (λ (v : List ℕ). length v ≤ 255) (sym regrouped) l)))
+
+module _ (lists deep : Lists) (c : ListContext) (at n : ℕ) where
+  abbrev pub by : Directive → List ℕ → Read Item
+  by f text = d.directive_by lists deep c at n f text
+
+  abbrev pub nests : Read Item → Read Item
+  nests r = d.nested c.levels at n r
+
+  pub nest_is : (r : Read Item) → (c.levels == 0) ≡ false → nests r ≡ r
+  nest_is r e = ap (λ (z : Bool). if z then d.Stops n (TooNested at) else r) e
+
+  abbrev pub in_place : BraceKind → ℕ → List ℕ → Read Item
+  in_place kind m text = d.braces lists deep c at kind m text
+
+  call_level : {size : ℕ} {text name rest : List ℕ} {items : Items} → IsCall size c text name items rest → (c.levels == 0) ≡ false
+  call_level (s.call e is l) = e
+
+  brace_level : {size : ℕ} {text rest : List ℕ} {brace : Brace} → IsBrace size c text brace rest → (c.levels == 0) ≡ false
+  brace_level (s.emits e o) = e
+  brace_level (s.chooses e o) = e
+
+  cut_level : {size : ℕ} {text : List ℕ} → CutsBrace size c text → (c.levels == 0) ≡ false
+  cut_level (cuts.cut_emits e o) = e
+  cut_level (cuts.cut_chooses e o) = e
+
+  module _ (size : ℕ) (args : (c.levels == 0) ≡ false → ListReads size lists (in_arguments c))
+      (xs : (c.levels == 0) ≡ false → (asks : Tests) → ListReads size lists (in_x (in_braces c) asks))
+      (deeper : (c.levels - 1 == 0) ≡ false → ListReads size deep (in_arguments (in_braces c))) where
+    braces_read : {text rest : List ℕ} {brace : Brace} (kind : BraceKind) (m : ℕ) → IsBrace size c text brace rest → At size m text
+        → Reads (in_place kind m text) text (braced kind brace) rest
+    braces_read kind m i place =
+        let z = brace_reads lists deep c at size (xs (brace_level i)) deeper m i place in
+        reads_then (λ brace used. Took (braced kind brace) used) z (record { size = z.size; is = refl; left = z.left; fits = z.fits })
+
+    pub directive_reads : {f : Directive} {text rest : List ℕ} {item : Item} → IsDirective size c f text item rest → At size (n + 1) text
+        → Reads (by f text) text item rest
+    directive_reads s.whole place = record { size = 0; is = refl; left = refl; fits = omega arith }
+    directive_reads s.named place = record { size = 0; is = refl; left = refl; fits = omega arith }
+    directive_reads (s.temp_name {kind = kind} i) place = suffix_reads kind (n + 1) i
+    directive_reads (s.add_option i) place = option_reads at (n + 1) i
+    directive_reads (s.saying {kind = kind} i e) place = saying_reads c.kind kind (n + 1) i e
+    directive_reads (s.named_text {b = b} {name = name} i l) place = name_reads at (n + 1) [] b name i l refl
+    directive_reads (s.hide i) place =
+        let m = pattern_reads at (n + 1) i in
+        reads_then (λ p used. Took (Hide p) used) m (record { size = m.size; is = refl; left = m.left; fits = m.fits })
+    directive_reads (s.star e) place = record { size = 0; is = ap (λ o. d.star at n o) e; left = refl; fits = omega arith }
+    directive_reads (s.function {text = text} i) place =
+        reads_as (nest_is (d.call lists c at (n + 1) text) (call_level i))
+        (call_reads Function c lists at at (args (call_level i)) (n + 1) i place)
+    directive_reads (s.braces {text = text} i) place =
+        reads_as (nest_is (in_place InPlace (n + 1) text) (brace_level i)) (braces_read InPlace (n + 1) i place)
+    directive_reads (s.marked_braces {kind = kind} {text = text} i) place =
+        reads_as (nest_is (past 1 (in_place kind (n + 1 + 1) text)) (brace_level i))
+        (reads_past 1 (123 ∷ text) refl (omega arith) (braces_read kind (n + 1 + 1) i (omega (arith, place))))
+
+    -- where the text ends: the directive isn't closed, or all of the text is one
+    module _ (args_end : (c.levels == 0) ≡ false → ListEnds size lists (in_arguments c))
+        (x_ends : (c.levels == 0) ≡ false → (asks : Tests) → ListEnds size lists (in_x (in_braces c) asks))
+        (deeper_end : (c.levels - 1 == 0) ≡ false → ListEnds size deep (in_arguments (in_braces c))) where
+      abbrev pub DirOut : Directive → List ℕ → Type 0
+      DirOut f text = (by f text ≡ Ends (cut_place size at f)) ⊎ ((x : Item) × Reads (by f text) text x [])
+
+      braces_end : {text : List ℕ} (kind : BraceKind) (m : ℕ) → CutsBrace size c text → At size m text → in_place kind m text ≡ Ends at
+      braces_end kind m i place = ap (λ r. then_read r (λ brace used. Took (braced kind brace) used))
+          (brace_ends lists deep c at size (xs (cut_level i)) deeper (x_ends (cut_level i)) deeper_end m i place)
+
+      saying_out : (kind : SayKind) (text : List ℕ) → HangsOut (is_said c.kind) text ⊎ EndsOut (is_said c.kind) text → At size (n + 1) text
+          → DirOut (WithSaying kind) text
+      saying_out kind text (inl h) place =
+          let last : n + 1 + h.0 ≡ size - 1 = omega (arith, place, h.2) in
+          inl (ap (λ (q : Quoted). d.saying_text kind (n + 1) q text) h.1 ∙ ap (λ (i : ℕ). Ends i) last)
+      saying_out kind text (inr (word, used, e, l, k)) place = inr (
+        said kind word,
+        record {
+          size = used;
+          is = ap (λ (q : Quoted). d.saying_text kind (n + 1) q text) e ∙ ap (λ (x : List ℕ). d.saying_end kind word used x) l;
+          left = l;
+          fits = omega (arith, k);
+        },
+      )
+
+      hide_out : (text : List ℕ) → HangsOut is_word text ⊎ EndsOut is_word text → DirOut WithPattern text
+      hide_out text (inl h) = inl (ap (λ (q : Quoted). then_read (d.pattern_text at (n + 1) q text) (λ p used. Took (Hide p) used)) h.1)
+      hide_out text (inr ([], used, e, l, k)) =
+          inl (ap (λ (q : Quoted). then_read (d.pattern_text at (n + 1) q text) (λ p used. Took (Hide p) used)) e
+          ∙ ap (λ (x : List ℕ). then_read (d.pattern_end at (n + 1) [] used x) (λ p used. Took (Hide p) used)) l)
+      hide_out text (inr (b ∷ word, used, e, l, k)) = inr (
+        Hide (pattern (b ∷ word) false),
+        record {
+          size = used;
+          is = ap (λ (q : Quoted). then_read (d.pattern_text at (n + 1) q text) (λ p used. Took (Hide p) used)) e
+              ∙ ap (λ (x : List ℕ). then_read (d.pattern_end at (n + 1) (b ∷ word) used x) (λ p used. Took (Hide p) used)) l;
+          left = l;
+          fits = omega (arith, k);
+        },
+      )
+
+      option_out : (text : List ℕ) → HangsOut is_option text ⊎ EndsOut is_option text → d.option at (n + 1) (123 ∷ text) ≡ Ends at
+      option_out text (inl h) = ap (λ (q : Quoted). past 1 (d.option_text at (n + 1 + 1) q text)) h.1
+      option_out text (inr (word, used, e, l, k)) =
+          ap (λ (q : Quoted). past 1 (d.option_text at (n + 1 + 1) q text)) e
+          ∙ ap (λ (x : List ℕ). past 1 (d.option_end at (n + 1 + 1) word used x)) l
+
+      pub directive_out : {f : Directive} {text : List ℕ} → CutsDirective size c f text → At size (n + 1) text → DirOut f text
+      directive_out cuts.cut_suffix place =
+          let last : n + 1 ≡ size - 1 = omega (arith, place) in
+          inl (ap (λ (i : ℕ). Ends i) last)
+      directive_out cuts.cut_option place = inl refl
+      directive_out (cuts.cut_option_text {text = text} o) place = inl (option_out text (runs_out o))
+      directive_out (cuts.cut_saying {kind = kind} {text = text} o) place = saying_out kind text (runs_out o) place
+      directive_out (cuts.cut_name i l) place = inl (names_end at (n + 1) [] i l)
+      directive_out (cuts.cut_hide {text = text} o) place = hide_out text (runs_out o)
+      directive_out (cuts.cut_function (cuts.in_function {text = text} e h)) place =
+          inl (nest_is (d.call lists c at (n + 1) text) e
+          ∙ ap (λ r. d.within at (then_read r (d.call_in lists c (n + 1) text))) (name_ends at (n + 1) [] text h))
+      directive_out (cuts.cut_function (cuts.in_function_arguments {text = text} name e is l)) place =
+          inl (nest_is (d.call lists c at (n + 1) (name ++ 40 ∷ text)) e
+          ∙ call_fails Function c lists at at (AtEnd 0) (n + 1) name text is (λ m p. args_end e m text l (omega (arith, place, p))))
+      directive_out (cuts.cut_braces {text = text} i) place =
+          inl (nest_is (in_place InPlace (n + 1) text) (cut_level i) ∙ braces_end InPlace (n + 1) i place)
+      directive_out (cuts.cut_mark e) place = inl (nest_is (Ends at) e)
+      directive_out (cuts.cut_marked_braces {kind = kind} {text = text} i) place =
+          inl (nest_is (past 1 (in_place kind (n + 1 + 1) text)) (cut_level i)
+          ∙ ap (λ r. past 1 r) (braces_end kind (n + 1 + 1) i (omega (arith, place))))

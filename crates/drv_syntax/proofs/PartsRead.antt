@@ -1,0 +1,295 @@
+use Rattle.drv_words.specs.Bytes as ascii
+use Rattle.drv_syntax.proofs.Names.{bracket_ends, function_front}
+use Rattle.drv_syntax.specs.Bytes.{is_function, is_function_front, is_name_byte, is_option, is_suffix, is_white, is_word}
+use Rattle.drv_syntax.specs.Contexts.{Kind, is_said}
+use Rattle.drv_syntax.specs.Descent as d
+use Rattle.drv_syntax.specs.Descent.{Quoted, Read, Run, Took, past, quoted, then_read, with_byte}
+use Rattle.drv_syntax.specs.Directives.{said}
+use Rattle.drv_syntax.specs.declared.directives.SayKind.{SayKind}
+use Rattle.drv_syntax.specs.declared.token.TempKind.{TempKind}
+use Rattle.drv_syntax.specs.Spelling as s
+use Rattle.drv_syntax.specs.Spelling.{AreSpaces, IsPattern, IsQuoted, IsRun, IsSuffix}
+use Rattle.drv_syntax.specs.Tree.{AddOption, NamedText, Pattern, TempName, pattern}
+use Rattle.std.proofs.Common.{◌≡◌, ◌≤◌, ◌∙◌, ◌+◌, ◌++◌, Bool, false, true, List, [], ◌∷◌, ap, append-nil, append_assoc, arith, drop}
+use Rattle.std.proofs.Common.{drop-drop}
+use Rattle.std.proofs.Common.{length, length-append, refl, subst, suc, sym, take, zero, ℕ}
+use Rattle.std.proofs.lemmas.Bool.Decides.{nat_tests}
+use Rattle.std.specs.List.{prefix_len}
+use Rattle.std.specs.Prelude.{◌==◌, nat_le}
+
+-- What the grammar says of a part of a text, Descent makes of it: runs of bytes, and patterns. It is to serve the law `spelled_is_read`.
+
+-- a part is read, and this is left
+pub record Reads {X : Type 0} (r : Read X) (text : List ℕ) (x : X) (rest : List ℕ) : Type 0 where
+  pub size : ℕ
+  pub is : r ≡ Took x size
+  pub left : drop size text ≡ rest
+  pub fits : length text ≡ size + length rest
+
+pub reads_past : {X : Type 0} {r : Read X} {x : X} {mid rest : List ℕ} (k : ℕ) (text : List ℕ) → drop k text ≡ mid
+    → length text ≡ k + length mid → Reads r mid x rest → Reads (past k r) text x rest
+reads_past k text e f m = record {
+  size = k + m.size;
+  is = ap (λ r. past k r) m.is;
+  left = sym (drop-drop m.size k text) ∙ ap (λ (t : List ℕ). drop m.size t) e ∙ m.left;
+  fits = omega (arith, f, m.fits);
+}
+
+pub reads_then : {X Y : Type 0} {r : Read X} {text mid rest : List ℕ} {x : X} {y : Y} (goes : X → ℕ → Read Y) (m : Reads r text x mid)
+    → Reads (goes x m.size) text y rest → Reads (then_read r goes) text y rest
+reads_then goes m k = record {
+  size = k.size;
+  is = ap (λ r. then_read r goes) m.is ∙ k.is;
+  left = k.left;
+  fits = k.fits;
+}
+
+pub reads_within : {X : Type 0} {r : Read X} {x : X} {text rest : List ℕ} (at : ℕ) → Reads r text x rest → Reads (d.within at r) text x rest
+reads_within at m = record { size = m.size; is = ap (λ r. d.within at r) m.is; left = m.left; fits = m.fits }
+
+-- a part, and what is read after it
+pub reads_after : {X Y : Type 0} {r : Read X} {text mid rest : List ℕ} {x : X} {y : Y} (goes : X → ℕ → List ℕ → Read Y)
+    (m : Reads r text x mid) → Reads (goes x m.size mid) mid y rest
+    → Reads (then_read r (λ x k. past k (goes x k (drop k text)))) text y rest
+reads_after {text = text} {rest = rest} {x} {y} goes m k =
+    reads_then (λ x k. past k (goes x k (drop k text))) m
+    (subst (λ (t : List ℕ). Reads (past m.size (goes x m.size t)) text y rest) (sym m.left) (reads_past m.size text m.left m.fits k))
+
+-- the same by an equation
+pub reads_as : {X : Type 0} {r o : Read X} {x : X} {text rest : List ℕ} → r ≡ o → Reads o text x rest → Reads r text x rest
+reads_as e m = record { size = m.size; is = e ∙ m.is; left = m.left; fits = m.fits }
+
+pub past_none : {X : Type 0} (r : Read X) → past 0 r ≡ r
+past_none (Took x size) = let e : 0 + size ≡ size = omega arith in ap (λ (i : ℕ). Took x i) e
+past_none (d.Ends at) = refl
+past_none (d.Stops n fault) = refl
+
+pub past_past : {X : Type 0} (j k : ℕ) (r : Read X) → past j (past k r) ≡ past (j + k) r
+past_past j k (Took x size) = let e : j + (k + size) ≡ j + k + size = omega arith in ap (λ (i : ℕ). Took x i) e
+past_past j k (d.Ends at) = refl
+past_past j k (d.Stops n fault) = refl
+
+-- the byte after so many
+pub byte_next : (text : List ℕ) {rest : List ℕ} {b : ℕ} (size : ℕ) → drop size text ≡ b ∷ rest → length text ≡ size + length (b ∷ rest)
+    → (drop (suc size) text ≡ rest) × (length text ≡ suc size + length rest)
+byte_next text size e f =
+    let one : size + 1 ≡ suc size = omega arith in
+    (ap (λ (i : ℕ). drop i text) (sym one) ∙ sym (drop-drop 1 size text) ∙ ap (λ (t : List ℕ). drop 1 t) e, omega (arith, f))
+
+-- what skips so many bytes of a text begins after them
+pub skipped : {Y : Type 0} (f : ℕ → ℕ → List ℕ → Y) → ((n k b : ℕ) (text : List ℕ) → f n (suc k) (b ∷ text) ≡ f (n + 1) k text)
+    → (n k : ℕ) (text rest : List ℕ) → drop k text ≡ rest → length text ≡ k + length rest → f n k text ≡ f (n + k) 0 rest
+skipped f goes n zero text rest e l =
+    let z : n ≡ n + 0 = omega arith in
+    ap (λ (i : ℕ). f i 0 text) z ∙ ap (λ (t : List ℕ). f (n + 0) 0 t) e
+skipped f goes n (suc k) [] rest e l = absurd (let z : 0 ≡ suc k + length rest = l in omega (arith, z))
+skipped f goes n (suc k) (b ∷ text) rest e l =
+    let z : n + 1 + k ≡ n + suc k = omega arith in
+    let m : length text ≡ k + length rest = omega (arith, l) in
+    goes n k b text ∙ skipped f goes (n + 1) k text rest e m ∙ ap (λ (i : ℕ). f i 0 rest) z
+
+-- runs of bytes and escapes
+pub record RunsTo (f : ℕ → Bool) (text word rest : List ℕ) : Type 0 where
+  pub size : ℕ
+  pub is : quoted f text ≡ Run word size
+  pub left : drop size text ≡ rest
+  pub fits : length text ≡ size + length rest
+
+run_word : {v w : List ℕ} {i j : ℕ} → Run v i ≡ Run w j → (v ≡ w) × (i ≡ j)
+run_word e = (cc, cc)
+
+pub runs_to : {f : ℕ → Bool} {text word rest : List ℕ} → IsQuoted f text word rest → RunsTo f text word rest
+runs_to s.quoted_end = record { size = 0; is = refl; left = refl; fits = omega arith }
+runs_to {f} (s.quoted_stop {b} {rest} e g) = record { size = 0; is = none rest; left = refl; fits = omega arith }
+  where
+    none : (rest : List ℕ) → quoted f (b ∷ rest) ≡ Run [] 0
+    none [] = rw (e, g) refl
+    none (c ∷ rest) = rw (e, g) refl
+runs_to {f} (s.quoted_escape {b} {text} i) =
+    let m = runs_to i in
+    record {
+      size = 2 + m.size;
+      is = ap (λ (q : Quoted). with_byte b 2 q) m.is;
+      left = sym (drop-drop m.size 2 (92 ∷ b ∷ text)) ∙ m.left;
+      fits = omega (arith, m.fits);
+    }
+runs_to {f} (s.quoted_byte {b} {text} {run} {rest} e g i) = by text (runs_to i)
+  where
+    by : (text : List ℕ) → RunsTo f text run rest → RunsTo f (b ∷ text) (b ∷ run) rest
+    by [] m =
+        let same = run_word m.is in
+        record {
+          size = 1;
+          is = rw (e, g) (ap (λ (w : List ℕ). Run (b ∷ w) 1) same.0);
+          left = ap (λ (i : ℕ). drop i []) same.1 ∙ m.left;
+          fits = omega (arith, m.fits, same.1);
+        }
+    by (c ∷ text) m = record {
+      size = 1 + m.size;
+      is = rw (e, g) (ap (λ (q : Quoted). with_byte b 1 q) m.is);
+      left = sym (drop-drop m.size 1 (b ∷ c ∷ text)) ∙ m.left;
+      fits = omega (arith, m.fits);
+    }
+
+-- white space, and what is none after it
+pub spaces_to : {text rest : List ℕ} → AreSpaces text rest → s.Stops is_white rest
+    → (drop (prefix_len is_white text) text ≡ rest) × (length text ≡ prefix_len is_white text + length rest)
+spaces_to (s.no_space {rest = []}) h = (refl, omega arith)
+spaces_to (s.no_space {rest = b ∷ rest}) (s.at_byte e) = rw e (refl, omega arith)
+spaces_to (s.space {b} {text} {rest} e i) h = by (spaces_to i h)
+  where
+    by : (drop (prefix_len is_white text) text ≡ rest) × (length text ≡ prefix_len is_white text + length rest)
+        → (drop (prefix_len is_white (b ∷ text)) (b ∷ text) ≡ rest)
+        × (length (b ∷ text) ≡ prefix_len is_white (b ∷ text) + length rest)
+    by m = rw e (sym (drop-drop (prefix_len is_white text) 1 (b ∷ text)) ∙ m.0, omega (arith, m.1))
+
+-- a pattern
+pub pattern_reads : {text rest : List ℕ} {p : Pattern} (at n : ℕ) → IsPattern text p rest → Reads (d.pattern_at at n text) text p rest
+pattern_reads {text} {rest} at n (s.unstarred {b} {word = word} i e) =
+    let m = runs_to i in
+    record {
+      size = m.size;
+      is = ap (λ (q : Quoted). d.pattern_text at n q text) m.is ∙ ap (λ (t : List ℕ). d.pattern_end at n (b ∷ word) m.size t) m.left
+          ∙ ended m.size rest e;
+      left = m.left;
+      fits = m.fits;
+    }
+  where
+    ended : (size : ℕ) (rest : List ℕ) → s.Stops (λ c. c == ascii.asterisk) rest
+        → d.pattern_end at n (b ∷ word) size rest ≡ Took (pattern (b ∷ word) false) size
+    ended size [] h = refl
+    ended size (c ∷ rest) (s.at_byte h) = rw h refl
+pattern_reads {text} {rest} at n (s.starred {word = word} i) =
+    let m = runs_to i in
+    record {
+      size = m.size + 1;
+      is = ap (λ (q : Quoted). d.pattern_text at n q text) m.is ∙ ap (λ (t : List ℕ). d.pattern_end at n word m.size t) m.left
+          ∙ ended m.size word;
+      left = sym (drop-drop 1 m.size text) ∙ ap (λ (t : List ℕ). drop 1 t) m.left;
+      fits = omega (arith, m.fits);
+    }
+  where
+    ended : (size : ℕ) (word : List ℕ) → d.pattern_end at n word size (42 ∷ rest) ≡ Took (pattern word true) (size + 1)
+    ended size [] = refl
+    ended size (x ∷ word) = refl
+
+-- runs of bytes
+pub run_to : {f : ℕ → Bool} {text run rest : List ℕ} → IsRun f text run rest
+    → (take (prefix_len f text) text ≡ run) × (drop (prefix_len f text) text ≡ rest) × (length text ≡ prefix_len f text + length rest)
+run_to (s.run_ends {rest = []} h) = (refl, refl, omega arith)
+run_to (s.run_ends {rest = b ∷ rest} (s.at_byte e)) = rw e (refl, refl, omega arith)
+run_to {f} (s.run_goes {b} {text} {run} {rest} e i) = by (run_to i)
+  where
+    one : 1 + prefix_len f text ≡ suc (prefix_len f text)
+    one = omega arith
+
+    by : (take (prefix_len f text) text ≡ run) × (drop (prefix_len f text) text ≡ rest) × (length text ≡ prefix_len f text + length rest)
+        → (take (prefix_len f (b ∷ text)) (b ∷ text) ≡ b ∷ run) × (drop (prefix_len f (b ∷ text)) (b ∷ text) ≡ rest)
+        × (length (b ∷ text) ≡ prefix_len f (b ∷ text) + length rest)
+    by m = rw e (
+      ap (λ (i : ℕ). take i (b ∷ text)) one ∙ ap (λ (t : List ℕ). b ∷ t) m.0,
+      sym (drop-drop (prefix_len f text) 1 (b ∷ text)) ∙ m.1,
+      omega (arith, m.2),
+    )
+
+-- directives without lists
+
+pub suffix_reads : {text suffix rest : List ℕ} (kind : TempKind) (n : ℕ) → IsSuffix text suffix rest
+    → Reads (d.suffix kind n text) text (TempName kind suffix) rest
+suffix_reads kind n (s.suffix_run (s.run_goes {b} {text} e i)) =
+    let m = run_to i in
+    record {
+      size = 1 + prefix_len is_suffix text;
+      is = rw e (ap (λ (t : List ℕ). Took (TempName kind (b ∷ t)) (1 + prefix_len is_suffix text)) m.0);
+      left = sym (drop-drop (prefix_len is_suffix text) 1 (b ∷ text)) ∙ m.1;
+      fits = omega (arith, m.2);
+    }
+suffix_reads kind n s.suffix_object = record { size = 2; is = refl; left = refl; fits = omega arith }
+suffix_reads kind n s.suffix_none = record { size = 0; is = refl; left = refl; fits = omega arith }
+suffix_reads kind n (s.suffix_other {b} {rest} e g) = record { size = 0; is = rw e (other rest); left = refl; fits = omega arith }
+  where
+    other : (rest : List ℕ) → d.suffix_object kind n b rest ≡ Took (TempName kind []) 0
+    other [] = rw g refl
+    other (c ∷ rest) = rw g refl
+suffix_reads kind n (s.suffix_directive {b} {rest} e) = record { size = 0; is = rw e refl; left = refl; fits = omega arith }
+
+-- where a run of bytes and escapes ends in a byte that is taken with it
+pub ended_reads : {f : ℕ → Bool} {text word rest : List ℕ} {b : ℕ} (m : RunsTo f text word (b ∷ rest))
+    → (drop (m.size + 1) text ≡ rest) × (length text ≡ m.size + 1 + length rest)
+ended_reads {text = text} m = (sym (drop-drop 1 m.size text) ∙ ap (λ (t : List ℕ). drop 1 t) m.left, omega (arith, m.fits))
+
+pub option_reads : {text option rest : List ℕ} {b : ℕ} (at n : ℕ) → IsQuoted is_option text (b ∷ option) (125 ∷ rest)
+    → Reads (d.option at n (123 ∷ text)) (123 ∷ text) (AddOption (b ∷ option)) rest
+option_reads {text} {option} {rest} {b} at n i =
+    let m = runs_to i in
+    let e = ended_reads m in
+    reads_past 1 (123 ∷ text) refl (omega arith) (record {
+      size = m.size + 1;
+      is = ap (λ (q : Quoted). d.option_text at (n + 1) q text) m.is
+          ∙ ap (λ (t : List ℕ). d.option_end at (n + 1) (b ∷ option) m.size t) m.left;
+      left = e.0;
+      fits = e.1;
+    })
+
+pub saying_reads : {text words mid rest : List ℕ} (list : Kind) (kind : SayKind) (n : ℕ) → IsQuoted (is_said list) text words mid
+    → s.EndsSaying mid rest → Reads (d.saying list kind n text) text (said kind words) rest
+saying_reads {text} {words} list kind n i s.by_newline =
+    let m = runs_to i in
+    let e = ended_reads m in
+    record {
+      size = m.size + 1;
+      is = ap (λ (q : Quoted). d.saying_text kind n q text) m.is ∙ ap (λ (t : List ℕ). d.saying_end kind words m.size t) m.left;
+      left = e.0;
+      fits = e.1;
+    }
+saying_reads {text} {words} {rest = rest} list kind n i (s.by_other h) =
+    let m = runs_to i in
+    record {
+      size = m.size;
+      is = ap (λ (q : Quoted). d.saying_text kind n q text) m.is ∙ ap (λ (t : List ℕ). d.saying_end kind words m.size t) m.left
+          ∙ ended m.size rest h;
+      left = m.left;
+      fits = m.fits;
+    }
+  where
+    ended : (size : ℕ) (rest : List ℕ) → s.Stops (λ b. b == ascii.newline) rest → d.saying_end kind words size rest
+        ≡ Took (said kind words) size
+    ended size [] h = refl
+    ended size (b ∷ rest) (s.at_byte e) = rw e refl
+
+-- the name of a named text, after so much of it
+pub name_reads : {text w rest : List ℕ} (at n : ℕ) (name : List ℕ) (b : ℕ) (all : List ℕ) → IsRun is_name_byte text w (41 ∷ rest)
+    → length (name ++ w) ≤ 255 → name ++ w ≡ b ∷ all → Reads (d.name_from at n name text) text (NamedText (b ∷ all)) rest
+name_reads {rest = rest} at n [] b all (s.run_ends h) l e = absurd cc
+name_reads {rest = rest} at n (x ∷ name) b all (s.run_ends h) l e =
+    let f : x ∷ name ≡ b ∷ all = sym (append-nil (x ∷ name)) ∙ e in
+    record {
+      size = 1;
+      is = ap (λ (v : List ℕ). Took (NamedText v) 1) f;
+      left = refl;
+      fits = omega arith;
+    }
+name_reads at n name b all (s.run_goes {b = c} {text} {run} g i) l e =
+    let regrouped = append_assoc name (c ∷ []) run in
+    let short : length (name ++ c ∷ []) ≤ 255 = omega (arith, l, length-append name (c ∷ run), length-append name (c ∷ [])) in
+    let fits : nat_le (length (name ++ c ∷ [])) 255 ≡ true = grind (arith, nat_tests) in
+    rw (g, fits) (reads_past 1 (c ∷ text) refl (omega arith)
+    (name_reads at (n + 1) (name ++ c ∷ []) b all i (subst (λ (v : List ℕ). length v ≤ 255) (sym regrouped) l) (regrouped ∙ e)))
+
+-- the name of a function, after so much of it
+pub function_reads : (at n : ℕ) (done w rest : List ℕ) → is_function (done ++ w) ≡ true
+    → Reads (d.function_from at n done (w ++ 40 ∷ rest)) (w ++ 40 ∷ rest) (done ++ w) rest
+function_reads at n done [] rest h =
+    let e : is_function done ≡ true = ap is_function (sym (append-nil done)) ∙ h in
+    record {
+      size = 1;
+      is = rw (bracket_ends done, e) (ap (λ (v : List ℕ). Took v 1) (sym (append-nil done)));
+      left = refl;
+      fits = omega arith;
+    }
+function_reads at n done (c ∷ w) rest h =
+    let regrouped = append_assoc done (c ∷ []) w in
+    let front : is_function_front (done ++ c ∷ []) ≡ true = function_front (done ++ c ∷ []) w (ap is_function regrouped ∙ h) in
+    subst (λ (v : List ℕ). Reads (d.function_from at n done (c ∷ w ++ 40 ∷ rest)) (c ∷ w ++ 40 ∷ rest) v rest) regrouped
+    (rw front (reads_past 1 (c ∷ w ++ 40 ∷ rest) refl (omega arith)
+    (function_reads at (n + 1) (done ++ c ∷ []) w rest (ap is_function regrouped ∙ h))))

@@ -1,0 +1,175 @@
+use Rattle.drv_words.specs.Bytes as ascii
+use Rattle.drv_syntax.proofs.CallsRead.{ListReads, result_fails}
+use Rattle.drv_syntax.proofs.EmitsRead.{emit_fails, follows, operates, starred_operates}
+use Rattle.drv_syntax.proofs.Failing.{AtEnd, EndsOut, Failure, HangsOut, past_fails, runs_out, then_fails}
+use Rattle.drv_syntax.proofs.Heads.{NoHead, asked_head, no_percent, no_sign, no_white, out_head, pattern_head, unstarred_end}
+use Rattle.drv_syntax.proofs.Leads.{differs, other}
+use Rattle.drv_syntax.proofs.MeantTests.{mark_word}
+use Rattle.drv_syntax.proofs.Names.{front_front}
+use Rattle.drv_syntax.proofs.PartsRead.{Reads, byte_next, reads_as, reads_past}
+use Rattle.drv_syntax.proofs.PatternsRead.{patterns_end}
+use Rattle.drv_syntax.proofs.TestsRead.{asked_reads, asking, from_ends, mark_is, next_goes, test_goes, tests_fail}
+use Rattle.drv_syntax.specs.Bytes.{is_function, is_function_front, is_mark, is_white, is_word}
+use Rattle.drv_syntax.specs.Contexts.{ListContext, in_arguments, in_braces}
+use Rattle.drv_syntax.specs.Descent as d
+use Rattle.drv_syntax.specs.Descent.{Ends, Lists, Operand, Quoted, Read, Run, Took, Tried, past, quoted, then_read}
+use Rattle.drv_syntax.specs.Fronts as cuts
+use Rattle.drv_syntax.specs.Fronts.{AreFrontItems, CutsAsked, CutsCall, CutsPatterns, CutsTests, RunsOut}
+use Rattle.drv_syntax.specs.Refusals.{AtBar, AtFront, Order, may_emit}
+use Rattle.drv_syntax.specs.Spelling as s
+use Rattle.drv_syntax.specs.Spelling.{AreSpaces, At, IsAsked, IsPattern, IsQuoted, IsSign, span}
+use Rattle.drv_syntax.specs.Tree.{Asked, Items, Pattern, pattern}
+use Rattle.std.proofs.Common.{◌≡◌, ◌∙◌, ◌+◌, ◌++◌, ◌⊎◌, Bool, false, true, List, [], ◌∷◌, ap, append-nil, append_assoc, arith, drop}
+use Rattle.std.proofs.Common.{inl, inr, length}
+use Rattle.std.proofs.Common.{refl, subst, suc, sym, ℕ}
+use Rattle.std.specs.List.{prefix_len}
+use Rattle.std.specs.Prelude.{◌-◌, ◌==◌}
+
+-- Where a text ends in a test, Descent makes of it that the braces aren't closed. It is to serve the law `front_is_unrefused`.
+
+-- a run that a text ends in
+pub out_of : {f : ℕ → Bool} {t word : List ℕ} → IsQuoted f t word [] → RunsOut f t
+out_of s.quoted_end = cuts.out_end
+out_of (s.quoted_escape i) = cuts.out_escape (out_of i)
+out_of (s.quoted_byte e g i) = cuts.out_byte e g (out_of i)
+
+-- the first byte of what a test asks
+pub cut_head : {f : ℕ → Bool} {size : ℕ} {c : ListContext} {u : List ℕ} → NoHead f → f 37 ≡ false → CutsAsked size c u → s.Stops f u
+cut_head h e (cuts.cut_switch z o) = out_head h o
+cut_head h e (cuts.cut_marked {b} z o) = s.at_byte (h.word b (mark_word b z))
+cut_head h e (cuts.cut_call z) = s.at_byte e
+cut_head h e (cuts.cut_result i) = s.at_byte e
+
+-- the front of a function's name, after so much of it
+pub name_ends : (at n : ℕ) (done t : List ℕ) → is_function_front (done ++ t) ≡ true → d.function_from at n done t ≡ Ends at
+name_ends at n done [] h = refl
+name_ends at n done (b ∷ t) h =
+    let g : (done ++ b ∷ []) ++ t ≡ done ++ b ∷ t = append_assoc done (b ∷ []) t in
+    let e : is_function_front ((done ++ b ∷ []) ++ t) ≡ true = ap is_function_front g ∙ h in
+    rw (front_front (done ++ b ∷ []) t e) (ap (λ r. past 1 r) (name_ends at (n + 1) (done ++ b ∷ []) t e))
+
+-- the lists in it are cut, too
+abbrev pub ListEnds : ℕ → Lists → ListContext → Type 0
+ListEnds size lists c = (n : ℕ) (text : List ℕ) → AreFrontItems size c text → At size n text → (inner : ℕ) × (lists c n text ≡ Ends inner)
+
+module _ (deep : Lists) (c : ListContext) (at : ℕ) where
+  -- what a test asks is cut, or is all that is left
+  abbrev pub Out : Bool → ℕ → List ℕ → Type 0
+  Out emits n u = (d.asked deep c at emits n u ≡ Ends at) ⊎ ((o : Operand) × Reads (d.asked deep c at emits n u) u o [])
+
+  pub out_from : (order : Order) (start : ℕ) (negated : Bool) (n : ℕ) (u : List ℕ) → Out (may_emit order negated) n u
+      → d.asked_from deep c at order start negated n u ≡ Ends at
+  out_from order start negated n u (inl e) = then_fails (AtEnd at)
+      (λ operand k. past k (d.ended at (span start (n + k)) negated operand (drop k u))) e
+  out_from order start negated n u (inr m) = from_ends deep c at order start negated n m.1 s.no_space
+
+  marked_out : (emits : Bool) (n mark : ℕ) {t : List ℕ} → is_mark mark ≡ true → RunsOut is_word t → Out emits n (mark ∷ t)
+  marked_out emits n mark {t} h o = by (runs_out o)
+    where
+      by : HangsOut is_word t ⊎ EndsOut is_word t → Out emits n (mark ∷ t)
+      by (inl g) = inl (mark_is deep c at emits n mark t h ∙ ap (λ (q : Quoted). past 1 (d.mark_text at emits mark (n + 1) q t)) g.1)
+      by (inr ([], size, e, l, k)) =
+          inl (mark_is deep c at emits n mark t h ∙ ap (λ (q : Quoted). past 1 (d.mark_text at emits mark (n + 1) q t)) e
+          ∙ ap (λ (x : List ℕ). past 1 (d.mark_end at emits mark (n + 1) [] size x)) l)
+      by (inr (b ∷ word, size, e, l, k)) = inr (
+        d.marked_operand mark (b ∷ word),
+        reads_as (mark_is deep c at emits n mark t h)
+            (reads_past 1 (mark ∷ t) refl (omega arith) (record {
+              size = size;
+              is = ap (λ (q : Quoted). d.mark_text at emits mark (n + 1) q t) e
+                  ∙ ap (λ (x : List ℕ). d.mark_end at emits mark (n + 1) (b ∷ word) size x) l;
+              left = l;
+              fits = omega (arith, k);
+            })),
+      )
+
+  switch_out : (emits : Bool) (n : ℕ) (u : List ℕ) → s.Stops is_mark u → RunsOut is_word u → Out emits n u
+  switch_out emits n [] h o = inl refl
+  switch_out emits n (b ∷ t) (s.at_byte g) o = by (runs_out o) (out_head no_percent o)
+    where
+      opens : (b == ascii.percent) ≡ false → d.asked deep c at emits n (b ∷ t)
+          ≡ then_read (d.pattern_text at n (quoted is_word (b ∷ t)) (b ∷ t)) (λ p size. Took (d.switch_operand p) size)
+      opens e = rw (g, e) refl
+
+      by : HangsOut is_word (b ∷ t) ⊎ EndsOut is_word (b ∷ t) → s.Stops (λ x. x == ascii.percent) (b ∷ t) → Out emits n (b ∷ t)
+      by (inl h) (s.at_byte e) = inl (opens e ∙ ap (λ (q : Quoted). then_read (d.pattern_text at n q (b ∷ t))
+          (λ p size. Took (d.switch_operand p) size)) h.1)
+      by (inr ([], size, f, l, k)) (s.at_byte e) =
+          inl (opens e ∙ ap (λ (q : Quoted). then_read (d.pattern_text at n q (b ∷ t)) (λ p size. Took (d.switch_operand p) size)) f
+          ∙ ap (λ (x : List ℕ). then_read (d.pattern_end at n [] size x) (λ p size. Took (d.switch_operand p) size)) l)
+      by (inr (x ∷ word, size, f, l, k)) (s.at_byte e) = inr (
+        d.switch_operand (pattern (x ∷ word) false),
+        record {
+          size = size;
+          is = opens e ∙ ap (λ (q : Quoted). then_read (d.pattern_text at n q (b ∷ t)) (λ p size. Took (d.switch_operand p) size)) f
+              ∙ ap (λ (y : List ℕ). then_read (d.pattern_end at n (x ∷ word) size y) (λ p size. Took (d.switch_operand p) size)) l;
+          left = l;
+          fits = omega (arith, k);
+        },
+      )
+
+  word_out : (emits : Bool) (n : ℕ) (u : List ℕ) → RunsOut is_word u → Out emits n u
+  word_out emits n [] o = inl refl
+  word_out emits n (b ∷ t) o = by (is_mark b) refl
+    where
+      tail : {u : List ℕ} → RunsOut is_word u → u ≡ b ∷ t → is_mark b ≡ true → RunsOut is_word t
+      tail cuts.out_end e h = absurd cc
+      tail cuts.out_backslash e h = let z : 92 ≡ b = cc in differs (sym h ∙ ap is_mark (sym z))
+      tail (cuts.out_escape o) e h = let z : 92 ≡ b = cc in differs (sym h ∙ ap is_mark (sym z))
+      tail (cuts.out_byte f g o) e h = let z : _ ≡ t = cc in subst (λ (x : List ℕ). RunsOut is_word x) z o
+
+      by : (z : Bool) → is_mark b ≡ z → Out emits n (b ∷ t)
+      by true h = marked_out emits n b h (tail o refl h)
+      by false h = switch_out emits n (b ∷ t) (s.at_byte h) o
+
+  -- patterns at the front of braces
+
+  pattern_out : (start n : ℕ) {u v : List ℕ} {p : Pattern} → IsPattern u p v → AreSpaces v []
+      → d.asked_from deep c at AtFront start false n u ≡ Ends at
+  pattern_out start n {u} (s.unstarred i e) s.no_space = out_from AtFront start false n u (word_out true n u (out_of i))
+  pattern_out start n (s.unstarred i e) (s.space h z) =
+      from_ends deep c at AtFront start false n (operates deep c at n (s.unstarred i e) (follows (inl h))).2 (s.space h z)
+  pattern_out start n (s.starred i) z = from_ends deep c at AtFront start false n (starred_operates deep c at n i).2 z
+
+  -- the test that a text ends in
+  test_ends : (order : Order) {t u v : List ℕ} {negated : Bool} (n : ℕ) → AreSpaces t u → IsSign u negated v → s.Stops is_white v
+      → ((start m : ℕ) → n + length t ≡ m + length v → d.asked_from deep c at order start negated m v ≡ Ends at)
+      → d.tests deep c at order n 0 t ≡ Ends at
+  test_ends order {t} n sp sign w h =
+      let g = test_goes deep c at order n sp sign w in
+      tests_fail deep c at order (AtEnd at) n t
+      (g.5 ∙ past_fails (AtEnd at) g.1 (h g.0 (n + g.1) (omega (arith, g.3))))
+
+  pub first_ends : {t : List ℕ} (n : ℕ) → CutsPatterns t → d.tests deep c at AtFront n 0 t ≡ Ends at
+  first_ends n (cuts.in_pattern {u = u} sp o) =
+      test_ends AtFront n sp (s.plain_sign (out_head no_sign o)) (out_head no_white o)
+      (λ start m e. out_from AtFront start false m u (word_out true m u o))
+  first_ends n (cuts.after_pattern sp i z) =
+      test_ends AtFront n sp (s.plain_sign (pattern_head no_sign i)) (pattern_head no_white i) (λ start m e. pattern_out start m i z)
+  first_ends n (cuts.after_and sp i z o) = emit_fails deep c at (AtEnd at) n sp i z (λ m e. patterns_end at m o)
+
+  module _ (size : ℕ) (reads : (c.levels - 1 == 0) ≡ false → ListReads size deep (in_arguments (in_braces c)))
+      (ends : (c.levels - 1 == 0) ≡ false → ListEnds size deep (in_arguments (in_braces c))) where
+    asked_out : (emits : Bool) (n : ℕ) {u : List ℕ} → CutsAsked size (in_braces c) u → At size n u → Out emits n u
+    asked_out emits n {u} (cuts.cut_switch h o) place = switch_out emits n u h o
+    asked_out emits n (cuts.cut_marked {b} h o) place = marked_out emits n b h o
+    asked_out emits n (cuts.cut_call e) place = inl (rw e refl)
+    asked_out emits n (cuts.cut_result (cuts.in_function {text = t} e h)) place =
+        inl (rw e (ap (λ r. past 1 (past 1 (d.within at (then_read r (d.result_in deep c (n + 2) t))))) (name_ends n (n + 2) [] t h)))
+    asked_out emits n (cuts.cut_result (cuts.in_function_arguments {text = t} name e is l)) place =
+        inl (result_fails deep c at emits (AtEnd 0) n name t e is (λ m p. ends e m t l (omega (arith, place, p))))
+
+    pub tests_end : (order : Order) {t : List ℕ} (n : ℕ) → CutsTests size (in_braces c) t → At size n t
+        → d.tests deep c at order n 0 t ≡ Ends at
+    tests_end order n (cuts.in_asked {v = v} {negated = negated} sp sign i) place =
+        test_ends order n sp sign (cut_head no_white refl i)
+        (λ start m e. out_from order start negated m v (asked_out (may_emit order negated) m i (omega (arith, place, e))))
+    tests_end order n (cuts.after_asked {negated = negated} sp sign i z) place =
+        test_ends order n sp sign (asked_head no_white refl i) (λ start m e. from_ends deep c at order start negated m
+        (asked_reads deep c at reads (may_emit order negated) m i (unstarred_end z) (omega (arith, place, e))) z)
+    tests_end order {t} n (cuts.after_bar {negated = negated} {asked = a} sp sign i z o) place =
+        let k = asking deep c at order reads n sp sign i z refl refl place in
+        let e = byte_next t k.reads.size k.reads.left k.reads.fits in
+        next_goes deep c at order k
+        ∙ ap (λ r. then_read r (λ form size. Took (d.with_test (span k.first k.last) negated a form) (k.reads.size + 1 + size)))
+        (tests_end AtBar (n + suc k.reads.size) o (omega (arith, place, e.1)))
