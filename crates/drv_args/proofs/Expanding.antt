@@ -1,5 +1,6 @@
 use Rattle.drv_args.specs.Expansion.{Expands, Itself, Refuses, Responds, Text, following, by_answer, by_name, by_text, file_named, inside}
-use Rattle.drv_args.specs.Expansion.{itself, later, replacement_of, no_word, too_large, too_many}
+use Rattle.drv_args.proofs.Limiting.{limited_read}
+use Rattle.drv_args.specs.Expansion.{itself, judged, later, limited, replacement_of, no_word, too_large, too_many}
 use Rattle.drv_args.specs.Code.Replacing.{IsPut, IsReplaced}
 use Rattle.drv_args.specs.declared.fault.ArgsFault.TheVariants.{Memory, ResponseTooLarge, TooManyFiles}
 use Rattle.drv_args.specs.declared.fault.ArgsFault.{ArgsFault}
@@ -19,14 +20,16 @@ use Rattle.std.proofs.lemmas.List.{append-nil, reverse-append, reverse-reverse}
 -- For `expand`: the words in front are expanded, then the words after them.
 
 -- the replacement of a word, by the facts after the call that asked for its file
-pub replacement_is : (F G : Facts) (word path : List ℕ) (answer : ReadAnswer) → Extends G F → file_named word ≡ Some path
-    → read_of G path ≡ Some answer → replacement_of F word ≡ Is (by_answer path answer)
-replacement_is F G word path answer e named known =
-    ap (by_name F) named ∙ ap (λ a. asked a >>= λ answer. Is (by_answer path answer)) (e.reads path answer known)
+pub replacement_is : (most : Option ℕ) (F G : Facts) (word path : List ℕ) (answer : ReadAnswer) → Extends G F → file_named word ≡ Some path
+    → read_of G path ≡ Some answer → replacement_of (limited most F) word ≡ Is (by_answer path (judged most answer))
+replacement_is most F G word path answer e named known =
+    ap (by_name (limited most F)) named
+    ∙ ap (λ a. asked a >>= λ answer. Is (by_answer path answer)) (limited_read most F path answer (e.reads path answer known))
 
-pub itself_by : (path : List ℕ) (answer : ReadAnswer) → (answer ≡ Missing) ⊎ (answer ≡ Failed) → Is (by_answer path answer) ≡ Is Itself
-itself_by path answer (inl e) = ap (λ a. Is (by_answer path a)) e
-itself_by path answer (inr e) = ap (λ a. Is (by_answer path a)) e
+pub itself_by : (most : Option ℕ) (path : List ℕ) (answer : ReadAnswer) → (answer ≡ Missing) ⊎ (answer ≡ Failed)
+    → Is (by_answer path (judged most answer)) ≡ Is Itself
+itself_by most path answer (inl e) = ap (λ a. Is (by_answer path (judged most a))) e
+itself_by most path answer (inr e) = ap (λ a. Is (by_answer path (judged most a))) e
 
 -- the expansion of words in front, and of those after them
 record Parts (F : Facts) (left : ℕ) (front words : List (List ℕ)) (left' : ℕ) (out : List (List ℕ)) : Type 0 where
@@ -103,7 +106,8 @@ goes_from_start F args = record { responds = λ left' more r. r; refuses = λ fa
 pub goes_by_itself : (F : Facts) (left : ℕ) (word : List ℕ) (words out args : List (List ℕ))
     → replacement_of F word ≡ Is Itself → GoesOn F left (word ∷ words) out args → GoesOn F left words (out ++ word ∷ []) args
 goes_by_itself F left word words out args m goes = record {
-  responds = λ left' more r. let P : List (List ℕ) → Type 0 = λ o. Responds F 2000 args left' o in subst P (sym (append_snoc out word more)) (goes.responds left' (word ∷ more) (itself m r));
+  responds = λ left' more r. let P : List (List ℕ) → Type 0 = λ o. Responds F 2000 args left' o in
+      subst P (sym (append_snoc out word more)) (goes.responds left' (word ∷ more) (itself m r));
   refuses = λ fault r. goes.refuses fault (later m r);
 }
 
@@ -146,7 +150,8 @@ text_goes F left left' stack rest stack' word inner out args popped one pushed (
     let P : List (List ℕ) → Type 0 = λ ws. GoesOn F left' ws out args in
     let Q : ℕ → Type 0 = λ n. GoesOn F n (word ∷ reverse rest) out args in
     let R : List (List ℕ) → Type 0 = λ ws. GoesOn F left ws out args in
-    let is : reverse stack' ≡ inner ++ reverse rest = ap reverse pushed ∙ reverse-append rest (reverse inner) ∙ ap (λ ws. ws ++ reverse rest) (reverse-reverse inner) in
+    let is : reverse stack' ≡ inner ++ reverse rest = ap reverse pushed ∙ reverse-append rest (reverse inner)
+    ∙ ap (λ ws. ws ++ reverse rest) (reverse-reverse inner) in
     subst P (sym is) (goes_by_text F left' word text inner (reverse rest) out args m splits
     (subst Q one (subst R (next_is stack rest word popped) goes)))
 

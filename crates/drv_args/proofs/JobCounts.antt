@@ -1,6 +1,7 @@
 use Rattle.drv_args.specs.Fronts.{items_of}
 use Rattle.drv_args.specs.Jobs.{in_range, jobs_named, number_of}
-use Rattle.drv_args.specs.Lines.{items_fault, jobs_after, judged, judged_line, last_jobs, line_fault, line_judged, line_of, line_of_items, line_read}
+use Rattle.drv_args.specs.Lines.{items_fault, jobs_after, judged, judged_line, last_jobs, line_fault, line_judged, line_of, line_of_items}
+use Rattle.drv_args.specs.Lines.{line_read}
 use Rattle.drv_args.specs.declared.fault.ArgsFault.TheVariants.{Memory, TooManyArguments}
 use Rattle.drv_args.specs.declared.fault.ArgsFault.{ArgsFault}
 use Rattle.drv_args.specs.declared.items.Item.{Item}

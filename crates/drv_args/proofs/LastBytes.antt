@@ -23,7 +23,8 @@ fits_at [] word i d below e = absurd (omega (arith, below))
 fits_at (a ∷ option) [] i d below e = absurd cc
 fits_at (a ∷ option) (b ∷ word) zero d below e = (omega arith, sym (eqb-true a b (both_first (a == b) _ e)))
 fits_at (a ∷ option) (b ∷ word) (suc i) d below e =
-    let there : (i < length word) × (get_or word i d ≡ get_or option i d) = fits_at option word i d (omega (arith, below)) (both_second (a == b) _ e) in
+    let there : (i < length word) × (get_or word i d ≡ get_or option i d) =
+    fits_at option word i d (omega (arith, below)) (both_second (a == b) _ e) in
     (omega (arith, there.0), there.1)
 
 whole_begins : (option word : List ℕ) → pointwise nat_eq option word ≡ true → pointwise nat_eq option (take (length option) word) ≡ true
@@ -41,5 +42,6 @@ begins Either option word e = e
 pub fits_last : (form : Form) (option word : List ℕ) (d : ℕ) → 0 < length option → form_fits form option word ≡ true
     → (length option ≤ length word) × (get_or word (length option - 1) d ≡ get_or option (length option - 1) d)
 fits_last form option word d some e =
-    let there : (length option - 1 < length word) × (get_or word (length option - 1) d ≡ get_or option (length option - 1) d) = fits_at option word (length option - 1) d (omega (arith, some)) (begins form option word e) in
+    let there : (length option - 1 < length word) × (get_or word (length option - 1) d ≡ get_or option (length option - 1) d) =
+    fits_at option word (length option - 1) d (omega (arith, some)) (begins form option word e) in
     (omega (arith, there.0, some), there.1)

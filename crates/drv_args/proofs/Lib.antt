@@ -3,6 +3,7 @@ pub mod Expanding
 pub mod FrontLaws
 pub mod JobCounts
 pub mod LastBytes
+pub mod Limiting
 pub mod LineSteps
 pub mod Lookups
 pub mod OneExpansion

@@ -49,7 +49,8 @@ pub next_item : (b b' : LineBuilder) (items : List Item) (index : ℕ) (i : Item
     → with_items b (drop index items) ≡ whole → with_items b' (drop (index + 1) items) ≡ whole
 next_item b b' items index i option argument whole below at option_is argument_is noted_is so_far =
     let rest = drop (index + 1) items in
-    let same : item i.effect option argument ≡ i = ap (λ o. item i.effect o argument) option_is ∙ ap (λ a. item i.effect i.option a) argument_is in
+    let same : item i.effect option argument ≡ i = ap (λ o. item i.effect o argument) option_is
+    ∙ ap (λ a. item i.effect i.option a) argument_is in
     ap (λ c. with_items c rest) noted_is
     ∙ ap (λ j. with_items (noted b j) rest) (same ∙ at)
     ∙ note_items b (get_or items index i) rest

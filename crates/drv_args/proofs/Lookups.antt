@@ -92,4 +92,33 @@ pub no_rows : (letter : ℕ) → (letter ≡ 35 → ⊥) → (letter ≡ 45 → 
     → (letter ≡ 101 → ⊥) → (letter ≡ 105 → ⊥) → (letter ≡ 108 → ⊥) → (letter ≡ 111 → ⊥) → (letter ≡ 112 → ⊥) → (letter ≡ 115 → ⊥)
     → (letter ≡ 117 → ⊥) → (letter ≡ 118 → ⊥) → (letter ≡ 120 → ⊥) → (letter ≡ 122 → ⊥) → [] ≡ filter (may_fit letter) option_table
 unfolding option_table
-no_rows letter n35 n45 n65 n66 n68 n69 n73 n76 n77 n83 n84 n85 n87 n88 n97 n99 n100 n101 n105 n108 n111 n112 n115 n117 n118 n120 n122 = none_pass (may_fit letter) option_table (rw (not_at 35 letter n35, not_at 45 letter n45, not_at 65 letter n65, not_at 66 letter n66, not_at 68 letter n68, not_at 69 letter n69, not_at 73 letter n73, not_at 76 letter n76, not_at 77 letter n77, not_at 83 letter n83, not_at 84 letter n84, not_at 85 letter n85, not_at 87 letter n87, not_at 88 letter n88, not_at 97 letter n97, not_at 99 letter n99, not_at 100 letter n100, not_at 101 letter n101, not_at 105 letter n105, not_at 108 letter n108, not_at 111 letter n111, not_at 112 letter n112, not_at 115 letter n115, not_at 117 letter n117, not_at 118 letter n118, not_at 120 letter n120, not_at 122 letter n122) refl)
+no_rows letter n35 n45 n65 n66 n68 n69 n73 n76 n77 n83 n84 n85 n87 n88 n97 n99 n100 n101 n105 n108 n111 n112 n115 n117 n118 n120 n122 =
+    none_pass (may_fit letter) option_table (rw (
+      not_at 35 letter n35,
+      not_at 45 letter n45,
+      not_at 65 letter n65,
+      not_at 66 letter n66,
+      not_at 68 letter n68,
+      not_at 69 letter n69,
+      not_at 73 letter n73,
+      not_at 76 letter n76,
+      not_at 77 letter n77,
+      not_at 83 letter n83,
+      not_at 84 letter n84,
+      not_at 85 letter n85,
+      not_at 87 letter n87,
+      not_at 88 letter n88,
+      not_at 97 letter n97,
+      not_at 99 letter n99,
+      not_at 100 letter n100,
+      not_at 101 letter n101,
+      not_at 105 letter n105,
+      not_at 108 letter n108,
+      not_at 111 letter n111,
+      not_at 112 letter n112,
+      not_at 115 letter n115,
+      not_at 117 letter n117,
+      not_at 118 letter n118,
+      not_at 120 letter n120,
+      not_at 122 letter n122,
+    ) refl)

@@ -46,7 +46,8 @@ same {F = F} (by_text {word = word} {text = text} m splits inner rest) (itself m
 same {F = F} (by_text {left = left} {mid = mid} {word = word} {text = text} {inner = inner} {words = words} {out = out} {out' = more} m
     splits first rest)
     (by_text {mid = mid'} {left' = final} {text = text'} {inner = inner'} {out = out'} {out' = more'} m' splits' first' rest') =
-    let s = same first (subst (λ (ws : List (List ℕ)). Responds F left ws mid' out') (same_inner F word text text' inner inner' m splits m' splits') first') in
+    let s = same first (subst (λ (ws : List (List ℕ)). Responds F left ws mid' out')
+    (same_inner F word text text' inner inner' m splits m' splits') first') in
     let t = same rest (subst (λ (n : ℕ). Responds F n words final more') (sym s.lefts) rest') in
     record { lefts = t.lefts; outs = ap (λ o. o ++ more) s.outs ∙ ap (λ o. out' ++ o) t.outs }
 
@@ -71,7 +72,8 @@ never_both {F = F} (by_text {left = left} {word = word} {text = text} {inner = i
     splits') refused)
 never_both {F = F} (by_text {left = left} {mid = mid} {word = word} {text = text} {inner = inner} {words = words} m splits first rest)
     (following {mid = mid'} {text = text'} {inner = inner'} {out = out'} {fault = fault} m' splits' first' refused) =
-    let s = same first (subst (λ (ws : List (List ℕ)). Responds F left ws mid' out') (same_inner F word text text' inner inner' m splits m' splits') first') in
+    let s = same first (subst (λ (ws : List (List ℕ)). Responds F left ws mid' out')
+    (same_inner F word text text' inner inner' m splits m' splits') first') in
     never_both rest (subst (λ (n : ℕ). Refuses F n words fault) (sym s.lefts) refused)
 
 pub responds_alone : (F : Facts) (left a : ℕ) (words out : List (List ℕ)) (fault : ArgsFault) → Responds F left words a out
@@ -120,7 +122,8 @@ one_refusal {F = F} (following {left = left} {word = word} {text = text} {inner 
     splits') refused'))
 one_refusal {F = F} (following {left = left} {mid = mid} {word = word} {text = text} {inner = inner} {words = words} m splits first refused)
     (following {mid = mid'} {text = text'} {inner = inner'} {out = out'} {fault = fault} m' splits' first' refused') =
-    let s = same first (subst (λ (ws : List (List ℕ)). Responds F left ws mid' out') (same_inner F word text text' inner inner' m splits m' splits') first') in
+    let s = same first (subst (λ (ws : List (List ℕ)). Responds F left ws mid' out')
+    (same_inner F word text text' inner inner' m splits m' splits') first') in
     one_refusal refused (subst (λ (n : ℕ). Refuses F n words fault) (sym s.lefts) refused')
 
 pub refused_once : (F : Facts) (left : ℕ) (words : List (List ℕ)) (f g : ArgsFault) → Refuses F left words f

@@ -12,7 +12,8 @@ use Rattle.std.specs.Prelude.{nat_lt}
 
 -- For the refusals of a line: each follows from what the code tests.
 
-pub input_is_output : (output copy : List ℕ) (line : Line) → is_input output line ≡ true → copy ≡ output → input_fault (Some output) line ≡ Some (OutputIsInput copy)
+pub input_is_output : (output copy : List ℕ) (line : Line) → is_input output line ≡ true → copy ≡ output
+    → input_fault (Some output) line ≡ Some (OutputIsInput copy)
 input_is_output output copy line input same = rw (same, input) refl
 
 pub found_is_judged : (line : Line) (found : Option ArgsFault) (fault : ArgsFault) → found ≡ Some fault → judged line found ≡ Err fault

@@ -60,15 +60,22 @@ line_2 : read (codes "-dumpspecs") ≡ Ok (record empty { settings = record off 
 unfolding option_table
 line_2 = refl
 
-line_3 : read (codes "-pass-exit-codes a.c") ≡ Ok (record empty { inputs = File (codes "a.c") None ∷ []; settings = record off { pass_codes = true } })
+line_3 : read (codes "-pass-exit-codes a.c") ≡ Ok (record empty
+    { inputs = File (codes "a.c") None ∷ []; settings = record off { pass_codes = true } })
 unfolding option_table
 line_3 = refl
 
-line_4 : read (codes "-pipe a.c") ≡ Ok (record empty { switches = alone (codes "pipe") ∷ []; inputs = File (codes "a.c") None ∷ []; settings = record off { pipe = true } })
+line_4 : read (codes "-pipe a.c") ≡ Ok (record empty
+    { switches = alone (codes "pipe") ∷ []; inputs = File (codes "a.c") None ∷ []; settings = record off { pipe = true } })
 unfolding option_table
 line_4 = refl
 
-line_5 : read (codes "-v a.c") ≡ Ok (record empty { switches = alone (codes "v") ∷ []; inputs = File (codes "a.c") None ∷ []; settings = record off { verbose = true } })
+line_5 : read (codes "-v a.c") ≡ Ok (record empty {
+  switches = alone (codes "v") ∷ [];
+  inputs = File (codes "a.c") None ∷ [];
+  settings =
+      record off { verbose = true };
+})
 unfolding option_table
 line_5 = refl
 
@@ -88,35 +95,62 @@ line_9 : read (codes "-E -") ≡ Ok (record empty { switches = alone (codes "E")
 unfolding option_table
 line_9 = refl
 
-line_10 : read (codes "-specs=f a.c") ≡ Ok (record empty { switches = alone (codes "specs=f") ∷ []; inputs = File (codes "a.c") None ∷ []; settings = record off { specs = codes "f" ∷ [] } })
+line_10 : read (codes "-specs=f a.c") ≡ Ok (record empty
+    { switches = alone (codes "specs=f") ∷ []; inputs = File (codes "a.c") None ∷ []; settings = record off { specs = codes "f" ∷ [] } })
 unfolding option_table
 line_10 = refl
 
-line_11 : read (codes "--specs=g a.c") ≡ Ok (record empty { switches = alone (codes "specs=g") ∷ []; inputs = File (codes "a.c") None ∷ []; settings = record off { specs = codes "g" ∷ [] } })
+line_11 : read (codes "--specs=g a.c") ≡ Ok (record empty
+    { switches = alone (codes "specs=g") ∷ []; inputs = File (codes "a.c") None ∷ []; settings = record off { specs = codes "g" ∷ [] } })
 unfolding option_table
 line_11 = refl
 
-line_12 : read (codes "-x c a.q -xnone b.c -x asm -") ≡ Ok (record empty { inputs = File (codes "a.q") (Some (codes "c")) ∷ File (codes "b.c") None ∷ File (codes "-") (Some (codes "asm")) ∷ [] })
+line_12 : read (codes "-x c a.q -xnone b.c -x asm -")
+    ≡ Ok (record empty {
+      inputs = File (codes "a.q") (Some (codes "c")) ∷ File (codes "b.c") None ∷ File (codes "-") (Some (codes "asm"))
+          ∷ [];
+    })
 unfolding option_table
 line_12 = refl
 
-line_13 : read (codes "-o p a.c") ≡ Ok (record empty { switches = takes (codes "o") (codes "p") ∷ []; inputs = File (codes "a.c") None ∷ []; settings = record off { output = Some (codes "p") } })
+line_13 : read (codes "-o p a.c") ≡ Ok (record empty {
+  switches = takes (codes "o") (codes "p") ∷ [];
+  inputs = File (codes "a.c") None ∷ [];
+  settings =
+      record off { output = Some (codes "p") };
+})
 unfolding option_table
 line_13 = refl
 
-line_14 : read (codes "-op a.c") ≡ Ok (record empty { switches = takes (codes "o") (codes "p") ∷ []; inputs = File (codes "a.c") None ∷ []; settings = record off { output = Some (codes "p") } })
+line_14 : read (codes "-op a.c") ≡ Ok (record empty {
+  switches = takes (codes "o") (codes "p") ∷ [];
+  inputs = File (codes "a.c") None ∷ [];
+  settings =
+      record off { output = Some (codes "p") };
+})
 unfolding option_table
 line_14 = refl
 
-line_15 : read (codes "-o p -oq a.c") ≡ Ok (record empty { switches = takes (codes "o") (codes "p") ∷ takes (codes "o") (codes "q") ∷ []; inputs = File (codes "a.c") None ∷ []; settings = record off { output = Some (codes "q") } })
+line_15 : read (codes "-o p -oq a.c") ≡ Ok (record empty {
+  switches = takes (codes "o") (codes "p") ∷ takes (codes "o") (codes "q") ∷ [];
+  inputs = File (codes "a.c") None ∷ [];
+  settings =
+      record off { output = Some (codes "q") };
+})
 unfolding option_table
 line_15 = refl
 
-line_16 : read (codes "-B d a.c") ≡ Ok (record empty { switches = alone (codes "Bd") ∷ []; inputs = File (codes "a.c") None ∷ []; settings = record off { prefixes = codes "d" ∷ [] } })
+line_16 : read (codes "-B d a.c") ≡ Ok (record empty
+    { switches = alone (codes "Bd") ∷ []; inputs = File (codes "a.c") None ∷ []; settings = record off { prefixes = codes "d" ∷ [] } })
 unfolding option_table
 line_16 = refl
 
-line_17 : read (codes "-Bd -Be/ a.c") ≡ Ok (record empty { switches = alone (codes "Bd") ∷ alone (codes "Be/") ∷ []; inputs = File (codes "a.c") None ∷ []; settings = record off { prefixes = codes "d" ∷ codes "e/" ∷ [] } })
+line_17 : read (codes "-Bd -Be/ a.c") ≡ Ok (record empty {
+  switches = alone (codes "Bd") ∷ alone (codes "Be/") ∷ [];
+  inputs = File (codes "a.c") None ∷ [];
+  settings =
+      record off { prefixes = codes "d" ∷ codes "e/" ∷ [] };
+})
 unfolding option_table
 line_17 = refl
 
@@ -136,19 +170,23 @@ line_21 : read (codes "a.c -lm") ≡ Ok (record empty { inputs = File (codes "a.
 unfolding option_table
 line_21 = refl
 
-line_22 : read (codes "-D M a.c") ≡ Ok (record empty { switches = takes (codes "D") (codes "M") ∷ []; inputs = File (codes "a.c") None ∷ [] })
+line_22 : read (codes "-D M a.c") ≡ Ok (record empty
+    { switches = takes (codes "D") (codes "M") ∷ []; inputs = File (codes "a.c") None ∷ [] })
 unfolding option_table
 line_22 = refl
 
-line_23 : read (codes "-DM=1 a.c") ≡ Ok (record empty { switches = takes (codes "D") (codes "M=1") ∷ []; inputs = File (codes "a.c") None ∷ [] })
+line_23 : read (codes "-DM=1 a.c") ≡ Ok (record empty
+    { switches = takes (codes "D") (codes "M=1") ∷ []; inputs = File (codes "a.c") None ∷ [] })
 unfolding option_table
 line_23 = refl
 
-line_24 : read (codes "-U M -UN a.c") ≡ Ok (record empty { switches = takes (codes "U") (codes "M") ∷ takes (codes "U") (codes "N") ∷ []; inputs = File (codes "a.c") None ∷ [] })
+line_24 : read (codes "-U M -UN a.c") ≡ Ok (record empty
+    { switches = takes (codes "U") (codes "M") ∷ takes (codes "U") (codes "N") ∷ []; inputs = File (codes "a.c") None ∷ [] })
 unfolding option_table
 line_24 = refl
 
-line_25 : read (codes "-I d -Ie a.c") ≡ Ok (record empty { switches = takes (codes "I") (codes "d") ∷ takes (codes "I") (codes "e") ∷ []; inputs = File (codes "a.c") None ∷ [] })
+line_25 : read (codes "-I d -Ie a.c") ≡ Ok (record empty
+    { switches = takes (codes "I") (codes "d") ∷ takes (codes "I") (codes "e") ∷ []; inputs = File (codes "a.c") None ∷ [] })
 unfolding option_table
 line_25 = refl
 
@@ -156,11 +194,17 @@ line_26 : read (codes "-D  a.c") ≡ Ok (record empty { switches = takes (codes 
 unfolding option_table
 line_26 = refl
 
-line_27 : read (codes "-ex -Tx -MFx -includex a.c") ≡ Ok (record empty { switches = alone (codes "ex") ∷ alone (codes "Tx") ∷ alone (codes "MFx") ∷ alone (codes "includex") ∷ []; inputs = File (codes "a.c") None ∷ [] })
+line_27 : read (codes "-ex -Tx -MFx -includex a.c")
+    ≡ Ok (record empty {
+      switches = alone (codes "ex") ∷ alone (codes "Tx") ∷ alone (codes "MFx") ∷ alone (codes "includex") ∷ [];
+      inputs =
+          File (codes "a.c") None ∷ [];
+    })
 unfolding option_table
 line_27 = refl
 
-line_28 : read (codes "-Wa,a,,b a.c") ≡ Ok (record empty { inputs = File (codes "a.c") None ∷ []; asm_opts = codes "a" ∷ [] ∷ codes "b" ∷ [] })
+line_28 : read (codes "-Wa,a,,b a.c") ≡ Ok (record empty
+    { inputs = File (codes "a.c") None ∷ []; asm_opts = codes "a" ∷ [] ∷ codes "b" ∷ [] })
 unfolding option_table
 line_28 = refl
 
@@ -168,11 +212,13 @@ line_29 : read (codes "-Wa, a.c") ≡ Ok (record empty { inputs = File (codes "a
 unfolding option_table
 line_29 = refl
 
-line_30 : read (codes "-Wp,-MD,x a.c") ≡ Ok (record empty { inputs = File (codes "a.c") None ∷ []; cpp_opts = codes "-MD" ∷ codes "x" ∷ [] })
+line_30 : read (codes "-Wp,-MD,x a.c") ≡ Ok (record empty
+    { inputs = File (codes "a.c") None ∷ []; cpp_opts = codes "-MD" ∷ codes "x" ∷ [] })
 unfolding option_table
 line_30 = refl
 
-line_31 : read (codes "-Wl,-z,now a.o") ≡ Ok (record empty { inputs = LinkWord (codes "-z") ∷ LinkWord (codes "now") ∷ File (codes "a.o") None ∷ [] })
+line_31 : read (codes "-Wl,-z,now a.o") ≡ Ok (record empty
+    { inputs = LinkWord (codes "-z") ∷ LinkWord (codes "now") ∷ File (codes "a.o") None ∷ [] })
 unfolding option_table
 line_31 = refl
 
@@ -188,7 +234,12 @@ line_34 : read (codes "-Xlinker a,b a.o") ≡ Ok (record empty { inputs = LinkWo
 unfolding option_table
 line_34 = refl
 
-line_35 : read (codes "-O2 -Wall -std=c99 -W -fno-x --c99 a.c") ≡ Ok (record empty { switches = alone (codes "O2") ∷ alone (codes "Wall") ∷ alone (codes "std=c99") ∷ alone (codes "W") ∷ alone (codes "fno-x") ∷ alone (codes "-c99") ∷ []; inputs = File (codes "a.c") None ∷ [] })
+line_35 : read (codes "-O2 -Wall -std=c99 -W -fno-x --c99 a.c")
+    ≡ Ok (record empty {
+      switches = alone (codes "O2") ∷ alone (codes "Wall") ∷ alone (codes "std=c99") ∷ alone (codes "W")
+          ∷ alone (codes "fno-x") ∷ alone (codes "-c99") ∷ [];
+      inputs = File (codes "a.c") None ∷ [];
+    })
 unfolding option_table
 line_35 = refl
 
@@ -200,11 +251,22 @@ line_37 : read (codes "-- a.c") ≡ Ok (record empty { switches = alone (codes "
 unfolding option_table
 line_37 = refl
 
-line_38 : read (codes "-o - -E -") ≡ Ok (record empty { switches = takes (codes "o") (codes "-") ∷ alone (codes "E") ∷ []; inputs = File (codes "-") None ∷ []; settings = record off { output = Some (codes "-") } })
+line_38 : read (codes "-o - -E -") ≡ Ok (record empty {
+  switches = takes (codes "o") (codes "-") ∷ alone (codes "E") ∷ [];
+  inputs = File (codes "-") None ∷ [];
+  settings =
+      record off { output = Some (codes "-") };
+})
 unfolding option_table
 line_38 = refl
 
-line_39 : read (codes "-o /dev/null -c /dev/null") ≡ Ok (record empty { switches = takes (codes "o") (codes "/dev/null") ∷ alone (codes "c") ∷ []; inputs = File (codes "/dev/null") None ∷ []; settings = record off { output = Some (codes "/dev/null") } })
+line_39 : read (codes "-o /dev/null -c /dev/null")
+    ≡ Ok (record empty {
+      switches = takes (codes "o") (codes "/dev/null") ∷ alone (codes "c") ∷ [];
+      inputs =
+          File (codes "/dev/null") None ∷ [];
+      settings = record off { output = Some (codes "/dev/null") };
+    })
 unfolding option_table
 line_39 = refl
 
@@ -228,11 +290,21 @@ line_44 : read (codes "-S a.c b.c -o a.c") ≡ Err OutputWithMany
 unfolding option_table
 line_44 = refl
 
-line_45 : read (codes "a.c b.c -o x") ≡ Ok (record empty { switches = takes (codes "o") (codes "x") ∷ []; inputs = File (codes "a.c") None ∷ File (codes "b.c") None ∷ []; settings = record off { output = Some (codes "x") } })
+line_45 : read (codes "a.c b.c -o x") ≡ Ok (record empty {
+  switches = takes (codes "o") (codes "x") ∷ [];
+  inputs = File (codes "a.c") None ∷ File (codes "b.c") None ∷ [];
+  settings =
+      record off { output = Some (codes "x") };
+})
 unfolding option_table
 line_45 = refl
 
-line_46 : read (codes "-o a.c -o x a.c") ≡ Ok (record empty { switches = takes (codes "o") (codes "a.c") ∷ takes (codes "o") (codes "x") ∷ []; inputs = File (codes "a.c") None ∷ []; settings = record off { output = Some (codes "x") } })
+line_46 : read (codes "-o a.c -o x a.c") ≡ Ok (record empty {
+  switches = takes (codes "o") (codes "a.c") ∷ takes (codes "o") (codes "x") ∷ [];
+  inputs = File (codes "a.c") None ∷ [];
+  settings =
+      record off { output = Some (codes "x") };
+})
 unfolding option_table
 line_46 = refl
 
@@ -264,11 +336,18 @@ line_53 : read (codes "a.c --jobsx") ≡ Err (BadJobs (codes "--jobsx"))
 unfolding option_table
 line_53 = refl
 
-line_54 : read (codes "-dumpspecs -S -") ≡ Ok (record empty { switches = alone (codes "S") ∷ []; inputs = File (codes "-") None ∷ []; settings = record off { dump = true } })
+line_54 : read (codes "-dumpspecs -S -") ≡ Ok (record empty
+    { switches = alone (codes "S") ∷ []; inputs = File (codes "-") None ∷ []; settings = record off { dump = true } })
 unfolding option_table
 line_54 = refl
 
-line_55 : read (codes "-dumpspecs -c a.c b.c -o a.c") ≡ Ok (record empty { switches = alone (codes "c") ∷ takes (codes "o") (codes "a.c") ∷ []; inputs = File (codes "a.c") None ∷ File (codes "b.c") None ∷ []; settings = record off { dump = true; output = Some (codes "a.c") } })
+line_55 : read (codes "-dumpspecs -c a.c b.c -o a.c")
+    ≡ Ok (record empty {
+      switches = alone (codes "c") ∷ takes (codes "o") (codes "a.c") ∷ [];
+      inputs =
+          File (codes "a.c") None ∷ File (codes "b.c") None ∷ [];
+      settings = record off { dump = true; output = Some (codes "a.c") };
+    })
 unfolding option_table
 line_55 = refl
 
@@ -276,7 +355,13 @@ line_56 : read (codes "-dumpspecs -o") ≡ Err (MissingArgument (codes "-o"))
 unfolding option_table
 line_56 = refl
 
-line_57 : read (codes "--jobs=9 a.c --jobs=64 -v --jobs=1 --jobs=10") ≡ Ok (record empty { switches = alone (codes "v") ∷ []; inputs = File (codes "a.c") None ∷ []; settings = record off { verbose = true; jobs = 10 } })
+line_57 : read (codes "--jobs=9 a.c --jobs=64 -v --jobs=1 --jobs=10")
+    ≡ Ok (record empty {
+      switches = alone (codes "v") ∷ [];
+      inputs = File (codes "a.c") None ∷ [];
+      settings =
+          record off { verbose = true; jobs = 10 };
+    })
 unfolding option_table
 line_57 = refl
 
@@ -287,7 +372,8 @@ line_58 = refl
 -- numbers of jobs, and words that are not such numbers
 numbers : map (λ word. read_words (word ∷ codes "a.c" ∷ [])) (codes "--jobs=1" ∷ codes "--jobs=8" ∷ codes "--jobs=30" ∷ codes "--jobs=63" ∷
     codes "--jobs=64" ∷ [])
-    ≡ map (λ jobs. Ok (record empty { inputs = File (codes "a.c") None ∷ []; settings = record off { jobs = jobs } })) (1 ∷ 8 ∷ 30 ∷ 63 ∷ 64 ∷ [])
+    ≡ map (λ jobs. Ok (record empty { inputs = File (codes "a.c") None ∷ []; settings = record off { jobs = jobs } }))
+    (1 ∷ 8 ∷ 30 ∷ 63 ∷ 64 ∷ [])
 unfolding option_table
 numbers = refl
 
@@ -307,7 +393,8 @@ separate = codes "-A" ∷ codes "-e" ∷ codes "-u" ∷ codes "-z" ∷ codes "-T
     "-isysroot" ∷ codes "-isystem" ∷ codes "-iwithprefix" ∷ codes "-iwithprefixbefore" ∷ codes "-aux-info" ∷ codes "--param" ∷ []
 
 takes_next : map (λ option. read_words (codes "a.c" ∷ option ∷ codes "-x" ∷ [])) separate
-    ≡ map (λ option. Ok (record empty { switches = takes (drop 1 option) (codes "-x") ∷ []; inputs = File (codes "a.c") None ∷ [] })) separate
+    ≡ map (λ option. Ok (record empty { switches = takes (drop 1 option) (codes "-x") ∷ []; inputs = File (codes "a.c") None ∷ [] }))
+    separate
 unfolding option_table
 takes_next = refl
 
@@ -323,7 +410,12 @@ given_1 = refl
 
 given_2 : line_judged true (item effect.Switch (codes "--gdrv-dep=x.d") [] ∷ item effect.Output (codes "-o") (codes "x") ∷ item effect.File
     (codes "a.o") [] ∷ [])
-    ≡ Ok (record empty { switches = alone (codes "-gdrv-dep=x.d") ∷ takes (codes "o") (codes "x") ∷ []; inputs = File (codes "a.o") None ∷ []; settings = record off { from_file = true; output = Some (codes "x") } })
+    ≡ Ok (record empty {
+      switches = alone (codes "-gdrv-dep=x.d") ∷ takes (codes "o") (codes "x") ∷ [];
+      inputs =
+          File (codes "a.o") None ∷ [];
+      settings = record off { from_file = true; output = Some (codes "x") };
+    })
 given_2 = refl
 
 given_3 : line_judged false (item effect.Output (codes "-o") (codes "a.c") ∷ item effect.File (codes "a.c") [] ∷ [])
@@ -333,7 +425,13 @@ given_3 = refl
 given_4 : line_judged false [] ≡ Err NoInputs
 given_4 = refl
 
-given_5 : line_judged false (item effect.Switch (codes "-c") [] ∷ item effect.File (codes "a.c") [] ∷ item effect.File (codes "a.o") [] ∷ item
+given_5 : line_judged false (item effect.Switch (codes "-c") [] ∷ item effect.File (codes "a.c") [] ∷ item effect.File (codes "a.o") []
+    ∷ item
     effect.Output (codes "-o") (codes "x") ∷ [])
-    ≡ Ok (record empty { switches = alone (codes "c") ∷ takes (codes "o") (codes "x") ∷ []; inputs = File (codes "a.c") None ∷ File (codes "a.o") None ∷ []; settings = record off { output = Some (codes "x") } })
+    ≡ Ok (record empty {
+      switches = alone (codes "c") ∷ takes (codes "o") (codes "x") ∷ [];
+      inputs =
+          File (codes "a.c") None ∷ File (codes "a.o") None ∷ [];
+      settings = record off { output = Some (codes "x") };
+    })
 given_5 = refl

@@ -6,8 +6,11 @@ use Rattle.drv_system.specs.Known.{◌>>=◌, Is, Known, asked}
 use Rattle.drv_system.specs.declared.event.ReadAnswer.TheVariants.{Failed, Missing, Read, TooLarge}
 use Rattle.drv_system.specs.declared.event.ReadAnswer.{ReadAnswer}
 use Rattle.drv_words.specs.Bytes.{at_sign}
+use Rattle.drv_words.specs.Counts.{words_in}
 use Rattle.drv_words.specs.Response.{Splits}
-use Rattle.std.specs.Prelude.{◌≡◌, ◌⊎◌, ◌==◌, Err, List, [], ◌∷◌, ◌++◌, None, Ok, Option, Result, Some, if◌then◌else◌, nat_lt, ℕ, zero, suc}
+use Rattle.std.specs.Prelude.{◌≡◌, ◌⊎◌, ◌==◌, Bool, Err, List, [], ◌∷◌, ◌++◌, None, Ok, Option, Result, Some, false, if◌then◌else◌, map}
+use Rattle.std.specs.Prelude.{nat_lt, ℕ, zero}
+use Rattle.std.specs.Prelude.{suc}
 
 -- Response files (GCC manual, "Overall Options", @file; the budget and the sizes are this project's profile).
 
@@ -65,3 +68,21 @@ pub data Refuses (F : Facts) : ℕ → List (List ℕ) → ArgsFault → Type 0 
 abbrev pub Expands : Facts → ℕ → List (List ℕ) → Result Expanded ArgsFault → Type 0
 Expands F left args (Ok expanded) = (left' : ℕ) × Responds F left args left' expanded.words × (expanded.from_file ≡ nat_lt left' left)
 Expands F left args (Err fault) = (fault ≡ Memory) ⊎ Refuses F left args fault
+
+-- A limit on the words of one file, if there is one (gcc has none; this project's profile): a file of more words counts as one that is too
+-- large.
+
+abbrev pub is_over : Option ℕ → List ℕ → Bool
+is_over None text = false
+is_over (Some most) text = nat_lt most (words_in text)
+
+abbrev pub judged : Option ℕ → ReadAnswer → ReadAnswer
+judged most (Read text) = if is_over most text then TooLarge else Read text
+judged most Missing = Missing
+judged most Failed = Failed
+judged most TooLarge = TooLarge
+
+-- the facts with each file judged by the limit
+abbrev pub limited : Option ℕ → Facts → Facts
+limited None F = F
+limited (Some most) F = record F { reads = map (λ pair. (pair.0, judged (Some most) pair.1)) F.reads }

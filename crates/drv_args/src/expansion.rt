@@ -1,16 +1,18 @@
 //! Expands response files.
 
-ghost use Rattle.drv_args.specs.Expansion.{Expands, file_named};
+ghost use Rattle.drv_args.specs.Expansion.{Expands, file_named, is_over, limited};
 ghost use Rattle.drv_args.specs.Code.Replacing.{IsPut, IsReplaced};
 ghost use Rattle.drv_system.specs.Asking.{Asks, Extends};
 ghost use Rattle.drv_system.specs.Code.Asked.{Asked};
 ghost use Rattle.drv_system.specs.Facts.{Facts};
+ghost use Rattle.drv_words.specs.Response.{SplitsOnto};
 ghost use Rattle.std.specs.List.{list_any};
-ghost use Rattle.std.specs.Prelude.{◌≡◌, ◌++◌, IfOk, OnOk, drop, is_some, reverse, take};
+ghost use Rattle.std.specs.Prelude.{◌≡◌, ◌++◌, IfOk, IsTrue, OnOk, Some, drop, is_some, not, reverse};
+ghost use Rattle.std.specs.Prelude.{take};
 
 use crate::{ArgsFault, Expanded};
 use drv_system::{FactTable, Outside, ReadAnswer, System};
-use drv_words::{Listing, Word, split_onto};
+use drv_words::{Listing, Word, split_onto, split_within};
 use std::alloc::{AllocError, Global};
 
 /// The most replacements.
@@ -26,18 +28,37 @@ fn referenced_path(alloc: Global, word: &Word) -> Result<Option<Word>, AllocErro
     }
 }
 
+/// Adds the words of a text to others, unless they are more than the limit. Returns whether they
+/// are within it.
+fn add_words(
+    alloc: Global,
+    words: &mut Listing<Word>,
+    text: &[u8],
+    most: Option<usize>,
+) -> Result<bool, AllocError>
+    ensures fits { IfOk result (λ fits. fits ≡ not (is_over most text.now)) }
+    ensures splits { IfOk result (λ fits. IsTrue fits → SplitsOnto text.now words.old words.new) }
+{
+    let Some(most) = most else {
+        split_onto(alloc, words, text)?;
+        return Ok(true);
+    };
+    split_within(alloc, words, text, most)
+}
+
 /// If a word names a response file that can be read, adds the words of that file to `words`.
 /// Returns the index of the first of them.
 #[tactic(auto, using(drv_system::proofs::AskedCalls::asked_further))]
 fn replace_word<S: System>(
     alloc: Global,
     word: &Word,
+    most: Option<usize>,
     outside: &mut Outside<'_, S>,
     words: &mut Listing<Word>,
 ) -> Result<Option<usize>, ArgsFault>
     ensures asks { Asked S.events outside.old outside.new }
     ensures replaces { (F : Facts) → Extends outside.new.facts.now F
-        → IsReplaced F word.now words.old words.new result }
+        → IsReplaced (limited most F) word.now words.old words.new result }
 {
     let Some(path) = referenced_path(alloc, word)? else {
         return Ok(None);
@@ -46,8 +67,10 @@ fn replace_word<S: System>(
     match outside.facts.read_answer(&path) {
         ReadAnswer::Read(text) => {
             let start = words.len();
-            split_onto(alloc, words, text.as_bytes())?;
-            Ok(Some(start))
+            if add_words(alloc, words, text.as_bytes(), most)? {
+                return Ok(Some(start));
+            }
+            Err(ArgsFault::ResponseTooLarge(path))
         }
         ReadAnswer::Missing | ReadAnswer::Failed => Ok(None),
         ReadAnswer::TooLarge => Err(ArgsFault::ResponseTooLarge(path)),
@@ -109,17 +132,19 @@ fn put_words(
 fn expand_all<S: System>(
     alloc: Global,
     args: Listing<Word>,
+    most: Option<usize>,
     outside: &mut Outside<'_, S>,
 ) -> Result<Expanded, ArgsFault>
     ensures asks { Asked S.events outside.old outside.new }
-    ensures expands { (F : Facts) → Extends outside.new.facts.now F → Expands F 2000 args result }
+    ensures expands { (F : Facts) → Extends outside.new.facts.now F
+        → Expands (limited most F) 2000 args result }
 {
     let mut stack = args.into_vec();
     stack.reverse();
     let mut words = Listing::new(alloc);
     let mut left = MOST_FILES;
     while let Some(word) = stack.pop() {
-        match replace_word(alloc, &word, outside, &mut words)? {
+        match replace_word(alloc, &word, most, outside, &mut words)? {
             None => words.push(word)?,
             Some(_) if left == 0 => return Err(ArgsFault::TooManyFiles),
             Some(start) => {
@@ -131,6 +156,27 @@ fn expand_all<S: System>(
     Ok(Expanded {
         words,
         from_file: left < MOST_FILES,
+    })
+}
+
+/// Replaces each argument that names a file, if there is one.
+fn expand_by<S: System>(
+    alloc: Global,
+    args: Listing<Word>,
+    most: Option<usize>,
+    sys: &mut S,
+    facts: &mut FactTable,
+) -> Result<Expanded, ArgsFault>
+    ensures asks { Asks (S.events sys.old) (S.events sys.new) facts.old facts.new }
+    ensures expands { (F : Facts) → Extends facts.new F
+        → Expands (limited most F) 2000 args result }
+{
+    if have_references(args.as_slice()) {
+        return expand_all(alloc, args, most, &mut Outside { sys, facts });
+    }
+    Ok(Expanded {
+        words: args,
+        from_file: false,
     })
 }
 
@@ -149,11 +195,24 @@ pub fn expand<S: System>(
     ensures asks { Asks (S.events sys.old) (S.events sys.new) facts.old facts.new }
     ensures expands { (F : Facts) → Extends facts.new F → Expands F 2000 args result }
 {
-    if have_references(args.as_slice()) {
-        return expand_all(alloc, args, &mut Outside { sys, facts });
-    }
-    Ok(Expanded {
-        words: args,
-        from_file: false,
-    })
+    expand_by(alloc, args, None, sys, facts)
+}
+
+/// Replaces arguments as [`expand`] does, with a limit on the words of one file.
+///
+/// # Errors
+/// Those of [`expand`], and `ResponseTooLarge` in place of the words of a file that has more than
+/// `most`.
+pub fn expand_within<S: System>(
+    alloc: Global,
+    args: Listing<Word>,
+    most: usize,
+    sys: &mut S,
+    facts: &mut FactTable,
+) -> Result<Expanded, ArgsFault>
+    ensures asks { Asks (S.events sys.old) (S.events sys.new) facts.old facts.new }
+    ensures expands { (F : Facts) → Extends facts.new F
+        → Expands (limited (Some most) F) 2000 args result }
+{
+    expand_by(alloc, args, Some(most), sys, facts)
 }

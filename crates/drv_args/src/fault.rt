@@ -13,7 +13,7 @@ pub enum ArgsFault {
     /// More than 2,000 words were replaced by response files.
     #[error("too many @-files")]
     TooManyFiles,
-    /// The response file of this path has more than 16,777,216 bytes.
+    /// The response file of this path has more than 16,777,216 bytes, or more words than a limit.
     #[error("response file of more than 16777216 bytes")]
     ResponseTooLarge(Word),
     /// There are more than 65,536 words.

@@ -12,7 +12,7 @@ mod line;
 mod option_table;
 mod reading;
 
-pub use expansion::expand;
+pub use expansion::{expand, expand_within};
 pub use fault::ArgsFault;
 pub use items::{Item, line_of};
 pub use judging::stops;

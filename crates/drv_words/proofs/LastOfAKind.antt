@@ -36,8 +36,10 @@ parted_nowhere mark (b ∷ name) none = rw (
 pub parted_at : (mark i : ℕ) (name : List ℕ) → i < length name → get_or name i 0 ≡ mark → parted mark (drop (i + 1) name) ≡ None
     → Some (take i name, take (length name - (i + 1)) (drop (i + 1) name)) ≡ parted mark name
 parted_at mark i name within is none =
-    let all : take (length name - (i + 1)) (drop (i + 1) name) ≡ drop (i + 1) name = take_all (length name - (i + 1)) (drop (i + 1) name) (omega (arith, length-drop (i + 1) name)) in
-    let here : parted mark (drop i name) ≡ Some ([], drop (i + 1) name) = ap (parted mark) (drop_more name i 0 within) ∙ parted_here mark (get_or name i 0) (drop (i + 1) name) (equal (get_or name i 0) mark is) none in
+    let all : take (length name - (i + 1)) (drop (i + 1) name) ≡ drop (i + 1) name =
+    take_all (length name - (i + 1)) (drop (i + 1) name) (omega (arith, length-drop (i + 1) name)) in
+    let here : parted mark (drop i name) ≡ Some ([], drop (i + 1) name) = ap (parted mark) (drop_more name i 0 within)
+    ∙ parted_here mark (get_or name i 0) (drop (i + 1) name) (equal (get_or name i 0) mark is) none in
     ap (λ rest. Some (take i name, rest)) all
     ∙ sym (ap (λ front. Some (front, drop (i + 1) name)) (append-nil (take i name)))
     ∙ sym (parted_after mark (take i name) (drop i name) [] (drop (i + 1) name) here)

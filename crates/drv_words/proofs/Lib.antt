@@ -1,3 +1,4 @@
+pub mod Counting
 pub mod LastOfAKind
 mod Ordered
 pub mod ReadBack

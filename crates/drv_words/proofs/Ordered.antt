@@ -47,7 +47,8 @@ rises a b (u ∷ us) (v ∷ vs) same small l =
     let below : u < 256 = small 0 in
     rises (a * 256 + u) (b * 256 + v) us vs (omega arith) (λ k. small (suc k)) (omega arith)
 
-numbers_order : (a : ℕ) (us vs : List ℕ) → length us ≡ length vs → Bytes us → Bytes vs → nat_cmp (spelled a us) (spelled a vs) ≡ slice_cmp nat_cmp us vs
+numbers_order : (a : ℕ) (us vs : List ℕ) → length us ≡ length vs → Bytes us → Bytes vs
+    → nat_cmp (spelled a us) (spelled a vs) ≡ slice_cmp nat_cmp us vs
 numbers_order a [] [] same small others = equal a
 numbers_order a [] (v ∷ vs) same small others = absurd (omega arith)
 numbers_order a (u ∷ us) [] same small others = absurd (omega arith)

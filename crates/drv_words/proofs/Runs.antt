@@ -150,12 +150,14 @@ pub word_goes : (s : Splitter) (text run word rest : List ℕ) (words : List (Li
     → words_of (record s { words = words }) (take (length rest - 1) (drop 1 rest)) ≡ words_of s text
 word_goes s text run word [] words count space none is counted some front back long tests space_is holds closed added copied = absurd
     (none_there long)
-word_goes s text run word (byte ∷ following) words count space none is counted some front back long tests space_is holds closed added copied =
+word_goes s text run word (byte ∷ following) words count space none is counted some front back long tests space_is holds closed added
+    copied =
     let here : is_space byte ≡ true = sym tests ∙ space_is in
     let empty : s.word ≡ None = no_word s.word none holds closed in
     let e : length (byte ∷ following) - 1 ≡ length following = omega arith in
     let left : take (length (byte ∷ following) - 1) following ≡ following = ap (λ n. take n following) e ∙ take-length following in
-    let over : words_of (outside (s.words ++ run ∷ []) None) following ≡ words_of (outside s.words (Some run)) (byte ∷ following) = rw here refl in
+    let over : words_of (outside (s.words ++ run ∷ []) None) following ≡ words_of (outside s.words (Some run)) (byte ∷ following) =
+    rw here refl in
     ap (words_of (record s { words = words })) left
     ∙ ap (λ (t : Splitter). words_of (record t { words = words }) following) (outside_is s is)
     ∙ ap (λ held. words_of (outside words held) following) empty

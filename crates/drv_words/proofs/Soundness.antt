@@ -92,7 +92,8 @@ has_byte b word = grind (arith, nat_tests)
 bare_more : (word : List ℕ) (b : ℕ) → is_bare word ≡ true → is_plain b ≡ true → is_bare (word ++ b ∷ []) ≡ true
 bare_more [] b bare e = both_true (has_byte b []) (all_more [] b refl e)
 bare_more (c ∷ word) b bare e =
-    let both : (nat_lt 0 (length (c ∷ word)) ≡ true) × (list_all is_plain (c ∷ word) ≡ true) = and_both (nat_lt 0 (length (c ∷ word))) (list_all is_plain (c ∷ word)) bare in
+    let both : (nat_lt 0 (length (c ∷ word)) ≡ true) × (list_all is_plain (c ∷ word) ≡ true) =
+    and_both (nat_lt 0 (length (c ∷ word))) (list_all is_plain (c ∷ word)) bare in
     both_true (has_byte c (word ++ b ∷ [])) (all_more (c ∷ word) b both.1 e)
 
 -- the newline of a line, after the rest of the line
@@ -136,7 +137,8 @@ word_takes : (program : Option (List ℕ)) (lines : List PlanLine) (words : List
     → let after = r.with_word (at lines program words word place) in
     (text ≡ lines_text lines ++ open_text after.program after.words) × NoWords after.program after.words
 word_takes None lines words word text place is none = (
-  is ∙ ap (λ ws. lines_text lines ++ words_text ws ++ 32 ∷ quoted word) none ∙ ap (λ t. t ++ 32 ∷ quoted word) (append-nil (lines_text lines))
+  is ∙ ap (λ ws. lines_text lines ++ words_text ws ++ 32 ∷ quoted word) none
+      ∙ ap (λ t. t ++ 32 ∷ quoted word) (append-nil (lines_text lines))
       ∙ ap (λ t. lines_text lines ++ t) (sym (append-nil (32 ∷ quoted word)) ∙ ap (λ ws. words_text (word ∷ ws)) (sym none)),
   tt,
 )

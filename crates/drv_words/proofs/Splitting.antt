@@ -63,7 +63,7 @@ pieces_split (more {text} {bytes} {mid} {word} {rest} piece pieces) words front 
     piece_splits piece words (Some front) ∙ pieces_split pieces words (front ++ bytes)
     ∙ ap (λ w. words_of (at (words ++ w ∷ []) None None false) rest) (append_assoc front bytes word)
 
-splits_split : {text : List ℕ} {words : List (List ℕ)} → Splits text words → (front : List (List ℕ))
+pub splits_split : {text : List ℕ} {words : List (List ℕ)} → Splits text words → (front : List (List ℕ))
     → words_of (at front None None false) text ≡ front ++ words
 splits_split nothing front = sym (append-nil front)
 splits_split (space {b} {rest} {words} s others) front = rw s (splits_split others front)

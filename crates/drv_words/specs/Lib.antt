@@ -1,5 +1,6 @@
 pub mod Bytes
 pub mod Code
+pub mod Counts
 pub mod FileNames
 pub mod Gives
 pub mod Lines

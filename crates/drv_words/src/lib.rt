@@ -2,6 +2,7 @@
 #![tactic(auto)]
 
 mod answers;
+mod copies;
 mod file_names;
 mod line_end;
 mod listing;
@@ -15,6 +16,7 @@ mod steps;
 mod word;
 
 pub use answers::{Answer, ClaimAnswer, NotStarted, RemoveAnswer, StartAnswer, WaitAnswer};
+pub use copies::{copy_word, copy_words};
 pub use file_names::{base, parted, stem, suffixed};
 pub use listing::Listing;
 pub use ordering::order;
@@ -22,6 +24,6 @@ pub use plan::{Command, Group, Job, Plan, PlanLine, Temp};
 pub use printing::{plan_lines, render, render_plan};
 pub use quoting::quote;
 pub use reading_back::{one_list_of_lines, read_back};
-pub use response::{one_list_of_words, respond_text, split, split_onto};
+pub use response::{one_list_of_words, respond_text, split, split_onto, split_within};
 pub use steps::{Note, Place, RunEvent, Step};
 pub use word::Word;

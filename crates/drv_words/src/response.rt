@@ -1,13 +1,14 @@
 //! The text of response files, both ways.
 
+ghost use Rattle.drv_words.specs.Counts.{words_in};
 ghost use Rattle.drv_words.specs.Response.{Splits, SplitsOnto, is_marked, is_quote, is_space};
 ghost use Rattle.drv_words.specs.Response.{marked, response, response_text};
 ghost use Rattle.drv_words.specs.Code.Splitter.{following, ended, is_outside, opened, plain_length};
 ghost use Rattle.drv_words.specs.Code.Splitter.{plain_step, quoted_step, step, with_byte};
 ghost use Rattle.drv_words.specs.Code.Splitter.{with_bytes, words_of};
 ghost use Rattle.std.specs.List.{position};
-ghost use Rattle.std.specs.Prelude.{◌≡◌, ◌<◌, ◌≤◌, ◌∷◌, ◌++◌, [], IfOk, List, OnOk, length, true};
-ghost use Rattle.std.specs.Prelude.{ℕ};
+ghost use Rattle.std.specs.Prelude.{◌≡◌, ◌<◌, ◌≤◌, ◌-◌, ◌∷◌, ◌++◌, [], IfOk, IsTrue, List, OnOk};
+ghost use Rattle.std.specs.Prelude.{length, nat_lt, not, true, ℕ};
 
 use crate::{Listing, Word};
 use std::alloc::{AllocError, Global};
@@ -256,6 +257,47 @@ pub fn split_onto(alloc: Global, words: &mut Listing<Word>, text: &[u8]) -> Resu
     Ok(())
 }
 
+/// Splits a text and appends its words to others, but goes no further than to one word more than
+/// `most`.
+fn split_front(
+    alloc: Global,
+    words: Listing<Word>,
+    text: &[u8],
+    most: usize,
+) -> Result<Listing<Word>, AllocError>
+    ensures all { IfOk result (λ made. length made - length words ≤ most
+        → made ≡ words_of (following words) text.now) }
+    ensures more { IfOk result (λ made. most < length made - length words
+        → most < length (words_of (following words) text.now) - length words) }
+{
+    let others = words.len();
+    let mut splitter = Splitter::new(words);
+    splitter.words.reserve(room_for(text))?;
+    let mut left = text;
+    while !left.is_empty() && splitter.words.len().saturating_sub(others) <= most {
+        left = splitter.take_front(alloc, left)?;
+    }
+    splitter.end_word()?;
+    Ok(splitter.words)
+}
+
+/// Appends the words of a response file's text, as [`split`] returns them, to others, if the text
+/// has at most `most` words. Returns whether it has. If it has more, only one more is made.
+pub fn split_within(
+    alloc: Global,
+    words: &mut Listing<Word>,
+    text: &[u8],
+    most: usize,
+) -> Result<bool, AllocError>
+    ensures counts { IfOk result (λ fits. fits ≡ not (nat_lt most (words_in text.now))) }
+    ensures splits { IfOk result (λ fits. IsTrue fits → SplitsOnto text.now words.old words.new) }
+{
+    let others = mem::replace(words, Listing::new(alloc));
+    let before = others.len();
+    *words = split_front(alloc, others, text, most)?;
+    Ok(words.len().saturating_sub(before) <= most)
+}
+
 /// The words of a response file's text: separated by white space, with quoted runs and backslashes
 /// (GCC manual, "Overall Options", `@file`). Every text has exactly one list of words.
 pub fn split(alloc: Global, text: &[u8]) -> Result<Listing<Word>, AllocError>
@@ -266,10 +308,12 @@ pub fn split(alloc: Global, text: &[u8]) -> Result<Listing<Word>, AllocError>
     split_text(alloc, Listing::new(alloc), text)
 }
 
-/// A law: a text has exactly one list of words.
+/// A law: a text has exactly one list of words, and their number is that which `words_in` says.
 pub fn one_list_of_words()
     ensures some { (text : List ℕ) → (words : List (List ℕ)) × Splits text words }
     ensures one { (text : List ℕ) (a b : List (List ℕ)) → Splits text a → Splits text b → a ≡ b }
+    ensures number { (text : List ℕ) (words : List (List ℕ)) → Splits text words
+        → length words ≡ words_in text }
 {}
 
 /// Adds the bytes of a word, with a backslash before those that need one.

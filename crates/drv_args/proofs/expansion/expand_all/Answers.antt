@@ -1,5 +1,6 @@
 use Rattle.drv_args.proofs.Expanding.{end_goes, expands_memory, expands_refused, itself_goes, large_refused, many_refused, put_goes}
 use Rattle.drv_args.specs.Code.Replacing.{IsReplaced}
+use Rattle.drv_args.specs.Expansion.{limited}
 use Rattle.drv_system.proofs.AskedCalls.{asked_further, extends_before}
 use Rattle.std.proofs.Common.{◌≡◌, ◌-◌, ◌∷◌, ◌++◌, ◌∙◌, [], ap, length, Ok, Option, arith, inr, refl, subst, ℕ}
 use Rattle.std.proofs.lemmas.List.{nil_from_length}
@@ -8,32 +9,43 @@ use Rattle.drv_args.proofs.expansion.expand_all.Goals as goal
 pub returns-in_err-replace_word-clause-expands : goal.returns-in_err-replace_word-clause-expands
 returns-in_err-replace_word-clause-expands g c F e =
     let goes = c.loop-word.invariant.goes F (extends_before c.replace_word.ensures.asks e) in
-    expands_refused F c.args.args c.in_err-replace_word.field-0.0 c.from_residual.result c.from_residual.ensures.1
-    (large_refused F c.loop-word.left c.loop-word.stack.items c.pop.new.self.items c.in-Some.word c.loop-word.words c.replace_word.new.words c.args.args c.in_err-replace_word.field-0.0 c.in-Some.ensures.items (c.in_err-replace_word.ensures.replaces F e) goes)
+    expands_refused (limited c.args.most F) c.args.args c.in_err-replace_word.field-0.0 c.from_residual.result c.from_residual.ensures.1
+    (large_refused (limited c.args.most F) c.loop-word.left c.loop-word.stack.items c.pop.new.self.items c.in-Some.word c.loop-word.words
+    c.replace_word.new.words c.args.args c.in_err-replace_word.field-0.0 c.in-Some.ensures.items
+    (c.in_err-replace_word.ensures.replaces F e) goes)
 
 pub loop-word-preserved-in-Continue-branch-3 : goal.loop-word-preserved-in-Continue-branch-3
 loop-word-preserved-in-Continue-branch-3 g c = record {
   asks = asked_further c.loop-word.invariant.asks c.replace_word.ensures.asks;
   goes = λ F e.
-      let replaces = subst (λ (o : Option ℕ). IsReplaced F c.in-Some.word c.loop-word.words c.replace_word.new.words (Ok o)) c.in-None.is (c.in_ok-replace_word.ensures.replaces F e) in
-      itself_goes F c.loop-word.left c.loop-word.stack.items c.pop.new.self.items c.in-Some.word c.loop-word.words c.push.new.self c.args.args
-      c.in-Some.ensures.items (c.in_ok-push-in-None.ensures.ok ∙ ap (λ words. words ++ c.in-Some.word ∷ []) replaces.1) replaces.0 (c.loop-word.invariant.goes F (extends_before c.replace_word.ensures.asks e));
+      let replaces = subst (λ (o : Option ℕ). IsReplaced (limited c.args.most F) c.in-Some.word c.loop-word.words c.replace_word.new.words
+      (Ok o)) c.in-None.is (c.in_ok-replace_word.ensures.replaces F e) in
+      itself_goes (limited c.args.most F) c.loop-word.left c.loop-word.stack.items c.pop.new.self.items c.in-Some.word c.loop-word.words
+      c.push.new.self c.args.args
+      c.in-Some.ensures.items (c.in_ok-push-in-None.ensures.ok ∙ ap (λ words. words ++ c.in-Some.word ∷ []) replaces.1) replaces.0
+      (c.loop-word.invariant.goes F (extends_before c.replace_word.ensures.asks e));
   bound = c.loop-word.invariant.bound;
 }
 
 pub returns-in-Some-2-clause-expands : goal.returns-in-Some-2-clause-expands
 returns-in-Some-2-clause-expands g c F e =
-    let replaces = subst (λ (o : Option ℕ). IsReplaced F c.in-Some.word c.loop-word.words c.replace_word.new.words (Ok o)) c.in-Some-2.is (c.in_ok-replace_word.ensures.replaces F e) in
-    inr (many_refused F c.loop-word.left c.loop-word.stack.items c.pop.new.self.items c.in-Some.word c.loop-word.words c.replace_word.new.words c.args.args
+    let replaces = subst (λ (o : Option ℕ). IsReplaced (limited c.args.most F) c.in-Some.word c.loop-word.words c.replace_word.new.words
+    (Ok o)) c.in-Some-2.is (c.in_ok-replace_word.ensures.replaces F e) in
+    inr (many_refused (limited c.args.most F) c.loop-word.left c.loop-word.stack.items c.pop.new.self.items c.in-Some.word c.loop-word.words
+    c.replace_word.new.words c.args.args
     c.in-Some.ensures.items c.if-left-eq0.true replaces.1 (c.loop-word.invariant.goes F (extends_before c.replace_word.ensures.asks e)))
 
 pub loop-word-preserved : goal.loop-word-preserved
 loop-word-preserved g c = record {
   asks = asked_further c.loop-word.invariant.asks c.replace_word.ensures.asks;
   goes = λ F e.
-      let replaces = subst (λ (o : Option ℕ). IsReplaced F c.in-Some.word c.loop-word.words c.replace_word.new.words (Ok o)) c.in-Some-2.is (c.in_ok-replace_word.ensures.replaces F e) in
-      put_goes F c.loop-word.left (c.loop-word.left - 1) c.in-Some-2.field-0 c.loop-word.stack.items c.pop.new.self.items c.put_words.new.stack.items c.in-Some.word c.loop-word.words c.replace_word.new.words c.put_words.new.words c.args.args
-      c.in-Some.ensures.items (omega arith) replaces c.in_ok-put_words-in-Some-2-2.ensures (c.loop-word.invariant.goes F (extends_before c.replace_word.ensures.asks e));
+      let replaces = subst (λ (o : Option ℕ). IsReplaced (limited c.args.most F) c.in-Some.word c.loop-word.words c.replace_word.new.words
+      (Ok o)) c.in-Some-2.is (c.in_ok-replace_word.ensures.replaces F e) in
+      put_goes (limited c.args.most F) c.loop-word.left (c.loop-word.left - 1) c.in-Some-2.field-0 c.loop-word.stack.items
+      c.pop.new.self.items c.put_words.new.stack.items c.in-Some.word c.loop-word.words c.replace_word.new.words c.put_words.new.words
+      c.args.args
+      c.in-Some.ensures.items (omega arith) replaces c.in_ok-put_words-in-Some-2-2.ensures
+      (c.loop-word.invariant.goes F (extends_before c.replace_word.ensures.asks e));
   bound = omega arith;
 }
 
@@ -42,7 +54,7 @@ returns-clause-expands g c F e =
     let none : length c.loop-word.stack.items ≡ 0 = omega (arith, c.loop-word.stack.ok, c.in_default.ensures.cases.0) in
     let empty = nil_from_length c.loop-word.stack.items none in (
       c.loop-word.left,
-      end_goes F c.loop-word.left c.loop-word.stack.items c.loop-word.words c.args.args empty
+      end_goes (limited c.args.most F) c.loop-word.left c.loop-word.stack.items c.loop-word.words c.args.args empty
           (c.loop-word.invariant.goes F e),
       refl,
     )
@@ -54,7 +66,8 @@ pub returns-in_err-push-in-None-clause-asks : goal.returns-in_err-push-in-None-c
 returns-in_err-push-in-None-clause-asks g c = asked_further c.loop-word.invariant.asks c.replace_word.ensures.asks
 
 pub returns-in_err-push-in-None-clause-expands : goal.returns-in_err-push-in-None-clause-expands
-returns-in_err-push-in-None-clause-expands g c F e = expands_memory F c.args.args _ c.from_residual-in_err-push-in-None.ensures.1
+returns-in_err-push-in-None-clause-expands g c F e =
+    expands_memory (limited c.args.most F) c.args.args _ c.from_residual-in_err-push-in-None.ensures.1
 
 pub returns-in-Some-2-clause-asks : goal.returns-in-Some-2-clause-asks
 returns-in-Some-2-clause-asks g c = asked_further c.loop-word.invariant.asks c.replace_word.ensures.asks
@@ -63,4 +76,5 @@ pub returns-in_err-put_words-in-Some-2-2-clause-asks : goal.returns-in_err-put_w
 returns-in_err-put_words-in-Some-2-2-clause-asks g c = asked_further c.loop-word.invariant.asks c.replace_word.ensures.asks
 
 pub returns-in_err-put_words-in-Some-2-2-clause-expands : goal.returns-in_err-put_words-in-Some-2-2-clause-expands
-returns-in_err-put_words-in-Some-2-2-clause-expands g c F e = expands_memory F c.args.args _ c.from_residual-in_err-put_words-in-Some-2-2.ensures.1
+returns-in_err-put_words-in-Some-2-2-clause-expands g c F e =
+    expands_memory (limited c.args.most F) c.args.args _ c.from_residual-in_err-put_words-in-Some-2-2.ensures.1

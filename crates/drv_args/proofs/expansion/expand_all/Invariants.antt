@@ -1,4 +1,5 @@
 use Rattle.drv_args.proofs.Expanding.{GoesOn}
+use Rattle.drv_args.specs.Expansion.{limited}
 use Rattle.drv_system.specs.Asking.{Extends}
 use Rattle.drv_system.specs.Code.Asked.{Asked}
 use Rattle.drv_system.specs.Facts.{Facts}
@@ -8,7 +9,7 @@ use Rattle.drv_args.proofs.expansion.expand_all.Given as goal
 abbrev pub invariant-loop-word : goal.invariant-loop-word
 invariant-loop-word g l = record {
   asks : Asked g.S.System.events l.fn.outside l.outside;
-  goes : (F : Facts) → Extends l.outside.facts.now F → GoesOn F l.left (reverse l.stack.items) l.words l.fn.args;
+  goes : (F : Facts) → Extends l.outside.facts.now F → GoesOn (limited l.most F) l.left (reverse l.stack.items) l.words l.fn.args;
   bound : l.left ≤ 2000;
 }
 

@@ -7,9 +7,11 @@ use Rattle.std.proofs.Common.{◌≡◌, ◌∙◌, ap, rules, sym}
 
 pub returns-in_err-note_words : goal.returns-in_err-note_words
 returns-in_err-note_words c =
-    let e : line_with c.in_ok-builder.builder (items_of c.as_slice.result.now) ≡ line_of_items c.args.expanded.now.from_file (items_of c.args.expanded.now.words) =
+    let e : line_with c.in_ok-builder.builder (items_of c.as_slice.result.now)
+    ≡ line_of_items c.args.expanded.now.from_file (items_of c.args.expanded.now.words) =
     ap (λ words. line_with c.in_ok-builder.builder (items_of words)) c.as_slice.ensures
-    ∙ ap (λ b. line_with b (items_of c.args.expanded.now.words)) c.in_ok-builder.ensures ∙ first_line c.args.expanded.now.from_file (items_of c.args.expanded.now.words) in
+    ∙ ap (λ b. line_with b (items_of c.args.expanded.now.words)) c.in_ok-builder.ensures
+    ∙ first_line c.args.expanded.now.from_file (items_of c.args.expanded.now.words) in
     rw (← e) (search rules)
 
 pub returns : goal.returns

@@ -7,7 +7,8 @@ use Rattle.std.specs.Option.{option_map}
 pub returns-in-Some-clause-start : goal.returns-in-Some-clause-start
 returns-in-Some-clause-start c =
     c.start_by_row.ensures.start
-    ∙ looked_up c.args.word.now (map shown c.rows_after.result.now) (Some (shown c.in-Some.row)) c.in-45.len_at_least (omega arith) c.rows_after.ensures
+    ∙ looked_up c.args.word.now (map shown c.rows_after.result.now) (Some (shown c.in-Some.row)) c.in-45.len_at_least
+    (omega arith) c.rows_after.ensures
     (ap (option_map shown) (sym c.in-Some.is) ∙ c.first_fit.ensures.first)
 
 pub returns-in-None-clause-start : goal.returns-in-None-clause-start

@@ -4,4 +4,5 @@ use Rattle.std.proofs.Common.{◌∙◌, rules}
 
 pub returns : goal.returns
 returns c =
-    c.cmp.ensures ∙ eight_ordered c.args.one.now c.args.other.now _ _ c.told-one c.told-other (search rules) (search rules) c.from_be_bytes-number.ensures c.from_be_bytes.ensures
+    c.cmp.ensures ∙ eight_ordered c.args.one.now c.args.other.now _ _ c.told-one c.told-other (search rules)
+    (search rules) c.from_be_bytes-number.ensures c.from_be_bytes.ensures

@@ -1,3 +1,4 @@
+use Rattle.drv_words.proofs.Counting.{counted}
 use Rattle.drv_words.proofs.Splitting.{one_list, some_words}
 use Rattle.drv_words.proofs.response.one_list_of_words.Goals as goal
 
@@ -6,3 +7,6 @@ returns-clause-some c = some_words
 
 pub returns-clause-one : goal.returns-clause-one
 returns-clause-one c = one_list
+
+pub returns-clause-number : goal.returns-clause-number
+returns-clause-number c = counted

@@ -1,0 +1,9 @@
+use Rattle.std.proofs.Common.{◌≡◌, ◌≤◌, length}
+use Rattle.drv_words.specs.Code.Splitter.{following, words_of}
+use Rattle.drv_words.proofs.response.split_front.Given as goal
+
+abbrev pub decreases-loop-splitter : goal.decreases-loop-splitter
+decreases-loop-splitter l = length l.left
+
+abbrev pub invariant-loop-splitter : goal.invariant-loop-splitter
+invariant-loop-splitter l = words_of l.splitter l.left ≡ words_of (following l.fn.words) l.text
