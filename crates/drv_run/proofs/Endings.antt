@@ -1,5 +1,5 @@
 use Rattle.drv_run.proofs.Tellings.{pipe_after_questions}
-use Rattle.drv_run.specs.Calls.{DoesWork, Drove, Ends, OnlySays}
+use Rattle.drv_run.specs.Calls.{DoesWork, Drove, Ends, Keeps, OnlySays}
 use Rattle.drv_run.specs.Drives.{Comes, Drives, IsApart}
 use Rattle.drv_run.specs.Code.Telling.{EndsWork}
 use Rattle.drv_run.specs.declared.ending.Ending.TheVariants.{Done, OutOfMemory, Refused}
@@ -33,12 +33,14 @@ drove_before {journal} {F' = F'} args seed ending empty asks comes = record {
   said = [];
   questions = subst (λ G. AreNew G asks.asked) empty asks.questions;
   journal_grows = asks.journal_grows ∙ sym (append-nil (journal ++ asks.asked));
-  ends = ends_before (learn no_facts asks.asked) args seed ending (subst (λ G. Comes G args seed (Err ending)) (known empty asks) (comes F' (extends_refl F')));
+  ends = ends_before (learn no_facts asks.asked) args seed ending
+      (subst (λ G. Comes G args seed (Err ending)) (known empty asks) (comes F' (extends_refl F')));
 }
 
 -- with its work done
 drove_done : {journal journal' journal'' : List Event} {F F' : Facts} {args : List (List ℕ)} {seed status : ℕ} {work : Work} → F ≡ no_facts
-    → Asks journal journal' F F' → ((G : Facts) → Extends F' G → Comes G args seed (Ok work)) → DoesWork (codes "gdrv") journal' journal'' work status
+    → Asks journal journal' F F' → ((G : Facts) → Extends F' G → Comes G args seed (Ok work))
+    → DoesWork (codes "gdrv") journal' journal'' work status
     → Drove journal journal'' args seed (Done status)
 drove_done {F' = F'} {args = args} {seed = seed} {work = work} empty asks comes does = record {
   asked = asks.asked;
@@ -60,17 +62,39 @@ drove_short empty asks only = record {
 }
 
 -- however its work ends it
-pub drove_with_work : {journal journal' journal'' : List Event} {F F' : Facts} (args : List (List ℕ)) (seed : ℕ) (work : Work) (ending : Ending) → F ≡ no_facts
-    → Asks journal journal' F F' → ((G : Facts) → Extends F' G → Comes G args seed (Ok work)) → EndsWork journal' journal'' work ending → Drove journal journal'' args seed ending
+pub drove_with_work : {journal journal' journal'' : List Event} {F F' : Facts} (args : List (List ℕ)) (seed : ℕ) (work : Work)
+    (ending : Ending) → F ≡ no_facts
+    → Asks journal journal' F F' → ((G : Facts) → Extends F' G → Comes G args seed (Ok work)) → EndsWork journal' journal'' work ending
+    → Drove journal journal'' args seed ending
 drove_with_work args seed work (Done status) empty asks comes does = drove_done empty asks comes does
 drove_with_work args seed work (Refused refusal) empty asks comes does = absurd does
 drove_with_work args seed work OutOfMemory empty asks comes only = drove_short empty asks only
 
-pub work_ends_apart : (journal journal' : List Event) (work : Work) (ending : Ending) → EndsWork journal journal' work ending → IsApart ending
+-- what the table keeps
+
+pub keeps_before : (F : Facts) (args : List (List ℕ)) (seed : ℕ) (ending : Ending)
+    → ((G : Facts) → Extends F G → Comes G args seed (Err ending)) → Keeps F args seed ending
+keeps_before F args seed ending comes = by ending (comes F (extends_refl F))
+  where
+    by : (e : Ending) → Comes F args seed (Err e) → Keeps F args seed e
+    by (Done status) comes = absurd comes
+    by (Refused refusal) comes = comes
+    by OutOfMemory comes = tt
+
+pub keeps_with_work : (journal journal' : List Event) (F : Facts) (args : List (List ℕ)) (seed : ℕ) (work : Work) (ending : Ending)
+    → ((G : Facts) → Extends F G → Comes G args seed (Ok work)) → EndsWork journal journal' work ending → Keeps F args seed ending
+keeps_with_work journal journal' F args seed work (Done status) comes does = (work, comes F (extends_refl F))
+keeps_with_work journal journal' F args seed work (Refused refusal) comes does = absurd does
+keeps_with_work journal journal' F args seed work OutOfMemory comes only = tt
+
+pub work_ends_apart : (journal journal' : List Event) (work : Work) (ending : Ending) → EndsWork journal journal' work ending
+    → IsApart ending
 work_ends_apart journal journal' work (Done status) does = tt
 work_ends_apart journal journal' work (Refused refusal) does = absurd does
 work_ends_apart journal journal' work OutOfMemory only = tt
 
-pub no_pipe_after_questions : {journal journal' : List Event} {F F' : Facts} → Asks journal journal' F F' → pipe_pending (run_of journal) ≡ false → pipe_pending (run_of journal') ≡ false
+pub no_pipe_after_questions : {journal journal' : List Event} {F F' : Facts} → Asks journal journal' F F'
+    → pipe_pending (run_of journal) ≡ false → pipe_pending (run_of journal') ≡ false
 no_pipe_after_questions {journal} {F = F} asks before =
-    ap (λ after. pipe_pending (run_of after)) asks.journal_grows ∙ pipe_after_questions journal asks.asked (are_questions F asks.asked asks.questions) before
+    ap (λ after. pipe_pending (run_of after)) asks.journal_grows
+    ∙ pipe_after_questions journal asks.asked (are_questions F asks.asked asks.questions) before

@@ -45,13 +45,17 @@ pub can_after : (plan : Plan) (journal : List Event) (events : List RunEvent) (s
     → can_make plan events s ≡ true → CanMake plan (journal ++ map Run events) s
 can_after plan journal events (step.Claim p) none can = can
 can_after plan journal events (step.Start p from_pipe to_pipe) none can =
-    let both : (is_command plan p ≡ true) × (same_bool from_pipe (pipe_pending events) ≡ true) = and_parts (is_command plan p) (same_bool from_pipe (pipe_pending events)) can in
+    let both : (is_command plan p ≡ true) × (same_bool from_pipe (pipe_pending events) ≡ true) =
+    and_parts (is_command plan p) (same_bool from_pipe (pipe_pending events)) can in
     (both.0, same from_pipe (pipe_pending events) both.1 ∙ sym (pipe_after plan journal events none))
   where
-    pipe_after : (plan : Plan) (journal : List Event) (events : List RunEvent) → pipe_pending (run_of journal) ≡ false → pipe_pending (run_of (journal ++ map Run events)) ≡ pipe_pending events
+    pipe_after : (plan : Plan) (journal : List Event) (events : List RunEvent) → pipe_pending (run_of journal) ≡ false
+        → pipe_pending (run_of (journal ++ map Run events)) ≡ pipe_pending events
     pipe_after plan journal events none = ap pipe_pending (run_after journal events) ∙ pending_of_rest (run_of journal) events none
-can_after plan journal events step.ClosePipe none can = ap pipe_pending (run_after journal events) ∙ pending_of_rest (run_of journal) events none ∙ can
-can_after plan journal events (step.Wait p id) none can = open_after p id journal (map Run events) (ap (λ run. is_open p id run) (run_is events) ∙ can)
+can_after plan journal events step.ClosePipe none can = ap pipe_pending (run_after journal events)
+    ∙ pending_of_rest (run_of journal) events none ∙ can
+can_after plan journal events (step.Wait p id) none can =
+    open_after p id journal (map Run events) (ap (λ run. is_open p id run) (run_is events) ∙ can)
 can_after plan journal events (step.Remove p) none can = can
 can_after plan journal events (step.Report n) none can = can
 
@@ -59,7 +63,8 @@ can_after plan journal events (step.Report n) none can = can
 
 new_rest : (id : ℕ) (before events : List RunEvent) → is_new id (before ++ events) ≡ true → is_new id events ≡ true
 new_rest id [] events is = is
-new_rest id (e ∷ before) events is = new_rest id before events (by (is_child id e.answer) (list_any (λ (f : RunEvent). is_child id f.answer) (before ++ events)) is)
+new_rest id (e ∷ before) events is = new_rest id before events
+    (by (is_child id e.answer) (list_any (λ (f : RunEvent). is_child id f.answer) (before ++ events)) is)
   where
     by : (a b : Bool) → not (a || b) ≡ true → not b ≡ true
     by false b e = e
@@ -78,16 +83,20 @@ fits_rest before events (step.Remove p) (answer.Remove x) is = is
 fits_rest before events (step.Report n) (answer.Reported told) is = is
 fits_rest before events s a is = absurd cc
 
-pub fits_after : (journal : List Event) (events : List RunEvent) (s : Step) (a : Answer) → fits (run_of (journal ++ map Run events)) s a ≡ true → fits events s a ≡ true
+pub fits_after : (journal : List Event) (events : List RunEvent) (s : Step) (a : Answer)
+    → fits (run_of (journal ++ map Run events)) s a ≡ true → fits events s a ≡ true
 fits_after journal events s a is = fits_rest (run_of journal) events s a (subst (λ run. fits run s a ≡ true) (run_after journal events) is)
 
 -- a run that leaves no pipe pending leaves none after both
-pub closed_after : (journal journal' : List Event) (events : List RunEvent) → journal' ≡ journal ++ map Run events → pipe_pending (run_of journal) ≡ false
+pub closed_after : (journal journal' : List Event) (events : List RunEvent) → journal' ≡ journal ++ map Run events
+    → pipe_pending (run_of journal) ≡ false
     → pipe_pending events ≡ false → pipe_pending (run_of journal') ≡ false
-closed_after journal journal' events grows none closed = ap (λ j. pipe_pending (run_of j)) grows ∙ ap pipe_pending (run_after journal events) ∙ pending_of_rest (run_of journal) events none ∙ closed
+closed_after journal journal' events grows none closed = ap (λ j. pipe_pending (run_of j)) grows
+    ∙ ap pipe_pending (run_after journal events) ∙ pending_of_rest (run_of journal) events none ∙ closed
 
 -- a whole run, in the words of a caller
-pub executed : (plan p : Plan) (pass_codes q : FailureStatus) (N n : ℕ) (journal journal' : List Event) (status : ℕ) (events : List RunEvent)
+pub executed : (plan p : Plan) (pass_codes q : FailureStatus) (N n : ℕ) (journal journal' : List Event) (status : ℕ)
+    (events : List RunEvent)
     → journal' ≡ journal ++ map Run events → p ≡ plan → q ≡ pass_codes → n ≡ N → length events ≤ needed p → (w : IsWhole p n events)
     → ((o : Answers) → Windowed p n o events → status ≡ status_of q o) → Executed plan pass_codes N journal journal' status
 executed plan p pass_codes q N n journal journal' status events grows plans codes windows few w says = record {

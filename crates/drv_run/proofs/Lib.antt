@@ -3,6 +3,7 @@ pub mod Endings
 mod Files
 pub mod Following
 mod LineWords
+mod LinesRead
 mod OneEnding
 mod Refusals
 mod Steps

@@ -12,11 +12,13 @@ use Rattle.std.proofs.Common.{◌≡◌, ◌⊎◌, Bool, Err, IsErrAnd, List, O
 
 -- For `words_of`: the words of a line, or why there are none.
 
-stopped_as : (F : Facts) (args : List (List ℕ)) (ending : Ending) (result : Result Expanded Ending) → IsErrAnd result (λ e. e ≡ ending) → GivesWords F args (Err ending) → GivesWords F args result
+stopped_as : (F : Facts) (args : List (List ℕ)) (ending : Ending) (result : Result Expanded Ending) → IsErrAnd result (λ e. e ≡ ending)
+    → GivesWords F args (Err ending) → GivesWords F args result
 stopped_as F args ending (Ok words) is gives = absurd is
 stopped_as F args ending (Err e) is gives = subst (λ e'. GivesWords F args (Err e')) (sym is) gives
 
-refused_args : (F : Facts) (args : List (List ℕ)) (fault : ArgsFault) → RefusesExpansion F 2000 (after_c99 args) fault → GivesWords F args (Err (stopped_by_args fault))
+refused_args : (F : Facts) (args : List (List ℕ)) (fault : ArgsFault) → RefusesExpansion F 2000 (after_c99 args) fault
+    → GivesWords F args (Err (stopped_by_args fault))
 refused_args F args args_fault.Memory refused = tt
 refused_args F args args_fault.TooManyFiles refused = refused
 refused_args F args (args_fault.ResponseTooLarge path) refused = refused
@@ -29,31 +31,37 @@ refused_args F args args_fault.OutputWithMany refused = refused
 refused_args F args (args_fault.OutputIsInput input) refused = refused
 
 refused_c99 : (F : Facts) (args : List (List ℕ)) (expanded : Expanded) (fault : C99Fault)
-    → Expands F 2000 (after_c99 args) (Ok expanded) → fronted (is_c99 args) expanded ≡ Err fault → GivesWords F args (Err (stopped_by_c99 fault))
+    → Expands F 2000 (after_c99 args) (Ok expanded) → fronted (is_c99 args) expanded ≡ Err fault
+    → GivesWords F args (Err (stopped_by_c99 fault))
 refused_c99 F args expanded c99_fault.Memory expands refused = tt
 refused_c99 F args expanded (c99_fault.UnknownOption word) expands refused = (expanded, expands, refused)
 refused_c99 F args expanded (c99_fault.MissingArgument option) expands refused = (expanded, expands, refused)
 refused_c99 F args expanded c99_fault.NoOperand expands refused = (expanded, expands, refused)
 refused_c99 F args expanded (c99_fault.BadLevel argument) expands refused = (expanded, expands, refused)
 
-pub expansion_stops : (F : Facts) (args words : List (List ℕ)) (fault : ArgsFault) (result : Result Expanded Ending) → words ≡ after_c99 args
+pub expansion_stops : (F : Facts) (args words : List (List ℕ)) (fault : ArgsFault) (result : Result Expanded Ending)
+    → words ≡ after_c99 args
     → IsErrAnd result (λ e. e ≡ stopped_by_args fault) → Expands F 2000 words (Err fault) → GivesWords F args result
 expansion_stops F args words fault result are is (inl memory) =
     stopped_as F args (stopped_by_args fault) result is (subst (λ f. GivesWords F args (Err (stopped_by_args f))) (sym memory) tt)
 expansion_stops F args words fault result are is (inr refused) =
-    stopped_as F args (stopped_by_args fault) result is (refused_args F args fault (subst (λ w. RefusesExpansion F 2000 w fault) are refused))
+    stopped_as F args (stopped_by_args fault) result is
+    (refused_args F args fault (subst (λ w. RefusesExpansion F 2000 w fault) are refused))
 
-pub front_stops : (F : Facts) (args words : List (List ℕ)) (expanded : Expanded) (selected : Bool) (fault : C99Fault) (result : Result Expanded Ending)
+pub front_stops : (F : Facts) (args words : List (List ℕ)) (expanded : Expanded) (selected : Bool) (fault : C99Fault)
+    (result : Result Expanded Ending)
     → words ≡ after_c99 args → selected ≡ is_c99 args → IsErrAnd result (λ e. e ≡ stopped_by_c99 fault) → Expands F 2000 words (Ok expanded)
     → (fault ≡ c99_fault.Memory) ⊎ (fronted selected expanded ≡ Err fault) → GivesWords F args result
 front_stops F args words expanded selected fault result are selects is expands (inl memory) =
     stopped_as F args (stopped_by_c99 fault) result is (subst (λ f. GivesWords F args (Err (stopped_by_c99 f))) (sym memory) tt)
 front_stops F args words expanded selected fault result are selects is expands (inr refused) =
     stopped_as F args (stopped_by_c99 fault) result is
-    (refused_c99 F args expanded fault (subst (λ w. Expands F 2000 w (Ok expanded)) are expands) (subst (λ s. fronted s expanded ≡ Err fault) selects refused))
+    (refused_c99 F args expanded fault (subst (λ w. Expands F 2000 w (Ok expanded)) are expands)
+    (subst (λ s. fronted s expanded ≡ Err fault) selects refused))
 
 pub words_given : (F : Facts) (args words : List (List ℕ)) (expanded front : Expanded) (selected : Bool)
-    → words ≡ after_c99 args → selected ≡ is_c99 args → Expands F 2000 words (Ok expanded) → fronted selected expanded ≡ Ok front → Words F args front
+    → words ≡ after_c99 args → selected ≡ is_c99 args → Expands F 2000 words (Ok expanded) → fronted selected expanded ≡ Ok front
+    → Words F args front
 words_given F args words expanded front selected are selects expands fronts = record {
   expanded = expanded;
   expands = subst (λ w. Expands F 2000 w (Ok expanded)) are expands;

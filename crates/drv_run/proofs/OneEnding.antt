@@ -6,7 +6,8 @@ use Rattle.drv_args.specs.declared.line.Expanded.{Expanded}
 use Rattle.drv_args.specs.declared.line.Line.{Line}
 use Rattle.drv_c99.specs.declared.fault.C99Fault.{C99Fault}
 use Rattle.drv_plan.specs.declared.fault.PlanFault.{PlanFault}
-use Rattle.drv_run.specs.Drives.{Drives, Refuses, Words, after_c99, fronted, is_c99, not_expanded, not_fronted, not_loaded, not_planned, not_read, specs_of, work_of}
+use Rattle.drv_run.specs.Drives.{Drives, Refuses, Words, after_c99, fronted, is_c99, not_expanded, not_fronted, not_loaded, not_planned}
+use Rattle.drv_run.specs.Drives.{not_read, specs_of, work_of}
 use Rattle.drv_run.specs.declared.ending.Refusal.TheVariants.{Args, C99 as NoFront, Plan as NoPlan, Specs as NoSpecs}
 use Rattle.drv_run.specs.declared.ending.Refusal.{Refusal}
 use Rattle.drv_run.specs.declared.work.Work.{Work}
@@ -28,7 +29,8 @@ one_expanded F args a b (left, responds, is) (left', responds', is') =
 
 -- what the front of c99 makes of one expansion
 one_front : (F : Facts) (args : List (List ℕ)) (a b : Expanded) (x y : Result Expanded C99Fault)
-    → Expands F 2000 (after_c99 args) (Ok a) → Expands F 2000 (after_c99 args) (Ok b) → fronted (is_c99 args) a ≡ x → fronted (is_c99 args) b ≡ y → x ≡ y
+    → Expands F 2000 (after_c99 args) (Ok a) → Expands F 2000 (after_c99 args) (Ok b) → fronted (is_c99 args) a ≡ x
+    → fronted (is_c99 args) b ≡ y → x ≡ y
 one_front F args a b x y expands expands' fronts fronts' =
     sym fronts ∙ ap (fronted (is_c99 args)) (one_expanded F (after_c99 args) a b expands expands') ∙ fronts'
 
@@ -43,18 +45,21 @@ one_reading F args a b x y gives gives' reads reads' = sym reads ∙ ap line_rea
 
 one_line : (F : Facts) (args : List (List ℕ)) (a b : Expanded) (l m : Line)
     → Words F args a → Words F args b → line_read a ≡ Ok l → line_read b ≡ Ok m → l ≡ m
-one_line F args a b l m gives gives' reads reads' = let same : Ok l ≡ Ok m = one_reading F args a b (Ok l) (Ok m) gives gives' reads reads' in cc
+one_line F args a b l m gives gives' reads
+    reads' = let same : Ok l ≡ Ok m = one_reading F args a b (Ok l) (Ok m) gives gives' reads reads' in cc
 
 -- what a line that is read loads
 one_loading : (F : Facts) (args : List (List ℕ)) (a b : Expanded) (l m : Line) (x y : Result Set SpecsFault)
-    → Words F args a → Words F args b → line_read a ≡ Ok l → line_read b ≡ Ok m → specs_of F l.settings ≡ Is x → specs_of F m.settings ≡ Is y → x ≡ y
+    → Words F args a → Words F args b → line_read a ≡ Ok l → line_read b ≡ Ok m → specs_of F l.settings ≡ Is x
+    → specs_of F m.settings ≡ Is y → x ≡ y
 one_loading F args a b l m x y gives gives' reads reads' loads loads' =
     let lines : l ≡ m = one_line F args a b l m gives gives' reads reads' in
     let e : Is x ≡ Is y = sym loads ∙ ap (λ line. specs_of F line.settings) lines ∙ loads' in cc
 
 -- and what is done for it
 one_work : (F : Facts) (args : List (List ℕ)) (seed : ℕ) (a b : Expanded) (l m : Line) (s t : Set) (x y : Result Work PlanFault)
-    → Words F args a → Words F args b → line_read a ≡ Ok l → line_read b ≡ Ok m → specs_of F l.settings ≡ Is (Ok s) → specs_of F m.settings ≡ Is (Ok t)
+    → Words F args a → Words F args b → line_read a ≡ Ok l → line_read b ≡ Ok m → specs_of F l.settings ≡ Is (Ok s)
+    → specs_of F m.settings ≡ Is (Ok t)
     → work_of F l s seed ≡ Is x → work_of F m t seed ≡ Is y → x ≡ y
 one_work F args seed a b l m s t x y gives gives' reads reads' loads loads' works works' =
     let lines : l ≡ m = one_line F args a b l m gives gives' reads reads' in
@@ -64,13 +69,16 @@ one_work F args seed a b l m s t x y gives gives' reads reads' loads loads' work
 
 pub driven_once : (F : Facts) (args : List (List ℕ)) (seed : ℕ) (a b : Work) → Drives F args seed a → Drives F args seed b → a ≡ b
 driven_once F args seed a b d e =
-    let same : Ok a ≡ Ok b = one_work F args seed d.words e.words d.line e.line d.set e.set (Ok a) (Ok b) d.gives e.gives d.reads e.reads d.loads e.loads d.works e.works in cc
+    let same : Ok a ≡ Ok b = one_work F args seed d.words e.words d.line e.line d.set e.set (Ok a)
+    (Ok b) d.gives e.gives d.reads e.reads d.loads e.loads d.works e.works in cc
 
 -- words that expand aren't refused
-not_both : (F : Facts) (args : List (List ℕ)) (a : Expanded) (fault : ArgsFault) → Expands F 2000 args (Ok a) → RefusesExpansion F 2000 args fault → ⊥
+not_both : (F : Facts) (args : List (List ℕ)) (a : Expanded) (fault : ArgsFault) → Expands F 2000 args (Ok a)
+    → RefusesExpansion F 2000 args fault → ⊥
 not_both F args a fault (left, responds, is) refused = responds_alone F 2000 left args a.words fault responds refused
 
-not_worded : (F : Facts) (args : List (List ℕ)) (a : Expanded) (fault : ArgsFault) → Words F args a → RefusesExpansion F 2000 (after_c99 args) fault → ⊥
+not_worded : (F : Facts) (args : List (List ℕ)) (a : Expanded) (fault : ArgsFault) → Words F args a
+    → RefusesExpansion F 2000 (after_c99 args) fault → ⊥
 not_worded F args a fault w refused = not_both F (after_c99 args) w.expanded fault w.expands refused
 
 -- words that the front has aren't refused by it
@@ -87,56 +95,86 @@ not_read_twice F args a b line fault gives gives' reads reads' =
 
 -- and specs that are loaded aren't refused
 not_loaded_twice : (F : Facts) (args : List (List ℕ)) (a b : Expanded) (l m : Line) (set : Set) (fault : SpecsFault)
-    → Words F args a → Words F args b → line_read a ≡ Ok l → line_read b ≡ Ok m → specs_of F l.settings ≡ Is (Ok set) → specs_of F m.settings ≡ Is (Err fault) → ⊥
+    → Words F args a → Words F args b → line_read a ≡ Ok l → line_read b ≡ Ok m → specs_of F l.settings ≡ Is (Ok set)
+    → specs_of F m.settings ≡ Is (Err fault) → ⊥
 not_loaded_twice F args a b l m set fault gives gives' reads reads' loads loads' =
     let same : Ok set ≡ Err fault = one_loading F args a b l m (Ok set) (Err fault) gives gives' reads reads' loads loads' in cc
 
-pub driven_alone : (F : Facts) (args : List (List ℕ)) (seed : ℕ) (work : Work) (refusal : Refusal) → Drives F args seed work → Refuses F args seed refusal → ⊥
+pub driven_alone : (F : Facts) (args : List (List ℕ)) (seed : ℕ) (work : Work) (refusal : Refusal) → Drives F args seed work
+    → Refuses F args seed refusal → ⊥
 driven_alone F args seed work (Args fault) d (not_expanded refused) = not_worded F args d.words fault d.gives refused
-driven_alone F args seed work (Args fault) d (not_read {words = w} gives reads) = not_read_twice F args d.words w d.line fault d.gives gives d.reads reads
-driven_alone F args seed work (NoFront fault) d (not_fronted {expanded = e} expands fronts) = not_fronted_twice F args d.words e fault d.gives expands fronts
+driven_alone F args seed work (Args fault) d (not_read {words = w} gives reads) =
+    not_read_twice F args d.words w d.line fault d.gives gives d.reads reads
+driven_alone F args seed work (NoFront fault) d (not_fronted {expanded = e} expands fronts) =
+    not_fronted_twice F args d.words e fault d.gives expands fronts
 driven_alone F args seed work (NoSpecs fault) d (not_loaded {words = w} {line = line} gives reads loads) =
     not_loaded_twice F args d.words w d.line line d.set fault d.gives gives d.reads reads d.loads loads
 driven_alone F args seed work (NoPlan fault) d (not_planned {words = w} {line = line} {set = set} gives reads loads works) =
-    let same : Ok work ≡ Err fault = one_work F args seed d.words w d.line line d.set set (Ok work) (Err fault) d.gives gives d.reads reads d.loads loads d.works works in cc
+    let same : Ok work ≡ Err fault = one_work F args seed d.words w d.line line d.set set (Ok work)
+    (Err fault) d.gives gives d.reads reads d.loads loads d.works works in cc
 
 pub refused_for_one : (F : Facts) (args : List (List ℕ)) (seed : ℕ) (r s : Refusal) → Refuses F args seed r → Refuses F args seed s → r ≡ s
-refused_for_one F args seed (Args f) (Args g) (not_expanded refused) (not_expanded refused') = ap Args (refused_once F 2000 (after_c99 args) f g refused refused')
-refused_for_one F args seed (Args f) (Args g) (not_expanded refused) (not_read {words = w} gives reads) = absurd (not_worded F args w f gives refused)
-refused_for_one F args seed (Args f) (NoFront g) (not_expanded refused) (not_fronted {expanded = e} expands fronts) = absurd (not_both F (after_c99 args) e f expands refused)
-refused_for_one F args seed (Args f) (NoSpecs g) (not_expanded refused) (not_loaded {words = w} gives reads loads) = absurd (not_worded F args w f gives refused)
-refused_for_one F args seed (Args f) (NoPlan g) (not_expanded refused) (not_planned {words = w} gives reads loads works) = absurd (not_worded F args w f gives refused)
-refused_for_one F args seed (NoFront f) (Args g) (not_fronted {expanded = e} expands fronts) (not_expanded refused) = absurd (not_both F (after_c99 args) e g expands refused)
-refused_for_one F args seed (NoFront f) (Args g) (not_fronted {expanded = e} expands fronts) (not_read {words = w} gives reads) = absurd (not_fronted_twice F args w e f gives expands fronts)
-refused_for_one F args seed (NoFront f) (NoFront g) (not_fronted {expanded = e} expands fronts) (not_fronted {expanded = e'} expands' fronts') =
+refused_for_one F args seed (Args f) (Args g) (not_expanded refused) (not_expanded refused') =
+    ap Args (refused_once F 2000 (after_c99 args) f g refused refused')
+refused_for_one F args seed (Args f) (Args g) (not_expanded refused) (not_read {words = w} gives reads) =
+    absurd (not_worded F args w f gives refused)
+refused_for_one F args seed (Args f) (NoFront g) (not_expanded refused) (not_fronted {expanded = e} expands fronts) =
+    absurd (not_both F (after_c99 args) e f expands refused)
+refused_for_one F args seed (Args f) (NoSpecs g) (not_expanded refused) (not_loaded {words = w} gives reads loads) =
+    absurd (not_worded F args w f gives refused)
+refused_for_one F args seed (Args f) (NoPlan g) (not_expanded refused) (not_planned {words = w} gives reads loads works) =
+    absurd (not_worded F args w f gives refused)
+refused_for_one F args seed (NoFront f) (Args g) (not_fronted {expanded = e} expands fronts) (not_expanded refused) =
+    absurd (not_both F (after_c99 args) e g expands refused)
+refused_for_one F args seed (NoFront f) (Args g) (not_fronted {expanded = e} expands fronts) (not_read {words = w} gives reads) =
+    absurd (not_fronted_twice F args w e f gives expands fronts)
+refused_for_one F args seed (NoFront f) (NoFront g) (not_fronted {expanded = e} expands fronts)
+    (not_fronted {expanded = e'} expands' fronts') =
     let same : Err f ≡ Err g = one_front F args e e' (Err f) (Err g) expands expands' fronts fronts' in
     let faults : f ≡ g = cc in ap NoFront faults
-refused_for_one F args seed (NoFront f) (NoSpecs g) (not_fronted {expanded = e} expands fronts) (not_loaded {words = w} gives reads loads) = absurd (not_fronted_twice F args w e f gives expands fronts)
-refused_for_one F args seed (NoFront f) (NoPlan g) (not_fronted {expanded = e} expands fronts) (not_planned {words = w} gives reads loads works) = absurd (not_fronted_twice F args w e f gives expands fronts)
-refused_for_one F args seed (Args f) (Args g) (not_read {words = w} gives reads) (not_expanded refused) = absurd (not_worded F args w g gives refused)
+refused_for_one F args seed (NoFront f) (NoSpecs g) (not_fronted {expanded = e} expands fronts) (not_loaded {words = w} gives reads loads) =
+    absurd (not_fronted_twice F args w e f gives expands fronts)
+refused_for_one F args seed (NoFront f) (NoPlan g) (not_fronted {expanded = e} expands fronts)
+    (not_planned {words = w} gives reads loads works) = absurd (not_fronted_twice F args w e f gives expands fronts)
+refused_for_one F args seed (Args f) (Args g) (not_read {words = w} gives reads) (not_expanded refused) =
+    absurd (not_worded F args w g gives refused)
 refused_for_one F args seed (Args f) (Args g) (not_read {words = w} gives reads) (not_read {words = w'} gives' reads') =
     let same : Err f ≡ Err g = one_reading F args w w' (Err f) (Err g) gives gives' reads reads' in
     let faults : f ≡ g = cc in ap Args faults
-refused_for_one F args seed (Args f) (NoFront g) (not_read {words = w} gives reads) (not_fronted {expanded = e} expands fronts) = absurd (not_fronted_twice F args w e g gives expands fronts)
-refused_for_one F args seed (Args f) (NoSpecs g) (not_read {words = w} gives reads) (not_loaded {words = w'} {line = line} gives' reads' loads) =
+refused_for_one F args seed (Args f) (NoFront g) (not_read {words = w} gives reads) (not_fronted {expanded = e} expands fronts) =
+    absurd (not_fronted_twice F args w e g gives expands fronts)
+refused_for_one F args seed (Args f) (NoSpecs g) (not_read {words = w} gives reads)
+    (not_loaded {words = w'} {line = line} gives' reads' loads) =
     absurd (not_read_twice F args w' w line f gives' gives reads' reads)
-refused_for_one F args seed (Args f) (NoPlan g) (not_read {words = w} gives reads) (not_planned {words = w'} {line = line} gives' reads' loads works) =
+refused_for_one F args seed (Args f) (NoPlan g) (not_read {words = w} gives reads)
+    (not_planned {words = w'} {line = line} gives' reads' loads works) =
     absurd (not_read_twice F args w' w line f gives' gives reads' reads)
-refused_for_one F args seed (NoSpecs f) (Args g) (not_loaded {words = w} gives reads loads) (not_expanded refused) = absurd (not_worded F args w g gives refused)
-refused_for_one F args seed (NoSpecs f) (Args g) (not_loaded {words = w} {line = line} gives reads loads) (not_read {words = w'} gives' reads') =
+refused_for_one F args seed (NoSpecs f) (Args g) (not_loaded {words = w} gives reads loads) (not_expanded refused) =
+    absurd (not_worded F args w g gives refused)
+refused_for_one F args seed (NoSpecs f) (Args g) (not_loaded {words = w} {line = line} gives reads loads)
+    (not_read {words = w'} gives' reads') =
     absurd (not_read_twice F args w w' line g gives gives' reads reads')
-refused_for_one F args seed (NoSpecs f) (NoFront g) (not_loaded {words = w} gives reads loads) (not_fronted {expanded = e} expands fronts) = absurd (not_fronted_twice F args w e g gives expands fronts)
-refused_for_one F args seed (NoSpecs f) (NoSpecs g) (not_loaded {words = w} {line = line} gives reads loads) (not_loaded {words = w'} {line = line'} gives' reads' loads') =
+refused_for_one F args seed (NoSpecs f) (NoFront g) (not_loaded {words = w} gives reads loads) (not_fronted {expanded = e} expands fronts) =
+    absurd (not_fronted_twice F args w e g gives expands fronts)
+refused_for_one F args seed (NoSpecs f) (NoSpecs g) (not_loaded {words = w} {line = line} gives reads loads)
+    (not_loaded {words = w'} {line = line'} gives' reads' loads') =
     let same : Err f ≡ Err g = one_loading F args w w' line line' (Err f) (Err g) gives gives' reads reads' loads loads' in
     let faults : f ≡ g = cc in ap NoSpecs faults
-refused_for_one F args seed (NoSpecs f) (NoPlan g) (not_loaded {words = w} {line = line} gives reads loads) (not_planned {words = w'} {line = line'} {set = set} gives' reads' loads' works) =
+refused_for_one F args seed (NoSpecs f) (NoPlan g) (not_loaded {words = w} {line = line} gives reads loads)
+    (not_planned {words = w'} {line = line'} {set = set} gives' reads' loads' works) =
     absurd (not_loaded_twice F args w' w line' line set f gives' gives reads' reads loads' loads)
-refused_for_one F args seed (NoPlan f) (Args g) (not_planned {words = w} gives reads loads works) (not_expanded refused) = absurd (not_worded F args w g gives refused)
-refused_for_one F args seed (NoPlan f) (Args g) (not_planned {words = w} {line = line} gives reads loads works) (not_read {words = w'} gives' reads') =
+refused_for_one F args seed (NoPlan f) (Args g) (not_planned {words = w} gives reads loads works) (not_expanded refused) =
+    absurd (not_worded F args w g gives refused)
+refused_for_one F args seed (NoPlan f) (Args g) (not_planned {words = w} {line = line} gives reads loads works)
+    (not_read {words = w'} gives' reads') =
     absurd (not_read_twice F args w w' line g gives gives' reads reads')
-refused_for_one F args seed (NoPlan f) (NoFront g) (not_planned {words = w} gives reads loads works) (not_fronted {expanded = e} expands fronts) = absurd (not_fronted_twice F args w e g gives expands fronts)
-refused_for_one F args seed (NoPlan f) (NoSpecs g) (not_planned {words = w} {line = line} {set = set} gives reads loads works) (not_loaded {words = w'} {line = line'} gives' reads' loads') =
+refused_for_one F args seed (NoPlan f) (NoFront g) (not_planned {words = w} gives reads loads works)
+    (not_fronted {expanded = e} expands fronts) = absurd (not_fronted_twice F args w e g gives expands fronts)
+refused_for_one F args seed (NoPlan f) (NoSpecs g) (not_planned {words = w} {line = line} {set = set} gives reads loads works)
+    (not_loaded {words = w'} {line = line'} gives' reads' loads') =
     absurd (not_loaded_twice F args w w' line line' set g gives gives' reads reads' loads loads')
-refused_for_one F args seed (NoPlan f) (NoPlan g) (not_planned {words = w} {line = line} {set = set} gives reads loads works) (not_planned {words = w'} {line = line'} {set = set'} gives' reads' loads' works') =
-    let same : Err f ≡ Err g = one_work F args seed w w' line line' set set' (Err f) (Err g) gives gives' reads reads' loads loads' works works' in
+refused_for_one F args seed (NoPlan f) (NoPlan g) (not_planned {words = w} {line = line} {set = set} gives reads loads works)
+    (not_planned {words = w'} {line = line'} {set = set'} gives' reads' loads' works') =
+    let same : Err f ≡ Err g = one_work F args seed w w' line line' set set' (Err f)
+    (Err g) gives gives' reads reads' loads loads' works works' in
     let faults : f ≡ g = cc in ap NoPlan faults

@@ -15,12 +15,15 @@ use Rattle.std.proofs.lemmas.List.{append-nil}
 
 -- For refused_does_nothing and shown_starts_nothing: such a call makes no step of a run.
 
-pub does_nothing : (journal later : List Event) (args : List (List ℕ)) (seed : ℕ) (refusal : Refusal) → Drove journal later args seed (Refused refusal) → OnlyAsked journal later
+pub does_nothing : (journal later : List Event) (args : List (List ℕ)) (seed : ℕ) (refusal : Refusal)
+    → Drove journal later args seed (Refused refusal) → OnlyAsked journal later
 does_nothing journal later args seed refusal d = record {
   asked = d.asked;
   questions = d.questions;
   journal_grows = grows;
-  no_step = ap run_of grows ∙ run_of-append journal d.asked ∙ ap (λ run. run_of journal ++ run) (none_ran_asking d.asked (are_questions no_facts d.asked d.questions)) ∙ append-nil (run_of journal);
+  no_step = ap run_of grows ∙ run_of-append journal d.asked
+      ∙ ap (λ run. run_of journal ++ run) (none_ran_asking d.asked (are_questions no_facts d.asked d.questions))
+      ∙ append-nil (run_of journal);
 }
   where
     grows : later ≡ journal ++ d.asked

@@ -9,7 +9,8 @@ use Rattle.drv_machine.specs.declared.fault.MachineFault.TheVariants as machine_
 use Rattle.drv_plan.specs.declared.fault.PlanFault.TheVariants as plan_fault
 use Rattle.drv_plan.specs.declared.fault.PlanFault.{PlanFault}
 use Rattle.drv_run.specs.Calls.{HasWindow}
-use Rattle.drv_run.specs.Drives.{Comes, Refuses, Words, manner_of, not_expanded, not_fronted, not_loaded, not_planned, not_read, planned, specs_of, stopped_by_args, stopped_by_plan, stopped_by_specs, work_of, work_with, worked}
+use Rattle.drv_run.specs.Drives.{Comes, Refuses, Words, manner_of, not_expanded, not_fronted, not_loaded, not_planned, not_read, planned}
+use Rattle.drv_run.specs.Drives.{specs_of, stopped_by_args, stopped_by_plan, stopped_by_specs, work_of, work_with, worked}
 use Rattle.drv_run.specs.Code.Deciding.{ComesOfSpecs}
 use Rattle.drv_run.specs.Code.Wording.{GivesWords}
 use Rattle.drv_run.specs.declared.ending.Ending.TheVariants.{Done, OutOfMemory, Refused}
@@ -32,12 +33,14 @@ use Rattle.std.specs.Prelude.{if◌then◌else◌}
 -- For `work_of`: the fault of each step is the refusal of the call.
 
 -- a call that ends without work
-ended_as : (F : Facts) (args : List (List ℕ)) (seed : ℕ) (ending : Ending) (result : Result Work Ending) → IsErrAnd result (λ e. e ≡ ending) → Comes F args seed (Err ending) → Comes F args seed result
+ended_as : (F : Facts) (args : List (List ℕ)) (seed : ℕ) (ending : Ending) (result : Result Work Ending) → IsErrAnd result (λ e. e ≡ ending)
+    → Comes F args seed (Err ending) → Comes F args seed result
 ended_as F args seed ending (Ok work) is comes = absurd is
 ended_as F args seed ending (Err e) is comes = subst (λ e'. Comes F args seed (Err e')) (sym is) comes
 
 -- without words
-without_words : (F : Facts) (args : List (List ℕ)) (seed : ℕ) (ending : Ending) → GivesWords F args (Err ending) → Comes F args seed (Err ending)
+without_words : (F : Facts) (args : List (List ℕ)) (seed : ℕ) (ending : Ending) → GivesWords F args (Err ending)
+    → Comes F args seed (Err ending)
 without_words F args seed (Done status) gives = absurd gives
 without_words F args seed OutOfMemory gives = tt
 without_words F args seed (Refused (Args fault)) gives = not_expanded gives
@@ -50,7 +53,8 @@ pub words_end : (F : Facts) (args : List (List ℕ)) (seed : ℕ) (ending : Endi
 words_end F args seed ending result is gives = ended_as F args seed ending result is (without_words F args seed ending gives)
 
 -- a refusal that a definition has
-refused_args : (F : Facts) (args : List (List ℕ)) (seed : ℕ) (fault : ArgsFault) → Refuses F args seed (Args fault) → Comes F args seed (Err (stopped_by_args fault))
+refused_args : (F : Facts) (args : List (List ℕ)) (seed : ℕ) (fault : ArgsFault) → Refuses F args seed (Args fault)
+    → Comes F args seed (Err (stopped_by_args fault))
 refused_args F args seed args_fault.Memory refused = tt
 refused_args F args seed args_fault.TooManyFiles refused = refused
 refused_args F args seed (args_fault.ResponseTooLarge path) refused = refused
@@ -62,7 +66,8 @@ refused_args F args seed args_fault.StdinNeedsLanguage refused = refused
 refused_args F args seed args_fault.OutputWithMany refused = refused
 refused_args F args seed (args_fault.OutputIsInput input) refused = refused
 
-refused_plan : (given : Known (Result Work PlanFault)) (fault : PlanFault) → given ≡ Is (Err fault) → ComesOfSpecs given (Err (stopped_by_plan fault))
+refused_plan : (given : Known (Result Work PlanFault)) (fault : PlanFault) → given ≡ Is (Err fault)
+    → ComesOfSpecs given (Err (stopped_by_plan fault))
 refused_plan given plan_fault.Memory refused = tt
 refused_plan given (plan_fault.Machine machine_fault.Memory) refused = refused
 refused_plan given (plan_fault.Machine (machine_fault.UserError text)) refused = refused
@@ -83,7 +88,8 @@ refused_plan given (plan_fault.Machine (machine_fault.Funcs (funcs_fault.BadOper
 refused_plan given (plan_fault.UnknownLanguage name) refused = refused
 refused_plan given (plan_fault.NotInstalled name) refused = refused
 
-refused_specs : (F : Facts) (args : List (List ℕ)) (seed : ℕ) (fault : SpecsFault) → Refuses F args seed (NoSpecs fault) → Comes F args seed (Err (stopped_by_specs fault))
+refused_specs : (F : Facts) (args : List (List ℕ)) (seed : ℕ) (fault : SpecsFault) → Refuses F args seed (NoSpecs fault)
+    → Comes F args seed (Err (stopped_by_specs fault))
 refused_specs F args seed specs_fault.Memory refused = tt
 refused_specs F args seed (specs_fault.NoSuchFile path) refused = refused
 refused_specs F args seed (specs_fault.Unreadable path) refused = refused
@@ -106,30 +112,40 @@ refused_specs F args seed (specs_fault.Syntax name (syntax_fault.EmptyTest n)) r
 refused_specs F args seed (specs_fault.Syntax name syntax_fault.TextTooLong) refused = refused
 
 -- a fault that is lack of memory, or that refusal
-by_args : (F : Facts) (args : List (List ℕ)) (seed : ℕ) (fault : ArgsFault) → (fault ≡ args_fault.Memory) ⊎ Refuses F args seed (Args fault) → Comes F args seed (Err (stopped_by_args fault))
+by_args : (F : Facts) (args : List (List ℕ)) (seed : ℕ) (fault : ArgsFault) → (fault ≡ args_fault.Memory) ⊎ Refuses F args seed (Args fault)
+    → Comes F args seed (Err (stopped_by_args fault))
 by_args F args seed fault (inl memory) = subst (λ f. Comes F args seed (Err (stopped_by_args f))) (sym memory) tt
 by_args F args seed fault (inr refused) = refused_args F args seed fault refused
 
-by_specs : (F : Facts) (args : List (List ℕ)) (seed : ℕ) (fault : SpecsFault) → (fault ≡ specs_fault.Memory) ⊎ Refuses F args seed (NoSpecs fault) → Comes F args seed (Err (stopped_by_specs fault))
+by_specs : (F : Facts) (args : List (List ℕ)) (seed : ℕ) (fault : SpecsFault)
+    → (fault ≡ specs_fault.Memory) ⊎ Refuses F args seed (NoSpecs fault) → Comes F args seed (Err (stopped_by_specs fault))
 by_specs F args seed fault (inl memory) = subst (λ f. Comes F args seed (Err (stopped_by_specs f))) (sym memory) tt
 by_specs F args seed fault (inr refused) = refused_specs F args seed fault refused
 
 -- the steps after the words
 
 pub reading_ends : (F : Facts) (args : List (List ℕ)) (seed : ℕ) (words : Expanded) (fault : ArgsFault) (result : Result Work Ending)
-    → IsErrAnd result (λ e. e ≡ stopped_by_args fault) → Words F args words → (fault ≡ args_fault.Memory) ⊎ (line_read words ≡ Err fault) → Comes F args seed result
-reading_ends F args seed words fault result is gives (inl memory) = ended_as F args seed (stopped_by_args fault) result is (by_args F args seed fault (inl memory))
-reading_ends F args seed words fault result is gives (inr reads) = ended_as F args seed (stopped_by_args fault) result is (by_args F args seed fault (inr (not_read gives reads)))
+    → IsErrAnd result (λ e. e ≡ stopped_by_args fault) → Words F args words → (fault ≡ args_fault.Memory) ⊎ (line_read words ≡ Err fault)
+    → Comes F args seed result
+reading_ends F args seed words fault result is gives (inl memory) =
+    ended_as F args seed (stopped_by_args fault) result is (by_args F args seed fault (inl memory))
+reading_ends F args seed words fault result is gives (inr reads) =
+    ended_as F args seed (stopped_by_args fault) result is (by_args F args seed fault (inr (not_read gives reads)))
 
-pub loading_ends : (F : Facts) (args : List (List ℕ)) (seed : ℕ) (words : Expanded) (line : Line) (fault : SpecsFault) (result : Result Work Ending)
+pub loading_ends : (F : Facts) (args : List (List ℕ)) (seed : ℕ) (words : Expanded) (line : Line) (fault : SpecsFault)
+    (result : Result Work Ending)
     → IsErrAnd result (λ e. e ≡ stopped_by_specs fault) → Words F args words → line_read words ≡ Ok line
     → (fault ≡ specs_fault.Memory) ⊎ (specs_of F line.settings ≡ Is (Err fault)) → Comes F args seed result
-loading_ends F args seed words line fault result is gives reads (inl memory) = ended_as F args seed (stopped_by_specs fault) result is (by_specs F args seed fault (inl memory))
-loading_ends F args seed words line fault result is gives reads (inr loads) = ended_as F args seed (stopped_by_specs fault) result is (by_specs F args seed fault (inr (not_loaded gives reads loads)))
+loading_ends F args seed words line fault result is gives reads (inl memory) =
+    ended_as F args seed (stopped_by_specs fault) result is (by_specs F args seed fault (inl memory))
+loading_ends F args seed words line fault result is gives reads (inr loads) =
+    ended_as F args seed (stopped_by_specs fault) result is (by_specs F args seed fault (inr (not_loaded gives reads loads)))
 
 pub line_comes : (F : Facts) (args : List (List ℕ)) (seed : ℕ) (words : Expanded) (line : Line) (set : Set) (result : Result Work Ending)
-    → Words F args words → line_read words ≡ Ok line → specs_of F line.settings ≡ Is (Ok set) → ComesOfSpecs (work_of F line set seed) result → Comes F args seed result
-line_comes F args seed words line set (Ok work) gives reads loads works = record { words = words; line = line; set = set; gives = gives; reads = reads; loads = loads; works = works }
+    → Words F args words → line_read words ≡ Ok line → specs_of F line.settings ≡ Is (Ok set)
+    → ComesOfSpecs (work_of F line set seed) result → Comes F args seed result
+line_comes F args seed words line set (Ok work) gives reads loads works =
+    record { words = words; line = line; set = set; gives = gives; reads = reads; loads = loads; works = works }
 line_comes F args seed words line set (Err (Done status)) gives reads loads works = absurd works
 line_comes F args seed words line set (Err OutOfMemory) gives reads loads works = tt
 line_comes F args seed words line set (Err (Refused (Args fault))) gives reads loads works = absurd works
@@ -142,24 +158,29 @@ pub planning_ends : (given : Known (Result Work PlanFault)) (fault : PlanFault) 
     → IsErrAnd result (λ e. e ≡ stopped_by_plan fault) → (fault ≡ plan_fault.Memory) ⊎ (given ≡ Is (Err fault)) → ComesOfSpecs given result
 planning_ends given fault (Ok work) is refused = absurd is
 planning_ends given fault (Err ending) is (inl memory) = subst (λ e. ComesOfSpecs given (Err e)) (sym (is ∙ ap stopped_by_plan memory)) tt
-planning_ends given fault (Err ending) is (inr refused) = subst (λ e. ComesOfSpecs given (Err e)) (sym is) (refused_plan given fault refused)
+planning_ends given fault (Err ending) is (inr refused) =
+    subst (λ e. ComesOfSpecs given (Err e)) (sym is) (refused_plan given fault refused)
 
 -- what is done for a line
 
-pub work_dumped : (F : Facts) (line : Line) (set : Set) (seed : ℕ) (text : List ℕ) → line.settings.dump ≡ true → text ≡ dumped set → work_of F line set seed ≡ Is (Ok (Dump text))
+pub work_dumped : (F : Facts) (line : Line) (set : Set) (seed : ℕ) (text : List ℕ) → line.settings.dump ≡ true → text ≡ dumped set
+    → work_of F line set seed ≡ Is (Ok (Dump text))
 work_dumped F line set seed text dumps is = rw dumps (ap (λ t. Is (Ok (Dump t))) (sym is))
 
-pub work_planned : (F : Facts) (line : Line) (set : Set) (seed : ℕ) (plan : Plan) (work : Work) → line.settings.dump ≡ false → planned F line set seed ≡ Is (Ok plan)
+pub work_planned : (F : Facts) (line : Line) (set : Set) (seed : ℕ) (plan : Plan) (work : Work) → line.settings.dump ≡ false
+    → planned F line set seed ≡ Is (Ok plan)
     → work ≡ work_with line.settings plan → work_of F line set seed ≡ Is (Ok work)
 work_planned F line set seed plan work dumps plans is = rw dumps (ap (worked line.settings) plans ∙ ap (λ w. Is (Ok w)) (sym is))
 
-pub work_refused : (F : Facts) (line : Line) (set : Set) (seed : ℕ) (fault : PlanFault) → line.settings.dump ≡ false → (fault ≡ plan_fault.Memory) ⊎ (planned F line set seed ≡ Is (Err fault))
+pub work_refused : (F : Facts) (line : Line) (set : Set) (seed : ℕ) (fault : PlanFault) → line.settings.dump ≡ false
+    → (fault ≡ plan_fault.Memory) ⊎ (planned F line set seed ≡ Is (Err fault))
     → (fault ≡ plan_fault.Memory) ⊎ (work_of F line set seed ≡ Is (Err fault))
 work_refused F line set seed fault dumps (inl memory) = inl memory
 work_refused F line set seed fault dumps (inr refused) = inr (rw dumps (ap (worked line.settings) refused))
 
 -- with as many sources under way as the line says
-pub few_window : (settings : Settings) (plan : Plan) (work : Work) → (1 ≤ settings.jobs) × (settings.jobs ≤ 64) → work ≡ work_with settings plan → HasWindow work
+pub few_window : (settings : Settings) (plan : Plan) (work : Work) → (1 ≤ settings.jobs) × (settings.jobs ≤ 64)
+    → work ≡ work_with settings plan → HasWindow work
 few_window settings plan work few is = subst (λ w. HasWindow w) (sym is) (by settings.dry)
   where
     by : (dry : Bool) → HasWindow (if dry then Show plan else CarryOut plan (manner_of settings))

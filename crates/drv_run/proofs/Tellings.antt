@@ -14,7 +14,8 @@ use Rattle.drv_words.specs.Lines.{lines_of}
 use Rattle.drv_words.specs.Printed.{lines_text}
 use Rattle.drv_words.specs.Stepping.{pipe_pending}
 use Rattle.drv_words.specs.declared.plan.Plan.{Plan}
-use Rattle.std.proofs.Common.{◌≡◌, ◌∙◌, Bool, Err, IfOk, List, [], ◌∷◌, ◌++◌, Ok, OnErr, Result, ap, append_assoc, false, map, refl, subst, sym, true, ℕ}
+use Rattle.std.proofs.Common.{◌≡◌, ◌∙◌, Bool, Err, IfOk, List, [], ◌∷◌, ◌++◌, Ok, OnErr, Result, ap, append_assoc, false, map, refl, subst}
+use Rattle.std.proofs.Common.{sym, true, ℕ}
 use Rattle.std.proofs.lemmas.List.{append-nil}
 
 -- For `do_work`: the texts that a call prints, and the run after them.
@@ -42,16 +43,26 @@ announces_only name Notices plan said (status, says) = said_only (notices_text n
 -- what is said, and then the run
 
 pub plan_carried_out : (name : List ℕ) (journal journal' journal'' : List Event) (plan : Plan) (manner : Manner) (status : ℕ)
-    → AnnouncesPlan name journal journal' manner.telling plan → Executed plan manner.pass_codes manner.window journal' journal'' status → DoesWork name journal journal'' (CarryOut plan manner) status
+    → AnnouncesPlan name journal journal' manner.telling plan → Executed plan manner.pass_codes manner.window journal' journal'' status
+    → DoesWork name journal journal'' (CarryOut plan manner) status
 plan_carried_out name journal journal' journal'' plan manner status announces executes = (
   announces.0 ++ map Run executes.events,
-  executes.journal_grows ∙ ap (λ before. before ++ map Run executes.events) announces.1 ∙ append_assoc journal announces.0 (map Run executes.events),
+  executes.journal_grows ∙ ap (λ before. before ++ map Run executes.events) announces.1
+      ∙ append_assoc journal announces.0 (map Run executes.events),
   record {
     announced = announces.0;
     ran = map Run executes.events;
     joined = refl;
     announces = announces.2;
-    executes = record { events = executes.events; answers = executes.answers; journal_grows = refl; windowed = executes.windowed; few = executes.few; status_is = executes.status_is };
+    executes = record {
+      events = executes.events;
+      answers = executes.answers;
+      journal_grows = refl;
+      windowed = executes.windowed;
+      few =
+          executes.few;
+      status_is = executes.status_is;
+    };
   },
 )
 
@@ -75,29 +86,38 @@ none_ran_asking (Say text answer ∷ asked) is = absurd is.0
 none_ran_asking (Put text answer ∷ asked) is = absurd is.0
 none_ran_asking (Run e ∷ asked) is = absurd is.0
 
-pipe_stays : (journal events : List Event) → run_of events ≡ [] → pipe_pending (run_of journal) ≡ false → pipe_pending (run_of (journal ++ events)) ≡ false
+pipe_stays : (journal events : List Event) → run_of events ≡ [] → pipe_pending (run_of journal) ≡ false
+    → pipe_pending (run_of (journal ++ events)) ≡ false
 pipe_stays journal events none before =
     ap pipe_pending (run_of-append journal events ∙ ap (λ run. run_of journal ++ run) none ∙ append-nil (run_of journal)) ∙ before
 
-pub pipe_after_questions : (journal asked : List Event) → AreQuestions asked → pipe_pending (run_of journal) ≡ false → pipe_pending (run_of (journal ++ asked)) ≡ false
+pub pipe_after_questions : (journal asked : List Event) → AreQuestions asked → pipe_pending (run_of journal) ≡ false
+    → pipe_pending (run_of (journal ++ asked)) ≡ false
 pipe_after_questions journal asked are before = pipe_stays journal asked (none_ran_asking asked are) before
 
 pub no_pipe_after_announced : (name : List ℕ) (journal journal' : List Event) (telling : Telling) (plan : Plan)
     → AnnouncesPlan name journal journal' telling plan → pipe_pending (run_of journal) ≡ false → pipe_pending (run_of journal') ≡ false
 no_pipe_after_announced name journal journal' telling plan announces before =
-    ap (λ after. pipe_pending (run_of after)) announces.1 ∙ pipe_stays journal announces.0 (none_ran announces.0 (announces_only name telling plan announces.0 announces.2)) before
+    ap (λ after. pipe_pending (run_of after)) announces.1
+    ∙ pipe_stays journal announces.0 (none_ran announces.0 (announces_only name telling plan announces.0 announces.2)) before
 
 -- nor after texts, and a work that runs nothing
 
-pub no_pipe_after_texts : (journal journal' : List Event) → OnlySays journal journal' → pipe_pending (run_of journal) ≡ false → pipe_pending (run_of journal') ≡ false
-no_pipe_after_texts journal journal' only before = ap (λ after. pipe_pending (run_of after)) only.1 ∙ pipe_stays journal only.0 (none_ran only.0 only.2) before
+pub no_pipe_after_texts : (journal journal' : List Event) → OnlySays journal journal' → pipe_pending (run_of journal) ≡ false
+    → pipe_pending (run_of journal') ≡ false
+no_pipe_after_texts journal journal' only before = ap (λ after. pipe_pending (run_of after)) only.1
+    ∙ pipe_stays journal only.0 (none_ran only.0 only.2) before
 
-pub no_pipe_after_dump : {E : Type 0} (name : List ℕ) (journal journal' : List Event) (text : List ℕ) (result : Result ℕ E) → IfOk result (λ status. DoesWork name journal journal' (Dump text) status)
+pub no_pipe_after_dump : {E : Type 0} (name : List ℕ) (journal journal' : List Event) (text : List ℕ) (result : Result ℕ E)
+    → IfOk result (λ status. DoesWork name journal journal' (Dump text) status)
     → OnErr result (OnlySays journal journal') → pipe_pending (run_of journal) ≡ false → pipe_pending (run_of journal') ≡ false
-no_pipe_after_dump name journal journal' text (Ok status) does only before = ap (λ after. pipe_pending (run_of after)) does.1 ∙ pipe_stays journal does.0 (ap run_of does.2.1) before
+no_pipe_after_dump name journal journal' text (Ok status) does only before = ap (λ after. pipe_pending (run_of after)) does.1
+    ∙ pipe_stays journal does.0 (ap run_of does.2.1) before
 no_pipe_after_dump name journal journal' text (Err e) does only before = no_pipe_after_texts journal journal' only before
 
-pub no_pipe_after_shown : {E : Type 0} (name : List ℕ) (journal journal' : List Event) (plan : Plan) (result : Result ℕ E) → IfOk result (λ status. ShowsPlan name journal journal' plan status)
+pub no_pipe_after_shown : {E : Type 0} (name : List ℕ) (journal journal' : List Event) (plan : Plan) (result : Result ℕ E)
+    → IfOk result (λ status. ShowsPlan name journal journal' plan status)
     → OnErr result (OnlySays journal journal') → pipe_pending (run_of journal) ≡ false → pipe_pending (run_of journal') ≡ false
-no_pipe_after_shown name journal journal' plan (Ok status) shows only before = no_pipe_after_announced name journal journal' Commands plan (shows.0, shows.1, (status, shows.2)) before
+no_pipe_after_shown name journal journal' plan (Ok status) shows only before =
+    no_pipe_after_announced name journal journal' Commands plan (shows.0, shows.1, (status, shows.2)) before
 no_pipe_after_shown name journal journal' plan (Err e) shows only before = no_pipe_after_texts journal journal' only before

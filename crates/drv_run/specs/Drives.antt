@@ -85,7 +85,8 @@ planned F line set seed = denoted F line set seed
 -- a line with other settings of the call itself: whether its plan is shown, whether it is said, whose codes count, and how many sources are
 -- under way at once. The plan sees none of them: the law `same_plan`.
 abbrev pub called_as : Bool → Bool → Bool → ℕ → Line → Line
-called_as dry verbose pass_codes jobs line = record line { settings = record line.settings { dry = dry; verbose = verbose; pass_codes = pass_codes; jobs = jobs } }
+called_as dry verbose pass_codes jobs line = record line
+    { settings = record line.settings { dry = dry; verbose = verbose; pass_codes = pass_codes; jobs = jobs } }
 
 -- what is said of a plan before it is carried out: with -v its commands too
 abbrev pub telling_of : Settings → Telling
@@ -127,10 +128,13 @@ pub record Drives (F : Facts) (args : List (List ℕ)) (seed : ℕ) (work : Work
 -- lack of memory.
 pub data Refuses (F : Facts) (args : List (List ℕ)) (seed : ℕ) : Refusal → Type 0 where
   not_expanded : {fault : ArgsFault} → RefusesExpansion F 2000 (after_c99 args) fault → Refuses F args seed (Args fault)
-  not_fronted : {expanded : Expanded} {fault : C99Fault} → Expands F 2000 (after_c99 args) (Ok expanded) → fronted (is_c99 args) expanded ≡ Err fault → Refuses F args seed (NoFront fault)
+  not_fronted : {expanded : Expanded} {fault : C99Fault} → Expands F 2000 (after_c99 args) (Ok expanded)
+      → fronted (is_c99 args) expanded ≡ Err fault → Refuses F args seed (NoFront fault)
   not_read : {words : Expanded} {fault : ArgsFault} → Words F args words → line_read words ≡ Err fault → Refuses F args seed (Args fault)
-  not_loaded : {words : Expanded} {line : Line} {fault : SpecsFault} → Words F args words → line_read words ≡ Ok line → specs_of F line.settings ≡ Is (Err fault) → Refuses F args seed (NoSpecs fault)
-  not_planned : {words : Expanded} {line : Line} {set : Set} {fault : PlanFault} → Words F args words → line_read words ≡ Ok line → specs_of F line.settings ≡ Is (Ok set)
+  not_loaded : {words : Expanded} {line : Line} {fault : SpecsFault} → Words F args words → line_read words ≡ Ok line
+      → specs_of F line.settings ≡ Is (Err fault) → Refuses F args seed (NoSpecs fault)
+  not_planned : {words : Expanded} {line : Line} {set : Set} {fault : PlanFault} → Words F args words → line_read words ≡ Ok line
+      → specs_of F line.settings ≡ Is (Ok set)
       → work_of F line set seed ≡ Is (Err fault) → Refuses F args seed (NoPlan fault)
 
 -- how a step's fault ends the call

@@ -1,8 +1,9 @@
 //! A call of the driver.
 
-ghost use Rattle.drv_run.specs.Calls.{Drove, HasWindow};
+ghost use Rattle.drv_run.specs.Calls.{Drove, HasWindow, Keeps};
 ghost use Rattle.drv_run.specs.Drives.{IsApart};
 ghost use Rattle.drv_run.specs.Code.Telling.{EndsWork};
+ghost use Rattle.drv_system.specs.Facts.{no_facts};
 ghost use Rattle.drv_system.specs.Running.{run_of};
 ghost use Rattle.drv_words.specs.Stepping.{pipe_pending};
 ghost use Rattle.std.specs.Prelude.{◌≡◌, false};
@@ -29,23 +30,41 @@ fn ending_of<S: System>(alloc: Global, sys: &mut S, work: &Work) -> Ending
 }
 
 /// A call of the driver with these arguments (GCC manual, "Overall Options"; after a first
-/// argument `--c99`, POSIX c99).
+/// argument `--c99`, POSIX c99), over a table that has no answers yet.
 ///
 /// With `-dumpspecs` it writes the specs. Otherwise it plans the commands of the line and says the
 /// plan's notices, and with `-v` or `-###` its commands too. With `-###` it starts nothing.
 /// Otherwise it carries the plan out, with as many sources under way as `--jobs` says. The seed is
 /// for the names of temporaries. A refused call, and one that lacks memory, makes and starts
-/// nothing. No pipe is pending after a call, so the next one can be made.
+/// nothing. No pipe is pending after a call, so the next one can be made. The table keeps the answers
+/// by which the call ended, for a caller that says more of its ending.
 #[tactic(auto, using(crate::proofs::Endings::no_pipe_after_questions))]
+pub fn drive_over<S: System>(
+    alloc: Global,
+    sys: &mut S,
+    args: Listing<Word>,
+    seed: u32,
+    facts: &mut FactTable,
+) -> Ending
+    requires pipe { pipe_pending (run_of (S.events sys.old)) ≡ false }
+    requires empty { facts.old ≡ no_facts }
+    ensures drove { Drove (S.events sys.old) (S.events sys.new) args seed result }
+    ensures keeps { Keeps facts.new args seed result }
+    ensures apart { IsApart result }
+    ensures pipe { pipe_pending (run_of (S.events sys.new)) ≡ false }
+{
+    match work_of_args(alloc, args, seed, &mut Outside { sys, facts }) {
+        Ok(work) => ending_of(alloc, sys, &work),
+        Err(ending) => ending,
+    }
+}
+
+/// A call of the driver with these arguments, as `drive_over` makes it.
 pub fn drive<S: System>(alloc: Global, sys: &mut S, args: Listing<Word>, seed: u32) -> Ending
     requires pipe { pipe_pending (run_of (S.events sys.old)) ≡ false }
     ensures drove { Drove (S.events sys.old) (S.events sys.new) args seed result }
     ensures apart { IsApart result }
     ensures pipe { pipe_pending (run_of (S.events sys.new)) ≡ false }
 {
-    let facts = &mut FactTable::new(alloc);
-    match work_of_args(alloc, args, seed, &mut Outside { sys, facts }) {
-        Ok(work) => ending_of(alloc, sys, &work),
-        Err(ending) => ending,
-    }
+    drive_over(alloc, sys, args, seed, &mut FactTable::new(alloc))
 }

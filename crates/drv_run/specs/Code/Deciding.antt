@@ -22,4 +22,5 @@ ComesOfSpecs given (Err ending) = ⊥
 
 -- as any words do that are read as this line
 abbrev pub ComesOfLine : Facts → Line → ℕ → Result Work Ending → Type 0
-ComesOfLine F line seed result = (args : List (List ℕ)) (words : Expanded) → Words F args words → line_read words ≡ Ok line → Comes F args seed result
+ComesOfLine F line seed result = (args : List (List ℕ)) (words : Expanded) → Words F args words → line_read words ≡ Ok line
+    → Comes F args seed result

@@ -14,6 +14,7 @@ GivesWords F args (Ok words) = Words F args words
 GivesWords F args (Err OutOfMemory) = ⊤
 GivesWords F args (Err (Done status)) = ⊥
 GivesWords F args (Err (Refused (Args fault))) = RefusesExpansion F 2000 (after_c99 args) fault
-GivesWords F args (Err (Refused (NoFront fault))) = (expanded : Expanded) × Expands F 2000 (after_c99 args) (Ok expanded) × (fronted (is_c99 args) expanded ≡ Err fault)
+GivesWords F args (Err (Refused (NoFront fault))) =
+    (expanded : Expanded) × Expands F 2000 (after_c99 args) (Ok expanded) × (fronted (is_c99 args) expanded ≡ Err fault)
 GivesWords F args (Err (Refused (NoSpecs fault))) = ⊥
 GivesWords F args (Err (Refused (NoPlan fault))) = ⊥

@@ -8,17 +8,23 @@ use Rattle.std.proofs.Common.{refl}
 
 pub returns-in_err-loaded-clause-loads : goal.returns-in_err-loaded-clause-loads
 returns-in_err-loaded-clause-loads g c F e =
-    refusal_given specs_fault.Memory c.in_err-loaded.field-0.0 c.from_residual.result _ (files_loaded F c.args.prefixes.now c.args.set c.args.names.now) c.from_residual.ensures.1
-    (file_refused F c.args.prefixes.now c.loop-name.loaded c.args.names.now c.loop-name.name-index c.name-item.result c.in_err-loaded.field-0.0 (files_loaded F c.args.prefixes.now c.args.set c.args.names.now)
-    c.loop-name-test.true c.name-item.is (c.in_err-loaded.ensures.loads F e) (c.loop-name.invariant.rest F (extends_then (asks_extends c.with_file.ensures.asks) e)))
+    refusal_given specs_fault.Memory c.in_err-loaded.field-0.0 c.from_residual.result _
+    (files_loaded F c.args.prefixes.now c.args.set c.args.names.now) c.from_residual.ensures.1
+    (file_refused F c.args.prefixes.now c.loop-name.loaded c.args.names.now c.loop-name.name-index c.name-item.result
+    c.in_err-loaded.field-0.0 (files_loaded F c.args.prefixes.now c.args.set c.args.names.now)
+    c.loop-name-test.true c.name-item.is (c.in_err-loaded.ensures.loads F e)
+    (c.loop-name.invariant.rest F (extends_then (asks_extends c.with_file.ensures.asks) e)))
 
 pub loop-name-preserved : goal.loop-name-preserved
 loop-name-preserved g c = record {
   asks = asked_further c.loop-name.invariant.asks (record { asks = c.with_file.ensures.asks; same_sys = refl; same_facts = refl });
   rest = λ F e.
-      file_taken F c.args.prefixes.now c.loop-name.loaded c.in_ok-loaded.loaded c.args.names.now c.loop-name.name-index c.name-item.result (files_loaded F c.args.prefixes.now c.args.set c.args.names.now)
-      c.loop-name-test.true c.name-item.is (c.in_ok-loaded.ensures.loads F e) (c.loop-name.invariant.rest F (extends_then (asks_extends c.with_file.ensures.asks) e));
+      file_taken F c.args.prefixes.now c.loop-name.loaded c.in_ok-loaded.loaded c.args.names.now c.loop-name.name-index c.name-item.result
+      (files_loaded F c.args.prefixes.now c.args.set c.args.names.now)
+      c.loop-name-test.true c.name-item.is (c.in_ok-loaded.ensures.loads F e)
+      (c.loop-name.invariant.rest F (extends_then (asks_extends c.with_file.ensures.asks) e));
 }
 
 pub returns-in_err-loaded-clause-asks : goal.returns-in_err-loaded-clause-asks
-returns-in_err-loaded-clause-asks g c = asked_further c.loop-name.invariant.asks (record { asks = c.with_file.ensures.asks; same_sys = refl; same_facts = refl })
+returns-in_err-loaded-clause-asks g c = asked_further c.loop-name.invariant.asks
+    (record { asks = c.with_file.ensures.asks; same_sys = refl; same_facts = refl })

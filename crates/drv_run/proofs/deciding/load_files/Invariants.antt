@@ -8,5 +8,6 @@ use Rattle.std.proofs.Common.{◌≡◌, drop}
 abbrev pub invariant-loop-name : goal.invariant-loop-name
 invariant-loop-name g l = record {
   asks : Asked g.S.System.events l.fn.outside l.outside;
-  rest : (F : Facts) → Extends l.outside.facts.now F → files_loaded F l.prefixes l.loaded (drop l.name-index l.names) ≡ files_loaded F l.prefixes l.fn.set l.names;
+  rest : (F : Facts) → Extends l.outside.facts.now F
+      → files_loaded F l.prefixes l.loaded (drop l.name-index l.names) ≡ files_loaded F l.prefixes l.fn.set l.names;
 }

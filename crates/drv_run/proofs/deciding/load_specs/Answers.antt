@@ -8,7 +8,8 @@ use Rattle.std.proofs.Common.{rules}
 pub returns-clause-loads : goal.returns-clause-loads
 returns-clause-loads g c F e =
     let known : Extends c.load_files.new.outside.facts.now F = search rules in
-    specs_loaded F c.args.settings.now c.as_slice.result.now c.as_slice-2.result.now c.in_ok-prefixes.prefixes c.args.set c.load_files.result c.as_slice.ensures c.as_slice-2.ensures
+    specs_loaded F c.args.settings.now c.as_slice.result.now c.as_slice-2.result.now c.in_ok-prefixes.prefixes c.args.set
+    c.load_files.result c.as_slice.ensures c.as_slice-2.ensures
     (c.in_ok-prefixes.ensures.prefixes F (extends_before c.load_files.ensures.asks known)) (c.load_files.ensures.loads F known)
 
 pub returns-clause-asks : goal.returns-clause-asks

@@ -7,13 +7,15 @@ use Rattle.std.proofs.Common.{refl}
 
 pub returns-in_err-set-clause-comes : goal.returns-in_err-set-clause-comes
 returns-in_err-set-clause-comes g c F e args words gives reads =
-    loading_ends F args c.args.seed words c.args.line.now c.in_err-set.field-0.0 c.from_residual.result c.from_residual.ensures.1 gives reads (c.in_err-set.ensures.loads F e)
+    loading_ends F args c.args.seed words c.args.line.now c.in_err-set.field-0.0 c.from_residual.result c.from_residual.ensures.1 gives
+    reads (c.in_err-set.ensures.loads F e)
 
 pub returns-in_err-work-clause-comes : goal.returns-in_err-work-clause-comes
 returns-in_err-work-clause-comes g c F e args words gives reads =
     line_comes F args c.args.seed words c.args.line.now c.in_ok-set.set c.from_residual-in_err-work.result gives reads
     (c.in_ok-set.ensures.loads F (extends_then (asks_extends c.work_of.ensures.asks) e))
-    (planning_ends (work_of F c.args.line.now c.in_ok-set.set c.args.seed) c.in_err-work.field-0.0 c.from_residual-in_err-work.result c.from_residual-in_err-work.ensures.1 (c.in_err-work.ensures.works F e))
+    (planning_ends (work_of F c.args.line.now c.in_ok-set.set c.args.seed) c.in_err-work.field-0.0 c.from_residual-in_err-work.result
+    c.from_residual-in_err-work.ensures.1 (c.in_err-work.ensures.works F e))
 
 pub returns-clause-comes : goal.returns-clause-comes
 returns-clause-comes g c F e args words gives reads = record {
@@ -27,7 +29,9 @@ returns-clause-comes g c F e args words gives reads = record {
 }
 
 pub returns-in_err-work-clause-asks : goal.returns-in_err-work-clause-asks
-returns-in_err-work-clause-asks g c = asked_further c.specs_of.ensures.asks (record { asks = c.work_of.ensures.asks; same_sys = refl; same_facts = refl })
+returns-in_err-work-clause-asks g c = asked_further c.specs_of.ensures.asks
+    (record { asks = c.work_of.ensures.asks; same_sys = refl; same_facts = refl })
 
 pub returns-clause-asks : goal.returns-clause-asks
-returns-clause-asks g c = asked_further c.specs_of.ensures.asks (record { asks = c.work_of.ensures.asks; same_sys = refl; same_facts = refl })
+returns-clause-asks g c = asked_further c.specs_of.ensures.asks
+    (record { asks = c.work_of.ensures.asks; same_sys = refl; same_facts = refl })

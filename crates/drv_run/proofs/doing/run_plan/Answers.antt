@@ -3,12 +3,15 @@ use Rattle.drv_run.proofs.doing.run_plan.Goals as goal
 
 pub execute-requires-clause-pipe : goal.execute-requires-clause-pipe
 execute-requires-clause-pipe g c =
-    no_pipe_after_announced c.args.name.now (g.S.System.events c.args.sys.now) (g.S.System.events c.announce.new.sys) c.args.manner.telling c.args.plan.now c.in_ok-announce.ensures.announces c.requires.pipe
+    no_pipe_after_announced c.args.name.now (g.S.System.events c.args.sys.now)
+    (g.S.System.events c.announce.new.sys) c.args.manner.telling c.args.plan.now c.in_ok-announce.ensures.announces c.requires.pipe
 
 pub returns-clause-runs : goal.returns-clause-runs
 returns-clause-runs g c =
-    plan_carried_out c.args.name.now (g.S.System.events c.args.sys.now) (g.S.System.events c.announce.new.sys) (g.S.System.events c.execute.new.sys) c.args.plan.now c.args.manner c.in_ok-status.status
+    plan_carried_out c.args.name.now (g.S.System.events c.args.sys.now) (g.S.System.events c.announce.new.sys)
+    (g.S.System.events c.execute.new.sys) c.args.plan.now c.args.manner c.in_ok-status.status
     c.in_ok-announce.ensures.announces c.in_ok-status.ensures.executed
 
 pub returns-in_err-announce-clause-pipe : goal.returns-in_err-announce-clause-pipe
-returns-in_err-announce-clause-pipe g c = no_pipe_after_texts (g.S.System.events c.args.sys.now) (g.S.System.events c.announce.new.sys) c.in_err-announce.ensures.memory c.requires.pipe
+returns-in_err-announce-clause-pipe g c = no_pipe_after_texts (g.S.System.events c.args.sys.now)
+    (g.S.System.events c.announce.new.sys) c.in_err-announce.ensures.memory c.requires.pipe

@@ -15,7 +15,8 @@ returns-in-Done-clause-executed g c =
 
 pub returns-in-Done-clause-pipe : goal.returns-in-Done-clause-pipe
 returns-in-Done-clause-pipe g c =
-    closed_after (g.S.System.events c.args.sys.now) (g.S.System.events c.loop-status.sys) c.loop-status.run.events c.loop-status.invariant.journal c.requires.pipe c.in-Done.ensures.pipe
+    closed_after (g.S.System.events c.args.sys.now) (g.S.System.events c.loop-status.sys) c.loop-status.run.events
+    c.loop-status.invariant.journal c.requires.pipe c.in-Done.ensures.pipe
 
 pub make-answer-requires-clause-can : goal.make-answer-requires-clause-can
 make-answer-requires-clause-can g c =
@@ -27,4 +28,5 @@ pub answer-requires-clause-fits : goal.answer-requires-clause-fits
 answer-requires-clause-fits g c =
     subst (λ action. IfMake action (λ step. fits c.loop-status.run.events step c.make-answer.result ≡ true)) c.in-Make.ensures.action
     (fits_after (g.S.System.events c.args.sys.now) c.loop-status.run.events c.in-Make.step c.make-answer.result
-    (subst (λ journal. fits (run_of journal) c.in-Make.step c.make-answer.result ≡ true) c.loop-status.invariant.journal c.make-answer.ensures.fits))
+    (subst (λ journal. fits (run_of journal) c.in-Make.step c.make-answer.result ≡ true) c.loop-status.invariant.journal
+    c.make-answer.ensures.fits))

@@ -1,0 +1,21 @@
+use Rattle.drv_run.proofs.LinesRead.{line_stops}
+use Rattle.drv_run.proofs.Steps.{reading_ends, words_end}
+use Rattle.drv_run.proofs.reading.line_of_args.Goals as goal
+use Rattle.drv_run.specs.Drives.{stopped_by_args}
+use Rattle.std.proofs.Common.{Err, refl}
+
+pub returns-in_err-words-clause-comes : goal.returns-in_err-words-clause-comes
+returns-in_err-words-clause-comes g c F e =
+    line_stops F c.args.args c.in_err-words.field-0.0 c.from_residual.result c.from_residual.ensures.1
+    (λ seed. words_end F c.args.args seed c.in_err-words.field-0.0 (Err c.in_err-words.field-0.0) refl (c.in_err-words.ensures.gives F e))
+
+pub returns-in_err-line-clause-comes : goal.returns-in_err-line-clause-comes
+returns-in_err-line-clause-comes g c F e =
+    line_stops F c.args.args (stopped_by_args c.in_err-line.field-0.0) c.from_residual-in_err-line.result
+    c.from_residual-in_err-line.ensures.1
+    (λ seed. reading_ends F c.args.args seed c.in_ok-words.words c.in_err-line.field-0.0
+    (Err (stopped_by_args c.in_err-line.field-0.0)) refl
+    (c.in_ok-words.ensures.gives F e) c.in_err-line.ensures.line)
+
+pub returns-clause-comes : goal.returns-clause-comes
+returns-clause-comes g c F e = (c.in_ok-words.words, c.in_ok-words.ensures.gives F e, c.in_ok-line.ensures.line)
