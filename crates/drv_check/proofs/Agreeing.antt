@@ -4,7 +4,9 @@ use Rattle.drv_check.proofs.PiecesChecked.{begins}
 use Rattle.drv_check.proofs.PiecesRead.{pieces_read}
 use Rattle.drv_check.specs.Agreement.{Agrees, all_loaded, fault_in, fault_of, faults_of}
 use Rattle.drv_check.specs.Checked.{based, checked, checked_over, faults_alone, is_fault, tells_fault}
-use Rattle.drv_check.specs.Checks.{Enters, all_called, by_text, called, changed, entered, enters_at, file_checked, finding_of, noted, numbered, open_file, opened, opened_of, pieces_checked, put_aside, spot_in, step, stepped, unchecked, warned}
+use Rattle.drv_check.specs.Checks.{Enters, all_called, by_text, called, changed, entered, enters_at, file_checked, finding_of, noted}
+use Rattle.drv_check.specs.Checks.{numbered, open_file, opened, opened_of, pieces_checked, put_aside, spot_in, step, stepped, unchecked}
+use Rattle.drv_check.specs.Checks.{warned}
 use Rattle.drv_check.specs.Includes.{inclusion_in, read_text}
 use Rattle.drv_check.specs.Numbers.{AreRead, IsRead}
 use Rattle.drv_check.specs.Points.{front_length}
@@ -26,14 +28,16 @@ use Rattle.drv_specs.specs.Blanks.{is_blank}
 use Rattle.drv_specs.specs.Builtin.{builtin_specs}
 use Rattle.drv_specs.specs.Directives.{Bad, Directive, Include, Pair, Rename, Text, directives_of}
 use Rattle.drv_specs.specs.Loading as load
-use Rattle.drv_specs.specs.Loading.{Carried, all_carried, carried, file_carried, file_loaded, including, loaded, most_files, most_levels, set_in, text_read, then_by, worked}
+use Rattle.drv_specs.specs.Loading.{Carried, all_carried, carried, file_carried, file_loaded, including, loaded, most_files, most_levels}
+use Rattle.drv_specs.specs.Loading.{set_in, text_read, then_by, worked}
 use Rattle.drv_specs.specs.Sets.{Set, with_name, with_pair_body, with_text}
 use Rattle.drv_specs.specs.declared.fault.SpecsFault.TheVariants.{BadLine, IncludeTooDeep, TooManyIncludes}
 use Rattle.drv_specs.specs.declared.fault.SpecsFault.{SpecsFault}
 use Rattle.drv_system.specs.Facts.{Facts, read_of}
 use Rattle.drv_system.specs.Known.{◌>>=◌, Is, Known, Unasked, asked}
 use Rattle.drv_system.specs.declared.event.ReadAnswer.{ReadAnswer}
-use Rattle.std.proofs.Common.{◌≡◌, ◌∙◌, ◌+◌, ◌++◌, ◌∷◌, Bool, Err, List, None, Ok, Option, Result, Some, [], ap, append_assoc, drop, false, if◌then◌else◌, length, refl, subst, suc, sym, zero, ℕ}
+use Rattle.std.proofs.Common.{◌≡◌, ◌∙◌, ◌+◌, ◌++◌, ◌∷◌, Bool, Err, List, None, Ok, Option, Result, Some, [], ap, append_assoc, drop, false}
+use Rattle.std.proofs.Common.{if◌then◌else◌, length, refl, subst, suc, sym, zero, ℕ}
 use Rattle.std.proofs.lemmas.List.{append-nil}
 use Rattle.std.specs.List.{flat_map}
 use Rattle.std.specs.Prelude.{filter, map}
@@ -54,7 +58,8 @@ same_in {x = x} is = ap (known_or x) is
 faults_both : (first second : List Finding) → faults_of (first ++ second) ≡ faults_of first ++ faults_of second
 faults_both [] second = refl
 faults_both (finding ∷ first) second =
-    ap (λ fs. fault_of finding ++ fs) (faults_both first second) ∙ sym (append_assoc (fault_of finding) (faults_of first) (faults_of second))
+    ap (λ fs. fault_of finding ++ fs) (faults_both first second)
+    ∙ sym (append_assoc (fault_of finding) (faults_of first) (faults_of second))
 
 faults_with : (first second : List Finding) → faults_of second ≡ [] → faults_of (first ++ second) ≡ faults_of first
 faults_with first second none = faults_both first second ∙ ap (λ fs. faults_of first ++ fs) none ∙ append-nil (faults_of first)
@@ -83,7 +88,8 @@ grows before c Unasked follows = absurd follows
 grows before c (Is (Ok d)) follows = ([], follows.0 ∙ sym (append-nil before))
 grows before c (Is (Err fault)) follows = (fault ∷ follows.0, follows.1)
 
-joins : (before : List SpecsFault) (c c' : Checking) (known : Known (Result Carried SpecsFault)) (next : Carried → Known (Result Carried SpecsFault))
+joins : (before : List SpecsFault) (c c' : Checking) (known : Known (Result Carried SpecsFault))
+    (next : Carried → Known (Result Carried SpecsFault))
     → Follows before c known → Follows (faults_of c.findings) c' (next (carried_of c)) → Follows before c' (then_by known next)
 joins before c c' Unasked next first second = absurd first
 joins before c c' (Is (Ok d)) next first second =
@@ -98,7 +104,8 @@ joins before c c' (Is (Err fault)) next first second =
 
 module _ (c : Checking) (file : OpenFile) (piece : Piece) where
   warned_faults : faults_of (warned c file piece).findings ≡ faults_of c.findings
-  warned_faults = faults_with c.findings (map (finding_of file piece) (marks_of c.set piece.text)) (no_faults file piece (marks_of c.set piece.text))
+  warned_faults = faults_with c.findings (map (finding_of file piece) (marks_of c.set piece.text))
+      (no_faults file piece (marks_of c.set piece.text))
 
   abbrev Alone : Enters → Result Set SpecsFault → Checking → Type 0
   Alone enters result c' =
@@ -109,7 +116,8 @@ module _ (c : Checking) (file : OpenFile) (piece : Piece) where
   changed_well enters set c' is =
       subst (λ x. Follows (faults_of c.findings) x (Is (Ok (record { set = set; files = c.files })))) (same_in is) (warned_faults, refl)
 
-  changed_ill : (enters : Enters) (fault told : SpecsFault) (c' : Checking) → numbered piece.number fault ≡ told → Alone enters (Err fault) c'
+  changed_ill : (enters : Enters) (fault told : SpecsFault) (c' : Checking) → numbered piece.number fault ≡ told
+      → Alone enters (Err fault) c'
       → Follows (faults_of c.findings) c' (Is (Err told))
   changed_ill enters fault told c' same is =
       subst (λ x. Follows (faults_of c.findings) x (Is (Err told))) (same_in is) (
@@ -146,9 +154,11 @@ module _ (F : Facts) (prefixes : Prefixes) where
   One levels c file piece c' = (step F prefixes levels c file piece >>= λ next. entered (enters_at F prefixes levels) next.0 next.1) ≡ Is c'
 
   stays : (levels : ℕ) (c c' : Checking) (file : OpenFile) (piece : Piece) (result : Result Set SpecsFault) → inclusion_in piece.text ≡ None
-      → loaded F prefixes c.set piece.text ≡ Is result → One levels c file piece c' → Alone c file piece (enters_at F prefixes levels) result c'
+      → loaded F prefixes c.set piece.text ≡ Is result → One levels c file piece c'
+      → Alone c file piece (enters_at F prefixes levels) result c'
   stays levels c c' file piece result none loads is =
-      ap (λ k. put_aside (changed (warned c file piece) file piece k) >>= λ next. entered (enters_at F prefixes levels) next.0 next.1) (sym loads)
+      ap (λ k. put_aside (changed (warned c file piece) file piece k) >>= λ next. entered (enters_at F prefixes levels) next.0 next.1)
+      (sym loads)
       ∙ ap (λ i. stepped F prefixes levels c file piece i >>= λ next. entered (enters_at F prefixes levels) next.0 next.1) (sym none) ∙ is
 
   -- how deep files may be within one another
@@ -156,7 +166,8 @@ module _ (F : Facts) (prefixes : Prefixes) where
   abbrev Opens : ℕ → Type 0
   Opens levels = (c c' : Checking) (from : Option Spot) (may : Bool) (missing : _) (name : List ℕ)
       → ((path : List ℕ) (answer : ReadAnswer) → text_read missing path answer ≡ read_text may path answer)
-      → (opened F prefixes levels c from (record { may_miss = may; file = name }) >>= λ next. entered (enters_at F prefixes levels) next.0 next.1) ≡ Is c'
+      → (opened F prefixes levels c from (record { may_miss = may; file = name })
+      >>= λ next. entered (enters_at F prefixes levels) next.0 next.1) ≡ Is c'
       → Follows (faults_of c.findings) c' (including F prefixes levels (carried_of c) missing name)
 
   abbrev Checks : ℕ → Type 0
@@ -164,7 +175,8 @@ module _ (F : Facts) (prefixes : Prefixes) where
       → pieces_checked F prefixes levels (enters_at F prefixes levels) c file pieces ≡ Is c'
       → Follows (faults_of c.findings) c' (all_carried (including F prefixes levels) (carried_of c) directives)
 
-  one_as : (levels : ℕ) → Opens levels → (c c' : Checking) (file : OpenFile) (piece : Piece) (directive : Directive) → IsRead piece directive
+  one_as : (levels : ℕ) → Opens levels → (c c' : Checking) (file : OpenFile) (piece : Piece) (directive : Directive)
+      → IsRead piece directive
       → One levels c file piece c' → Follows (faults_of c.findings) c' (carried (including F prefixes levels) (carried_of c) directive)
   one_as levels opens c c' file piece (Text name body) read is =
       changed_as c file piece (enters_at F prefixes levels) (with_text c.set name body) c' (text_same piece.number c.set name body)
@@ -183,7 +195,8 @@ module _ (F : Facts) (prefixes : Prefixes) where
       (stays levels c c' file piece (Err (BadLine 1)) read.includes (loaded_alone c.set piece.text (Bad 1) read.alone) is)
   one_as levels opens c c' file piece (Include missing name) read is =
       opens c c' (spot_in file piece (front_length is_blank piece.text)) read.includes.0 missing name read.includes.2
-      (ap (λ i. stepped F prefixes levels c file piece i >>= λ next. entered (enters_at F prefixes levels) next.0 next.1) (sym read.includes.1) ∙ is)
+      (ap (λ i. stepped F prefixes levels c file piece i >>= λ next. entered (enters_at F prefixes levels) next.0 next.1)
+      (sym read.includes.1) ∙ is)
 
   checks_at : (levels : ℕ) → Opens levels → Checks levels
   checks_at levels opens c c' file [] [] are is =
@@ -262,7 +275,8 @@ module _ (F : Facts) (prefixes : Prefixes) where
     by_answer missing alike path None is = absurd cc
     by_answer missing alike path (Some answer) is =
         subst (λ r. Follows (faults_of c.findings) c' (then_by (Is r)
-        (λ t. all_carried (including F prefixes levels) (record { set = c.set; files = left }) (directives_of t)))) (sym (alike path answer))
+        (λ t. all_carried (including F prefixes levels) (record { set = c.set; files = left }) (directives_of t))))
+        (sym (alike path answer))
         (by_result levels left checks c c' from path (read_text may path answer) is)
 
     by_path : (missing : _) → ((path : List ℕ) (answer : ReadAnswer) → text_read missing path answer ≡ read_text may path answer)
@@ -274,7 +288,8 @@ module _ (F : Facts) (prefixes : Prefixes) where
 
   by_files : (levels : ℕ) → Checks levels → (n : ℕ) (c c' : Checking) (from : Option Spot) (may : Bool) (missing : _) (name : List ℕ)
       → ((path : List ℕ) (answer : ReadAnswer) → text_read missing path answer ≡ read_text may path answer)
-      → (opened_of F prefixes n c from (record { may_miss = may; file = name }) >>= λ next. entered (file_checked F prefixes levels) next.0 next.1) ≡ Is c'
+      → (opened_of F prefixes n c from (record { may_miss = may; file = name })
+      >>= λ next. entered (file_checked F prefixes levels) next.0 next.1) ≡ Is c'
       → Follows (faults_of c.findings) c' (file_carried F prefixes (including F prefixes levels) c.set n missing name)
   by_files levels checks zero c c' from may missing name alike is =
       subst (λ x. Follows (faults_of c.findings) x (Is (Err TooManyIncludes))) (same_in is) ([], noted_faults c from TooManyIncludes)
@@ -302,14 +317,16 @@ module _ (F : Facts) (prefixes : Prefixes) where
   loads_set before c (Is (Ok d)) follows = (follows.0, ap (λ x. x.set) follows.1)
   loads_set before c (Is (Err fault)) follows = follows
 
-  one_loads : (c c' : Checking) (name : List ℕ) → called F prefixes c name ≡ Is c' → Loads (faults_of c.findings) c' (file_loaded F prefixes c.set name)
+  one_loads : (c c' : Checking) (name : List ℕ) → called F prefixes c name ≡ Is c'
+      → Loads (faults_of c.findings) c' (file_loaded F prefixes c.set name)
   unfolding file_loaded
   one_loads c c' name is =
       loads_set (faults_of c.findings) c' _
       (all_open most_levels (record c { files = most_files }) c' None false refusing.0 name
       (answers_alike refusing.0 false (λ path text. refl) (λ path. refl) (λ path. refl) (λ path. refl)) is)
 
-  loads_alike : (before : List SpecsFault) (c d : Checking) (known : Known (Result Set SpecsFault)) → faults_of d.findings ≡ faults_of c.findings
+  loads_alike : (before : List SpecsFault) (c d : Checking) (known : Known (Result Set SpecsFault))
+      → faults_of d.findings ≡ faults_of c.findings
       → d.set ≡ c.set → Loads before c known → Loads before d known
   loads_alike before c d Unasked faults sets loads = loads
   loads_alike before c d (Is (Ok set)) faults sets loads = (faults ∙ loads.0, sets ∙ loads.1)
@@ -321,7 +338,8 @@ module _ (F : Facts) (prefixes : Prefixes) where
   loads_grow before c (Is (Ok set)) loads = ([], loads.0 ∙ sym (append-nil before))
   loads_grow before c (Is (Err fault)) loads = (fault ∷ loads.0, loads.1)
 
-  loads_join : (before : List SpecsFault) (c c' : Checking) (known : Known (Result Set SpecsFault)) (next : Set → Known (Result Set SpecsFault))
+  loads_join : (before : List SpecsFault) (c c' : Checking) (known : Known (Result Set SpecsFault))
+      (next : Set → Known (Result Set SpecsFault))
       → Loads before c known → Loads (faults_of c.findings) c' (next c.set) → Loads before c' (then_by known next)
   loads_join before c c' Unasked next first second = absurd first
   loads_join before c c' (Is (Ok set)) next first second =
@@ -370,25 +388,37 @@ faults_stay (finding ∷ findings) = by finding.note refl (faults_stay findings)
     by (Fault fault) is same = ap (λ n. fault_in n ++ faults_of (filter tells_fault findings)) is ∙ ap (λ fs. fault ∷ fs) same
     by (Warned warning) is same = same
 
-pieces_well : (set : Set) (worked : List (List ℕ)) (file : OpenFile) (pieces : List Piece) → faults_of (pieces_judged set worked file pieces) ≡ []
+pieces_well : (set : Set) (worked : List (List ℕ)) (file : OpenFile) (pieces : List Piece)
+    → faults_of (pieces_judged set worked file pieces) ≡ []
 pieces_well set worked file [] = refl
 pieces_well set worked file (piece ∷ later) =
-    faults_with (map (finding_of file piece) (whole_marks set worked later piece.text)) (pieces_judged set worked file later) (pieces_well set worked file later) ∙ no_faults file piece (whole_marks set worked later piece.text)
+    faults_with (map (finding_of file piece) (whole_marks set worked later piece.text)) (pieces_judged set worked file later)
+    (pieces_well set worked file later) ∙ no_faults file piece (whole_marks set worked later piece.text)
 
 sources_well : (set : Set) (worked : List (List ℕ)) (n : ℕ) (sources : List Source) → faults_of (sources_judged set worked n sources) ≡ []
 sources_well set worked n [] = refl
 sources_well set worked n (source ∷ sources) =
-    faults_with (file_judged set worked (open_file n source.text)) (sources_judged set worked (n + 1) sources) (sources_well set worked (n + 1) sources)
+    faults_with (file_judged set worked (open_file n source.text)) (sources_judged set worked (n + 1) sources)
+    (sources_well set worked (n + 1) sources)
     ∙ pieces_well set worked (open_file n source.text) (open_file n source.text).pieces
 
 judged_well : (first : ℕ) (c : Checking) → faults_of (judged first c).findings ≡ faults_of c.findings
-judged_well first c = faults_with c.findings (sources_judged c.set (flat_map source_names c.sources) first (drop first c.sources)) (sources_well c.set (flat_map source_names c.sources) first (drop first c.sources))
+judged_well first c = faults_with c.findings (sources_judged c.set (flat_map source_names c.sources) first (drop first c.sources))
+    (sources_well c.set (flat_map source_names c.sources) first (drop first c.sources))
 
 agrees : (F : Facts) (prefixes : Prefixes) (c : Checking) (known : Known (Result Set SpecsFault)) → Loads F prefixes [] c known
     → Agrees (faults_of c.findings) known
 agrees F prefixes c Unasked loads = loads
 agrees F prefixes c (Is (Ok set)) loads = loads.0
 agrees F prefixes c (Is (Err fault)) loads = loads
+
+-- files of a call, over whatever set
+
+pub called_agrees : (F : Facts) (prefixes : Prefixes) (c c' : Checking) (names : List (List ℕ)) → faults_of c.findings ≡ []
+    → all_called F prefixes c names ≡ Is c' → Agrees (faults_of c'.findings) (all_loaded F prefixes c.set names)
+called_agrees F prefixes c c' names none is =
+    agrees F prefixes c' (all_loaded F prefixes c.set names)
+    (subst (λ fs. Loads F prefixes fs c' (all_loaded F prefixes c.set names)) none (all_load F prefixes c c' names is))
 
 module _ (F : Facts) (prefixes : Prefixes) (over names : List (List ℕ)) (c : Checking) where
   base_faults : (base : Checking) → based F prefixes over ≡ Is base → Loads F prefixes [] base (all_loaded F prefixes builtin_specs over)
@@ -402,7 +432,8 @@ module _ (F : Facts) (prefixes : Prefixes) (over names : List (List ℕ)) (c : C
           (loads_alike F prefixes [] d (faults_alone d) (all_loaded F prefixes builtin_specs over) (faults_stay d.findings) refl
           (all_load F prefixes unchecked d over calls))
 
-  over_agrees : checked_over F prefixes over names ≡ Is c → Agrees (faults_of c.findings) (all_loaded F prefixes builtin_specs (over ++ names))
+  over_agrees : checked_over F prefixes over names ≡ Is c
+      → Agrees (faults_of c.findings) (all_loaded F prefixes builtin_specs (over ++ names))
   over_agrees is = by_base (based F prefixes over) refl is
     where
       by_rest : (base : Checking) → based F prefixes over ≡ Is base → (known : Known Checking)

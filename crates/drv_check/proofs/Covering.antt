@@ -4,7 +4,8 @@ use Rattle.drv_match.specs.Matching.{is_broad, is_hit, is_live, is_named, name_a
 use Rattle.drv_syntax.specs.Labels.{Label}
 use Rattle.drv_syntax.specs.declared.token.TestKind.TheVariants as asking
 use Rattle.drv_syntax.specs.declared.token.TestKind.{TestKind}
-use Rattle.std.proofs.Common.{◌≡◌, ◌<◌, ◌≤◌, ◌∙◌, ◌&&◌, ◌||◌, ◌+◌, ◌++◌, Bool, List, [], ◌∷◌, ap, append-nil, append_assoc, arith, drop, false, get_or, if◌then◌else◌, length, nat_eq, not, refl, subst, sym, true, ℕ}
+use Rattle.std.proofs.Common.{◌≡◌, ◌<◌, ◌≤◌, ◌∙◌, ◌&&◌, ◌||◌, ◌+◌, ◌++◌, Bool, List, [], ◌∷◌, ap, append-nil, append_assoc, arith, drop}
+use Rattle.std.proofs.Common.{false, get_or, if◌then◌else◌, length, nat_eq, not, refl, subst, sym, true, ℕ}
 use Rattle.std.proofs.Math.Bool.{or-true}
 use Rattle.std.proofs.lemmas.Bool.Decides.{Decides-eqb, nat_tests}
 use Rattle.std.proofs.lemmas.List.{length-append}
@@ -33,7 +34,8 @@ through p q name one two =
     (begins name q two ∙ ap (λ s. s ++ drop (length q) name) (begins q p one) ∙ append_assoc p (drop (length p) q) (drop (length q) name))
 
 named_too : (a b : Bool) (p q name : List ℕ) → (if a then starts_with nat_eq q p else not b && pointwise nat_eq q p) ≡ true
-    → (if b then starts_with nat_eq name q else pointwise nat_eq name q) ≡ true → (if a then starts_with nat_eq name p else pointwise nat_eq name p) ≡ true
+    → (if b then starts_with nat_eq name q else pointwise nat_eq name q) ≡ true
+    → (if a then starts_with nat_eq name p else pointwise nat_eq name p) ≡ true
 named_too true true p q name all is = through p q name all is
 named_too true false p q name all is = subst (λ n. starts_with nat_eq n p ≡ true) (sym (same name q is)) all
 named_too false true p q name all is = absurd cc
@@ -41,7 +43,8 @@ named_too false false p q name all is = subst (λ n. pointwise nat_eq n p ≡ tr
 
 shorter : (p q : List ℕ) → starts_with nat_eq q p ≡ true → length p ≤ length q
 shorter p q is =
-    let whole : length q ≡ length p + length (drop (length p) q) = ap (λ s. length s) (begins q p is) ∙ length-append p (drop (length p) q) in
+    let whole : length q ≡ length p + length (drop (length p) q) = ap (λ s. length s) (begins q p is)
+    ∙ length-append p (drop (length p) q) in
     omega (arith, whole)
 
 broad_too : (a b : Bool) (p q : List ℕ) → (if a then starts_with nat_eq q p else not b && pointwise nat_eq q p) ≡ true
@@ -62,8 +65,10 @@ both_too true false true n false c f g e = absurd cc
 hit_too : (names : List (List ℕ)) (hidden : List Bool) (first second : Label) → names_all first second ≡ true → (i : ℕ)
     → is_hit names hidden (pattern_of second) i ≡ true → is_hit names hidden (pattern_of first) i ≡ true
 hit_too names hidden first second all i =
-    both_too (not (get_or hidden i false)) (is_live names i) (is_named (pattern_of second) (name_at names i)) (is_named (pattern_of first) (name_at names i))
-    (is_broad (pattern_of second)) (is_broad (pattern_of first)) (named_too first.starred second.starred first.word second.word (name_at names i) all)
+    both_too (not (get_or hidden i false)) (is_live names i) (is_named (pattern_of second) (name_at names i))
+    (is_named (pattern_of first) (name_at names i))
+    (is_broad (pattern_of second)) (is_broad (pattern_of first))
+    (named_too first.starred second.starred first.word second.word (name_at names i) all)
     (broad_too first.starred second.starred first.word second.word all)
 
 some_too : (f g : ℕ → Bool) → ((i : ℕ) → f i ≡ true → g i ≡ true) → (xs : List ℕ) → nat_lt 0 (length (filter f xs)) ≡ true
@@ -72,7 +77,8 @@ some_too f g more [] is = absurd cc
 some_too f g more (x ∷ xs) is = by (f x) (g x) refl refl (some_too f g more xs) is
   where
     by : (t u : Bool) → f x ≡ t → g x ≡ u → (nat_lt 0 (length (filter f xs)) ≡ true → nat_lt 0 (length (filter g xs)) ≡ true)
-        → nat_lt 0 (length (if t then x ∷ filter f xs else filter f xs)) ≡ true → nat_lt 0 (length (if u then x ∷ filter g xs else filter g xs)) ≡ true
+        → nat_lt 0 (length (if t then x ∷ filter f xs else filter f xs)) ≡ true
+        → nat_lt 0 (length (if u then x ∷ filter g xs else filter g xs)) ≡ true
     by t true has has' ih e =
         let some : 0 < length (filter g xs) + 1 = omega arith in
         grind (arith, nat_tests, some)
@@ -98,14 +104,18 @@ covers_by : (k l : TestKind) (first second : Label) → k ≡ asking.Switch → 
     → (if first.negated then second.negated && asks_all l k second first else not second.negated && asks_all k l first second) ≡ true
     → (if first.negated then second.negated && names_all second first else not second.negated && names_all first second) ≡ true
 covers_by k l first second is is' e =
-    subst (λ j. (if first.negated then second.negated && asks_all asking.Switch j second first else not second.negated && asks_all j asking.Switch first second) ≡ true) is
-    (subst (λ j. (if first.negated then second.negated && asks_all j k second first else not second.negated && asks_all k j first second) ≡ true) is' e)
+    subst (λ j. (if first.negated then second.negated && asks_all asking.Switch j second first
+    else not second.negated && asks_all j asking.Switch first second) ≡ true) is
+    (subst (λ j. (if first.negated then second.negated && asks_all j k second first else not second.negated && asks_all k j first second)
+    ≡ true) is' e)
 
 pub covered : (names : List (List ℕ)) (hidden : List Bool) (first second : Label) → first.asks ≡ asking.Switch → second.asks ≡ asking.Switch
     → covers first second ≡ true → is_true names hidden second ≡ true → is_true names hidden first ≡ true
 covered names hidden first second is is' covers =
-    turned_too first.negated second.negated (has_switch names hidden first) (has_switch names hidden second) (names_all first second) (names_all second first)
-    (switch_too names hidden first second) (switch_too names hidden second first) (covers_by first.asks second.asks first second is is' covers)
+    turned_too first.negated second.negated (has_switch names hidden first) (has_switch names hidden second) (names_all first second)
+    (names_all second first)
+    (switch_too names hidden first second) (switch_too names hidden second first)
+    (covers_by first.asks second.asks first second is is' covers)
 
 -- a pattern that names no switch which another one doesn't name
 
@@ -116,13 +126,15 @@ no_longer p q is longer =
     omega (arith, one, more)
 
 whole_by : (a b : Bool) (p q : List ℕ)
-    → ((name : List ℕ) → (if b then starts_with nat_eq name q else pointwise nat_eq name q) ≡ true → (if a then starts_with nat_eq name p else pointwise nat_eq name p) ≡ true)
+    → ((name : List ℕ) → (if b then starts_with nat_eq name q else pointwise nat_eq name q) ≡ true
+    → (if a then starts_with nat_eq name p else pointwise nat_eq name p) ≡ true)
     → (if a then starts_with nat_eq q p else not b && pointwise nat_eq q p) ≡ true
 whole_by true true p q names = names q (begins_back q q [] (sym (append-nil q)))
 whole_by true false p q names = names q (same_back q)
 whole_by false false p q names = names q (same_back q)
 whole_by false true p q names =
-    absurd (no_longer p q (same q p (names q (begins_back q q [] (sym (append-nil q))))) (same (q ++ 0 ∷ []) p (names (q ++ 0 ∷ []) (begins_back (q ++ 0 ∷ []) q (0 ∷ []) refl))))
+    absurd (no_longer p q (same q p (names q (begins_back q q [] (sym (append-nil q)))))
+    (same (q ++ 0 ∷ []) p (names (q ++ 0 ∷ []) (begins_back (q ++ 0 ∷ []) q (0 ∷ []) refl))))
 
 pub whole : (first second : Label)
     → ((name : List ℕ) → is_named (pattern_of second) name ≡ true → is_named (pattern_of first) name ≡ true) → names_all first second ≡ true

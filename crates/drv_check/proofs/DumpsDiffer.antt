@@ -5,7 +5,8 @@ use Rattle.std.specs.List.{flat_map}
 
 -- For `texts_difference`: what differs between two dumps, step by step.
 
-pub lines_next : (mark before after line all : List ℕ) (lines rest : List (List ℕ)) → lines ≡ line ∷ rest → after ≡ before ++ marked_line mark line
+pub lines_next : (mark before after line all : List ℕ) (lines rest : List (List ℕ)) → lines ≡ line ∷ rest
+    → after ≡ before ++ marked_line mark line
     → before ++ flat_map (marked_line mark) lines ≡ all → after ++ flat_map (marked_line mark) rest ≡ all
 lines_next mark before after line all lines rest cut grows is =
     ap (λ text. text ++ flat_map (marked_line mark) rest) grows

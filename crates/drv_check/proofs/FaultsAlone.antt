@@ -7,7 +7,8 @@ use Rattle.drv_search.specs.Search.{prefixes_of}
 use Rattle.drv_search.specs.declared.prefixes.Prefixes.{Prefixes}
 use Rattle.drv_system.specs.Facts.{Facts}
 use Rattle.drv_system.specs.Known.{◌>>=◌, Is}
-use Rattle.std.proofs.Common.{◌≡◌, ◌∙◌, ◌++◌, ◌∷◌, Bool, Err, IfOk, List, Ok, Result, [], ap, false, if◌then◌else◌, length, refl, sym, true, ℕ}
+use Rattle.std.proofs.Common.{◌≡◌, ◌∙◌, ◌++◌, ◌∷◌, Bool, Err, IfOk, List, Ok, Result, [], ap, false, if◌then◌else◌, length, refl, sym, true}
+use Rattle.std.proofs.Common.{ℕ}
 use Rattle.std.proofs.lemmas.List.{append-nil}
 use Rattle.std.specs.Prelude.{filter}
 
@@ -38,13 +39,15 @@ warning_goes kept yielded finding is before =
 
 module _ (F : Facts) (prefixes : Prefixes) (over : List (List ℕ)) where
   pub base_checked : {E : Type 0} (start loaded : Checking) (result : Result Checking E) → start ≡ unchecked
-      → all_called F prefixes start over ≡ Is loaded → IfOk result (λ kept. kept ≡ faults_alone loaded) → IfOk result (λ kept. based F prefixes over ≡ Is kept)
+      → all_called F prefixes start over ≡ Is loaded → IfOk result (λ kept. kept ≡ faults_alone loaded)
+      → IfOk result (λ kept. based F prefixes over ≡ Is kept)
   base_checked start loaded (Err e) starts loads keeps = keeps
   base_checked start loaded (Ok kept) starts loads keeps =
       ap (λ s. all_called F prefixes s over >>= λ c. Is (faults_alone c)) (sym starts) ∙ ap (λ k. k >>= λ c. Is (faults_alone c)) loads
       ∙ ap Is (sym keeps)
 
-  pub over_checked : (names : List (List ℕ)) (base c whole : Checking) (first : ℕ) → based F prefixes over ≡ Is base → first ≡ length base.sources
+  pub over_checked : (names : List (List ℕ)) (base c whole : Checking) (first : ℕ) → based F prefixes over ≡ Is base
+      → first ≡ length base.sources
       → all_called F prefixes base names ≡ Is c → whole ≡ judged first c → checked_over F prefixes over names ≡ Is whole
   over_checked names base c whole first loads at goes judges =
       ap (λ k. k >>= λ b. all_called F prefixes b names >>= λ d. Is (judged (length b.sources) d)) loads

@@ -46,7 +46,8 @@ module _ (F : Facts) (prefixes : Prefixes) (c : Checking) (from : Option Spot) (
       → opened F prefixes levels c from inclusion ≡ Is (new, None)
   opens_none levels new some is noted_so = within levels some ∙ many c.files is ∙ ap (λ d. Is (d, None)) (sym noted_so)
 
-  pub opens : {E : Type 0} (levels : ℕ) (d new : Checking) (path : List ℕ) (text : Result (List ℕ) SpecsFault) (result : Result (Option OpenFile) E)
+  pub opens : {E : Type 0} (levels : ℕ) (d new : Checking) (path : List ℕ) (text : Result (List ℕ) SpecsFault)
+      (result : Result (Option OpenFile) E)
       → 0 < levels → 0 < c.files → found_text F prefixes inclusion ≡ Is (path, text) → d ≡ record c { files = c.files - 1 }
       → IfOk result (λ file. (new, file) ≡ by_text d from path text)
       → IfOk result (λ file. opened F prefixes levels c from inclusion ≡ Is (new, file))
@@ -58,8 +59,10 @@ module _ (F : Facts) (prefixes : Prefixes) (c : Checking) (from : Option Spot) (
 
 -- the text of a file that was found
 
-pub found_is : (F G : Facts) (prefixes : Prefixes) (inclusion : Inclusion) (path : List ℕ) (answer : ReadAnswer) (text : Result (List ℕ) SpecsFault)
-    → file_found F prefixes inclusion.file ≡ Is path → Extends G F → read_of G path ≡ Some answer → text ≡ read_text inclusion.may_miss path answer
+pub found_is : (F G : Facts) (prefixes : Prefixes) (inclusion : Inclusion) (path : List ℕ) (answer : ReadAnswer)
+    (text : Result (List ℕ) SpecsFault)
+    → file_found F prefixes inclusion.file ≡ Is path → Extends G F → read_of G path ≡ Some answer
+    → text ≡ read_text inclusion.may_miss path answer
     → found_text F prefixes inclusion ≡ Is (path, text)
 found_is F G prefixes inclusion path answer text finds e known is =
     ap (λ k. k >>= λ p. asked (read_of F p) >>= λ a. Is (p, read_text inclusion.may_miss p a)) finds

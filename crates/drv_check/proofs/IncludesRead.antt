@@ -9,7 +9,8 @@ use Rattle.drv_specs.specs.Loading.{text_read}
 use Rattle.drv_system.specs.declared.event.ReadAnswer.TheVariants as read
 use Rattle.drv_system.specs.declared.event.ReadAnswer.{ReadAnswer}
 use Rattle.drv_words.specs.Bytes.{greater_than, less_than, number_sign, percent}
-use Rattle.std.proofs.Common.{◌≡◌, ◌∙◌, ◌-◌, ◌==◌, ◌&&◌, Bool, List, [], ◌∷◌, ◌++◌, None, Ordering, ap, codes, drop, false, if◌then◌else◌, length, nat_eq, refl, subst, sym, take, true, ℕ}
+use Rattle.std.proofs.Common.{◌≡◌, ◌∙◌, ◌-◌, ◌==◌, ◌&&◌, Bool, List, [], ◌∷◌, ◌++◌, None, Ordering, ap, codes, drop, false, if◌then◌else◌}
+use Rattle.std.proofs.Common.{length, nat_eq, refl, subst, sym, take, true, ℕ}
 use Rattle.std.proofs.lemmas.Map.Lookups.{exact_bytes}
 use Rattle.std.specs.Cmp.Lexicographic.{pointwise, texts_ties}
 use Rattle.std.specs.List.{ends_with}
@@ -27,7 +28,8 @@ same_bytes : (xs ys : List ℕ) → pointwise nat_eq xs ys ≡ true → xs ≡ y
 same_bytes xs ys e = exact_bytes xs ys (is_equal _ (sym (texts_ties xs ys) ∙ e))
 
 -- both take the same text from an answer, where they do so from each kind of it
-pub answers_alike : (missing : _) (may : Bool) → ((path text : List ℕ) → text_read missing path (read.Read text) ≡ read_text may path (read.Read text))
+pub answers_alike : (missing : _) (may : Bool) → ((path text : List ℕ)
+    → text_read missing path (read.Read text) ≡ read_text may path (read.Read text))
     → ((path : List ℕ) → text_read missing path read.Missing ≡ read_text may path read.Missing)
     → ((path : List ℕ) → text_read missing path read.Failed ≡ read_text may path read.Failed)
     → ((path : List ℕ) → text_read missing path read.TooLarge ≡ read_text may path read.TooLarge)
@@ -57,14 +59,16 @@ renamed_as m n may (old ∷ new ∷ word ∷ words) = refl
 -- the words that may begin the line
 
 abbrev Alike : ℕ → ℕ → List ℕ → List ℕ → List (List ℕ) → Type 0
-Alike m n line word words = IncludesAs (inclusion_of (may_miss (word ∷ words)) (by_keyword m line (word ∷ words))) (by_keyword n line (word ∷ words))
+Alike m n line word words = IncludesAs (inclusion_of (may_miss (word ∷ words)) (by_keyword m line (word ∷ words)))
+    (by_keyword n line (word ∷ words))
 
 -- what becomes of a file that is missing, by a line of each kind
 
 abbrev pub refusing : (missing : _) × (name : List ℕ) × (by_keyword 0 (codes "%include <a>") (codes "%include" ∷ []) ≡ Include missing name)
 refusing = (_, codes "a", refl)
 
-abbrev passing : (missing : _) × (name : List ℕ) × (by_keyword 0 (codes "%include_noerr <a>") (codes "%include_noerr" ∷ []) ≡ Include missing name)
+abbrev passing : (missing : _) × (name : List ℕ) × (by_keyword 0 (codes "%include_noerr <a>") (codes "%include_noerr" ∷ [])
+    ≡ Include missing name)
 passing = (_, codes "a", refl)
 
 refuses : (m n : ℕ) (line : List ℕ) (words : List (List ℕ)) → Alike m n line (codes "%include") words
@@ -78,7 +82,8 @@ passes m n line words =
     (answers_alike passing.0 true (λ path text. refl) (λ path. refl) (λ path. refl) (λ path. refl))
 
 -- a line that begins with %
-pub keyword_as : (m n : ℕ) (line : List ℕ) (words : List (List ℕ)) → IncludesAs (inclusion_of (may_miss words) (by_keyword m line words)) (by_keyword n line words)
+pub keyword_as : (m n : ℕ) (line : List ℕ) (words : List (List ℕ))
+    → IncludesAs (inclusion_of (may_miss words) (by_keyword m line words)) (by_keyword n line words)
 keyword_as m n line [] = refl
 keyword_as m n line (word ∷ words) =
     by (pointwise nat_eq word (codes "%rename")) refl (pointwise nat_eq word (codes "%include")) refl
@@ -88,18 +93,21 @@ keyword_as m n line (word ∷ words) =
         → (e : Bool) → pointwise nat_eq word (codes "%include_noerr") ≡ e → Alike m n line word words
     by true r i i' e e' = rw r (renamed_as m n (pointwise nat_eq word (codes "%include_noerr")) words)
     by false r true i e e' = subst (λ w. Alike m n line w words) (sym (same_bytes word (codes "%include") i)) (refuses m n line words)
-    by false r false i true e = subst (λ w. Alike m n line w words) (sym (same_bytes word (codes "%include_noerr") e)) (passes m n line words)
+    by false r false i true e = subst (λ w. Alike m n line w words) (sym (same_bytes word (codes "%include_noerr") e))
+        (passes m n line words)
     by false r false i false e = rw r (rw i (rw e refl))
 
 -- a piece with a body, whose first line is this one without the blanks at its front
 
-front_kept : (first rest : List ℕ) → is_empty_line first ≡ false → without_front is_blank (first ++ rest) ≡ without_front is_blank first ++ rest
+front_kept : (first rest : List ℕ) → is_empty_line first ≡ false
+    → without_front is_blank (first ++ rest) ≡ without_front is_blank first ++ rest
 front_kept [] rest full = absurd cc
 front_kept (b ∷ line) rest full = by (is_blank b) refl full (front_kept line rest)
   where
     by : (t : Bool) → is_blank b ≡ t → (t && is_empty_line line) ≡ false
         → (is_empty_line line ≡ false → without_front is_blank (line ++ rest) ≡ without_front is_blank line ++ rest)
-        → (if t then without_front is_blank (line ++ rest) else b ∷ line ++ rest) ≡ (if t then without_front is_blank line else b ∷ line) ++ rest
+        → (if t then without_front is_blank (line ++ rest) else b ∷ line ++ rest) ≡ (if t then without_front is_blank line else b ∷ line)
+        ++ rest
     by true is empty shorter = shorter empty
     by false is empty shorter = refl
 
@@ -109,7 +117,8 @@ by_kind may true k x x' y y' is = absurd cc
 by_kind may false true x x' y y' is = absurd cc
 by_kind may false false x x' y y' is = refl
 
-body_stays : (line rest : List ℕ) (may : Bool) → kind_of (start_of 1 line []) ≡ kind.Opens → inclusion_at may (start_of 1 (line ++ rest) []) ≡ None
+body_stays : (line rest : List ℕ) (may : Bool) → kind_of (start_of 1 line []) ≡ kind.Opens
+    → inclusion_at may (start_of 1 (line ++ rest) []) ≡ None
 body_stays [] rest may opens = absurd cc
 body_stays (b ∷ line) rest may opens = by_kind may (b == number_sign) (b == percent) _ _ _ _ opens
 

@@ -11,7 +11,8 @@ use Rattle.std.specs.Prelude.{get_or, map}
 
 -- For check_files: the warnings that show in the whole of the files, piece by piece.
 
-pub pieces_next : (set : Set) (worked : List (List ℕ)) (file : OpenFile) (piece : Piece) (later left : List Piece) (before after whole : List Finding)
+pub pieces_next : (set : Set) (worked : List (List ℕ)) (file : OpenFile) (piece : Piece) (later left : List Piece)
+    (before after whole : List Finding)
     → left ≡ piece ∷ later → after ≡ before ++ map (finding_of file piece) (whole_marks set worked later piece.text)
     → before ++ pieces_judged set worked file left ≡ whole → after ++ pieces_judged set worked file later ≡ whole
 pieces_next set worked file piece later left before after whole cut grows is =
@@ -19,9 +20,11 @@ pieces_next set worked file piece later left before after whole cut grows is =
     ∙ append_assoc before (map (finding_of file piece) (whole_marks set worked later piece.text)) (pieces_judged set worked file later)
     ∙ ap (λ ps. before ++ pieces_judged set worked file ps) (sym cut) ∙ is
 
-pub sources_next : (set : Set) (worked : List (List ℕ)) (n : ℕ) (file : OpenFile) (source : Source) (sources : List Source) (before after whole : List Finding)
+pub sources_next : (set : Set) (worked : List (List ℕ)) (n : ℕ) (file : OpenFile) (source : Source) (sources : List Source)
+    (before after whole : List Finding)
     → n < length sources → source ≡ get_or sources n source → file ≡ open_file n source.text → after ≡ before ++ file_judged set worked file
-    → before ++ sources_judged set worked n (drop n sources) ≡ whole → after ++ sources_judged set worked (n + 1) (drop (n + 1) sources) ≡ whole
+    → before ++ sources_judged set worked n (drop n sources) ≡ whole
+    → after ++ sources_judged set worked (n + 1) (drop (n + 1) sources) ≡ whole
 sources_next set worked n file source sources before after whole below here opens grows is =
     ap (λ fs. fs ++ sources_judged set worked (n + 1) (drop (n + 1) sources)) grows
     ∙ ap (λ f. (before ++ file_judged set worked f) ++ sources_judged set worked (n + 1) (drop (n + 1) sources)) opens

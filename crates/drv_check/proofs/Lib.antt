@@ -2,6 +2,7 @@ mod Agreeing
 mod Covering
 mod Cutting
 mod DumpsDiffer
+mod FaultNotes
 mod FaultsAlone
 mod FilesOpened
 mod IncludesRead
@@ -11,11 +12,14 @@ mod Judged
 mod LinesNumbered
 mod Lost
 mod Marks
+mod Namings
 mod OwnTrees
 mod PieceSteps
 mod PiecesChecked
 mod PiecesRead
 mod Reports
+mod SwitchNames
+mod TextOrigins
 mod TokenMarks
 mod TreeBranches
 mod Unreached

@@ -1,13 +1,16 @@
 use Rattle.drv_check.specs.Checks.{numbered}
-use Rattle.drv_specs.specs.Blanks.{is_blank, is_white}
-use Rattle.drv_specs.specs.Sets.{Set, append, appended_text, begins_with_at, by_tree, ends_with_backslash, is_key, is_name, is_no_text, pair_text, put, text_of, with_body, with_name, with_named, with_pair, with_pair_body, with_pair_text, with_text}
+use Rattle.drv_specs.proofs.Changes.{filled_body}
+use Rattle.drv_specs.specs.Blanks.{is_white}
+use Rattle.drv_specs.specs.Sets.{Set, append, appended_text, appends, begins_with_at, by_tree, ends_with_backslash, is_key, is_name}
+use Rattle.drv_specs.specs.Sets.{is_no_text, pair_text, put, text_of, with_body, with_name, with_named, with_pair, with_pair_body}
+use Rattle.drv_specs.specs.Sets.{with_pair_text, with_text}
 use Rattle.drv_specs.specs.declared.fault.SpecsFault.TheVariants.{AliasOfAlias, BadName, RenameMissing, RenameTaken, TrailingBackslash}
 use Rattle.drv_specs.specs.declared.fault.SpecsFault.{SpecsFault}
 use Rattle.drv_syntax.specs.Outcome.{parsed}
 use Rattle.drv_syntax.specs.Tree.{Items}
 use Rattle.drv_syntax.specs.declared.fault.SyntaxFault.{SyntaxFault}
-use Rattle.drv_words.specs.Bytes.{plus}
-use Rattle.std.proofs.Common.{◌≡◌, ◌==◌, ◌&&◌, Bool, Err, List, [], ◌∷◌, Ok, Result, false, if◌then◌else◌, is_some, nat_eq, not, refl, true, ℕ}
+use Rattle.std.proofs.Common.{◌≡◌, ◌&&◌, Bool, Err, List, [], ◌∷◌, Ok, Result, false, if◌then◌else◌, is_some, nat_eq, not, refl, subst, sym}
+use Rattle.std.proofs.Common.{true, ℕ}
 use Rattle.std.specs.Cmp.Lexicographic.{pointwise}
 use Rattle.std.specs.List.{list_all}
 use Rattle.std.specs.Map.{set_key}
@@ -29,12 +32,12 @@ if_same n false x y first second = second
 
 body_same : (n : ℕ) (set : Set) (name body : List ℕ) → Same n (with_body set name body)
 body_same n set name [] = tt
-body_same n set name (b ∷ []) = tree_same n name (with_named set name (b ∷ [])) (parsed (b ∷ []))
-body_same n set name (b ∷ c ∷ text) =
-    if_same n (b == plus && is_blank c) (append set name (c ∷ text)) (put set name (b ∷ c ∷ text))
-    (if_same n (list_all is_white (c ∷ text)) (Ok set) (put set name (appended_text (text_of set name) (c ∷ text))) tt
-    (tree_same n name _ (parsed (appended_text (text_of set name) (c ∷ text)))))
-    (tree_same n name _ (parsed (b ∷ c ∷ text)))
+body_same n set name (b ∷ text) =
+    subst (Same n) (sym (filled_body set name b text))
+    (if_same n (appends (b ∷ text)) (append set name text) (put set name (b ∷ text))
+    (if_same n (list_all is_white text) (Ok set) (put set name (appended_text (text_of set name) text)) tt
+    (tree_same n name _ (parsed (appended_text (text_of set name) text))))
+    (tree_same n name _ (parsed (b ∷ text))))
 
 pub text_same : (n : ℕ) (set : Set) (name body : List ℕ) → Same n (with_text set name body)
 text_same n set name body =
@@ -58,4 +61,5 @@ name_same n set old new =
     (if_same n (not (is_name new)) (Err (BadName new)) _ refl
     (if_same n (not (is_some (text_of set old))) (Err (RenameMissing old)) _ refl
     (if_same n (pointwise nat_eq old new) (Ok set) _ tt
-    (if_same n (is_some (text_of set new)) (Err (RenameTaken new)) (Ok (record set { named = set_key (pointwise nat_eq old) set.named new })) refl tt))))
+    (if_same n (is_some (text_of set new)) (Err (RenameTaken new))
+    (Ok (record set { named = set_key (pointwise nat_eq old) set.named new })) refl tt))))

@@ -5,7 +5,8 @@ use Rattle.std.proofs.Common.{◌≡◌, ◌∙◌, ◌++◌, ◌∷◌, Bool, L
 
 -- Directives that mark no word, one after another.
 
-pub lost_next : (start : ℕ) (last next : Option Token) (token : Token) (left rest : List Token) (lost : Bool) (before after whole : List Mark) → left ≡ token ∷ rest
+pub lost_next : (start : ℕ) (last next : Option Token) (token : Token) (left rest : List Token) (lost : Bool)
+    (before after whole : List Mark) → left ≡ token ∷ rest
     → next ≡ Some token → lost ≡ is_lost last token rest → after ≡ before ++ lost_mark start token lost
     → before ++ lost_marks start last left ≡ whole → after ++ lost_marks start next rest ≡ whole
 lost_next start last next token left rest lost before after whole cut goes judged grows is =

@@ -21,7 +21,8 @@ pub changes : (c : Checking) (file : OpenFile) (piece : Piece) (known : Known (R
     → known ≡ Is (Ok set) → changed c file piece known ≡ Is (record c { set = set })
 changes c file piece known set is = ap (changed c file piece) is
 
-pub faults : {E X : Type 0} (c d new : Checking) (file : OpenFile) (piece : Piece) (known : Known (Result Set SpecsFault)) (fault : SpecsFault)
+pub faults : {E X : Type 0} (c d new : Checking) (file : OpenFile) (piece : Piece) (known : Known (Result Set SpecsFault))
+    (fault : SpecsFault)
     (result : Result X E) → known ≡ Is (Err fault) → d ≡ c → IfOk result (λ _. new ≡ faulty d file piece fault)
     → IfOk result (λ _. changed c file piece known ≡ Is new)
 faults c d new file piece known fault (Err e) is same adds = adds

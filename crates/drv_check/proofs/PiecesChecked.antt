@@ -6,7 +6,8 @@ use Rattle.drv_search.specs.declared.prefixes.Prefixes.{Prefixes}
 use Rattle.drv_specs.specs.Loading.{most_files, most_levels}
 use Rattle.drv_system.specs.Facts.{Facts}
 use Rattle.drv_system.specs.Known.{◌>>=◌, Is, Known}
-use Rattle.std.proofs.Common.{◌≡◌, ◌∙◌, ◌<◌, ◌+◌, ◌-◌, Err, IfOk, IfSome, List, None, Ok, Option, Result, Some, false, ap, arith, drop, length, refl, subst, suc, sym, zero, ℕ}
+use Rattle.std.proofs.Common.{◌≡◌, ◌∙◌, ◌<◌, ◌+◌, ◌-◌, Err, IfOk, IfSome, List, None, Ok, Option, Result, Some, false, ap, arith, drop}
+use Rattle.std.proofs.Common.{length, refl, subst, suc, sym, zero, ℕ}
 use Rattle.std.proofs.lemmas.List.{drop_more}
 use Rattle.std.specs.Prelude.{get_or}
 
@@ -36,7 +37,8 @@ module _ (F : Facts) (prefixes : Prefixes) where
         ∙ ap (λ p. step F prefixes levels c file p >>= λ next. entered enters next.0 next.1
         >>= λ c'. pieces_checked F prefixes levels enters c' file (drop (n + 1) pieces)) (sym here)
 
-    pub piece_done : (new after : Checking) (next : Option OpenFile) (whole : Known Checking) → n < length pieces → piece ≡ get_or pieces n piece
+    pub piece_done : (new after : Checking) (next : Option OpenFile) (whole : Known Checking) → n < length pieces
+        → piece ≡ get_or pieces n piece
         → step F prefixes levels c file piece ≡ Is (new, next) → entered enters new next ≡ Is after
         → pieces_checked F prefixes levels enters c file (drop n pieces) ≡ whole
         → pieces_checked F prefixes levels enters after file (drop (n + 1) pieces) ≡ whole
@@ -48,12 +50,14 @@ module _ (F : Facts) (prefixes : Prefixes) where
   -- a file of the call
   module _ (c d : Checking) (name : List ℕ) where
     pub called_in : {E X : Type 0} (file : OpenFile) (new : Checking) (result : Result X E)
-        → opened F prefixes most_levels (record c { files = most_files }) None (record { may_miss = false; file = name }) ≡ Is (d, Some file)
+        → opened F prefixes most_levels (record c { files = most_files }) None (record { may_miss = false; file = name })
+        ≡ Is (d, Some file)
         → IfOk result (λ _. file_checked F prefixes 15 d file ≡ Is new) → IfOk result (λ _. called F prefixes c name ≡ Is new)
     called_in file new (Err e) opens goes = goes
     called_in file new (Ok x) opens goes = ap (λ k. k >>= λ next. entered (file_checked F prefixes 15) next.0 next.1) opens ∙ goes
 
-    pub called_out : opened F prefixes most_levels (record c { files = most_files }) None (record { may_miss = false; file = name }) ≡ Is (d, None)
+    pub called_out : opened F prefixes most_levels (record c { files = most_files }) None (record { may_miss = false; file = name })
+        ≡ Is (d, None)
         → called F prefixes c name ≡ Is d
     called_out opens = ap (λ k. k >>= λ next. entered (file_checked F prefixes 15) next.0 next.1) opens
 
@@ -65,7 +69,8 @@ module _ (F : Facts) (prefixes : Prefixes) where
       ∙ ap (λ m. called F prefixes c m >>= λ c'. all_called F prefixes c' (drop (n + 1) names)) (sym here)
       ∙ ap (λ k. k >>= λ c'. all_called F prefixes c' (drop (n + 1) names)) checks) ∙ before
 
-pub piece_gone : (F : Facts) (prefixes : Prefixes) (levels : ℕ) (c : Checking) (file : OpenFile) (items : List Piece) (n : ℕ) (piece : Piece)
+pub piece_gone : (F : Facts) (prefixes : Prefixes) (levels : ℕ) (c : Checking) (file : OpenFile) (items : List Piece) (n : ℕ)
+    (piece : Piece)
     (new after : Checking) (next : Option OpenFile) (whole : Known Checking) → items ≡ file.pieces → n < length items
     → piece ≡ get_or items n piece
     → step F prefixes levels c file piece ≡ Is (new, next) → entered (enters_at F prefixes levels) new next ≡ Is after

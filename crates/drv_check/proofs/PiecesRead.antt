@@ -11,11 +11,14 @@ use Rattle.drv_specs.proofs.Lining.{inside_next, is_full, one_piece, pieces_then
 use Rattle.drv_specs.proofs.SettledLines.{Clean, last_back, last_is, settled_clean}
 use Rattle.drv_specs.proofs.SettledTexts.{is_line_byte, is_settled, settled_same}
 use Rattle.drv_specs.specs.Blanks.{is_blank}
-use Rattle.drv_specs.specs.Directives.{Alone, Bad, Directive, Include, Pair, Passed, Start, Text, WithBody, body_lines, body_of, by_colon, by_key, by_keyword, directive_in, directives_of, first_line, included, is_colon, is_inside, opens_body, read_lines, read_settled, renamed, start_at, start_of}
+use Rattle.drv_specs.specs.Directives.{Alone, Bad, Directive, Include, Pair, Passed, Start, Text, WithBody, body_lines, body_of, by_colon}
+use Rattle.drv_specs.specs.Directives.{by_key, by_keyword, directive_in, directives_of, first_line, included, is_colon, is_inside}
+use Rattle.drv_specs.specs.Directives.{opens_body, read_lines, read_settled, renamed, start_at, start_of}
 use Rattle.drv_specs.specs.Lines.{ends_line, is_empty_line, is_kept, lines_of, settled, trimmed, without_front, words_of}
 use Rattle.drv_specs.specs.Sets.{ends_with_backslash}
 use Rattle.drv_words.specs.Bytes.{asterisk, greater_than, less_than, newline, number_sign, percent}
-use Rattle.std.proofs.Common.{◌≡◌, ◌⊎◌, ◌+◌, ◌-◌, ◌∙◌, ◌==◌, ◌&&◌, Bool, List, [], ◌∷◌, ◌++◌, None, Option, Some, ap, append_assoc, codes, drop, false, if◌then◌else◌, inl, inr, length, nat_eq, not, refl, subst, sym, take, true, ℕ}
+use Rattle.std.proofs.Common.{◌≡◌, ◌⊎◌, ◌+◌, ◌-◌, ◌∙◌, ◌==◌, ◌&&◌, Bool, List, [], ◌∷◌, ◌++◌, None, Option, Some, ap, append_assoc, codes}
+use Rattle.std.proofs.Common.{drop, false, if◌then◌else◌, inl, inr, length, nat_eq, not, refl, subst, sym, take, true, ℕ}
 use Rattle.std.proofs.lemmas.List.{append-nil}
 use Rattle.std.proofs.lemmas.List.Folds.{list_all-append}
 use Rattle.std.specs.Cmp.Lexicographic.{pointwise}
@@ -179,7 +182,8 @@ record Going (piece : Piece) (first : List ℕ) (body lines : List (List ℕ)) :
   settles : is_settled false piece.text ≡ true
   lines_are : lines_of piece.text ≡ first ∷ body
   full : is_empty_line first ≡ false
-  opens : (n : ℕ) (lines : List (List ℕ)) → start_of n (without_front is_blank first) lines ≡ WithBody (entry_of n (without_front is_blank first) lines)
+  opens : (n : ℕ) (lines : List (List ℕ)) → start_of n (without_front is_blank first) lines
+      ≡ WithBody (entry_of n (without_front is_blank first) lines)
   body_full : list_all is_full body ≡ true
   ends : (lines ≡ []) ⊎ (ends_with_backslash piece.text ≡ false)
   begins : (rest : List ℕ) × (piece.text ≡ first ++ rest)
@@ -193,7 +197,8 @@ entry_as inclusion n line lines (Some at) is = by (take at line)
     by [] = is
     by (b ∷ key) = by_star (b == asterisk)
       where
-        by_star : (t : Bool) → IncludesAs inclusion (if t then Text key (body_of (drop (at + 1) line) lines) else Pair (b ∷ key) (body_of (drop (at + 1) line) lines))
+        by_star : (t : Bool) → IncludesAs inclusion (if t then Text key (body_of (drop (at + 1) line) lines)
+            else Pair (b ∷ key) (body_of (drop (at + 1) line) lines))
         by_star true = is
         by_star false = is
 
@@ -203,13 +208,17 @@ entry_read piece first body lines g =
     record {
       alone =
           ap read_settled (settled_same piece.text g.settles) ∙ ap (read_lines false 1) g.lines_are
-          ∙ ap (λ e. directive_in (start_at e false 1 first body) ++ read_lines (is_inside e false (start_at e false 1 first body)) 2 body) g.full
+          ∙ ap (λ e. directive_in (start_at e false 1 first body) ++ read_lines (is_inside e false (start_at e false 1 first body)) 2 body)
+          g.full
           ∙ ap (λ s. directive_in s ++ read_lines (opens_body s) 2 body) (g.opens 1 body)
           ∙ ap (λ ds. entry_of 1 (without_front is_blank first) body ∷ ds) (inside_all body 2 g.body_full)
-          ∙ ap (λ d. d ∷ []) (sym (colon_renumbered 1 piece.number (without_front is_blank first) body (position is_colon (without_front is_blank first))));
-      here = sym (colon_renumbered piece.number piece.number (without_front is_blank first) body (position is_colon (without_front is_blank first)));
+          ∙ ap (λ d. d ∷ []) (sym (colon_renumbered 1 piece.number (without_front is_blank first) body
+          (position is_colon (without_front is_blank first))));
+      here = sym (colon_renumbered piece.number piece.number (without_front is_blank first) body
+          (position is_colon (without_front is_blank first)));
       includes =
-          entry_as (inclusion_in piece.text) piece.number (without_front is_blank first) body (position is_colon (without_front is_blank first))
+          entry_as (inclusion_in piece.text) piece.number (without_front is_blank first) body
+          (position is_colon (without_front is_blank first))
           (body_as piece.text first g.begins.0 g.begins.1 g.full (ap kind_of (g.opens 1 [])));
     }
 
@@ -220,7 +229,8 @@ Outside lines = (n at : ℕ) → AreRead (pieces_from None n at lines) (read_lin
 
 abbrev Inside : List (List ℕ) → Type 0
 Inside lines = (piece : Piece) (first : List ℕ) (body : List (List ℕ)) (n at : ℕ) → Going piece first body lines
-    → AreRead (pieces_from (Some piece) n at lines) (entry_of piece.number (without_front is_blank first) (body ++ body_lines lines) ∷ read_lines true n lines)
+    → AreRead (pieces_from (Some piece) n at lines) (entry_of piece.number (without_front is_blank first) (body ++ body_lines lines)
+    ∷ read_lines true n lines)
 
 inside_end : Inside []
 inside_end piece first body n at g =
@@ -239,7 +249,8 @@ inside_more line lines bytes ends out within piece first body n at g = by (is_em
     f = without_front is_blank first
 
     goal : Bool → Type 0
-    goal e = AreRead ((if e then piece ∷ [] else []) ++ pieces_from (if e then None else Some (longer piece line)) (n + 1) (at + length line + 1) lines)
+    goal e = AreRead ((if e then piece ∷ [] else []) ++ pieces_from (if e then None else Some (longer piece line)) (n + 1)
+        (at + length line + 1) lines)
         (entry_of piece.number f (body ++ (if e then [] else line ∷ body_lines lines))
         ∷ directive_in (start_at e true n line lines) ++ read_lines (is_inside e true (start_at e true n line lines)) (n + 1) lines)
 
@@ -263,9 +274,14 @@ inside_more line lines bytes ends out within piece first body n at g = by (is_em
 
     by : (e : Bool) → is_empty_line line ≡ e → goal (is_empty_line line)
     by true is =
-        subst goal (sym is) (subst (λ b. IsRead piece (entry_of piece.number f b)) (sym (append-nil body)) (entry_read piece first body (line ∷ lines) g), out (n + 1) (at + length line + 1))
+        subst goal (sym is) (
+          subst (λ b. IsRead piece (entry_of piece.number f b)) (sym (append-nil body))
+              (entry_read piece first body (line ∷ lines) g),
+          out (n + 1) (at + length line + 1),
+        )
     by false is =
-        subst goal (sym is) (subst (λ b. AreRead (pieces_from (Some (longer piece line)) (n + 1) (at + length line + 1) lines) (entry_of piece.number f b ∷ read_lines true (n + 1) lines))
+        subst goal (sym is) (subst (λ b. AreRead (pieces_from (Some (longer piece line)) (n + 1) (at + length line + 1) lines)
+        (entry_of piece.number f b ∷ read_lines true (n + 1) lines))
         (append_assoc body (line ∷ []) (body_lines lines))
         (within (longer piece line) first (body ++ line ∷ []) (n + 1) (at + length line + 1) (longer_goes is)))
 
@@ -280,13 +296,15 @@ outside_more line lines bytes ends out within n at = by (is_empty_line line) ref
     p = piece_of n at line
 
     goal : LineKind → Start → Type 0
-    goal k s = AreRead (alone k p ++ pieces_from (opened k p) (n + 1) (at + length line + 1) lines) (directive_in s ++ read_lines (opens_body s) (n + 1) lines)
+    goal k s = AreRead (alone k p ++ pieces_from (opened k p) (n + 1) (at + length line + 1) lines)
+        (directive_in s ++ read_lines (opens_body s) (n + 1) lines)
 
     whole : Bool → Type 0
     whole e = AreRead (alone (line_kind line) p ++ pieces_from (opened (line_kind line) p) (n + 1) (at + length line + 1) lines)
         (directive_in (start_at e false n line lines) ++ read_lines (is_inside e false (start_at e false n line lines)) (n + 1) lines)
 
-    goes : is_empty_line line ≡ false → ((m : ℕ) (ls : List (List ℕ)) → start_of m f ls ≡ WithBody (entry_of m f ls)) → Going p line [] lines
+    goes : is_empty_line line ≡ false → ((m : ℕ) (ls : List (List ℕ)) → start_of m f ls ≡ WithBody (entry_of m f ls))
+        → Going p line [] lines
     goes full is = record {
       settles = line_settled line false bytes;
       lines_are = one_piece line [] (line_alone line bytes);

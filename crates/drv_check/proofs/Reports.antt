@@ -19,7 +19,8 @@ places_next before after places n place whole below here grows is =
     ∙ ap (λ ps. before ++ flat_map from_text ps) (sym (drop_more places n place below)) ∙ is
 
 -- two members, the last of an object
-pub two_members : {X E : Type 0} (result : Result X E) (old t1 t2 t3 t4 new value values : List Token) (k k' end : Token) → t1 ≡ old ++ k ∷ []
+pub two_members : {X E : Type 0} (result : Result X E) (old t1 t2 t3 t4 new value values : List Token) (k k' end : Token)
+    → t1 ≡ old ++ k ∷ []
     → t2 ≡ t1 ++ value → t3 ≡ t2 ++ k' ∷ [] → t4 ≡ t3 ++ values → OnOk result (new ≡ t4 ++ end ∷ [])
     → OnOk result (new ≡ old ++ k ∷ (value ++ k' ∷ (values ++ end ∷ [])))
 two_members (Err e) old t1 t2 t3 t4 new value values k k' end one two three four last = last

@@ -8,13 +8,15 @@ use Rattle.drv_syntax.specs.Labels.{label_at}
 use Rattle.drv_syntax.specs.Parsed.{tree_of}
 use Rattle.drv_syntax.specs.Tree.{Items}
 use Rattle.drv_syntax.specs.declared.token.Token.{Token}
-use Rattle.std.proofs.Common.{◌≡◌, ◌∙◌, ◌<◌, ◌+◌, ◌++◌, ◌∷◌, List, None, OnOk, Option, Result, Err, Ok, Some, ap, append_assoc, drop, length, sym, ℕ}
+use Rattle.std.proofs.Common.{◌≡◌, ◌∙◌, ◌<◌, ◌+◌, ◌++◌, ◌∷◌, List, None, OnOk, Option, Result, Err, Ok, Some, ap, append_assoc, drop}
+use Rattle.std.proofs.Common.{length, sym, ℕ}
 use Rattle.std.proofs.lemmas.List.{append-nil, drop_more}
 use Rattle.std.specs.Prelude.{get_or}
 
 -- For check_files: the warnings of the tokens of a text, one after another.
 
-pub marks_next : (set : Set) (text : List ℕ) (items : Items) (start n at : ℕ) (tokens : List Token) (token : Token) (warning : Option Warning)
+pub marks_next : (set : Set) (text : List ℕ) (items : Items) (start n at : ℕ) (tokens : List Token) (token : Token)
+    (warning : Option Warning)
     (before after whole : List Mark) → n < length tokens → token ≡ get_or tokens n token
     → warning ≡ token_warning set text token (label_at items n) → at ≡ start + token.start → after ≡ before ++ mark_at at warning
     → before ++ tokens_marks set text items start n (drop n tokens) ≡ whole
@@ -30,7 +32,8 @@ marks_next set text items start n at tokens token warning before after whole bel
 
 -- of the tree of the text that a piece gives
 
-pub marks_of_tree : {X E : Type 0} (set : Set) (text tree : List ℕ) (start : ℕ) (own : Option (List ℕ)) (before after : List Mark) (result : Result X E)
+pub marks_of_tree : {X E : Type 0} (set : Set) (text tree : List ℕ) (start : ℕ) (own : Option (List ℕ)) (before after : List Mark)
+    (result : Result X E)
     → own ≡ Some tree → tree_or_none own ≡ own_tree text → tree ≡ own_text text → start ≡ own_start text
     → OnOk result (after ≡ before ++ tree_marks set tree (tree_of tree) start)
     → OnOk result (after ≡ before ++ own_marks set text)

@@ -1,12 +1,14 @@
 use Rattle.drv_check.proofs.Unreached.{parts_done}
 use Rattle.drv_check.specs.Branches as of_tree
 use Rattle.drv_check.specs.Branches.{is_unreachable, mark_if}
-use Rattle.drv_check.specs.Code.Branching.{beyond, branch_if, branch_in, branches_of, here, listed_marks, parts_from, parts_marks, test_at, test_if, test_in, tests_of}
+use Rattle.drv_check.specs.Code.Branching.{beyond, branch_if, branch_in, branches_of, here, listed_marks, parts_from, parts_marks, test_at}
+use Rattle.drv_check.specs.Code.Branching.{test_if, test_in, tests_of}
 use Rattle.drv_check.specs.declared.branches.Branch.{Branch}
 use Rattle.drv_check.specs.declared.warning.Mark.{Mark}
 use Rattle.drv_syntax.proofs.FlatNodes.{as_many, items_flat}
 use Rattle.drv_syntax.specs.Code.Writing.{flat}
-use Rattle.drv_syntax.specs.Labels.{Label, Nodes, alternative_label, asked_nodes, both, brace_nodes, choice_nodes, inner_nodes, label_at, label_of, labels}
+use Rattle.drv_syntax.specs.Labels.{Label, Nodes, alternative_label, asked_nodes, both, brace_nodes, choice_nodes, inner_nodes, label_at}
+use Rattle.drv_syntax.specs.Labels.{label_of, labels}
 use Rattle.drv_syntax.specs.Labels.{labels_of, no_label, no_node, node, nodes_of, part_label, pattern_nodes, test_label, test_nodes}
 use Rattle.drv_syntax.specs.Tokens.{kind_of, tokens_of}
 use Rattle.drv_syntax.specs.Tree as tree
@@ -14,7 +16,8 @@ use Rattle.drv_syntax.specs.Tree.{Asked, Brace, Choices, Item, Items, Pattern, S
 use Rattle.drv_syntax.specs.declared.token.Token.{Token}
 use Rattle.drv_syntax.specs.declared.token.TokenKind.TheVariants as kinds
 use Rattle.drv_syntax.specs.declared.token.TokenKind.{TokenKind}
-use Rattle.std.proofs.Common.{◌≡◌, ◌∙◌, ◌<◌, ◌≤◌, ◌+◌, ◌++◌, ◌∷◌, Bool, List, [], ap, append-nil, append_assoc, arith, drop, get_or, if◌then◌else◌, length, length-append, refl, subst, sym, ℕ}
+use Rattle.std.proofs.Common.{◌≡◌, ◌∙◌, ◌<◌, ◌≤◌, ◌+◌, ◌++◌, ◌∷◌, Bool, List, [], ap, append-nil, append_assoc, arith, drop, get_or}
+use Rattle.std.proofs.Common.{if◌then◌else◌, length, length-append, refl, subst, sym, ℕ}
 use Rattle.std.proofs.Math.Seq.{drop-append_seam}
 use Rattle.std.proofs.lemmas.Bool.{le-ltb, lt-ltb}
 use Rattle.std.proofs.lemmas.List.{drop_all, get_or-drop}
@@ -72,7 +75,8 @@ module _ (items : Items) (n : ℕ) (kind : TokenKind) (label : Label) (s : Span)
   lies_inside : Lies items n (node kind label s inner others) → Lies items (n + 1) inner
   lies_inside l = record {
     has_tokens = sits_front (tokens_of items) (n + 1) (flat (n + 1) inner) (flat (behind n inner) others)
-        (sits_back (tokens_of items) n (n + 1) (first n kind s inner ∷ []) (flat (n + 1) inner ++ flat (behind n inner) others) refl l.has_tokens);
+        (sits_back (tokens_of items) n (n + 1) (first n kind s inner ∷ [])
+        (flat (n + 1) inner ++ flat (behind n inner) others) refl l.has_tokens);
     has_labels = sits_front (labels_of items) (n + 1) (labels inner) (labels others)
         (sits_back (labels_of items) n (n + 1) (label ∷ []) (labels inner ++ labels others) refl l.has_labels);
   }
@@ -80,8 +84,10 @@ module _ (items : Items) (n : ℕ) (kind : TokenKind) (label : Label) (s : Span)
   lies_after : Lies items n (node kind label s inner others) → Lies items (behind n inner) others
   lies_after l = record {
     has_tokens = sits_back (tokens_of items) (n + 1) (behind n inner) (flat (n + 1) inner) (flat (behind n inner) others) refl
-        (sits_back (tokens_of items) n (n + 1) (first n kind s inner ∷ []) (flat (n + 1) inner ++ flat (behind n inner) others) refl l.has_tokens);
-    has_labels = sits_back (labels_of items) (n + 1) (behind n inner) (labels inner) (labels others) (ap (λ k. n + 1 + k) (as_many (n + 1) inner))
+        (sits_back (tokens_of items) n (n + 1) (first n kind s inner ∷ [])
+        (flat (n + 1) inner ++ flat (behind n inner) others) refl l.has_tokens);
+    has_labels = sits_back (labels_of items) (n + 1) (behind n inner) (labels inner) (labels others)
+        (ap (λ k. n + 1 + k) (as_many (n + 1) inner))
         (sits_back (labels_of items) n (n + 1) (label ∷ []) (labels inner ++ labels others) refl l.has_labels);
   }
 
@@ -112,15 +118,18 @@ gathered f end n no_node after is = parts_done f end n n after (le-ltb n end (le
 gathered f end n (node kind label s inner others) after is =
     let m : ℕ = n + 1 + length (flat (n + 1) inner) in
     let t : Token = record { kind = kind; start = s.start; end = s.end; next = m } in
-    let long : length (flat (n + 1) inner ++ flat m others) ≡ length (flat (n + 1) inner) + length (flat m others) = length-append (flat (n + 1) inner) (flat m others) in
+    let long : length (flat (n + 1) inner ++ flat m others) ≡ length (flat (n + 1) inner) + length (flat m others) =
+    length-append (flat (n + 1) inner) (flat m others) in
     let whole : n + length (t ∷ flat (n + 1) inner ++ flat m others) ≡ end = is in
     let before : n < end = omega (arith, whole) in
     let inside : m ≤ end = omega (arith, whole, long) in
     let ends : m + length (flat m others) ≡ end = omega (arith, whole, long) in
     let same : n ≤ n = omega arith in
     let near : m ≤ m = omega arith in
-    ap (λ b. if b then here f n n t ++ parts_from f end (beyond n n t) (n + 1) ((flat (n + 1) inner ++ flat m others) ++ after) else []) (lt-ltb n end before)
-    ∙ ap (λ b. (if b then [] else f n t) ++ parts_from f end (if b then n else m) (n + 1) ((flat (n + 1) inner ++ flat m others) ++ after)) (le-ltb n n same)
+    ap (λ b. if b then here f n n t ++ parts_from f end (beyond n n t) (n + 1) ((flat (n + 1) inner ++ flat m others) ++ after) else [])
+    (lt-ltb n end before)
+    ∙ ap (λ b. (if b then [] else f n t) ++ parts_from f end (if b then n else m) (n + 1) ((flat (n + 1) inner ++ flat m others) ++ after))
+    (le-ltb n n same)
     ∙ ap (λ ts. f n t ++ parts_from f end m (n + 1) ts) (append_assoc (flat (n + 1) inner) (flat m others) after)
     ∙ ap (λ ps. f n t ++ ps) (skipped f end m (n + 1) m (flat (n + 1) inner) (flat m others ++ after) refl near inside
     ∙ gathered f end m others after ends)
@@ -128,12 +137,14 @@ gathered f end n (node kind label s inner others) after is =
 gathered_at : {X : Type 0} → (f : ℕ → Token → List X) (items : Items) (n : ℕ) (xs : Nodes) → Lies items n xs
     → parts_from f (n + length (flat n xs)) n n (drop n (tokens_of items)) ≡ node_parts f n xs
 gathered_at f items n xs l =
-    let dropped : (after : List Token) × (drop n (tokens_of items) ≡ flat n xs ++ after) = sits_drop (tokens_of items) n (flat n xs) l.has_tokens in
+    let dropped : (after : List Token) × (drop n (tokens_of items) ≡ flat n xs ++ after) =
+    sits_drop (tokens_of items) n (flat n xs) l.has_tokens in
     ap (λ ts. parts_from f (n + length (flat n xs)) n n ts) dropped.1 ∙ gathered f (n + length (flat n xs)) n xs dropped.0 refl
 
 -- An item is no test and no branch.
 
-no_part : (item : Item) (n : ℕ) (label : Label) (token : Token) → (test_if (kind_of item) label ≡ []) × (branch_if (kind_of item) n token ≡ [])
+no_part : (item : Item) (n : ℕ) (label : Label) (token : Token)
+    → (test_if (kind_of item) label ≡ []) × (branch_if (kind_of item) n token ≡ [])
 no_part (tree.Plain b) n label token = (refl, refl)
 no_part (tree.Escape b) n label token = (refl, refl)
 no_part tree.Blank n label token = (refl, refl)
@@ -187,7 +198,8 @@ none_in_patterns n (p ∷ patterns) = none_in_patterns (n + 1 + 0) patterns
 -- The tests of a branch are those of its alternative.
 
 plain : (negated : Bool) (asked : Asked)
-    → part_label (test_label negated asked).word (test_label negated asked).starred (test_label negated asked).negated (test_label negated asked).asks
+    → part_label (test_label negated asked).word (test_label negated asked).starred (test_label negated asked).negated
+    (test_label negated asked).asks
     ≡ test_label negated asked
 plain negated (tree.HasSwitch (tree.pattern word starred)) = refl
 plain negated (tree.HasSuffix word) = refl
@@ -203,7 +215,8 @@ asks items n (tree.test s negated asked tests) xs l =
     ap (λ t. part_label t.word t.starred t.negated t.asks ∷ node_parts (test_in items) m others)
     (lies_label items n kinds.Test (test_label negated asked) s (asked_nodes asked) others l)
     ∙ ap (λ t. t ∷ node_parts (test_in items) m others) (plain negated asked)
-    ∙ ap (λ ts. test_label negated asked ∷ ts) (asks items m tests xs (lies_after items n kinds.Test (test_label negated asked) s (asked_nodes asked) others l))
+    ∙ ap (λ ts. test_label negated asked ∷ ts) (asks items m tests xs
+    (lies_after items n kinds.Test (test_label negated asked) s (asked_nodes asked) others l))
 
 -- The marks of the branches of braces are those of their alternatives.
 
@@ -215,9 +228,12 @@ listed items start n earlier (tree.choice s tests xs choices) l =
     let m : ℕ = n + 1 + length (flat (n + 1) inner) in
     let b : Branch = record { start = s.start; inside = n + 1; end = m } in
     let inside : Lies items (n + 1) inner = lies_inside items n kinds.Alternative (alternative_label xs) s inner (choice_nodes choices) l in
-    let after : Lies items m (choice_nodes choices) = lies_after items n kinds.Alternative (alternative_label xs) s inner (choice_nodes choices) l in
-    let has : tests_of items b ≡ of_tree.tests_of tests = gathered_at (test_in items) items (n + 1) inner inside ∙ asks items (n + 1) tests xs inside in
-    ap (λ ts. mark_if (start + s.start) (is_unreachable earlier ts) ++ listed_marks items start (earlier ++ ts) (node_parts branch_in m (choice_nodes choices))) has
+    let after : Lies items m (choice_nodes choices) = lies_after items n kinds.Alternative (alternative_label xs) s inner
+    (choice_nodes choices) l in
+    let has : tests_of items b ≡ of_tree.tests_of tests = gathered_at (test_in items) items (n + 1) inner inside
+    ∙ asks items (n + 1) tests xs inside in
+    ap (λ ts. mark_if (start + s.start) (is_unreachable earlier ts)
+    ++ listed_marks items start (earlier ++ ts) (node_parts branch_in m (choice_nodes choices))) has
     ∙ ap (λ ms. mark_if (start + s.start) (is_unreachable earlier (of_tree.tests_of tests)) ++ ms)
     (listed items start m (earlier ++ of_tree.tests_of tests) choices after)
 
@@ -236,7 +252,8 @@ marks_joined items start n (x ∷ xs) ys =
     let on : n + 1 + length xs ≡ n + length (x ∷ xs) = omega arith in
     ap (λ ms. listed_marks items start [] (branches_of items x.next (n + 1)) ++ ms)
     (marks_joined items start (n + 1) xs ys ∙ ap (λ k. parts_marks items start (n + 1) xs ++ parts_marks items start k ys) on)
-    ∙ sym (append_assoc (listed_marks items start [] (branches_of items x.next (n + 1))) (parts_marks items start (n + 1) xs) (parts_marks items start (n + length (x ∷ xs)) ys))
+    ∙ sym (append_assoc (listed_marks items start [] (branches_of items x.next (n + 1))) (parts_marks items start (n + 1) xs)
+    (parts_marks items start (n + length (x ∷ xs)) ys))
 
 parts_are_nodes : (items : Items) (start n : ℕ) (xs : Nodes) → Lies items n xs
     → parts_marks items start n (flat n xs) ≡ node_marks items start n xs
@@ -245,13 +262,15 @@ parts_are_nodes items start n (node kind label s inner others) l =
     let m : ℕ = n + 1 + length (flat (n + 1) inner) in
     let inside : Lies items (n + 1) inner = lies_inside items n kind label s inner others l in
     let after : Lies items m others = lies_after items n kind label s inner others l in
-    ap (λ bs. listed_marks items start [] bs ++ parts_marks items start (n + 1) (flat (n + 1) inner ++ flat m others)) (gathered_at branch_in items (n + 1) inner inside)
+    ap (λ bs. listed_marks items start [] bs ++ parts_marks items start (n + 1) (flat (n + 1) inner ++ flat m others))
+    (gathered_at branch_in items (n + 1) inner inside)
     ∙ ap (λ ms. listed_marks items start [] (node_parts branch_in (n + 1) inner) ++ ms)
     (marks_joined items start (n + 1) (flat (n + 1) inner) (flat m others)
     ∙ ap (λ ms. ms ++ parts_marks items start m (flat m others)) (parts_are_nodes items start (n + 1) inner inside)
     ∙ ap (λ ms. node_marks items start (n + 1) inner ++ ms) (parts_are_nodes items start m others after))
 
-patterns_unmarked : (items : Items) (start n : ℕ) (patterns : List (Span × Pattern)) → node_marks items start n (pattern_nodes patterns) ≡ []
+patterns_unmarked : (items : Items) (start n : ℕ) (patterns : List (Span × Pattern))
+    → node_marks items start n (pattern_nodes patterns) ≡ []
 patterns_unmarked items start n [] = refl
 patterns_unmarked items start n (p ∷ patterns) = patterns_unmarked items start (n + 1 + 0) patterns
 
@@ -263,9 +282,11 @@ mutual
   of_items items start n tree.none l = refl
   of_items items start n (tree.more s item xs) l =
       let m : ℕ = n + 1 + length (flat (n + 1) (inner_nodes item)) in
-      let inside : Lies items (n + 1) (inner_nodes item) = lies_inside items n (kind_of item) (label_of item) s (inner_nodes item) (nodes_of xs) l in
+      let inside : Lies items (n + 1) (inner_nodes item) =
+      lies_inside items n (kind_of item) (label_of item) s (inner_nodes item) (nodes_of xs) l in
       let after : Lies items m (nodes_of xs) = lies_after items n (kind_of item) (label_of item) s (inner_nodes item) (nodes_of xs) l in
-      sym (append_assoc (listed_marks items start [] (node_parts branch_in (n + 1) (inner_nodes item))) (node_marks items start (n + 1) (inner_nodes item))
+      sym (append_assoc (listed_marks items start [] (node_parts branch_in (n + 1) (inner_nodes item)))
+      (node_marks items start (n + 1) (inner_nodes item))
       (node_marks items start m (nodes_of xs)))
       ∙ ap (λ ms. ms ++ node_marks items start m (nodes_of xs)) (of_item items start (n + 1) item inside)
       ∙ ap (λ ms. of_tree.unreached_in start item ++ ms) (of_items items start m xs after)
@@ -310,11 +331,14 @@ mutual
   of_choices items start n (tree.choice s tests xs choices) l =
       let inner : Nodes = both (test_nodes tests) (nodes_of xs) in
       let m : ℕ = n + 1 + length (flat (n + 1) inner) in
-      let inside : Lies items (n + 1) inner = lies_inside items n kinds.Alternative (alternative_label xs) s inner (choice_nodes choices) l in
-      let after : Lies items m (choice_nodes choices) = lies_after items n kinds.Alternative (alternative_label xs) s inner (choice_nodes choices) l in
+      let inside : Lies items (n + 1) inner = lies_inside items n kinds.Alternative (alternative_label xs) s inner
+      (choice_nodes choices) l in
+      let after : Lies items m (choice_nodes choices) = lies_after items n kinds.Alternative (alternative_label xs) s inner
+      (choice_nodes choices) l in
       ap (λ bs. listed_marks items start [] bs ++ (node_marks items start (n + 1) inner ++ node_marks items start m (choice_nodes choices)))
       (none_in_branch (n + 1) tests xs)
-      ∙ ap (λ ms. ms ++ node_marks items start m (choice_nodes choices)) (of_branch items start (n + 1) tests xs (λ k. of_items items start k xs) inside)
+      ∙ ap (λ ms. ms ++ node_marks items start m (choice_nodes choices))
+      (of_branch items start (n + 1) tests xs (λ k. of_items items start k xs) inside)
       ∙ ap (λ ms. (of_tree.inside_tests start tests ++ of_tree.unreached start xs) ++ ms) (of_choices items start m choices after)
 
   of_branch : (items : Items) (start n : ℕ) (tests : Tests) (xs : Items)
@@ -325,7 +349,8 @@ mutual
   of_branch items start n (tree.test s negated asked tests) xs are l =
       let others : Nodes = both (test_nodes tests) (nodes_of xs) in
       let m : ℕ = n + 1 + length (flat (n + 1) (asked_nodes asked)) in
-      let inside : Lies items (n + 1) (asked_nodes asked) = lies_inside items n kinds.Test (test_label negated asked) s (asked_nodes asked) others l in
+      let inside : Lies items (n + 1) (asked_nodes asked) =
+      lies_inside items n kinds.Test (test_label negated asked) s (asked_nodes asked) others l in
       let after : Lies items m others = lies_after items n kinds.Test (test_label negated asked) s (asked_nodes asked) others l in
       ap (λ bs. listed_marks items start [] bs ++ (node_marks items start (n + 1) (asked_nodes asked) ++ node_marks items start m others))
       (none_in_asked (n + 1) asked)

@@ -1,11 +1,13 @@
 use Rattle.drv_check.specs.Branches.{is_unreachable, mark_if}
-use Rattle.drv_check.specs.Code.Branching.{beyond, branch_in, branches_from, branches_of, here, listed_marks, parts_from, parts_marks, test_in, tests_from, tests_of}
+use Rattle.drv_check.specs.Code.Branching.{beyond, branch_in, branches_from, branches_of, here, listed_marks, parts_from, parts_marks}
+use Rattle.drv_check.specs.Code.Branching.{test_in, tests_from, tests_of}
 use Rattle.drv_check.specs.declared.branches.Branch.{Branch}
 use Rattle.drv_check.specs.declared.warning.Mark.{Mark}
 use Rattle.drv_syntax.specs.Labels.{Label}
 use Rattle.drv_syntax.specs.Tree.{Items}
 use Rattle.drv_syntax.specs.declared.token.Token.{Token}
-use Rattle.std.proofs.Common.{◌≡◌, ◌∙◌, ◌<◌, ◌≤◌, ◌+◌, ◌++◌, ◌∷◌, Bool, List, [], ap, append-nil, append_assoc, drop, false, if◌then◌else◌, length, refl, sym, true, ℕ}
+use Rattle.std.proofs.Common.{◌≡◌, ◌∙◌, ◌<◌, ◌≤◌, ◌+◌, ◌++◌, ◌∷◌, Bool, List, [], ap, append-nil, append_assoc, drop, false, if◌then◌else◌}
+use Rattle.std.proofs.Common.{length, refl, sym, true, ℕ}
 use Rattle.std.proofs.lemmas.Bool.{le-ltb}
 use Rattle.std.proofs.lemmas.List.{drop_all, drop_more}
 use Rattle.std.specs.Prelude.{get_or, nat_lt}
@@ -37,7 +39,8 @@ parts_next : {X : Type 0} → (f : ℕ → Token → List X) (end next n : ℕ) 
 parts_next f end next n tokens token before after whole below is_here inside grows is =
     ap (λ xs. xs ++ parts_from f end (beyond next n token) (n + 1) (drop (n + 1) tokens)) grows
     ∙ append_assoc before (here f next n token) (parts_from f end (beyond next n token) (n + 1) (drop (n + 1) tokens))
-    ∙ ap (λ t. before ++ (if t then here f next n token ++ parts_from f end (beyond next n token) (n + 1) (drop (n + 1) tokens) else [])) (sym inside)
+    ∙ ap (λ t. before ++ (if t then here f next n token ++ parts_from f end (beyond next n token) (n + 1) (drop (n + 1) tokens) else []))
+    (sym inside)
     ∙ ap (λ t. before ++ parts_from f end next n (t ∷ drop (n + 1) tokens)) is_here
     ∙ ap (λ ts. before ++ parts_from f end next n ts) (sym (drop_more tokens n token below)) ∙ is
 
@@ -61,16 +64,20 @@ branches_next end next n tokens token before after whole below is_here inside gr
 
 -- the marks of the branches of a choice
 
-pub marks_next : (items : Items) (start n : ℕ) (unreachable : Bool) (earlier earlier' tests : List Label) (branches : List Branch) (branch : Branch)
+pub marks_next : (items : Items) (start n : ℕ) (unreachable : Bool) (earlier earlier' tests : List Label) (branches : List Branch)
+    (branch : Branch)
     (before after whole : List Mark) → n < length branches → branch ≡ get_or branches n branch → tests ≡ tests_of items branch
-    → unreachable ≡ is_unreachable earlier tests → earlier' ≡ earlier ++ tests → after ≡ before ++ mark_if (start + branch.start) unreachable
+    → unreachable ≡ is_unreachable earlier tests → earlier' ≡ earlier ++ tests
+    → after ≡ before ++ mark_if (start + branch.start) unreachable
     → before ++ listed_marks items start earlier (drop n branches) ≡ whole
     → after ++ listed_marks items start earlier' (drop (n + 1) branches) ≡ whole
 marks_next items start n unreachable earlier earlier' tests branches branch before after whole below is_here has judged grown grows is =
     ap (λ ms. ms ++ listed_marks items start earlier' (drop (n + 1) branches)) grows
     ∙ ap (λ u. (before ++ mark_if (start + branch.start) u) ++ listed_marks items start earlier' (drop (n + 1) branches)) judged
-    ∙ ap (λ e. (before ++ mark_if (start + branch.start) (is_unreachable earlier tests)) ++ listed_marks items start e (drop (n + 1) branches)) grown
-    ∙ ap (λ ts. (before ++ mark_if (start + branch.start) (is_unreachable earlier ts)) ++ listed_marks items start (earlier ++ ts) (drop (n + 1) branches)) has
+    ∙ ap (λ e. (before ++ mark_if (start + branch.start) (is_unreachable earlier tests))
+    ++ listed_marks items start e (drop (n + 1) branches)) grown
+    ∙ ap (λ ts. (before ++ mark_if (start + branch.start) (is_unreachable earlier ts))
+    ++ listed_marks items start (earlier ++ ts) (drop (n + 1) branches)) has
     ∙ append_assoc before (mark_if (start + branch.start) (is_unreachable earlier (tests_of items branch)))
     (listed_marks items start (earlier ++ tests_of items branch) (drop (n + 1) branches))
     ∙ ap (λ b. before ++ listed_marks items start earlier (b ∷ drop (n + 1) branches)) is_here
@@ -78,7 +85,8 @@ marks_next items start n unreachable earlier earlier' tests branches branch befo
 
 -- the marks of the parts of a text
 
-pub choices_next : (items : Items) (start n : ℕ) (tokens : List Token) (token : Token) (branches : List Branch) (before after whole : List Mark)
+pub choices_next : (items : Items) (start n : ℕ) (tokens : List Token) (token : Token) (branches : List Branch)
+    (before after whole : List Mark)
     → n < length tokens → token ≡ get_or tokens n token → branches ≡ branches_of items token.next (n + 1)
     → after ≡ before ++ listed_marks items start [] branches
     → before ++ parts_marks items start n (drop n tokens) ≡ whole
@@ -86,6 +94,7 @@ pub choices_next : (items : Items) (start n : ℕ) (tokens : List Token) (token 
 choices_next items start n tokens token branches before after whole below is_here has grows is =
     ap (λ ms. ms ++ parts_marks items start (n + 1) (drop (n + 1) tokens)) grows
     ∙ ap (λ bs. (before ++ listed_marks items start [] bs) ++ parts_marks items start (n + 1) (drop (n + 1) tokens)) has
-    ∙ append_assoc before (listed_marks items start [] (branches_of items token.next (n + 1))) (parts_marks items start (n + 1) (drop (n + 1) tokens))
+    ∙ append_assoc before (listed_marks items start [] (branches_of items token.next (n + 1)))
+    (parts_marks items start (n + 1) (drop (n + 1) tokens))
     ∙ ap (λ t. before ++ parts_marks items start n (t ∷ drop (n + 1) tokens)) is_here
     ∙ ap (λ ts. before ++ parts_marks items start n ts) (sym (drop_more tokens n token below)) ∙ is

@@ -6,7 +6,8 @@ use Rattle.drv_syntax.specs.Labels.{label_at}
 use Rattle.drv_syntax.specs.Parsed.{tree_of}
 use Rattle.drv_syntax.specs.Tree.{Items}
 use Rattle.drv_syntax.specs.declared.token.Token.{Token}
-use Rattle.std.proofs.Common.{◌≡◌, ◌∙◌, ◌<◌, ◌+◌, ◌++◌, ◌∷◌, Err, List, None, Ok, OnOk, Option, Result, Some, ap, append-nil, append_assoc, drop, length, sym, ℕ}
+use Rattle.std.proofs.Common.{◌≡◌, ◌∙◌, ◌<◌, ◌+◌, ◌++◌, ◌∷◌, Err, List, None, Ok, OnOk, Option, Result, Some, ap, append-nil, append_assoc}
+use Rattle.std.proofs.Common.{drop, length, sym, ℕ}
 use Rattle.std.proofs.lemmas.List.{drop_more}
 use Rattle.std.specs.Prelude.{get_or}
 
@@ -21,7 +22,8 @@ names_next items n tokens token before after whole below here grows is =
     ∙ ap (λ t. before ++ names_from items n (t ∷ drop (n + 1) tokens)) here
     ∙ ap (λ ts. before ++ names_from items n ts) (sym (drop_more tokens n token below)) ∙ is
 
-pub names_of_tree : {X E : Type 0} (piece : Piece) (tree : List ℕ) (own : Option (List ℕ)) (before after : List (List ℕ)) (result : Result X E)
+pub names_of_tree : {X E : Type 0} (piece : Piece) (tree : List ℕ) (own : Option (List ℕ)) (before after : List (List ℕ))
+    (result : Result X E)
     → own ≡ Some tree → tree_or_none own ≡ own_tree piece.text → OnOk result (after ≡ before ++ names_in (tree_of tree))
     → OnOk result (after ≡ before ++ piece_names piece)
 names_of_tree piece tree own before after (Err e) has is grows = grows

@@ -14,7 +14,8 @@ use Rattle.std.specs.Prelude.{◌+◌, ◌&&◌, Bool, List, [], ◌∷◌, ◌+
 
 -- each switch that the second pattern names is named by the first
 abbrev pub names_all : Label → Label → Bool
-names_all first second = if first.starred then starts_with nat_eq second.word first.word else not second.starred && pointwise nat_eq second.word first.word
+names_all first second = if first.starred then starts_with nat_eq second.word first.word
+    else not second.starred && pointwise nat_eq second.word first.word
 
 -- what the first one asks is so wherever what the second one asks is so; a function may answer otherwise when it is called again
 abbrev pub asks_all : TestKind → TestKind → Label → Label → Bool

@@ -93,7 +93,8 @@ put_aside known = known >>= λ c. Is (c, None)
 
 abbrev pub stepped : Facts → Prefixes → ℕ → Checking → OpenFile → Piece → Option Inclusion → Known (Checking × Option OpenFile)
 stepped F prefixes levels c file piece None = put_aside (changed (warned c file piece) file piece (loaded F prefixes c.set piece.text))
-stepped F prefixes levels c file piece (Some inclusion) = opened F prefixes levels c (spot_in file piece (front_length is_blank piece.text)) inclusion
+stepped F prefixes levels c file piece (Some inclusion) =
+    opened F prefixes levels c (spot_in file piece (front_length is_blank piece.text)) inclusion
 
 abbrev pub step : Facts → Prefixes → ℕ → Checking → OpenFile → Piece → Known (Checking × Option OpenFile)
 step F prefixes levels c file piece = stepped F prefixes levels c file piece (inclusion_in piece.text)

@@ -16,7 +16,8 @@ use Rattle.drv_syntax.specs.declared.token.Token.{Token}
 use Rattle.drv_syntax.specs.declared.token.TokenKind.TheVariants as kinds
 use Rattle.drv_syntax.specs.declared.token.TokenKind.{TokenKind}
 use Rattle.drv_words.specs.Bytes.{double_quote, single_quote}
-use Rattle.std.specs.Prelude.{◌+◌, ◌-◌, ◌==◌, ◌&&◌, ◌||◌, Bool, List, [], ◌∷◌, ◌++◌, None, Option, Some, false, if◌then◌else◌, is_some, nat_lt, slice_get, true, ℕ}
+use Rattle.std.specs.Prelude.{◌+◌, ◌-◌, ◌==◌, ◌&&◌, ◌||◌, Bool, List, [], ◌∷◌, ◌++◌, None, Option, Some, false, if◌then◌else◌, is_some}
+use Rattle.std.specs.Prelude.{nat_lt, slice_get, true, ℕ}
 
 -- What is surely not meant in the tokens of a text (GCC manual, "Spec Files"; that it is a warning is this project's profile).
 

@@ -52,11 +52,13 @@ kind_json is_error = string (kind_text is_error)
 
 -- what it is, and where its file is included
 abbrev pub told_members : Told → Members
-told_members told = member (codes "message") (word_json told.message) (member (codes "included_from") (list_json place_json told.from) no_members)
+told_members told = member (codes "message") (word_json told.message)
+    (member (codes "included_from") (list_json place_json told.from) no_members)
 
 abbrev pub told_json : Told → Json
 told_json told =
-    object (member (codes "place") (option_json place_json told.place) (member (codes "kind") (kind_json told.is_error) (told_members told)))
+    object (member (codes "place") (option_json place_json told.place)
+    (member (codes "kind") (kind_json told.is_error) (told_members told)))
 
 -- one object for each finding, in an array, with a newline at its end
 abbrev pub report_json : List Told → List ℕ

@@ -17,7 +17,8 @@ use Rattle.drv_syntax.specs.declared.token.TokenKind.{TokenKind}
 use Rattle.drv_words.specs.Bytes.{space}
 use Rattle.std.specs.Cmp.Lexicographic.{pointwise}
 use Rattle.std.specs.List.{flat_map, list_any, slice_split}
-use Rattle.std.specs.Prelude.{◌+◌, ◌==◌, ◌&&◌, Bool, List, [], ◌∷◌, ◌++◌, None, Option, Some, codes, drop, false, if◌then◌else◌, is_some, nat_eq, not, ℕ}
+use Rattle.std.specs.Prelude.{◌+◌, ◌==◌, ◌&&◌, Bool, List, [], ◌∷◌, ◌++◌, None, Option, Some, codes, drop, false, if◌then◌else◌, is_some}
+use Rattle.std.specs.Prelude.{nat_eq, not, ℕ}
 
 -- A text that no other one works and that is none of gcc's own (GCC manual, "Spec Files", %(NAME); that it is a warning is this project's
 -- profile).

@@ -8,7 +8,8 @@ use Rattle.drv_specs.specs.Sets.{Set, is_name}
 use Rattle.drv_words.specs.Bytes.{asterisk}
 use Rattle.std.specs.Cmp.Lexicographic.{pointwise}
 use Rattle.std.specs.List.{position}
-use Rattle.std.specs.Prelude.{◌+◌, ◌==◌, ◌&&◌, ◌||◌, Bool, List, [], ◌∷◌, ◌++◌, None, Option, Some, codes, drop, false, if◌then◌else◌, length, nat_eq, not, take, ℕ}
+use Rattle.std.specs.Prelude.{◌+◌, ◌==◌, ◌&&◌, ◌||◌, Bool, List, [], ◌∷◌, ◌++◌, None, Option, Some, codes, drop, false, if◌then◌else◌}
+use Rattle.std.specs.Prelude.{length, nat_eq, not, take, ℕ}
 
 -- What is legal in a piece and surely not meant, each at a byte of the piece (this project's profile).
 

@@ -15,7 +15,8 @@ use Rattle.drv_specs.specs.Sets.{Set}
 use Rattle.drv_words.specs.Bytes.{asterisk, percent}
 use Rattle.std.specs.Cmp.Lexicographic.{pointwise}
 use Rattle.std.specs.List.{flat_map, list_any, position}
-use Rattle.std.specs.Prelude.{◌+◌, ◌==◌, ◌||◌, Bool, List, [], ◌∷◌, ◌++◌, None, Option, Some, drop, false, if◌then◌else◌, map, nat_eq, take, ℕ}
+use Rattle.std.specs.Prelude.{◌+◌, ◌==◌, ◌||◌, Bool, List, [], ◌∷◌, ◌++◌, None, Option, Some, drop, false, if◌then◌else◌, map, nat_eq, take}
+use Rattle.std.specs.Prelude.{ℕ}
 
 -- What spec files show once all of them are loaded that is legal and surely not meant (GCC manual, "Spec Files"; this project's profile).
 

@@ -46,7 +46,7 @@ fn push_number(text: &mut Word, number: usize) -> Result<(), AllocError>
 }
 
 /// Adds a place: the file, its line and its column.
-fn push_place(text: &mut Word, place: &Place) -> Result<(), AllocError>
+pub(crate) fn push_place(text: &mut Word, place: &Place) -> Result<(), AllocError>
     ensures { OnOk result (text.new ≡ text.old ++ place_text place.now) }
 {
     text.extend_from_slice(place.file.as_bytes())?;

@@ -6,7 +6,8 @@ use Rattle.std.proofs.Common.{◌≡◌, ◌-◌, ◌++◌, drop, length}
 
 abbrev pub invariant-loop-place : goal.invariant-loop-place
 invariant-loop-place l =
-    l.branches.items ++ branches_from l.end l.next l.place (drop l.place (tokens_of (tree_of l.tree))) ≡ branches_of (tree_of l.tree) l.end l.inside
+    l.branches.items ++ branches_from l.end l.next l.place (drop l.place (tokens_of (tree_of l.tree)))
+    ≡ branches_of (tree_of l.tree) l.end l.inside
 
 abbrev pub decreases-loop-place : goal.decreases-loop-place
 decreases-loop-place l = length (tokens_of (tree_of l.tree)) - l.place

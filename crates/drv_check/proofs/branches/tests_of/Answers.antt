@@ -8,9 +8,12 @@ use Rattle.drv_syntax.specs.Tokens.{tokens_of}
 pub returns : goal.returns
 returns c = elim c.loop-place-test.branch [
   | then-loop-place-test+else-place-tokens w ↦
-      parts_over (test_in (tree_of c.args.tree.now)) c.args.branch.end c.loop-place.next c.loop-place.place c.tokens-tokens.result.now (tokens_of (tree_of c.args.tree.now))
-      c.loop-place.tests.items (tests_of (tree_of c.args.tree.now) c.args.branch) c.tokens-tokens.ensures w.if-place-tokens.false c.loop-place.invariant
+      parts_over (test_in (tree_of c.args.tree.now)) c.args.branch.end c.loop-place.next c.loop-place.place c.tokens-tokens.result.now
+      (tokens_of (tree_of c.args.tree.now))
+      c.loop-place.tests.items (tests_of (tree_of c.args.tree.now) c.args.branch) c.tokens-tokens.ensures w.if-place-tokens.false
+      c.loop-place.invariant
   | else-loop-place-test w ↦
-      parts_past (test_in (tree_of c.args.tree.now)) c.args.branch.end c.loop-place.next c.loop-place.place (tokens_of (tree_of c.args.tree.now))
+      parts_past (test_in (tree_of c.args.tree.now)) c.args.branch.end c.loop-place.next c.loop-place.place
+      (tokens_of (tree_of c.args.tree.now))
       c.loop-place.tests.items (tests_of (tree_of c.args.tree.now) c.args.branch) w.loop-place-test.false c.loop-place.invariant
 ]

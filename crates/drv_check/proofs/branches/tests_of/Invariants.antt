@@ -6,7 +6,8 @@ use Rattle.std.proofs.Common.{◌≡◌, ◌-◌, ◌++◌, drop, length}
 
 abbrev pub invariant-loop-place : goal.invariant-loop-place
 invariant-loop-place l =
-    l.tests.items ++ tests_from (tree_of l.tree) l.branch.end l.next l.place (drop l.place (tokens_of (tree_of l.tree))) ≡ tests_of (tree_of l.tree) l.branch
+    l.tests.items ++ tests_from (tree_of l.tree) l.branch.end l.next l.place (drop l.place (tokens_of (tree_of l.tree)))
+    ≡ tests_of (tree_of l.tree) l.branch
 
 abbrev pub decreases-loop-place : goal.decreases-loop-place
 decreases-loop-place l = length (tokens_of (tree_of l.tree)) - l.place

@@ -5,7 +5,8 @@ use Rattle.std.proofs.Common.{◌∷◌, ◌∙◌, ap, sym, take}
 
 pub returns-then-not-has_byte-clause-none : goal.returns-then-not-has_byte-clause-none
 returns-then-not-has_byte-clause-none c =
-    words_none c.args.text.now c.without_blanks-text.result.now c.without_blanks-text.ensures (sym c.has_byte.ensures ∙ c.if-not-has_byte.true)
+    words_none c.args.text.now c.without_blanks-text.result.now c.without_blanks-text.ensures
+    (sym c.has_byte.ensures ∙ c.if-not-has_byte.true)
 
 pub returns-in-Some-clause-some : goal.returns-in-Some-clause-some
 returns-in-Some-clause-some c =

@@ -14,7 +14,8 @@ pub returns-in_err-next-clause-asks : goal.returns-in_err-next-clause-asks
 returns-in_err-next-clause-asks g t c = asked_further c.loop-piece.invariant.asks c.step.ensures.asks
 
 pub returns-in_err-check_file-clause-asks : goal.returns-in_err-check_file-clause-asks
-returns-in_err-check_file-clause-asks g t c = asked_further c.loop-piece.invariant.asks (asked_further c.step.ensures.asks c.check_file.ensures.asks)
+returns-in_err-check_file-clause-asks g t c = asked_further c.loop-piece.invariant.asks
+    (asked_further c.step.ensures.asks c.check_file.ensures.asks)
 
 pub loop-piece-preserved : goal.loop-piece-preserved
 loop-piece-preserved g t c = record {

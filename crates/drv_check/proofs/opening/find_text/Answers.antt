@@ -4,7 +4,12 @@ use Rattle.drv_system.proofs.Asking.{asks_extends, asks_then, extends_then}
 use Rattle.std.proofs.Common.{refl}
 
 pub returns-in_err-text-clause-asks : goal.returns-in_err-text-clause-asks
-returns-in_err-text-clause-asks g c = record { asks = asks_then c.find_file.ensures.asks c.read.ensures.asks; same_sys = refl; same_facts = refl }
+returns-in_err-text-clause-asks g c = record {
+  asks = asks_then c.find_file.ensures.asks c.read.ensures.asks;
+  same_sys = refl;
+  same_facts =
+      refl;
+}
 
 pub returns-clause-asks : goal.returns-clause-asks
 returns-clause-asks g c = record { asks = asks_then c.find_file.ensures.asks c.read.ensures.asks; same_sys = refl; same_facts = refl }

@@ -4,4 +4,5 @@ use Rattle.std.proofs.Common.{◌≡◌, ◌++◌, drop}
 use Rattle.std.specs.Prelude.{map}
 
 abbrev pub invariant-loop-mark : goal.invariant-loop-mark
-invariant-loop-mark l = l.findings ++ map (finding_of l.file l.piece) (drop l.mark-index l.marks) ≡ l.fn.findings ++ map (finding_of l.file l.piece) l.marks
+invariant-loop-mark l = l.findings ++ map (finding_of l.file l.piece) (drop l.mark-index l.marks) ≡ l.fn.findings
+    ++ map (finding_of l.file l.piece) l.marks

@@ -6,4 +6,5 @@ use Rattle.json.specs.Tree.{items_tokens}
 use Rattle.std.proofs.Common.{◌≡◌, ◌∷◌, ◌++◌, drop}
 
 abbrev pub invariant-loop-place : goal.invariant-loop-place
-invariant-loop-place l = l.out ++ items_tokens (items_json place_json (drop l.place-index l.places)) ≡ l.fn.out ++ begin_array ∷ items_tokens (items_json place_json l.places)
+invariant-loop-place l = l.out ++ items_tokens (items_json place_json (drop l.place-index l.places)) ≡ l.fn.out ++ begin_array
+    ∷ items_tokens (items_json place_json l.places)

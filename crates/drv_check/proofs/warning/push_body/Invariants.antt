@@ -7,7 +7,8 @@ use Rattle.std.specs.Option.{option_map}
 
 abbrev pub invariant-loop-left : goal.invariant-loop-left
 invariant-loop-left l = record {
-  cut : l.marks.items ++ lines_marks l.at (lines_from (option_map (λ bytes. bytes.now) l.left)) ≡ l.fn.marks.items ++ body_marks (lines_of l.text);
+  cut : l.marks.items ++ lines_marks l.at (lines_from (option_map (λ bytes. bytes.now) l.left)) ≡ l.fn.marks.items
+      ++ body_marks (lines_of l.text);
   room : l.at + length (bytes_from (option_map (λ bytes. bytes.now) l.left)) ≤ length l.text + 1;
 }
 

@@ -1,0 +1,54 @@
+use Rattle.drv_check.specs.Code.OwnTrees.{tree_or_none}
+use Rattle.drv_check.specs.OwnTexts.{own_tree}
+use Rattle.drv_check.specs.SwitchNames.{names_switch, part_names, parts_name, piece_names, tree_names}
+use Rattle.drv_check.specs.Pieces.{pieces_of}
+use Rattle.drv_check.specs.declared.pieces.Piece.{Piece}
+use Rattle.drv_specs.specs.Dumping.{dumped}
+use Rattle.drv_specs.specs.Lines.{settled}
+use Rattle.drv_specs.specs.Sets.{Set}
+use Rattle.drv_syntax.specs.Labels.{label_at}
+use Rattle.drv_syntax.specs.Parsed.{tree_of}
+use Rattle.drv_syntax.specs.Tree.{Items}
+use Rattle.drv_syntax.specs.declared.token.Token.{Token}
+use Rattle.std.proofs.Common.{◌≡◌, ◌∙◌, ◌<◌, ◌+◌, ◌∷◌, Bool, Err, IfOk, List, None, Ok, Option, Result, Some, ap, drop, false, length, sym}
+use Rattle.std.proofs.Common.{true, ℕ}
+use Rattle.std.proofs.lemmas.List.{drop_more}
+use Rattle.std.specs.List.{list_any}
+use Rattle.std.specs.Prelude.{◌||◌, get_or}
+
+-- The switches that texts name, part by part.
+
+module _ (name : List ℕ) (items : Items) (n : ℕ) (tokens : List Token) (token : Token) where
+  parts_at : n < length tokens → token ≡ get_or tokens n token
+      → parts_name name items n (drop n tokens) ≡ (part_names token.kind (label_at items n) name
+      || parts_name name items (n + 1) (drop (n + 1) tokens))
+  parts_at below here =
+      ap (parts_name name items n) (drop_more tokens n token below)
+      ∙ ap (λ t. part_names t.kind (label_at items n) name || parts_name name items (n + 1) (drop (n + 1) tokens)) (sym here)
+
+  pub parts_next : (whole : Bool) → n < length tokens → token ≡ get_or tokens n token
+      → part_names token.kind (label_at items n) name ≡ false
+      → parts_name name items n (drop n tokens) ≡ whole → parts_name name items (n + 1) (drop (n + 1) tokens) ≡ whole
+  parts_next whole below here is rest =
+      sym (parts_at below here ∙ ap (λ b. b || parts_name name items (n + 1) (drop (n + 1) tokens)) is) ∙ rest
+
+  pub parts_here : (whole : Bool) → n < length tokens → token ≡ get_or tokens n token → part_names token.kind (label_at items n) name ≡ true
+      → parts_name name items n (drop n tokens) ≡ whole → true ≡ whole
+  parts_here whole below here is rest =
+      sym (parts_at below here ∙ ap (λ b. b || parts_name name items (n + 1) (drop (n + 1) tokens)) is) ∙ rest
+
+pub tree_has : (name : List ℕ) (piece : Piece) (tree : List ℕ) (own : Option (List ℕ)) (is : Bool) → own ≡ Some tree
+    → tree_or_none own ≡ own_tree piece.text → is ≡ tree_names name (tree_of tree) → is ≡ piece_names name piece
+tree_has name piece tree own is has gives names = names ∙ ap (λ t. tree_names name t) (sym (ap tree_or_none has) ∙ gives)
+
+pub tree_lacks : (name : List ℕ) (piece : Piece) (own : Option (List ℕ)) → own ≡ None → tree_or_none own ≡ own_tree piece.text
+    → false ≡ piece_names name piece
+tree_lacks name piece own has gives = ap (λ t. tree_names name t) (sym (ap tree_or_none has) ∙ gives)
+
+pub set_names : {E : Type 0} (set : Set) (name dump left : List ℕ) (pieces : List Piece) (result : Result Bool E) → dump ≡ dumped set
+    → left ≡ settled dump → pieces ≡ pieces_of left → IfOk result (λ is. is ≡ list_any (piece_names name) pieces)
+    → IfOk result (λ is. is ≡ names_switch set name)
+unfolding names_switch
+set_names set name dump left pieces (Err e) one two three names = names
+set_names set name dump left pieces (Ok is) one two three names =
+    names ∙ ap (list_any (piece_names name)) (three ∙ ap pieces_of (two ∙ ap settled one))

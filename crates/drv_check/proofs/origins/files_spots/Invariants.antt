@@ -1,0 +1,6 @@
+use Rattle.drv_check.proofs.origins.files_spots.Given as goal
+use Rattle.drv_check.specs.Origins.{files_spots}
+use Rattle.std.proofs.Common.{◌≡◌, [], drop}
+
+abbrev pub invariant-loop-file : goal.invariant-loop-file
+invariant-loop-file l = files_spots l.head l.spots.items (drop l.file-index l.files) ≡ files_spots l.head [] l.files

@@ -1,0 +1,7 @@
+use Rattle.drv_check.proofs.switch_names.pieces_name.Given as goal
+use Rattle.drv_check.specs.SwitchNames.{piece_names}
+use Rattle.std.proofs.Common.{◌≡◌, drop}
+use Rattle.std.specs.List.{list_any}
+
+abbrev pub invariant-loop-piece : goal.invariant-loop-piece
+invariant-loop-piece l = list_any (piece_names l.name) (drop l.piece-index l.pieces) ≡ list_any (piece_names l.name) l.pieces

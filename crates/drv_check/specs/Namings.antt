@@ -1,0 +1,76 @@
+use Rattle.drv_check.specs.Origins.{files_from, head_in, spot_at, text_spots}
+use Rattle.drv_check.specs.OwnTexts.{own_text, own_tree}
+use Rattle.drv_check.specs.Pieces.{pieces_of}
+use Rattle.drv_check.specs.declared.findings.Source.{Source}
+use Rattle.drv_check.specs.declared.findings.Spot.{Spot}
+use Rattle.drv_check.specs.declared.naming.Deed.TheVariants.{Hides, Passes, Tests}
+use Rattle.drv_check.specs.declared.naming.Deed.{Deed}
+use Rattle.drv_check.specs.declared.naming.Naming.{Naming}
+use Rattle.drv_check.specs.declared.opening.OpenFile.{OpenFile}
+use Rattle.drv_check.specs.declared.pieces.Piece.{Piece}
+use Rattle.drv_syntax.specs.Labels.{Label, label_at}
+use Rattle.drv_syntax.specs.Tokens.{tokens_of}
+use Rattle.drv_syntax.specs.Tree.{Items}
+use Rattle.drv_syntax.specs.declared.token.TestKind.TheVariants as asking
+use Rattle.drv_syntax.specs.declared.token.TestKind.{TestKind}
+use Rattle.drv_syntax.specs.declared.token.Token.{Token}
+use Rattle.drv_syntax.specs.declared.token.TokenKind.TheVariants as kinds
+use Rattle.drv_syntax.specs.declared.token.TokenKind.{TokenKind}
+use Rattle.std.specs.List.{flat_map}
+use Rattle.std.specs.Prelude.{◌+◌, ◌-◌, List, [], ◌∷◌, ◌++◌, None, Option, Some, drop, length, take, ℕ}
+
+-- The parts of a set's texts that name switches (GCC manual, "Spec Files", %{S}, %{S:X} and %<S), each with its place in a file, if a file
+-- put its text.
+
+-- what a part does with the switches that its pattern names
+
+abbrev pub test_deed : TestKind → Option Deed
+test_deed asking.Switch = Some Tests
+test_deed asking.Suffix = None
+test_deed asking.Language = None
+test_deed asking.Result = None
+
+abbrev pub deed_of : TokenKind → TestKind → Option Deed
+deed_of kinds.Pattern asks = Some Passes
+deed_of kinds.Hide asks = Some Hides
+deed_of kinds.Test asks = test_deed asks
+deed_of kind asks = None
+
+-- a part of a text with this head, as it is written
+abbrev pub written : List ℕ → Token → List ℕ
+written text token = take (token.end - token.start) (drop token.start text)
+
+abbrev pub naming_if : List ℕ → List ℕ → List Spot → Token → Label → Option Deed → List Naming
+naming_if head text spots token label None = []
+naming_if head text spots token label (Some deed) = record {
+  head = head;
+  deed = deed;
+  word = label.word;
+  starred = label.starred;
+  written = written text token;
+  spot = spot_at spots (length text) token.start;
+} ∷ []
+
+abbrev pub token_namings : List ℕ → List ℕ → List Spot → Token → Label → List Naming
+token_namings head text spots token label = naming_if head text spots token label (deed_of token.kind label.asks)
+
+-- of tokens, the first of which has the place n
+abbrev pub tokens_namings : List ℕ → List ℕ → List Spot → Items → ℕ → List Token → List Naming
+tokens_namings head text spots items n [] = []
+tokens_namings head text spots items n (token ∷ tokens) =
+    token_namings head text spots token (label_at items n) ++ tokens_namings head text spots items (n + 1) tokens
+
+abbrev pub tree_namings : List ℕ → List ℕ → List Spot → Items → List Naming
+tree_namings head text spots items = tokens_namings head text spots items 0 (tokens_of items)
+
+-- of a text of a set, which is a directive of its dump
+
+abbrev pub headed_namings : List Source → List OpenFile → Option (List ℕ) → List ℕ → Items → List Naming
+headed_namings sources files None text items = []
+headed_namings sources files (Some head) text items = tree_namings head text (text_spots sources files head text) items
+
+abbrev pub piece_namings : List Source → List OpenFile → Piece → List Naming
+piece_namings sources files piece = headed_namings sources files (head_in piece.text) (own_text piece.text) (own_tree piece.text)
+
+abbrev pub namings_of : List Source → List ℕ → List Naming
+namings_of sources dump = flat_map (piece_namings sources (files_from 0 sources)) (pieces_of dump)

@@ -1,0 +1,217 @@
+//! The parts of a set's texts that name switches.
+
+ghost use Rattle.drv_check.specs.Namings.{deed_of, headed_namings, naming_if, namings_of, piece_namings};
+ghost use Rattle.drv_check.specs.Namings.{test_deed, token_namings, tree_namings, written};
+ghost use Rattle.drv_check.specs.OwnTexts.{own_text, own_tree};
+ghost use Rattle.drv_syntax.specs.Labels.{label_at};
+ghost use Rattle.drv_syntax.specs.Parsed.{tree_of};
+ghost use Rattle.drv_syntax.specs.Tokens.{tokens_of};
+ghost use Rattle.std.specs.List.{flat_map};
+ghost use Rattle.std.specs.Prelude.{◌≡◌, ◌<◌, ◌++◌, IfOk, OnOk, Some, length};
+
+use crate::findings::{Source, Spot};
+use crate::opening::OpenFile;
+use crate::origins::{head_in, open_all, spot_at, text_spots};
+use crate::own_text::own_tree;
+use crate::pieces::{Piece, pieces_of};
+use drv_syntax::{SpecTree, TestKind, Token, TokenKind};
+use drv_words::{Listing, Word};
+use std::alloc::{AllocError, Global};
+
+/// What a part of a text does with the switches that its pattern names.
+#[derive(Clone, Copy, Debug)]
+pub enum Deed {
+    /// `%{S}` passes them on.
+    Passes,
+    /// `%{S:X}` tests whether there are any.
+    Tests,
+    /// `%<S` hides them.
+    Hides,
+}
+
+/// A part of a text that names switches.
+#[derive(Debug, Drop)]
+pub struct Naming {
+    /// What precedes the colon where a file puts its text, as `*cc1` or `.c`.
+    pub head: Word,
+    /// What it does with the switches.
+    pub deed: Deed,
+    /// The word of its pattern.
+    pub word: Word,
+    /// Whether a star follows the word.
+    pub starred: bool,
+    /// The part as it is written.
+    pub written: Word,
+    /// Where it is, if a file put its text.
+    pub spot: Option<Spot>,
+}
+
+/// What a test does with switches.
+fn test_deed(asks: TestKind) -> Option<Deed>
+    ensures { result ≡ test_deed asks }
+{
+    match asks {
+        TestKind::Switch => Some(Deed::Tests),
+        TestKind::Suffix | TestKind::Language | TestKind::Result => None,
+    }
+}
+
+/// What a part does with switches.
+fn deed_of(kind: TokenKind, asks: TestKind) -> Option<Deed>
+    ensures { result ≡ deed_of kind asks }
+{
+    match kind {
+        TokenKind::Pattern => Some(Deed::Passes),
+        TokenKind::Hide => Some(Deed::Hides),
+        TokenKind::Test => test_deed(asks),
+        _ => None,
+    }
+}
+
+/// A part of a text as it is written.
+fn written(text: &[u8], token: Token) -> &[u8]
+    ensures { result.now ≡ written text.now token }
+{
+    let start = token.start as usize;
+    let size = (token.end as usize).saturating_sub(start);
+    let rest = text.get(start..).unwrap_or(&[]);
+    rest.get(..size).unwrap_or(rest)
+}
+
+/// A text of a set, with the spots of its last bytes.
+#[derive(Drop)]
+struct Headed<'a> {
+    head: &'a [u8],
+    tree: &'a SpecTree,
+    spots: &'a [Spot],
+}
+
+/// Adds the part at this place of a text, which does this.
+fn push_naming(
+    alloc: Global,
+    namings: &mut Listing<Naming>,
+    text: &Headed<'_>,
+    place: usize,
+    token: Token,
+    deed: Deed,
+) -> Result<(), AllocError>
+    requires { place < length (tokens_of (tree_of text.now.tree.now)) }
+    ensures { OnOk result
+        (namings.new ≡ namings.old
+        ++ naming_if text.now.head.now text.now.tree.now text.now.spots.now token
+        (label_at (tree_of text.now.tree.now) place) (Some deed)) }
+{
+    let bytes = text.tree.text();
+    namings.push(Naming {
+        head: Word::from_bytes(alloc, text.head)?,
+        deed,
+        word: Word::from_bytes(alloc, text.tree.word(place))?,
+        starred: text.tree.starred(place),
+        written: Word::from_bytes(alloc, written(bytes, token))?,
+        spot: spot_at(text.spots, bytes.len(), token.start as usize),
+    })?;
+    Ok(())
+}
+
+/// Adds the part at this place of a text, if it names switches.
+fn push_token(
+    alloc: Global,
+    namings: &mut Listing<Naming>,
+    text: &Headed<'_>,
+    place: usize,
+    token: Token,
+) -> Result<(), AllocError>
+    requires { place < length (tokens_of (tree_of text.now.tree.now)) }
+    ensures { OnOk result
+        (namings.new ≡ namings.old
+        ++ token_namings text.now.head.now text.now.tree.now text.now.spots.now token
+        (label_at (tree_of text.now.tree.now) place)) }
+{
+    match deed_of(token.kind, text.tree.asks(place)) {
+        Some(deed) => push_naming(alloc, namings, text, place, token, deed),
+        None => Ok(()),
+    }
+}
+
+/// Adds the parts of a text that name switches.
+#[tactic(auto, using(crate::proofs::Namings::tokens_next))]
+fn push_tree(
+    alloc: Global,
+    namings: &mut Listing<Naming>,
+    text: &Headed<'_>,
+) -> Result<(), AllocError>
+    ensures { OnOk result
+        (namings.new ≡ namings.old
+        ++ tree_namings text.now.head.now text.now.tree.now text.now.spots.now
+        (tree_of text.now.tree.now)) }
+{
+    let tokens = text.tree.tokens();
+    let mut place = 0;
+    while place < tokens.len() {
+        push_token(alloc, namings, text, place, tokens[place])?;
+        place += 1;
+    }
+    Ok(())
+}
+
+/// Adds the parts of the text of a piece that name switches, where it has this head.
+#[tactic(auto, using(crate::proofs::Namings::of_tree, crate::proofs::Namings::of_none))]
+fn push_headed(
+    alloc: Global,
+    namings: &mut Listing<Naming>,
+    sources: &[Source],
+    files: &[OpenFile],
+    head: &[u8],
+    piece: &Piece,
+) -> Result<(), AllocError>
+    ensures { OnOk result
+        (namings.new ≡ namings.old
+        ++ headed_namings sources.now files.now (Some head.now) (own_text piece.now.text)
+        (own_tree piece.now.text)) }
+{
+    let Some(tree) = own_tree(alloc, piece.text.as_bytes())? else {
+        return Ok(());
+    };
+    let spots = text_spots(alloc, sources, files, head, tree.text())?;
+    let text = Headed {
+        head,
+        tree: &tree,
+        spots: spots.as_slice(),
+    };
+    push_tree(alloc, namings, &text)
+}
+
+/// Adds the parts of the text of a piece that name switches.
+fn push_piece(
+    alloc: Global,
+    namings: &mut Listing<Naming>,
+    sources: &[Source],
+    files: &[OpenFile],
+    piece: &Piece,
+) -> Result<(), AllocError>
+    ensures { OnOk result
+        (namings.new ≡ namings.old ++ piece_namings sources.now files.now piece.now) }
+{
+    match head_in(piece.text.as_bytes()) {
+        Some(head) => push_headed(alloc, namings, sources, files, head, piece),
+        None => Ok(()),
+    }
+}
+
+/// The parts of the texts of a set that name switches, by its dump, in their order. The files that
+/// were loaded into the set say where a part is.
+pub fn namings_of(
+    alloc: Global,
+    sources: &[Source],
+    dump: &[u8],
+) -> Result<Listing<Naming>, AllocError>
+    ensures { IfOk result (λ namings. namings ≡ namings_of sources.now dump.now) }
+{
+    let files = open_all(alloc, sources)?;
+    let pieces = pieces_of(alloc, dump)?;
+    let mut namings = Listing::new(alloc);
+    for piece in pieces.as_slice() {
+        push_piece(alloc, &mut namings, sources, files.as_slice(), piece)?;
+    }
+    Ok(namings)
+}
