@@ -5,15 +5,21 @@
 ghost use Rattle.drv_run.specs.Exits.{exit_status_of};
 ghost use Rattle.std.specs.Prelude.{◌≡◌};
 
+mod meant;
+mod noting;
 mod question;
 mod records;
 
-use drv_run::{Ending, drive, ending_text};
-use drv_system::{HostSystem, Reporter, System, arguments, clock_seed, complain};
+use drv_run::{Ending, Refusal, drive_over, ending_text};
+use drv_system::{
+    FactTable, HostSystem, Reporter, ScriptSystem, System, arguments, clock_seed, complain,
+};
 use drv_words::{Listing, Word};
+use meant::hints;
+use noting::place_noted;
 use question::{Question, question_of};
 use records::{has_own_specs, tell_of_records};
-use std::alloc::AllocError;
+use std::alloc::{AllocError, Global};
 use std::io::{self, ErrorKind};
 use std::process::ExitCode;
 
@@ -54,14 +60,39 @@ fn answer(rt: &HostRuntime, asked: Question) -> ExitCode {
     }
 }
 
+/// What is said of a call after it ended: where a refused spec file has its fault, or which option a
+/// word may have been. Only answers of the call count, and what it did not ask is not there, so no
+/// file is read again.
+fn more_text(alloc: Global, ending: &Ending, args: Listing<Word>, facts: &mut FactTable) -> Word {
+    let nothing = &mut ScriptSystem::new(
+        alloc,
+        Listing::new(alloc),
+        Listing::new(alloc),
+        Listing::new(alloc),
+        Listing::new(alloc),
+    );
+    let text = match ending {
+        Ending::Refused(Refusal::Specs(_)) => place_noted(alloc, args, nothing, facts),
+        Ending::Done(_) | Ending::Refused(_) => hints(alloc, args, nothing, facts),
+        Ending::OutOfMemory => return Word::empty(alloc),
+    };
+    match text {
+        Ok(text) => text,
+        Err(_) => Word::empty(alloc),
+    }
+}
+
 /// Runs the driver for this process. On a terminal it adds a line if built-in specs were used,
 /// since then nothing was compiled.
 fn call(rt: &HostRuntime, args: Listing<Word>) -> Result<ExitCode, AllocError> {
     let seed = clock_seed(rt)?;
     let mut sys = HostSystem::new(rt.clone()?, Reporter::Gdrv);
     let has_own_specs = has_own_specs(args.as_slice());
-    let ending = drive(rt.alloc(), &mut sys, args, seed);
+    let words = args.clone()?;
+    let facts = &mut FactTable::new(rt.alloc());
+    let ending = drive_over(rt.alloc(), &mut sys, args, seed, facts);
     let status = finish(rt, &ending);
+    complain(rt, more_text(rt.alloc(), &ending, words, facts).as_bytes());
     if !has_own_specs {
         tell_of_records(rt, sys.journal());
     }

@@ -1,0 +1,131 @@
+use Rattle.gdrv.specs.Meant.{IsEdit, is_front_edited, is_near, is_same, is_swapped, one_later, one_less, one_more, one_other, two_swapped}
+use Rattle.std.proofs.Common.{◌≡◌, ◌∙◌, ◌&&◌, ◌||◌, ◌==◌, ◌⊎◌, Bool, List, [], ◌∷◌, ap, arith, false, if◌then◌else◌, inl, inr, refl, subst}
+use Rattle.std.proofs.Common.{sym, true, ℕ}
+use Rattle.std.proofs.lemmas.Bool.Decides.{Decides-eqb, nat_tests}
+use Rattle.std.proofs.lemmas.Slice.Eq.{slice_eq-Decides}
+use Rattle.std.specs.Cmp.Lexicographic.{pointwise}
+use Rattle.std.specs.Prelude.{nat_eq}
+
+-- Words are near exactly where one edit makes the one the other.
+
+same : (a b : List ℕ) → is_same a b ≡ true → a ≡ b
+same a b is = (slice_eq-Decides Decides-eqb a b (pointwise nat_eq a b) refl).0 is
+
+same_back : (a : List ℕ) → is_same a a ≡ true
+same_back a = (slice_eq-Decides Decides-eqb a a (pointwise nat_eq a a) refl).1 refl
+
+equal : (b c : ℕ) → (b == c) ≡ true → b ≡ c
+equal b c is = grind (arith, nat_tests, is)
+
+equal_back : (b : ℕ) → (b == b) ≡ true
+equal_back b = grind (arith, nat_tests)
+
+either : (s t : Bool) → (s || t) ≡ true → (s ≡ true) ⊎ (t ≡ true)
+either true t is = inl refl
+either false t is = inr is
+
+first_of : (s t : Bool) → (s && t) ≡ true → s ≡ true
+first_of true t is = refl
+first_of false t is = absurd cc
+
+second_of : (s t : Bool) → (s && t) ≡ true → t ≡ true
+second_of true t is = is
+second_of false t is = absurd cc
+
+or_true : (s : Bool) → (s || true) ≡ true
+or_true true = refl
+or_true false = refl
+
+-- near words are one edit apart
+
+swapped_edit : (b c : ℕ) (word edited : List ℕ) → (b == c) ≡ false → is_swapped (b ∷ word) (c ∷ edited) ≡ true
+    → IsEdit (b ∷ word) (c ∷ edited)
+swapped_edit b c [] edited apart is = absurd cc
+swapped_edit b c (d ∷ word) [] apart is = absurd cc
+swapped_edit b c (d ∷ word) (e ∷ edited) apart is =
+    let one : b ≡ e = equal b e (first_of (b == e) ((d == c) && is_same word edited) is) in
+    let rest : ((d == c) && is_same word edited) ≡ true = second_of (b == e) ((d == c) && is_same word edited) is in
+    let two : d ≡ c = equal d c (first_of (d == c) (is_same word edited) rest) in
+    let ends : word ≡ edited = same word edited (second_of (d == c) (is_same word edited) rest) in
+    subst (λ x. IsEdit (b ∷ x ∷ word) (c ∷ e ∷ edited)) (sym two)
+    (subst (λ x. IsEdit (b ∷ c ∷ word) (c ∷ x ∷ edited)) one (subst (λ ws. IsEdit (b ∷ c ∷ word) (c ∷ b ∷ ws)) ends (two_swapped apart)))
+
+front_edit : (b c : ℕ) (word edited : List ℕ) → (b == c) ≡ false → is_front_edited (b ∷ word) (c ∷ edited) ≡ true
+    → IsEdit (b ∷ word) (c ∷ edited)
+front_edit b c word edited apart is =
+    by (either (is_same word edited) (is_same (b ∷ word) edited || (is_same word (c ∷ edited) || is_swapped (b ∷ word) (c ∷ edited))) is)
+  where
+    by_third : (is_same word (c ∷ edited) ≡ true) ⊎ (is_swapped (b ∷ word) (c ∷ edited) ≡ true) → IsEdit (b ∷ word) (c ∷ edited)
+    by_third (inl one) = subst (λ ws. IsEdit (b ∷ word) ws) (same word (c ∷ edited) one) one_more
+    by_third (inr two) = swapped_edit b c word edited apart two
+
+    by_second : (is_same (b ∷ word) edited ≡ true) ⊎ ((is_same word (c ∷ edited) || is_swapped (b ∷ word) (c ∷ edited)) ≡ true)
+        → IsEdit (b ∷ word) (c ∷ edited)
+    by_second (inl one) = subst (λ ws. IsEdit (b ∷ word) (c ∷ ws)) (same (b ∷ word) edited one) one_less
+    by_second (inr two) = by_third (either (is_same word (c ∷ edited)) (is_swapped (b ∷ word) (c ∷ edited)) two)
+
+    by : (is_same word edited ≡ true) ⊎ ((is_same (b ∷ word) edited || (is_same word (c ∷ edited) || is_swapped (b ∷ word) (c ∷ edited)))
+        ≡ true)
+        → IsEdit (b ∷ word) (c ∷ edited)
+    by (inl one) = subst (λ ws. IsEdit (b ∷ word) (c ∷ ws)) (same word edited one) (one_other apart)
+    by (inr two) = by_second (either (is_same (b ∷ word) edited) (is_same word (c ∷ edited) || is_swapped (b ∷ word) (c ∷ edited)) two)
+
+pub near_is_edit : (word edited : List ℕ) → is_near word edited ≡ true → IsEdit word edited
+near_is_edit [] [] is = absurd cc
+near_is_edit [] (c ∷ []) is = one_less
+near_is_edit [] (c ∷ d ∷ edited) is = absurd cc
+near_is_edit (b ∷ []) [] is = one_more
+near_is_edit (b ∷ d ∷ word) [] is = absurd cc
+near_is_edit (b ∷ word) (c ∷ edited) is = by (near_is_edit word edited) (b == c) refl is
+  where
+    by : (is_near word edited ≡ true → IsEdit word edited) → (t : Bool) → (b == c) ≡ t
+        → (if t then is_near word edited else is_front_edited (b ∷ word) (c ∷ edited)) ≡ true → IsEdit (b ∷ word) (c ∷ edited)
+    by rest true alike is = subst (λ x. IsEdit (b ∷ word) (x ∷ edited)) (equal b c alike) (one_later (rest is))
+    by rest false apart is = front_edit b c word edited apart is
+
+-- and words that are one edit apart are near
+
+stays_near : (b : ℕ) (word edited : List ℕ) → is_near word edited ≡ true → is_near (b ∷ word) (b ∷ edited) ≡ true
+stays_near b word edited is = rw (equal_back b) is
+
+less_near : (b : ℕ) (word : List ℕ) → is_near word (b ∷ word) ≡ true
+less_near b [] = refl
+less_near b (d ∷ word) = by (less_near d word) (d == b) refl
+  where
+    by : is_near word (d ∷ word) ≡ true → (t : Bool) → (d == b) ≡ t → is_near (d ∷ word) (b ∷ d ∷ word) ≡ true
+    by rest true alike = rw alike rest
+    by rest false apart =
+        rw (apart, same_back (d ∷ word)) (or_true (is_same word (d ∷ word)))
+
+more_near : (b : ℕ) (word : List ℕ) → is_near (b ∷ word) word ≡ true
+more_near b [] = refl
+more_near b (d ∷ word) = by (more_near d word) (b == d) refl
+  where
+    by : is_near (d ∷ word) word ≡ true → (t : Bool) → (b == d) ≡ t → is_near (b ∷ d ∷ word) (d ∷ word) ≡ true
+    by rest true alike = rw alike rest
+    by rest false apart =
+        rw (apart, same_back (d ∷ word)) (ap (λ t. is_same (d ∷ word) word || t) (or_true (is_same (b ∷ d ∷ word) word))
+        ∙ or_true (is_same (d ∷ word) word))
+
+other_near : (b c : ℕ) (word : List ℕ) → (b == c) ≡ false → is_near (b ∷ word) (c ∷ word) ≡ true
+other_near b c word apart = rw (apart, same_back word) refl
+
+swapped_near : (b c : ℕ) (word : List ℕ) → (b == c) ≡ false → is_near (b ∷ c ∷ word) (c ∷ b ∷ word) ≡ true
+swapped_near b c word apart = rw apart (by (is_same (c ∷ word) (b ∷ word)) (is_same (b ∷ c ∷ word) (b ∷ word))
+    (is_same (c ∷ word) (c ∷ b ∷ word)))
+  where
+    both : is_swapped (b ∷ c ∷ word) (c ∷ b ∷ word) ≡ true
+    both = rw (equal_back b, equal_back c) (same_back word)
+
+    by : (s t u : Bool) → (s || (t || (u || is_swapped (b ∷ c ∷ word) (c ∷ b ∷ word)))) ≡ true
+    by true t u = refl
+    by false true u = refl
+    by false false true = refl
+    by false false false = both
+
+pub edit_is_near : (word edited : List ℕ) → IsEdit word edited → is_near word edited ≡ true
+edit_is_near word (b ∷ rest) one_less = less_near b word
+edit_is_near (b ∷ word) rest one_more = more_near b rest
+edit_is_near (b ∷ word) (c ∷ rest) (one_other apart) = other_near b c word apart
+edit_is_near (b ∷ c ∷ word) (d ∷ e ∷ rest) (two_swapped apart) = swapped_near b c word apart
+edit_is_near (b ∷ word) (c ∷ edited) (one_later edit) = stays_near b word edited (edit_is_near word edited edit)

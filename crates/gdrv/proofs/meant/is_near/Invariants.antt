@@ -1,0 +1,9 @@
+use Rattle.gdrv.proofs.meant.is_near.Given as goal
+use Rattle.gdrv.specs.Meant.{is_near}
+use Rattle.std.proofs.Common.{◌≡◌, length}
+
+abbrev pub invariant-loop-left : goal.invariant-loop-left
+invariant-loop-left l = is_near l.left l.right ≡ is_near l.word l.other
+
+abbrev pub decreases-loop-left : goal.decreases-loop-left
+decreases-loop-left l = length l.left

@@ -1,0 +1,8 @@
+use Rattle.drv_args.specs.Options.{option_table}
+use Rattle.gdrv.proofs.meant.long_options.Goals as goal
+use Rattle.gdrv.specs.Meant.{long_options}
+use Rattle.std.proofs.Common.{refl}
+
+pub returns : goal.returns
+unfolding long_options option_table
+returns c = refl
