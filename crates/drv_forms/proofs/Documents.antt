@@ -1,4 +1,5 @@
-use Rattle.drv_forms.specs.PlanJson.{command_json, group_json, items_json, job_json, list_json, number_json, option_json, plan_json, temp_json, word_json, words_json}
+use Rattle.drv_forms.specs.PlanJson.{command_json, group_json, items_json, job_json, list_json, number_json, option_json, plan_json}
+use Rattle.drv_forms.specs.PlanJson.{temp_json, word_json, words_json}
 use Rattle.drv_words.specs.declared.plan.Command.{Command}
 use Rattle.drv_words.specs.declared.plan.Job.{Job}
 use Rattle.drv_words.specs.declared.plan.Plan.{Plan}
@@ -7,7 +8,8 @@ use Rattle.json.proofs.Printed.Trees.{value-json_tokens}
 use Rattle.json.specs.Json.{Json, document, if_last, max_depth, string, value}
 use Rattle.json.specs.Lex.{tokens}
 use Rattle.json.specs.Tree.{depth, items_depth, json_tokens}
-use Rattle.std.proofs.Common.{◌≡◌, ◌≤◌, Bool, false, true, List, [], ◌∷◌, None, Option, Some, if◌then◌else◌, option_and_then, sym, ap, ◌∙◌, append-nil, arith, ℕ}
+use Rattle.std.proofs.Common.{◌≡◌, ◌≤◌, Bool, false, true, List, [], ◌∷◌, None, Option, Some, if◌then◌else◌, option_and_then, sym, ap, ◌∙◌}
+use Rattle.std.proofs.Common.{append-nil, arith, ℕ}
 use Rattle.std.specs.Str.{is_utf8}
 
 -- For `plan_json`: the text of the tokens is read as the plan's value, which doesn't nest too deep.

@@ -1,3 +1,4 @@
+mod Databases
 mod Documents
 mod Reading
 mod Shells

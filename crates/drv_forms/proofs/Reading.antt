@@ -1,12 +1,15 @@
 use Rattle.drv_forms.specs.Fits.{Each, IsCommand, IsJob, IsNumber, IsPlan, IsTemp, IsWord, Maybe}
-use Rattle.drv_forms.specs.PlanJson.{command_json, group_json, items_json, job_json, list_json, number_json, option_json, plan_json, temp_json, word_json, words_json}
-use Rattle.drv_forms.specs.PlanOfJson.{all_of, command_from, command_of, group_of, job_of, list_of, number_of, option_of, plan_of, temp_of, word_of, words_of}
+use Rattle.drv_forms.specs.PlanJson.{command_json, group_json, items_json, job_json, list_json, number_json, option_json, plan_json}
+use Rattle.drv_forms.specs.PlanJson.{temp_json, word_json, words_json}
+use Rattle.drv_forms.specs.PlanOfJson.{all_of, command_from, command_of, group_of, job_of, list_of, number_of, option_of, plan_of, temp_of}
+use Rattle.drv_forms.specs.PlanOfJson.{word_of, words_of}
 use Rattle.drv_words.specs.declared.plan.Command.{Command}
 use Rattle.drv_words.specs.declared.plan.Job.{Job}
 use Rattle.drv_words.specs.declared.plan.Plan.{Plan}
 use Rattle.drv_words.specs.declared.plan.Temp.{Temp}
 use Rattle.json.specs.Json.{Json, string}
-use Rattle.std.proofs.Common.{◌≡◌, ◌<◌, Bool, false, true, List, [], ◌∷◌, None, Option, Some, if◌then◌else◌, option_and_then, option_map, refl, ap, ◌∙◌, arith, ℕ}
+use Rattle.std.proofs.Common.{◌≡◌, ◌<◌, Bool, false, true, List, [], ◌∷◌, None, Option, Some, if◌then◌else◌, option_and_then, option_map}
+use Rattle.std.proofs.Common.{refl, ap, ◌∙◌, arith, ℕ}
 use Rattle.std.proofs.lemmas.Fmt.{decimal_is_IsNumeral}
 use Rattle.std.specs.Str.{is_utf8}
 
@@ -18,7 +21,8 @@ goes_on o x f y is gives = ap (option_and_then f) is ∙ gives
 ends : {A B : Type 0} (o : Option A) (x : A) (f : A → B) → o ≡ Some x → option_map f o ≡ Some (f x)
 ends o x f is = ap (option_map f) is
 
-items_back : {A : Type 0} (f : A → Json) (g : Json → Option A) (P : A → Type 0) → ((x : A) → P x → g (f x) ≡ Some x) → (xs : List A) → Each P xs → all_of g (items_json f xs) ≡ Some xs
+items_back : {A : Type 0} (f : A → Json) (g : Json → Option A) (P : A → Type 0) → ((x : A) → P x → g (f x) ≡ Some x) → (xs : List A)
+    → Each P xs → all_of g (items_json f xs) ≡ Some xs
 items_back f g P back [] each = refl
 items_back f g P back (x ∷ xs) each =
     goes_on (g (f x)) x _ _ (back x each.0) (ends (all_of g (items_json f xs)) xs _ (items_back f g P back xs each.1))
@@ -32,7 +36,8 @@ bytes_back = items_back number_json number_of (λ byte. byte < 256) (λ byte is.
 word_back : (word : List ℕ) → IsWord word → word_of (word_json word) ≡ Some word
 word_back word is = by (is_utf8 word) (bytes_back word is)
   where
-    by : (t : Bool) → all_of number_of (items_json number_json word) ≡ Some word → word_of (if t then string word else list_json number_json word) ≡ Some word
+    by : (t : Bool) → all_of number_of (items_json number_json word) ≡ Some word
+        → word_of (if t then string word else list_json number_json word) ≡ Some word
     by true back = refl
     by false back = back
 
@@ -47,7 +52,8 @@ output_back : (output : Option (List ℕ)) → Maybe IsWord output → option_of
 output_back None is = refl
 output_back (Some word) is = by (is_utf8 word) (bytes_back word is)
   where
-    by : (t : Bool) → all_of number_of (items_json number_json word) ≡ Some word → option_of word_of (if t then string word else list_json number_json word) ≡ Some (Some word)
+    by : (t : Bool) → all_of number_of (items_json number_json word) ≡ Some word
+        → option_of word_of (if t then string word else list_json number_json word) ≡ Some (Some word)
     by true back = refl
     by false back = ap (option_map Some) back
 
@@ -65,8 +71,10 @@ temp_back temp is =
 job_back : (job : Job) → IsJob job → job_of (job_json job) ≡ Some job
 job_back job is =
     goes_on (option_of number_of (option_json number_json job.source)) job.source _ _ (source_back job.source is.source)
-    (goes_on (list_of group_of (list_json group_json job.groups)) job.groups _ _ (items_back group_json group_of (Each IsCommand) group_back job.groups is.groups)
-    (goes_on (list_of temp_of (list_json temp_json job.temps)) job.temps _ _ (items_back temp_json temp_of IsTemp temp_back job.temps is.temps)
+    (goes_on (list_of group_of (list_json group_json job.groups)) job.groups _ _
+    (items_back group_json group_of (Each IsCommand) group_back job.groups is.groups)
+    (goes_on (list_of temp_of (list_json temp_json job.temps)) job.temps _ _
+    (items_back temp_json temp_of IsTemp temp_back job.temps is.temps)
     (goes_on (words_of (words_json job.marked)) job.marked _ _ (words_back job.marked is.marked)
     (goes_on (words_of (words_json job.on_failure)) job.on_failure _ _ (words_back job.on_failure is.on_failure)
     (ends (option_of word_of (option_json word_json job.output)) job.output _ (output_back job.output is.output))))))

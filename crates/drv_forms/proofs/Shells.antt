@@ -1,15 +1,19 @@
-use Rattle.drv_forms.specs.Shell.{Outside, Quoted, Rest, after_blank, after_bytes, bytes_of, inside, read, shell_text, shell_word, shell_words, words_of}
+use Rattle.drv_forms.specs.Shell.{Outside, Quoted, Rest, after_blank, after_bytes, bytes_of, inside, read, shell_text, shell_word}
+use Rattle.drv_forms.specs.Shell.{shell_words, words_of}
 use Rattle.drv_words.specs.Printed.{is_bare, is_plain}
-use Rattle.std.proofs.Common.{◌≡◌, Bool, false, true, ◌&&◌, ◌==◌, List, [], ◌∷◌, ◌++◌, None, Option, Some, if◌then◌else◌, option_map, length, nat_lt, refl, sym, ap, ◌∙◌, append_assoc, append-nil, ℕ}
+use Rattle.std.proofs.Common.{◌≡◌, Bool, false, true, ◌&&◌, ◌==◌, List, [], ◌∷◌, ◌++◌, None, Option, Some, if◌then◌else◌, option_map}
+use Rattle.std.proofs.Common.{length, nat_lt, refl, sym, ap, ◌∙◌, append_assoc, append-nil, ℕ}
 use Rattle.std.proofs.lemmas.Bool.{eqb-true}
 use Rattle.std.specs.List.{list_all}
 
 -- For `shell_word`: the shell reads a word that was written for it as that word.
 
 -- bytes, and bytes before them
-together : (front bytes : List ℕ) (rest : Option Rest) → option_map (after_bytes front) (option_map (after_bytes bytes) rest) ≡ option_map (after_bytes (front ++ bytes)) rest
+together : (front bytes : List ℕ) (rest : Option Rest)
+    → option_map (after_bytes front) (option_map (after_bytes bytes) rest) ≡ option_map (after_bytes (front ++ bytes)) rest
 together front bytes None = refl
-together front bytes (Some rest) = ap (λ word. Some (record { going_on = Some word; words = rest.words })) (sym (append_assoc front bytes (bytes_of rest.going_on)))
+together front bytes (Some rest) = ap (λ word. Some (record { going_on = Some word; words = rest.words }))
+    (sym (append_assoc front bytes (bytes_of rest.going_on)))
 
 split_true : (a b : Bool) → (a && b) ≡ true → (a ≡ true) × (b ≡ true)
 split_true true b both = (refl, both)
@@ -19,7 +23,8 @@ split_true false b both = absurd cc
 plain_byte : (b : ℕ) (text : List ℕ) → is_plain b ≡ true → read Outside (b ∷ text) ≡ option_map (after_bytes (b ∷ [])) (read Outside text)
 plain_byte b text plain = rw plain refl
 
-plain_read : (b : ℕ) (word rest : List ℕ) → list_all is_plain (b ∷ word) ≡ true → read Outside (b ∷ word ++ rest) ≡ option_map (after_bytes (b ∷ word)) (read Outside rest)
+plain_read : (b : ℕ) (word rest : List ℕ) → list_all is_plain (b ∷ word) ≡ true
+    → read Outside (b ∷ word ++ rest) ≡ option_map (after_bytes (b ∷ word)) (read Outside rest)
 plain_read b [] rest plain = plain_byte b rest (split_true (is_plain b) true plain).0
 plain_read b (c ∷ word) rest plain =
     let both = split_true (is_plain b) (list_all is_plain (c ∷ word)) plain in
@@ -33,7 +38,8 @@ inside_read [] rest = refl
 inside_read (b ∷ word) rest = by (b == 39) refl (inside_read word rest)
   where
     by : (t : Bool) → (b == 39) ≡ t → read Quoted (inside word ++ 39 ∷ rest) ≡ option_map (after_bytes word) (read Outside rest)
-        → read Quoted ((if t then 39 ∷ 92 ∷ 39 ∷ 39 ∷ inside word else b ∷ inside word) ++ 39 ∷ rest) ≡ option_map (after_bytes (b ∷ word)) (read Outside rest)
+        → read Quoted ((if t then 39 ∷ 92 ∷ 39 ∷ 39 ∷ inside word else b ∷ inside word) ++ 39 ∷ rest)
+        ≡ option_map (after_bytes (b ∷ word)) (read Outside rest)
     by true is later =
         ap (λ r. option_map (after_bytes []) (option_map (after_bytes (39 ∷ [])) (option_map (after_bytes []) r))) later
         ∙ ap (λ r. option_map (after_bytes []) (option_map (after_bytes (39 ∷ [])) r)) (together [] word (read Outside rest))
@@ -50,7 +56,8 @@ word_read word rest = by (is_bare word) refl
     bare [] is = absurd cc
     bare (b ∷ w) is = plain_read b w rest (split_true (nat_lt 0 (length (b ∷ w))) (list_all is_plain (b ∷ w)) is).1
 
-    by : (t : Bool) → is_bare word ≡ t → read Outside ((if t then word else 39 ∷ inside word ++ 39 ∷ []) ++ rest) ≡ option_map (after_bytes word) (read Outside rest)
+    by : (t : Bool) → is_bare word ≡ t → read Outside ((if t then word else 39 ∷ inside word ++ 39 ∷ []) ++ rest)
+        ≡ option_map (after_bytes word) (read Outside rest)
     by true is = bare word is
     by false is =
         ap (λ t. option_map (after_bytes []) (read Quoted t)) (append_assoc (inside word) (39 ∷ []) rest)

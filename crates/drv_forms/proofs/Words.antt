@@ -21,5 +21,6 @@ bytes_word word isnt = by (is_utf8 word) refl
 pub text_tokens : (word text : List ℕ) → text ≡ word → IsUtf8 word → Token.string text ∷ [] ≡ json_tokens (word_json word)
 text_tokens word text is utf8 = ap (λ t. Token.string t ∷ []) is ∙ sym (ap json_tokens (text_word word utf8))
 
-pub bytes_tokens : (word bytes : List ℕ) → bytes ≡ word → ¬ (IsUtf8 word) → json_tokens (list_json number_json bytes) ≡ json_tokens (word_json word)
+pub bytes_tokens : (word bytes : List ℕ) → bytes ≡ word → ¬ (IsUtf8 word)
+    → json_tokens (list_json number_json bytes) ≡ json_tokens (word_json word)
 bytes_tokens word bytes is isnt = ap (λ b. json_tokens (list_json number_json b)) is ∙ sym (ap json_tokens (bytes_word word isnt))

@@ -1,3 +1,4 @@
+pub mod CompileCommands
 pub mod Difference
 pub mod Fits
 pub mod Picture

@@ -1,4 +1,5 @@
-use Rattle.drv_forms.specs.declared.pieces.Piece.TheVariants.{Claim, Driver, EndFault, EndPipe, Fault, Into, Keep, NotStarted, Opening, Pipe, Run, Say, Start, Status, Then, ThenNext, ToError, Unless}
+use Rattle.drv_forms.specs.declared.pieces.Piece.TheVariants.{Claim, Driver, EndFault, EndPipe, Fault, Into, Keep, NotStarted, Opening}
+use Rattle.drv_forms.specs.declared.pieces.Piece.TheVariants.{Pipe, Run, Say, Start, Status, Then, ThenNext, ToError, Unless}
 use Rattle.drv_forms.specs.declared.pieces.Piece.{Piece}
 use Rattle.std.specs.Prelude.{◌++◌, List, codes, ℕ}
 

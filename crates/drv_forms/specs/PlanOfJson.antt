@@ -72,7 +72,15 @@ job_of json =
     option_and_then (λ temps.
     option_and_then (λ marked.
     option_and_then (λ on_failure.
-    option_map (λ output. record { source = source; groups = groups; temps = temps; marked = marked; on_failure = on_failure; output = output })
+    option_map (λ output. record {
+      source = source;
+      groups = groups;
+      temps = temps;
+      marked = marked;
+      on_failure = on_failure;
+      output =
+          output;
+    })
     (field (codes "output") (option_of word_of) json))
     (field (codes "on_failure") words_of json))
     (field (codes "marked") words_of json))

@@ -1,6 +1,7 @@
 use Rattle.drv_forms.specs.Pieces.{text}
 use Rattle.drv_forms.specs.Shell.{shell_text, spaced}
-use Rattle.drv_forms.specs.declared.pieces.Piece.TheVariants.{Claim, Driver, EndFault, EndPipe, Fault, Into, Keep, NotStarted, Opening, Pipe, Run, Say, Start, Status, Then, ThenNext, ToError, Unless}
+use Rattle.drv_forms.specs.declared.pieces.Piece.TheVariants.{Claim, Driver, EndFault, EndPipe, Fault, Into, Keep, NotStarted, Opening}
+use Rattle.drv_forms.specs.declared.pieces.Piece.TheVariants.{Pipe, Run, Say, Start, Status, Then, ThenNext, ToError, Unless}
 use Rattle.drv_words.specs.Bytes.{newline}
 use Rattle.drv_words.specs.declared.plan.Command.{Command}
 use Rattle.drv_words.specs.declared.plan.Job.{Job}

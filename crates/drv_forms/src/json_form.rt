@@ -37,7 +37,7 @@ fn put_bytes(out: &mut Pretty, bytes: &[u8]) -> Result<(), AllocError>
 }
 
 /// Writes a word.
-fn put_word(out: &mut Pretty, word: &Word) -> Result<(), AllocError>
+pub(crate) fn put_word(out: &mut Pretty, word: &Word) -> Result<(), AllocError>
     ensures { OnOk result (out.new ≡ out.old ++ json_tokens (word_json word.now)) }
 {
     match from_utf8(word.as_bytes()) {
@@ -65,7 +65,7 @@ fn put_words(out: &mut Pretty, words: &[Word]) -> Result<(), AllocError>
 }
 
 /// Writes a command as the array of its words.
-fn put_command(out: &mut Pretty, command: &Command) -> Result<(), AllocError>
+pub(crate) fn put_command(out: &mut Pretty, command: &Command) -> Result<(), AllocError>
     ensures { OnOk result (out.new ≡ out.old ++ json_tokens (command_json command.now)) }
 {
     out.token(Token::BeginArray)?;

@@ -3,6 +3,7 @@
 #![tactic(auto)]
 
 mod comparing;
+mod database;
 mod drawing;
 mod json_form;
 mod pieces;
@@ -10,6 +11,7 @@ mod scripting;
 mod shell;
 
 pub use comparing::difference;
+pub use database::compile_commands;
 pub use drawing::picture;
 pub use json_form::plan_json;
 pub use scripting::script;

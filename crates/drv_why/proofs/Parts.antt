@@ -1,13 +1,16 @@
 use Rattle.drv_args.specs.Fronts.{Alone, Bad, Start, Wants, at_last, start_of}
-use Rattle.drv_args.specs.Lines.{has_many, input_fault, inputs_fault, is_input, judged, judged_line, line_fault, line_of, line_of_items, line_read, needs_language, or_later, output_fault}
+use Rattle.drv_args.specs.Lines.{has_many, input_fault, inputs_fault, is_input, judged, judged_line, line_fault, line_of, line_of_items}
+use Rattle.drv_args.specs.Lines.{line_read, needs_language, or_later, output_fault}
 use Rattle.drv_args.specs.declared.fault.ArgsFault.TheVariants.{Memory, NoInputs, OutputIsInput, OutputWithMany, StdinNeedsLanguage}
 use Rattle.drv_args.specs.declared.fault.ArgsFault.{ArgsFault}
 use Rattle.drv_args.specs.declared.line.Expanded.{Expanded}
 use Rattle.drv_args.specs.declared.line.Line.{Line}
+use Rattle.drv_why.specs.Code.Counting.{count_of}
 use Rattle.drv_why.specs.Code.Wanting.{is_memory, is_missing}
-use Rattle.drv_why.specs.Parts.{count_of, part, part_words, parts_from, parts_of, wants_next}
-use Rattle.drv_why.specs.declared.parting.Part.{Part}
-use Rattle.std.proofs.Common.{◌≡◌, ◌∙◌, ◌+◌, ◌-◌, ◌∷◌, ◌++◌, ◌<◌, ◌≤◌, ◌==◌, ◌⊎◌, Bool, Err, IfOk, List, None, Ok, Option, Result, Some, [], ap, append_assoc, arith, drop, false, if◌then◌else◌, inl, inr, length, refl, sym, take, true, ℕ}
+use Rattle.drv_why.specs.Parts.{part, part_words, parts_from, parts_of, wants_next}
+use Rattle.drv_why.specs.declared.parting.LinePart.{LinePart}
+use Rattle.std.proofs.Common.{◌≡◌, ◌∙◌, ◌+◌, ◌-◌, ◌∷◌, ◌++◌, ◌<◌, ◌≤◌, ◌==◌, ◌⊎◌, Bool, Err, IfOk, List, None, Ok, Option, Result, Some, []}
+use Rattle.std.proofs.Common.{ap, append_assoc, arith, drop, false, if◌then◌else◌, inl, inr, length, refl, sym, take, true, ℕ}
 use Rattle.std.proofs.Math.Seq.{drop-append_seam}
 use Rattle.std.proofs.lemmas.List.{length-append, length-drop}
 use Rattle.std.specs.List.{flat_map}
@@ -66,7 +69,8 @@ by_start Bad word = refl
 of_word : (word : List ℕ) → missing_of (line_read (alone_word word)) ≡ wants_next (start_of word)
 of_word word = by_start (start_of word) word
 
-pub lacks_nothing : (word : List ℕ) (e : Expanded) (line : Line) → e ≡ alone_word word → line_read e ≡ Ok line → false ≡ wants_next (start_of word)
+pub lacks_nothing : (word : List ℕ) (e : Expanded) (line : Line) → e ≡ alone_word word → line_read e ≡ Ok line
+    → false ≡ wants_next (start_of word)
 lacks_nothing word e line is read = ap missing_of (sym read ∙ ap line_read is) ∙ of_word word
 
 pub lacks : {E : Type 0} (word : List ℕ) (e : Expanded) (fault : ArgsFault) (result : Result Bool E) → e ≡ alone_word word
@@ -113,7 +117,8 @@ some_count (word ∷ next ∷ words) some = by (wants_next (start_of word)) refl
 pub some_left : (first whole : ℕ) (left : List (List ℕ)) → first < whole → first + length left ≡ whole → 0 < length left
 some_left first whole left before so_far = omega (arith, before, so_far)
 
-pub next_part : (parts parts' whole : List Part) (first count : ℕ) (left after : List (List ℕ)) → 0 < length left → count ≡ count_of left
+pub next_part : (parts parts' whole : List LinePart) (first count : ℕ) (left after : List (List ℕ)) → 0 < length left
+    → count ≡ count_of left
     → parts' ≡ parts ++ part first count ∷ [] → after ≡ drop count left → parts ++ parts_from first left ≡ whole
     → parts' ++ parts_from (first + count) after ≡ whole
 next_part parts parts' whole first count left after some is grows goes so_far =

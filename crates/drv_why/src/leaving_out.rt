@@ -1,9 +1,9 @@
 //! A line without one of its parts.
 
-ghost use Rattle.drv_why.specs.Parts.{words_before, words_behind, without};
-ghost use Rattle.std.specs.Prelude.{◌≡◌, ◌++◌, IfOk, OnOk};
+ghost use Rattle.drv_why.specs.Parts.{without};
+ghost use Rattle.std.specs.Prelude.{◌≡◌, ◌++◌, IfOk, OnOk, drop, take};
 
-use crate::parting::Part;
+use crate::parting::LinePart;
 use drv_words::{Listing, Word};
 use std::alloc::{AllocError, Global};
 
@@ -19,7 +19,7 @@ fn push_all(to: &mut Listing<Word>, words: &[Word]) -> Result<(), AllocError>
 
 /// The words before a place.
 pub(crate) fn words_before(words: &[Word], place: usize) -> &[Word]
-    ensures { result.now ≡ words_before place words.now }
+    ensures { result.now ≡ take place words.now }
 {
     if place < words.len() {
         &words[..place]
@@ -30,13 +30,13 @@ pub(crate) fn words_before(words: &[Word], place: usize) -> &[Word]
 
 /// The words from a place on.
 pub(crate) fn words_behind(words: &[Word], place: usize) -> &[Word]
-    ensures { result.now ≡ words_behind place words.now }
+    ensures { result.now ≡ drop place words.now }
 {
     words.get(place..).unwrap_or(&[])
 }
 
 /// The words of a line without those of a part.
-pub fn without(alloc: Global, line: &[Word], part: Part) -> Result<Listing<Word>, AllocError>
+pub fn without(alloc: Global, line: &[Word], part: LinePart) -> Result<Listing<Word>, AllocError>
     ensures { IfOk result (λ words. words ≡ without line.now part) }
 {
     let mut words = Listing::new(alloc);

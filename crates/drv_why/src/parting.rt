@@ -1,8 +1,9 @@
 //! The parts of a line.
 
 ghost use Rattle.drv_args.specs.Fronts.{start_of};
+ghost use Rattle.drv_why.specs.Code.Counting.{count_of};
 ghost use Rattle.drv_why.specs.Code.Wanting.{is_memory, is_missing};
-ghost use Rattle.drv_why.specs.Parts.{count_of, parts_of, wants_next};
+ghost use Rattle.drv_why.specs.Parts.{parts_of, wants_next};
 ghost use Rattle.std.specs.Prelude.{◌≡◌, ◌∷◌, [], IfOk, false};
 
 use crate::leaving_out::words_behind;
@@ -12,7 +13,7 @@ use std::alloc::{AllocError, Global};
 
 /// Words of a line that belong together: an option with its argument, or a file.
 #[derive(Clone, Copy, Debug)]
-pub struct Part {
+pub struct LinePart {
     /// The place of its first word in the line, from 0.
     pub first: usize,
     /// How many words it has.
@@ -72,7 +73,7 @@ fn count_of(alloc: Global, words: &[Word]) -> Result<usize, AllocError>
 
 /// The parts of a line, in their order: an option and the next word, if that is its argument, or a
 /// word alone (GCC manual, "Overall Options").
-pub fn parts_of(alloc: Global, line: &[Word]) -> Result<Listing<Part>, AllocError>
+pub fn parts_of(alloc: Global, line: &[Word]) -> Result<Listing<LinePart>, AllocError>
     ensures { IfOk result (λ parts. parts ≡ parts_of line.now) }
 {
     let mut parts = Listing::new(alloc);
@@ -80,7 +81,7 @@ pub fn parts_of(alloc: Global, line: &[Word]) -> Result<Listing<Part>, AllocErro
     let mut left = line;
     while first < line.len() {
         let count = count_of(alloc, left)?;
-        parts.push(Part { first, count })?;
+        parts.push(LinePart { first, count })?;
         first += count;
         left = words_behind(left, count);
     }

@@ -6,7 +6,7 @@ ghost use Rattle.drv_why.specs.Parts.{part_words};
 ghost use Rattle.std.specs.Prelude.{◌≡◌, ◌∷◌, ◌++◌, IfOk, OnOk};
 
 use crate::leaving_out::{words_before, words_behind};
-use crate::parting::Part;
+use crate::parting::LinePart;
 use drv_words::{Word, quote};
 use std::alloc::{AllocError, Global};
 
@@ -30,7 +30,7 @@ fn words_text(alloc: Global, words: &[Word]) -> Result<Word, AllocError>
 }
 
 /// The words of a part of a line, each after a space, as the driver prints the words of a plan.
-pub fn part_text(alloc: Global, line: &[Word], part: Part) -> Result<Word, AllocError>
+pub fn part_text(alloc: Global, line: &[Word], part: LinePart) -> Result<Word, AllocError>
     ensures { IfOk result (λ text. text ≡ words_text (part_words line.now part)) }
 {
     let rest = words_behind(line, part.first);

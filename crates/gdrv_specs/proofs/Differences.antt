@@ -29,7 +29,8 @@ tells_short journal journal' work work' same = ([], same ∙ sym (append-nil jou
 pub tells_unmade : (journal : List Event) (work work' : Work) → TellsWorks journal journal work work' (Ended OutOfMemory)
 tells_unmade journal work work' = ([], sym (append-nil journal), refl)
 
-pub tells_nothing : (journal : List Event) (work work' : Work) → None ≡ difference_in work work' → TellsWorks journal journal work work' NoPlan
+pub tells_nothing : (journal : List Event) (work work' : Work) → None ≡ difference_in work work'
+    → TellsWorks journal journal work work' NoPlan
 tells_nothing journal work work' none = ([], sym (append-nil journal), (sym none, refl))
 
 -- what the two lines give

@@ -1,4 +1,5 @@
 use Rattle.drv_check.specs.Checked.{checked}
+use Rattle.drv_check.specs.Spots.{place_in}
 use Rattle.drv_check.specs.declared.findings.Checking.{Checking}
 use Rattle.drv_check.specs.declared.findings.Finding.{Finding}
 use Rattle.drv_check.specs.declared.findings.Source.{Source}
@@ -12,12 +13,14 @@ use Rattle.drv_system.specs.Facts.{Facts, no_facts}
 use Rattle.drv_system.specs.Known.{Is}
 use Rattle.drv_system.specs.declared.event.Event.{Event}
 use Rattle.gdrv_specs.proofs.Told.{known}
-use Rattle.gdrv_specs.specs.Checks.{PutsReport, TellsCheck, TellsFound, all_told, included_at, is_shown, place_in, place_of, places_from, report, status_with, told_of, verdict}
+use Rattle.gdrv_specs.specs.Checks.{PutsReport, TellsCheck, TellsFound, all_told, included_at, is_shown, place_of, places_from, report}
+use Rattle.gdrv_specs.specs.Checks.{status_with, told_of, verdict}
 use Rattle.gdrv_specs.specs.Told.{Puts, PutsText}
 use Rattle.gdrv_specs.specs.declared.outcome.Outcome.TheVariants.{Ended}
 use Rattle.gdrv_specs.specs.declared.outcome.Outcome.{Outcome}
 use Rattle.gdrv_specs.specs.declared.requesting.Request.{Request}
-use Rattle.std.proofs.Common.{◌≡◌, ◌∙◌, ◌<◌, ◌+◌, ◌-◌, ◌++◌, ◌∷◌, Bool, Bor, Err, List, None, Ok, OnOk, Option, Result, Some, [], ap, append_assoc, arith, drop, false, if◌then◌else◌, inl, inr, length, refl, subst, suc, sym, true, zero, ℕ}
+use Rattle.std.proofs.Common.{◌≡◌, ◌∙◌, ◌<◌, ◌+◌, ◌-◌, ◌++◌, ◌∷◌, Bool, Bor, Err, List, None, Ok, OnOk, Option, Result, Some, [], ap}
+use Rattle.std.proofs.Common.{append_assoc, arith, drop, false, if◌then◌else◌, inl, inr, length, refl, subst, suc, sym, true, zero, ℕ}
 use Rattle.std.proofs.lemmas.List.{append-nil, drop_more}
 use Rattle.std.specs.Option.{option_map}
 use Rattle.std.specs.Prelude.{filter, get_or, map, slice_get}
@@ -30,7 +33,11 @@ pub puts_report : (journal journal' : List Event) (request : Request) (c : Check
 puts_report journal journal' request c all text written are is puts = (
   puts.0,
   puts.1,
-  (written, subst (λ t. Puts t written puts.0) (is ∙ ap (report request.json) are) puts.2, ap (λ a. status_with written (verdict request.strict a)) are),
+  (
+    written,
+    subst (λ t. Puts t written puts.0) (is ∙ ap (report request.json) are) puts.2,
+    ap (λ a. status_with written (verdict request.strict a)) are,
+  ),
 )
 
 pub reports_put : (journal journal' : List Event) (request : Request) (c : Checking) (status : ℕ)
@@ -45,7 +52,8 @@ reports_short journal journal' request c same = ([], same ∙ sym (append-nil jo
 
 -- a source that was looked up
 
-pub lost_at : (sources : List Source) (place : ℕ) (found : Option (Bor Source)) → option_map (λ source. source.now) found ≡ slice_get sources place
+pub lost_at : (sources : List Source) (place : ℕ) (found : Option (Bor Source))
+    → option_map (λ source. source.now) found ≡ slice_get sources place
     → found ≡ None → slice_get sources place ≡ None
 lost_at sources place found looks is = sym looks ∙ ap (option_map (λ source. source.now)) is
 
@@ -74,7 +82,8 @@ module _ (sources : List Source) (places : List Place) where
       ∙ ap (λ s. places ++ (place_of s spot.at ++ places_from sources more (included_at s))) (sym lost)
       ∙ ap (λ f. places ++ places_from sources (suc more) f) (sym is)
 
-  pub places_more : {X E : Type 0} (after all : List Place) (more : ℕ) (from : Option Spot) (spot : Spot) (source : Source) (result : Result X E)
+  pub places_more : {X E : Type 0} (after all : List Place) (more : ℕ) (from : Option Spot) (spot : Spot) (source : Source)
+      (result : Result X E)
       → from ≡ Some spot → 0 < more → slice_get sources spot.source ≡ Some source → after ≡ places ++ place_in source spot.at ∷ []
       → OnOk result (all ≡ after ++ places_from sources (more - 1) source.from)
       → OnOk result (all ≡ places ++ places_from sources more from)
@@ -105,7 +114,8 @@ module _ (request : Request) (sources : List Source) (findings : List Finding) (
       by true is = rw is refl
       by false is = rw is refl
 
-  pub told_more : (before after whole : List Told) → n < length findings → finding ≡ get_or findings n finding → is_shown request finding ≡ true
+  pub told_more : (before after whole : List Told) → n < length findings → finding ≡ get_or findings n finding
+      → is_shown request finding ≡ true
       → after ≡ before ++ told_of sources finding ∷ []
       → before ++ map (told_of sources) (filter (is_shown request) (drop n findings)) ≡ whole
       → after ++ map (told_of sources) (filter (is_shown request) (drop (n + 1) findings)) ≡ whole
@@ -114,7 +124,8 @@ module _ (request : Request) (sources : List Source) (findings : List Finding) (
       ∙ append_assoc before (told_of sources finding ∷ []) (map (told_of sources) (filter (is_shown request) (drop (n + 1) findings)))
       ∙ ap (λ ts. before ++ ts) (sym (left true below here is)) ∙ rest
 
-  pub told_passed : (before whole : List Told) → n < length findings → finding ≡ get_or findings n finding → is_shown request finding ≡ false
+  pub told_passed : (before whole : List Told) → n < length findings → finding ≡ get_or findings n finding
+      → is_shown request finding ≡ false
       → before ++ map (told_of sources) (filter (is_shown request) (drop n findings)) ≡ whole
       → before ++ map (told_of sources) (filter (is_shown request) (drop (n + 1) findings)) ≡ whole
   told_passed before whole below here is rest = ap (λ ts. before ++ ts) (sym (left false below here is)) ∙ rest
@@ -144,7 +155,8 @@ checks_after {F' = F'} request c outcome over files first are empty asks checks 
       inr (
         c,
         subst (λ G. checked G request.over request.files ≡ Is c) (known empty asks)
-            (subst (λ fs. checked F' request.over fs ≡ Is c) are (subst (λ os. checked F' os files ≡ Is c) first (checks F' (extends_refl F')))),
+            (subst (λ fs. checked F' request.over fs ≡ Is c) are
+            (subst (λ os. checked F' os files ≡ Is c) first (checks F' (extends_refl F')))),
         tells.2,
       );
 }

@@ -1,9 +1,11 @@
 mod Calls
 mod Differences
 mod FilesChecked
+mod LineNames
 mod Outcomes
 mod Plans
 mod Reasons
 mod Runs
+mod SwitchesTold
 mod Told
 mod Translations

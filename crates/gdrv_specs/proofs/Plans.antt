@@ -13,11 +13,13 @@ use Rattle.std.proofs.lemmas.List.{append-nil}
 
 -- For `tell_plan`: the call prints the plan of the line's work.
 
-pub tells_put : (journal journal' : List Event) (form : Form) (plan : Plan) (status : ℕ) (work : Work) → PutsText journal journal' (form_text form plan) status
+pub tells_put : (journal journal' : List Event) (form : Form) (plan : Plan) (status : ℕ) (work : Work)
+    → PutsText journal journal' (form_text form plan) status
     → plan_in work ≡ Some plan → TellsWork (TellsOf form) journal journal' work (Ended (Done status))
 tells_put journal journal' form plan status work puts has = (puts.0, puts.1, (plan, has, puts.2))
 
-pub tells_short : (journal journal' : List Event) (form : Form) (work : Work) → journal' ≡ journal → TellsWork (TellsOf form) journal journal' work (Ended OutOfMemory)
+pub tells_short : (journal journal' : List Event) (form : Form) (work : Work) → journal' ≡ journal
+    → TellsWork (TellsOf form) journal journal' work (Ended OutOfMemory)
 tells_short journal journal' form work same = ([], same ∙ sym (append-nil journal), refl)
 
 pub tells_dump : (journal : List Event) (form : Form) (text : List ℕ) → TellsWork (TellsOf form) journal journal (Dump text) NoPlan

@@ -7,14 +7,15 @@ use Rattle.drv_system.specs.Asking.{AreNew, Asks, Extends}
 use Rattle.drv_system.specs.Facts.{Facts, learn, no_facts}
 use Rattle.drv_system.specs.declared.event.Event.{Event}
 use Rattle.drv_why.specs.Parts.{parts_of, without}
-use Rattle.drv_why.specs.declared.parting.Part.{Part}
+use Rattle.drv_why.specs.declared.parting.LinePart.{LinePart}
 use Rattle.gdrv_specs.proofs.Told.{known}
 use Rattle.gdrv_specs.specs.Code.Explaining.{answer_of}
 use Rattle.gdrv_specs.specs.Reasons.{Answers, AnswersAll, Gives, TellsText, TellsWhy}
 use Rattle.gdrv_specs.specs.Told.{PutsText, Stops}
 use Rattle.gdrv_specs.specs.declared.outcome.Outcome.TheVariants.{Ended}
 use Rattle.gdrv_specs.specs.declared.outcome.Outcome.{Outcome}
-use Rattle.std.proofs.Common.{◌≡◌, ◌∙◌, ◌<◌, ◌≤◌, ◌+◌, ◌++◌, ◌∷◌, Err, IfOk, List, Ok, Result, Some, [], ap, append_assoc, drop, inl, inr, length, refl, subst, sym, ℕ}
+use Rattle.std.proofs.Common.{◌≡◌, ◌∙◌, ◌<◌, ◌≤◌, ◌+◌, ◌++◌, ◌∷◌, Err, IfOk, List, Ok, Result, Some, [], ap, append_assoc, drop, inl, inr}
+use Rattle.std.proofs.Common.{length, refl, subst, sym, ℕ}
 use Rattle.std.proofs.lemmas.List.{append-nil, drop_all, drop_more}
 use Rattle.std.specs.Option.{unwrap_or}
 use Rattle.std.specs.Prelude.{get_or}
@@ -30,7 +31,7 @@ tells_short journal journal' text same = ([], same ∙ sym (append-nil journal),
 
 -- the text about one part
 
-pub answered : {E : Type 0} (F : Facts) (line : List (List ℕ)) (work : Work) (seed : ℕ) (part : Part) (rest : List (List ℕ))
+pub answered : {E : Type 0} (F : Facts) (line : List (List ℕ)) (work : Work) (seed : ℕ) (part : LinePart) (rest : List (List ℕ))
     (found : Result Work Ending) (result : Result (List ℕ) E)
     → rest ≡ without line part → Comes F rest seed found → IfOk result (λ text. Some text ≡ answer_of line work part found)
     → IfOk result (Answers F line work seed part)
@@ -44,8 +45,8 @@ answered F line work seed part rest (Err (Done status)) (Ok text) is comes said 
 
 -- the texts about parts
 
-module _ (F : Facts) (line : List (List ℕ)) (work : Work) (seed : ℕ) (parts : List Part) where
-  pub more_answers : (n : ℕ) (part : Part) (text text' one : List ℕ) → n < length parts
+module _ (F : Facts) (line : List (List ℕ)) (work : Work) (seed : ℕ) (parts : List LinePart) where
+  pub more_answers : (n : ℕ) (part : LinePart) (text text' one : List ℕ) → n < length parts
       → Answers F line work seed (get_or parts n part) one → text' ≡ text ++ one
       → ((others : List ℕ) → AnswersAll F line work seed (drop n parts) others → AnswersAll F line work seed parts (text ++ others))
       → (others : List ℕ) → AnswersAll F line work seed (drop (n + 1) parts) others → AnswersAll F line work seed parts (text' ++ others)

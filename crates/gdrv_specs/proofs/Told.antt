@@ -15,7 +15,8 @@ use Rattle.std.proofs.lemmas.List.{append-nil}
 -- For `tell_plan` and `tell_after`: a call adds questions to the journal, and one text at most.
 
 -- the answers to the questions of a call that began with an empty table
-pub known : {journal journal' : List Event} {F F' : Facts} → F ≡ no_facts → (asks : Asks journal journal' F F') → F' ≡ learn no_facts asks.asked
+pub known : {journal journal' : List Event} {F F' : Facts} → F ≡ no_facts → (asks : Asks journal journal' F F')
+    → F' ≡ learn no_facts asks.asked
 known empty asks = asks.facts_grow ∙ ap (λ G. learn G asks.asked) empty
 
 stops : (F : Facts) (line : List (List ℕ)) (seed : ℕ) (ending : Ending) → Comes F line seed (Err ending)

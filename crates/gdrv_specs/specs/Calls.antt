@@ -1,6 +1,7 @@
-use Rattle.gdrv_specs.specs.declared.calling.Call.TheVariants.{After, Ask, Check, Differ, Explain, Plan, Translate}
+use Rattle.gdrv_specs.specs.declared.calling.Call.TheVariants.{After, Ask, Check, Database, Differ, Explain, Plan, Switches, Translate}
 use Rattle.gdrv_specs.specs.declared.calling.Call.{Call}
-use Rattle.gdrv_specs.specs.declared.calling.CallFault.TheVariants.{MissingAnswer, MissingFile, NoCommand, NoFiles, NotOneFile, NotTwoFiles, TooManyAnswers, UnknownCommand, UnknownOption}
+use Rattle.gdrv_specs.specs.declared.calling.CallFault.TheVariants.{MissingAnswer, MissingFile, NoCommand, NoFiles, NotOneFile, NotTwoFiles}
+use Rattle.gdrv_specs.specs.declared.calling.CallFault.TheVariants.{TooManyAnswers, UnknownCommand, UnknownOption}
 use Rattle.gdrv_specs.specs.declared.calling.CallFault.{CallFault}
 use Rattle.gdrv_specs.specs.declared.calling.Command.TheVariants as command
 use Rattle.gdrv_specs.specs.declared.calling.Command.{Command}
@@ -11,7 +12,8 @@ use Rattle.gdrv_specs.specs.declared.help.Question.TheVariants.{Help, Version}
 use Rattle.gdrv_specs.specs.Requests.{no_request, requested_from}
 use Rattle.gdrv_specs.specs.declared.requesting.Request.{Request}
 use Rattle.std.specs.Cmp.Lexicographic.{pointwise}
-use Rattle.std.specs.Prelude.{Bool, Err, List, [], ◌∷◌, ◌++◌, None, Ok, Option, Result, Some, codes, drop, false, if◌then◌else◌, length, nat_eq, nat_lt, true, ℕ}
+use Rattle.std.specs.Prelude.{Bool, Err, List, [], ◌∷◌, ◌++◌, None, Ok, Option, Result, Some, codes, drop, false, if◌then◌else◌, length}
+use Rattle.std.specs.Prelude.{nat_eq, nat_lt, true, ℕ}
 
 -- What a call of the program asks for: its first word is the command (this project's profile).
 
@@ -51,6 +53,14 @@ after_form (Some form) words = drop 1 words
 
 abbrev pub line_of : List (List ℕ) → List (List ℕ)
 line_of words = after_form (form_asked words) words
+
+-- a first word asks for a compilation database
+abbrev pub asks_database : List (List ℕ) → Bool
+asks_database [] = false
+asks_database (word ∷ words) = pointwise nat_eq word (codes "--compdb")
+
+abbrev pub plan_asked : List (List ℕ) → Call
+plan_asked words = if asks_database words then Database (drop 1 words) else Plan (form_of words) (line_of words)
 
 -- Answers that are given ahead: each word --fail takes the word after it for one, and the line is what is left.
 
@@ -92,7 +102,8 @@ are_compared words = false
 
 abbrev pub line_compared : List (List ℕ) → Result Call CallFault
 line_compared (first ∷ second ∷ dashes ∷ line) =
-    if are_compared (first ∷ second ∷ dashes ∷ line) then Ok (Differ (record { first = first; second = second; line = line })) else Err NotTwoFiles
+    if are_compared (first ∷ second ∷ dashes ∷ line) then Ok (Differ (record { first = first; second = second; line = line }))
+    else Err NotTwoFiles
 line_compared words = Err NotTwoFiles
 
 abbrev pub texts_compared : List ℕ → List ℕ → Call
@@ -115,15 +126,24 @@ check_by request None = if request.awaits then Err MissingFile else files_asked 
 abbrev pub check_asked : Request → Result Call CallFault
 check_asked request = check_by request request.unknown
 
+-- The reasons of a line, or with a first word --switches what becomes of its switches.
+
+abbrev pub asks_switches : List (List ℕ) → Bool
+asks_switches [] = false
+asks_switches (word ∷ words) = pointwise nat_eq word (codes "--switches")
+
+abbrev pub why_asked : List (List ℕ) → Call
+why_asked words = if asks_switches words then Switches (drop 1 words) else Explain words
+
 abbrev pub asked_by : List ℕ → List (List ℕ) → Option Command → Result Call CallFault
 asked_by word words None = Err (UnknownCommand word)
 asked_by word words (Some (command.Ask question)) = Ok (Ask question)
-asked_by word words (Some command.Plan) = Ok (Plan (form_of words) (line_of words))
+asked_by word words (Some command.Plan) = Ok (plan_asked words)
 asked_by word words (Some command.After) = run_asked (cut_from no_words words)
 asked_by word words (Some command.Translate) = translation_asked words
 asked_by word words (Some command.Differ) = difference_asked words
 asked_by word words (Some command.Check) = check_asked (requested_from no_request words)
-asked_by word words (Some command.Why) = Ok (Explain words)
+asked_by word words (Some command.Why) = Ok (why_asked words)
 
 abbrev pub call_of : List (List ℕ) → Result Call CallFault
 call_of [] = Err NoCommand

@@ -1,4 +1,5 @@
 use Rattle.drv_check.specs.Checked.{checked}
+use Rattle.drv_check.specs.Spots.{place_in}
 use Rattle.drv_check.specs.Told.{report_json, report_text}
 use Rattle.drv_check.specs.declared.findings.Checking.{Checking}
 use Rattle.drv_check.specs.declared.findings.Finding.{Finding}
@@ -9,7 +10,7 @@ use Rattle.drv_check.specs.declared.findings.Spot.{Spot}
 use Rattle.drv_check.specs.declared.findings.Warning.{Warning}
 use Rattle.drv_check.specs.declared.told.Place.{Place}
 use Rattle.drv_check.specs.declared.told.Told.{Told}
-use Rattle.drv_place.specs.LinePlaces.{line_after, line_before, line_number}
+use Rattle.drv_place.specs.LinePlaces.{line_after, line_before}
 use Rattle.drv_run.specs.Texts.{refusal_text}
 use Rattle.drv_run.specs.declared.ending.Ending.TheVariants.{Done, OutOfMemory}
 use Rattle.drv_run.specs.declared.ending.Refusal.TheVariants.{Specs}
@@ -24,7 +25,8 @@ use Rattle.gdrv_specs.specs.declared.outcome.Outcome.TheVariants.{Ended}
 use Rattle.gdrv_specs.specs.declared.outcome.Outcome.{Outcome}
 use Rattle.gdrv_specs.specs.declared.requesting.Request.{Request}
 use Rattle.std.specs.List.{list_any}
-use Rattle.std.specs.Prelude.{◌≡◌, ◌⊎◌, ◌+◌, ◌&&◌, ◌==◌, Bool, List, [], ◌∷◌, ◌++◌, None, Option, Some, false, filter, if◌then◌else◌, length, map, not, slice_get, suc, true, zero, ℕ}
+use Rattle.std.specs.Prelude.{◌≡◌, ◌⊎◌, ◌&&◌, ◌==◌, Bool, List, [], ◌∷◌, ◌++◌, None, Option, Some, false, filter, if◌then◌else◌, map, not}
+use Rattle.std.specs.Prelude.{slice_get, suc, true, zero, ℕ}
 
 -- What checking spec files is (GCC manual, "Spec Files"; the names of warnings and the exit statuses are this project's profile): what was
 -- found is written to standard output once, and nothing else is done.
@@ -38,10 +40,6 @@ note_text (Warned warning) = warning_text warning
 abbrev pub is_error : Note → Bool
 is_error (Fault fault) = true
 is_error (Warned warning) = false
-
--- a byte of a source, by its line and its column, both from 1
-abbrev pub place_in : Source → ℕ → Place
-place_in source at = record { file = source.name; line = line_number source.text at; column = length (line_before source.text at) + 1 }
 
 -- Where a source is included, and where that one is, and so on: at most so many.
 
@@ -138,7 +136,8 @@ TellsFound journal journal' request c outcome = (told : List Event) × (journal'
 
 abbrev pub EndsCheck : Facts → Request → Outcome → List Event → Type 0
 EndsCheck F request outcome told =
-    ((outcome ≡ Ended OutOfMemory) × (told ≡ [])) ⊎ ((c : Checking) × (checked F request.over request.files ≡ Is c) × Finds request c outcome told)
+    ((outcome ≡ Ended OutOfMemory) × (told ≡ [])) ⊎ ((c : Checking) × (checked F request.over request.files ≡ Is c)
+    × Finds request c outcome told)
 
 -- A call that checks files: it asked what it did not know, and its ending is that of the answers to these questions alone.
 pub record TellsCheck (journal journal' : List Event) (request : Request) (outcome : Outcome) : Type 0 where

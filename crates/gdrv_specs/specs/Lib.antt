@@ -1,6 +1,7 @@
 pub mod Calls
 pub mod Checks
 pub mod Code
+pub mod Databases
 pub mod Differences
 pub mod Forms
 pub mod Outcomes
@@ -8,6 +9,7 @@ pub mod Plans
 pub mod Reasons
 pub mod Requests
 pub mod Runs
+pub mod Switches
 pub mod Told
 pub mod Translations
 pub mod WarningNames

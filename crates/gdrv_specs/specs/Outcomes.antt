@@ -3,7 +3,8 @@ use Rattle.drv_after.specs.declared.worded.GivenFault.{GivenFault}
 use Rattle.drv_run.specs.Exits.{exit_status_of}
 use Rattle.drv_run.specs.Texts.{around, refusal_text}
 use Rattle.drv_run.specs.declared.ending.Ending.TheVariants.{Done, OutOfMemory, Refused}
-use Rattle.gdrv_specs.specs.declared.calling.CallFault.TheVariants.{Memory, MissingAnswer, MissingFile, NoCommand, NoFiles, NotOneFile, NotTwoFiles, TooManyAnswers, UnknownCommand, UnknownOption}
+use Rattle.gdrv_specs.specs.declared.calling.CallFault.TheVariants.{Memory, MissingAnswer, MissingFile, NoCommand, NoFiles, NotOneFile}
+use Rattle.gdrv_specs.specs.declared.calling.CallFault.TheVariants.{NotTwoFiles, TooManyAnswers, UnknownCommand, UnknownOption}
 use Rattle.gdrv_specs.specs.declared.calling.CallFault.{CallFault}
 use Rattle.gdrv_specs.specs.declared.outcome.Outcome.TheVariants.{Ended, Misused, NoDump, NoFile, NoPlan, NoRun, Translated, Unanswered}
 use Rattle.gdrv_specs.specs.declared.outcome.Outcome.{Outcome}

@@ -8,7 +8,7 @@ use Rattle.drv_system.specs.Asking.{AreNew}
 use Rattle.drv_system.specs.Facts.{Facts, learn, no_facts}
 use Rattle.drv_system.specs.declared.event.Event.{Event}
 use Rattle.drv_why.specs.Parts.{part_words, parts_of, without}
-use Rattle.drv_why.specs.declared.parting.Part.{Part}
+use Rattle.drv_why.specs.declared.parting.LinePart.{LinePart}
 use Rattle.drv_words.specs.Printed.{words_text}
 use Rattle.gdrv_specs.specs.Differences.{difference_in}
 use Rattle.gdrv_specs.specs.Told.{Puts, Stops}
@@ -20,7 +20,7 @@ use Rattle.std.specs.Prelude.{◌≡◌, ◌⊎◌, Err, List, [], ◌∷◌, �
 -- would be instead, with the same answers of the system (this project's profile).
 
 -- the words before what is said of a part, as the driver prints words
-abbrev pub heading : List (List ℕ) → Part → List ℕ
+abbrev pub heading : List (List ℕ) → LinePart → List ℕ
 heading line part = codes "without" ++ words_text (part_words line part)
 
 -- what is said of a part: what differs between the line and the line without it, as between two plans
@@ -33,24 +33,25 @@ abbrev pub changes : Option (List ℕ) → List ℕ
 changes None = codes ": only one of the two lines has commands\n"
 changes (Some text) = changed text
 
-abbrev pub work_text : List (List ℕ) → Work → Part → Work → List ℕ
+abbrev pub work_text : List (List ℕ) → Work → LinePart → Work → List ℕ
 work_text line work part other = heading line part ++ changes (difference_in work other)
 
 -- or why the line without it is refused
-abbrev pub refused_text : List (List ℕ) → Part → Refusal → List ℕ
+abbrev pub refused_text : List (List ℕ) → LinePart → Refusal → List ℕ
 refused_text line part refusal = ((heading line part ++ codes ": ") ++ refusal_text refusal) ++ codes "\n"
 
 -- The text about a part is that of the one work, or of the one refusal, of the line without it.
-abbrev pub Answers : Facts → List (List ℕ) → Work → ℕ → Part → List ℕ → Type 0
+abbrev pub Answers : Facts → List (List ℕ) → Work → ℕ → LinePart → List ℕ → Type 0
 Answers F line work seed part text =
     ((other : Work) × Drives F (without line part) seed other × (text ≡ work_text line work part other))
     ⊎ ((refusal : Refusal) × Refuses F (without line part) seed refusal × (text ≡ refused_text line part refusal))
 
 -- the texts about parts, one after another
-abbrev pub AnswersAll : Facts → List (List ℕ) → Work → ℕ → List Part → List ℕ → Type 0
+abbrev pub AnswersAll : Facts → List (List ℕ) → Work → ℕ → List LinePart → List ℕ → Type 0
 AnswersAll F line work seed [] text = text ≡ []
 AnswersAll F line work seed (part ∷ parts) text =
-    (one : List ℕ) × (others : List ℕ) × Answers F line work seed part one × AnswersAll F line work seed parts others × (text ≡ one ++ others)
+    (one : List ℕ) × (others : List ℕ) × Answers F line work seed part one × AnswersAll F line work seed parts others
+    × (text ≡ one ++ others)
 
 -- the reasons of a line that has a work
 abbrev pub Explains : Facts → List (List ℕ) → ℕ → List ℕ → Type 0

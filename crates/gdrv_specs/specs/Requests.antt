@@ -18,7 +18,8 @@ name_off word = if pointwise nat_eq (take 5 word) (codes "-Wno-") && is_warning 
 abbrev pub with_name : Request → List ℕ → Option (List ℕ) → Request
 with_name request word (Some name) = record request { off = request.off ++ name ∷ [] }
 with_name request word None =
-    if starts_with nat_eq word (hyphen ∷ []) then record request { unknown = Some word } else record request { files = request.files ++ word ∷ [] }
+    if starts_with nat_eq word (hyphen ∷ []) then record request { unknown = Some word }
+    else record request { files = request.files ++ word ∷ [] }
 
 abbrev pub with_word : Request → List ℕ → Request
 with_word request word =

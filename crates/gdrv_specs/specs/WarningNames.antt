@@ -1,4 +1,5 @@
-use Rattle.drv_check.specs.declared.findings.Warning.TheVariants.{AppendToNothing, DirectiveInBody, HiddenPair, LostMark, NeverTrue, QuotedWord, UnknownText, Unreachable, UnusedText}
+use Rattle.drv_check.specs.declared.findings.Warning.TheVariants.{AppendToNothing, DirectiveInBody, HiddenPair, LostMark, NeverTrue}
+use Rattle.drv_check.specs.declared.findings.Warning.TheVariants.{QuotedWord, UnknownText, Unreachable, UnusedText}
 use Rattle.drv_check.specs.declared.findings.Warning.{Warning}
 use Rattle.std.specs.Cmp.Lexicographic.{pointwise}
 use Rattle.std.specs.Prelude.{◌||◌, ◌++◌, Bool, List, codes, nat_eq, ℕ}

@@ -1,9 +1,9 @@
 //! What a call of the program asks for.
 
-ghost use Rattle.gdrv_specs.specs.Calls.{are_compared, call_of, check_asked, command_named, difference_asked, form_asked};
+ghost use Rattle.gdrv_specs.specs.Calls.{are_compared, asks_switches, call_of, check_asked, command_named, difference_asked, form_asked};
 ghost use Rattle.gdrv_specs.specs.Calls.{line_compared, texts_compared};
 ghost use Rattle.gdrv_specs.specs.Calls.{cut_from, form_named, form_of, line_of, no_words, run_asked};
-ghost use Rattle.gdrv_specs.specs.Calls.{translation_asked};
+ghost use Rattle.gdrv_specs.specs.Calls.{asks_database, plan_asked, translation_asked, why_asked};
 ghost use Rattle.drv_words.specs.Gives.{Gives};
 ghost use Rattle.gdrv_specs.specs.Requests.{no_request, requested_from};
 ghost use Rattle.gdrv_specs.specs.declared.calling.CallFault.TheVariants.{Memory};
@@ -27,6 +27,8 @@ pub enum Call {
         form: Form,
         line: Listing<Word>,
     },
+    /// The compilation database of a line of the driver.
+    Database(Listing<Word>),
     /// The run of a line of the driver, where these words give some answers ahead.
     After {
         given: Listing<Word>,
@@ -40,6 +42,8 @@ pub enum Call {
     Check(Request),
     /// What each part of a line changes.
     Explain(Listing<Word>),
+    /// What becomes of the switches of a line.
+    Switches(Listing<Word>),
 }
 
 /// Why a call asks for nothing.
@@ -166,6 +170,29 @@ fn cut_form(mut words: Vec<Word>) -> (Form, Listing<Word>)
     }
 }
 
+/// Whether words ask for a compilation database.
+fn asks_database(words: &[Word]) -> bool
+    ensures { result ≡ asks_database words.now }
+{
+    match words {
+        [word, ..] => word.as_bytes() == b"--compdb".as_slice(),
+        _ => false,
+    }
+}
+
+/// The plan that the words after the command ask for. The call allocates nothing.
+#[tactic(auto, using(crate::proofs::Calls::database_word))]
+fn plan_asked(mut words: Vec<Word>) -> Call
+    ensures { result ≡ plan_asked words.items }
+{
+    if asks_database(words.as_slice()) {
+        let _ = words.remove(0);
+        return Call::Database(Listing::from_vec(words));
+    }
+    let (form, line) = cut_form(words);
+    Call::Plan { form, line }
+}
+
 /// The run that these words ask for.
 fn run_asked(cut: Cut) -> Result<Call, CallFault>
     ensures { result ≡ run_asked cut }
@@ -281,6 +308,28 @@ fn check_of_words(alloc: Global, words: &[Word]) -> Result<Call, CallFault>
     check_asked(request)
 }
 
+/// Whether the first of these words asks for the switches of a line.
+fn asks_switches(words: &[Word]) -> bool
+    ensures { result ≡ asks_switches words.now }
+{
+    match words {
+        [word, ..] => word.as_bytes() == b"--switches".as_slice(),
+        _ => false,
+    }
+}
+
+/// What these words after the command ask for. The call allocates nothing.
+#[tactic(auto, using(crate::proofs::Calls::switches_word))]
+fn why_asked(mut words: Vec<Word>) -> Call
+    ensures { result ≡ why_asked words.items }
+{
+    if !asks_switches(words.as_slice()) {
+        return Call::Explain(Listing::from_vec(words));
+    }
+    let _ = words.remove(0);
+    Call::Switches(Listing::from_vec(words))
+}
+
 /// What a call with these arguments asks for.
 ///
 /// # Errors
@@ -297,15 +346,12 @@ pub fn call_of(alloc: Global, args: Listing<Word>) -> Result<Call, CallFault>
     let first = words.remove(0);
     match command_named(first.as_bytes()) {
         Some(Command::Ask(asked)) => Ok(Call::Ask(asked)),
-        Some(Command::Plan) => {
-            let (form, line) = cut_form(words);
-            Ok(Call::Plan { form, line })
-        }
+        Some(Command::Plan) => Ok(plan_asked(words)),
         Some(Command::After) => run_of_words(alloc, words.as_slice()),
         Some(Command::Translate) => translation_asked(words),
         Some(Command::Differ) => difference_asked(alloc, words),
         Some(Command::Check) => check_of_words(alloc, words.as_slice()),
-        Some(Command::Why) => Ok(Call::Explain(Listing::from_vec(words))),
+        Some(Command::Why) => Ok(why_asked(words)),
         None => Err(CallFault::UnknownCommand(first)),
     }
 }

@@ -5,7 +5,7 @@ ghost use Rattle.drv_check.specs.declared.findings.Checking.{Checking};
 ghost use Rattle.drv_run.specs.declared.ending.Refusal.TheVariants.{Specs};
 ghost use Rattle.drv_system.specs.Known.{Is};
 ghost use Rattle.gdrv_specs.specs.Checks.{PutsReport, TellsCheck, TellsFound, all_told, filled, has_any, included_at, is_error, is_named, is_on};
-ghost use Rattle.gdrv_specs.specs.Checks.{note_text, place_in, places_from, report, status_with, told_at};
+ghost use Rattle.gdrv_specs.specs.Checks.{note_text, places_from, report, status_with, told_at};
 ghost use Rattle.gdrv_specs.specs.Checks.{told_error, told_in, told_nowhere, told_of, verdict};
 ghost use Rattle.gdrv_specs.specs.Told.{PutsText};
 ghost use Rattle.std.specs.List.{list_any};
@@ -16,10 +16,10 @@ use crate::outcome::Outcome;
 use crate::requesting::Request;
 use crate::warning_names::{is_name_of, warning_text};
 use drv_check::{
-    Checking, Finding, Note, Place, Source, Spot, Told, Warning, check_files, report_json,
-    report_text,
+    Checking, Finding, Note, Place, Source, Spot, Told, Warning, check_files, place_in,
+    report_json, report_text,
 };
-use drv_place::{line_after, line_before, line_number};
+use drv_place::{line_after, line_before};
 use drv_run::{Ending, Refusal, refusal_text, status_of};
 use drv_specs::SpecsFault;
 use drv_syntax::SyntaxFault;
@@ -88,18 +88,6 @@ fn is_error(note: &Note) -> bool
     ensures { result ≡ is_error note.now }
 {
     matches!(note, Note::Fault(_))
-}
-
-/// A byte of a source, by its line and its column.
-fn place_in(source: &Source, at: usize) -> Result<Place, AllocError>
-    ensures { IfOk result (λ place. place ≡ place_in source.now at) }
-{
-    let text = source.text.as_bytes();
-    Ok(Place {
-        file: source.name.clone()?,
-        line: line_number(text, at),
-        column: line_before(text, at).len() + 1,
-    })
 }
 
 /// The source at a place.

@@ -14,8 +14,8 @@ use crate::differing::difference_in;
 use crate::outcome::Outcome;
 use drv_run::{Ending, Refusal, Work, refusal_text, status_of, work_of_call};
 use drv_system::{FactTable, System};
-use drv_why::{Part, part_text, parts_of, without};
-use drv_words::{Listing, Word};
+use drv_why::{LinePart, part_text, parts_of, without};
+use drv_words::{Listing, Word, copy_words};
 use std::alloc::{AllocError, Global};
 
 /// A line with its work.
@@ -27,7 +27,7 @@ struct Explained {
 }
 
 /// The words before what is said of a part.
-fn heading(alloc: Global, line: &[Word], part: Part) -> Result<Word, AllocError>
+fn heading(alloc: Global, line: &[Word], part: LinePart) -> Result<Word, AllocError>
     ensures { IfOk result (λ text. text ≡ heading line.now part) }
 {
     let mut text = Word::from_bytes(alloc, b"without")?;
@@ -54,7 +54,7 @@ fn changes(alloc: Global, found: Option<Word>) -> Result<Word, AllocError>
 fn work_text(
     alloc: Global,
     explained: &Explained,
-    part: Part,
+    part: LinePart,
     other: &Work,
 ) -> Result<Word, AllocError>
     ensures { IfOk result (λ text. text
@@ -70,7 +70,7 @@ fn work_text(
 fn refused_text(
     alloc: Global,
     line: &[Word],
-    part: Part,
+    part: LinePart,
     refusal: &Refusal,
 ) -> Result<Word, AllocError>
     ensures { IfOk result (λ text. text ≡ refused_text line.now part refusal.now) }
@@ -86,7 +86,7 @@ fn refused_text(
 fn answer_of(
     alloc: Global,
     explained: &Explained,
-    part: Part,
+    part: LinePart,
     found: &Result<Work, Ending>,
 ) -> Result<Word, AllocError>
     ensures { IfOk result (λ text. Some text
@@ -108,7 +108,7 @@ fn answer<S: System>(
     sys: &mut S,
     facts: &mut FactTable,
     explained: &Explained,
-    part: &Part,
+    part: &LinePart,
 ) -> Result<Word, AllocError>
     ensures asks { Asks (S.events sys.old) (S.events sys.new) facts.old facts.new }
     ensures answers { (F : Facts) → Extends facts.new F → IfOk result
@@ -126,7 +126,7 @@ fn answers<S: System>(
     sys: &mut S,
     facts: &mut FactTable,
     explained: &Explained,
-    parts: &[Part],
+    parts: &[LinePart],
 ) -> Result<Word, AllocError>
     ensures asks { Asks (S.events sys.old) (S.events sys.new) facts.old facts.new }
     ensures answers { (F : Facts) → Extends facts.new F → IfOk result
@@ -157,17 +157,6 @@ fn reasons_of_work<S: System>(
     answers(alloc, sys, facts, explained, parts.as_slice())
 }
 
-/// A copy of words.
-fn copy_of(alloc: Global, words: &[Word]) -> Result<Listing<Word>, AllocError>
-    ensures { IfOk result (λ copy. copy ≡ words.now) }
-{
-    let mut copy = Listing::new(alloc);
-    for word in words {
-        copy.push(word.clone()?)?;
-    }
-    Ok(copy)
-}
-
 /// What a line asks for, which stays.
 #[tactic(auto, using(drv_system::proofs::Asking::asks_nothing))]
 fn work_of_line<S: System>(
@@ -180,7 +169,7 @@ fn work_of_line<S: System>(
     ensures asks { Asks (S.events sys.old) (S.events sys.new) facts.old facts.new }
     ensures comes { (F : Facts) → Extends facts.new F → Comes F line.now seed result }
 {
-    match copy_of(alloc, line) {
+    match copy_words(alloc, line) {
         Ok(copy) => work_of_call(alloc, copy, seed, sys, facts),
         Err(_) => Err(Ending::OutOfMemory),
     }
@@ -218,7 +207,7 @@ fn put_reasons<S: System>(sys: &mut S, text: &Word) -> Result<u8, AllocError>
 
 /// Prints the reasons of a line.
 #[tactic(auto, using(crate::proofs::Reasons::tells_put, crate::proofs::Reasons::tells_short))]
-fn tell_reasons<S: System>(sys: &mut S, text: &Word) -> Outcome
+pub(crate) fn tell_reasons<S: System>(sys: &mut S, text: &Word) -> Outcome
     ensures { TellsText (S.events sys.old) (S.events sys.new) text.now result }
 {
     match put_reasons(sys, text) {

@@ -5,11 +5,11 @@ use std::io::{self, Write};
 
 const HELP: &str = "\
 Usage: gdrv-specs check [--json] [-Werror] [-Wno-NAME]... [--over FILE]... FILE...
-       gdrv-specs plan [--json | --sh | --dot] LINE...
+       gdrv-specs plan [--json | --sh | --dot | --compdb] LINE...
        gdrv-specs after LINE... [--fail PLACE=ANSWER]...
        gdrv-specs translate FILE
        gdrv-specs diff FILE FILE [-- LINE...]
-       gdrv-specs why LINE...
+       gdrv-specs why [--switches] LINE...
 gdrv-specs prints what gdrv would do with a line. It starts nothing and makes no
 file.
 
@@ -19,6 +19,7 @@ file.
   plan --json     print its plan as JSON
   plan --sh       print a shell script that does what the line does
   plan --dot      print a picture of it for Graphviz
+  plan --compdb   print a compilation database of its sources
   after           print what the line would start, make and remove, its status
                   and what it leaves, where each PLACE has this ANSWER
   translate       print the spec texts of FILE, which gcc -dumpspecs printed,
@@ -27,6 +28,8 @@ file.
                   first spec FILE and with the second; without LINE, what
                   differs between the texts
   why             print what each option and each file of the line changes
+  why --switches  print which texts pass each switch on, test it or hide it, and
+                  which later switch cancels it
 
 The words of LINE are those of gdrv, -specs=FILE among them. The manual page
 gdrv-specs(1) says more.

@@ -8,6 +8,7 @@ mod answers;
 mod calling;
 mod checks;
 mod cutting;
+mod databases;
 mod differing;
 mod explaining;
 mod forms;
@@ -16,11 +17,13 @@ mod outcome;
 mod planning;
 mod requesting;
 mod running;
+mod switches;
 mod translating;
 mod warning_names;
 
 use calling::{Call, call_of};
 use checks::tell_check;
+use databases::tell_database;
 use differing::{Comparison, tell_difference};
 use drv_run::Ending;
 use drv_system::{HostSystem, Reporter, arguments, clock_seed, complain};
@@ -35,11 +38,16 @@ use running::tell_after;
 use std::alloc::AllocError;
 use std::io::{self, ErrorKind};
 use std::process::ExitCode;
+use std::rt::Env;
+use switches::tell_switches;
 use translating::translate_file;
 
 const OUT_OF_MEMORY: &[u8] = b"gdrv-specs: out of memory\n";
 
 const BAD_ARGUMENT: &[u8] = b"gdrv-specs: bad argument\n";
+
+/// The length of the longest path of a working directory.
+const LONGEST_PATH: usize = 4096;
 
 /// Tells the user of an outcome, and gives its exit status.
 fn finish(rt: &HostRuntime, outcome: &Outcome) -> ExitCode
@@ -74,10 +82,27 @@ fn answer(rt: &HostRuntime, asked: Question) -> Outcome {
 }
 
 /// Tells the plan of a line to this process's user.
-fn tell(rt: &HostRuntime, form: Form, line: Listing<Word>) -> Result<Outcome, AllocError> {
+fn tell(rt: &HostRuntime, form: &Form, line: Listing<Word>) -> Result<Outcome, AllocError> {
     let seed = clock_seed(rt)?;
     let mut sys = HostSystem::new(rt.clone()?, Reporter::Gdrv);
     Ok(tell_plan(rt.alloc(), &mut sys, form, line, seed))
+}
+
+/// The working directory of this process, or `.` where nothing names it.
+fn working_directory(rt: &HostRuntime) -> Result<Word, AllocError> {
+    let mut room = [0; LONGEST_PATH];
+    match rt.current_dir(&mut room) {
+        Ok(length) => Word::from_bytes(rt.alloc(), &room[..length]),
+        Err(_) => Word::from_bytes(rt.alloc(), b"."),
+    }
+}
+
+/// Tells the compilation database of a line to this process's user.
+fn tell_sources(rt: &HostRuntime, line: Listing<Word>) -> Result<Outcome, AllocError> {
+    let seed = clock_seed(rt)?;
+    let directory = working_directory(rt)?;
+    let mut sys = HostSystem::new(rt.clone()?, Reporter::Gdrv);
+    Ok(tell_database(rt.alloc(), &mut sys, directory, line, seed))
 }
 
 /// Tells the run of a line to this process's user.
@@ -107,6 +132,12 @@ fn explain(rt: &HostRuntime, line: Listing<Word>) -> Result<Outcome, AllocError>
     Ok(tell_why(rt.alloc(), &mut sys, line, seed))
 }
 
+/// Tells what becomes of the switches of a line to this process's user.
+fn follow(rt: &HostRuntime, line: Listing<Word>) -> Result<Outcome, AllocError> {
+    let mut sys = HostSystem::new(rt.clone()?, Reporter::Gdrv);
+    Ok(tell_switches(rt.alloc(), &mut sys, line))
+}
+
 /// Checks spec files for this process's user.
 fn check(rt: &HostRuntime, request: &Request) -> Result<Outcome, AllocError> {
     let mut sys = HostSystem::new(rt.clone()?, Reporter::Gdrv);
@@ -125,12 +156,14 @@ fn ended(outcome: Result<Outcome, AllocError>) -> Outcome {
 fn act(rt: &HostRuntime, call: Call) -> Outcome {
     match call {
         Call::Ask(asked) => answer(rt, asked),
-        Call::Plan { form, line } => ended(tell(rt, form, line)),
+        Call::Plan { form, line } => ended(tell(rt, &form, line)),
+        Call::Database(line) => ended(tell_sources(rt, line)),
         Call::After { given, line } => ended(tell_run(rt, given.as_slice(), line)),
         Call::Translate(path) => ended(translate(rt, path)),
         Call::Differ(comparison) => ended(compare(rt, &comparison)),
         Call::Check(request) => ended(check(rt, &request)),
         Call::Explain(line) => ended(explain(rt, line)),
+        Call::Switches(line) => ended(follow(rt, line)),
     }
 }
 

@@ -5,4 +5,5 @@ use Rattle.std.proofs.Common.{◌≡◌, ◌++◌, drop}
 use Rattle.std.specs.List.{flat_map}
 
 abbrev pub invariant-loop-line : goal.invariant-loop-line
-invariant-loop-line l = l.text.items ++ flat_map (marked_line plus) (drop l.line-index l.lines) ≡ l.fn.text.items ++ flat_map (marked_line plus) l.lines
+invariant-loop-line l = l.text.items ++ flat_map (marked_line plus) (drop l.line-index l.lines) ≡ l.fn.text.items
+    ++ flat_map (marked_line plus) l.lines

@@ -3,4 +3,5 @@ use Rattle.drv_forms.specs.Difference.{lines_differ}
 use Rattle.std.proofs.Common.{◌≡◌, ◌++◌, drop}
 
 abbrev pub invariant-loop-line : goal.invariant-loop-line
-invariant-loop-line l = l.text.items ++ lines_differ (drop l.line-index l.lines) l.left ≡ l.fn.text.items ++ lines_differ l.lines l.fn.others
+invariant-loop-line l = l.text.items ++ lines_differ (drop l.line-index l.lines) l.left ≡ l.fn.text.items
+    ++ lines_differ l.lines l.fn.others

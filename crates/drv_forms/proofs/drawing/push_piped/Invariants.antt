@@ -4,6 +4,7 @@ use Rattle.std.proofs.Common.{◌≡◌, ◌++◌, drop}
 
 abbrev pub invariant-loop-command : goal.invariant-loop-command
 invariant-loop-command l = record {
-  text : l.text.items ++ piped_text l.job l.group l.number (drop l.command-index l.commands) ≡ l.fn.text.items ++ piped_text l.job l.group 0 l.commands;
+  text : l.text.items ++ piped_text l.job l.group l.number (drop l.command-index l.commands) ≡ l.fn.text.items
+      ++ piped_text l.job l.group 0 l.commands;
   number : l.number ≡ l.command-index;
 }

@@ -16,4 +16,5 @@ returns-clause-document c =
 pub returns-clause-reads_back : goal.returns-clause-reads_back
 returns-clause-reads_back c is =
     let are : tokens c.from_vec.result ≡ json_tokens (plan_json c.args.plan.now) = grind (arith, common_steps) in
-    ap (option_and_then plan_of) (document_of c.from_vec.result (plan_json c.args.plan.now) are (plan_shallow c.args.plan.now)) ∙ plan_back c.args.plan.now is
+    ap (option_and_then plan_of) (document_of c.from_vec.result (plan_json c.args.plan.now) are (plan_shallow c.args.plan.now))
+    ∙ plan_back c.args.plan.now is

@@ -5,4 +5,5 @@ use Rattle.std.proofs.Common.{◌≡◌, ◌∷◌, ◌++◌, drop}
 use Rattle.drv_forms.proofs.json_form.put_bytes.Given as goal
 
 abbrev pub invariant-loop-byte : goal.invariant-loop-byte
-invariant-loop-byte l = l.out ++ items_tokens (items_json number_json (drop l.byte-index l.bytes)) ≡ l.fn.out ++ begin_array ∷ items_tokens (items_json number_json l.bytes)
+invariant-loop-byte l = l.out ++ items_tokens (items_json number_json (drop l.byte-index l.bytes)) ≡ l.fn.out ++ begin_array
+    ∷ items_tokens (items_json number_json l.bytes)

@@ -5,4 +5,5 @@ use Rattle.std.proofs.Common.{◌≡◌, ◌∷◌, ◌++◌, drop}
 use Rattle.drv_forms.proofs.json_form.put_jobs.Given as goal
 
 abbrev pub invariant-loop-job : goal.invariant-loop-job
-invariant-loop-job l = l.out ++ items_tokens (items_json job_json (drop l.job-index l.jobs)) ≡ l.fn.out ++ begin_array ∷ items_tokens (items_json job_json l.jobs)
+invariant-loop-job l = l.out ++ items_tokens (items_json job_json (drop l.job-index l.jobs)) ≡ l.fn.out ++ begin_array
+    ∷ items_tokens (items_json job_json l.jobs)

@@ -4,4 +4,5 @@ use Rattle.std.proofs.Common.{◌≡◌, ◌++◌, drop}
 use Rattle.drv_forms.proofs.json_form.put_last_words.Given as goal
 
 abbrev pub invariant-loop-word : goal.invariant-loop-word
-invariant-loop-word l = l.out ++ items_tokens (items_json word_json (drop l.word-index l.words)) ≡ l.fn.out ++ items_tokens (items_json word_json l.words)
+invariant-loop-word l = l.out ++ items_tokens (items_json word_json (drop l.word-index l.words)) ≡ l.fn.out
+    ++ items_tokens (items_json word_json l.words)

@@ -5,4 +5,5 @@ use Rattle.std.proofs.Common.{◌≡◌, ◌∷◌, ◌++◌, drop}
 use Rattle.drv_forms.proofs.json_form.put_temps.Given as goal
 
 abbrev pub invariant-loop-temp : goal.invariant-loop-temp
-invariant-loop-temp l = l.out ++ items_tokens (items_json temp_json (drop l.temp-index l.temps)) ≡ l.fn.out ++ begin_array ∷ items_tokens (items_json temp_json l.temps)
+invariant-loop-temp l = l.out ++ items_tokens (items_json temp_json (drop l.temp-index l.temps)) ≡ l.fn.out ++ begin_array
+    ∷ items_tokens (items_json temp_json l.temps)

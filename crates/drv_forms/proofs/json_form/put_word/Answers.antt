@@ -13,4 +13,5 @@ returns-in-Ok c =
 pub returns-in-Err : goal.returns-in-Err
 returns-in-Err c =
     let P : List Token → Type 0 = λ tokens. OnOk c.put_bytes.result (c.put_bytes.new.out ≡ c.args.out.now ++ tokens) in
-    subst P (bytes_tokens c.args.word.now c.as_bytes-in-Err.result.now c.as_bytes-in-Err.ensures (λ utf8. c.in-Err.ensures.cases.0 (subst IsUtf8 (sym c.as_bytes.ensures) utf8))) c.put_bytes.ensures
+    subst P (bytes_tokens c.args.word.now c.as_bytes-in-Err.result.now c.as_bytes-in-Err.ensures
+    (λ utf8. c.in-Err.ensures.cases.0 (subst IsUtf8 (sym c.as_bytes.ensures) utf8))) c.put_bytes.ensures

@@ -10,7 +10,8 @@ loop-first-smaller c =
 pub loop-first-preserved : goal.loop-first-preserved
 loop-first-preserved c = record {
   parts =
-      next_part c.loop-first.parts c.push.new.self _ c.loop-first.first c.in_ok-count.count c.loop-first.left.now c.words_behind-left.result.now
+      next_part c.loop-first.parts c.push.new.self _ c.loop-first.first c.in_ok-count.count c.loop-first.left.now
+      c.words_behind-left.result.now
       (some_left c.loop-first.first _ c.loop-first.left.now c.loop-first-test.true c.loop-first.invariant.places) c.in_ok-count.ensures
       c.in_ok-push.ensures.ok c.words_behind-left.ensures c.loop-first.invariant.parts;
   places =

@@ -13,5 +13,6 @@ returns t c =
     let some : 0 < c.args.more = omega (arith, c.if-more-eq0.false) in
     places_more c.args.sources.now c.args.places.now c.push.new.self c.push_places.new.places c.args.more c.args.from c.in-Some.spot
     c.in-Some-source_at.source.now c.push_places.result c.in-Some.is some
-    (found_at c.args.sources.now c.in-Some.spot.source c.source_at.result c.in-Some-source_at.source c.source_at.ensures c.in-Some-source_at.is)
+    (found_at c.args.sources.now c.in-Some.spot.source c.source_at.result c.in-Some-source_at.source c.source_at.ensures
+    c.in-Some-source_at.is)
     (c.in_ok-push.ensures.ok ∙ ap (λ p. c.args.places.now ++ p ∷ []) c.in_ok-place_in.ensures) c.push_places.ensures

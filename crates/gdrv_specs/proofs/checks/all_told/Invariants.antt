@@ -5,4 +5,5 @@ use Rattle.std.specs.Prelude.{filter, map}
 
 abbrev pub invariant-loop-finding : goal.invariant-loop-finding
 invariant-loop-finding l =
-    l.all.items ++ map (told_of l.sources) (filter (is_shown l.request) (drop l.finding-index l.findings)) ≡ all_told l.request l.sources l.findings
+    l.all.items ++ map (told_of l.sources) (filter (is_shown l.request) (drop l.finding-index l.findings))
+    ≡ all_told l.request l.sources l.findings

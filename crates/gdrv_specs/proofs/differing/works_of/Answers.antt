@@ -15,7 +15,8 @@ returns-in-Err-work_with-clause-asks g c = asks_then c.work_with.ensures.asks c.
 
 pub returns-in-Err-work_with-clause-comes : goal.returns-in-Err-work_with-clause-comes
 returns-in-Err-work_with-clause-comes g c F e =
-    ends_second F c.args.comparison.now c.args.seed c.in-Ok.work c.in-Err-work_with.ending c.as_slice-line.result.now c.as_slice-line.ensures
+    ends_second F c.args.comparison.now c.args.seed c.in-Ok.work c.in-Err-work_with.ending c.as_slice-line.result.now
+    c.as_slice-line.ensures
     (c.in-Ok.ensures.comes F (extends_then (asks_extends c.work_with-in-Ok.ensures.asks) e)) (c.in-Err-work_with.ensures.comes F e)
 
 pub returns-in-Err-clause-asks : goal.returns-in-Err-clause-asks

@@ -1,0 +1,6 @@
+use Rattle.drv_why.proofs.fates.canceller.Given as goal
+use Rattle.drv_why.specs.Fates.{canceller}
+use Rattle.std.proofs.Common.{◌≡◌, drop}
+
+abbrev pub invariant-loop-switch : goal.invariant-loop-switch
+invariant-loop-switch l = canceller (drop l.switch-index l.later) l.name ≡ canceller l.later l.name

@@ -1,0 +1,9 @@
+use Rattle.drv_why.proofs.fates.fates_text.Given as goal
+use Rattle.drv_why.specs.Fates.{fates_text}
+use Rattle.std.proofs.Common.{◌≡◌, ◌++◌, length}
+
+abbrev pub invariant-loop-left : goal.invariant-loop-left
+invariant-loop-left l = l.text ++ fates_text l.sources l.namings l.left ≡ fates_text l.sources l.namings l.switches
+
+abbrev pub decreases-loop-left : goal.decreases-loop-left
+decreases-loop-left l = length l.left

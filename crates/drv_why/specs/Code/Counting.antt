@@ -1,0 +1,9 @@
+use Rattle.drv_args.specs.Fronts.{start_of}
+use Rattle.drv_why.specs.Parts.{wants_next}
+use Rattle.std.specs.Prelude.{List, [], ◌∷◌, if◌then◌else◌, ℕ}
+
+-- How many words the first part of these has.
+abbrev pub count_of : List (List ℕ) → ℕ
+count_of [] = 0
+count_of (word ∷ []) = 1
+count_of (word ∷ next ∷ words) = if wants_next (start_of word) then 2 else 1

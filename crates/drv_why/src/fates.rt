@@ -1,0 +1,350 @@
+//! What becomes of the switches of a line.
+
+ghost use Rattle.drv_match.specs.Matching.{cancels, has_negative, is_broad, is_level, is_named, is_negative_of, negative};
+ghost use Rattle.drv_why.specs.Fates.{argument_text, canceller, cancelled_line, cancelled_text, concerns, deed_text, fate_text};
+ghost use Rattle.drv_why.specs.Fates.{fates_text, lines_text, naming_text, namings_text, or_unnamed, pattern_of};
+ghost use Rattle.drv_why.specs.Fates.{source_text, spot_text, switch_text, takes, text_if};
+ghost use Rattle.drv_words.specs.Bytes.{hyphen};
+ghost use Rattle.drv_words.specs.Printed.{quoted};
+ghost use Rattle.std.specs.Option.{option_map};
+ghost use Rattle.std.specs.Prelude.{◌≡◌, ◌∷◌, ◌++◌, IfOk, OnOk, decimal, is_none, Some};
+
+use drv_args::Switch;
+use drv_check::{Deed, Naming, Source, Spot};
+use drv_place::{line_before, line_number};
+use drv_words::{Word, quote};
+use itoa::Buffer;
+use std::alloc::{AllocError, Global};
+
+/// Whether this is an optimization level, such as `O2`.
+fn is_level(name: &[u8]) -> bool
+    ensures { result ≡ is_level name.now }
+{
+    matches!(name, [b'O', ..])
+}
+
+/// Whether the name has a negative form.
+fn has_negative(name: &[u8]) -> bool
+    ensures { result ≡ has_negative name.now }
+{
+    matches!(name, [b'f' | b'm' | b'W', ..])
+}
+
+/// The negative form of a name.
+fn negative(alloc: Global, name: &[u8]) -> Result<Word, AllocError>
+    ensures { IfOk result (λ form. form ≡ negative name.now) }
+{
+    let mut form = Word::empty(alloc);
+    if let [letter, rest @ ..] = name {
+        form.push(*letter)?;
+        form.extend_from_slice(b"no-")?;
+        form.extend_from_slice(rest)?;
+    }
+    Ok(form)
+}
+
+/// Whether the first name is the negative form of the second.
+fn is_negative_of(alloc: Global, other: &[u8], name: &[u8]) -> Result<bool, AllocError>
+    ensures { IfOk result (λ is. is ≡ is_negative_of other.now name.now) }
+{
+    if !has_negative(name) {
+        return Ok(false);
+    }
+    let form = negative(alloc, name)?;
+    Ok(form.as_bytes() == other)
+}
+
+/// Whether a later switch cancels an earlier one, by their names.
+fn cancels(alloc: Global, later: &[u8], name: &[u8]) -> Result<bool, AllocError>
+    ensures { IfOk result (λ is. is ≡ cancels later.now name.now) }
+{
+    if is_level(later) && is_level(name) {
+        return Ok(true);
+    }
+    if is_negative_of(alloc, later, name)? {
+        return Ok(true);
+    }
+    is_negative_of(alloc, name, later)
+}
+
+/// The name of the first of later switches that cancels one of this name.
+#[tactic(auto, using(crate::proofs::SwitchFates::cancelled, crate::proofs::SwitchFates::kept, crate::proofs::SwitchFates::none_left))]
+fn canceller<'a>(
+    alloc: Global,
+    later: &'a [Switch],
+    name: &[u8],
+) -> Result<Option<&'a Word>, AllocError>
+    ensures { IfOk result
+        (λ by. option_map (λ word. word.now) by ≡ canceller later.now name.now) }
+{
+    for switch in later {
+        if cancels(alloc, switch.name.as_bytes(), name)? {
+            return Ok(Some(&switch.name));
+        }
+    }
+    Ok(None)
+}
+
+/// Whether the pattern of a part names a switch.
+fn is_named(naming: &Naming, name: &[u8]) -> bool
+    ensures { result ≡ is_named (pattern_of naming.now) name.now }
+{
+    if naming.starred {
+        name.starts_with(naming.word.as_bytes())
+    } else {
+        name == naming.word.as_bytes()
+    }
+}
+
+/// Whether the pattern of a part also hits cancelled switches.
+fn is_broad(naming: &Naming) -> bool
+    ensures { result ≡ is_broad (pattern_of naming.now) }
+{
+    naming.starred && naming.word.len() <= 1
+}
+
+/// Whether a part takes a switch that it names.
+fn takes(naming: &Naming, live: bool) -> bool
+    ensures { result ≡ takes naming.now.deed (pattern_of naming.now) live }
+{
+    match naming.deed {
+        Deed::Hides => true,
+        Deed::Passes | Deed::Tests => is_broad(naming) || live,
+    }
+}
+
+/// Whether a part has to do with a switch.
+fn concerns(name: &[u8], live: bool, naming: &Naming) -> bool
+    ensures { result ≡ concerns name.now live naming.now }
+{
+    is_named(naming, name) && takes(naming, live)
+}
+
+/// Adds a number in decimal digits.
+fn push_number(text: &mut Word, number: usize) -> Result<(), AllocError>
+    ensures { OnOk result (text.new ≡ text.old ++ decimal number) }
+{
+    text.extend_from_slice(Buffer::new().format(number).as_bytes())
+}
+
+/// Adds a byte of a source, by its file, line and column.
+fn push_source(text: &mut Word, source: &Source, at: usize) -> Result<(), AllocError>
+    ensures { OnOk result (text.new ≡ text.old ++ source_text (Some source.now) at) }
+{
+    text.extend_from_slice(b" at ")?;
+    text.extend_from_slice(source.name.as_bytes())?;
+    text.extend_from_slice(b":")?;
+    push_number(text, line_number(source.text.as_bytes(), at))?;
+    text.extend_from_slice(b":")?;
+    push_number(text, line_before(source.text.as_bytes(), at).len() + 1)
+}
+
+/// Adds where a part is.
+fn push_spot(text: &mut Word, sources: &[Source], spot: Option<Spot>) -> Result<(), AllocError>
+    ensures { OnOk result (text.new ≡ text.old ++ spot_text sources.now spot) }
+{
+    let Some(spot) = spot else {
+        return Ok(());
+    };
+    match sources.get(spot.source) {
+        Some(source) => push_source(text, source, spot.at),
+        None => Ok(()),
+    }
+}
+
+/// What precedes a part.
+fn deed_text(deed: Deed) -> &'static str
+    ensures { result.now ≡ deed_text deed }
+{
+    match deed {
+        Deed::Passes => "  passed on by ",
+        Deed::Tests => "  tested by ",
+        Deed::Hides => "  hidden by ",
+    }
+}
+
+/// Adds the line of a part.
+fn push_naming(text: &mut Word, sources: &[Source], naming: &Naming) -> Result<(), AllocError>
+    ensures { OnOk result (text.new ≡ text.old ++ naming_text sources.now naming.now) }
+{
+    text.extend_from_slice(deed_text(naming.deed).as_bytes())?;
+    text.extend_from_slice(naming.written.as_bytes())?;
+    text.extend_from_slice(b" of ")?;
+    text.extend_from_slice(naming.head.as_bytes())?;
+    push_spot(text, sources, naming.spot)?;
+    text.push(b'\n')
+}
+
+/// Adds the line of a part that has to do with a switch.
+fn push_if(
+    text: &mut Word,
+    sources: &[Source],
+    name: &[u8],
+    live: bool,
+    naming: &Naming,
+) -> Result<(), AllocError>
+    ensures { OnOk result
+        (text.new ≡ text.old ++ text_if sources.now name.now live naming.now) }
+{
+    if concerns(name, live, naming) {
+        push_naming(text, sources, naming)?;
+    }
+    Ok(())
+}
+
+/// Adds the lines of the parts that have to do with a switch.
+#[tactic(auto, using(crate::proofs::SwitchFates::namings_next))]
+fn push_namings(
+    text: &mut Word,
+    sources: &[Source],
+    name: &[u8],
+    live: bool,
+    namings: &[Naming],
+) -> Result<(), AllocError>
+    ensures { OnOk result
+        (text.new ≡ text.old ++ namings_text sources.now name.now live namings.now) }
+{
+    for naming in namings {
+        push_if(text, sources, name, live, naming)?;
+    }
+    Ok(())
+}
+
+/// A name as an option, as the driver prints words.
+fn option_text(alloc: Global, name: &Word) -> Result<Word, AllocError>
+    ensures { IfOk result (λ text. text ≡ quoted (hyphen ∷ name.now)) }
+{
+    let mut option = Word::empty(alloc);
+    option.push(b'-')?;
+    option.extend_from_slice(name.as_bytes())?;
+    quote(alloc, &option)
+}
+
+/// The line of an option that cancels a switch.
+fn cancelled_line(alloc: Global, option: &Word) -> Result<Word, AllocError>
+    ensures { IfOk result (λ text. text ≡ cancelled_line option.now) }
+{
+    let mut text = Word::from_bytes(alloc, b"  cancelled by ")?;
+    text.extend_from_slice(option.as_bytes())?;
+    text.push(b'\n')?;
+    Ok(text)
+}
+
+/// The line of the switch of this name, which cancels another one.
+fn canceller_text(alloc: Global, name: &Word) -> Result<Word, AllocError>
+    ensures { IfOk result (λ text. text ≡ cancelled_text (Some name.now)) }
+{
+    let option = option_text(alloc, name)?;
+    cancelled_line(alloc, &option)
+}
+
+/// The line of the switch that cancels one, if one does.
+fn cancelled_text(alloc: Global, by: Option<&Word>) -> Result<Word, AllocError>
+    ensures { IfOk result
+        (λ text. text ≡ cancelled_text (option_map (λ word. word.now) by.entry)) }
+{
+    match by {
+        Some(name) => canceller_text(alloc, name),
+        None => Ok(Word::empty(alloc)),
+    }
+}
+
+/// Whether no switch cancels one.
+fn is_live(by: Option<&Word>) -> bool
+    ensures { result ≡ is_none (option_map (λ word. word.now) by.entry) }
+{
+    match by {
+        Some(_) => false,
+        None => true,
+    }
+}
+
+/// The lines of a switch of this name, which another one may cancel.
+fn lines_text(
+    alloc: Global,
+    sources: &[Source],
+    namings: &[Naming],
+    name: &[u8],
+    by: Option<&Word>,
+) -> Result<Word, AllocError>
+    ensures { IfOk result
+        (λ text. text
+        ≡ lines_text sources.now namings.now name.now (option_map (λ word. word.now) by.entry)) }
+{
+    let mut text = cancelled_text(alloc, by)?;
+    push_namings(&mut text, sources, name, is_live(by), namings)?;
+    Ok(text)
+}
+
+/// Adds the lines of a switch, or that there are none.
+fn push_lines(text: &mut Word, lines: &Word) -> Result<(), AllocError>
+    ensures { OnOk result (text.new ≡ text.old ++ or_unnamed lines.now) }
+{
+    if lines.is_empty() {
+        return text.extend_from_slice(b"  named by no text\n");
+    }
+    text.extend_from_slice(lines.as_bytes())
+}
+
+/// Adds the argument of a switch.
+fn push_argument(alloc: Global, text: &mut Word, arg: &Option<Word>) -> Result<(), AllocError>
+    ensures { OnOk result (text.new ≡ text.old ++ argument_text arg.now) }
+{
+    match arg {
+        Some(word) => {
+            text.push(b' ')?;
+            text.extend_from_slice(quote(alloc, word)?.as_bytes())
+        }
+        None => Ok(()),
+    }
+}
+
+/// Adds a switch on a line.
+fn push_switch(alloc: Global, text: &mut Word, switch: &Switch) -> Result<(), AllocError>
+    ensures { OnOk result (text.new ≡ text.old ++ switch_text switch.now) }
+{
+    text.extend_from_slice(option_text(alloc, &switch.name)?.as_bytes())?;
+    push_argument(alloc, text, &switch.arg)?;
+    text.push(b'\n')
+}
+
+/// Adds what becomes of a switch before these.
+fn push_fate(
+    alloc: Global,
+    text: &mut Word,
+    sources: &[Source],
+    namings: &[Naming],
+    switch: &Switch,
+    later: &[Switch],
+) -> Result<(), AllocError>
+    ensures { OnOk result
+        (text.new ≡ text.old ++ fate_text sources.now namings.now switch.now later.now) }
+{
+    let name = switch.name.as_bytes();
+    let by = canceller(alloc, later, name)?;
+    let lines = lines_text(alloc, sources, namings, name, by)?;
+    push_switch(alloc, text, switch)?;
+    push_lines(text, &lines)
+}
+
+/// What becomes of the switches of a line (GCC manual, "Spec Files"): for each the first later one
+/// that cancels it, and the parts of texts that pass it on, test it or hide it, with their places in
+/// files. A part that passes on or tests takes a cancelled switch only if its pattern is broad.
+#[tactic(auto, using(crate::proofs::SwitchFates::switch_next))]
+pub fn fates_text(
+    alloc: Global,
+    sources: &[Source],
+    namings: &[Naming],
+    switches: &[Switch],
+) -> Result<Word, AllocError>
+    ensures { IfOk result
+        (λ text. text ≡ fates_text sources.now namings.now switches.now) }
+{
+    let mut text = Word::empty(alloc);
+    let mut left = switches;
+    while let [switch, later @ ..] = left {
+        push_fate(alloc, &mut text, sources, namings, switch, later)?;
+        left = later;
+    }
+    Ok(text)
+}

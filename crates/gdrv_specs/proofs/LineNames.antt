@@ -1,0 +1,64 @@
+use Rattle.drv_args.specs.declared.line.Line.{Line}
+use Rattle.drv_run.specs.Drives.{Comes}
+use Rattle.drv_run.specs.LineReads.{ReadsLine}
+use Rattle.drv_run.specs.declared.ending.Ending.TheVariants.{OutOfMemory}
+use Rattle.drv_run.specs.declared.ending.Ending.{Ending}
+use Rattle.drv_system.proofs.Asking.{extends_refl}
+use Rattle.drv_system.specs.Asking.{AreNew, Asks, Extends}
+use Rattle.drv_system.specs.Facts.{Facts, no_facts}
+use Rattle.drv_system.specs.declared.event.Event.{Event}
+use Rattle.gdrv_specs.proofs.Told.{known}
+use Rattle.gdrv_specs.specs.Databases.{AsksNames, NamesOf, TellsDatabase, input_name}
+use Rattle.gdrv_specs.specs.Plans.{TellsPlan}
+use Rattle.gdrv_specs.specs.declared.forms.Form.TheVariants.{Database}
+use Rattle.gdrv_specs.specs.declared.outcome.Outcome.TheVariants.{Ended}
+use Rattle.gdrv_specs.specs.declared.outcome.Outcome.{Outcome}
+use Rattle.std.proofs.Common.{◌≡◌, ◌∙◌, ◌∷◌, Err, IsErrAnd, List, Ok, Result, [], ap, refl, subst, sym, ℕ}
+use Rattle.std.specs.List.{AllZip}
+use Rattle.std.specs.Prelude.{map}
+
+-- For `tell_database`: the names of a line's inputs are asked for, and then its plan is printed.
+
+pub same_words : (words copies : List (List ℕ)) → AllZip (λ word copy. copy ≡ word) words copies → copies ≡ words
+same_words [] [] are = refl
+same_words [] (copy ∷ copies) are = absurd are
+same_words (word ∷ words) [] are = absurd are
+same_words (word ∷ words) (copy ∷ copies) are = ap (λ c. c ∷ copies) are.0 ∙ ap (λ cs. word ∷ cs) (same_words words copies are.1)
+
+pub stopped : (F : Facts) (args : List (List ℕ)) (ending : Ending) (result : Result (List (List ℕ)) Ending)
+    → IsErrAnd result (λ e. e ≡ ending)
+    → ((seed : ℕ) → Comes F args seed (Err ending)) → NamesOf F args result
+stopped F args ending (Ok names) is comes = absurd is
+stopped F args ending (Err e) is comes = subst (λ e'. NamesOf F args (Err e')) (sym is) comes
+
+pub short : (F : Facts) (args : List (List ℕ)) (result : Result (List (List ℕ)) Ending) → IsErrAnd result (λ e. e ≡ OutOfMemory)
+    → NamesOf F args result
+short F args result is = stopped F args OutOfMemory result is (λ seed. tt)
+
+pub named : (F : Facts) (args copy names : List (List ℕ)) (line : Line) → copy ≡ args → ReadsLine F copy line
+    → names ≡ map input_name line.inputs
+    → NamesOf F args (Ok names)
+named F args copy names line same reads are = (line, subst (λ a. ReadsLine F a line) same reads, are)
+
+asks_names : {journal journal' : List Event} {F F' : Facts} (args : List (List ℕ)) (names : Result (List (List ℕ)) Ending) → F ≡ no_facts
+    → Asks journal journal' F F' → ((G : Facts) → Extends F' G → NamesOf G args names) → AsksNames journal journal' args names
+asks_names {F' = F'} args names empty asks are = record {
+  asked = asks.asked;
+  questions = subst (λ G. AreNew G asks.asked) empty asks.questions;
+  journal_grows = asks.journal_grows;
+  names_are = subst (λ G. NamesOf G args names) (known empty asks) (are F' (extends_refl F'));
+}
+
+pub tells_named : {journal journal' journal'' : List Event} {F F' : Facts} (directory : List ℕ) (args names : List (List ℕ)) (seed : ℕ)
+    (outcome : Outcome)
+    → F ≡ no_facts → Asks journal journal' F F' → ((G : Facts) → Extends F' G → NamesOf G args (Ok names))
+    → TellsPlan journal' journal'' (Database directory names) args seed outcome
+    → TellsDatabase journal journal'' directory args seed outcome
+tells_named {journal' = journal'} directory args names seed outcome empty asks are tells =
+    (journal', Ok names, asks_names args (Ok names) empty asks are, tells)
+
+pub tells_stopped : {journal journal' : List Event} {F F' : Facts} (directory : List ℕ) (args : List (List ℕ)) (seed : ℕ) (ending : Ending)
+    → F ≡ no_facts → Asks journal journal' F F' → ((G : Facts) → Extends F' G → NamesOf G args (Err ending))
+    → TellsDatabase journal journal' directory args seed (Ended ending)
+tells_stopped {journal' = journal'} directory args seed ending empty asks are =
+    (journal', Err ending, asks_names args (Err ending) empty asks are, (refl, refl))

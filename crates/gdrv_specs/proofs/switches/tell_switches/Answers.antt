@@ -1,0 +1,10 @@
+use Rattle.gdrv_specs.proofs.SwitchesTold.{switches_after, switches_before}
+use Rattle.gdrv_specs.proofs.switches.tell_switches.Goals as goal
+
+pub returns-in-Ok : goal.returns-in-Ok
+returns-in-Ok g c =
+    switches_after c.args.line c.in-Ok.text c.tell_reasons.result c.new.ensures c.fates_of_call.ensures.asks c.in-Ok.ensures.gives
+    c.tell_reasons.ensures
+
+pub returns : goal.returns
+returns g c = switches_before c.args.line c.in-Err.ending c.new.ensures c.fates_of_call.ensures.asks c.in-Err.ensures.gives

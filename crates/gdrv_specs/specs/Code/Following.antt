@@ -1,0 +1,16 @@
+use Rattle.drv_args.specs.declared.line.Line.{Line}
+use Rattle.drv_run.specs.Drives.{specs_of, stopped_by_specs}
+use Rattle.drv_run.specs.declared.ending.Ending.{Ending}
+use Rattle.drv_specs.specs.Sets.{Set}
+use Rattle.drv_specs.specs.declared.fault.SpecsFault.TheVariants.{Memory}
+use Rattle.drv_specs.specs.declared.fault.SpecsFault.{SpecsFault}
+use Rattle.drv_system.specs.Facts.{Facts}
+use Rattle.drv_system.specs.Known.{Is}
+use Rattle.gdrv_specs.specs.Switches.{fates_of}
+use Rattle.std.specs.Prelude.{◌≡◌, ◌⊎◌, Err, List, Ok, Result, ℕ}
+
+-- What a line gives that was read: the text about its switches, or the refusal of a spec file.
+abbrev pub GivesLine : Facts → Line → Result (List ℕ) Ending → Type 0
+GivesLine F line (Ok text) = (set : Set) × (specs_of F line.settings ≡ Is (Ok set)) × (fates_of F line set ≡ Is text)
+GivesLine F line (Err ending) =
+    (fault : SpecsFault) × ((fault ≡ Memory) ⊎ (specs_of F line.settings ≡ Is (Err fault))) × (ending ≡ stopped_by_specs fault)
