@@ -194,8 +194,10 @@ pub wants_gives : (left : List (List ℕ)) (word bytes next next_bytes : List �
     → 1 ≤ length (take (length left - 1) (drop 1 left)) → next ≡ get_or (take (length left - 1) (drop 1 left)) 0 next → next_bytes ≡ next
     → (fault ≡ Memory) ⊎ (noted f (given option next_bytes) ≡ Err fault) → IsErrAnd result (λ e. e ≡ fault)
     → front_with f (items_of side left) ≡ whole → Goes end result whole
-wants_gives left word bytes next next_bytes option side f fault end result whole some first same starts more second alike (inl memory) is so_far = refusal_given fault end result whole is (inl memory)
-wants_gives left word bytes next next_bytes option side f fault end result whole some first same starts more second alike (inr refused) is so_far =
+wants_gives left word bytes next next_bytes option side f fault end result whole some first same starts more second alike
+    (inl memory) is so_far = refusal_given fault end result whole is (inl memory)
+wants_gives left word bytes next next_bytes option side f fault end result whole some first same starts more second alike
+    (inr refused) is so_far =
     refusal_given fault end result whole is (inr (wants_refused left word bytes next next_bytes option side f fault whole some first same
     starts more second alike refused so_far))
 

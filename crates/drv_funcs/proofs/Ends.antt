@@ -1,6 +1,7 @@
 use Rattle.drv_funcs.specs.Code.Changes.{EndsAfter, EndsBy, after_changes, changed, end_by, end_in, end_of_some}
 use Rattle.drv_funcs.specs.declared.changes.Change.{Change}
-use Rattle.std.proofs.Common.{◌≡◌, ◌∙◌, ◌++◌, Bool, Err, IfOk, List, [], ◌∷◌, None, Ok, Option, Result, Some, ap, append-nil, append_assoc, false, if◌then◌else◌, refl, subst, sym, true, ℕ}
+use Rattle.std.proofs.Common.{◌≡◌, ◌∙◌, ◌++◌, Bool, Err, IfOk, List, [], ◌∷◌, None, Ok, Option, Result, Some, ap, append-nil, append_assoc}
+use Rattle.std.proofs.Common.{false, if◌then◌else◌, refl, subst, sym, true, ℕ}
 use Rattle.std.proofs.lemmas.Cmp.{nat_list_eq_equiv}
 use Rattle.std.specs.BTreeMap.{BTreeMap, get, is_at}
 use Rattle.std.specs.Cmp.Lexicographic.{pointwise, slice_cmp, texts_ties}
@@ -67,13 +68,16 @@ some_ended : (end other : List ℕ → Option (List ℕ)) → ((word : List ℕ)
 some_ended end other same None = refl
 some_ended end other same (Some word) = same word
 
-pub ends_before : (ends after : BTreeMap (List ℕ) (Option (List ℕ))) (change : Change) (old : List ℕ) (end : Option (List ℕ)) (changes : List Change)
+pub ends_before : (ends after : BTreeMap (List ℕ) (Option (List ℕ))) (change : Change) (old : List ℕ) (end : Option (List ℕ))
+    (changes : List Change)
     → EndsBy ends changes → old ≡ change.old → end ≡ end_of_some (end_in ends) change.new
-    → ((other : List ℕ) → get (slice_cmp nat_cmp) after other ≡ cond (is_at (slice_cmp nat_cmp old) other) (Some end) (get (slice_cmp nat_cmp) ends other))
+    → ((other : List ℕ) → get (slice_cmp nat_cmp) after other
+    ≡ cond (is_at (slice_cmp nat_cmp old) other) (Some end) (get (slice_cmp nat_cmp) ends other))
     → EndsBy after (change ∷ changes)
 ends_before ends after change old end changes are old_is end_is grows word =
     ap (λ e. unwrap_or e (Some word)) (grows word)
-    ∙ ap (λ b. unwrap_or (cond b (Some end) (get (slice_cmp nat_cmp) ends word)) (Some word)) (same_word old word ∙ ap (pointwise nat_eq word) old_is)
+    ∙ ap (λ b. unwrap_or (cond b (Some end) (get (slice_cmp nat_cmp) ends word)) (Some word))
+    (same_word old word ∙ ap (pointwise nat_eq word) old_is)
     ∙ by (pointwise nat_eq word change.old)
   where
     by : (b : Bool) → unwrap_or (cond b (Some end) (get (slice_cmp nat_cmp) ends word)) (Some word)

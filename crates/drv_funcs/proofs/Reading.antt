@@ -85,7 +85,8 @@ part_is part digits short =
 -- a part doesn't begin with ten digits, nor does it have any other byte
 too_long : (part tail : List ℕ) → 9 < length part → is_part (part ++ tail) ≡ false
 too_long part tail long =
-    let over : nat_le (length (part ++ tail)) 9 ≡ false = let more : 9 < length (part ++ tail) = omega (arith, length-append part tail, long) in grind (arith, nat_tests) in
+    let over : nat_le (length (part ++ tail)) 9
+    ≡ false = let more : 9 < length (part ++ tail) = omega (arith, length-append part tail, long) in grind (arith, nat_tests) in
     rw over (by (nat_le 1 (length (part ++ tail))) (list_all is_ascii_digit (part ++ tail)))
   where
     by : (t u : Bool) → ((t && false) && u) ≡ false
@@ -140,7 +141,8 @@ at_dot numbers part ps digits short = rw (part_is part digits short) (by (nat_lt
         ≡ (if nat_le (length numbers + suc (length ps)) 32 && (t && list_all is_part ps) then Some
         (numbers ++ (number part ∷ map number ps)) else None)
     by true true e =
-        let longer : length (numbers ++ number part ∷ []) + length ps ≡ length numbers + suc (length ps) = omega (arith, length-append numbers (number part ∷ [])) in
+        let longer : length (numbers ++ number part ∷ []) + length ps ≡ length numbers + suc (length ps) =
+        omega (arith, length-append numbers (number part ∷ [])) in
         rw (longer, append_assoc numbers (number part ∷ []) (map number ps)) refl
     by true false e =
         let many : 32 ≤ length numbers = grind (arith, nat_tests) in
@@ -154,7 +156,8 @@ digit_no_dot b digit = by (b == byte ".") refl
   where
     by : (t : Bool) → (b == byte ".") ≡ t → t ≡ false
     by false e = refl
-    by true e = absurd (let is : b ≡ byte "." = eqb-true b (byte ".") e in let clash : true ≡ false = sym digit ∙ ap is_ascii_digit is in cc)
+    by true e = absurd (let is : b ≡ byte "." = eqb-true b (byte ".") e in let clash : true ≡ false = sym digit ∙ ap is_ascii_digit is in
+        cc)
 
 read_whole : (numbers part text : List ℕ) → list_all is_ascii_digit part ≡ true → length part ≤ 9
     → read_on numbers (number part) (length part) text ≡ taken numbers (prefixed part (parts text))
@@ -175,11 +178,13 @@ read_whole numbers part (b ∷ text) digits short = by (is_ascii_digit b) (nat_l
         let grown : number (part ++ b ∷ []) ≡ number part * 10 + (b - byte "0") = fold_append 0 part b in
         let longer : length (part ++ b ∷ []) ≡ length part + 1 = length-append part (b ∷ []) in
         let few : length part < 9 = grind (arith, nat_tests) in
-        let still : list_all is_ascii_digit (part ++ b ∷ []) ≡ true = all_append is_ascii_digit part (b ∷ []) ∙ both _ _ digits (both _ _ e refl) in
+        let still : list_all is_ascii_digit (part ++ b ∷ []) ≡ true = all_append is_ascii_digit part (b ∷ [])
+        ∙ both _ _ digits (both _ _ e refl) in
         (rw (e, e', ← grown, ← longer) refl) ∙ ih still (omega (arith, longer, few)) ∙ ap (taken numbers) (sym (onto (digit_no_dot b e)))
     by true false p e e' e'' ih ih' =
         let dot : (b == byte ".") ≡ false = digit_no_dot b e in
-        let many : 9 < length (part ++ b ∷ []) = let enough : 9 ≤ length part = grind (arith, nat_tests) in omega (arith, length-append part (b ∷ []), enough) in
+        let many : 9 < length (part ++ b ∷ []) = let enough : 9 ≤ length part = grind (arith, nat_tests) in
+        omega (arith, length-append part (b ∷ []), enough) in
         (rw (e, e', dot) refl) ∙ sym (ap (taken numbers) (onto dot) ∙ bad_first numbers (part ++ b ∷ []) (parts text)
         (λ tail. too_long (part ++ b ∷ []) tail many))
     by false n true e e' e'' ih ih' =
@@ -187,13 +192,15 @@ read_whole numbers part (b ∷ text) digits short = by (is_ascii_digit b) (nat_l
         (ih' ∙ ap (taken (numbers ++ number part ∷ [])) (prefixed_empty text)) ∙ at_dot numbers part (parts text) digits short
         ∙ (rw (e'', append-nil part) refl)
     by false n false e e' e'' ih ih' =
-        let broken : list_all is_ascii_digit (part ++ b ∷ []) ≡ false = all_append is_ascii_digit part (b ∷ []) ∙ (rw e (and-false (list_all is_ascii_digit part))) in
+        let broken : list_all is_ascii_digit (part ++ b ∷ []) ≡ false = all_append is_ascii_digit part (b ∷ [])
+        ∙ (rw e (and-false (list_all is_ascii_digit part))) in
         (rw (e, e'') refl) ∙ sym (ap (taken numbers) (onto e'') ∙ bad_first numbers (part ++ b ∷ []) (parts text)
         (λ tail. no_digits (part ++ b ∷ []) tail broken))
 
 -- from the start
 pub read_version : (text : List ℕ) → read_on [] 0 0 text ≡ version text
-read_version text = read_whole [] [] text refl (omega arith) ∙ ap (taken []) (prefixed_empty text) ∙ (let same : 0 + length (parts text) ≡ length (parts text) = omega arith in rw same refl)
+read_version text = read_whole [] [] text refl (omega arith) ∙ ap (taken []) (prefixed_empty text)
+    ∙ (let same : 0 + length (parts text) ≡ length (parts text) = omega arith in rw same refl)
 
 -- The number that so many digits can express.
 

@@ -15,7 +15,8 @@ below_all found bound place all is = rw (← get_or_from_slice_get found (length
     (All-get_or (λ i. i < bound) found (length found - 1) 0 (slice_get_within found (length found - 1) place is) all)
 
 places_below : (n : ℕ) → All (λ i. i < n) (range_with_len 0 n)
-places_below n = λ k d inside. let within : k < n = omega (arith, length-range_with_len 0 n, inside) in rw (get_or-range_with_len 0 n k d within) (omega (arith, within))
+places_below n = λ k d inside. let within : k < n = omega (arith, length-range_with_len 0 n, inside) in
+    rw (get_or-range_with_len 0 n k d within) (omega (arith, within))
 
 pub last_within : (names : List (List ℕ)) (hidden : List Bool) (pattern : Pattern) (place : ℕ)
     → last (hits names hidden pattern) ≡ Some place → place < length names

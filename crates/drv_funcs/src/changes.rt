@@ -6,7 +6,7 @@ ghost use Rattle.drv_funcs.specs.declared.changes.Change.{Change};
 ghost use Rattle.std.specs.List.{filter_map};
 ghost use Rattle.std.specs.Prelude.{◌≡◌, ◌∷◌, IfOk, List, OnOk};
 
-use drv_words::{Listing, Word};
+use drv_words::{Listing, Word, copy_word};
 use std::alloc::{AllocError, Global};
 use std::collections::BTreeMap;
 
@@ -18,22 +18,12 @@ pub(crate) struct Change {
     pub(crate) new: Option<Word>,
 }
 
-/// A copy of a word, if there is one.
-fn copy_of(word: &Option<Word>) -> Result<Option<Word>, AllocError>
-    ensures { IfOk result (λ copy. copy ≡ word.now) }
-{
-    match word {
-        Some(word) => Ok(Some(word.clone()?)),
-        None => Ok(None),
-    }
-}
-
 /// What becomes of a word.
 fn end_of(ends: &BTreeMap<Word, Option<Word>>, word: &Word) -> Result<Option<Word>, AllocError>
     ensures { IfOk result (λ end. end ≡ end_in ends.now word.now) }
 {
     match ends.get(word) {
-        Some(end) => copy_of(end),
+        Some(end) => copy_word(end),
         None => Ok(Some(word.clone()?)),
     }
 }

@@ -5,8 +5,10 @@ use Rattle.drv_machine.specs.Context.{Context}
 use Rattle.drv_machine.specs.Cutting.{Cut, all_taken, nothing_cut}
 use Rattle.drv_machine.specs.Code.Running.{Machine, done, run}
 use Rattle.drv_machine.specs.Code.Standing.{Stands}
-use Rattle.drv_machine.specs.Code.Walking.{Around, Following, Kept, Left, OpenedFits, arguments_of, asked_on, back_at, back_of, after_arguments, closing, ends, levels_in, nothing_kept, onward, star_of, text_around}
-use Rattle.drv_machine.specs.Working.{◌>>-◌, ◌>>=◌, ◌>>◌, Answer, Break, Goes, Levels, Refuses, Step, Waits, Worked, follow, most_open, needs, puts}
+use Rattle.drv_machine.specs.Code.Walking.{Around, Following, Kept, Left, OpenedFits, arguments_of, asked_on, back_at, back_of}
+use Rattle.drv_machine.specs.Code.Walking.{after_arguments, closing, ends, levels_in, nothing_kept, onward, star_of, text_around}
+use Rattle.drv_machine.specs.Working.{◌>>-◌, ◌>>=◌, ◌>>◌, Answer, Break, Goes, Levels, Refuses, Step, Waits, Worked, follow, most_open}
+use Rattle.drv_machine.specs.Working.{needs, puts}
 use Rattle.drv_machine.specs.declared.fault.MachineFault.TheVariants.{Memory}
 use Rattle.drv_machine.specs.declared.fault.MachineFault.{MachineFault}
 use Rattle.drv_machine.specs.declared.walk.Opened.{Opened}
@@ -21,22 +23,26 @@ use Rattle.std.proofs.Common.{◌≡◌, ◌⊎◌, ◌<◌, ◌+◌, ◌-◌, �
 -- For `call`s in a text: the arguments of a function are cut by the law of a text, in a cut of their own.
 
 module _ (F : Facts) (C : Context) where
-  arguments_done : (s : Machine) (work : Worked (Unit {0})) → done F C s.cut (words_of F C s.world work) ≡ (done F C nothing_cut (follow work (λ u. puts (Break ∷ []))) >>- back_at F C s.cut)
+  arguments_done : (s : Machine) (work : Worked (Unit {0}))
+      → done F C s.cut (words_of F C s.world work) ≡ (done F C nothing_cut (follow work (λ u. puts (Break ∷ []))) >>- back_at F C s.cut)
   arguments_done s (Goes atoms u v) = by (all_taken F C nothing_cut (atoms ++ Break ∷ []))
     where
-      by : (x : Answer Cut) → done F C s.cut (needs (x >>- λ c. Is (Ok c.line.words)) v) ≡ ((x >>- λ d. Is (Ok (tt, record { cut = d; world = v }))) >>- back_at F C s.cut)
+      by : (x : Answer Cut) → done F C s.cut (needs (x >>- λ c. Is (Ok c.line.words)) v)
+          ≡ ((x >>- λ d. Is (Ok (tt, record { cut = d; world = v }))) >>- back_at F C s.cut)
       by (Is (Ok c)) = refl
       by (Is (Err fault)) = refl
       by Unasked = refl
   arguments_done s (Refuses atoms fault) = by (all_taken F C nothing_cut atoms)
     where
-      by : (x : Answer Cut) → done F C {X = List (List ℕ)} s.cut (needs (x >>- λ c. Is (Err fault)) s.world) ≡ ((x >>- λ d. Is (Err fault)) >>- back_at F C s.cut)
+      by : (x : Answer Cut) → done F C {X = List (List ℕ)} s.cut (needs (x >>- λ c. Is (Err fault)) s.world)
+          ≡ ((x >>- λ d. Is (Err fault)) >>- back_at F C s.cut)
       by (Is (Ok c)) = refl
       by (Is (Err other)) = refl
       by Unasked = refl
   arguments_done s (Waits atoms) = by (all_taken F C nothing_cut atoms)
     where
-      by : (x : Answer Cut) → done F C {X = List (List ℕ)} s.cut (needs (x >>- λ c. Unasked) s.world) ≡ ((x >>- λ d. Unasked) >>- back_at F C s.cut)
+      by : (x : Answer Cut) → done F C {X = List (List ℕ)} s.cut (needs (x >>- λ c. Unasked) s.world)
+          ≡ ((x >>- λ d. Unasked) >>- back_at F C s.cut)
       by (Is (Ok c)) = refl
       by (Is (Err other)) = refl
       by Unasked = refl
@@ -45,7 +51,8 @@ module _ (F : Facts) (C : Context) where
   abbrev pub aside : Machine → Machine
   aside s = record s { cut = nothing_cut }
 
-  arguments_run : (s : Machine) (step : Step (Unit {0})) → run F C s (arguments F C step) ≡ (run F C (aside s) (step >> puts (Break ∷ [])) >>- back_at F C s.cut)
+  arguments_run : (s : Machine) (step : Step (Unit {0}))
+      → run F C s (arguments F C step) ≡ (run F C (aside s) (step >> puts (Break ∷ [])) >>- back_at F C s.cut)
   arguments_run s step = arguments_done s (step s.world)
 
   -- and what the words are used for follows
@@ -55,17 +62,22 @@ module _ (F : Facts) (C : Context) where
       ap (λ x. x >>- k) (run_then F C s (arguments F C inner) go)
       ∙ ap (λ x. (x >>- λ r. run F C r.1 (go r.0)) >>- k) (arguments_run s inner)
       ∙ ap (λ x. ((x >>- back_at F C s.cut) >>- λ r. run F C r.1 (go r.0)) >>- k) (run_then F C (aside s) inner (λ u. puts (Break ∷ [])))
-      ∙ ap (λ x. (x >>- λ r. run F C r.1 (go r.0)) >>- k) (then_then (run F C (aside s) inner) (λ r. run F C r.1 (puts (Break ∷ []))) (back_at F C s.cut))
-      ∙ ap (λ x. x >>- k) (then_then (run F C (aside s) inner) (λ r. run F C r.1 (puts (Break ∷ [])) >>- back_at F C s.cut) (λ r. run F C r.1 (go r.0)))
+      ∙ ap (λ x. (x >>- λ r. run F C r.1 (go r.0)) >>- k)
+      (then_then (run F C (aside s) inner) (λ r. run F C r.1 (puts (Break ∷ []))) (back_at F C s.cut))
+      ∙ ap (λ x. x >>- k) (then_then (run F C (aside s) inner) (λ r. run F C r.1 (puts (Break ∷ [])) >>- back_at F C s.cut)
+      (λ r. run F C r.1 (go r.0)))
       ∙ then_then (run F C (aside s) inner) (λ r. (run F C r.1 (puts (Break ∷ [])) >>- back_at F C s.cut) >>- λ q. run F C q.1 (go q.0)) k
 
   -- words that were cut, and the function called
-  pub after_is : {X : Type 0} (outer : Cut) (go : List (List ℕ) → Step X) (s t u : Machine) → run F C s (puts (Break ∷ [])) ≡ Is (Ok (tt, t)) → u ≡ record t { cut = outer }
+  pub after_is : {X : Type 0} (outer : Cut) (go : List (List ℕ) → Step X) (s t u : Machine)
+      → run F C s (puts (Break ∷ [])) ≡ Is (Ok (tt, t)) → u ≡ record t { cut = outer }
       → run F C u (go t.cut.line.words) ≡ after_arguments F C outer go s
   after_is outer go s t u went is =
-      ap (λ (m : Machine). run F C m (go t.cut.line.words)) is ∙ sym (ap (λ x. (x >>- back_at F C outer) >>- λ r. run F C r.1 (go r.0)) went)
+      ap (λ (m : Machine). run F C m (go t.cut.line.words)) is
+      ∙ sym (ap (λ x. (x >>- back_at F C outer) >>- λ r. run F C r.1 (go r.0)) went)
 
-  pub after_fails : {X : Type 0} (outer : Cut) (go : List (List ℕ) → Step X) (s : Machine) (fault : MachineFault) → (fault ≡ Memory) ⊎ (run F C s (puts (Break ∷ [])) ≡ Is (Err fault))
+  pub after_fails : {X : Type 0} (outer : Cut) (go : List (List ℕ) → Step X) (s : Machine) (fault : MachineFault)
+      → (fault ≡ Memory) ⊎ (run F C s (puts (Break ∷ [])) ≡ Is (Err fault))
       → (fault ≡ Memory) ⊎ (after_arguments F C outer go s ≡ Is (Err fault))
   after_fails outer go s fault (inl memory) = inl memory
   after_fails outer go s fault (inr e) = inr (ap (λ x. (x >>- back_at F C outer) >>- λ r. run F C r.1 (go r.0)) e)
@@ -75,13 +87,15 @@ module _ (F : Facts) (C : Context) where
       → after_arguments F C outer (λ args. go args >>= f) s ≡ (after_arguments F C outer go s >>- λ r. run F C r.1 (f r.0))
   after_then outer go f s = by (run F C s (puts (Break ∷ [])) >>- back_at F C outer)
     where
-      by : (x : Answer (List (List ℕ) × Machine)) → (x >>- λ r. run F C r.1 (go r.0 >>= f)) ≡ ((x >>- λ r. run F C r.1 (go r.0)) >>- λ r. run F C r.1 (f r.0))
+      by : (x : Answer (List (List ℕ) × Machine)) → (x >>- λ r. run F C r.1 (go r.0 >>= f))
+          ≡ ((x >>- λ r. run F C r.1 (go r.0)) >>- λ r. run F C r.1 (f r.0))
       by (Is (Ok r)) = run_then F C r.1 (go r.0) f
       by (Is (Err fault)) = refl
       by Unasked = refl
 
 -- the arguments of an item are opened
-module _ (F : Facts) (C : Context) (text : List ℕ) (w : Walk) (s : Machine) (next : ℕ) (name : List ℕ) (items : Items) (given : Answer (Unit {0} × Machine))
+module _ (F : Facts) (C : Context) (text : List ℕ) (w : Walk) (s : Machine) (next : ℕ) (name : List ℕ) (items : Items)
+    (given : Answer (Unit {0} × Machine))
     (b : Following F C text w next (λ levels star. item_step F C (tree.Function name items) levels star) s given) where
   abbrev k : Unit {0} × Machine → Answer (Unit {0} × Machine)
   k r = onward F C w.star b.rest b.arounds r.1
@@ -93,35 +107,53 @@ module _ (F : Facts) (C : Context) (text : List ℕ) (w : Walk) (s : Machine) (n
   kept = record nothing_kept { name = name }
 
   -- by the frame that the code makes: what it says is all that is used of it
-  module _ (o : Opened) (fits : OpenedFits text C o (tree.pattern [] false) tree.none kept) (around_is : text_around text o ≡ text) (back_is : back_of o ≡ next)
-      (closes : (levels : Levels) (star : List ℕ) (r : Machine) → closing F C levels star o (tree.pattern [] false) tree.none kept r ≡ after_arguments F C s.cut (value_step F C name) r) where
+  module _ (o : Opened) (fits : OpenedFits text C o (tree.pattern [] false) tree.none kept) (around_is : text_around text o ≡ text)
+      (back_is : back_of o ≡ next)
+      (closes : (levels : Levels) (star : List ℕ) (r : Machine)
+      → closing F C levels star o (tree.pattern [] false) tree.none kept r ≡ after_arguments F C s.cut (value_step F C name) r) where
     abbrev around : Around
-    around = record { frame = record { opened = o; end = w.end; star = w.star }; pattern = tree.pattern [] false; items = tree.none; kept = kept; rest = b.rest }
+    around = record {
+      frame = record { opened = o; end = w.end; star = w.star };
+      pattern = tree.pattern [] false;
+      items = tree.none;
+      kept =
+          kept;
+      rest = b.rest;
+    }
 
-    ends_as : (x : Answer (Unit {0} × Machine)) → (x >>- λ r. ends F C (around ∷ b.arounds) r.1) ≡ (x >>- λ r. after_arguments F C s.cut (value_step F C name) r.1 >>- k)
+    ends_as : (x : Answer (Unit {0} × Machine)) → (x >>- λ r. ends F C (around ∷ b.arounds) r.1)
+        ≡ (x >>- λ r. after_arguments F C s.cut (value_step F C name) r.1 >>- k)
     ends_as (Is (Ok r)) = ap (λ a. a >>- k) (closes (levels_in F C b.arounds) (star_of C w.star) r.1)
     ends_as (Is (Err fault)) = refl
     ends_as Unasked = refl
 
-    pub call_opened : length w.frames < 64 → (start : ℕ) → Stands text start (nodes_of items) next → (v : Walk) → v.at ≡ start → v.end ≡ next → v.star ≡ w.star → v.frames ≡ w.frames ++ record { opened = o; end = w.end; star = w.star } ∷ []
+    pub call_opened : length w.frames < 64 → (start : ℕ) → Stands text start (nodes_of items) next → (v : Walk) → v.at ≡ start
+        → v.end ≡ next → v.star ≡ w.star → v.frames ≡ w.frames ++ record { opened = o; end = w.end; star = w.star } ∷ []
         → Left F C text v (aside F C s) given
     call_opened h start stands v at_is end_is star_is frames_is =
-        items_opened F C text w s given next _ b text o (tree.pattern [] false) tree.none kept fits around_is back_is v frames_is w.star star_is (aside F C s) items start next stands at_is end_is
+        items_opened F C text w s given next _ b text o (tree.pattern [] false) tree.none kept fits around_is back_is v frames_is w.star
+        star_is (aside F C s) items start next stands at_is end_is
         (ends_as (run F C (aside F C s) (inner (levels_left F C (most_open - (length b.arounds + 1)))))
         ∙ sym (arguments_then F C s (inner (levels_left F C (most_open - (length b.arounds + 1)))) (value_step F C name) k)
-        ∙ sym (ap (λ levels. run F C s (item_step F C (tree.Function name items) levels (star_of C w.star)) >>- k) (one_deeper F C text w s given next _ b h)) ∙ b.same)
+        ∙ sym (ap (λ levels. run F C s (item_step F C (tree.Function name items) levels (star_of C w.star)) >>- k)
+        (one_deeper F C text w s given next _ b h)) ∙ b.same)
 
 -- the arguments of a function that a test asks are opened
 module _ (F : Facts) (C : Context) where
   -- steps one after another, from the left or from the right
-  assoc_run : {X Y Z : Type 0} (s : Machine) (a : Step X) (f : X → Step Y) (g : Y → Step Z) → run F C s ((a >>= f) >>= g) ≡ run F C s (a >>= λ x. f x >>= g)
+  assoc_run : {X Y Z : Type 0} (s : Machine) (a : Step X) (f : X → Step Y) (g : Y → Step Z)
+      → run F C s ((a >>= f) >>= g) ≡ run F C s (a >>= λ x. f x >>= g)
   assoc_run s a f g =
-      run_then F C s (a >>= f) g ∙ ap (λ x. x >>- λ r. run F C r.1 (g r.0)) (run_then F C s a f) ∙ then_then (run F C s a) (λ r. run F C r.1 (f r.0)) (λ r. run F C r.1 (g r.0))
-      ∙ then_same (run F C s a) (λ r. run F C r.1 (f r.0) >>- λ q. run F C q.1 (g q.0)) (λ r. run F C r.1 (f r.0 >>= g)) (λ r. sym (run_then F C r.1 (f r.0) g))
+      run_then F C s (a >>= f) g ∙ ap (λ x. x >>- λ r. run F C r.1 (g r.0)) (run_then F C s a f)
+      ∙ then_then (run F C s a) (λ r. run F C r.1 (f r.0)) (λ r. run F C r.1 (g r.0))
+      ∙ then_same (run F C s a) (λ r. run F C r.1 (f r.0) >>- λ q. run F C q.1 (g q.0)) (λ r. run F C r.1 (f r.0 >>= g))
+      (λ r. sym (run_then F C r.1 (f r.0) g))
       ∙ sym (run_then F C s a (λ x. f x >>= g))
 
-module _ (F : Facts) (C : Context) (text : List ℕ) (w : Walk) (s : Machine) (end : ℕ) (items inner_items : Items) (kept : Kept) (given : Answer (Unit {0} × Machine))
-    (b : Following F C text w end (λ levels star. arguments_of F C inner_items kept.name levels star >>= judged F C kept.negated kept.asked kept.tests levels star >>= found_step F C items kept.choices levels star) s given) where
+module _ (F : Facts) (C : Context) (text : List ℕ) (w : Walk) (s : Machine) (end : ℕ) (items inner_items : Items) (kept : Kept)
+    (given : Answer (Unit {0} × Machine))
+    (b : Following F C text w end (λ levels star. arguments_of F C inner_items kept.name levels star
+    >>= judged F C kept.negated kept.asked kept.tests levels star >>= found_step F C items kept.choices levels star) s given) where
   abbrev ask_k : Unit {0} × Machine → Answer (Unit {0} × Machine)
   ask_k r = onward F C w.star b.rest b.arounds r.1
 
@@ -131,33 +163,53 @@ module _ (F : Facts) (C : Context) (text : List ℕ) (w : Walk) (s : Machine) (e
   -- the whole test, where so many parts may be opened
   abbrev asked_whole : Levels → Step (Unit {0})
   asked_whole levels =
-      arguments_of F C inner_items kept.name levels (star_of C w.star) >>= judged F C kept.negated kept.asked kept.tests (levels_in F C b.arounds) (star_of C w.star) >>= found_step F C items kept.choices (levels_in F C b.arounds) (star_of C w.star)
+      arguments_of F C inner_items kept.name levels (star_of C w.star)
+      >>= judged F C kept.negated kept.asked kept.tests (levels_in F C b.arounds) (star_of C w.star)
+      >>= found_step F C items kept.choices (levels_in F C b.arounds) (star_of C w.star)
 
   abbrev on_words : List (List ℕ) → Step (Unit {0})
   on_words args = asked_on F C items kept (levels_in F C b.arounds) (star_of C w.star) args
 
-  module _ (o : Opened) (fits : OpenedFits text C o (tree.pattern [] false) items kept) (around_is : text_around text o ≡ text) (back_is : back_of o ≡ end)
-      (closes : (r : Machine) → closing F C (levels_in F C b.arounds) (star_of C w.star) o (tree.pattern [] false) items kept r ≡ after_arguments F C s.cut on_words r) where
+  module _ (o : Opened) (fits : OpenedFits text C o (tree.pattern [] false) items kept) (around_is : text_around text o ≡ text)
+      (back_is : back_of o ≡ end)
+      (closes : (r : Machine) → closing F C (levels_in F C b.arounds) (star_of C w.star) o (tree.pattern [] false) items kept r
+      ≡ after_arguments F C s.cut on_words r) where
     abbrev ask_around : Around
-    ask_around = record { frame = record { opened = o; end = w.end; star = w.star }; pattern = tree.pattern [] false; items = items; kept = kept; rest = b.rest }
+    ask_around = record {
+      frame = record { opened = o; end = w.end; star = w.star };
+      pattern = tree.pattern [] false;
+      items = items;
+      kept =
+          kept;
+      rest = b.rest;
+    }
 
-    ask_ends : (x : Answer (Unit {0} × Machine)) → (x >>- λ r. ends F C (ask_around ∷ b.arounds) r.1) ≡ (x >>- λ r. after_arguments F C s.cut on_words r.1 >>- ask_k)
+    ask_ends : (x : Answer (Unit {0} × Machine)) → (x >>- λ r. ends F C (ask_around ∷ b.arounds) r.1)
+        ≡ (x >>- λ r. after_arguments F C s.cut on_words r.1 >>- ask_k)
     ask_ends (Is (Ok r)) = ap (λ a. a >>- ask_k) (closes r.1)
     ask_ends (Is (Err fault)) = refl
     ask_ends Unasked = refl
 
     -- from the left to the right
     ask_right : (step : Step (Unit {0}))
-        → run F C s (arguments F C step >>= has_value F C kept.name >>= judged F C kept.negated kept.asked kept.tests (levels_in F C b.arounds) (star_of C w.star) >>= found_step F C items kept.choices (levels_in F C b.arounds) (star_of C w.star))
+        → run F C s (arguments F C step >>= has_value F C kept.name
+        >>= judged F C kept.negated kept.asked kept.tests (levels_in F C b.arounds) (star_of C w.star)
+        >>= found_step F C items kept.choices (levels_in F C b.arounds) (star_of C w.star))
         ≡ run F C s (arguments F C step >>= on_words)
     ask_right step =
-        assoc_run F C s (arguments F C step >>= has_value F C kept.name) (judged F C kept.negated kept.asked kept.tests (levels_in F C b.arounds) (star_of C w.star)) (found_step F C items kept.choices (levels_in F C b.arounds) (star_of C w.star))
-        ∙ assoc_run F C s (arguments F C step) (has_value F C kept.name) (λ holds. judged F C kept.negated kept.asked kept.tests (levels_in F C b.arounds) (star_of C w.star) holds >>= found_step F C items kept.choices (levels_in F C b.arounds) (star_of C w.star))
+        assoc_run F C s (arguments F C step >>= has_value F C kept.name)
+        (judged F C kept.negated kept.asked kept.tests (levels_in F C b.arounds) (star_of C w.star))
+        (found_step F C items kept.choices (levels_in F C b.arounds) (star_of C w.star))
+        ∙ assoc_run F C s (arguments F C step) (has_value F C kept.name)
+        (λ holds. judged F C kept.negated kept.asked kept.tests (levels_in F C b.arounds) (star_of C w.star) holds
+        >>= found_step F C items kept.choices (levels_in F C b.arounds) (star_of C w.star))
 
-    pub ask_opened : length w.frames < 64 → (start next : ℕ) → Stands text start (nodes_of inner_items) next → (v : Walk) → v.at ≡ start → v.end ≡ next → v.star ≡ w.star → v.frames ≡ w.frames ++ record { opened = o; end = w.end; star = w.star } ∷ []
+    pub ask_opened : length w.frames < 64 → (start next : ℕ) → Stands text start (nodes_of inner_items) next → (v : Walk) → v.at ≡ start
+        → v.end ≡ next → v.star ≡ w.star → v.frames ≡ w.frames ++ record { opened = o; end = w.end; star = w.star } ∷ []
         → Left F C text v (aside F C s) given
     ask_opened h start next stands v at_is end_is star_is frames_is =
-        items_opened F C text w s given end _ b text o (tree.pattern [] false) items kept fits around_is back_is v frames_is w.star star_is (aside F C s) inner_items start next stands at_is end_is
+        items_opened F C text w s given end _ b text o (tree.pattern [] false) items kept fits around_is back_is v frames_is w.star star_is
+        (aside F C s) inner_items start next stands at_is end_is
         (ask_ends (run F C (aside F C s) (asked_inside (levels_left F C (most_open - (length b.arounds + 1)))))
         ∙ sym (arguments_then F C s (asked_inside (levels_left F C (most_open - (length b.arounds + 1)))) on_words ask_k)
         ∙ sym (ap (λ x. x >>- ask_k) (ask_right (asked_inside (levels_left F C (most_open - (length b.arounds + 1))))))

@@ -24,7 +24,8 @@ use Rattle.drv_syntax.specs.declared.token.Token.{Token}
 use Rattle.drv_syntax.specs.declared.token.TokenKind.TheVariants as kinds
 use Rattle.drv_system.specs.Facts.{Facts}
 use Rattle.drv_system.specs.Known.{Is}
-use Rattle.std.proofs.Common.{◌≡◌, ◌⊎◌, ◌&&◌, ◌<◌, ◌≤◌, ◌+◌, ◌-◌, ◌∙◌, ◌∷◌, Bool, Err, List, None, Ok, Option, Some, ap, arith, false, if◌then◌else◌, inl, inr, length, refl, slice_get, subst, suc, sym, true, zero, ℕ}
+use Rattle.std.proofs.Common.{◌≡◌, ◌⊎◌, ◌&&◌, ◌<◌, ◌≤◌, ◌+◌, ◌-◌, ◌∙◌, ◌∷◌, Bool, Err, List, None, Ok, Option, Some, ap, arith, false}
+use Rattle.std.proofs.Common.{if◌then◌else◌, inl, inr, length, refl, slice_get, subst, suc, sym, true, zero, ℕ}
 use Rattle.std.proofs.lemmas.List.{length-map}
 use Rattle.std.proofs.lemmas.Option.{slice_get_within}
 use Rattle.std.specs.List.{range_with_len}
@@ -40,13 +41,17 @@ pub record FrontChoice (text : List ℕ) (at : ℕ) (choices : Choices) (end : �
   pub is : choices ≡ tree.choice span tests items others
   pub first : First text at kinds.Alternative (alternative_label items) (both (test_nodes tests) (nodes_of items)) (choice_nodes others) end
 
-pub front_choice : (text : List ℕ) (at : ℕ) (choices : Choices) (end : ℕ) → at < end → Stands text at (choice_nodes choices) end → FrontChoice text at choices end
+pub front_choice : (text : List ℕ) (at : ℕ) (choices : Choices) (end : ℕ) → at < end → Stands text at (choice_nodes choices) end
+    → FrontChoice text at choices end
 front_choice text at tree.no_choice end h e = absurd (omega (arith, h, e))
-front_choice text at (tree.choice span tests items others) end h s = record { span = span; tests = tests; items = items; others = others; is = refl; first = first_of s }
+front_choice text at (tree.choice span tests items others) end h s =
+    record { span = span; tests = tests; items = items; others = others; is = refl; first = first_of s }
 
-pub no_choices_left : (text : List ℕ) (at : ℕ) (choices : Choices) (end : ℕ) → end ≤ at → Stands text at (choice_nodes choices) end → choices ≡ tree.no_choice
+pub no_choices_left : (text : List ℕ) (at : ℕ) (choices : Choices) (end : ℕ) → end ≤ at → Stands text at (choice_nodes choices) end
+    → choices ≡ tree.no_choice
 no_choices_left text at tree.no_choice end h s = refl
-no_choices_left text at (tree.choice span tests items others) end h (next, part, within, following) = absurd (omega (arith, h, part.later, stand_grows _ _ next (choice_nodes others) end following))
+no_choices_left text at (tree.choice span tests items others) end h (next, part, within, following) =
+    absurd (omega (arith, h, part.later, stand_grows _ _ next (choice_nodes others) end following))
 
 -- the items of an alternative follow its tests
 pub tests_after : (tests : Tests) (items : Items) → after_tests (both (test_nodes tests) (nodes_of items)) ≡ nodes_of items
@@ -56,19 +61,27 @@ tests_after (tree.test span negated asked tests) items = tests_after tests items
 
 -- an X by the first of its tests that is true, and the alternatives after it
 abbrev pub by_found : Facts → Context → Items → Choices → Levels → List ℕ → Option Asked → Step (Unit {0})
-by_found F C items others levels star found = worked F C found (has_star items) (λ rest inside. items_step F C items inside rest) levels star (choices_step F C others levels star)
+by_found F C items others levels star found = worked F C found (has_star items)
+    (λ rest inside. items_step F C items inside rest) levels star (choices_step F C others levels star)
 
-tested : (F : Facts) (C : Context) (text : List ℕ) (at end : ℕ) (span : Span) (tests : Tests) (items : Items) (others : Choices) (levels : Levels) (star : List ℕ) → (end ≡ at → ⊥) → Stands text at (test_nodes tests) end
-    → choices_step F C (tree.choice span tests items others) levels star ≡ (first_true F C tests levels star >>= by_found F C items others levels star)
+tested : (F : Facts) (C : Context) (text : List ℕ) (at end : ℕ) (span : Span) (tests : Tests) (items : Items) (others : Choices)
+    (levels : Levels) (star : List ℕ) → (end ≡ at → ⊥) → Stands text at (test_nodes tests) end
+    → choices_step F C (tree.choice span tests items others) levels star
+    ≡ (first_true F C tests levels star >>= by_found F C items others levels star)
 tested F C text at end span tree.no_test items others levels star some s = absurd (some (sym s))
 tested F C text at end span (tree.test place negated asked tests) items others levels star some s = refl
 
 -- the alternatives that are left at a place, and the state that was there and that is
 abbrev pub ChoicesLeft : Facts → Context → List ℕ → Machine → Machine → ℕ → ℕ → Choices → Levels → List ℕ → Type 0
-ChoicesLeft F C text s t at end choices levels star = PartsLeft choice_nodes text at end (λ rest. run F C t (choices_step F C rest levels star) ≡ run F C s (choices_step F C choices levels star))
+ChoicesLeft F C text s t at end choices levels star =
+    PartsLeft choice_nodes text at end (λ rest. run F C t (choices_step F C rest levels star)
+    ≡ run F C s (choices_step F C choices levels star))
 
-module _ (F : Facts) (C : Context) (text : List ℕ) (s t : Machine) (at end : ℕ) (h : at < end) (choices : Choices) (levels : Levels) (star : List ℕ) (left : ChoicesLeft F C text s t at end choices levels star) where
-  from_rest : (f : FrontChoice text at left.rest end) → run F C s (choices_step F C choices levels star) ≡ run F C t (choices_step F C (tree.choice f.span f.tests f.items f.others) levels star)
+module _ (F : Facts) (C : Context) (text : List ℕ) (s t : Machine) (at end : ℕ) (h : at < end) (choices : Choices) (levels : Levels)
+    (star : List ℕ) (left : ChoicesLeft F C text s t at end choices levels star) where
+  from_rest : (f : FrontChoice text at left.rest end)
+      → run F C s (choices_step F C choices levels star)
+      ≡ run F C t (choices_step F C (tree.choice f.span f.tests f.items f.others) levels star)
   from_rest f = sym left.same ∙ ap (λ xs. run F C t (choices_step F C xs levels star)) f.is
 
   module _ (token : Token) (there : slice_get (tokens_of (tree_of text)) at ≡ Some token) where
@@ -84,56 +97,82 @@ module _ (F : Facts) (C : Context) (text : List ℕ) (s t : Machine) (at end : �
       inside f = stands_within f.first token there
 
       tests_there : (f : FrontChoice text at left.rest end) → Stands text (at + 1) (test_nodes f.tests) middle
-      tests_there f = subst (λ (xs : Nodes). Stands text (at + 1) xs middle) (tests_first f.tests f.items) (first (both (test_nodes f.tests) (nodes_of f.items)) (inside f))
+      tests_there f = subst (λ (xs : Nodes). Stands text (at + 1) xs middle) (tests_first f.tests f.items)
+          (first (both (test_nodes f.tests) (nodes_of f.items)) (inside f))
 
       items_there : (f : FrontChoice text at left.rest end) → Stands text middle (nodes_of f.items) token.next
-      items_there f = subst (λ (xs : Nodes). Stands text middle xs token.next) (tests_after f.tests f.items) (after_first (both (test_nodes f.tests) (nodes_of f.items)) (inside f))
+      items_there f = subst (λ (xs : Nodes). Stands text middle xs token.next) (tests_after f.tests f.items)
+          (after_first (both (test_nodes f.tests) (nodes_of f.items)) (inside f))
 
       -- the default
-      default_is : (f : FrontChoice text at left.rest end) → middle ≡ at + 1 → run F C s (choices_step F C choices levels star) ≡ run F C t (items_step F C f.items levels star)
-      default_is f e = from_rest f ∙ ap (λ ts. run F C t (choices_step F C (tree.choice f.span ts f.items f.others) levels star)) (no_tests_left text (at + 1) f.tests middle (omega (arith, e)) (tests_there f))
+      default_is : (f : FrontChoice text at left.rest end) → middle ≡ at + 1
+          → run F C s (choices_step F C choices levels star) ≡ run F C t (items_step F C f.items levels star)
+      default_is f e = from_rest f ∙ ap (λ ts. run F C t (choices_step F C (tree.choice f.span ts f.items f.others) levels star))
+          (no_tests_left text (at + 1) f.tests middle (omega (arith, e)) (tests_there f))
 
-      pub as_default : (P : Answer (Unit {0} × Machine) → Type 0) → middle ≡ at + 1 → ((items : Items) → Stands text middle (nodes_of items) token.next → P (run F C t (items_step F C items levels star))) → P (run F C s (choices_step F C choices levels star))
-      as_default P e working = let f = front_choice text at left.rest end h left.stands in subst P (sym (default_is f e)) (working f.items (items_there f))
+      pub as_default : (P : Answer (Unit {0} × Machine) → Type 0) → middle ≡ at + 1
+          → ((items : Items) → Stands text middle (nodes_of items) token.next → P (run F C t (items_step F C items levels star)))
+          → P (run F C s (choices_step F C choices levels star))
+      as_default P e working = let f = front_choice text at left.rest end h left.stands in
+          subst P (sym (default_is f e)) (working f.items (items_there f))
 
       module _ (some : middle ≡ at + 1 → ⊥) where
-        with_tests : (f : FrontChoice text at left.rest end) → run F C s (choices_step F C choices levels star) ≡ run F C t (first_true F C f.tests levels star >>= by_found F C f.items f.others levels star)
-        with_tests f = from_rest f ∙ ap (run F C t) (tested F C text (at + 1) middle f.span f.tests f.items f.others levels star some (tests_there f))
+        with_tests : (f : FrontChoice text at left.rest end)
+            → run F C s (choices_step F C choices levels star)
+            ≡ run F C t (first_true F C f.tests levels star >>= by_found F C f.items f.others levels star)
+        with_tests f = from_rest f ∙ ap (run F C t) (tested F C text (at + 1) middle f.span f.tests f.items f.others levels star some
+            (tests_there f))
 
-        pub tests_fail : (fault : MachineFault) → ((tests : Tests) → Stands text (at + 1) (test_nodes tests) middle → (fault ≡ Memory) ⊎ (run F C t (first_true F C tests levels star) ≡ Is (Err fault)))
+        pub tests_fail : (fault : MachineFault) → ((tests : Tests) → Stands text (at + 1) (test_nodes tests) middle
+            → (fault ≡ Memory) ⊎ (run F C t (first_true F C tests levels star) ≡ Is (Err fault)))
             → (fault ≡ Memory) ⊎ (run F C s (choices_step F C choices levels star) ≡ Is (Err fault))
         tests_fail fault stopped = by (stopped f.tests (tests_there f))
           where
             f : FrontChoice text at left.rest end
             f = front_choice text at left.rest end h left.stands
 
-            by : (fault ≡ Memory) ⊎ (run F C t (first_true F C f.tests levels star) ≡ Is (Err fault)) → (fault ≡ Memory) ⊎ (run F C s (choices_step F C choices levels star) ≡ Is (Err fault))
+            by : (fault ≡ Memory) ⊎ (run F C t (first_true F C f.tests levels star) ≡ Is (Err fault))
+                → (fault ≡ Memory) ⊎ (run F C s (choices_step F C choices levels star) ≡ Is (Err fault))
             by (inl memory) = inl memory
-            by (inr e) = inr (with_tests f ∙ then_err F C t (first_true F C f.tests levels star) (by_found F C f.items f.others levels star) fault e)
+            by (inr e) = inr (with_tests f ∙ then_err F C t (first_true F C f.tests levels star)
+                (by_found F C f.items f.others levels star) fault e)
 
-        pub none_true : (u : Machine) → ((tests : Tests) → Stands text (at + 1) (test_nodes tests) middle → run F C t (first_true F C tests levels star) ≡ Is (Ok (None, u))) → ChoicesLeft F C text s u token.next end choices levels star
+        pub none_true : (u : Machine) → ((tests : Tests) → Stands text (at + 1) (test_nodes tests) middle
+            → run F C t (first_true F C tests levels star) ≡ Is (Ok (None, u)))
+            → ChoicesLeft F C text s u token.next end choices levels star
         none_true u none =
             let f = front_choice text at left.rest end h left.stands in record {
               rest = f.others;
               stands = stands_after f.first token there;
-              same = sym (with_tests f ∙ then_ok F C t (first_true F C f.tests levels star) (by_found F C f.items f.others levels star) None u (none f.tests (tests_there f)));
+              same = sym (with_tests f ∙ then_ok F C t (first_true F C f.tests levels star)
+                  (by_found F C f.items f.others levels star) None u (none f.tests (tests_there f)));
             }
 
-        pub one_true : (u : Machine) (test : ℕ) (P : Answer (Unit {0} × Machine) → Type 0) → ((tests : Tests) → Stands text (at + 1) (test_nodes tests) middle → TrueTest F C text t u test (first_true F C tests levels star))
-            → ((negated : Bool) (asked : Asked) (items : Items) (others : Step (Unit {0})) → (label_at (tree_of text) at).holds_star ≡ has_star items → label_at (tree_of text) test ≡ test_label negated asked → Stands text middle (nodes_of items) token.next
+        pub one_true : (u : Machine) (test : ℕ) (P : Answer (Unit {0} × Machine) → Type 0)
+            → ((tests : Tests) → Stands text (at + 1) (test_nodes tests) middle
+            → TrueTest F C text t u test (first_true F C tests levels star))
+            → ((negated : Bool) (asked : Asked) (items : Items) (others : Step (Unit {0}))
+            → (label_at (tree_of text) at).holds_star ≡ has_star items → label_at (tree_of text) test ≡ test_label negated asked
+            → Stands text middle (nodes_of items) token.next
             → P (run F C u (worked F C (Some asked) (has_star items) (λ rest inside. items_step F C items inside rest) levels star others)))
             → P (run F C s (choices_step F C choices levels star))
         one_true u test P found working =
             let f = front_choice text at left.rest end h left.stands in
             let g = found f.tests (tests_there f) in
-            subst P (sym (with_tests f ∙ then_ok F C t (first_true F C f.tests levels star) (by_found F C f.items f.others levels star) (Some g.asked) u g.gives))
-            (working g.negated g.asked f.items (choices_step F C f.others levels star) (ap (λ (l : Label). l.holds_star) f.first.part.label_is) g.label_is (items_there f))
+            subst P (sym (with_tests f ∙ then_ok F C t (first_true F C f.tests levels star) (by_found F C f.items f.others levels star)
+            (Some g.asked) u g.gives))
+            (working g.negated g.asked f.items (choices_step F C f.others levels star)
+            (ap (λ (l : Label). l.holds_star) f.first.part.label_is) g.label_is (items_there f))
 
         -- a test by a function comes first: its arguments are opened, with what follows them
-        pub one_asked : (u : Machine) (test : ℕ) (at_test : Token) (is : slice_get (tokens_of (tree_of text)) test ≡ Some at_test) (own : Bool) (owns : own ≡ (label_at (tree_of text) at).holds_star) (P : Answer (Unit {0} × Machine) → Type 0)
+        pub one_asked : (u : Machine) (test : ℕ) (at_test : Token) (is : slice_get (tokens_of (tree_of text)) test ≡ Some at_test)
+            (own : Bool) (owns : own ≡ (label_at (tree_of text) at).holds_star) (P : Answer (Unit {0} × Machine) → Type 0)
             → ((tests : Tests) → Stands text (at + 1) (test_nodes tests) middle → AskedTest F C text middle t u test tests levels star)
-            → ((items arguments : Items) (kept : Kept) → AskFits text (record { test = test; from = at_test.next; start = middle; next = token.next; own = own; end = end }) items kept → Stands text (test + 1) (nodes_of arguments) at_test.next
-            → P (run F C u (arguments_of F C arguments kept.name levels star >>= judged F C kept.negated kept.asked kept.tests levels star >>= found_step F C items kept.choices levels star)))
+            → ((items arguments : Items) (kept : Kept) → AskFits text
+            (record { test = test; from = at_test.next; start = middle; next = token.next; own = own; end = end }) items kept
+            → Stands text (test + 1) (nodes_of arguments) at_test.next
+            → P (run F C u (arguments_of F C arguments kept.name levels star >>= judged F C kept.negated kept.asked kept.tests levels star
+            >>= found_step F C items kept.choices levels star)))
             → P (run F C s (choices_step F C choices levels star))
         one_asked u test at_test is own owns P found working =
             let f = front_choice text at left.rest end h left.stands in
@@ -143,8 +182,17 @@ module _ (F : Facts) (C : Context) (text : List ℕ) (s t : Machine) (at end : �
             (sym (with_tests f
             ∙ run_then F C t (first_true F C f.tests levels star) (by_found F C f.items f.others levels star)
             ∙ ap (λ x. x >>- λ r. run F C r.1 (by_found F C f.items f.others levels star r.0)) g.gives
-            ∙ sym (run_then F C u (truth F C (tree.HasResult g.name g.arguments) levels star >>= judged F C g.negated (tree.HasResult g.name g.arguments) g.others levels star) (by_found F C f.items f.others levels star))))
-            (working f.items g.arguments (record { name = g.name; negated = g.negated; asked = tree.HasResult g.name g.arguments; tests = g.others; choices = f.others })
+            ∙ sym (run_then F C u (truth F C (tree.HasResult g.name g.arguments) levels star
+            >>= judged F C g.negated (tree.HasResult g.name g.arguments) g.others levels star)
+            (by_found F C f.items f.others levels star))))
+            (working f.items g.arguments (record {
+              name = g.name;
+              negated = g.negated;
+              asked = tree.HasResult g.name g.arguments;
+              tests =
+                  g.others;
+              choices = f.others;
+            })
             (record {
               in_list = slice_get_within (tokens_of (tree_of text)) test at_test is;
               name_is = ap (λ (l : Label). l.word) g.part.label_is;
@@ -157,12 +205,15 @@ module _ (F : Facts) (C : Context) (text : List ℕ) (s t : Machine) (at end : �
             })
             (subst (λ (k : ℕ). Stands text (test + 1) (nodes_of g.arguments) k) (sym next) g.within))
 
-pub choices_end : (F : Facts) (C : Context) (text : List ℕ) (s t : Machine) (at end : ℕ) → end ≤ at → (choices : Choices) (levels : Levels) (star : List ℕ) → ChoicesLeft F C text s t at end choices levels star
+pub choices_end : (F : Facts) (C : Context) (text : List ℕ) (s t : Machine) (at end : ℕ) → end ≤ at
+    → (choices : Choices) (levels : Levels) (star : List ℕ) → ChoicesLeft F C text s t at end choices levels star
     → run F C s (choices_step F C choices levels star) ≡ Is (Ok (tt, t))
-choices_end F C text s t at end h choices levels star left = sym left.same ∙ ap (λ xs. run F C t (choices_step F C xs levels star)) (no_choices_left text at left.rest end h left.stands)
+choices_end F C text s t at end h choices levels star left = sym left.same
+    ∙ ap (λ xs. run F C t (choices_step F C xs levels star)) (no_choices_left text at left.rest end h left.stands)
 
 -- X once, or for each hit
-once_is : (F : Facts) (C : Context) (negated : Bool) (asked : Asked) (own : Bool) (X : List ℕ → Levels → Step (Unit {0})) (levels : Levels) (star : List ℕ) (others : Step (Unit {0})) → asks_switch (test_label negated asked) && own ≡ false
+once_is : (F : Facts) (C : Context) (negated : Bool) (asked : Asked) (own : Bool) (X : List ℕ → Levels → Step (Unit {0})) (levels : Levels)
+    (star : List ℕ) (others : Step (Unit {0})) → asks_switch (test_label negated asked) && own ≡ false
     → worked F C (Some asked) own X levels star others ≡ X star levels
 once_is F C negated (tree.HasSwitch (tree.pattern word starred)) true X levels star others e = absurd cc
 once_is F C negated (tree.HasSwitch (tree.pattern word starred)) false X levels star others e = refl
@@ -170,36 +221,45 @@ once_is F C negated (tree.HasSuffix word) own X levels star others e = refl
 once_is F C negated (tree.HasLanguage word) own X levels star others e = refl
 once_is F C negated (tree.HasResult name items) own X levels star others e = refl
 
-pub record ForEach (F : Facts) (C : Context) (negated : Bool) (asked : Asked) (own : Bool) (X : List ℕ → Levels → Step (Unit {0})) (levels : Levels) (star : List ℕ) (others : Step (Unit {0})) : Type 0 where
+pub record ForEach (F : Facts) (C : Context) (negated : Bool) (asked : Asked) (own : Bool) (X : List ℕ → Levels → Step (Unit {0}))
+    (levels : Levels) (star : List ℕ) (others : Step (Unit {0})) : Type 0 where
   pub pattern : Pattern
   pub labelled_as : labelled (test_label negated asked) ≡ matching pattern
   pub is : worked F C (Some asked) own X levels star others ≡ each_hit F C pattern X levels (places F C)
 
-each_is : (F : Facts) (C : Context) (negated : Bool) (asked : Asked) (own : Bool) (X : List ℕ → Levels → Step (Unit {0})) (levels : Levels) (star : List ℕ) (others : Step (Unit {0})) → asks_switch (test_label negated asked) && own ≡ true
+each_is : (F : Facts) (C : Context) (negated : Bool) (asked : Asked) (own : Bool) (X : List ℕ → Levels → Step (Unit {0})) (levels : Levels)
+    (star : List ℕ) (others : Step (Unit {0})) → asks_switch (test_label negated asked) && own ≡ true
     → ForEach F C negated asked own X levels star others
-each_is F C negated (tree.HasSwitch (tree.pattern word starred)) true X levels star others e = record { pattern = tree.pattern word starred; labelled_as = refl; is = refl }
+each_is F C negated (tree.HasSwitch (tree.pattern word starred)) true X levels star others e =
+    record { pattern = tree.pattern word starred; labelled_as = refl; is = refl }
 each_is F C negated (tree.HasSwitch (tree.pattern word starred)) false X levels star others e = absurd cc
 each_is F C negated (tree.HasSuffix word) own X levels star others e = absurd cc
 each_is F C negated (tree.HasLanguage word) own X levels star others e = absurd cc
 each_is F C negated (tree.HasResult name items) own X levels star others e = absurd cc
 
-module _ (F : Facts) (C : Context) (text : List ℕ) (s : Machine) (test middle end : ℕ) (negated : Bool) (asked : Asked) (items : Items) (levels : Levels) (star : List ℕ) (others : Step (Unit {0}))
-    (label : label_at (tree_of text) test ≡ test_label negated asked) (own : Bool) (owns : own ≡ has_star items) (b c : Bool) (is : b ≡ (asks_switch (label_at (tree_of text) test) && own)) (e : b ≡ c) where
+module _ (F : Facts) (C : Context) (text : List ℕ) (s : Machine) (test middle end : ℕ) (negated : Bool) (asked : Asked) (items : Items)
+    (levels : Levels) (star : List ℕ) (others : Step (Unit {0}))
+    (label : label_at (tree_of text) test ≡ test_label negated asked) (own : Bool) (owns : own ≡ has_star items) (b c : Bool)
+    (is : b ≡ (asks_switch (label_at (tree_of text) test) && own)) (e : b ≡ c) where
   own_is : asks_switch (test_label negated asked) && has_star items ≡ c
   own_is = ap (λ o. asks_switch (test_label negated asked) && o) (sym owns) ∙ ap (λ l. asks_switch l && own) (sym label) ∙ sym is ∙ e
 
-  pub work_once : c ≡ false → worked F C (Some asked) (has_star items) (λ rest inside. items_step F C items inside rest) levels star others ≡ items_step F C items levels star
+  pub work_once : c ≡ false → worked F C (Some asked) (has_star items) (λ rest inside. items_step F C items inside rest) levels star others
+      ≡ items_step F C items levels star
   work_once f = once_is F C negated asked (has_star items) (λ rest inside. items_step F C items inside rest) levels star others (own_is ∙ f)
 
-  pub work_for_each : c ≡ true → ForEach F C negated asked (has_star items) (λ rest inside. items_step F C items inside rest) levels star others
-  work_for_each f = each_is F C negated asked (has_star items) (λ rest inside. items_step F C items inside rest) levels star others (own_is ∙ f)
+  pub work_for_each : c ≡ true → ForEach F C negated asked (has_star items)
+      (λ rest inside. items_step F C items inside rest) levels star others
+  work_for_each f = each_is F C negated asked (has_star items) (λ rest inside. items_step F C items inside rest) levels star others
+      (own_is ∙ f)
 
 -- the switches that are left, of which the first is at a place
 module _ (F : Facts) (C : Context) (p : Pattern) (items : Items) where
   abbrev each : Levels → List ℕ → Step (Unit {0})
   each levels is = each_hit F C p (λ rest inside. items_step F C items inside rest) levels is
 
-  each_step : (levels : Levels) (i : ℕ) → i < length C.switches → each_from F C p items levels i ≡ each levels (i ∷ range_with_len (i + 1) (length C.switches - (i + 1)))
+  each_step : (levels : Levels) (i : ℕ) → i < length C.switches
+      → each_from F C p items levels i ≡ each levels (i ∷ range_with_len (i + 1) (length C.switches - (i + 1)))
   each_step levels i h = by (length C.switches - i) (length C.switches - (i + 1)) (omega (arith, h))
     where
       by : (n m : ℕ) → n ≡ suc m → each levels (range_with_len i n) ≡ each levels (i ∷ range_with_len (i + 1) m)
@@ -209,50 +269,65 @@ module _ (F : Facts) (C : Context) (p : Pattern) (items : Items) where
   abbrev one : Levels → ℕ → Bool → Step (Unit {0})
   one levels i hit = if hit then hit_step F C p items levels i else nothing
 
-  module _ (levels : Levels) (s : Machine) (i : ℕ) (h : i < length C.switches) (hit : Bool) (e : hit ≡ is_hit (names C) s.world.hidden (matching p) i) where
+  module _ (levels : Levels) (s : Machine) (i : ℕ) (h : i < length C.switches) (hit : Bool)
+      (e : hit ≡ is_hit (names C) s.world.hidden (matching p) i) where
     at_switch : run F C s (each_from F C p items levels i) ≡ run F C s (one levels i hit >> each_from F C p items levels (i + 1))
     at_switch =
         ap (run F C s) (each_step levels i h)
-        ∙ then_ok F C s (look (λ w. is_hit (names C) w.hidden (matching p) i)) (λ b. one levels i b >> each_from F C p items levels (i + 1)) (is_hit (names C) s.world.hidden (matching p) i) s refl
+        ∙ then_ok F C s (look (λ w. is_hit (names C) w.hidden (matching p) i)) (λ b. one levels i b >> each_from F C p items levels (i + 1))
+        (is_hit (names C) s.world.hidden (matching p) i) s refl
         ∙ ap (λ b. run F C s (one levels i b >> each_from F C p items levels (i + 1))) (sym e)
 
     pub no_hit : hit ≡ false → run F C s (each_from F C p items levels i) ≡ run F C s (each_from F C p items levels (i + 1))
-    no_hit f = at_switch ∙ ap (λ b. run F C s (one levels i b >> each_from F C p items levels (i + 1))) f ∙ then_ok F C s nothing (λ u. each_from F C p items levels (i + 1)) tt s refl
+    no_hit f = at_switch ∙ ap (λ b. run F C s (one levels i b >> each_from F C p items levels (i + 1))) f
+        ∙ then_ok F C s nothing (λ u. each_from F C p items levels (i + 1)) tt s refl
 
-    pub at_hit : hit ≡ true → run F C s (each_from F C p items levels i) ≡ run F C s (hit_step F C p items levels i >> each_from F C p items levels (i + 1))
+    pub at_hit : hit ≡ true → run F C s (each_from F C p items levels i)
+        ≡ run F C s (hit_step F C p items levels i >> each_from F C p items levels (i + 1))
     at_hit f = at_switch ∙ ap (λ b. run F C s (one levels i b >> each_from F C p items levels (i + 1))) f
 
-  pub each_end : (levels : Levels) (s : Machine) (i : ℕ) → length C.switches ≤ i → run F C s (each_from F C p items levels i) ≡ Is (Ok (tt, s))
+  pub each_end : (levels : Levels) (s : Machine) (i : ℕ) → length C.switches ≤ i
+      → run F C s (each_from F C p items levels i) ≡ Is (Ok (tt, s))
   each_end levels s i h = by (length C.switches - i) (omega (arith, h))
     where
       by : (n : ℕ) → n ≡ 0 → run F C s (each levels (range_with_len i n)) ≡ Is (Ok (tt, s))
       by n e = ap (λ k. run F C s (each levels (range_with_len i k))) e
 
-  pub each_all : (levels : Levels) → each_hit F C p (λ rest inside. items_step F C items inside rest) levels (places F C) ≡ each_from F C p items levels 0
+  pub each_all : (levels : Levels) → each_hit F C p (λ rest inside. items_step F C items inside rest) levels (places F C)
+      ≡ each_from F C p items levels 0
   each_all levels = by (length C.switches - 0) (length C.switches) (omega arith)
     where
       by : (n m : ℕ) → n ≡ m → each levels (range_with_len 0 m) ≡ each levels (range_with_len 0 n)
       by n m e = ap (λ k. each levels (range_with_len 0 k)) (sym e)
 
-pub hit_in : (C : Context) (all : List (List ℕ)) (hidden flags : List Bool) (q : switches.Pattern) (p : Pattern) (i : ℕ) (b : Bool) → b ≡ is_hit all hidden q i → all ≡ names C → hidden ≡ flags → q ≡ matching p → b ≡ is_hit (names C) flags (matching p) i
-hit_in C all hidden flags q p i b e a h m = e ∙ ap (λ xs. is_hit xs hidden q i) a ∙ ap (λ xs. is_hit (names C) xs q i) h ∙ ap (λ x. is_hit (names C) flags x i) m
+pub hit_in : (C : Context) (all : List (List ℕ)) (hidden flags : List Bool) (q : switches.Pattern) (p : Pattern) (i : ℕ) (b : Bool)
+    → b ≡ is_hit all hidden q i → all ≡ names C → hidden ≡ flags → q ≡ matching p → b ≡ is_hit (names C) flags (matching p) i
+hit_in C all hidden flags q p i b e a h m = e ∙ ap (λ xs. is_hit xs hidden q i) a ∙ ap (λ xs. is_hit (names C) xs q i) h
+    ∙ ap (λ x. is_hit (names C) flags x i) m
 
 -- the next switch that is hit
 
-pub next_within : (C : Context) (all : List (List ℕ)) (hidden : List Bool) (q : switches.Pattern) (from : ℕ) (found : Option ℕ) → all ≡ names C → IsNextHit all hidden q from found → IfSome found (λ i. (from ≤ i) × (i < length C.switches))
+pub next_within : (C : Context) (all : List (List ℕ)) (hidden : List Bool) (q : switches.Pattern) (from : ℕ) (found : Option ℕ)
+    → all ≡ names C → IsNextHit all hidden q from found → IfSome found (λ i. (from ≤ i) × (i < length C.switches))
 next_within C all hidden q from None ns n = tt
-next_within C all hidden q from (Some i) ns n = (n.0, subst (λ (k : ℕ). i < k) (ap (λ xs. length xs) ns ∙ length-map C.switches (λ switch. switch.name)) n.1)
+next_within C all hidden q from (Some i) ns n = (
+  n.0,
+  subst (λ (k : ℕ). i < k) (ap (λ xs. length xs) ns ∙ length-map C.switches (λ switch. switch.name)) n.1,
+)
 
 module _ (F : Facts) (C : Context) (p : Pattern) (items : Items) (levels : Levels) (s : Machine) where
   -- switches that aren't hit are passed over
-  passed_over : (k from to : ℕ) → to ≡ from + k → ((i : ℕ) → from ≤ i → i < to → (i < length C.switches) × (is_hit (names C) s.world.hidden (matching p) i ≡ false))
+  passed_over : (k from to : ℕ) → to ≡ from + k → ((i : ℕ) → from ≤ i → i < to
+      → (i < length C.switches) × (is_hit (names C) s.world.hidden (matching p) i ≡ false))
       → run F C s (each_from F C p items levels from) ≡ run F C s (each_from F C p items levels to)
   passed_over zero from to e none = ap (λ i. run F C s (each_from F C p items levels i)) (let same : from ≡ to = omega (arith, e) in same)
   passed_over (suc k) from to e none =
       let here = none from (omega arith) (omega (arith, e)) in
-      no_hit F C p items levels s from here.0 false (sym here.1) refl ∙ passed_over k (from + 1) to (omega (arith, e)) (λ i low high. none i (omega (arith, low)) high)
+      no_hit F C p items levels s from here.0 false (sym here.1) refl
+      ∙ passed_over k (from + 1) to (omega (arith, e)) (λ i low high. none i (omega (arith, low)) high)
 
-  pub next_finds : (all : List (List ℕ)) (hidden : List Bool) (q : switches.Pattern) (from : ℕ) (found : Option ℕ) → all ≡ names C → hidden ≡ s.world.hidden → q ≡ matching p → IsNextHit all hidden q from found → NextHit F C s p items levels from found
+  pub next_finds : (all : List (List ℕ)) (hidden : List Bool) (q : switches.Pattern) (from : ℕ) (found : Option ℕ) → all ≡ names C
+      → hidden ≡ s.world.hidden → q ≡ matching p → IsNextHit all hidden q from found → NextHit F C s p items levels from found
   next_finds all hidden q from found ns hs ms n = by found n
     where
       many : length all ≡ length C.switches
@@ -264,9 +339,11 @@ module _ (F : Facts) (C : Context) (p : Pattern) (items : Items) (levels : Level
       by : (o : Option ℕ) → IsNextHit all hidden q from o → NextHit F C s p items levels from o
       by None none =
           passed_over (length C.switches - from) from (from + (length C.switches - from)) refl
-          (λ i low high. let within : i < length C.switches = omega (arith, low, high) in (within, sym (same i) ∙ none i low (omega (arith, within, many))))
+          (λ i low high. let within : i < length C.switches = omega (arith, low, high) in
+          (within, sym (same i) ∙ none i low (omega (arith, within, many))))
           ∙ each_end F C p items levels s (from + (length C.switches - from)) (omega arith)
       by (Some i) next =
           let within : i < length C.switches = omega (arith, next.1, many) in
-          passed_over (i - from) from i (omega (arith, next.0)) (λ j low high. (omega (arith, high, within), sym (same j) ∙ next.3 j low high))
+          passed_over (i - from) from i (omega (arith, next.0))
+          (λ j low high. (omega (arith, high, within), sym (same j) ∙ next.3 j low high))
           ∙ at_hit F C p items levels s i within true (sym (sym (same i) ∙ next.2)) refl

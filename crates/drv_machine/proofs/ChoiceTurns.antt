@@ -1,4 +1,5 @@
-use Rattle.drv_machine.proofs.ChoiceSteps.{ChoicesLeft, as_default, choices_end, each_all, one_asked, one_true, others_there, tests_fail, work_for_each, work_once}
+use Rattle.drv_machine.proofs.ChoiceSteps.{ChoicesLeft, as_default, choices_end, each_all, one_asked, one_true, others_there, tests_fail}
+use Rattle.drv_machine.proofs.ChoiceSteps.{work_for_each, work_once}
 use Rattle.drv_machine.proofs.Lying.{no_skip}
 use Rattle.drv_machine.proofs.Onward.{after_as, entered, leaf, same_step}
 use Rattle.drv_machine.specs.Atoms.{choices_step, first_true, found_step, items_step, judged, matching, worked}
@@ -23,81 +24,111 @@ use Rattle.std.proofs.Common.{◌≡◌, ◌⊎◌, ◌&&◌, ◌<◌, ◌≤◌
 
 -- For `choose` and `enter_alternative`: the walk goes into the alternative that the definition takes.
 
-module _ (F : Facts) (C : Context) (text : List ℕ) (w : Walk) (s t : Machine) (at end : ℕ) (choices : Choices) (given : Answer (Unit {0} × Machine)) (b : Following F C text w end (λ levels star. choices_step F C choices levels star) s given)
+module _ (F : Facts) (C : Context) (text : List ℕ) (w : Walk) (s t : Machine) (at end : ℕ) (choices : Choices)
+    (given : Answer (Unit {0} × Machine)) (b : Following F C text w end (λ levels star. choices_step F C choices levels star) s given)
     (left : (levels : Levels) (star : List ℕ) → ChoicesLeft F C text s t at end choices levels star) where
   -- none is left
   pub none_chosen : end ≤ at → Left F C text (record w { at = end }) t given
   none_chosen h =
       leaf F C text w s given end (λ levels star. choices_step F C choices levels star) b (Ok tt) t
-      (choices_end F C text s t at end h choices (levels_in F C b.arounds) (star_of C w.star) (left (levels_in F C b.arounds) (star_of C w.star)))
+      (choices_end F C text s t at end h choices (levels_in F C b.arounds) (star_of C w.star)
+      (left (levels_in F C b.arounds) (star_of C w.star)))
 
   module _ (h : at < end) (token : Token) (there : slice_get (tokens_of (tree_of text)) at ≡ Some token) (middle : ℕ)
       (first : (nodes : Nodes) → Stands text (at + 1) nodes token.next → Stands text (at + 1) (tests_in nodes) middle)
       (after_first : (nodes : Nodes) → Stands text (at + 1) nodes token.next → Stands text middle (after_tests nodes) token.next) where
     skips : Skips text token.next end
-    skips = others_there F C text s t at end h choices (levels_in F C b.arounds) (star_of C w.star) (left (levels_in F C b.arounds) (star_of C w.star)) token there
+    skips = others_there F C text s t at end h choices (levels_in F C b.arounds) (star_of C w.star)
+        (left (levels_in F C b.arounds) (star_of C w.star)) token there
 
     pub default_chosen : middle ≡ at + 1 → Left F C text (record w { at = middle }) t given
     default_chosen e =
-        as_default F C text s t at end h choices (levels_in F C b.arounds) (star_of C w.star) (left (levels_in F C b.arounds) (star_of C w.star)) token there middle first after_first
-        (λ a. (◌>>-◌ {Y = Unit {0} × Machine} a (λ r. onward F C w.star b.rest b.arounds r.1) ≡ given) → Left F C text (record w { at = middle }) t given) e
+        as_default F C text s t at end h choices (levels_in F C b.arounds) (star_of C w.star)
+        (left (levels_in F C b.arounds) (star_of C w.star)) token there middle first after_first
+        (λ a. (◌>>-◌ {Y = Unit {0} × Machine} a (λ r. onward F C w.star b.rest b.arounds r.1) ≡ given)
+        → Left F C text (record w { at = middle }) t given) e
         (λ items stands same.
         entered F C text w t given items middle token.next stands
-        (after_as F C text w s given end (λ levels star. choices_step F C choices levels star) b token.next skips (λ levels star. items_step F C items levels star) t same))
+        (after_as F C text w s given end (λ levels star. choices_step F C choices levels star) b token.next skips
+        (λ levels star. items_step F C items levels star) t same))
         b.same
 
     module _ (some : middle ≡ at + 1 → ⊥) where
       pub tests_refused : (fault : MachineFault)
-          → ((tests : Tests) (levels : Levels) (star : List ℕ) → Stands text (at + 1) (test_nodes tests) middle → (fault ≡ Memory) ⊎ (run F C t (first_true F C tests levels star) ≡ Is (Err fault)))
+          → ((tests : Tests) (levels : Levels) (star : List ℕ) → Stands text (at + 1) (test_nodes tests) middle
+          → (fault ≡ Memory) ⊎ (run F C t (first_true F C tests levels star) ≡ Is (Err fault)))
           → (fault ≡ Memory) ⊎ (given ≡ Is (Err fault))
       tests_refused fault stopped =
           leaf F C text w s given end (λ levels star. choices_step F C choices levels star) b (Err fault) t
-          (tests_fail F C text s t at end h choices (levels_in F C b.arounds) (star_of C w.star) (left (levels_in F C b.arounds) (star_of C w.star)) token there middle first after_first some fault
+          (tests_fail F C text s t at end h choices (levels_in F C b.arounds) (star_of C w.star)
+          (left (levels_in F C b.arounds) (star_of C w.star)) token there middle first after_first some fault
           (λ tests stands. stopped tests (levels_in F C b.arounds) (star_of C w.star) stands))
 
       pub one_chosen : (u : Machine) (test : ℕ) (P : Type 0)
-          → ((tests : Tests) (levels : Levels) (star : List ℕ) → Stands text (at + 1) (test_nodes tests) middle → TrueTest F C text t u test (first_true F C tests levels star))
-          → ((negated : Bool) (asked : Asked) (items : Items) (others : Step (Unit {0})) → (label_at (tree_of text) at).holds_star ≡ has_star items → label_at (tree_of text) test ≡ test_label negated asked → Stands text middle (nodes_of items) token.next
-          → Following F C text w token.next (λ levels star. worked F C (Some asked) (has_star items) (λ rest inside. items_step F C items inside rest) levels star others) u given → P) → P
+          → ((tests : Tests) (levels : Levels) (star : List ℕ) → Stands text (at + 1) (test_nodes tests) middle
+          → TrueTest F C text t u test (first_true F C tests levels star))
+          → ((negated : Bool) (asked : Asked) (items : Items) (others : Step (Unit {0}))
+          → (label_at (tree_of text) at).holds_star ≡ has_star items → label_at (tree_of text) test ≡ test_label negated asked
+          → Stands text middle (nodes_of items) token.next
+          → Following F C text w token.next (λ levels star. worked F C (Some asked) (has_star items)
+          (λ rest inside. items_step F C items inside rest) levels star others) u given → P) → P
       one_chosen u test P found chosen =
-          one_true F C text s t at end h choices (levels_in F C b.arounds) (star_of C w.star) (left (levels_in F C b.arounds) (star_of C w.star)) token there middle first after_first some u test
+          one_true F C text s t at end h choices (levels_in F C b.arounds) (star_of C w.star)
+          (left (levels_in F C b.arounds) (star_of C w.star)) token there middle first after_first some u test
           (λ a. (◌>>-◌ {Y = Unit {0} × Machine} a (λ r. onward F C w.star b.rest b.arounds r.1) ≡ given) → P)
           (λ tests stands. found tests (levels_in F C b.arounds) (star_of C w.star) stands)
           (λ negated asked items others owns label stands same.
           chosen negated asked items others owns label stands
           (after_as F C text w s given end (λ levels star. choices_step F C choices levels star) b token.next skips
-          (λ levels star. worked F C (Some asked) (has_star items) (λ rest inside. items_step F C items inside rest) levels star others) u same))
+          (λ levels star. worked F C (Some asked) (has_star items) (λ rest inside. items_step F C items inside rest) levels star others) u
+          same))
           b.same
 
-      pub asked_chosen : (u : Machine) (test : ℕ) (at_test : Token) → slice_get (tokens_of (tree_of text)) test ≡ Some at_test → (own : Bool) → own ≡ (label_at (tree_of text) at).holds_star → (P : Type 0)
-          → ((tests : Tests) (levels : Levels) (star : List ℕ) → Stands text (at + 1) (test_nodes tests) middle → AskedTest F C text middle t u test tests levels star)
-          → ((items arguments : Items) (kept : Kept) → AskFits text (record { test = test; from = at_test.next; start = middle; next = token.next; own = own; end = end }) items kept
+      pub asked_chosen : (u : Machine) (test : ℕ) (at_test : Token) → slice_get (tokens_of (tree_of text)) test ≡ Some at_test
+          → (own : Bool) → own ≡ (label_at (tree_of text) at).holds_star → (P : Type 0)
+          → ((tests : Tests) (levels : Levels) (star : List ℕ) → Stands text (at + 1) (test_nodes tests) middle
+          → AskedTest F C text middle t u test tests levels star)
+          → ((items arguments : Items) (kept : Kept) → AskFits text
+          (record { test = test; from = at_test.next; start = middle; next = token.next; own = own; end = end }) items kept
           → Stands text (test + 1) (nodes_of arguments) at_test.next
-          → Following F C text w end (λ levels star. arguments_of F C arguments kept.name levels star >>= judged F C kept.negated kept.asked kept.tests levels star >>= found_step F C items kept.choices levels star) u given → P) → P
+          → Following F C text w end (λ levels star. arguments_of F C arguments kept.name levels star
+          >>= judged F C kept.negated kept.asked kept.tests levels star >>= found_step F C items kept.choices levels star) u given → P)
+          → P
       asked_chosen u test at_test is own owns P found chosen =
-          one_asked F C text s t at end h choices (levels_in F C b.arounds) (star_of C w.star) (left (levels_in F C b.arounds) (star_of C w.star)) token there middle first after_first some u test at_test is own owns
+          one_asked F C text s t at end h choices (levels_in F C b.arounds) (star_of C w.star)
+          (left (levels_in F C b.arounds) (star_of C w.star)) token there middle first after_first some u test at_test is own owns
           (λ a. (◌>>-◌ {Y = Unit {0} × Machine} a (λ r. onward F C w.star b.rest b.arounds r.1) ≡ given) → P)
           (λ tests stands. found tests (levels_in F C b.arounds) (star_of C w.star) stands)
           (λ items arguments kept fits stands same.
           chosen items arguments kept fits stands
           (after_as F C text w s given end (λ levels star. choices_step F C choices levels star) b end (no_skip text end)
-          (λ levels star. arguments_of F C arguments kept.name levels star >>= judged F C kept.negated kept.asked kept.tests levels star >>= found_step F C items kept.choices levels star) u same))
+          (λ levels star. arguments_of F C arguments kept.name levels star >>= judged F C kept.negated kept.asked kept.tests levels star
+          >>= found_step F C items kept.choices levels star) u same))
           b.same
 
 -- an X whose test is true: once, or for each hit
-module _ (F : Facts) (C : Context) (text : List ℕ) (w : Walk) (s : Machine) (test start end : ℕ) (negated : Bool) (asked : Asked) (items : Items) (others : Step (Unit {0})) (given : Answer (Unit {0} × Machine))
+module _ (F : Facts) (C : Context) (text : List ℕ) (w : Walk) (s : Machine) (test start end : ℕ) (negated : Bool) (asked : Asked)
+    (items : Items) (others : Step (Unit {0})) (given : Answer (Unit {0} × Machine))
     (label : label_at (tree_of text) test ≡ test_label negated asked) (stands : Stands text start (nodes_of items) end)
-    (b : Following F C text w end (λ levels star. worked F C (Some asked) (has_star items) (λ rest inside. items_step F C items inside rest) levels star others) s given) (own : Bool) (owns : own ≡ has_star items) (each : Bool)
+    (b : Following F C text w end (λ levels star. worked F C (Some asked) (has_star items)
+    (λ rest inside. items_step F C items inside rest) levels star others) s given) (own : Bool) (owns : own ≡ has_star items)
+    (each : Bool)
     (is : each ≡ (asks_switch (label_at (tree_of text) test) && own)) where
   pub once_entered : each ≡ false → Left F C text (record w { at = start }) s given
   once_entered e =
       entered F C text w s given items start end stands
-      (same_step F C text w s given end (λ levels star. worked F C (Some asked) (has_star items) (λ rest inside. items_step F C items inside rest) levels star others) b (λ levels star. items_step F C items levels star) s
-      (ap (run F C s) (work_once F C text s test start end negated asked items (levels_in F C b.arounds) (star_of C w.star) others label own owns each false is e refl)))
+      (same_step F C text w s given end (λ levels star. worked F C (Some asked) (has_star items)
+      (λ rest inside. items_step F C items inside rest) levels star others) b (λ levels star. items_step F C items levels star) s
+      (ap (run F C s) (work_once F C text s test start end negated asked items (levels_in F C b.arounds)
+      (star_of C w.star) others label own owns each false is e refl)))
 
-  pub each_entered : each ≡ true → (P : Type 0) → ((p : Pattern) → labelled (label_at (tree_of text) test) ≡ matching p → Following F C text w end (λ levels star. each_from F C p items levels 0) s given → P) → P
+  pub each_entered : each ≡ true → (P : Type 0) → ((p : Pattern) → labelled (label_at (tree_of text) test) ≡ matching p
+      → Following F C text w end (λ levels star. each_from F C p items levels 0) s given → P) → P
   each_entered e P enter =
-      let works = work_for_each F C text s test start end negated asked items (levels_in F C b.arounds) (star_of C w.star) others label own owns each true is e refl in
+      let works = work_for_each F C text s test start end negated asked items (levels_in F C b.arounds)
+      (star_of C w.star) others label own owns each true is e refl in
       enter works.pattern (ap labelled label ∙ works.labelled_as)
-      (same_step F C text w s given end (λ levels star. worked F C (Some asked) (has_star items) (λ rest inside. items_step F C items inside rest) levels star others) b (λ levels star. each_from F C works.pattern items levels 0) s
+      (same_step F C text w s given end (λ levels star. worked F C (Some asked) (has_star items)
+      (λ rest inside. items_step F C items inside rest) levels star others) b
+      (λ levels star. each_from F C works.pattern items levels 0) s
       (ap (run F C s) (works.is ∙ each_all F C works.pattern items (levels_in F C b.arounds))))

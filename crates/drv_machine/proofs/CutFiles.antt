@@ -1,14 +1,19 @@
 use Rattle.drv_machine.proofs.CutLines.{Lined, commands_are, inside_lined, lined, or_none, with_texts}
 use Rattle.drv_machine.proofs.Laws.{all_taken-append, then_same, then_then}
-use Rattle.drv_machine.proofs.Runs.{Course, Opened, any_after, bare, bare_ends, breaks, breaks_bare, broken_is, course, ended_as, moved, moves, name_of, open_in, opened_by, over, pipes, pipes_bare, with_word, word_ends, words_moved}
+use Rattle.drv_machine.proofs.Runs.{Course, Opened, any_after, bare, bare_ends, breaks, breaks_bare, broken_is, course, ended_as, moved}
+use Rattle.drv_machine.proofs.Runs.{moves, name_of, open_in, opened_by, over, pipes, pipes_bare, with_word, word_ends, words_moved}
 use Rattle.drv_machine.specs.Context.{Context}
-use Rattle.drv_machine.specs.Cuts.{Bare, Filed, Run, Stretch, begins_file, bounds_file, each, has_stray_pipe, is_broken, is_script, line_of, lines, open_command, opens_word, path, stretch_atoms, texts, without_file, words, words_after}
-use Rattle.drv_machine.specs.Cutting.{Cut, CutLine, NamedLine, all_taken, argument_words, broken, file_begun, file_done, file_words, found_file, found_script, inside_done, line_ended, no_marks, nothing_cut, pipe_done, pipe_ended, script_option, taken, word_done, words_in_file}
+use Rattle.drv_machine.specs.Cuts.{Bare, Filed, Run, Stretch, begins_file, bounds_file, each, has_stray_pipe, is_broken, is_script, line_of}
+use Rattle.drv_machine.specs.Cuts.{lines, open_command, opens_word, path, stretch_atoms, texts, without_file, words, words_after}
+use Rattle.drv_machine.specs.Cutting.{Cut, CutLine, NamedLine, all_taken, argument_words, broken, file_begun, file_done, file_words}
+use Rattle.drv_machine.specs.Cutting.{found_file, found_script, inside_done, line_ended, no_marks, nothing_cut, pipe_done, pipe_ended}
+use Rattle.drv_machine.specs.Cutting.{script_option, taken, word_done, words_in_file}
 use Rattle.drv_machine.specs.Working.{◌>>-◌, Answer, Atom, Break, End, FileFrom, FileTo, From, Marked, Open, Piped, Put, To, Without}
 use Rattle.drv_machine.specs.declared.machine.marking.Marking.{Marking}
 use Rattle.drv_system.specs.Facts.{Facts}
 use Rattle.drv_system.specs.Known.{Is, Unasked}
-use Rattle.std.proofs.Common.{◌≡◌, ◌∙◌, ◌++◌, ◌||◌, Bool, List, [], ◌∷◌, None, Err, Ok, Option, Some, ap, append-nil, append_assoc, false, refl, subst, sym, true, ℕ}
+use Rattle.std.proofs.Common.{◌≡◌, ◌∙◌, ◌++◌, ◌||◌, Bool, List, [], ◌∷◌, None, Err, Ok, Option, Some, ap, append-nil, append_assoc, false}
+use Rattle.std.proofs.Common.{refl, subst, sym, true, ℕ}
 use Rattle.std.proofs.lemmas.Grind.{flat_map-append}
 use Rattle.std.specs.List.{flat_map, list_any}
 use Rattle.std.specs.Prelude.{if◌then◌else◌}
@@ -24,19 +29,24 @@ inside_plain [] c = refl
 inside_plain (None ∷ outer) c = refl
 inside_plain (Some last ∷ outer) c = refl
 
-end_plain : (c : Cut) (outer : Option CutLine) → plain (line_ended (record c { outer = outer })) ≡ plain (line_ended (record (plain c) { outer = outer }))
+end_plain : (c : Cut) (outer : Option CutLine) → plain (line_ended (record c { outer = outer }))
+    ≡ plain (line_ended (record (plain c) { outer = outer }))
 end_plain c None = refl
 end_plain c (Some line) = refl
 
-pipe_words_plain : (c : Cut) (words : List (List ℕ)) → plain (pipe_done (record c { line = record { words = words; piped = c.line.piped } })) ≡ plain (pipe_done (record (plain c) { line = record { words = words; piped = c.line.piped } }))
+pipe_words_plain : (c : Cut) (words : List (List ℕ))
+    → plain (pipe_done (record c { line = record { words = words; piped = c.line.piped } }))
+    ≡ plain (pipe_done (record (plain c) { line = record { words = words; piped = c.line.piped } }))
 pipe_words_plain c [] = refl
 pipe_words_plain c (w ∷ ws) = refl
 
-pipe_plain : (c : Cut) (outer : Option CutLine) → plain (pipe_ended (record c { outer = outer })) ≡ plain (pipe_ended (record (plain c) { outer = outer }))
+pipe_plain : (c : Cut) (outer : Option CutLine) → plain (pipe_ended (record c { outer = outer }))
+    ≡ plain (pipe_ended (record (plain c) { outer = outer }))
 pipe_plain c None = pipe_words_plain (record c { outer = None }) c.line.words
 pipe_plain c (Some line) = refl
 
-file_plain : (c : Cut) (outer : Option CutLine) → plain (file_done (record c { outer = outer })) ≡ plain (file_done (record (plain c) { outer = outer }))
+file_plain : (c : Cut) (outer : Option CutLine) → plain (file_done (record c { outer = outer }))
+    ≡ plain (file_done (record (plain c) { outer = outer }))
 file_plain c None = refl
 file_plain c (Some line) = refl
 
@@ -45,14 +55,16 @@ module _ (F : Facts) (C : Context) where
   as_plain d = Is (Ok (plain d))
 
   broken_by : (c : Cut) (word : Option (List ℕ)) (script file : Bool)
-      → (broken F C (record c { word = word; marks = record c.marks { script = script; file = file } }) >>- as_plain) ≡ (broken F C (record (plain c) { word = word; marks = record c.marks { script = script; file = file } }) >>- as_plain)
+      → (broken F C (record c { word = word; marks = record c.marks { script = script; file = file } }) >>- as_plain)
+      ≡ (broken F C (record (plain c) { word = word; marks = record c.marks { script = script; file = file } }) >>- as_plain)
   broken_by c None script file = refl
   broken_by c (Some word) true file = by (found_script F C word)
     where
       d : Cut
       d = record c { word = Some word; marks = record c.marks { script = true; file = file } }
 
-      by : (a : Answer (List ℕ)) → ((a >>- λ path. Is (Ok (word_done d (script_option ∷ path ∷ []) path))) >>- as_plain) ≡ ((a >>- λ path. Is (Ok (word_done (plain d) (script_option ∷ path ∷ []) path))) >>- as_plain)
+      by : (a : Answer (List ℕ)) → ((a >>- λ path. Is (Ok (word_done d (script_option ∷ path ∷ []) path))) >>- as_plain)
+          ≡ ((a >>- λ path. Is (Ok (word_done (plain d) (script_option ∷ path ∷ []) path))) >>- as_plain)
       by (Is (Ok path)) = refl
       by (Is (Err fault)) = refl
       by Unasked = refl
@@ -61,7 +73,8 @@ module _ (F : Facts) (C : Context) where
       d : Cut
       d = record c { word = Some word; marks = record c.marks { script = false; file = true } }
 
-      by : (a : Answer (List ℕ)) → ((a >>- λ path. Is (Ok (word_done d (path ∷ []) path))) >>- as_plain) ≡ ((a >>- λ path. Is (Ok (word_done (plain d) (path ∷ []) path))) >>- as_plain)
+      by : (a : Answer (List ℕ)) → ((a >>- λ path. Is (Ok (word_done d (path ∷ []) path))) >>- as_plain)
+          ≡ ((a >>- λ path. Is (Ok (word_done (plain d) (path ∷ []) path))) >>- as_plain)
       by (Is (Ok path)) = refl
       by (Is (Err fault)) = refl
       by Unasked = refl
@@ -71,14 +84,17 @@ module _ (F : Facts) (C : Context) where
   broken_plain c = broken_by c c.word c.marks.script c.marks.file
 
   -- a pipe after a word
-  piped_plain : (a b : Answer Cut) → (a >>- as_plain) ≡ (b >>- as_plain) → ((a >>- λ d. Is (Ok (pipe_ended d))) >>- as_plain) ≡ ((b >>- λ d. Is (Ok (pipe_ended d))) >>- as_plain)
+  piped_plain : (a b : Answer Cut) → (a >>- as_plain) ≡ (b >>- as_plain)
+      → ((a >>- λ d. Is (Ok (pipe_ended d))) >>- as_plain) ≡ ((b >>- λ d. Is (Ok (pipe_ended d))) >>- as_plain)
   piped_plain a b e =
       then_then a (λ d. Is (Ok (pipe_ended d))) as_plain
-      ∙ then_same a (λ d. as_plain (pipe_ended d)) (λ d. as_plain (pipe_ended (plain d))) (λ d. ap (λ (x : Cut). Is (Ok x)) (pipe_plain d d.outer))
+      ∙ then_same a (λ d. as_plain (pipe_ended d)) (λ d. as_plain (pipe_ended (plain d)))
+      (λ d. ap (λ (x : Cut). Is (Ok x)) (pipe_plain d d.outer))
       ∙ sym (then_then a as_plain (λ d. as_plain (pipe_ended d)))
       ∙ ap (λ (x : Answer Cut). x >>- λ d. as_plain (pipe_ended d)) e
       ∙ then_then b as_plain (λ d. as_plain (pipe_ended d))
-      ∙ sym (then_same b (λ d. as_plain (pipe_ended d)) (λ d. as_plain (pipe_ended (plain d))) (λ d. ap (λ (x : Cut). Is (Ok x)) (pipe_plain d d.outer)))
+      ∙ sym (then_same b (λ d. as_plain (pipe_ended d)) (λ d. as_plain (pipe_ended (plain d)))
+      (λ d. ap (λ (x : Cut). Is (Ok x)) (pipe_plain d d.outer)))
       ∙ sym (then_then b (λ d. Is (Ok (pipe_ended d))) as_plain)
 
   taken_plain : (c : Cut) (atom : Atom) → (taken F C c atom >>- as_plain) ≡ (taken F C (plain c) atom >>- as_plain)
@@ -95,8 +111,10 @@ module _ (F : Facts) (C : Context) where
   taken_plain c FileTo = ap (λ (x : Cut). Is (Ok x)) (file_plain c c.outer)
 
   -- an atom, and those after it
-  then_plain : (x : Cut) (atom : Atom) (atoms : List Atom) → ((d : Cut) → (all_taken F C d atoms >>- as_plain) ≡ (all_taken F C (plain d) atoms >>- as_plain))
-      → ((taken F C x atom >>- λ d. all_taken F C d atoms) >>- as_plain) ≡ ((taken F C x atom >>- as_plain) >>- λ d. all_taken F C d atoms >>- as_plain)
+  then_plain : (x : Cut) (atom : Atom) (atoms : List Atom)
+      → ((d : Cut) → (all_taken F C d atoms >>- as_plain) ≡ (all_taken F C (plain d) atoms >>- as_plain))
+      → ((taken F C x atom >>- λ d. all_taken F C d atoms) >>- as_plain)
+      ≡ ((taken F C x atom >>- as_plain) >>- λ d. all_taken F C d atoms >>- as_plain)
   then_plain x atom atoms next =
       then_then (taken F C x atom) (λ d. all_taken F C d atoms) as_plain
       ∙ then_same (taken F C x atom) (λ d. all_taken F C d atoms >>- as_plain) (λ d. all_taken F C (plain d) atoms >>- as_plain) next
@@ -109,7 +127,8 @@ module _ (F : Facts) (C : Context) where
       ∙ ap (λ (x : Answer Cut). x >>- λ d. all_taken F C d atoms >>- as_plain) (taken_plain c atom)
       ∙ sym (then_plain (plain c) atom atoms (λ d. all_plain d atoms))
 
-  all_alike : (c d : Cut) (atoms : List Atom) → plain c ≡ plain d → (all_taken F C c atoms >>- as_plain) ≡ (all_taken F C d atoms >>- as_plain)
+  all_alike : (c d : Cut) (atoms : List Atom) → plain c ≡ plain d
+      → (all_taken F C c atoms >>- as_plain) ≡ (all_taken F C d atoms >>- as_plain)
   all_alike c d atoms e = all_plain c atoms ∙ ap (λ (x : Cut). all_taken F C x atoms >>- as_plain) e ∙ sym (all_plain d atoms)
 
 -- what came before an answer
@@ -122,18 +141,22 @@ came (Is (Err fault)) next y e = absurd cc
 came Unasked next y e = absurd cc
 
 -- in a file no command ends, nor with a pipe
-end_in_file : (c : Cut) (outer : Option CutLine) (l : CutLine) → outer ≡ Some l → line_ended (record c { outer = outer }) ≡ record c { outer = outer }
+end_in_file : (c : Cut) (outer : Option CutLine) (l : CutLine) → outer ≡ Some l
+    → line_ended (record c { outer = outer }) ≡ record c { outer = outer }
 end_in_file c None l e = absurd cc
 end_in_file c (Some line) l e = refl
 
-pipe_in_file : (c : Cut) (outer : Option CutLine) (l : CutLine) → outer ≡ Some l → pipe_ended (record c { outer = outer }) ≡ record c { outer = outer }
+pipe_in_file : (c : Cut) (outer : Option CutLine) (l : CutLine) → outer ≡ Some l
+    → pipe_ended (record c { outer = outer }) ≡ record c { outer = outer }
 pipe_in_file c None l e = absurd cc
 pipe_in_file c (Some line) l e = refl
 
 no_pipe_yet : (c : Cut) → c.line.piped ≡ false → record (lined c) { stray = c.stray || c.line.piped } ≡ lined c
-no_pipe_yet c e = ap (λ (b : Bool). record (lined c) { stray = c.stray || b }) e ∙ ap (λ (b : Bool). record (lined c) { stray = b }) (or_none c.stray)
+no_pipe_yet c e = ap (λ (b : Bool). record (lined c) { stray = c.stray || b }) e
+    ∙ ap (λ (b : Bool). record (lined c) { stray = b }) (or_none c.stray)
 
-moved_in_file : (c : Cut) (atom : Atom) (l : CutLine) → bounds_file atom ≡ false → c.outer ≡ Some l → c.line.piped ≡ false → lined (moved c atom) ≡ lined c
+moved_in_file : (c : Cut) (atom : Atom) (l : CutLine) → bounds_file atom ≡ false → c.outer ≡ Some l → c.line.piped ≡ false
+    → lined (moved c atom) ≡ lined c
 moved_in_file c (Put b) l n o p = no_pipe_yet c p
 moved_in_file c Open l n o p = no_pipe_yet c p
 moved_in_file c Break l n o p = refl
@@ -161,49 +184,72 @@ pub record Within (F : Facts) (C : Context) (l m : Lined) (found : List Run) : T
   pub words : m.line.words ≡ l.line.words ++ flat_map (λ list. list) lists
 
 module _ (F : Facts) (C : Context) where
-  within_word : (l m : Lined) (w : Run) (list : List (List ℕ)) (found : List Run) → texts F C w ≡ Is (Ok list) → Within F C (with_texts l list) m found → Within F C l m (w ∷ found)
+  within_word : (l m : Lined) (w : Run) (list : List (List ℕ)) (found : List Run) → texts F C w ≡ Is (Ok list)
+      → Within F C (with_texts l list) m found → Within F C l m (w ∷ found)
   within_word l m w list found is rest = record {
     outer = rest.outer;
     lines = rest.lines;
     stray = rest.stray;
     piped = rest.piped;
     lists = list ∷ rest.lists;
-    all = ap (λ (a : Answer (List (List ℕ))). a >>- λ y. each (texts F C) found >>- λ ys. Is (Ok (y ∷ ys))) is ∙ ap (λ (a : Answer (List (List (List ℕ)))). a >>- λ ys. Is (Ok (list ∷ ys))) rest.all;
+    all = ap (λ (a : Answer (List (List ℕ))). a >>- λ y. each (texts F C) found >>- λ ys. Is (Ok (y ∷ ys))) is
+        ∙ ap (λ (a : Answer (List (List (List ℕ)))). a >>- λ ys. Is (Ok (list ∷ ys))) rest.all;
     words = rest.words ∙ append_assoc l.line.words list (flat_map (λ ws. ws) rest.lists);
   }
 
   texts_are : (run atoms : List Atom) (name : List ℕ) → path F C (record { atoms = run; following = atoms }) ≡ Is (Ok name)
-      → texts F C (record { atoms = run; following = atoms }) ≡ Is (Ok (if list_any is_script run then script_option ∷ name ∷ [] else name ∷ []))
-  texts_are run atoms name is = ap (λ (a : Answer (List ℕ)). a >>- λ n. Is (Ok (if list_any is_script run then script_option ∷ n ∷ [] else n ∷ []))) is
+      → texts F C (record { atoms = run; following = atoms })
+      ≡ Is (Ok (if list_any is_script run then script_option ∷ name ∷ [] else name ∷ []))
+  texts_are run atoms name is = ap (λ (a : Answer (List ℕ)). a
+      >>- λ n. Is (Ok (if list_any is_script run then script_option ∷ n ∷ [] else n ∷ []))) is
 
   -- at the end of a run
-  word_within : (c d : Cut) (run atoms : List Atom) (name : List ℕ) → list_any opens_word run ≡ true → path F C (record { atoms = run; following = atoms }) ≡ Is (Ok name)
-      → Within F C (lined (with_word c (opened_by run) name)) (lined d) (words_after [] atoms) → Within F C (lined c) (lined d) (words_after run (Break ∷ atoms))
+  word_within : (c d : Cut) (run atoms : List Atom) (name : List ℕ) → list_any opens_word run ≡ true
+      → path F C (record { atoms = run; following = atoms }) ≡ Is (Ok name)
+      → Within F C (lined (with_word c (opened_by run) name)) (lined d) (words_after [] atoms)
+      → Within F C (lined c) (lined d) (words_after run (Break ∷ atoms))
   word_within c d run atoms name some is rest =
       subst (λ (found : List Run). Within F C (lined c) (lined d) found) (sym (word_ends run atoms some))
-      (within_word (lined c) (lined d) (record { atoms = run; following = atoms }) (if list_any is_script run then script_option ∷ name ∷ [] else name ∷ []) (words_after [] atoms) (texts_are run atoms name is) rest)
+      (within_word (lined c) (lined d) (record { atoms = run; following = atoms })
+      (if list_any is_script run then script_option ∷ name ∷ [] else name ∷ []) (words_after [] atoms)
+      (texts_are run atoms name is) rest)
 
-  bare_within : (l m : Lined) (run atoms : List Atom) → list_any opens_word run ≡ false → Within F C l m (words_after [] atoms) → Within F C l m (words_after run (Break ∷ atoms))
+  bare_within : (l m : Lined) (run atoms : List Atom) → list_any opens_word run ≡ false → Within F C l m (words_after [] atoms)
+      → Within F C l m (words_after run (Break ∷ atoms))
   bare_within l m run atoms none rest = subst (λ (found : List Run). Within F C l m found) (sym (bare_ends run atoms none)) rest
 
-  pub within : {run atoms : List Atom} {c d : Cut} → Course F C run c atoms d → list_any bounds_file atoms ≡ false → (l : CutLine) → c.outer ≡ Some l → c.line.piped ≡ false → Within F C (lined c) (lined d) (words_after run atoms)
-  within (over {c = c}) n l o p = record { outer = refl; lines = refl; stray = refl; piped = refl; lists = []; all = refl; words = sym (append-nil c.line.words) }
+  pub within : {run atoms : List Atom} {c d : Cut} → Course F C run c atoms d → list_any bounds_file atoms ≡ false → (l : CutLine)
+      → c.outer ≡ Some l → c.line.piped ≡ false → Within F C (lined c) (lined d) (words_after run atoms)
+  within (over {c = c}) n l o p = record {
+    outer = refl;
+    lines = refl;
+    stray = refl;
+    piped = refl;
+    lists = [];
+    all = refl;
+    words =
+        sym (append-nil c.line.words);
+  }
   within (moves {run = run} {atoms = atoms} {c = c} {d = d} atom e rest) n l o p =
       let bounds = not_first (bounds_file atom) (list_any bounds_file atoms) n in
       let same = moved_in_file c atom l bounds.0 o p in
       subst (λ (found : List Run). Within F C (lined c) (lined d) found) (sym (words_moved run atoms atom e))
       (subst (λ (x : Lined). Within F C x (lined d) (words_after (run ++ atom ∷ []) atoms)) same
       (within rest bounds.1 l (ap (λ (x : Lined). x.outer) same ∙ o) (ap (λ (x : Lined). x.line.piped) same ∙ p)))
-  within (breaks_bare {run = run} {atoms = atoms} {c = c} {d = d} none rest) n l o p = bare_within (lined c) (lined d) run atoms none (within rest n l o p)
+  within (breaks_bare {run = run} {atoms = atoms} {c = c} {d = d} none rest) n l o p =
+      bare_within (lined c) (lined d) run atoms none (within rest n l o p)
   within (pipes_bare {run = run} {atoms = atoms} {c = c} {d = d} none rest) n l o p =
       let same = pipe_in_file (bare c) c.outer l o in
       bare_within (lined c) (lined d) run atoms none
-      (subst (λ (x : Cut). Within F C (lined x) (lined d) (words_after [] atoms)) same (within rest n l (ap (λ (x : Cut). x.outer) same ∙ o) (ap (λ (x : Cut). x.line.piped) same ∙ p)))
-  within (breaks {run = run} {atoms = atoms} {c = c} {d = d} name some is rest) n l o p = word_within c d run atoms name some is (within rest n l o p)
+      (subst (λ (x : Cut). Within F C (lined x) (lined d) (words_after [] atoms)) same
+      (within rest n l (ap (λ (x : Cut). x.outer) same ∙ o) (ap (λ (x : Cut). x.line.piped) same ∙ p)))
+  within (breaks {run = run} {atoms = atoms} {c = c} {d = d} name some is rest) n l o p =
+      word_within c d run atoms name some is (within rest n l o p)
   within (pipes {run = run} {atoms = atoms} {c = c} {d = d} name some is rest) n l o p =
       let same = pipe_in_file (with_word c (opened_by run) name) c.outer l o in
       word_within c d run atoms name some is
-      (subst (λ (x : Cut). Within F C (lined x) (lined d) (words_after [] atoms)) same (within rest n l (ap (λ (x : Cut). x.outer) same ∙ o) (ap (λ (x : Cut). x.line.piped) same ∙ p)))
+      (subst (λ (x : Cut). Within F C (lined x) (lined d) (words_after [] atoms)) same
+      (within rest n l (ap (λ (x : Cut). x.outer) same ∙ o) (ap (λ (x : Cut). x.line.piped) same ∙ p)))
 
   bounds_after : (atoms : List Atom) → list_any bounds_file atoms ≡ false → list_any bounds_file (atoms ++ Break ∷ []) ≡ false
   bounds_after [] n = refl
@@ -212,20 +258,25 @@ module _ (F : Facts) (C : Context) where
       ap (λ (b : Bool). b || list_any bounds_file (atoms ++ Break ∷ [])) bounds.0 ∙ bounds_after atoms bounds.1
 
   -- the words of a file
-  words_within : (d : Cut) (outer : Option CutLine) → outer ≡ Some nothing_cut.line → words_in_file (record d { outer = outer }) ≡ d.line.words
+  words_within : (d : Cut) (outer : Option CutLine) → outer ≡ Some nothing_cut.line
+      → words_in_file (record d { outer = outer }) ≡ d.line.words
   words_within d None e = absurd cc
   words_within d (Some line) e = refl
 
-  pub file_words_are : (atoms : List Atom) (found : List (List ℕ)) → list_any bounds_file atoms ≡ false → file_words F C atoms ≡ Is (Ok found)
+  pub file_words_are : (atoms : List Atom) (found : List (List ℕ)) → list_any bounds_file atoms ≡ false
+      → file_words F C atoms ≡ Is (Ok found)
       → (each (texts F C) (words (atoms ++ Break ∷ [])) >>- λ lists. Is (Ok (flat_map (λ list. list) lists))) ≡ Is (Ok found)
-  file_words_are atoms found n e = by (came (all_taken F C (file_begun nothing_cut) (atoms ++ Break ∷ [])) (λ c. Is (Ok (words_in_file c))) found e)
+  file_words_are atoms found n e = by (came (all_taken F C (file_begun nothing_cut) (atoms ++ Break ∷ []))
+      (λ c. Is (Ok (words_in_file c))) found e)
     where
       by : Came (all_taken F C (file_begun nothing_cut) (atoms ++ Break ∷ [])) (λ c. Is (Ok (words_in_file c))) found
           → (each (texts F C) (words (atoms ++ Break ∷ [])) >>- λ lists. Is (Ok (flat_map (λ list. list) lists))) ≡ Is (Ok found)
       by (d, went, is) =
-          let w = within (course F C [] (file_begun nothing_cut) (atoms ++ Break ∷ []) d refl went) (bounds_after atoms n) nothing_cut.line refl refl in
+          let w = within (course F C [] (file_begun nothing_cut) (atoms ++ Break ∷ []) d refl went)
+          (bounds_after atoms n) nothing_cut.line refl refl in
           ap (λ (a : Answer (List (List (List ℕ)))). a >>- λ lists. Is (Ok (flat_map (λ list. list) lists))) w.all
-          ∙ ap (λ (ws : List (List ℕ)). Is (Ok ws)) (sym w.words) ∙ ap (λ (ws : List (List ℕ)). Is (Ok ws)) (sym (words_within d d.outer w.outer)) ∙ is
+          ∙ ap (λ (ws : List (List ℕ)). Is (Ok ws)) (sym w.words)
+          ∙ ap (λ (ws : List (List ℕ)). Is (Ok ws)) (sym (words_within d d.outer w.outer)) ∙ is
 
 -- no word is open
 abbrev Closed : Cut → Type 0
@@ -236,7 +287,8 @@ open_of word marks barred = open_in (record nothing_cut { word = word; marks = m
 
 closed_opens : (d : Cut) → Closed d → open_in d ≡ opened_by []
 closed_opens d e =
-    ap (λ (w : Option (List ℕ)). open_of w d.marks d.barred) e.0 ∙ ap (λ (m : Marking). open_of None m d.barred) e.1 ∙ ap (λ (b : Bool). open_of None no_marks b) e.2
+    ap (λ (w : Option (List ℕ)). open_of w d.marks d.barred) e.0 ∙ ap (λ (m : Marking). open_of None m d.barred) e.1
+    ∙ ap (λ (b : Bool). open_of None no_marks b) e.2
 
 -- one cut, but for what a file leaves
 abbrev cut_of : Option (List ℕ) → Marking → Bool → CutLine → List NamedLine → Bool → Option CutLine → Cut
@@ -254,7 +306,8 @@ cut_of word marks barred line lines stray outer = record {
   inside = [];
 }
 
-same_plain : (x y : Cut) (line : CutLine) (outer : Option CutLine) → Closed x → Closed y → y.lines ≡ x.lines → y.stray ≡ x.stray → outer ≡ None
+same_plain : (x y : Cut) (line : CutLine) (outer : Option CutLine) → Closed x → Closed y → y.lines ≡ x.lines → y.stray ≡ x.stray
+    → outer ≡ None
     → cut_of y.word y.marks y.barred line y.lines y.stray None ≡ cut_of x.word x.marks x.barred line x.lines x.stray outer
 same_plain x y line outer a b lines stray out =
     ap (λ (w : Option (List ℕ)). cut_of w y.marks y.barred line y.lines y.stray None) (b.0 ∙ sym a.0)
@@ -264,7 +317,8 @@ same_plain x y line outer a b lines stray out =
     ∙ ap (λ (z : Bool). cut_of x.word x.marks x.barred line x.lines z None) stray
     ∙ ap (λ (o : Option CutLine). cut_of x.word x.marks x.barred line x.lines x.stray o) (sym out)
 
-file_back : (y : Cut) (outer : Option CutLine) (l : CutLine) → outer ≡ Some l → plain (file_done (record y { outer = outer })) ≡ plain (record y { outer = None; line = l })
+file_back : (y : Cut) (outer : Option CutLine) (l : CutLine) → outer ≡ Some l
+    → plain (file_done (record y { outer = outer })) ≡ plain (record y { outer = None; line = l })
 file_back y None l e = absurd cc
 file_back y (Some line) l e = let same : line ≡ l = cc in ap (λ (x : CutLine). plain (record y { outer = None; line = x })) same
 
@@ -272,7 +326,8 @@ end_outside : (c : Cut) (outer : Option CutLine) → (line_ended (record c { out
 end_outside c None = refl
 end_outside c (Some line) = refl
 
-words_outside : (c : Cut) (words : List (List ℕ)) → (pipe_done (record c { line = record { words = words; piped = c.line.piped } })).outer ≡ c.outer
+words_outside : (c : Cut) (words : List (List ℕ)) → (pipe_done (record c { line = record { words = words; piped = c.line.piped } })).outer
+    ≡ c.outer
 words_outside c [] = refl
 words_outside c (w ∷ ws) = refl
 
@@ -287,12 +342,14 @@ module _ (F : Facts) (C : Context) where
     where
       by : (begun : Bool) (name : Answer (List ℕ)) → ended_as F C c (open_in c) begun name ≡ Is (Ok d) → Closed d × (d.outer ≡ c.outer)
       by false name w = let same : bare c ≡ d = cc in subst (λ (x : Cut). Closed x × (x.outer ≡ c.outer)) same ((refl, refl, refl), refl)
-      by true (Is (Ok name)) w = let same : with_word c (open_in c) name ≡ d = cc in subst (λ (x : Cut). Closed x × (x.outer ≡ c.outer)) same ((refl, refl, refl), refl)
+      by true (Is (Ok name)) w = let same : with_word c (open_in c) name ≡ d = cc in
+          subst (λ (x : Cut). Closed x × (x.outer ≡ c.outer)) same ((refl, refl, refl), refl)
       by true (Is (Err fault)) w = absurd cc
       by true Unasked w = absurd cc
 
   piped_outside : (c d : Cut) → Came (broken F C c) (λ x. Is (Ok (pipe_ended x))) d → d.outer ≡ c.outer
-  piped_outside c d (x, is, e) = let same : pipe_ended x ≡ d = cc in ap (λ (y : Cut). y.outer) (sym same) ∙ pipe_outside x x.outer ∙ (broken_closed c x is).1
+  piped_outside c d (x, is, e) = let same : pipe_ended x ≡ d = cc in ap (λ (y : Cut). y.outer) (sym same) ∙ pipe_outside x x.outer
+      ∙ (broken_closed c x is).1
 
   abbrev gone : Cut → Answer Cut
   gone x = Is (Ok x)
@@ -315,10 +372,12 @@ module _ (F : Facts) (C : Context) where
 
   -- from the break before a file to its end
   abbrev AfterFile : Cut → List Atom → Cut → Type 0
-  AfterFile c rest d = (x : Cut) × (y : Cut) × (broken F C c ≡ Is (Ok x)) × (plain y ≡ plain x) × (y.outer ≡ None) × (all_taken F C y rest ≡ Is (Ok d))
+  AfterFile c rest d = (x : Cut) × (y : Cut) × (broken F C c ≡ Is (Ok x)) × (plain y ≡ plain x) × (y.outer ≡ None)
+      × (all_taken F C y rest ≡ Is (Ok d))
 
   file_closed : (x y : Cut) (atoms : List Atom) → all_taken F C x (atoms ++ Break ∷ []) ≡ Is (Ok y) → Closed y
-  file_closed x y atoms e = by (came (all_taken F C x atoms) (λ z. all_taken F C z (Break ∷ [])) y (sym (all_taken-append F C x atoms (Break ∷ [])) ∙ e))
+  file_closed x y atoms e = by (came (all_taken F C x atoms) (λ z. all_taken F C z (Break ∷ [])) y
+      (sym (all_taken-append F C x atoms (Break ∷ [])) ∙ e))
     where
       from : (z : Cut) → Came (broken F C z) (λ u. Is (Ok u)) y → Closed y
       from z (u, is, e) = let same : u ≡ y = cc in subst Closed same (broken_closed z u is).0
@@ -326,26 +385,33 @@ module _ (F : Facts) (C : Context) where
       by : Came (all_taken F C x atoms) (λ z. all_taken F C z (Break ∷ [])) y → Closed y
       by (z, is, e) = from z (came (broken F C z) (λ u. Is (Ok u)) y e)
 
-  file_end : (c x y d : Cut) (atoms rest : List Atom) → list_any bounds_file atoms ≡ false → c.outer ≡ None → broken F C c ≡ Is (Ok x) → all_taken F C (file_begun x) (atoms ++ Break ∷ []) ≡ Is (Ok y)
+  file_end : (c x y d : Cut) (atoms rest : List Atom) → list_any bounds_file atoms ≡ false → c.outer ≡ None → broken F C c ≡ Is (Ok x)
+      → all_taken F C (file_begun x) (atoms ++ Break ∷ []) ≡ Is (Ok y)
       → all_taken F C (file_done y) rest ≡ Is (Ok d) → AfterFile c rest d
   file_end c x y d atoms rest n o is went e =
       let closed = broken_closed c x is in
-      let w = within F C (course F C [] (file_begun x) (atoms ++ Break ∷ []) y (closed_opens x closed.0) went) (bounds_after F C atoms n) x.line refl refl in
+      let w = within F C (course F C [] (file_begun x) (atoms ++ Break ∷ []) y (closed_opens x closed.0) went)
+      (bounds_after F C atoms n) x.line refl refl in
       let outside : x.outer ≡ None = closed.1 ∙ o in
-      let same : plain (file_done y) ≡ plain x = file_back y y.outer x.line w.outer ∙ same_plain x y x.line x.outer closed.0 (file_closed (file_begun x) y atoms went) w.lines w.stray outside in
+      let same : plain (file_done y) ≡ plain x = file_back y y.outer x.line w.outer
+      ∙ same_plain x y x.line x.outer closed.0 (file_closed (file_begun x) y atoms went) w.lines w.stray outside in
       (x, file_done y, is, same, ap (λ (u : Cut). u.outer) same ∙ outside, e)
 
-  after_file : (c d : Cut) (atoms rest : List Atom) → list_any bounds_file atoms ≡ false → c.outer ≡ None → all_taken F C c (stretch_atoms (Filed atoms) ++ rest) ≡ Is (Ok d) → AfterFile c rest d
-  after_file c d atoms rest n o e = by (came (broken F C c) (λ x. all_taken F C (file_begun x) ((atoms ++ Break ∷ FileTo ∷ []) ++ rest)) d e)
+  after_file : (c d : Cut) (atoms rest : List Atom) → list_any bounds_file atoms ≡ false → c.outer ≡ None
+      → all_taken F C c (stretch_atoms (Filed atoms) ++ rest) ≡ Is (Ok d) → AfterFile c rest d
+  after_file c d atoms rest n o e = by (came (broken F C c)
+      (λ x. all_taken F C (file_begun x) ((atoms ++ Break ∷ FileTo ∷ []) ++ rest)) d e)
     where
-      within_file : (x : Cut) → broken F C c ≡ Is (Ok x) → Came (all_taken F C (file_begun x) (atoms ++ Break ∷ [])) (λ y. all_taken F C y (FileTo ∷ rest)) d → AfterFile c rest d
+      within_file : (x : Cut) → broken F C c ≡ Is (Ok x)
+          → Came (all_taken F C (file_begun x) (atoms ++ Break ∷ [])) (λ y. all_taken F C y (FileTo ∷ rest)) d → AfterFile c rest d
       within_file x is (y, went, last) = file_end c x y d atoms rest n o is went last
 
       by : Came (broken F C c) (λ x. all_taken F C (file_begun x) ((atoms ++ Break ∷ FileTo ∷ []) ++ rest)) d → AfterFile c rest d
       by (x, is, e) =
           within_file x is (came (all_taken F C (file_begun x) (atoms ++ Break ∷ [])) (λ y. all_taken F C y (FileTo ∷ rest)) d
           (sym (all_taken-append F C (file_begun x) (atoms ++ Break ∷ []) (FileTo ∷ rest))
-          ∙ ap (all_taken F C (file_begun x)) (append_assoc atoms (Break ∷ []) (FileTo ∷ rest) ∙ sym (append_assoc atoms (Break ∷ FileTo ∷ []) rest)) ∙ e))
+          ∙ ap (all_taken F C (file_begun x)) (append_assoc atoms (Break ∷ []) (FileTo ∷ rest)
+          ∙ sym (append_assoc atoms (Break ∷ FileTo ∷ []) rest)) ∙ e))
 
   -- a list, and without its files
   abbrev Alike : List Stretch → Cut → Cut → Type 0
@@ -355,7 +421,8 @@ module _ (F : Facts) (C : Context) where
       → ((x : Cut) → x.outer ≡ None → all_taken F C x (flat_map stretch_atoms stretches) ≡ Is (Ok d) → Alike stretches x d)
       → Came (taken F C c atom) (λ x. all_taken F C x (flat_map stretch_atoms stretches)) d → Alike (Bare atom ∷ stretches) c d
   bare_alike atom stretches c d n o goes (x, is, e) =
-      ap (λ (a : Answer Cut). (a >>- λ y. all_taken F C y (flat_map without_file stretches)) >>- as_plain F C) is ∙ goes x (bare_outside c x atom n is ∙ o) e
+      ap (λ (a : Answer Cut). (a >>- λ y. all_taken F C y (flat_map without_file stretches)) >>- as_plain F C) is
+      ∙ goes x (bare_outside c x atom n is ∙ o) e
 
   file_alike : (atoms : List Atom) (stretches : List Stretch) (c d : Cut)
       → ((x : Cut) → x.outer ≡ None → all_taken F C x (flat_map stretch_atoms stretches) ≡ Is (Ok d) → Alike stretches x d)
@@ -364,24 +431,29 @@ module _ (F : Facts) (C : Context) where
       ap (λ (a : Answer Cut). (a >>- λ z. all_taken F C z (flat_map without_file stretches)) >>- as_plain F C) is
       ∙ all_alike F C x y (flat_map without_file stretches) (sym same) ∙ goes y o e
 
-  alike : (stretches : List Stretch) (c d : Cut) → list_any is_broken stretches ≡ false → c.outer ≡ None → all_taken F C c (flat_map stretch_atoms stretches) ≡ Is (Ok d) → Alike stretches c d
+  alike : (stretches : List Stretch) (c d : Cut) → list_any is_broken stretches ≡ false → c.outer ≡ None
+      → all_taken F C c (flat_map stretch_atoms stretches) ≡ Is (Ok d) → Alike stretches c d
   alike [] c d n o e = ap (λ (a : Answer Cut). a >>- as_plain F C) e
   alike (Bare atom ∷ stretches) c d n o e =
       let whole = not_first (bounds_file atom) (list_any is_broken stretches) n in
-      bare_alike atom stretches c d whole.0 o (λ x. alike stretches x d whole.1) (came (taken F C c atom) (λ x. all_taken F C x (flat_map stretch_atoms stretches)) d e)
+      bare_alike atom stretches c d whole.0 o (λ x. alike stretches x d whole.1)
+      (came (taken F C c atom) (λ x. all_taken F C x (flat_map stretch_atoms stretches)) d e)
   alike (Filed atoms ∷ stretches) c d n o e =
       let whole = not_first (list_any bounds_file atoms) (list_any is_broken stretches) n in
-      file_alike atoms stretches c d (λ x. alike stretches x d whole.1) (after_file c d atoms (flat_map stretch_atoms stretches) whole.0 o e)
+      file_alike atoms stretches c d (λ x. alike stretches x d whole.1)
+      (after_file c d atoms (flat_map stretch_atoms stretches) whole.0 o e)
 
 begins_none : (atom : Atom) → bounds_file atom ≡ false → begins_file atom ≡ false
 begins_none FileFrom n = absurd cc
 begins_none _ n = refl
 
-none_begins : (stretches : List Stretch) → list_any is_broken stretches ≡ false → list_any begins_file (flat_map without_file stretches) ≡ false
+none_begins : (stretches : List Stretch) → list_any is_broken stretches ≡ false
+    → list_any begins_file (flat_map without_file stretches) ≡ false
 none_begins [] n = refl
 none_begins (Bare atom ∷ stretches) n =
     let whole = not_first (bounds_file atom) (list_any is_broken stretches) n in
-    ap (λ (b : Bool). b || list_any begins_file (flat_map without_file stretches)) (begins_none atom whole.0) ∙ none_begins stretches whole.1
+    ap (λ (b : Bool). b || list_any begins_file (flat_map without_file stretches)) (begins_none atom whole.0)
+    ∙ none_begins stretches whole.1
 none_begins (Filed atoms ∷ stretches) n = none_begins stretches (not_first (list_any bounds_file atoms) (list_any is_broken stretches) n).1
 
 module _ (F : Facts) (C : Context) where
@@ -390,36 +462,51 @@ module _ (F : Facts) (C : Context) where
       (lines F C (flat_map without_file stretches) ≡ Is (Ok c.lines)) × (has_stray_pipe (flat_map without_file stretches) ≡ c.stray)
       × (line_of F C (open_command [] [] (flat_map without_file stretches)) ≡ Is (Ok c.line))
 
-  pub around_files : (stretches : List Stretch) (c : Cut) → list_any is_broken stretches ≡ false → all_taken F C nothing_cut (flat_map stretch_atoms stretches) ≡ Is (Ok c) → Around stretches c
-  around_files stretches c n e = by (came (all_taken F C nothing_cut (flat_map without_file stretches)) (as_plain F C) (plain c) (alike F C stretches nothing_cut c n refl e))
+  pub around_files : (stretches : List Stretch) (c : Cut) → list_any is_broken stretches ≡ false
+      → all_taken F C nothing_cut (flat_map stretch_atoms stretches) ≡ Is (Ok c) → Around stretches c
+  around_files stretches c n e = by (came (all_taken F C nothing_cut (flat_map without_file stretches)) (as_plain F C) (plain c)
+      (alike F C stretches nothing_cut c n refl e))
     where
       by : Came (all_taken F C nothing_cut (flat_map without_file stretches)) (as_plain F C) (plain c) → Around stretches c
       by (d, is, e) =
           let same : plain d ≡ plain c = cc in
-          let found = commands_are F C (flat_map without_file stretches) d (none_begins stretches n) is in
-          (found.0 ∙ ap (λ (x : Cut). Is (Ok x.lines)) same, found.1 ∙ ap (λ (x : Cut). x.stray) same, found.2 ∙ ap (λ (x : Cut). Is (Ok x.line)) same)
+          let found = commands_are F C (flat_map without_file stretches) d (none_begins stretches n) is in (
+            found.0 ∙ ap (λ (x : Cut). Is (Ok x.lines)) same,
+            found.1 ∙ ap (λ (x : Cut). x.stray) same,
+            found.2
+                ∙ ap (λ (x : Cut). Is (Ok x.line)) same,
+          )
 
-  pub lines_around : (stretches : List Stretch) (c : Cut) → list_any is_broken stretches ≡ false → all_taken F C nothing_cut (flat_map stretch_atoms stretches) ≡ Is (Ok c)
+  pub lines_around : (stretches : List Stretch) (c : Cut) → list_any is_broken stretches ≡ false
+      → all_taken F C nothing_cut (flat_map stretch_atoms stretches) ≡ Is (Ok c)
       → lines F C (flat_map without_file stretches) ≡ Is (Ok c.lines)
   lines_around stretches c n e = (around_files stretches c n e).0
 
-  pub stray_around : (stretches : List Stretch) (c : Cut) → list_any is_broken stretches ≡ false → all_taken F C nothing_cut (flat_map stretch_atoms stretches) ≡ Is (Ok c)
+  pub stray_around : (stretches : List Stretch) (c : Cut) → list_any is_broken stretches ≡ false
+      → all_taken F C nothing_cut (flat_map stretch_atoms stretches) ≡ Is (Ok c)
       → has_stray_pipe (flat_map without_file stretches) ≡ c.stray
   stray_around stretches c n e = (around_files stretches c n e).1
 
   -- arguments
-  with_break : (f : Stretch → List Atom) (stretches : List Stretch) → f (Bare Break) ≡ Break ∷ [] → flat_map f (stretches ++ Bare Break ∷ []) ≡ flat_map f stretches ++ Break ∷ []
-  with_break f stretches e = flat_map-append f stretches (Bare Break ∷ []) ∙ ap (λ (atoms : List Atom). flat_map f stretches ++ atoms) (append-nil (f (Bare Break)) ∙ e)
+  with_break : (f : Stretch → List Atom) (stretches : List Stretch) → f (Bare Break) ≡ Break ∷ []
+      → flat_map f (stretches ++ Bare Break ∷ []) ≡ flat_map f stretches ++ Break ∷ []
+  with_break f stretches e = flat_map-append f stretches (Bare Break ∷ [])
+      ∙ ap (λ (atoms : List Atom). flat_map f stretches ++ atoms) (append-nil (f (Bare Break)) ∙ e)
 
   abbrev words_around : List Stretch → Answer (List (List ℕ))
   words_around stretches = line_of F C (open_command [] [] (flat_map without_file stretches ++ Break ∷ [])) >>- λ line. Is (Ok line.words)
 
-  pub arguments_around : (stretches : List Stretch) (found : List (List ℕ)) → list_any is_broken stretches ≡ false → argument_words F C (flat_map stretch_atoms stretches) ≡ Is (Ok found) → words_around stretches ≡ Is (Ok found)
-  arguments_around stretches found n e = by (came (all_taken F C nothing_cut (flat_map stretch_atoms stretches ++ Break ∷ [])) (λ c. Is (Ok c.line.words)) found e)
+  pub arguments_around : (stretches : List Stretch) (found : List (List ℕ)) → list_any is_broken stretches ≡ false
+      → argument_words F C (flat_map stretch_atoms stretches) ≡ Is (Ok found) → words_around stretches ≡ Is (Ok found)
+  arguments_around stretches found n e = by (came (all_taken F C nothing_cut (flat_map stretch_atoms stretches ++ Break ∷ []))
+      (λ c. Is (Ok c.line.words)) found e)
     where
-      by : Came (all_taken F C nothing_cut (flat_map stretch_atoms stretches ++ Break ∷ [])) (λ c. Is (Ok c.line.words)) found → words_around stretches ≡ Is (Ok found)
+      by : Came (all_taken F C nothing_cut (flat_map stretch_atoms stretches ++ Break ∷ [])) (λ c. Is (Ok c.line.words)) found
+          → words_around stretches ≡ Is (Ok found)
       by (c, is, e) =
-          ap (λ (atoms : List Atom). line_of F C (open_command [] [] atoms) >>- λ line. Is (Ok line.words)) (sym (with_break without_file stretches refl))
+          ap (λ (atoms : List Atom). line_of F C (open_command [] [] atoms) >>- λ line. Is (Ok line.words))
+          (sym (with_break without_file stretches refl))
           ∙ ap (λ (a : Answer CutLine). a >>- λ line. Is (Ok line.words))
-          (around_files (stretches ++ Bare Break ∷ []) c (any_after is_broken stretches (Bare Break) ∙ n) (ap (all_taken F C nothing_cut) (with_break stretch_atoms stretches refl) ∙ is)).2
+          (around_files (stretches ++ Bare Break ∷ []) c (any_after is_broken stretches (Bare Break) ∙ n)
+          (ap (all_taken F C nothing_cut) (with_break stretch_atoms stretches refl) ∙ is)).2
           ∙ e

@@ -14,7 +14,8 @@ abbrev pub open_parts : Enclosed → Cut → ℕ
 open_parts Failure c = length c.inside
 open_parts File c = length (option_to_list c.outer)
 
-to_parts : (inside : List (Option (List ℕ))) (c : Cut) (rest : ℕ → Option ℕ) (n : ℕ) → option_and_then rest (open_after To Failure (length inside)) ≡ Some n
+to_parts : (inside : List (Option (List ℕ))) (c : Cut) (rest : ℕ → Option ℕ) (n : ℕ)
+    → option_and_then rest (open_after To Failure (length inside)) ≡ Some n
     → rest (length (inside_done inside c).inside) ≡ Some n
 to_parts [] c rest n is = absurd cc
 to_parts (None ∷ outer) c rest n is = is
@@ -25,28 +26,33 @@ to_outside [] c = refl
 to_outside (None ∷ outer) c = refl
 to_outside (Some last ∷ outer) c = refl
 
-end_parts : (enclosed : Enclosed) (c : Cut) (outer : Option CutLine) → open_parts enclosed (line_ended (record c { outer = outer })) ≡ open_parts enclosed (record c { outer = outer })
+end_parts : (enclosed : Enclosed) (c : Cut) (outer : Option CutLine)
+    → open_parts enclosed (line_ended (record c { outer = outer })) ≡ open_parts enclosed (record c { outer = outer })
 end_parts Failure c None = refl
 end_parts Failure c (Some line) = refl
 end_parts File c None = refl
 end_parts File c (Some line) = refl
 
-pipe_words : (enclosed : Enclosed) (c : Cut) (words : List (List ℕ)) → open_parts enclosed (pipe_done (record c { line = record { words = words; piped = c.line.piped } })) ≡ open_parts enclosed c
+pipe_words : (enclosed : Enclosed) (c : Cut) (words : List (List ℕ))
+    → open_parts enclosed (pipe_done (record c { line = record { words = words; piped = c.line.piped } })) ≡ open_parts enclosed c
 pipe_words Failure c [] = refl
 pipe_words Failure c (w ∷ ws) = refl
 pipe_words File c [] = refl
 pipe_words File c (w ∷ ws) = refl
 
-pipe_parts : (enclosed : Enclosed) (c : Cut) (outer : Option CutLine) → open_parts enclosed (pipe_ended (record c { outer = outer })) ≡ open_parts enclosed (record c { outer = outer })
+pipe_parts : (enclosed : Enclosed) (c : Cut) (outer : Option CutLine)
+    → open_parts enclosed (pipe_ended (record c { outer = outer })) ≡ open_parts enclosed (record c { outer = outer })
 pipe_parts enclosed c None = pipe_words enclosed (record c { outer = None }) c.line.words
 pipe_parts Failure c (Some line) = refl
 pipe_parts File c (Some line) = refl
 
-file_from : (outer : Option CutLine) (line : CutLine) (rest : ℕ → Option ℕ) (n : ℕ) → option_and_then rest (open_after FileFrom File (length (option_to_list outer))) ≡ Some n → rest 1 ≡ Some n
+file_from : (outer : Option CutLine) (line : CutLine) (rest : ℕ → Option ℕ) (n : ℕ)
+    → option_and_then rest (open_after FileFrom File (length (option_to_list outer))) ≡ Some n → rest 1 ≡ Some n
 file_from None line rest n is = is
 file_from (Some l) line rest n is = absurd cc
 
-file_to : (c : Cut) (outer : Option CutLine) (rest : ℕ → Option ℕ) (n : ℕ) → option_and_then rest (open_after FileTo File (length (option_to_list outer))) ≡ Some n
+file_to : (c : Cut) (outer : Option CutLine) (rest : ℕ → Option ℕ) (n : ℕ)
+    → option_and_then rest (open_after FileTo File (length (option_to_list outer))) ≡ Some n
     → rest (open_parts File (file_done (record c { outer = outer }))) ≡ Some n
 file_to c None rest n is = absurd cc
 file_to c (Some line) rest n is = is
@@ -85,7 +91,8 @@ map_long : {X Y : Type 0} (f : X → Y) (xs : List X) → length (map f xs) ≡ 
 map_long f [] = refl
 map_long f (x ∷ xs) = ap suc (map_long f xs)
 
-word_parts : (enclosed : Enclosed) (c : Cut) (run : List Atom) (name : List ℕ) → open_parts enclosed (with_word c (opened_by run) name) ≡ open_parts enclosed c
+word_parts : (enclosed : Enclosed) (c : Cut) (run : List Atom) (name : List ℕ)
+    → open_parts enclosed (with_word c (opened_by run) name) ≡ open_parts enclosed c
 word_parts Failure c run name = map_long (λ before. Some name) c.inside
 word_parts File c run name = refl
 
@@ -93,19 +100,26 @@ module _ (F : Facts) (C : Context) where
   at_end : (c : Cut) (enclosed : Enclosed) (n : ℕ) → Some (open_parts enclosed c) ≡ Some n → open_parts enclosed c ≡ n
   at_end c enclosed n is = cc
 
-  open_as : {run atoms : List Atom} {c d : Cut} → Course F C run c atoms d → (enclosed : Enclosed) (n : ℕ) → open_following atoms enclosed (open_parts enclosed c) ≡ Some n → open_parts enclosed d ≡ n
+  open_as : {run atoms : List Atom} {c d : Cut} → Course F C run c atoms d → (enclosed : Enclosed) (n : ℕ)
+      → open_following atoms enclosed (open_parts enclosed c) ≡ Some n → open_parts enclosed d ≡ n
   open_as (over {c = c}) enclosed n is = at_end c enclosed n is
-  open_as (moves {atoms = atoms} {c = c} atom e rest) enclosed n is = open_as rest enclosed n (moved_open c atom enclosed (λ left. open_following atoms enclosed left) n e is)
-  open_as (breaks_bare {atoms = atoms} {c = c} e rest) enclosed n is = open_as rest enclosed n (ap (open_following atoms enclosed) (bare_parts enclosed c) ∙ is)
+  open_as (moves {atoms = atoms} {c = c} atom e rest) enclosed n is =
+      open_as rest enclosed n (moved_open c atom enclosed (λ left. open_following atoms enclosed left) n e is)
+  open_as (breaks_bare {atoms = atoms} {c = c} e rest) enclosed n is =
+      open_as rest enclosed n (ap (open_following atoms enclosed) (bare_parts enclosed c) ∙ is)
   open_as (pipes_bare {atoms = atoms} {c = c} e rest) enclosed n is =
       open_as rest enclosed n (ap (open_following atoms enclosed) (pipe_parts enclosed (bare c) c.outer ∙ bare_parts enclosed c) ∙ is)
-  open_as (breaks {run = run} {atoms = atoms} {c = c} name e f rest) enclosed n is = open_as rest enclosed n (ap (open_following atoms enclosed) (word_parts enclosed c run name) ∙ is)
+  open_as (breaks {run = run} {atoms = atoms} {c = c} name e f rest) enclosed n is =
+      open_as rest enclosed n (ap (open_following atoms enclosed) (word_parts enclosed c run name) ∙ is)
   open_as (pipes {run = run} {atoms = atoms} {c = c} name e f rest) enclosed n is =
-      open_as rest enclosed n (ap (open_following atoms enclosed) (pipe_parts enclosed (with_word c (opened_by run) name) c.outer ∙ word_parts enclosed c run name) ∙ is)
+      open_as rest enclosed n (ap (open_following atoms enclosed)
+      (pipe_parts enclosed (with_word c (opened_by run) name) c.outer ∙ word_parts enclosed c run name) ∙ is)
 
-  begun_open : (atoms : List Atom) (c : Cut) → all_taken F C nothing_cut atoms ≡ Is (Ok c) → (enclosed : Enclosed) (n : ℕ) → open_following atoms enclosed (open_parts enclosed nothing_cut) ≡ Some n → open_parts enclosed c ≡ n
+  begun_open : (atoms : List Atom) (c : Cut) → all_taken F C nothing_cut atoms ≡ Is (Ok c) → (enclosed : Enclosed) (n : ℕ)
+      → open_following atoms enclosed (open_parts enclosed nothing_cut) ≡ Some n → open_parts enclosed c ≡ n
   begun_open atoms c went = open_as (course F C [] nothing_cut atoms c refl went)
 
-  pub open_are : (atoms : List Atom) (c : Cut) (enclosed : Enclosed) (n : ℕ) → all_taken F C nothing_cut atoms ≡ Is (Ok c) → open_following atoms enclosed 0 ≡ Some n → open_parts enclosed c ≡ n
+  pub open_are : (atoms : List Atom) (c : Cut) (enclosed : Enclosed) (n : ℕ) → all_taken F C nothing_cut atoms ≡ Is (Ok c)
+      → open_following atoms enclosed 0 ≡ Some n → open_parts enclosed c ≡ n
   open_are atoms c Failure n went is = begun_open atoms c went Failure n is
   open_are atoms c File n went is = begun_open atoms c went File n is

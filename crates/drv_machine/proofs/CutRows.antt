@@ -1,5 +1,6 @@
 use Rattle.drv_machine.proofs.WorkedTexts.{linking}
-use Rattle.drv_machine.specs.Cuts.{Bare, Filed, each, failure_files, has_stray_pipe, if_any, lines, output, path, path_of, removed, without_file, words}
+use Rattle.drv_machine.specs.Cuts.{Bare, Filed, each, failure_files, has_stray_pipe, if_any, lines, output, path, path_of, removed}
+use Rattle.drv_machine.specs.Cuts.{without_file, words}
 use Rattle.drv_machine.specs.Cutting.{NamedLine}
 use Rattle.drv_machine.specs.Working.{Answer, Atom, Break, End, From, Marked, Open, Piped, Put, To, Without}
 use Rattle.drv_machine.specs.declared.machine.marking.Mark.TheVariants.{AsOutput, AsRemoved}
@@ -53,7 +54,8 @@ module _ (F : Facts) where
   maximal = refl
 
   -- a%w b%w
-  last_marked : output_is (Put letter_a ∷ Marked AsOutput ∷ Break ∷ Put letter_b ∷ Marked AsOutput ∷ Break ∷ []) ≡ Is (Ok (Some (codes "b")))
+  last_marked : output_is (Put letter_a ∷ Marked AsOutput ∷ Break ∷ Put letter_b ∷ Marked AsOutput ∷ Break ∷ [])
+      ≡ Is (Ok (Some (codes "b")))
   last_marked = refl
 
   -- a%w b%V%w, and a %w%Vb
@@ -68,7 +70,8 @@ module _ (F : Facts) where
   barred_at_end = refl
 
   -- a%d b %d
-  removed_once : removed_are (Put letter_a ∷ Marked AsRemoved ∷ Break ∷ Put letter_b ∷ Break ∷ Marked AsRemoved ∷ Break ∷ []) ≡ Is (Ok (codes "a" ∷ []))
+  removed_once : removed_are (Put letter_a ∷ Marked AsRemoved ∷ Break ∷ Put letter_b ∷ Break ∷ Marked AsRemoved ∷ Break ∷ [])
+      ≡ Is (Ok (codes "a" ∷ []))
   removed_once = refl
 
   -- a%w %W{b a}: the word with its mark, and of two words the last
@@ -84,13 +87,15 @@ module _ (F : Facts) where
   none_inside = refl
 
   -- %W{a %W{b}}, %W{a %W{}} and %W{%W{a} b}: the inner one ends first
-  inner_words_count : failures_are (From ∷ Put letter_a ∷ Break ∷ From ∷ Put letter_b ∷ Break ∷ To ∷ Break ∷ To ∷ []) ≡ Is (Ok (codes "b" ∷ codes "b" ∷ []))
+  inner_words_count : failures_are (From ∷ Put letter_a ∷ Break ∷ From ∷ Put letter_b ∷ Break ∷ To ∷ Break ∷ To ∷ [])
+      ≡ Is (Ok (codes "b" ∷ codes "b" ∷ []))
   inner_words_count = refl
 
   empty_inner : failures_are (From ∷ Put letter_a ∷ Break ∷ From ∷ Break ∷ To ∷ Break ∷ To ∷ []) ≡ Is (Ok (codes "a" ∷ []))
   empty_inner = refl
 
-  word_after_inner : failures_are (From ∷ From ∷ Put letter_a ∷ Break ∷ To ∷ Put letter_b ∷ Break ∷ To ∷ []) ≡ Is (Ok (codes "a" ∷ codes "b" ∷ []))
+  word_after_inner : failures_are (From ∷ From ∷ Put letter_a ∷ Break ∷ To ∷ Put letter_b ∷ Break ∷ To ∷ [])
+      ≡ Is (Ok (codes "a" ∷ codes "b" ∷ []))
   word_after_inner = refl
 
   -- an end of a %W that never began
@@ -103,13 +108,16 @@ module _ (F : Facts) where
   two_commands = refl
 
   -- a%@{b}a|, of which a file is made
-  around_file : lines_are (flat_map without_file (Bare (Put letter_a) ∷ Filed (Put letter_b ∷ []) ∷ Bare (Put letter_a) ∷ Bare Piped ∷ Bare End ∷ []))
+  around_file : lines_are (flat_map without_file (Bare (Put letter_a) ∷ Filed (Put letter_b ∷ []) ∷ Bare (Put letter_a) ∷ Bare Piped
+      ∷ Bare End ∷ []))
       ≡ Is (Ok (record { name = codes "a"; words = codes "a" ∷ []; piped = true } ∷ []))
   around_file = refl
 
-  ends_later : lines_are (Put letter_a ∷ End ∷ Put letter_b ∷ Break ∷ End ∷ []) ≡ Is (Ok (record { name = codes "ab"; words = []; piped = false } ∷ []))
+  ends_later : lines_are (Put letter_a ∷ End ∷ Put letter_b ∷ Break ∷ End ∷ [])
+      ≡ Is (Ok (record { name = codes "ab"; words = []; piped = false } ∷ []))
   ends_later = refl
 
   -- a pipe without a word before it, of which no command is kept
-  bare_pipe : lines_are (Piped ∷ Break ∷ End ∷ Put letter_a ∷ Break ∷ End ∷ []) ≡ Is (Ok (record { name = codes "a"; words = []; piped = false } ∷ []))
+  bare_pipe : lines_are (Piped ∷ Break ∷ End ∷ Put letter_a ∷ Break ∷ End ∷ [])
+      ≡ Is (Ok (record { name = codes "a"; words = []; piped = false } ∷ []))
   bare_pipe = refl

@@ -1,12 +1,16 @@
 use Rattle.drv_machine.proofs.Laws.{then_then}
-use Rattle.drv_machine.proofs.Runs.{Course, bare, bare_ends, breaks, breaks_bare, broken_is, course, end_kept, ended, ended_as, file_kept, moved, moves, moves_on, name_of, open_in, opened_by, over, pipe_kept, pipes, pipes_bare, with_word, word_ends, words_moved}
+use Rattle.drv_machine.proofs.Runs.{Course, bare, bare_ends, breaks, breaks_bare, broken_is, course, end_kept, ended, ended_as, file_kept}
+use Rattle.drv_machine.proofs.Runs.{moved, moves, moves_on, name_of, open_in, opened_by, over, pipe_kept, pipes, pipes_bare, with_word}
+use Rattle.drv_machine.proofs.Runs.{word_ends, words_moved}
 use Rattle.drv_machine.specs.Context.{Context}
-use Rattle.drv_machine.specs.Cuts.{Run, each, if_any, is_bar, is_barred, is_output, is_removed, is_removed_word, last_of, may_be_output, opens_word, output, path, removed, whether, words, words_after}
+use Rattle.drv_machine.specs.Cuts.{Run, each, if_any, is_bar, is_barred, is_output, is_removed, is_removed_word, last_of, may_be_output}
+use Rattle.drv_machine.specs.Cuts.{opens_word, output, path, removed, whether, words, words_after}
 use Rattle.drv_machine.specs.Cutting.{Cut, all_taken, inside_done, nothing_cut, pipe_ended}
 use Rattle.drv_machine.specs.Working.{◌>>-◌, Answer, Atom, Break, End, FileFrom, FileTo, From, Marked, Open, Piped, Put, To, Without}
 use Rattle.drv_system.specs.Facts.{Facts}
 use Rattle.drv_system.specs.Known.{Is, Unasked}
-use Rattle.std.proofs.Common.{◌≡◌, ◌∙◌, ◌++◌, ◌||◌, Bool, List, [], ◌∷◌, None, Err, Ok, Option, Some, ap, append-nil, append_assoc, false, refl, subst, sym, true, ℕ}
+use Rattle.std.proofs.Common.{◌≡◌, ◌∙◌, ◌++◌, ◌||◌, Bool, List, [], ◌∷◌, None, Err, Ok, Option, Some, ap, append-nil, append_assoc, false}
+use Rattle.std.proofs.Common.{refl, subst, sym, true, ℕ}
 use Rattle.std.proofs.lemmas.List.Folds.{list_any-append}
 use Rattle.std.specs.List.{filter, list_any}
 use Rattle.std.specs.Prelude.{◌&&◌, if◌then◌else◌, not}
@@ -58,12 +62,15 @@ moved_output c FileFrom bar = refl
 moved_output c FileTo bar = ap (λ (x : Cut). unless bar x.output) (file_kept c)
 
 -- a %V after the beginning of a word is in it or after it
-barred_or_after : (run atoms : List Atom) → list_any opens_word run ≡ true → is_barred (run ++ atoms) ≡ (is_barred run || list_any is_bar atoms)
+barred_or_after : (run atoms : List Atom) → list_any opens_word run ≡ true
+    → is_barred (run ++ atoms) ≡ (is_barred run || list_any is_bar atoms)
 barred_or_after [] atoms e = absurd cc
 barred_or_after (x ∷ run) atoms e = by (opens_word x) refl e (barred_or_after run atoms)
   where
-    by : (b : Bool) → opens_word x ≡ b → (b || list_any opens_word run) ≡ true → (list_any opens_word run ≡ true → is_barred (run ++ atoms) ≡ (is_barred run || list_any is_bar atoms))
-        → (if b then list_any is_bar (run ++ atoms) else is_barred (run ++ atoms)) ≡ ((if b then list_any is_bar run else is_barred run) || list_any is_bar atoms)
+    by : (b : Bool) → opens_word x ≡ b → (b || list_any opens_word run) ≡ true
+        → (list_any opens_word run ≡ true → is_barred (run ++ atoms) ≡ (is_barred run || list_any is_bar atoms))
+        → (if b then list_any is_bar (run ++ atoms) else is_barred (run ++ atoms))
+        ≡ ((if b then list_any is_bar run else is_barred run) || list_any is_bar atoms)
     by true is some next = list_any-append is_bar run atoms
     by false is some next = next some
 
@@ -75,9 +82,14 @@ module _ (F : Facts) (C : Context) where
   after_none : (before : List (List ℕ)) → After [] before before
   after_none before = ([], refl, sym (append-nil before))
 
-  after_more : (w : Run) (found : List Run) (before after : List (List ℕ)) (name : List ℕ) → path F C w ≡ Is (Ok name) → After found (before ++ name ∷ []) after → After (w ∷ found) before after
-  after_more w found before after name is (names, all, same) =
-      (name ∷ names, ap (λ (a : Answer (List ℕ)). a >>- λ y. each (path F C) found >>- λ ys. Is (Ok (y ∷ ys))) is ∙ ap (λ (a : Answer (List (List ℕ))). a >>- λ ys. Is (Ok (name ∷ ys))) all, same ∙ append_assoc before (name ∷ []) names)
+  after_more : (w : Run) (found : List Run) (before after : List (List ℕ)) (name : List ℕ) → path F C w ≡ Is (Ok name)
+      → After found (before ++ name ∷ []) after → After (w ∷ found) before after
+  after_more w found before after name is (names, all, same) = (
+    name ∷ names,
+    ap (λ (a : Answer (List ℕ)). a >>- λ y. each (path F C) found >>- λ ys. Is (Ok (y ∷ ys))) is
+        ∙ ap (λ (a : Answer (List (List ℕ))). a >>- λ ys. Is (Ok (name ∷ ys))) all,
+    same ∙ append_assoc before (name ∷ []) names,
+  )
 
   after_if : (marked : Bool) (w : Run) (found : List Run) (before after : List (List ℕ)) (name : List ℕ) → path F C w ≡ Is (Ok name)
       → After found (before ++ (if marked then name ∷ [] else [])) after → After (if marked then w ∷ found else found) before after
@@ -87,23 +99,29 @@ module _ (F : Facts) (C : Context) where
   abbrev marked_removed : List Run → List Run
   marked_removed found = filter is_removed_word found
 
-  pub removed_after : {run atoms : List Atom} {c d : Cut} → Course F C run c atoms d → After (marked_removed (words_after run atoms)) c.removed d.removed
+  pub removed_after : {run atoms : List Atom} {c d : Cut} → Course F C run c atoms d
+      → After (marked_removed (words_after run atoms)) c.removed d.removed
   removed_after (over {c = c}) = after_none c.removed
   removed_after (moves {run = run} {atoms = atoms} {c = c} {d = d} atom e rest) =
       subst (λ (found : List Run). After (marked_removed found) c.removed d.removed) (sym (words_moved run atoms atom e))
-      (subst (λ (b : List (List ℕ)). After (marked_removed (words_after (run ++ atom ∷ []) atoms)) b d.removed) (moved_removed c atom) (removed_after rest))
+      (subst (λ (b : List (List ℕ)). After (marked_removed (words_after (run ++ atom ∷ []) atoms)) b d.removed) (moved_removed c atom)
+      (removed_after rest))
   removed_after (breaks_bare {run = run} {atoms = atoms} {c = c} {d = d} e rest) =
       subst (λ (found : List Run). After (marked_removed found) c.removed d.removed) (sym (bare_ends run atoms e)) (removed_after rest)
   removed_after (pipes_bare {run = run} {atoms = atoms} {c = c} {d = d} e rest) =
       subst (λ (found : List Run). After (marked_removed found) c.removed d.removed) (sym (bare_ends run atoms e))
-      (subst (λ (b : List (List ℕ)). After (marked_removed (words_after [] atoms)) b d.removed) (ap (λ (x : Cut). x.removed) (pipe_kept (bare c))) (removed_after rest))
+      (subst (λ (b : List (List ℕ)). After (marked_removed (words_after [] atoms)) b d.removed)
+      (ap (λ (x : Cut). x.removed) (pipe_kept (bare c))) (removed_after rest))
   removed_after (breaks {run = run} {atoms = atoms} {c = c} {d = d} name e is rest) =
       subst (λ (found : List Run). After (marked_removed found) c.removed d.removed) (sym (word_ends run atoms e))
-      (after_if (list_any is_removed run) (record { atoms = run; following = atoms }) (marked_removed (words_after [] atoms)) c.removed d.removed name is (removed_after rest))
+      (after_if (list_any is_removed run) (record { atoms = run; following = atoms })
+      (marked_removed (words_after [] atoms)) c.removed d.removed name is (removed_after rest))
   removed_after (pipes {run = run} {atoms = atoms} {c = c} {d = d} name e is rest) =
       subst (λ (found : List Run). After (marked_removed found) c.removed d.removed) (sym (word_ends run atoms e))
-      (after_if (list_any is_removed run) (record { atoms = run; following = atoms }) (marked_removed (words_after [] atoms)) c.removed d.removed name is
-      (subst (λ (b : List (List ℕ)). After (marked_removed (words_after [] atoms)) b d.removed) (ap (λ (x : Cut). x.removed) (pipe_kept (with_word c (opened_by run) name))) (removed_after rest)))
+      (after_if (list_any is_removed run) (record { atoms = run; following = atoms })
+      (marked_removed (words_after [] atoms)) c.removed d.removed name is
+      (subst (λ (b : List (List ℕ)). After (marked_removed (words_after [] atoms)) b d.removed)
+      (ap (λ (x : Cut). x.removed) (pipe_kept (with_word c (opened_by run) name))) (removed_after rest)))
 
   -- the last one, or what was the output before
   abbrev or_before : Option Run → Option (List ℕ) → Answer (Option (List ℕ))
@@ -129,47 +147,62 @@ module _ (F : Facts) (C : Context) where
   abbrev outputs : List Run → List Run
   outputs found = filter may_be_output found
 
-  word_last : (run atoms : List Atom) (c : Cut) (name : List ℕ) → list_any opens_word run ≡ true → path F C (record { atoms = run; following = atoms }) ≡ Is (Ok name)
+  word_last : (run atoms : List Atom) (c : Cut) (name : List ℕ) → list_any opens_word run ≡ true
+      → path F C (record { atoms = run; following = atoms }) ≡ Is (Ok name)
       → or_before (last_of (outputs (words_after run (Break ∷ atoms)))) (unless (list_any is_bar atoms) c.output)
       ≡ or_before (last_of (outputs (words_after [] atoms))) (unless (list_any is_bar atoms) (with_word c (opened_by run) name).output)
   word_last run atoms c name e is =
       ap (λ (found : List Run). or_before (last_of (outputs found)) (unless (list_any is_bar atoms) c.output)) (word_ends run atoms e)
-      ∙ ap (λ (b : Bool). or_before (last_of (if list_any is_output run && not b then record { atoms = run; following = atoms } ∷ outputs (words_after [] atoms) else outputs (words_after [] atoms))) (unless (list_any is_bar atoms) c.output)) (barred_or_after run atoms e)
-      ∙ last_more (list_any is_output run) (is_barred run) (list_any is_bar atoms) (record { atoms = run; following = atoms }) (outputs (words_after [] atoms)) c.output name is
+      ∙ ap (λ (b : Bool). or_before (last_of (if list_any is_output run && not b
+      then record { atoms = run; following = atoms } ∷ outputs (words_after [] atoms) else outputs (words_after [] atoms)))
+      (unless (list_any is_bar atoms) c.output)) (barred_or_after run atoms e)
+      ∙ last_more (list_any is_output run) (is_barred run) (list_any is_bar atoms) (record { atoms = run; following = atoms })
+      (outputs (words_after [] atoms)) c.output name is
 
-  pub output_after : {run atoms : List Atom} {c d : Cut} → Course F C run c atoms d → or_before (last_of (outputs (words_after run atoms))) (unless (list_any is_bar atoms) c.output) ≡ Is (Ok d.output)
+  pub output_after : {run atoms : List Atom} {c d : Cut} → Course F C run c atoms d
+      → or_before (last_of (outputs (words_after run atoms))) (unless (list_any is_bar atoms) c.output) ≡ Is (Ok d.output)
   output_after over = refl
   output_after (moves {run = run} {atoms = atoms} {c = c} {d = d} atom e rest) =
-      ap (λ (found : List Run). or_before (last_of (outputs found)) (unless (is_bar atom || list_any is_bar atoms) c.output)) (words_moved run atoms atom e)
-      ∙ ap (or_before (last_of (outputs (words_after (run ++ atom ∷ []) atoms)))) (sym (moved_output c atom (list_any is_bar atoms))) ∙ output_after rest
+      ap (λ (found : List Run). or_before (last_of (outputs found)) (unless (is_bar atom || list_any is_bar atoms) c.output))
+      (words_moved run atoms atom e)
+      ∙ ap (or_before (last_of (outputs (words_after (run ++ atom ∷ []) atoms)))) (sym (moved_output c atom (list_any is_bar atoms)))
+      ∙ output_after rest
   output_after (breaks_bare {run = run} {atoms = atoms} {c = c} {d = d} e rest) =
-      ap (λ (found : List Run). or_before (last_of (outputs found)) (unless (list_any is_bar atoms) c.output)) (bare_ends run atoms e) ∙ output_after rest
+      ap (λ (found : List Run). or_before (last_of (outputs found)) (unless (list_any is_bar atoms) c.output)) (bare_ends run atoms e)
+      ∙ output_after rest
   output_after (pipes_bare {run = run} {atoms = atoms} {c = c} {d = d} e rest) =
       ap (λ (found : List Run). or_before (last_of (outputs found)) (unless (list_any is_bar atoms) c.output)) (bare_ends run atoms e)
-      ∙ ap (λ (x : Cut). or_before (last_of (outputs (words_after [] atoms))) (unless (list_any is_bar atoms) x.output)) (sym (pipe_kept (bare c))) ∙ output_after rest
+      ∙ ap (λ (x : Cut). or_before (last_of (outputs (words_after [] atoms))) (unless (list_any is_bar atoms) x.output))
+      (sym (pipe_kept (bare c))) ∙ output_after rest
   output_after (breaks {run = run} {atoms = atoms} {c = c} {d = d} name e is rest) = word_last run atoms c name e is ∙ output_after rest
   output_after (pipes {run = run} {atoms = atoms} {c = c} {d = d} name e is rest) =
       word_last run atoms c name e is
-      ∙ ap (λ (x : Cut). or_before (last_of (outputs (words_after [] atoms))) (unless (list_any is_bar atoms) x.output)) (sym (pipe_kept (with_word c (opened_by run) name))) ∙ output_after rest
+      ∙ ap (λ (x : Cut). or_before (last_of (outputs (words_after [] atoms))) (unless (list_any is_bar atoms) x.output))
+      (sym (pipe_kept (with_word c (opened_by run) name))) ∙ output_after rest
 
   whether_then : {X Y : Type 0} (a : Answer X) (f : X → Y) → whether (a >>- λ x. Is (Ok (f x))) ≡ whether a
   whether_then a f = then_then a (λ x. Is (Ok (f x))) (λ y. Is (Ok tt))
 
   -- at the end of a run
-  run_ends : (run atoms : List Atom) (c : Cut) (k : Cut → Cut) → ((n : List ℕ) → whether (all_taken F C (k (with_word c (opened_by run) n)) atoms) ≡ whether (each (path F C) (words_after [] atoms)))
+  run_ends : (run atoms : List Atom) (c : Cut) (k : Cut → Cut)
+      → ((n : List ℕ) → whether (all_taken F C (k (with_word c (opened_by run) n)) atoms)
+      ≡ whether (each (path F C) (words_after [] atoms)))
       → whether (all_taken F C (k (bare c)) atoms) ≡ whether (each (path F C) (words_after [] atoms))
-      → whether ((ended F C c (opened_by run) >>- λ x. Is (Ok (k x))) >>- λ x. all_taken F C x atoms) ≡ whether (each (path F C) (words_after run (Break ∷ atoms)))
+      → whether ((ended F C c (opened_by run) >>- λ x. Is (Ok (k x))) >>- λ x. all_taken F C x atoms)
+      ≡ whether (each (path F C) (words_after run (Break ∷ atoms)))
   run_ends run atoms c k full empty = by (list_any opens_word run) (name_of F C (opened_by run)) refl refl
     where
       w : Run
       w = record { atoms = run; following = atoms }
 
       by : (begun : Bool) (name : Answer (List ℕ)) → list_any opens_word run ≡ begun → name_of F C (opened_by run) ≡ name
-          → whether ((ended_as F C c (opened_by run) begun name >>- λ x. Is (Ok (k x))) >>- λ x. all_taken F C x atoms) ≡ whether (each (path F C) (words_after run (Break ∷ atoms)))
+          → whether ((ended_as F C c (opened_by run) begun name >>- λ x. Is (Ok (k x))) >>- λ x. all_taken F C x atoms)
+          ≡ whether (each (path F C) (words_after run (Break ∷ atoms)))
       by false name b n = empty ∙ ap (λ (found : List Run). whether (each (path F C) found)) (sym (bare_ends run atoms b))
       by true (Is (Ok name)) b n =
           full name ∙ sym (ap (λ (found : List Run). whether (each (path F C) found)) (word_ends run atoms b)
-          ∙ ap (λ (a : Answer (List ℕ)). whether (a >>- λ y. each (path F C) (words_after [] atoms) >>- λ ys. Is (Ok (y ∷ ys)))) n ∙ whether_then (each (path F C) (words_after [] atoms)) (λ ys. name ∷ ys))
+          ∙ ap (λ (a : Answer (List ℕ)). whether (a >>- λ y. each (path F C) (words_after [] atoms) >>- λ ys. Is (Ok (y ∷ ys)))) n
+          ∙ whether_then (each (path F C) (words_after [] atoms)) (λ ys. name ∷ ys))
       by true (Is (Err fault)) b n =
           sym (ap (λ (found : List Run). whether (each (path F C) found)) (word_ends run atoms b)
           ∙ ap (λ (a : Answer (List ℕ)). whether (a >>- λ y. each (path F C) (words_after [] atoms) >>- λ ys. Is (Ok (y ∷ ys)))) n)
@@ -178,10 +211,12 @@ module _ (F : Facts) (C : Context) where
           ∙ ap (λ (a : Answer (List ℕ)). whether (a >>- λ y. each (path F C) (words_after [] atoms) >>- λ ys. Is (Ok (y ∷ ys)))) n)
 
   -- a cut goes through, or stops, as its words are found
-  pub found_alike : (run : List Atom) (c : Cut) (atoms : List Atom) → open_in c ≡ opened_by run → whether (all_taken F C c atoms) ≡ whether (each (path F C) (words_after run atoms))
+  pub found_alike : (run : List Atom) (c : Cut) (atoms : List Atom) → open_in c ≡ opened_by run
+      → whether (all_taken F C c atoms) ≡ whether (each (path F C) (words_after run atoms))
   found_alike run c [] e = refl
   found_alike run c (Break ∷ atoms) e =
-      ap (λ (a : Answer Cut). whether (a >>- λ x. all_taken F C x atoms)) (broken_is F C c ∙ ap (ended F C c) e ∙ sym (then_ok (ended F C c (opened_by run))))
+      ap (λ (a : Answer Cut). whether (a >>- λ x. all_taken F C x atoms))
+      (broken_is F C c ∙ ap (ended F C c) e ∙ sym (then_ok (ended F C c (opened_by run))))
       ∙ run_ends run atoms c (λ x. x) (λ n. found_alike [] (with_word c (opened_by run) n) atoms refl) (found_alike [] (bare c) atoms refl)
     where
       then_ok : (a : Answer Cut) → (a >>- λ x. Is (Ok x)) ≡ a
@@ -189,13 +224,16 @@ module _ (F : Facts) (C : Context) where
       then_ok (Is (Err fault)) = refl
       then_ok Unasked = refl
   found_alike run c (Piped ∷ atoms) e =
-      ap (λ (a : Answer Cut). whether ((a >>- λ x. Is (Ok (pipe_ended x))) >>- λ x. all_taken F C x atoms)) (broken_is F C c ∙ ap (ended F C c) e)
-      ∙ run_ends run atoms c pipe_ended (λ n. found_alike [] (pipe_ended (with_word c (opened_by run) n)) atoms (ap open_in (pipe_kept (with_word c (opened_by run) n))))
+      ap (λ (a : Answer Cut). whether ((a >>- λ x. Is (Ok (pipe_ended x))) >>- λ x. all_taken F C x atoms))
+      (broken_is F C c ∙ ap (ended F C c) e)
+      ∙ run_ends run atoms c pipe_ended (λ n. found_alike [] (pipe_ended (with_word c (opened_by run) n)) atoms
+      (ap open_in (pipe_kept (with_word c (opened_by run) n))))
       (found_alike [] (pipe_ended (bare c)) atoms (ap open_in (pipe_kept (bare c))))
   found_alike run c (Put b ∷ atoms) e = found_alike (run ++ (Put b) ∷ []) (moved c (Put b)) atoms (moves_on c run (Put b) refl e)
   found_alike run c (Open ∷ atoms) e = found_alike (run ++ Open ∷ []) (moved c Open) atoms (moves_on c run Open refl e)
   found_alike run c (End ∷ atoms) e = found_alike (run ++ End ∷ []) (moved c End) atoms (moves_on c run End refl e)
-  found_alike run c (Marked mark ∷ atoms) e = found_alike (run ++ (Marked mark) ∷ []) (moved c (Marked mark)) atoms (moves_on c run (Marked mark) refl e)
+  found_alike run c (Marked mark ∷ atoms) e = found_alike (run ++ (Marked mark) ∷ []) (moved c (Marked mark)) atoms
+      (moves_on c run (Marked mark) refl e)
   found_alike run c (Without ∷ atoms) e = found_alike (run ++ Without ∷ []) (moved c Without) atoms (moves_on c run Without refl e)
   found_alike run c (From ∷ atoms) e = found_alike (run ++ From ∷ []) (moved c From) atoms (moves_on c run From refl e)
   found_alike run c (To ∷ atoms) e = found_alike (run ++ To ∷ []) (moved c To) atoms (moves_on c run To refl e)
@@ -205,10 +243,12 @@ module _ (F : Facts) (C : Context) where
   pub each_found : (atoms : List Atom) → whether (all_taken F C nothing_cut atoms) ≡ whether (each (path F C) (words atoms))
   each_found atoms = found_alike [] nothing_cut atoms refl
 
-  pub output_is : (atoms : List Atom) (c : Cut) → all_taken F C nothing_cut atoms ≡ Is (Ok c) → if_any (path F C) (output atoms) ≡ Is (Ok c.output)
+  pub output_is : (atoms : List Atom) (c : Cut) → all_taken F C nothing_cut atoms ≡ Is (Ok c)
+      → if_any (path F C) (output atoms) ≡ Is (Ok c.output)
   output_is atoms c e = sym (or_none (output atoms) (list_any is_bar atoms)) ∙ output_after (course F C [] nothing_cut atoms c refl e)
 
-  pub removed_are : (atoms : List Atom) (c : Cut) → all_taken F C nothing_cut atoms ≡ Is (Ok c) → each (path F C) (removed atoms) ≡ Is (Ok c.removed)
+  pub removed_are : (atoms : List Atom) (c : Cut) → all_taken F C nothing_cut atoms ≡ Is (Ok c)
+      → each (path F C) (removed atoms) ≡ Is (Ok c.removed)
   removed_are atoms c e = by (removed_after (course F C [] nothing_cut atoms c refl e))
     where
       by : After (removed atoms) [] c.removed → each (path F C) (removed atoms) ≡ Is (Ok c.removed)

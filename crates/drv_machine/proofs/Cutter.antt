@@ -10,7 +10,8 @@ use Rattle.drv_machine.specs.declared.fault.MachineFault.TheVariants.{Memory}
 use Rattle.drv_system.specs.Facts.{Facts}
 use Rattle.drv_system.specs.Gives.{GivesKnown}
 use Rattle.drv_system.specs.Known.{Is, Unasked}
-use Rattle.std.proofs.Common.{◌≡◌, ◌∙◌, ◌⊎◌, ◌++◌, ◌||◌, List, [], ◌∷◌, Bool, Option, Result, Ok, Err, ap, arith, append_assoc, append-nil, false, inl, inr, length, map, refl, subst, sym, true, ℕ}
+use Rattle.std.proofs.Common.{◌≡◌, ◌∙◌, ◌⊎◌, ◌++◌, ◌||◌, List, [], ◌∷◌, Bool, Option, Result, Ok, Err, ap, arith, append_assoc, append-nil}
+use Rattle.std.proofs.Common.{false, inl, inr, length, map, refl, subst, sym, true, ℕ}
 use Rattle.std.specs.Option.{unwrap_or}
 use Rattle.std.specs.Prelude.{◌==◌, None, Some, get_or, replicate}
 
@@ -42,7 +43,8 @@ module _ (F : Facts) (C : Context) where
   pub bytes_put : (s : Machine) (bs word : List ℕ) → false ≡ (length bs == 0) → word ≡ unwrap_or s.cut.word [] ++ bs
       → run F C s (bytes bs) ≡ Is (Ok (tt, record s { cut = record (touched s.cut) { word = Some word } }))
   bytes_put s [] word some is = absurd cc
-  bytes_put s (b ∷ bs) word some is = ap (λ a. a >>- ended) (bytes_taken s.cut b bs) ∙ ap (λ w. ended (record (touched s.cut) { word = Some w })) (sym is)
+  bytes_put s (b ∷ bs) word some is = ap (λ a. a >>- ended) (bytes_taken s.cut b bs)
+      ∙ ap (λ w. ended (record (touched s.cut) { word = Some w })) (sym is)
     where
       ended : Cut → Answer (Unit {0} × Machine)
       ended d = Is (Ok (tt, record { cut = d; world = s.world }))
@@ -51,7 +53,8 @@ module _ (F : Facts) (C : Context) where
   pub puts_then : (s : Machine) (xs ys : List Atom) → run F C s (puts (xs ++ ys)) ≡ (run F C s (puts xs) >>- λ r. run F C r.1 (puts ys))
   puts_then s xs ys = run_then F C s (puts xs) (λ u. puts ys)
 
-  pub put_then : (s t : Machine) (xs ys : List Atom) → run F C s (puts xs) ≡ Is (Ok (tt, t)) → run F C s (puts (xs ++ ys)) ≡ run F C t (puts ys)
+  pub put_then : (s t : Machine) (xs ys : List Atom) → run F C s (puts xs) ≡ Is (Ok (tt, t))
+      → run F C s (puts (xs ++ ys)) ≡ run F C t (puts ys)
   put_then s t xs ys went = puts_then s xs ys ∙ ap (λ a. a >>- λ r. run F C r.1 (puts ys)) went
 
   pub put_failed : (s : Machine) (xs ys : List Atom) (fault : MachineFault) → (fault ≡ Memory) ⊎ (run F C s (puts xs) ≡ Is (Err fault))
@@ -60,11 +63,14 @@ module _ (F : Facts) (C : Context) where
   put_failed s xs ys fault (inr stopped) = inr (puts_then s xs ys ∙ ap (λ a. a >>- λ r. run F C r.1 (puts ys)) stopped)
 
   pub put_last : (s t u : Machine) (xs ys : List Atom) (result : Result (Unit {0}) MachineFault) → run F C s (puts xs) ≡ Is (Ok (tt, t))
-      → GivesKnown Memory (λ v. (tt, u)) result (run F C t (puts ys)) → GivesKnown Memory (λ v. (tt, u)) result (run F C s (puts (xs ++ ys)))
-  put_last s t u xs ys result went last = subst (λ given. GivesKnown Memory (λ v. (tt, u)) result given) (sym (put_then s t xs ys went)) last
+      → GivesKnown Memory (λ v. (tt, u)) result (run F C t (puts ys))
+      → GivesKnown Memory (λ v. (tt, u)) result (run F C s (puts (xs ++ ys)))
+  put_last s t u xs ys result went last = subst (λ given. GivesKnown Memory (λ v. (tt, u)) result given)
+      (sym (put_then s t xs ys went)) last
 
   -- what is put in part is put as a whole
-  pub whole_failed : {given whole : Answer (Unit {0} × Machine)} (fault : MachineFault) → given ≡ whole → (fault ≡ Memory) ⊎ (given ≡ Is (Err fault)) → (fault ≡ Memory) ⊎ (whole ≡ Is (Err fault))
+  pub whole_failed : {given whole : Answer (Unit {0} × Machine)} (fault : MachineFault) → given ≡ whole
+      → (fault ≡ Memory) ⊎ (given ≡ Is (Err fault)) → (fault ≡ Memory) ⊎ (whole ≡ Is (Err fault))
   whole_failed fault same (inl memory) = inl memory
   whole_failed fault same (inr stopped) = inr (sym same ∙ stopped)
 
@@ -77,8 +83,10 @@ module _ (F : Facts) (C : Context) where
       → run F C s (puts (Break ∷ word_of argument)) ≡ Is (Ok (tt, t))
   argument_none s t argument is went = ap (λ o. run F C s (puts (Break ∷ word_of o))) is ∙ went
 
-  pub argument_open : (s t u : Machine) (argument : Option (List ℕ)) (word : List ℕ) → argument ≡ Some word → run F C s (puts (Break ∷ [])) ≡ Is (Ok (tt, t))
-      → run F C t (puts (Open ∷ [])) ≡ Is (Ok (tt, u)) → run F C u (puts (map Put word ++ Break ∷ [])) ≡ run F C s (puts (Break ∷ word_of argument))
+  pub argument_open : (s t u : Machine) (argument : Option (List ℕ)) (word : List ℕ) → argument ≡ Some word
+      → run F C s (puts (Break ∷ [])) ≡ Is (Ok (tt, t))
+      → run F C t (puts (Open ∷ [])) ≡ Is (Ok (tt, u)) → run F C u (puts (map Put word ++ Break ∷ []))
+      ≡ run F C s (puts (Break ∷ word_of argument))
   argument_open s t u argument word is went opened =
       sym (ap (λ o. run F C s (puts (Break ∷ word_of o))) is
       ∙ ap (λ atoms. run F C s (puts (Break ∷ Open ∷ atoms))) (append-nil (map Put word ++ Break ∷ []))
@@ -95,12 +103,14 @@ module _ (F : Facts) (C : Context) where
       ended : Cut → Answer (Unit {0} × Machine)
       ended d = Is (Ok (tt, record { cut = d; world = s.world }))
 
-      by : (a : Answer Cut) → (((a >>- λ d. Is (Ok (pipe_ended d))) >>- λ d. Is (Ok d)) >>- λ d. ended d) ≡ (((a >>- λ d. Is (Ok d)) >>- λ d. ended d) >>- with_pipe)
+      by : (a : Answer Cut) → (((a >>- λ d. Is (Ok (pipe_ended d))) >>- λ d. Is (Ok d)) >>- λ d. ended d)
+          ≡ (((a >>- λ d. Is (Ok d)) >>- λ d. ended d) >>- with_pipe)
       by (Is (Ok c)) = refl
       by (Is (Err fault)) = refl
       by Unasked = refl
 
-  pub pipe_put : (s t u : Machine) → run F C s (puts (Break ∷ [])) ≡ Is (Ok (tt, t)) → u ≡ record t { cut = pipe_ended t.cut } → run F C s (puts (Piped ∷ [])) ≡ Is (Ok (tt, u))
+  pub pipe_put : (s t u : Machine) → run F C s (puts (Break ∷ [])) ≡ Is (Ok (tt, t)) → u ≡ record t { cut = pipe_ended t.cut }
+      → run F C s (puts (Piped ∷ [])) ≡ Is (Ok (tt, u))
   pipe_put s t u went is = piped_then s ∙ ap (λ a. a >>- with_pipe) went ∙ ap ended (sym is)
     where
       ended : Machine → Answer (Unit {0} × Machine)
@@ -112,10 +122,25 @@ module _ (F : Facts) (C : Context) where
   pipe_failed s fault (inr stopped) = inr (piped_then s ∙ ap (λ a. a >>- with_pipe) stopped)
 
   -- what is begun with
-  pub begun_with : (hidden : List Bool) (ns options outputs : List (List ℕ)) (number : ℕ) → ns ≡ names C → hidden ≡ replicate (length ns) false → options ≡ C.options → number ≡ C.number → outputs ≡ C.outputs
-      → record { cut = nothing_cut; world = record { hidden = hidden; options = options; drawn = []; number = number; outputs = outputs; notices = []; is_in_file = false; items = 0 } } ≡ begun F C
+  pub begun_with : (hidden : List Bool) (ns options outputs : List (List ℕ)) (number : ℕ) → ns ≡ names C
+      → hidden ≡ replicate (length ns) false → options ≡ C.options → number ≡ C.number → outputs ≡ C.outputs
+      → record {
+        cut = nothing_cut;
+        world = record {
+          hidden = hidden;
+          options = options;
+          drawn = [];
+          number = number;
+          outputs =
+              outputs;
+          notices = [];
+          is_in_file = false;
+          items = 0;
+        };
+      } ≡ begun F C
   begun_with hidden ns options outputs number same is eo en eu =
-      rw (eo, en, eu) (ap (λ h. record { cut = nothing_cut; world = record (start F C) { hidden = h } }) (is ∙ ap (λ ms. replicate (length ms) false) same ∙ none_hidden C.switches))
+      rw (eo, en, eu) (ap (λ h. record { cut = nothing_cut; world = record (start F C) { hidden = h } })
+      (is ∙ ap (λ ms. replicate (length ms) false) same ∙ none_hidden C.switches))
     where
       none_hidden : (ss : List Switch) → replicate (length (map (λ s. s.name) ss)) false ≡ map (λ s. false) ss
       none_hidden [] = refl

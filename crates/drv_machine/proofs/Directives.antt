@@ -24,31 +24,42 @@ job_of F C text = worked F C text >>- λ o. Is (Ok o.job)
 
 -- temporaries: %g has one name for its suffix, %u a new one, and %U the last one of %u and %U
 names_drawn : words_of untouched (on [] (codes "a.c")) (codes "%g.s %U.s %g.s %u.s %U.s %g%O")
-    ≡ Is (Ok ((codes "/tmp/cc0000002a_1.s" ∷ codes "/tmp/cc0000002a_2.s" ∷ codes "/tmp/cc0000002a_1.s" ∷ codes "/tmp/cc0000002a_3.s" ∷ codes "/tmp/cc0000002a_3.s" ∷ codes "/tmp/cc0000002a_4.o" ∷ []) ∷ []))
-names_drawn = rw (decimal_digit 1 (omega arith), decimal_digit 2 (omega arith), decimal_digit 3 (omega arith), decimal_digit 4 (omega arith)) refl
+    ≡ Is (Ok ((codes "/tmp/cc0000002a_1.s" ∷ codes "/tmp/cc0000002a_2.s" ∷ codes "/tmp/cc0000002a_1.s" ∷ codes "/tmp/cc0000002a_3.s"
+    ∷ codes "/tmp/cc0000002a_3.s" ∷ codes "/tmp/cc0000002a_4.o" ∷ []) ∷ []))
+names_drawn = rw (
+  decimal_digit 1 (omega arith),
+  decimal_digit 2 (omega arith),
+  decimal_digit 3 (omega arith),
+  decimal_digit 4 (omega arith),
+) refl
 
 abbrev paths_of : Facts → List ℕ → Answer (List (List ℕ))
 paths_of F text = job_of F (on [] (codes "a.c")) text >>- λ job. Is (Ok (map (λ temp. temp.path) job.temps))
 
 four_temps : paths_of untouched (codes "%g.s %U.s %g.s %u.s %U.s %g%O")
     ≡ Is (Ok (codes "/tmp/cc0000002a_1.s" ∷ codes "/tmp/cc0000002a_2.s" ∷ codes "/tmp/cc0000002a_3.s" ∷ codes "/tmp/cc0000002a_4.o" ∷ []))
-four_temps = rw (decimal_digit 1 (omega arith), decimal_digit 2 (omega arith), decimal_digit 3 (omega arith), decimal_digit 4 (omega arith)) refl
+four_temps = rw (decimal_digit 1 (omega arith), decimal_digit 2 (omega arith), decimal_digit 3 (omega arith), decimal_digit 4 (omega arith))
+    refl
 
 -- a name that another text used is not drawn again
-next_number : (worked untouched (record (on [] (codes "a.c")) { number = 7 }) (codes "%u.o %u.o") >>- λ o. Is (Ok o.next_number)) ≡ Is (Ok 9)
+next_number : (worked untouched (record (on [] (codes "a.c")) { number = 7 }) (codes "%u.o %u.o") >>- λ o. Is (Ok o.next_number))
+    ≡ Is (Ok 9)
 next_number = rw (decimal_digit 7 (omega arith), decimal_digit 8 (omega arith)) refl
 
 -- the folder is TMPDIR, if it has a value; a slash at its end is not doubled, and none is taken away
 abbrev in_folder : Option (List ℕ) → Facts
 in_folder value = record no_facts { variables = (codes "TMPDIR", value) ∷ [] }
 
-folder_with_slash : words_of (in_folder (Some (codes "t/"))) (on [] (codes "a.c")) (codes "%g.s") ≡ Is (Ok ((codes "t/cc0000002a_1.s" ∷ []) ∷ []))
+folder_with_slash : words_of (in_folder (Some (codes "t/"))) (on [] (codes "a.c")) (codes "%g.s")
+    ≡ Is (Ok ((codes "t/cc0000002a_1.s" ∷ []) ∷ []))
 folder_with_slash = rw (decimal_digit 1 (omega arith)) refl
 
-folder_without : words_of (in_folder (Some (codes "t"))) (on [] (codes "a.c")) (codes "%g.s") ≡ Is (Ok ((codes "t/cc0000002a_1.s" ∷ []) ∷ []))
+folder_without : words_of (in_folder (Some (codes "t"))) (on [] (codes "a.c")) (codes "%g.s")
+    ≡ Is (Ok ((codes "t/cc0000002a_1.s" ∷ []) ∷ []))
 folder_without = rw (decimal_digit 1 (omega arith)) refl
 
-folder_with_two : words_of (in_folder (Some (codes "t//"))) (on [] (codes "a.c")) (codes "%g.s") ≡ Is (Ok ((codes "t//cc0000002a_1.s" ∷ []) ∷ []))
+folder_with_two : words_of (in_folder (Some (codes "t//"))) (on [] (codes "a.c")) (codes "%g.s")
+    ≡ Is (Ok ((codes "t//cc0000002a_1.s" ∷ []) ∷ []))
 folder_with_two = rw (decimal_digit 1 (omega arith)) refl
 
 empty_folder : words_of (in_folder (Some [])) (on [] (codes "a.c")) (codes "%g.s") ≡ Is (Ok ((codes "/tmp/cc0000002a_1.s" ∷ []) ∷ []))
@@ -62,7 +73,8 @@ abbrev piping : Context
 piping = record (on (alone (codes "pipe") ∷ []) (codes "a.c")) { is_piping = true }
 
 -- %| and %m
-piped_names : words_of no_facts piping (codes "cc1 -o %|.s |\nas %m.s") ≡ Is (Ok ((codes "cc1" ∷ codes "-o" ∷ codes "-" ∷ codes "as" ∷ []) ∷ []))
+piped_names : words_of no_facts piping (codes "cc1 -o %|.s |\nas %m.s")
+    ≡ Is (Ok ((codes "cc1" ∷ codes "-o" ∷ codes "-" ∷ codes "as" ∷ []) ∷ []))
 piped_names = refl
 
 unpiped_names : words_of untouched (on [] (codes "a.c")) (codes "cc1 -o %|.s |\nas %m.s")
@@ -110,7 +122,8 @@ left C text = job_of untouched C text >>- λ job. Is (Ok (job.output, job.marked
 output : left (on [] (codes "a.c")) (codes "as -o %w%b.o") ≡ Is (Ok (Some (codes "a.o"), [], codes "a.o" ∷ []))
 output = refl
 
-last_output : left (on [] (codes "a.c")) (codes "a%w b%w c%d d%d") ≡ Is (Ok (Some (codes "b"), codes "c" ∷ codes "d" ∷ [], codes "a" ∷ codes "b" ∷ []))
+last_output : left (on [] (codes "a.c")) (codes "a%w b%w c%d d%d")
+    ≡ Is (Ok (Some (codes "b"), codes "c" ∷ codes "d" ∷ [], codes "a" ∷ codes "b" ∷ []))
 last_output = refl
 
 -- each file once, and none of the job's temporaries
@@ -144,13 +157,16 @@ options_once = refl
 options_join : words_of no_facts (linking []) (codes "%x{-lq}%x{-lr}foo%X") ≡ Is (Ok ((codes "foo-lq" ∷ codes "-lr" ∷ []) ∷ []))
 options_join = refl
 
-options_go_on : (worked no_facts (record (linking []) { options = codes "-lq" ∷ [] }) (codes "%x{-lr}%x{-lq}") >>- λ o. Is (Ok o.accumulated)) ≡ Is (Ok (codes "-lq" ∷ codes "-lr" ∷ []))
+options_go_on : (worked no_facts (record (linking []) { options = codes "-lq" ∷ [] }) (codes "%x{-lr}%x{-lq}")
+    >>- λ o. Is (Ok o.accumulated)) ≡ Is (Ok (codes "-lq" ∷ codes "-lr" ∷ []))
 options_go_on = refl
 
-pieces : words_of no_facts (record (linking []) { assembler = codes "-a" ∷ [] ∷ []; preprocessor = codes "-p" ∷ [] }) (codes "c%Y %Z") ≡ Is (Ok ((codes "c-a" ∷ [] ∷ codes "-p" ∷ []) ∷ []))
+pieces : words_of no_facts (record (linking []) { assembler = codes "-a" ∷ [] ∷ []; preprocessor = codes "-p" ∷ [] }) (codes "c%Y %Z")
+    ≡ Is (Ok ((codes "c-a" ∷ [] ∷ codes "-p" ∷ []) ∷ []))
 pieces = refl
 
-outputs : words_of no_facts (record (linking []) { outputs = codes "a.o" ∷ codes "-lm" ∷ [] }) (codes "ld%ob") ≡ Is (Ok ((codes "ld" ∷ codes "a.o" ∷ codes "-lm" ∷ codes "b" ∷ []) ∷ []))
+outputs : words_of no_facts (record (linking []) { outputs = codes "a.o" ∷ codes "-lm" ∷ [] }) (codes "ld%ob")
+    ≡ Is (Ok ((codes "ld" ∷ codes "a.o" ∷ codes "-lm" ∷ codes "b" ∷ []) ∷ []))
 outputs = refl
 
 outputs_in_link_alone : words_of no_facts (on [] (codes "a.c")) (codes "prog %o") ≡ Is (Err NotInLink)
@@ -176,7 +192,8 @@ searching = record (linking []) { prefixes = prefixes }
 abbrev there : Facts
 there = record no_facts {
   kinds =
-      (codes "d/generic-elf/13/prog", Plain) ∷ (codes "d/generic-elf/13/crt1.o", Missing) ∷ (codes "d/crt1.o", Plain) ∷ (codes "d/generic-elf/13/x.ld", Missing) ∷ (codes "d/x.ld", Plain)
+      (codes "d/generic-elf/13/prog", Plain) ∷ (codes "d/generic-elf/13/crt1.o", Missing) ∷ (codes "d/crt1.o", Plain)
+      ∷ (codes "d/generic-elf/13/x.ld", Missing) ∷ (codes "d/x.ld", Plain)
       ∷ (codes "d/generic-elf/13/y.ld", Missing) ∷ (codes "d/y.ld", Missing) ∷ (codes "d/generic-elf/13", Dir) ∷ (codes "d", Dir) ∷ [];
 }
 
@@ -210,5 +227,6 @@ script_judged_late = refl
 script_judged_first : words_of there searching (codes "%Ty.ld %eno") ≡ Is (Err (Search (ScriptMissing (codes "y.ld"))))
 script_judged_first = refl
 
-folders : words_of there searching (codes "/ld %Dx") ≡ Is (Ok ((codes "/ld" ∷ codes "-Ld/generic-elf/13" ∷ codes "-Ld" ∷ codes "x" ∷ []) ∷ []))
+folders : words_of there searching (codes "/ld %Dx")
+    ≡ Is (Ok ((codes "/ld" ∷ codes "-Ld/generic-elf/13" ∷ codes "-Ld" ∷ codes "x" ∷ []) ∷ []))
 folders = refl

@@ -13,7 +13,8 @@ use Rattle.drv_syntax.specs.declared.token.TempKind.{TempKind}
 use Rattle.drv_system.specs.Facts.{Facts, variable_of}
 use Rattle.drv_system.specs.Known.{◌>>=◌, Is, asked}
 use Rattle.drv_words.specs.Bytes.{hyphen}
-use Rattle.std.proofs.Common.{◌≡◌, ◌∙◌, ◌++◌, ◌<◌, ◌+◌, Bool, List, [], ◌∷◌, None, Option, Some, ap, append_assoc, codes, drop, false, get_or, length, refl, sym, take, true, ℕ}
+use Rattle.std.proofs.Common.{◌≡◌, ◌∙◌, ◌++◌, ◌<◌, ◌+◌, Bool, List, [], ◌∷◌, None, Option, Some, ap, append_assoc, codes, drop, false}
+use Rattle.std.proofs.Common.{get_or, length, refl, sym, take, true, ℕ}
 use Rattle.std.proofs.lemmas.List.{drop_more, take-append-drop}
 use Rattle.std.specs.BTreeMap.{BTreeMap, get, is_at}
 use Rattle.std.specs.Cmp.Lexicographic.{pointwise, slice_cmp, texts_ties}
@@ -27,43 +28,59 @@ regroup : (a b c d e f : List ℕ) → (((((([] ++ a) ++ b) ++ c) ++ d) ++ e) ++
 regroup a b c d e f = simp append_assoc
 
 -- a name in its parts, one put after the other
-pub temp_named : (F : Facts) (dir : Option (List ℕ)) (seed number : ℕ) (suffix p0 p1 p2 p3 p4 p5 p6 : List ℕ) → variable_of F (codes "TMPDIR") ≡ Some dir
-    → p0 ≡ [] → p1 ≡ p0 ++ folder dir → p2 ≡ p1 ++ codes "cc" → p3 ≡ p2 ++ hex 8 seed → p4 ≡ p3 ++ codes "_" → p5 ≡ p4 ++ decimal number → p6 ≡ p5 ++ suffix
+pub temp_named : (F : Facts) (dir : Option (List ℕ)) (seed number : ℕ) (suffix p0 p1 p2 p3 p4 p5 p6 : List ℕ)
+    → variable_of F (codes "TMPDIR") ≡ Some dir
+    → p0 ≡ [] → p1 ≡ p0 ++ folder dir → p2 ≡ p1 ++ codes "cc" → p3 ≡ p2 ++ hex 8 seed → p4 ≡ p3 ++ codes "_" → p5 ≡ p4 ++ decimal number
+    → p6 ≡ p5 ++ suffix
     → temp_name F seed number suffix ≡ Is p6
 temp_named F dir seed number suffix p0 p1 p2 p3 p4 p5 p6 known e0 e1 e2 e3 e4 e5 e6 =
-    ap (λ (v : Option (Option (List ℕ))). asked v >>= λ path. Is (folder path ++ codes "cc" ++ hex 8 seed ++ codes "_" ++ decimal number ++ suffix)) known
-    ∙ ap Is (sym (e6 ∙ ap (λ p. p ++ suffix) (e5 ∙ ap (λ p. p ++ decimal number) (e4 ∙ ap (λ p. p ++ codes "_") (e3 ∙ ap (λ p. p ++ hex 8 seed) (e2 ∙ ap (λ p. p ++ codes "cc") (e1 ∙ ap (λ p. p ++ folder dir) e0)))))
+    ap (λ (v : Option (Option (List ℕ))). asked v >>= λ path. Is
+    (folder path ++ codes "cc" ++ hex 8 seed ++ codes "_" ++ decimal number ++ suffix)) known
+    ∙ ap Is (sym (e6 ∙ ap (λ p. p ++ suffix) (e5 ∙ ap (λ p. p ++ decimal number)
+    (e4 ∙ ap (λ p. p ++ codes "_") (e3 ∙ ap (λ p. p ++ hex 8 seed)
+    (e2 ∙ ap (λ p. p ++ codes "cc") (e1 ∙ ap (λ p. p ++ folder dir) e0)))))
     ∙ regroup (folder dir) (codes "cc") (hex 8 seed) (codes "_") (decimal number) suffix))
 
 module _ (drawing : Drawing) (suffix : List ℕ) where
-  drawn_here : (name : Drawn) (later : List Drawn) → last_drawn drawing suffix later ≡ None → is_drawn drawing suffix name ≡ true → last_drawn drawing suffix (name ∷ later) ≡ Some name.path
+  drawn_here : (name : Drawn) (later : List Drawn) → last_drawn drawing suffix later ≡ None → is_drawn drawing suffix name ≡ true
+      → last_drawn drawing suffix (name ∷ later) ≡ Some name.path
   drawn_here name later none is = rw (none, is) refl
 
   -- whatever was drawn before
-  drawn_after : (front later : List Drawn) (path : List ℕ) → last_drawn drawing suffix later ≡ Some path → last_drawn drawing suffix (front ++ later) ≡ Some path
+  drawn_after : (front later : List Drawn) (path : List ℕ) → last_drawn drawing suffix later ≡ Some path
+      → last_drawn drawing suffix (front ++ later) ≡ Some path
   drawn_after [] later path is = is
   drawn_after (name ∷ front) later path is = rw (drawn_after front later path is) refl
 
   -- the last one is at this place
-  pub drawn_at : (drawn : List Drawn) (i next : ℕ) (name : Drawn) (path : List ℕ) → i < length drawn → next ≡ i + 1 → name ≡ get_or drawn i name → last_drawn drawing suffix (drop next drawn) ≡ None → is_drawn drawing suffix name ≡ true → path ≡ name.path
+  pub drawn_at : (drawn : List Drawn) (i next : ℕ) (name : Drawn) (path : List ℕ) → i < length drawn → next ≡ i + 1
+      → name ≡ get_or drawn i name → last_drawn drawing suffix (drop next drawn) ≡ None → is_drawn drawing suffix name ≡ true
+      → path ≡ name.path
       → Some path ≡ last_drawn drawing suffix drawn
   drawn_at drawn i next name path within follows at none is same =
       let later = ap (λ k. last_drawn drawing suffix (drop k drawn)) (sym follows) ∙ none in
-      let here = ap (last_drawn drawing suffix) (drop_more drawn i name within ∙ ap (λ n. n ∷ drop (i + 1) drawn) (sym at)) ∙ drawn_here name (drop (i + 1) drawn) later is in
-      ap Some same ∙ sym (drawn_after (take i drawn) (drop i drawn) name.path here) ∙ ap (last_drawn drawing suffix) (take-append-drop i drawn)
+      let here = ap (last_drawn drawing suffix) (drop_more drawn i name within ∙ ap (λ n. n ∷ drop (i + 1) drawn) (sym at))
+      ∙ drawn_here name (drop (i + 1) drawn) later is in
+      ap Some same ∙ sym (drawn_after (take i drawn) (drop i drawn) name.path here)
+      ∙ ap (last_drawn drawing suffix) (take-append-drop i drawn)
 
   -- one name more was drawn
-  last_more : (name : Drawn) (names : List Drawn) → last_drawn drawing suffix (names ++ name ∷ []) ≡ (if is_drawn drawing suffix name then Some name.path else last_drawn drawing suffix names)
+  last_more : (name : Drawn) (names : List Drawn) → last_drawn drawing suffix (names ++ name ∷ [])
+      ≡ (if is_drawn drawing suffix name then Some name.path else last_drawn drawing suffix names)
   last_more name [] = refl
   last_more name (first ∷ names) = by (is_drawn drawing suffix name) refl (last_more name names)
     where
-      by : (b : Bool) → is_drawn drawing suffix name ≡ b → last_drawn drawing suffix (names ++ name ∷ []) ≡ (if is_drawn drawing suffix name then Some name.path else last_drawn drawing suffix names)
-          → last_drawn drawing suffix (first ∷ (names ++ name ∷ [])) ≡ (if is_drawn drawing suffix name then Some name.path else last_drawn drawing suffix (first ∷ names))
+      by : (b : Bool) → is_drawn drawing suffix name ≡ b
+          → last_drawn drawing suffix (names ++ name ∷ []) ≡ (if is_drawn drawing suffix name then Some name.path
+          else last_drawn drawing suffix names)
+          → last_drawn drawing suffix (first ∷ (names ++ name ∷ []))
+          ≡ (if is_drawn drawing suffix name then Some name.path else last_drawn drawing suffix (first ∷ names))
       by true is more = rw (more, is) refl
       by false is more = rw (more, is) refl
 
 -- the path of a name was kept as the last one of its suffix
-by_path : (drawing : Drawing) (paths after : BTreeMap (List ℕ) (List ℕ)) (name : Drawn) (names : List Drawn) → is_same name.drawing drawing ≡ true → NotesPath paths after name
+by_path : (drawing : Drawing) (paths after : BTreeMap (List ℕ) (List ℕ)) (name : Drawn) (names : List Drawn)
+    → is_same name.drawing drawing ≡ true → NotesPath paths after name
     → ((suffix : List ℕ) → get (slice_cmp nat_cmp) paths suffix ≡ last_drawn drawing suffix names)
     → (suffix : List ℕ) → get (slice_cmp nat_cmp) after suffix ≡ last_drawn drawing suffix (names ++ name ∷ [])
 by_path drawing paths after name names alike notes lasts suffix =
@@ -71,24 +88,30 @@ by_path drawing paths after name names alike notes lasts suffix =
     ∙ sym (last_more drawing suffix name names ∙ rw alike refl)
 
 -- and nothing of those that are drawn otherwise
-by_other : (drawing : Drawing) (paths : BTreeMap (List ℕ) (List ℕ)) (name : Drawn) (names : List Drawn) → is_same name.drawing drawing ≡ false
+by_other : (drawing : Drawing) (paths : BTreeMap (List ℕ) (List ℕ)) (name : Drawn) (names : List Drawn)
+    → is_same name.drawing drawing ≡ false
     → ((suffix : List ℕ) → get (slice_cmp nat_cmp) paths suffix ≡ last_drawn drawing suffix names)
     → (suffix : List ℕ) → get (slice_cmp nat_cmp) paths suffix ≡ last_drawn drawing suffix (names ++ name ∷ [])
 by_other drawing paths name names apart lasts suffix = lasts suffix ∙ sym (last_more drawing suffix name names ∙ rw apart refl)
 
-pub once_noted : (lasts : LastPaths) (after : BTreeMap (List ℕ) (List ℕ)) (name : Drawn) (names : List Drawn) → name.drawing ≡ Once → NotesPath lasts.once after name → Lasts lasts names
+pub once_noted : (lasts : LastPaths) (after : BTreeMap (List ℕ) (List ℕ)) (name : Drawn) (names : List Drawn) → name.drawing ≡ Once
+    → NotesPath lasts.once after name → Lasts lasts names
     → Lasts (record { once = after; anew = lasts.anew }) (names ++ name ∷ [])
-once_noted lasts after name names is notes kept Once = by_path Once lasts.once after name names (ap (λ d. is_same d Once) is) notes (kept Once)
+once_noted lasts after name names is notes kept Once =
+    by_path Once lasts.once after name names (ap (λ d. is_same d Once) is) notes (kept Once)
 once_noted lasts after name names is notes kept Anew = by_other Anew lasts.anew name names (ap (λ d. is_same d Anew) is) (kept Anew)
 
-pub anew_noted : (lasts : LastPaths) (after : BTreeMap (List ℕ) (List ℕ)) (name : Drawn) (names : List Drawn) → name.drawing ≡ Anew → NotesPath lasts.anew after name → Lasts lasts names
+pub anew_noted : (lasts : LastPaths) (after : BTreeMap (List ℕ) (List ℕ)) (name : Drawn) (names : List Drawn) → name.drawing ≡ Anew
+    → NotesPath lasts.anew after name → Lasts lasts names
     → Lasts (record { once = lasts.once; anew = after }) (names ++ name ∷ [])
-anew_noted lasts after name names is notes kept Anew = by_path Anew lasts.anew after name names (ap (λ d. is_same d Anew) is) notes (kept Anew)
+anew_noted lasts after name names is notes kept Anew =
+    by_path Anew lasts.anew after name names (ap (λ d. is_same d Anew) is) notes (kept Anew)
 anew_noted lasts after name names is notes kept Once = by_other Once lasts.once name names (ap (λ d. is_same d Once) is) (kept Once)
 
 -- the path went into the map
 pub path_noted : (paths after : BTreeMap (List ℕ) (List ℕ)) (name : Drawn) (suffix path : List ℕ) → suffix ≡ name.suffix → path ≡ name.path
-    → ((other : List ℕ) → get (slice_cmp nat_cmp) after other ≡ cond (is_at (slice_cmp nat_cmp suffix) other) (Some path) (get (slice_cmp nat_cmp) paths other))
+    → ((other : List ℕ) → get (slice_cmp nat_cmp) after other
+    ≡ cond (is_at (slice_cmp nat_cmp suffix) other) (Some path) (get (slice_cmp nat_cmp) paths other))
     → NotesPath paths after name
 path_noted paths after name suffix path suffix_is path_is grows other =
     grows other
@@ -97,10 +120,12 @@ path_noted paths after name suffix path suffix_is path_is grows other =
     ∙ ap (λ b. cond b (Some name.path) (get (slice_cmp nat_cmp) paths other)) (sym (texts_ties name.suffix other))
     ∙ turned (pointwise nat_eq name.suffix other)
   where
-    turned : (b : Bool) → cond b (Some name.path) (get (slice_cmp nat_cmp) paths other) ≡ (if b then Some name.path else get (slice_cmp nat_cmp) paths other)
+    turned : (b : Bool) → cond b (Some name.path) (get (slice_cmp nat_cmp) paths other)
+        ≡ (if b then Some name.path else get (slice_cmp nat_cmp) paths other)
     turned true = refl
     turned false = refl
 
 -- where commands are piped, %| is a hyphen
-pub piped_out : (F : Facts) (C : Context) (s : Machine) (kind : TempKind) (suffix : List ℕ) → kind ≡ PipedOut → C.is_piping ≡ true → run F C s (bytes (hyphen ∷ [])) ≡ run F C s (temp_step F C kind suffix)
+pub piped_out : (F : Facts) (C : Context) (s : Machine) (kind : TempKind) (suffix : List ℕ) → kind ≡ PipedOut → C.is_piping ≡ true
+    → run F C s (bytes (hyphen ∷ [])) ≡ run F C s (temp_step F C kind suffix)
 piped_out F C s kind suffix is piping = rw (is, piping) refl

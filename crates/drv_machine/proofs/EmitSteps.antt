@@ -22,7 +22,8 @@ use Rattle.drv_syntax.specs.declared.token.TokenKind.TheVariants as kinds
 use Rattle.drv_system.specs.Facts.{Facts}
 use Rattle.drv_system.specs.Known.{Is, Unasked}
 use Rattle.drv_words.specs.Bytes.{hyphen}
-use Rattle.std.proofs.Common.{◌≡◌, ◌⊎◌, ◌<◌, ◌≤◌, ◌+◌, ◌∙◌, ◌++◌, ◌||◌, All, Bool, Err, List, [], ◌∷◌, Ok, Option, Some, ap, append-nil, append_assoc, arith, drop, get_or, if◌then◌else◌, length, map, refl, slice_get, subst, sym, ℕ}
+use Rattle.std.proofs.Common.{◌≡◌, ◌⊎◌, ◌<◌, ◌≤◌, ◌+◌, ◌∙◌, ◌++◌, ◌||◌, All, Bool, Err, List, [], ◌∷◌, Ok, Option, Some, ap, append-nil}
+use Rattle.std.proofs.Common.{append_assoc, arith, drop, get_or, if◌then◌else◌, length, map, refl, slice_get, subst, sym, ℕ}
 use Rattle.std.proofs.lemmas.List.{drop_more, length-map}
 use Rattle.std.specs.List.{filter, flat_map, list_any, range_with_len}
 
@@ -30,7 +31,8 @@ use Rattle.std.specs.List.{filter, flat_map, list_any, range_with_len}
 
 -- the patterns that are left at a place
 abbrev pub PatternsLeft : List ℕ → ℕ → ℕ → List switches.Pattern → List (Span × Pattern) → Type 0
-PatternsLeft text at end done patterns = PartsLeft pattern_nodes text at end (λ rest. done ++ map (λ p. matching p.1) rest ≡ map (λ p. matching p.1) patterns)
+PatternsLeft text at end done patterns = PartsLeft pattern_nodes text at end
+    (λ rest. done ++ map (λ p. matching p.1) rest ≡ map (λ p. matching p.1) patterns)
 
 pub record FrontPattern (text : List ℕ) (at : ℕ) (patterns : List (Span × Pattern)) (end : ℕ) : Type 0 where
   pub pattern : Span × Pattern
@@ -38,13 +40,16 @@ pub record FrontPattern (text : List ℕ) (at : ℕ) (patterns : List (Span × P
   pub is : patterns ≡ pattern ∷ others
   pub first : First text at kinds.Pattern (pattern_label pattern.1) no_node (pattern_nodes others) end
 
-pub front_pattern : (text : List ℕ) (at : ℕ) (patterns : List (Span × Pattern)) (end : ℕ) → at < end → Stands text at (pattern_nodes patterns) end → FrontPattern text at patterns end
+pub front_pattern : (text : List ℕ) (at : ℕ) (patterns : List (Span × Pattern)) (end : ℕ) → at < end
+    → Stands text at (pattern_nodes patterns) end → FrontPattern text at patterns end
 front_pattern text at [] end h e = absurd (omega (arith, h, e))
 front_pattern text at (p ∷ patterns) end h s = record { pattern = p; others = patterns; is = refl; first = first_of s }
 
-pub no_patterns_left : (text : List ℕ) (at : ℕ) (patterns : List (Span × Pattern)) (end : ℕ) → end ≤ at → Stands text at (pattern_nodes patterns) end → patterns ≡ []
+pub no_patterns_left : (text : List ℕ) (at : ℕ) (patterns : List (Span × Pattern)) (end : ℕ) → end ≤ at
+    → Stands text at (pattern_nodes patterns) end → patterns ≡ []
 no_patterns_left text at [] end h s = refl
-no_patterns_left text at (p ∷ patterns) end h (next, part, within, following) = absurd (omega (arith, h, part.later, stand_grows _ _ next (pattern_nodes patterns) end following))
+no_patterns_left text at (p ∷ patterns) end h (next, part, within, following) =
+    absurd (omega (arith, h, part.later, stand_grows _ _ next (pattern_nodes patterns) end following))
 
 any_map : {A B : Type 0} (f : B → Bool) (g : A → B) (xs : List A) → list_any f (map g xs) ≡ list_any (λ x. f (g x)) xs
 any_map f g [] = refl
@@ -52,27 +57,38 @@ any_map f g (x ∷ xs) = ap (λ b. f (g x) || b) (any_map f g xs)
 
 filter_same : {A : Type 0} (f g : A → Bool) (xs : List A) → ((x : A) → f x ≡ g x) → filter f xs ≡ filter g xs
 filter_same f g [] e = refl
-filter_same f g (x ∷ xs) e = ap (λ b. if b then x ∷ filter f xs else filter f xs) (e x) ∙ ap (λ ys. if g x then x ∷ ys else ys) (filter_same f g xs e)
+filter_same f g (x ∷ xs) e = ap (λ b. if b then x ∷ filter f xs else filter f xs) (e x)
+    ∙ ap (λ ys. if g x then x ∷ ys else ys) (filter_same f g xs e)
 
-pub emitted_is : (F : Facts) (C : Context) (patterns : List (Span × Pattern)) (hidden : List Bool) → emitted F C patterns hidden ≡ put_at F C (any_hits (names C) hidden (map (λ p. matching p.1) patterns))
+pub emitted_is : (F : Facts) (C : Context) (patterns : List (Span × Pattern)) (hidden : List Bool)
+    → emitted F C patterns hidden ≡ put_at F C (any_hits (names C) hidden (map (λ p. matching p.1) patterns))
 emitted_is F C patterns hidden =
-    ap (flat_map (switch_atoms F C)) (filter_same (λ i. list_any (λ p. is_hit (names C) hidden (matching p.1) i) patterns) (is_any_hit (names C) hidden (map (λ p. matching p.1) patterns)) (places F C) (λ i. sym (any_map (λ p. is_hit (names C) hidden p i) (λ p. matching p.1) patterns)))
-    ∙ ap (λ n. put_at F C (filter (is_any_hit (names C) hidden (map (λ p. matching p.1) patterns)) (range_with_len 0 n))) (sym (length-map C.switches (λ s. s.name)))
+    ap (flat_map (switch_atoms F C)) (filter_same (λ i. list_any (λ p. is_hit (names C) hidden (matching p.1) i) patterns)
+    (is_any_hit (names C) hidden (map (λ p. matching p.1) patterns)) (places F C)
+    (λ i. sym (any_map (λ p. is_hit (names C) hidden p i) (λ p. matching p.1) patterns)))
+    ∙ ap (λ n. put_at F C (filter (is_any_hit (names C) hidden (map (λ p. matching p.1) patterns)) (range_with_len 0 n)))
+    (sym (length-map C.switches (λ s. s.name)))
 
 -- what was looked up in the line's switches
-pub emitted_found : (F : Facts) (C : Context) (patterns : List (Span × Pattern)) (hidden flags : List Bool) (all : List (List ℕ)) (these : List switches.Pattern) (found list : List ℕ) → list ≡ found → found ≡ any_hits all flags these
+pub emitted_found : (F : Facts) (C : Context) (patterns : List (Span × Pattern)) (hidden flags : List Bool) (all : List (List ℕ))
+    (these : List switches.Pattern) (found list : List ℕ) → list ≡ found → found ≡ any_hits all flags these
     → all ≡ names C → flags ≡ hidden → these ≡ map (λ p. matching p.1) patterns → put_at F C list ≡ emitted F C patterns hidden
 emitted_found F C patterns hidden flags all these found list same is ns hs ps =
-    ap (put_at F C) (same ∙ is ∙ ap (λ xs. any_hits xs flags these) ns ∙ ap (λ xs. any_hits (names C) xs these) hs ∙ ap (any_hits (names C) hidden) ps) ∙ sym (emitted_is F C patterns hidden)
+    ap (put_at F C) (same ∙ is ∙ ap (λ xs. any_hits xs flags these) ns ∙ ap (λ xs. any_hits (names C) xs these) hs
+    ∙ ap (any_hits (names C) hidden) ps) ∙ sym (emitted_is F C patterns hidden)
 
 -- the places that were found are of the line
-pub all_in_line : (C : Context) (all : List (List ℕ)) (found list : List ℕ) → All (λ i. i < length all) found → list ≡ found → all ≡ names C → All (λ i. i < length C.switches) list
+pub all_in_line : (C : Context) (all : List (List ℕ)) (found list : List ℕ) → All (λ i. i < length all) found → list ≡ found → all ≡ names C
+    → All (λ i. i < length C.switches) list
 all_in_line C all found list within same ns =
-    subst (λ (is : List ℕ). All (λ i. i < length C.switches) is) (sym same) (subst (λ (n : ℕ). All (λ i. i < n) found) (ap (λ xs. length xs) ns ∙ length-map C.switches (λ switch. switch.name)) within)
+    subst (λ (is : List ℕ). All (λ i. i < length C.switches) is) (sym same)
+    (subst (λ (n : ℕ). All (λ i. i < n) found) (ap (λ xs. length xs) ns ∙ length-map C.switches (λ switch. switch.name)) within)
 
 -- going over patterns
-pub patterns_step : (text : List ℕ) (at end : ℕ) → at < end → (token : Token) → slice_get (tokens_of (tree_of text)) at ≡ Some token → (done new : List switches.Pattern) (p : switches.Pattern)
-    → p ≡ labelled (label_at (tree_of text) at) → new ≡ done ++ p ∷ [] → (patterns : List (Span × Pattern)) → PatternsLeft text at end done patterns → PatternsLeft text token.next end new patterns
+pub patterns_step : (text : List ℕ) (at end : ℕ) → at < end → (token : Token) → slice_get (tokens_of (tree_of text)) at ≡ Some token
+    → (done new : List switches.Pattern) (p : switches.Pattern)
+    → p ≡ labelled (label_at (tree_of text) at) → new ≡ done ++ p ∷ [] → (patterns : List (Span × Pattern))
+    → PatternsLeft text at end done patterns → PatternsLeft text token.next end new patterns
 patterns_step text at end h token there done new p is e patterns left =
     let f = front_pattern text at left.rest end h left.stands in
     let m = matching f.pattern.1 in
@@ -80,32 +96,41 @@ patterns_step text at end h token there done new p is e patterns left =
       rest = f.others;
       stands = stands_after f.first token there;
       same =
-          ap (λ ps. ps ++ map (λ q. matching q.1) f.others) (e ∙ ap (λ q. done ++ q ∷ []) one) ∙ append_assoc done (matching f.pattern.1 ∷ []) (map (λ q. matching q.1) f.others)
+          ap (λ ps. ps ++ map (λ q. matching q.1) f.others) (e ∙ ap (λ q. done ++ q ∷ []) one)
+          ∙ append_assoc done (matching f.pattern.1 ∷ []) (map (λ q. matching q.1) f.others)
           ∙ ap (λ qs. done ++ map (λ q. matching q.1) qs) (sym f.is) ∙ left.same;
     }
 
-pub patterns_end : (text : List ℕ) (at end : ℕ) → end ≤ at → (done : List switches.Pattern) (patterns : List (Span × Pattern)) → PatternsLeft text at end done patterns → done ≡ map (λ p. matching p.1) patterns
+pub patterns_end : (text : List ℕ) (at end : ℕ) → end ≤ at → (done : List switches.Pattern) (patterns : List (Span × Pattern))
+    → PatternsLeft text at end done patterns → done ≡ map (λ p. matching p.1) patterns
 patterns_end text at end h done patterns left =
-    sym (append-nil done) ∙ ap (λ qs. done ++ map (λ q. matching q.1) qs) (sym (no_patterns_left text at left.rest end h left.stands)) ∙ left.same
+    sym (append-nil done) ∙ ap (λ qs. done ++ map (λ q. matching q.1) qs) (sym (no_patterns_left text at left.rest end h left.stands))
+    ∙ left.same
 
 -- the switches that are left, one by one
 module _ (F : Facts) (C : Context) (s t : Machine) (places : List ℕ) (k : ℕ) (h : k < length places) where
   put_more : put_at F C (drop k places) ≡ switch_atoms F C (get_or places k 0) ++ put_at F C (drop (k + 1) places)
   put_more = ap (put_at F C) (drop_more places k 0 h)
 
-  pub put_one : run F C s (puts (switch_atoms F C (get_or places k 0))) ≡ Is (Ok (tt, t)) → run F C s (puts (put_at F C (drop k places))) ≡ run F C t (puts (put_at F C (drop (k + 1) places)))
-  put_one went = ap (λ list. run F C s (puts list)) put_more ∙ put_then F C s t (switch_atoms F C (get_or places k 0)) (put_at F C (drop (k + 1) places)) went
+  pub put_one : run F C s (puts (switch_atoms F C (get_or places k 0))) ≡ Is (Ok (tt, t))
+      → run F C s (puts (put_at F C (drop k places))) ≡ run F C t (puts (put_at F C (drop (k + 1) places)))
+  put_one went = ap (λ list. run F C s (puts list)) put_more
+      ∙ put_then F C s t (switch_atoms F C (get_or places k 0)) (put_at F C (drop (k + 1) places)) went
 
-  pub put_fails : (fault : MachineFault) → (fault ≡ Memory) ⊎ (run F C s (puts (switch_atoms F C (get_or places k 0))) ≡ Is (Err fault)) → (fault ≡ Memory) ⊎ (run F C s (puts (put_at F C (drop k places))) ≡ Is (Err fault))
+  pub put_fails : (fault : MachineFault) → (fault ≡ Memory) ⊎ (run F C s (puts (switch_atoms F C (get_or places k 0))) ≡ Is (Err fault))
+      → (fault ≡ Memory) ⊎ (run F C s (puts (put_at F C (drop k places))) ≡ Is (Err fault))
   put_fails fault stopped =
-      fails_as (run F C s (puts (switch_atoms F C (get_or places k 0) ++ put_at F C (drop (k + 1) places)))) (run F C s (puts (put_at F C (drop k places))))
-      (put_failed F C s (switch_atoms F C (get_or places k 0)) (put_at F C (drop (k + 1) places)) fault stopped) (λ x. ap (λ list. run F C s (puts list)) put_more ∙ x)
+      fails_as (run F C s (puts (switch_atoms F C (get_or places k 0) ++ put_at F C (drop (k + 1) places))))
+      (run F C s (puts (put_at F C (drop k places))))
+      (put_failed F C s (switch_atoms F C (get_or places k 0)) (put_at F C (drop (k + 1) places)) fault stopped)
+      (λ x. ap (λ list. run F C s (puts list)) put_more ∙ x)
 
 -- what is put leaves the world as it was
 pub put_world : (F : Facts) (C : Context) (s t : Machine) (atoms : List Atom) → run F C s (puts atoms) ≡ Is (Ok (tt, t)) → t.world ≡ s.world
 put_world F C s t atoms e = by (all_taken F C s.cut atoms) e
   where
-    by : (a : Answer Cut) → ◌>>-◌ {Y = Unit {0} × Machine} a (λ d. Is (Ok (tt, record { cut = d; world = s.world }))) ≡ Is (Ok (tt, t)) → t.world ≡ s.world
+    by : (a : Answer Cut) → ◌>>-◌ {Y = Unit {0} × Machine} a (λ d. Is (Ok (tt, record { cut = d; world = s.world }))) ≡ Is (Ok (tt, t))
+        → t.world ≡ s.world
     by (Is (Ok d)) e = ap world_in (sym e)
       where
         world_in : Answer (Unit {0} × Machine) → World
@@ -119,12 +144,15 @@ put_world F C s t atoms e = by (all_taken F C s.cut atoms) e
 pub in_line : (C : Context) (all : List (List ℕ)) (i n : ℕ) → i < n → n ≡ length all → all ≡ names C → i < length C.switches
 in_line C all i n h e same = subst (λ (k : ℕ). i < k) (e ∙ ap (λ xs. length xs) same ∙ length-map C.switches (λ switch. switch.name)) h
 
-pub switch_is : (F : Facts) (C : Context) (name : List ℕ) (given : Option (List ℕ)) (i : ℕ) → name ≡ name_at (names C) i → given ≡ argument C i
+pub switch_is : (F : Facts) (C : Context) (name : List ℕ) (given : Option (List ℕ)) (i : ℕ) → name ≡ name_at (names C) i
+    → given ≡ argument C i
     → map Put (hyphen ∷ name) ++ Break ∷ word_of given ≡ switch_atoms F C i
-switch_is F C name given i n a = ap (λ xs. map Put (hyphen ∷ xs) ++ Break ∷ word_of given) n ∙ ap (λ o. map Put (hyphen ∷ name_at (names C) i) ++ Break ∷ word_of o) a
+switch_is F C name given i n a = ap (λ xs. map Put (hyphen ∷ xs) ++ Break ∷ word_of given) n
+    ∙ ap (λ o. map Put (hyphen ∷ name_at (names C) i) ++ Break ∷ word_of o) a
 
 pub line_end : (C : Context) (all : List (List ℕ)) (i n : ℕ) → i ≤ n → n ≤ i → n ≡ length all → all ≡ names C → length C.switches ≡ i
-line_end C all i n h g e same = sym (ap (λ xs. length xs) same ∙ length-map C.switches (λ switch. switch.name)) ∙ sym e ∙ by (omega (arith, h, g))
+line_end C all i n h g e same = sym (ap (λ xs. length xs) same ∙ length-map C.switches (λ switch. switch.name)) ∙ sym e
+    ∙ by (omega (arith, h, g))
   where
     by : n ≡ i → n ≡ i
     by m = m

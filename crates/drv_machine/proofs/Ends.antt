@@ -5,7 +5,8 @@ use Rattle.drv_machine.specs.Code.Running.{Machine, run}
 use Rattle.drv_machine.specs.Working.{◌>>-◌, Answer, Break, puts}
 use Rattle.drv_system.specs.Facts.{Facts}
 use Rattle.drv_system.specs.Known.{Is, Unasked}
-use Rattle.std.proofs.Common.{◌≡◌, ◌≤◌, ◌∙◌, ◌++◌, ◌&&◌, ◌-◌, Bool, Err, List, [], ◌∷◌, Ok, Option, ap, append_assoc, arith, false, if◌then◌else◌, length, map, refl, sym, true, ℕ}
+use Rattle.std.proofs.Common.{◌≡◌, ◌≤◌, ◌∙◌, ◌++◌, ◌&&◌, ◌-◌, Bool, Err, List, [], ◌∷◌, Ok, Option, ap, append_assoc, arith, false}
+use Rattle.std.proofs.Common.{if◌then◌else◌, length, map, refl, sym, true, ℕ}
 use Rattle.std.proofs.lemmas.List.{length-append, length-replicate}
 use Rattle.std.specs.Prelude.{None, Some, is_some, not, replicate}
 
@@ -20,7 +21,8 @@ map_same : {X Y : Type 0} (y : Y) (xs : List X) → map (λ x. y) xs ≡ replica
 map_same y [] = refl
 map_same y (x ∷ xs) = ap (λ ys. y ∷ ys) (map_same y xs)
 
-pub all_ended : (last word : List ℕ) (count fresh : ℕ) → fresh ≤ count → ended_in word count 0 ≡ map (λ before. Some word) (ended_in last count fresh)
+pub all_ended : (last word : List ℕ) (count fresh : ℕ) → fresh ≤ count
+    → ended_in word count 0 ≡ map (λ before. Some word) (ended_in last count fresh)
 all_ended last word count fresh h = sym (map_same (Some word) (ended_in last count fresh) ∙ ap (λ k. replicate k (Some word)) long)
   where
     long : length (ended_in last count fresh) ≡ count - 0
@@ -50,47 +52,65 @@ word_pushed word s = record s { cut = record s.cut { line = record { words = s.c
 abbrev word_closed : Machine → Machine
 word_closed s = record s { cut = record s.cut { word = None; marks = no_marks; barred = false } }
 
-pub word_finished : (word : List ℕ) (s a b c d e f : Machine) → a ≡ removed_kept word s → b ≡ failure_kept word a → c ≡ output_kept word b → d ≡ inside_kept word c → e ≡ word_pushed word d → f ≡ word_closed e
+pub word_finished : (word : List ℕ) (s a b c d e f : Machine) → a ≡ removed_kept word s → b ≡ failure_kept word a → c ≡ output_kept word b
+    → d ≡ inside_kept word c → e ≡ word_pushed word d → f ≡ word_closed e
     → f ≡ record s { cut = word_done s.cut (word ∷ []) word }
 word_finished word s a b c d e f ea eb ec ed ee ef =
-    ef ∙ ap word_closed (ee ∙ ap (word_pushed word) (ed ∙ ap (inside_kept word) (ec ∙ ap (output_kept word) (eb ∙ ap (failure_kept word) ea))))
+    ef ∙ ap word_closed (ee ∙ ap (word_pushed word) (ed
+    ∙ ap (inside_kept word) (ec ∙ ap (output_kept word) (eb ∙ ap (failure_kept word) ea))))
 
 -- a script's path is put after its option
-pub script_finished : (path option : List ℕ) (s a b : Machine) → option ≡ script_option → a ≡ word_pushed option s → b ≡ record a { cut = word_done a.cut (path ∷ []) path }
+pub script_finished : (path option : List ℕ) (s a b : Machine) → option ≡ script_option → a ≡ word_pushed option s
+    → b ≡ record a { cut = word_done a.cut (path ∷ []) path }
     → b ≡ record s { cut = word_done s.cut (script_option ∷ path ∷ []) path }
 script_finished path option s a b eo ea eb =
     eb ∙ ap (λ (m : Machine). record m { cut = word_done m.cut (path ∷ []) path }) (ea ∙ ap (λ o. word_pushed o s) eo)
-    ∙ ap (λ (ws : List (List ℕ)). record s { cut = record (word_done s.cut (script_option ∷ path ∷ []) path) { line = record { words = ws; piped = s.cut.line.piped } } }) (append_assoc s.cut.line.words (script_option ∷ []) (path ∷ []))
+    ∙ ap (λ (ws : List (List ℕ)). record s {
+      cut = record (word_done s.cut (script_option ∷ path ∷ []) path)
+          { line = record { words = ws; piped = s.cut.line.piped } };
+    }) (append_assoc s.cut.line.words (script_option ∷ []) (path ∷ []))
 
 module _ (F : Facts) (C : Context) (s : Machine) where
   -- no word is open
   pub none_ends : s.cut.word ≡ None → run F C s (puts (Break ∷ [])) ≡ Is (Ok (tt, word_closed s))
   none_ends e =
-      let f : Option (List ℕ) → Answer (Unit {0} × Machine) = λ o. run F C (record s { cut = record s.cut { word = o } }) (puts (Break ∷ [])) in
+      let f : Option (List ℕ) → Answer (Unit {0} × Machine) =
+      λ o. run F C (record s { cut = record s.cut { word = o } }) (puts (Break ∷ [])) in
       ap f e
 
   module _ (word : List ℕ) (e : s.cut.word ≡ Some word) where
     abbrev ended : Bool → Bool → Answer (Unit {0} × Machine)
-    ended script file = run F C (record s { cut = record s.cut { word = Some word; marks = record s.cut.marks { script = script; file = file } } }) (puts (Break ∷ []))
+    ended script file = run F C (record s {
+      cut = record s.cut
+          { word = Some word; marks = record s.cut.marks { script = script; file = file } };
+    }) (puts (Break ∷ []))
 
-    at_break : (script file : Bool) → s.cut.marks.script ≡ script → s.cut.marks.file ≡ file → run F C s (puts (Break ∷ [])) ≡ ended script file
+    at_break : (script file : Bool) → s.cut.marks.script ≡ script → s.cut.marks.file ≡ file
+        → run F C s (puts (Break ∷ [])) ≡ ended script file
     at_break script file a b =
-        let f : Option (List ℕ) → Bool → Bool → Answer (Unit {0} × Machine) = λ o x y. run F C (record s { cut = record s.cut { word = o; marks = record s.cut.marks { script = x; file = y } } }) (puts (Break ∷ [])) in
-        ap (λ o. f o s.cut.marks.script s.cut.marks.file) e ∙ ap (λ x. f (Some word) x s.cut.marks.file) a ∙ ap (λ y. f (Some word) script y) b
+        let f : Option (List ℕ) → Bool → Bool → Answer (Unit {0} × Machine) =
+        λ o x y. run F C (record s { cut = record s.cut { word = o; marks = record s.cut.marks { script = x; file = y } } })
+        (puts (Break ∷ [])) in
+        ap (λ o. f o s.cut.marks.script s.cut.marks.file) e ∙ ap (λ x. f (Some word) x s.cut.marks.file) a
+        ∙ ap (λ y. f (Some word) script y) b
 
-    pub plain_ends : s.cut.marks.script ≡ false → s.cut.marks.file ≡ false → run F C s (puts (Break ∷ [])) ≡ Is (Ok (tt, record s { cut = word_done s.cut (word ∷ []) word }))
+    pub plain_ends : s.cut.marks.script ≡ false → s.cut.marks.file ≡ false
+        → run F C s (puts (Break ∷ [])) ≡ Is (Ok (tt, record s { cut = word_done s.cut (word ∷ []) word }))
     plain_ends a b = at_break false false a b
 
     abbrev following : Cut → Answer (Unit {0} × Machine)
     following d = Is (Ok (tt, record s { cut = d }))
 
-    after : (words : List ℕ → List (List ℕ)) (x : Answer (List ℕ)) → (((x >>- λ path. Is (Ok (word_done s.cut (words path) path))) >>- λ d. Is (Ok d)) >>- following) ≡ word_found s words x
+    after : (words : List ℕ → List (List ℕ)) (x : Answer (List ℕ))
+        → (((x >>- λ path. Is (Ok (word_done s.cut (words path) path))) >>- λ d. Is (Ok d)) >>- following) ≡ word_found s words x
     after words (Is (Ok path)) = refl
     after words (Is (Err fault)) = refl
     after words Unasked = refl
 
-    pub file_ends : s.cut.marks.script ≡ false → s.cut.marks.file ≡ true → run F C s (puts (Break ∷ [])) ≡ word_found s (λ path. path ∷ []) (found_file F C word)
+    pub file_ends : s.cut.marks.script ≡ false → s.cut.marks.file ≡ true
+        → run F C s (puts (Break ∷ [])) ≡ word_found s (λ path. path ∷ []) (found_file F C word)
     file_ends a b = at_break false true a b ∙ after (λ path. path ∷ []) (found_file F C word)
 
-    pub script_ends : s.cut.marks.script ≡ true → run F C s (puts (Break ∷ [])) ≡ word_found s (λ path. script_option ∷ path ∷ []) (found_script F C word)
+    pub script_ends : s.cut.marks.script ≡ true → run F C s (puts (Break ∷ []))
+        ≡ word_found s (λ path. script_option ∷ path ∷ []) (found_script F C word)
     script_ends a = at_break true s.cut.marks.file a refl ∙ after (λ path. script_option ∷ path ∷ []) (found_script F C word)

@@ -24,7 +24,8 @@ use Rattle.drv_syntax.specs.declared.token.TokenKind.TheVariants as kinds
 use Rattle.drv_system.specs.Facts.{Facts}
 use Rattle.drv_system.specs.Gives.{GivesKnown}
 use Rattle.drv_system.specs.Known.{Is}
-use Rattle.std.proofs.Common.{◌≡◌, ◌<◌, ◌≤◌, ◌+◌, ◌-◌, ◌++◌, ◌∙◌, Err, List, [], ◌∷◌, None, Ok, Option, Result, Some, ap, arith, false, inl, inr, length, refl, slice_get, subst, suc, sym, zero, ℕ}
+use Rattle.std.proofs.Common.{◌≡◌, ◌<◌, ◌≤◌, ◌+◌, ◌-◌, ◌++◌, ◌∙◌, Err, List, [], ◌∷◌, None, Ok, Option, Result, Some, ap, arith, false, inl}
+use Rattle.std.proofs.Common.{inr, length, refl, slice_get, subst, suc, sym, zero, ℕ}
 use Rattle.std.specs.List.{filter, flat_map}
 use Rattle.std.specs.Prelude.{replicate}
 
@@ -36,26 +37,31 @@ one_more last count fresh =
     let none : Option (List ℕ) = None in
     let one : fresh + 1 ≡ suc fresh = omega arith in
     let same : (count + 1) - (fresh + 1) ≡ count - fresh = omega arith in
-    ap (λ k. replicate k none ++ replicate ((count + 1) - (fresh + 1)) (Some last)) one ∙ ap (λ k. none ∷ (replicate fresh none ++ replicate k (Some last))) same
+    ap (λ k. replicate k none ++ replicate ((count + 1) - (fresh + 1)) (Some last)) one
+    ∙ ap (λ k. none ∷ (replicate fresh none ++ replicate k (Some last))) same
 
 above_zero : (n : ℕ) → (n ≡ 0 → ⊥) → 0 < n
 above_zero zero h = absurd (h refl)
 above_zero (suc n) h = omega arith
 
 -- the innermost one ends
-pub ends_none : (last : List ℕ) (count fresh : ℕ) → count ≡ 0 → fresh ≤ count → Ends (ended_in last count fresh) (ended_in last count fresh) None
+pub ends_none : (last : List ℕ) (count fresh : ℕ) → count ≡ 0 → fresh ≤ count
+    → Ends (ended_in last count fresh) (ended_in last count fresh) None
 ends_none last count fresh e h =
     let none : fresh ≡ 0 = omega (arith, e, h) in
-    subst (λ (k : ℕ). Ends (ended_in last k fresh) (ended_in last k fresh) None) (sym e) (subst (λ (k : ℕ). Ends (ended_in last 0 k) (ended_in last 0 k) None) (sym none) (refl, refl))
+    subst (λ (k : ℕ). Ends (ended_in last k fresh) (ended_in last k fresh) None) (sym e)
+    (subst (λ (k : ℕ). Ends (ended_in last 0 k) (ended_in last 0 k) None) (sym none) (refl, refl))
 
-pub ends_last : (last word : List ℕ) (count fresh : ℕ) → (count ≡ 0 → ⊥) → fresh ≡ 0 → word ≡ last → Ends (ended_in last count fresh) (ended_in last (count - 1) fresh) (Some word)
+pub ends_last : (last word : List ℕ) (count fresh : ℕ) → (count ≡ 0 → ⊥) → fresh ≡ 0 → word ≡ last
+    → Ends (ended_in last count fresh) (ended_in last (count - 1) fresh) (Some word)
 ends_last last word count fresh some none is =
     let least = above_zero count some in
     let one : count - 0 ≡ suc (count - 1 - 0) = omega (arith, least) in
     subst (λ (k : ℕ). Ends (ended_in last count k) (ended_in last (count - 1) k) (Some word)) (sym none)
     (subst (λ (k : ℕ). Ends (replicate k (Some last)) (replicate (count - 1 - 0) (Some last)) (Some word)) (sym one) (refl, ap Some is))
 
-pub ends_fresh : (last : List ℕ) (count fresh : ℕ) → (count ≡ 0 → ⊥) → (fresh ≡ 0 → ⊥) → Ends (ended_in last count fresh) (ended_in last (count - 1) (fresh - 1)) None
+pub ends_fresh : (last : List ℕ) (count fresh : ℕ) → (count ≡ 0 → ⊥) → (fresh ≡ 0 → ⊥)
+    → Ends (ended_in last count fresh) (ended_in last (count - 1) (fresh - 1)) None
 ends_fresh last count fresh some others =
     let least = above_zero count some in
     let first = above_zero fresh others in
@@ -65,12 +71,14 @@ ends_fresh last count fresh some others =
     subst (λ (xs : List (Option (List ℕ))). Ends xs (ended_in last (count - 1) (fresh - 1)) None) (sym one) (refl, refl)
 
 -- and what it does to what is cut
-none_done : (inside after : List (Option (List ℕ))) (last : Option (List ℕ)) (c : Cut) → Ends inside after last → last ≡ None → c.inside ≡ inside → inside_done inside c ≡ record c { inside = after }
+none_done : (inside after : List (Option (List ℕ))) (last : Option (List ℕ)) (c : Cut) → Ends inside after last → last ≡ None
+    → c.inside ≡ inside → inside_done inside c ≡ record c { inside = after }
 none_done [] after last c e n i = ap (λ (ws : List (Option (List ℕ))). record c { inside = ws }) (i ∙ sym e.0)
 none_done (None ∷ outer) after last c e n i = ap (λ (ws : List (Option (List ℕ))). record c { inside = ws }) (sym e.0)
 none_done (Some word ∷ outer) after last c e n i = let f = sym e.1 ∙ n in absurd cc
 
-some_done : (inside after : List (Option (List ℕ))) (last : Option (List ℕ)) (word : List ℕ) (c : Cut) → Ends inside after last → last ≡ Some word
+some_done : (inside after : List (Option (List ℕ))) (last : Option (List ℕ)) (word : List ℕ) (c : Cut) → Ends inside after last
+    → last ≡ Some word
     → inside_done inside c ≡ record c { inside = after; on_failure = c.on_failure ++ word ∷ [] }
 some_done [] after last word c e n = let f = sym e.1 ∙ n in absurd cc
 some_done (None ∷ outer) after last word c e n = let f = sym e.1 ∙ n in absurd cc
@@ -78,7 +86,8 @@ some_done (Some other ∷ outer) after last word c e n =
     ap (λ (ws : List (Option (List ℕ))). record c { inside = ws; on_failure = c.on_failure ++ other ∷ [] }) (sym e.0)
     ∙ ap (λ (w : List ℕ). record c { inside = after; on_failure = c.on_failure ++ w ∷ [] }) (some_same other word (sym e.1 ∙ n))
 
-module _ (F : Facts) (C : Context) (s : Machine) (after : List (Option (List ℕ))) (last : Option (List ℕ)) (e : Ends s.cut.inside after last) where
+module _ (F : Facts) (C : Context) (s : Machine) (after : List (Option (List ℕ))) (last : Option (List ℕ))
+    (e : Ends s.cut.inside after last) where
   abbrev cut_as : Cut → Answer (Unit {0} × Machine)
   cut_as c = Is (Ok (tt, record s { cut = c }))
 
@@ -88,33 +97,39 @@ module _ (F : Facts) (C : Context) (s : Machine) (after : List (Option (List ℕ
   pub closed_some : (word : List ℕ) → last ≡ Some word → (files : List (List ℕ)) → files ≡ s.cut.on_failure ++ word ∷ []
       → run F C s (puts (To ∷ [])) ≡ Is (Ok (tt, record s { cut = record s.cut { inside = after; on_failure = files } }))
   closed_some word n files is =
-      ap cut_as (some_done s.cut.inside after last word s.cut e n) ∙ ap (λ (ws : List (List ℕ)). cut_as (record s.cut { inside = after; on_failure = ws })) (sym is)
+      ap cut_as (some_done s.cut.inside after last word s.cut e n)
+      ∙ ap (λ (ws : List (List ℕ)). cut_as (record s.cut { inside = after; on_failure = ws })) (sym is)
 
 -- what is in braces
 none_put : (is : List ℕ) (atoms : ℕ → List Atom) → flat_map atoms (filter (λ i. false) is) ≡ []
 none_put [] atoms = refl
 none_put (i ∷ is) atoms = none_put is atoms
 
-nothing_stands : (text : List ℕ) (start end : ℕ) (brace : Brace) → end ≤ start → Stands text start (brace_nodes brace) end → Chooses text start end brace
+nothing_stands : (text : List ℕ) (start end : ℕ) (brace : Brace) → end ≤ start → Stands text start (brace_nodes brace) end
+    → Chooses text start end brace
 nothing_stands text start end (tree.Choose choices) h s = record { choices = choices; stands = s; same = λ F C t levels star. refl }
 nothing_stands text start end (tree.Emit []) h s = record {
   choices = tree.no_choice;
   stands = s;
   same = λ F C t levels star. ap (λ atoms. run F C t (puts atoms)) (none_put (places F C) (switch_atoms F C));
 }
-nothing_stands text start end (tree.Emit (p ∷ patterns)) h (next, part, within, following) = absurd (omega (arith, h, part.later, stand_grows _ _ next _ end following))
+nothing_stands text start end (tree.Emit (p ∷ patterns)) h (next, part, within, following) =
+    absurd (omega (arith, h, part.later, stand_grows _ _ next _ end following))
 
-pub no_parts : (text : List ℕ) (start end : ℕ) → end ≤ start → (brace : Brace) → Stands text start (brace_nodes brace) end → Chooses text start end brace
+pub no_parts : (text : List ℕ) (start end : ℕ) → end ≤ start → (brace : Brace) → Stands text start (brace_nodes brace) end
+    → Chooses text start end brace
 no_parts text start end h brace s = nothing_stands text start end brace h s
 
-module _ (text : List ℕ) (start end : ℕ) (h : start < end) (token : Token) (there : slice_get (tokens_of (tree_of text)) start ≡ Some token) where
+module _ (text : List ℕ) (start end : ℕ) (h : start < end) (token : Token)
+    (there : slice_get (tokens_of (tree_of text)) start ≡ Some token) where
   pub are_patterns : token.kind ≡ kinds.Pattern → (brace : Brace) → Stands text start (brace_nodes brace) end → Emits brace
   are_patterns k (tree.Emit patterns) s = (patterns, refl)
   are_patterns k (tree.Choose choices) s =
       let f = front_choice text start choices end h s in
       let same = sym k ∙ first_kind f.first token there in absurd cc
 
-  pub are_choices : (token.kind ≡ kinds.Pattern → ⊥) → (brace : Brace) → Stands text start (brace_nodes brace) end → Chooses text start end brace
+  pub are_choices : (token.kind ≡ kinds.Pattern → ⊥) → (brace : Brace) → Stands text start (brace_nodes brace) end
+      → Chooses text start end brace
   are_choices never (tree.Choose choices) s = record { choices = choices; stands = s; same = λ F C t levels star. refl }
   are_choices never (tree.Emit []) s = absurd (omega (arith, h, s))
   are_choices never (tree.Emit (p ∷ patterns)) (next, part, within, following) =
@@ -130,22 +145,29 @@ module _ (F : Facts) (C : Context) (text : List ℕ) (w : Walk) (s : Machine) (e
   inner inside = brace_step F C brace inside (star_of C w.star)
 
   -- the step and its end, at the depth of the part
-  opens_as : length w.frames < 64 → (run F C s (puts (From ∷ [])) >>- λ r. run F C r.1 (inner (levels_left F C (most_open - (length b.arounds + 1))) >> puts (Break ∷ To ∷ [])) >>- k) ≡ given
+  opens_as : length w.frames < 64 → (run F C s (puts (From ∷ []))
+      >>- λ r. run F C r.1 (inner (levels_left F C (most_open - (length b.arounds + 1))) >> puts (Break ∷ To ∷ [])) >>- k) ≡ given
   opens_as h =
       sym (three F C s (puts (From ∷ [])) (inner (levels_left F C (most_open - (length b.arounds + 1)))) (puts (Break ∷ To ∷ [])) k)
-      ∙ sym (ap (λ levels. run F C s (item_step F C (tree.FailureFile brace) levels (star_of C w.star)) >>- k) (one_deeper F C text w s given end _ b h)) ∙ b.same
+      ∙ sym (ap (λ levels. run F C s (item_step F C (tree.FailureFile brace) levels (star_of C w.star)) >>- k)
+      (one_deeper F C text w s given end _ b h)) ∙ b.same
 
-  pub failure_opened : length w.frames < 64 → (t : Machine) → run F C s (puts (From ∷ [])) ≡ Is (Ok (tt, t)) → (v : Walk) → v.end ≡ end → v.star ≡ w.star → v.frames ≡ w.frames ++ record { opened = Failure end; end = w.end; star = w.star } ∷ []
+  pub failure_opened : length w.frames < 64 → (t : Machine) → run F C s (puts (From ∷ [])) ≡ Is (Ok (tt, t)) → (v : Walk) → v.end ≡ end
+      → v.star ≡ w.star → v.frames ≡ w.frames ++ record { opened = Failure end; end = w.end; star = w.star } ∷ []
       → Following F C text v end (λ levels star. brace_step F C brace levels star) t given
   failure_opened h t went v end_is star_is frames_is =
-      step_opened F C text w s given end _ b text (Failure end) (tree.pattern [] false) tree.none nothing_kept tt refl refl v frames_is w.star star_is t (λ levels star. brace_step F C brace levels star) end_is
+      step_opened F C text w s given end _ b text (Failure end)
+      (tree.pattern [] false) tree.none nothing_kept tt refl refl v frames_is w.star star_is t
+      (λ levels star. brace_step F C brace levels star) end_is
       (sym (ap (λ x. x >>- k) (run_then F C t (inner (levels_left F C (most_open - (length b.arounds + 1)))) (λ u. puts (Break ∷ To ∷ [])))
       ∙ then_then (run F C t (inner (levels_left F C (most_open - (length b.arounds + 1))))) (λ r. run F C r.1 (puts (Break ∷ To ∷ []))) k)
-      ∙ sym (ap (λ x. x >>- λ r. run F C r.1 (inner (levels_left F C (most_open - (length b.arounds + 1))) >> puts (Break ∷ To ∷ [])) >>- k) went)
+      ∙ sym (ap (λ x. x >>- λ r. run F C r.1 (inner (levels_left F C (most_open - (length b.arounds + 1))) >> puts (Break ∷ To ∷ [])) >>- k)
+      went)
       ∙ opens_as h)
 
   -- its beginning is cut, or memory ran out
-  pub from_begun : length w.frames < 64 → (result : Result (Unit {0}) MachineFault) (t : Machine) → GivesKnown Memory (λ u. (tt, t)) result (run F C s (puts (From ∷ [])))
+  pub from_begun : length w.frames < 64 → (result : Result (Unit {0}) MachineFault) (t : Machine)
+      → GivesKnown Memory (λ u. (tt, t)) result (run F C s (puts (From ∷ [])))
       → (v : Walk) → v.end ≡ end → v.star ≡ w.star → v.frames ≡ w.frames ++ record { opened = Failure end; end = w.end; star = w.star } ∷ []
       → Reaches F C text v end (λ levels star. brace_step F C brace levels star) t given result
   from_begun h (Ok u) t went v end_is star_is frames_is = failure_opened h t went v end_is star_is frames_is

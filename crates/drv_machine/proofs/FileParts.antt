@@ -18,7 +18,8 @@ use Rattle.drv_syntax.specs.Tree.{Brace}
 use Rattle.drv_system.specs.Facts.{Facts}
 use Rattle.drv_system.specs.Gives.{GivesKnown}
 use Rattle.drv_system.specs.Known.{Is}
-use Rattle.std.proofs.Common.{◌≡◌, ◌⊎◌, ◌<◌, ◌+◌, ◌-◌, ◌++◌, ◌∙◌, ◌∷◌, [], Bool, Err, List, Ok, Result, ap, false, if◌then◌else◌, inl, inr, length, refl, sym, true, ℕ}
+use Rattle.std.proofs.Common.{◌≡◌, ◌⊎◌, ◌<◌, ◌+◌, ◌-◌, ◌++◌, ◌∙◌, ◌∷◌, [], Bool, Err, List, Ok, Result, ap, false, if◌then◌else◌, inl, inr}
+use Rattle.std.proofs.Common.{length, refl, sym, true, ℕ}
 use Rattle.std.specs.Prelude.{IfErr, OnOk}
 
 -- For `%@{..}`: it is opened as a file if the line came from one, or else as a brace.
@@ -38,40 +39,55 @@ module _ (F : Facts) (C : Context) (text : List ℕ) (w : Walk) (s : Machine) (e
   chosen starts inside = if starts then file_step F C (inner inside) else inner inside
 
   -- the step at the depth of the part
-  given_as : (starts : Bool) → starts ≡ starts_file F C s.world → length w.frames < 64 → (run F C s (chosen starts (levels_left F C (most_open - (length b.arounds + 1)))) >>- k) ≡ given
+  given_as : (starts : Bool) → starts ≡ starts_file F C s.world → length w.frames < 64
+      → (run F C s (chosen starts (levels_left F C (most_open - (length b.arounds + 1)))) >>- k) ≡ given
   given_as starts is h =
-      sym (ap (λ levels. run F C s (item_step F C (tree.ArgumentsFile brace) levels (star_of C w.star)) >>- k) (one_deeper F C text w s given end _ b h)
-      ∙ ap (λ x. x >>- k) (looked F C s (λ m. starts_file F C m.world) (λ starts. chosen starts (levels_left F C (most_open - (length b.arounds + 1)))) (look (starts_file F C)) refl
+      sym (ap (λ levels. run F C s (item_step F C (tree.ArgumentsFile brace) levels (star_of C w.star)) >>- k)
+      (one_deeper F C text w s given end _ b h)
+      ∙ ap (λ x. x >>- k) (looked F C s (λ m. starts_file F C m.world)
+      (λ starts. chosen starts (levels_left F C (most_open - (length b.arounds + 1)))) (look (starts_file F C)) refl
       ∙ ap (λ starts. run F C s (chosen starts (levels_left F C (most_open - (length b.arounds + 1))))) (sym is)))
       ∙ b.same
 
   -- no file
-  pub inside_opened : (starts : Bool) → starts ≡ starts_file F C s.world → starts ≡ false → length w.frames < 64 → (v : Walk) → v.end ≡ end → v.star ≡ w.star → v.frames ≡ w.frames ++ frame (Inside end) ∷ []
+  pub inside_opened : (starts : Bool) → starts ≡ starts_file F C s.world → starts ≡ false → length w.frames < 64 → (v : Walk) → v.end ≡ end
+      → v.star ≡ w.star → v.frames ≡ w.frames ++ frame (Inside end) ∷ []
       → Following F C text v end (λ levels star. brace_step F C brace levels star) s given
   inside_opened starts is none h v end_is star_is frames_is =
-      step_opened F C text w s given end _ b text (Inside end) (tree.pattern [] false) tree.none nothing_kept tt refl refl v frames_is w.star star_is s (λ levels star. brace_step F C brace levels star) end_is
-      (sym (ap (λ starts. run F C s (chosen starts (levels_left F C (most_open - (length b.arounds + 1)))) >>- k) none) ∙ given_as starts is h)
+      step_opened F C text w s given end _ b text (Inside end)
+      (tree.pattern [] false) tree.none nothing_kept tt refl refl v frames_is w.star star_is s
+      (λ levels star. brace_step F C brace levels star) end_is
+      (sym (ap (λ starts. run F C s (chosen starts (levels_left F C (most_open - (length b.arounds + 1)))) >>- k) none)
+      ∙ given_as starts is h)
 
-  pub inside_reached : (starts : Bool) → starts ≡ starts_file F C s.world → starts ≡ false → (result : Result (Unit {0}) MachineFault) (v : Walk)
-      → OnOk result (v ≡ record w { end = end; frames = w.frames ++ frame (Inside end) ∷ [] }) → OnOk result (length w.frames < 64) → IfErr result (λ fault. (fault ≡ Memory) ⊎ ((fault ≡ SpecTooDeep) × (length w.frames ≡ 64)))
+  pub inside_reached : (starts : Bool) → starts ≡ starts_file F C s.world → starts ≡ false
+      → (result : Result (Unit {0}) MachineFault) (v : Walk)
+      → OnOk result (v ≡ record w { end = end; frames = w.frames ++ frame (Inside end) ∷ [] }) → OnOk result (length w.frames < 64)
+      → IfErr result (λ fault. (fault ≡ Memory) ⊎ ((fault ≡ SpecTooDeep) × (length w.frames ≡ 64)))
       → Reaches F C text v end (λ levels star. brace_step F C brace levels star) s given result
   inside_reached starts is none (Ok u) v same h full =
       inside_opened starts is none h v (ap (λ (x : Walk). x.end) same) (ap (λ (x : Walk). x.star) same) (ap (λ (x : Walk). x.frames) same)
   inside_reached starts is none (Err fault) v same h full = too_deep F C text w s given end _ b refl fault full
 
   module _ (starts : Bool) (is : starts ≡ starts_file F C s.world) (some : starts ≡ true) (h : length w.frames < 64) where
-    file_given : ((file_from F C s >>- λ r. run F C r.1 (inner (levels_left F C (most_open - (length b.arounds + 1))))) >>- λ q. file_end F C q.1 >>- k) ≡ given
+    file_given : ((file_from F C s >>- λ r. run F C r.1 (inner (levels_left F C (most_open - (length b.arounds + 1)))))
+        >>- λ q. file_end F C q.1 >>- k) ≡ given
     file_given =
         sym (ap (λ starts. run F C s (chosen starts (levels_left F C (most_open - (length b.arounds + 1)))) >>- k) some
         ∙ ap (λ x. x >>- k) (filed_runs F C s (inner (levels_left F C (most_open - (length b.arounds + 1)))))
-        ∙ then_then (file_from F C s >>- λ r. run F C r.1 (inner (levels_left F C (most_open - (length b.arounds + 1))))) (λ q. file_end F C q.1) k)
+        ∙ then_then (file_from F C s >>- λ r. run F C r.1 (inner (levels_left F C (most_open - (length b.arounds + 1)))))
+        (λ q. file_end F C q.1) k)
         ∙ given_as starts is h
 
-    file_opened : (t : Machine) → file_from F C s ≡ Is (Ok (tt, t)) → (v : Walk) → v.end ≡ end → v.star ≡ w.star → v.frames ≡ w.frames ++ frame (File end) ∷ []
+    file_opened : (t : Machine) → file_from F C s ≡ Is (Ok (tt, t)) → (v : Walk) → v.end ≡ end → v.star ≡ w.star
+        → v.frames ≡ w.frames ++ frame (File end) ∷ []
         → Following F C text v end (λ levels star. brace_step F C brace levels star) t given
     file_opened t went v end_is star_is frames_is =
-        step_opened F C text w s given end _ b text (File end) (tree.pattern [] false) tree.none nothing_kept tt refl refl v frames_is w.star star_is t (λ levels star. brace_step F C brace levels star) end_is
-        (sym (ap (λ x. (x >>- λ r. run F C r.1 (inner (levels_left F C (most_open - (length b.arounds + 1))))) >>- λ q. file_end F C q.1 >>- k) went) ∙ file_given)
+        step_opened F C text w s given end _ b text (File end)
+        (tree.pattern [] false) tree.none nothing_kept tt refl refl v frames_is w.star star_is t
+        (λ levels star. brace_step F C brace levels star) end_is
+        (sym (ap (λ x. (x >>- λ r. run F C r.1 (inner (levels_left F C (most_open - (length b.arounds + 1))))) >>- λ q. file_end F C q.1
+        >>- k) went) ∙ file_given)
 
     -- its beginning is cut, or refused
     pub file_reached : (result : Result (Unit {0}) MachineFault) (t : Machine) → GivesKnown Memory (λ u. (tt, t)) result (file_from F C s)
@@ -80,4 +96,5 @@ module _ (F : Facts) (C : Context) (text : List ℕ) (w : Walk) (s : Machine) (e
     file_reached (Ok u) t went v end_is star_is frames_is = file_opened t went v end_is star_is frames_is
     file_reached (Err fault) t (inl memory) v end_is star_is frames_is = inl memory
     file_reached (Err fault) t (inr e) v end_is star_is frames_is =
-        inr (sym file_given ∙ ap (λ x. (x >>- λ r. run F C r.1 (inner (levels_left F C (most_open - (length b.arounds + 1))))) >>- λ q. file_end F C q.1 >>- k) e)
+        inr (sym file_given ∙ ap (λ x. (x >>- λ r. run F C r.1 (inner (levels_left F C (most_open - (length b.arounds + 1)))))
+        >>- λ q. file_end F C q.1 >>- k) e)

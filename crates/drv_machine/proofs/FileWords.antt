@@ -1,6 +1,8 @@
 use Rattle.drv_machine.proofs.Laws.{then_same, then_then}
 use Rattle.drv_machine.specs.Context.{Context}
-use Rattle.drv_machine.specs.Cutting.{Cut, CutLine, all_taken, broken, file_begun, file_done, file_words, found_file, found_script, inside_done, line_ended, marked, no_line, no_marks, nothing_cut, pipe_done, pipe_ended, script_option, taken, word_done, words_in_file}
+use Rattle.drv_machine.specs.Cutting.{Cut, CutLine, all_taken, broken, file_begun, file_done, file_words, found_file, found_script}
+use Rattle.drv_machine.specs.Cutting.{inside_done, line_ended, marked, no_line, no_marks, nothing_cut, pipe_done, pipe_ended, script_option}
+use Rattle.drv_machine.specs.Cutting.{taken, word_done, words_in_file}
 use Rattle.drv_machine.specs.Working.{◌>>-◌, Answer, Atom, Break, End, FileFrom, FileTo, From, Marked, Open, Piped, Put, To, Without}
 use Rattle.drv_machine.specs.declared.machine.marking.Marking.{Marking}
 use Rattle.drv_system.specs.Facts.{Facts}
@@ -33,7 +35,9 @@ with_words words l = record { words = l.words ++ words; piped = l.piped }
 abbrev word_seen : Seen → List (List ℕ) → Seen
 word_seen v words = record { word = None; marks = no_marks; barred = false; line = option_map (with_words words) v.line }
 
-words_seen : (outer : Option CutLine) (line : CutLine) → unwrap_or (option_map (λ (l : CutLine). l.words) (option_map (λ (o : CutLine). line) outer)) [] ≡ unwrap_or (option_map (λ (o : CutLine). line.words) outer) []
+words_seen : (outer : Option CutLine) (line : CutLine)
+    → unwrap_or (option_map (λ (l : CutLine). l.words) (option_map (λ (o : CutLine). line) outer)) []
+    ≡ unwrap_or (option_map (λ (o : CutLine). line.words) outer) []
 words_seen None line = refl
 words_seen (Some o) line = refl
 
@@ -42,7 +46,9 @@ end_unseen : (c : Cut) (outer : Option CutLine) → seen (line_ended (record c {
 end_unseen c None = refl
 end_unseen c (Some line) = refl
 
-piped_or_not : (c : Cut) (words : List (List ℕ)) (piped : Bool) → seen (pipe_done (record c { line = record { words = words; piped = piped }; outer = None })) ≡ seen (record c { line = record { words = words; piped = piped }; outer = None })
+piped_or_not : (c : Cut) (words : List (List ℕ)) (piped : Bool)
+    → seen (pipe_done (record c { line = record { words = words; piped = piped }; outer = None }))
+    ≡ seen (record c { line = record { words = words; piped = piped }; outer = None })
 piped_or_not c [] piped = refl
 piped_or_not c (w ∷ words) piped = refl
 
@@ -59,7 +65,8 @@ file_unseen : (c : Cut) (outer : Option CutLine) → seen (file_done (record c {
 file_unseen c None = refl
 file_unseen c (Some line) = refl
 
-word_done_seen : (c : Cut) (words : List (List ℕ)) (last : List ℕ) (outer : Option CutLine) → seen (word_done (record c { outer = outer }) words last) ≡ word_seen (seen (record c { outer = outer })) words
+word_done_seen : (c : Cut) (words : List (List ℕ)) (last : List ℕ) (outer : Option CutLine)
+    → seen (word_done (record c { outer = outer }) words last) ≡ word_seen (seen (record c { outer = outer })) words
 word_done_seen c words last None = refl
 word_done_seen c words last (Some line) = refl
 
@@ -96,17 +103,29 @@ module _ (F : Facts) (C : Context) where
       ≡ broken_seen (seen (record c { word = word; marks = record c.marks { script = script; file = file } }))
   broken_as c None script file = refl
   broken_as c (Some word) true file =
-      then_then (found_script F C word) (λ path. Is (Ok (word_done (record c { word = Some word; marks = record c.marks { script = true; file = file } }) (script_option ∷ path ∷ []) path))) (λ d. Is (Ok (seen d)))
-      ∙ then_same (found_script F C word) (λ path. Is (Ok (seen (word_done (record c { word = Some word; marks = record c.marks { script = true; file = file } }) (script_option ∷ path ∷ []) path))))
-      (λ path. Is (Ok (word_seen (seen (record c { word = Some word; marks = record c.marks { script = true; file = file } })) (script_option ∷ path ∷ []))))
-      (λ path. ap (λ v. Is (Ok v)) (word_done_seen (record c { word = Some word; marks = record c.marks { script = true; file = file } }) (script_option ∷ path ∷ []) path c.outer))
+      then_then (found_script F C word) (λ path. Is (Ok (word_done
+      (record c { word = Some word; marks = record c.marks { script = true; file = file } }) (script_option ∷ path ∷ []) path)))
+      (λ d. Is (Ok (seen d)))
+      ∙ then_same (found_script F C word) (λ path. Is (Ok
+      (seen (word_done (record c { word = Some word; marks = record c.marks { script = true; file = file } })
+      (script_option ∷ path ∷ []) path))))
+      (λ path. Is (Ok (word_seen (seen (record c { word = Some word; marks = record c.marks { script = true; file = file } }))
+      (script_option ∷ path ∷ []))))
+      (λ path. ap (λ v. Is (Ok v)) (word_done_seen (record c { word = Some word; marks = record c.marks { script = true; file = file } })
+      (script_option ∷ path ∷ []) path c.outer))
   broken_as c (Some word) false true =
-      then_then (found_file F C word) (λ path. Is (Ok (word_done (record c { word = Some word; marks = record c.marks { script = false; file = true } }) (path ∷ []) path))) (λ d. Is (Ok (seen d)))
-      ∙ then_same (found_file F C word) (λ path. Is (Ok (seen (word_done (record c { word = Some word; marks = record c.marks { script = false; file = true } }) (path ∷ []) path))))
-      (λ path. Is (Ok (word_seen (seen (record c { word = Some word; marks = record c.marks { script = false; file = true } })) (path ∷ []))))
-      (λ path. ap (λ v. Is (Ok v)) (word_done_seen (record c { word = Some word; marks = record c.marks { script = false; file = true } }) (path ∷ []) path c.outer))
+      then_then (found_file F C word) (λ path. Is (Ok (word_done
+      (record c { word = Some word; marks = record c.marks { script = false; file = true } }) (path ∷ []) path)))
+      (λ d. Is (Ok (seen d)))
+      ∙ then_same (found_file F C word) (λ path. Is (Ok (seen
+      (word_done (record c { word = Some word; marks = record c.marks { script = false; file = true } }) (path ∷ []) path))))
+      (λ path. Is (Ok (word_seen (seen (record c { word = Some word; marks = record c.marks { script = false; file = true } }))
+      (path ∷ []))))
+      (λ path. ap (λ v. Is (Ok v)) (word_done_seen (record c { word = Some word; marks = record c.marks { script = false; file = true } })
+      (path ∷ []) path c.outer))
   broken_as c (Some word) false false =
-      ap (λ v. Is (Ok v)) (word_done_seen (record c { word = Some word; marks = record c.marks { script = false; file = false } }) (word ∷ []) word c.outer)
+      ap (λ v. Is (Ok v)) (word_done_seen (record c { word = Some word; marks = record c.marks { script = false; file = false } })
+      (word ∷ []) word c.outer)
 
   broken_is : (c : Cut) → (broken F C c >>- λ d. Is (Ok (seen d))) ≡ broken_seen (seen c)
   broken_is c = broken_as c c.word c.marks.script c.marks.file
@@ -118,7 +137,8 @@ module _ (F : Facts) (C : Context) where
   taken_is c End = ap (λ v. Is (Ok v)) (end_unseen c c.outer)
   taken_is c Piped =
       then_then (broken F C c) (λ d. Is (Ok (pipe_ended d))) (λ d. Is (Ok (seen d)))
-      ∙ then_same (broken F C c) (λ d. Is (Ok (seen (pipe_ended d)))) (λ d. Is (Ok (seen d))) (λ d. ap (λ v. Is (Ok v)) (pipe_unseen d d.outer))
+      ∙ then_same (broken F C c) (λ d. Is (Ok (seen (pipe_ended d)))) (λ d. Is (Ok (seen d)))
+      (λ d. ap (λ v. Is (Ok v)) (pipe_unseen d d.outer))
       ∙ broken_is c
   taken_is c (Marked mark) = refl
   taken_is c Without = refl
@@ -131,39 +151,56 @@ module _ (F : Facts) (C : Context) where
   all_is c [] = refl
   all_is c (atom ∷ atoms) =
       then_then (taken F C c atom) (λ d. all_taken F C d atoms) (λ d. Is (Ok (seen d)))
-      ∙ then_same (taken F C c atom) (λ d. all_taken F C d atoms >>- λ e. Is (Ok (seen e))) (λ d. all_seen (seen d) atoms) (λ d. all_is d atoms)
+      ∙ then_same (taken F C c atom) (λ d. all_taken F C d atoms >>- λ e. Is (Ok (seen e))) (λ d. all_seen (seen d) atoms)
+      (λ d. all_is d atoms)
       ∙ sym (then_then (taken F C c atom) (λ d. Is (Ok (seen d))) (λ v. all_seen v atoms))
       ∙ ap (λ x. x >>- λ v. all_seen v atoms) (taken_is c atom)
 
-  words_are : (c : Cut) (atoms : List Atom) → (all_taken F C c atoms >>- λ d. Is (Ok (words_in_file d))) ≡ (all_seen (seen c) atoms >>- λ v. Is (Ok (seen_words v)))
+  words_are : (c : Cut) (atoms : List Atom) → (all_taken F C c atoms >>- λ d. Is (Ok (words_in_file d)))
+      ≡ (all_seen (seen c) atoms >>- λ v. Is (Ok (seen_words v)))
   words_are c atoms =
       sym (then_then (all_taken F C c atoms) (λ d. Is (Ok (seen d))) (λ v. Is (Ok (seen_words v)))
-      ∙ then_same (all_taken F C c atoms) (λ d. Is (Ok (seen_words (seen d)))) (λ d. Is (Ok (words_in_file d))) (λ d. ap (λ ws. Is (Ok ws)) (words_seen d.outer d.line)))
+      ∙ then_same (all_taken F C c atoms) (λ d. Is (Ok (seen_words (seen d)))) (λ d. Is (Ok (words_in_file d)))
+      (λ d. ap (λ ws. Is (Ok ws)) (words_seen d.outer d.line)))
       ∙ ap (λ x. x >>- λ v. Is (Ok (seen_words v))) (all_is c atoms)
 
-  pub file_words_as : (c : Cut) → Begun c → (atoms : List Atom) → file_words F C atoms ≡ (all_taken F C c (atoms ++ Break ∷ []) >>- λ d. Is (Ok (words_in_file d)))
+  pub file_words_as : (c : Cut) → Begun c → (atoms : List Atom)
+      → file_words F C atoms ≡ (all_taken F C c (atoms ++ Break ∷ []) >>- λ d. Is (Ok (words_in_file d)))
   file_words_as c e atoms =
       words_are (file_begun nothing_cut) (atoms ++ Break ∷ [])
       ∙ ap (λ v. all_seen v (atoms ++ Break ∷ []) >>- λ u. Is (Ok (seen_words u))) (sym e)
       ∙ sym (words_are c (atoms ++ Break ∷ []))
 
   -- after a break one may begin
-  begun_as : {Y : Type 0} (c : Cut) (word : Option (List ℕ)) (script file : Bool) (f g : Cut → Answer Y) → ((d : Cut) → Begun (file_begun d) → f d ≡ g d)
-      → (broken F C (record c { word = word; marks = record c.marks { script = script; file = file } }) >>- f) ≡ (broken F C (record c { word = word; marks = record c.marks { script = script; file = file } }) >>- g)
+  begun_as : {Y : Type 0} (c : Cut) (word : Option (List ℕ)) (script file : Bool) (f g : Cut → Answer Y)
+      → ((d : Cut) → Begun (file_begun d) → f d ≡ g d)
+      → (broken F C (record c { word = word; marks = record c.marks { script = script; file = file } }) >>- f)
+      ≡ (broken F C (record c { word = word; marks = record c.marks { script = script; file = file } }) >>- g)
   begun_as c None script file f g e = e (record c { word = None; marks = no_marks; barred = false }) refl
   begun_as c (Some word) true file f g e =
-      then_then (found_script F C word) (λ path. Is (Ok (word_done (record c { word = Some word; marks = record c.marks { script = true; file = file } }) (script_option ∷ path ∷ []) path))) f
-      ∙ then_same (found_script F C word) (λ path. f (word_done (record c { word = Some word; marks = record c.marks { script = true; file = file } }) (script_option ∷ path ∷ []) path))
-      (λ path. g (word_done (record c { word = Some word; marks = record c.marks { script = true; file = file } }) (script_option ∷ path ∷ []) path))
-      (λ path. e (word_done (record c { word = Some word; marks = record c.marks { script = true; file = file } }) (script_option ∷ path ∷ []) path) refl)
-      ∙ sym (then_then (found_script F C word) (λ path. Is (Ok (word_done (record c { word = Some word; marks = record c.marks { script = true; file = file } }) (script_option ∷ path ∷ []) path))) g)
+      then_then (found_script F C word) (λ path. Is (Ok (word_done
+      (record c { word = Some word; marks = record c.marks { script = true; file = file } }) (script_option ∷ path ∷ []) path))) f
+      ∙ then_same (found_script F C word) (λ path. f (word_done
+      (record c { word = Some word; marks = record c.marks { script = true; file = file } }) (script_option ∷ path ∷ []) path))
+      (λ path. g (word_done (record c { word = Some word; marks = record c.marks { script = true; file = file } })
+      (script_option ∷ path ∷ []) path))
+      (λ path. e (word_done (record c { word = Some word; marks = record c.marks { script = true; file = file } })
+      (script_option ∷ path ∷ []) path) refl)
+      ∙ sym (then_then (found_script F C word) (λ path. Is
+      (Ok (word_done (record c { word = Some word; marks = record c.marks { script = true; file = file } })
+      (script_option ∷ path ∷ []) path))) g)
   begun_as c (Some word) false true f g e =
-      then_then (found_file F C word) (λ path. Is (Ok (word_done (record c { word = Some word; marks = record c.marks { script = false; file = true } }) (path ∷ []) path))) f
-      ∙ then_same (found_file F C word) (λ path. f (word_done (record c { word = Some word; marks = record c.marks { script = false; file = true } }) (path ∷ []) path))
+      then_then (found_file F C word) (λ path. Is (Ok (word_done
+      (record c { word = Some word; marks = record c.marks { script = false; file = true } }) (path ∷ []) path))) f
+      ∙ then_same (found_file F C word) (λ path. f (word_done
+      (record c { word = Some word; marks = record c.marks { script = false; file = true } }) (path ∷ []) path))
       (λ path. g (word_done (record c { word = Some word; marks = record c.marks { script = false; file = true } }) (path ∷ []) path))
       (λ path. e (word_done (record c { word = Some word; marks = record c.marks { script = false; file = true } }) (path ∷ []) path) refl)
-      ∙ sym (then_then (found_file F C word) (λ path. Is (Ok (word_done (record c { word = Some word; marks = record c.marks { script = false; file = true } }) (path ∷ []) path))) g)
-  begun_as c (Some word) false false f g e = e (word_done (record c { word = Some word; marks = record c.marks { script = false; file = false } }) (word ∷ []) word) refl
+      ∙ sym (then_then (found_file F C word) (λ path. Is
+      (Ok (word_done (record c { word = Some word; marks = record c.marks { script = false; file = true } }) (path ∷ []) path))) g)
+  begun_as c (Some word) false false f g e = e (word_done
+      (record c { word = Some word; marks = record c.marks { script = false; file = false } }) (word ∷ []) word) refl
 
-  pub after_break : {Y : Type 0} (c : Cut) (f g : Cut → Answer Y) → ((d : Cut) → Begun (file_begun d) → f d ≡ g d) → (broken F C c >>- f) ≡ (broken F C c >>- g)
+  pub after_break : {Y : Type 0} (c : Cut) (f g : Cut → Answer Y) → ((d : Cut) → Begun (file_begun d) → f d ≡ g d)
+      → (broken F C c >>- f) ≡ (broken F C c >>- g)
   after_break c f g e = begun_as c c.word c.marks.script c.marks.file f g e

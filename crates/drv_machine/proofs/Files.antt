@@ -6,7 +6,8 @@ use Rattle.drv_machine.specs.Context.{Context}
 use Rattle.drv_machine.specs.Cutting.{Cut, all_taken, broken, file_begun, file_done, file_words, words_in_file}
 use Rattle.drv_machine.specs.Code.Running.{Machine, done, run}
 use Rattle.drv_machine.specs.Code.Walking.{file_end, file_from, into_file, out_of_file}
-use Rattle.drv_machine.specs.Working.{◌>>-◌, ◌>>=◌, Answer, Atom, Break, FileFrom, FileTo, Goes, Put, Refuses, Step, Waits, Worked, World, needs, puts}
+use Rattle.drv_machine.specs.Working.{◌>>-◌, ◌>>=◌, Answer, Atom, Break, FileFrom, FileTo, Goes, Put, Refuses, Step, Waits, Worked, World}
+use Rattle.drv_machine.specs.Working.{needs, puts}
 use Rattle.drv_machine.specs.declared.fault.MachineFault.TheVariants.{Memory}
 use Rattle.drv_machine.specs.declared.fault.MachineFault.{MachineFault}
 use Rattle.drv_machine.specs.declared.machine.naming.Drawing.TheVariants.{Anew}
@@ -14,7 +15,8 @@ use Rattle.drv_system.specs.Facts.{Facts}
 use Rattle.drv_system.specs.Known.{Is, Unasked}
 use Rattle.drv_words.specs.Bytes.{at_sign}
 use Rattle.drv_words.specs.Response.{response_text}
-use Rattle.std.proofs.Common.{◌≡◌, ◌⊎◌, ◌∙◌, ◌++◌, Err, List, [], ◌∷◌, Ok, ap, append_assoc, arith, codes, false, inl, inr, length, map, refl, suc, sym, true, ℕ}
+use Rattle.std.proofs.Common.{◌≡◌, ◌⊎◌, ◌∙◌, ◌++◌, Err, List, [], ◌∷◌, Ok, ap, append_assoc, arith, codes, false, inl, inr, length, map}
+use Rattle.std.proofs.Common.{refl, suc, sym, true, ℕ}
 use Rattle.std.proofs.lemmas.Bool.Decides.{nat_tests}
 use Rattle.std.specs.Prelude.{◌==◌}
 
@@ -28,17 +30,21 @@ module _ (F : Facts) (C : Context) (s : Machine) where
   pub file_begins : (t u : Machine) → run F C s (puts (Break ∷ [])) ≡ Is (Ok (tt, t)) → u ≡ into_file t → file_from F C s ≡ Is (Ok (tt, u))
   file_begins t u went is = ap (λ x. x >>- λ r. Is (Ok (tt, into_file r.1))) went ∙ ap (λ (m : Machine). Is (Ok (tt, m))) (sym is)
 
-  pub no_beginning : (fault : MachineFault) → (fault ≡ Memory) ⊎ (run F C s (puts (Break ∷ [])) ≡ Is (Err fault)) → (fault ≡ Memory) ⊎ (file_from F C s ≡ Is (Err fault))
+  pub no_beginning : (fault : MachineFault) → (fault ≡ Memory) ⊎ (run F C s (puts (Break ∷ [])) ≡ Is (Err fault))
+      → (fault ≡ Memory) ⊎ (file_from F C s ≡ Is (Err fault))
   no_beginning fault (inl memory) = inl memory
   no_beginning fault (inr e) = inr (ap (λ x. x >>- λ r. Is (Ok (tt, into_file r.1))) e)
 
   -- the words that were cut, and the command that goes on
-  pub file_ends : (t u : Machine) (words : List (List ℕ)) → run F C s (puts (Break ∷ [])) ≡ Is (Ok (tt, t)) → words ≡ words_in_file t.cut → u ≡ out_of_file t → run F C u (named_file F C words) ≡ file_end F C s
+  pub file_ends : (t u : Machine) (words : List (List ℕ)) → run F C s (puts (Break ∷ [])) ≡ Is (Ok (tt, t)) → words ≡ words_in_file t.cut
+      → u ≡ out_of_file t → run F C u (named_file F C words) ≡ file_end F C s
   file_ends t u words went same is =
-      ap (λ (m : Machine). run F C m (named_file F C words)) is ∙ ap (λ (ws : List (List ℕ)). run F C (out_of_file t) (named_file F C ws)) same
+      ap (λ (m : Machine). run F C m (named_file F C words)) is
+      ∙ ap (λ (ws : List (List ℕ)). run F C (out_of_file t) (named_file F C ws)) same
       ∙ sym (ap (λ x. x >>- λ r. run F C (out_of_file r.1) (named_file F C (words_in_file r.1.cut))) went)
 
-  pub no_end : (fault : MachineFault) → (fault ≡ Memory) ⊎ (run F C s (puts (Break ∷ [])) ≡ Is (Err fault)) → (fault ≡ Memory) ⊎ (file_end F C s ≡ Is (Err fault))
+  pub no_end : (fault : MachineFault) → (fault ≡ Memory) ⊎ (run F C s (puts (Break ∷ [])) ≡ Is (Err fault))
+      → (fault ≡ Memory) ⊎ (file_end F C s ≡ Is (Err fault))
   no_end fault (inl memory) = inl memory
   no_end fault (inr e) = inr (ap (λ x. x >>- λ r. run F C (out_of_file r.1) (named_file F C (words_in_file r.1.cut))) e)
 
@@ -58,15 +64,21 @@ module _ (F : Facts) (C : Context) (s : Machine) (words : List (List ℕ)) where
     drawn_then : run F C s (named_file F C words) ≡ run F C s (draw_with F C contents Anew (codes ".args") >>= named_path)
     drawn_then = by words some same
       where
-        by : (ws : List (List ℕ)) → false ≡ (length ws == 0) → contents ≡ response_text ws → run F C s (named_file F C ws) ≡ run F C s (draw_with F C contents Anew (codes ".args") >>= named_path)
+        by : (ws : List (List ℕ)) → false ≡ (length ws == 0) → contents ≡ response_text ws
+            → run F C s (named_file F C ws) ≡ run F C s (draw_with F C contents Anew (codes ".args") >>= named_path)
         by [] e is = absurd (let never : false ≡ true = e in cc)
         by (w ∷ ws) e is = ap (λ text. run F C s (draw_with F C text Anew (codes ".args") >>= named_path)) (sym is)
 
-    pub file_drawn : (path bytes : List ℕ) (t : Machine) → bytes ≡ path → run F C s (draw_with F C contents Anew (codes ".args")) ≡ Is (Ok (path, t)) → run F C t (puts (Put at_sign ∷ map Put bytes ++ Break ∷ [])) ≡ run F C s (named_file F C words)
-    file_drawn path bytes t same_bytes e = ap (λ p. run F C t (named_path p)) same_bytes ∙ sym (drawn_then ∙ then_ok F C s (draw_with F C contents Anew (codes ".args")) named_path path t e)
+    pub file_drawn : (path bytes : List ℕ) (t : Machine) → bytes ≡ path
+        → run F C s (draw_with F C contents Anew (codes ".args")) ≡ Is (Ok (path, t))
+        → run F C t (puts (Put at_sign ∷ map Put bytes ++ Break ∷ [])) ≡ run F C s (named_file F C words)
+    file_drawn path bytes t same_bytes e = ap (λ p. run F C t (named_path p)) same_bytes
+        ∙ sym (drawn_then ∙ then_ok F C s (draw_with F C contents Anew (codes ".args")) named_path path t e)
 
-    pub not_drawn : (fault : MachineFault) → (fault ≡ Memory) ⊎ (run F C s (draw_with F C contents Anew (codes ".args")) ≡ Is (Err fault)) → (fault ≡ Memory) ⊎ (run F C s (named_file F C words) ≡ Is (Err fault))
-    not_drawn fault e = fails_as (run F C s (draw_with F C contents Anew (codes ".args") >>= named_path)) (run F C s (named_file F C words)) (then_fails F C s (draw_with F C contents Anew (codes ".args")) named_path fault e) (λ stopped. drawn_then ∙ stopped)
+    pub not_drawn : (fault : MachineFault) → (fault ≡ Memory) ⊎ (run F C s (draw_with F C contents Anew (codes ".args")) ≡ Is (Err fault))
+        → (fault ≡ Memory) ⊎ (run F C s (named_file F C words) ≡ Is (Err fault))
+    not_drawn fault e = fails_as (run F C s (draw_with F C contents Anew (codes ".args") >>= named_path)) (run F C s (named_file F C words))
+        (then_fails F C s (draw_with F C contents Anew (codes ".args")) named_path fault e) (λ stopped. drawn_then ∙ stopped)
 
 -- what is between them
 module _ (F : Facts) (C : Context) where
@@ -93,33 +105,44 @@ module _ (F : Facts) (C : Context) where
       → (all_taken F C b (atoms ++ Break ∷ FileTo ∷ []) >>- λ d. done F C d ((needs (file_words F C atoms) >>= named_file F C) (outside v)))
       ≡ ((all_taken F C b atoms >>- ended v) >>- λ q. file_end F C q.1)
   words_filed v atoms b e =
-      ap (λ xs. all_taken F C b xs >>- λ d. done F C d ((needs (file_words F C atoms) >>= named_file F C) (outside v))) (sym (append_assoc atoms (Break ∷ []) (FileTo ∷ [])))
-      ∙ ap (λ x. x >>- λ d. done F C d ((needs (file_words F C atoms) >>= named_file F C) (outside v))) (all_taken-append F C b (atoms ++ Break ∷ []) (FileTo ∷ []))
-      ∙ then_then (all_taken F C b (atoms ++ Break ∷ [])) (λ d. all_taken F C d (FileTo ∷ [])) (λ d. done F C d ((needs (file_words F C atoms) >>= named_file F C) (outside v)))
+      ap (λ xs. all_taken F C b xs >>- λ d. done F C d ((needs (file_words F C atoms) >>= named_file F C) (outside v)))
+      (sym (append_assoc atoms (Break ∷ []) (FileTo ∷ [])))
+      ∙ ap (λ x. x >>- λ d. done F C d ((needs (file_words F C atoms) >>= named_file F C) (outside v)))
+      (all_taken-append F C b (atoms ++ Break ∷ []) (FileTo ∷ []))
+      ∙ then_then (all_taken F C b (atoms ++ Break ∷ [])) (λ d. all_taken F C d (FileTo ∷ []))
+      (λ d. done F C d ((needs (file_words F C atoms) >>= named_file F C) (outside v)))
       ∙ named_after v atoms (all_taken F C b (atoms ++ Break ∷ [])) (file_words_as F C b e atoms)
       ∙ ap (λ x. x >>- names_file v) (all_taken-append F C b atoms (Break ∷ []))
       ∙ then_then (all_taken F C b atoms) (λ d. all_taken F C d (Break ∷ [])) (names_file v)
-      ∙ then_same (all_taken F C b atoms) (λ d. all_taken F C d (Break ∷ []) >>- names_file v) (λ d. file_end F C (record { cut = d; world = v }))
-      (λ d. sym (then_then (all_taken F C d (Break ∷ [])) (ended v) (λ r. run F C (out_of_file r.1) (named_file F C (words_in_file r.1.cut)))))
+      ∙ then_same (all_taken F C b atoms) (λ d. all_taken F C d (Break ∷ []) >>- names_file v)
+      (λ d. file_end F C (record { cut = d; world = v }))
+      (λ d. sym (then_then (all_taken F C d (Break ∷ [])) (ended v)
+      (λ r. run F C (out_of_file r.1) (named_file F C (words_in_file r.1.cut)))))
       ∙ sym (then_then (all_taken F C b atoms) (ended v) (λ q. file_end F C q.1))
 
-  filed_done : (c : Cut) (work : Worked (Unit {0})) → done F C c (filed F C work) ≡ (broken F C c >>- λ d. done F C (file_begun d) work >>- λ q. file_end F C q.1)
+  filed_done : (c : Cut) (work : Worked (Unit {0})) → done F C c (filed F C work)
+      ≡ (broken F C c >>- λ d. done F C (file_begun d) work >>- λ q. file_end F C q.1)
   filed_done c (Goes atoms u v) =
       done-following F C c (Break ∷ FileFrom ∷ atoms ++ Break ∷ FileTo ∷ []) ((needs (file_words F C atoms) >>= named_file F C) (outside v))
-      ∙ then_then (broken F C c) (λ d. all_taken F C (file_begun d) (atoms ++ Break ∷ FileTo ∷ [])) (λ d. done F C d ((needs (file_words F C atoms) >>= named_file F C) (outside v)))
-      ∙ after_break F C c (λ d. all_taken F C (file_begun d) (atoms ++ Break ∷ FileTo ∷ []) >>- λ e. done F C e ((needs (file_words F C atoms) >>= named_file F C) (outside v)))
+      ∙ then_then (broken F C c) (λ d. all_taken F C (file_begun d) (atoms ++ Break ∷ FileTo ∷ []))
+      (λ d. done F C d ((needs (file_words F C atoms) >>= named_file F C) (outside v)))
+      ∙ after_break F C c (λ d. all_taken F C (file_begun d) (atoms ++ Break ∷ FileTo ∷ [])
+      >>- λ e. done F C e ((needs (file_words F C atoms) >>= named_file F C) (outside v)))
       (λ d. done F C (file_begun d) (Goes atoms u v) >>- λ q. file_end F C q.1) (λ d begun. words_filed v atoms (file_begun d) begun)
   filed_done c (Refuses atoms fault) =
       then_then (broken F C c) (λ d. all_taken F C (file_begun d) atoms) (λ d. Is (Err fault))
-      ∙ then_same (broken F C c) (λ d. all_taken F C (file_begun d) atoms >>- λ e. Is (Err fault)) (λ d. done F C (file_begun d) (Refuses atoms fault) >>- λ q. file_end F C q.1)
+      ∙ then_same (broken F C c) (λ d. all_taken F C (file_begun d) atoms >>- λ e. Is (Err fault))
+      (λ d. done F C (file_begun d) (Refuses atoms fault) >>- λ q. file_end F C q.1)
       (λ d. sym (then_then (all_taken F C (file_begun d) atoms) (λ e. Is (Err fault)) (λ q. file_end F C q.1)))
   filed_done c (Waits atoms) =
       then_then (broken F C c) (λ d. all_taken F C (file_begun d) atoms) (λ d. Unasked)
-      ∙ then_same (broken F C c) (λ d. all_taken F C (file_begun d) atoms >>- λ e. Unasked) (λ d. done F C (file_begun d) (Waits atoms) >>- λ q. file_end F C q.1)
+      ∙ then_same (broken F C c) (λ d. all_taken F C (file_begun d) atoms >>- λ e. Unasked)
+      (λ d. done F C (file_begun d) (Waits atoms) >>- λ q. file_end F C q.1)
       (λ d. sym (then_then (all_taken F C (file_begun d) atoms) (λ e. Unasked) (λ q. file_end F C q.1)))
 
   -- the whole part, as it is run
-  pub filed_runs : (s : Machine) (step : Step (Unit {0})) → run F C s (file_step F C step) ≡ ((file_from F C s >>- λ r. run F C r.1 step) >>- λ q. file_end F C q.1)
+  pub filed_runs : (s : Machine) (step : Step (Unit {0}))
+      → run F C s (file_step F C step) ≡ ((file_from F C s >>- λ r. run F C r.1 step) >>- λ q. file_end F C q.1)
   filed_runs s step = filed_done s.cut (step (record s.world { is_in_file = true })) ∙ by (broken F C s.cut)
     where
       begun : Unit {0} × Machine → Answer (Unit {0} × Machine)

@@ -9,7 +9,8 @@ use Rattle.drv_machine.specs.declared.fault.MachineFault.TheVariants.{PipeTooLon
 use Rattle.drv_system.specs.Facts.{Facts}
 use Rattle.drv_system.specs.Known.{Is, Unasked}
 use Rattle.drv_words.specs.declared.plan.Command.{Command}
-use Rattle.std.proofs.Common.{◌≡◌, ◌≤◌, ◌-◌, ◌∙◌, ◌++◌, ◌&&◌, ◌||◌, Bool, Err, arith, get_or, suc, zero, List, [], ◌∷◌, Ok, ap, append-nil, append_assoc, false, if◌then◌else◌, length, refl, sym, true, ℕ}
+use Rattle.std.proofs.Common.{◌≡◌, ◌≤◌, ◌-◌, ◌∙◌, ◌++◌, ◌&&◌, ◌||◌, Bool, Err, arith, get_or, suc, zero, List, [], ◌∷◌, Ok, ap, append-nil}
+use Rattle.std.proofs.Common.{append_assoc, false, if◌then◌else◌, length, refl, sym, true, ℕ}
 use Rattle.std.proofs.lemmas.List.Elements.{filter-append}
 use Rattle.std.proofs.lemmas.List.{length-append}
 use Rattle.std.proofs.lemmas.Cmp.{nat_list_eq_equiv}
@@ -20,14 +21,16 @@ use Rattle.std.specs.Prelude.{nat_eq, nat_lt, not}
 -- For the end of `run`: the job of a text is made of its finished cut.
 
 -- the last command counts
-ends_piped_from : (lines : List NamedLine) (n : ℕ) (last : NamedLine) → length lines ≡ suc n → last ≡ get_or lines n last → last.piped ≡ ends_piped lines
+ends_piped_from : (lines : List NamedLine) (n : ℕ) (last : NamedLine) → length lines ≡ suc n → last ≡ get_or lines n last
+    → last.piped ≡ ends_piped lines
 ends_piped_from [] n last long is = absurd (omega (arith, long))
 ends_piped_from (line ∷ []) zero last long is = ap (λ l. l.piped) is
 ends_piped_from (line ∷ []) (suc n) last long is = absurd (omega (arith, long))
 ends_piped_from (line ∷ other ∷ lines) zero last long is = absurd (omega (arith, long))
 ends_piped_from (line ∷ other ∷ lines) (suc n) last long is = ends_piped_from (other ∷ lines) n last (omega (arith, long)) is
 
-pub ends_piped_last : (lines : List NamedLine) (last : NamedLine) → 1 ≤ length lines → last ≡ get_or lines (length lines - 1) last → last.piped ≡ ends_piped lines
+pub ends_piped_last : (lines : List NamedLine) (last : NamedLine) → 1 ≤ length lines → last ≡ get_or lines (length lines - 1) last
+    → last.piped ≡ ends_piped lines
 ends_piped_last lines last some is = ends_piped_from lines (length lines - 1) last (omega (arith, some)) is
 
 joined : (begun : List Command) (c : Command) (gs : List (List Command)) → ahead begun (add_command true c gs) ≡ ahead (begun ++ c ∷ []) gs
@@ -47,7 +50,8 @@ nothing_ahead [] = refl
 nothing_ahead (c ∷ []) = refl
 nothing_ahead (c ∷ d ∷ begun) = ap (add_command true c) (nothing_ahead (d ∷ begun))
 
-pub grouped_none : (done : List (List Command)) (begun : List Command) (a : Answer (List (List Command))) → done ≡ [] → begun ≡ [] → a ≡ grouped done begun a
+pub grouped_none : (done : List (List Command)) (begun : List Command) (a : Answer (List (List Command))) → done ≡ [] → begun ≡ []
+    → a ≡ grouped done begun a
 grouped_none done begun a e f = rw (e, f) (by a)
   where
     by : (a : Answer (List (List Command))) → a ≡ grouped [] [] a
@@ -62,30 +66,44 @@ module _ (F : Facts) (C : Context) where
       → grouped done begun (groups F C (line ∷ lines)) ≡ grouped done after (groups F C lines)
   one_joined done begun after line c lines piped is e = rw (is, piped, e) (by (groups F C lines))
     where
-      by : (a : Answer (List (List Command))) → grouped done begun (a >>- λ gs. Is (Ok (add_command true c gs))) ≡ grouped done (begun ++ c ∷ []) a
+      by : (a : Answer (List (List Command))) → grouped done begun (a >>- λ gs. Is (Ok (add_command true c gs)))
+          ≡ grouped done (begun ++ c ∷ []) a
       by (Is (Ok gs)) = ap (λ gs. Is (Ok (done ++ gs))) (joined begun c gs)
       by (Is (Err fault)) = refl
       by Unasked = refl
 
-  pub one_ended : (done new : List (List Command)) (begun all after : List Command) (line : NamedLine) (c : Command) (lines : List NamedLine)
+  pub one_ended : (done new : List (List Command)) (begun all after : List Command) (line : NamedLine) (c : Command)
+      (lines : List NamedLine)
       → (C.is_piping && line.piped) ≡ false → command F C line ≡ Is (Ok c) → all ≡ begun ++ c ∷ [] → new ≡ done ++ made all → after ≡ []
       → grouped done begun (groups F C (line ∷ lines)) ≡ grouped new after (groups F C lines)
   one_ended done new begun all after line c lines piped is e en ea = rw (is, piped, en, e, ea) (by (groups F C lines))
     where
-      by : (a : Answer (List (List Command))) → grouped done begun (a >>- λ gs. Is (Ok (add_command false c gs))) ≡ grouped (done ++ made (begun ++ c ∷ [])) [] a
-      by (Is (Ok gs)) = ap (λ gs. Is (Ok gs)) (ap (λ gs. done ++ gs) (alone begun c gs) ∙ sym (append_assoc done (made (begun ++ c ∷ [])) gs))
+      by : (a : Answer (List (List Command))) → grouped done begun (a >>- λ gs. Is (Ok (add_command false c gs)))
+          ≡ grouped (done ++ made (begun ++ c ∷ [])) [] a
+      by (Is (Ok gs)) = ap (λ gs. Is (Ok gs)) (ap (λ gs. done ++ gs) (alone begun c gs)
+          ∙ sym (append_assoc done (made (begun ++ c ∷ [])) gs))
       by (Is (Err fault)) = refl
       by Unasked = refl
 
-  pub all_grouped : (done new : List (List Command)) (begun : List Command) → new ≡ done ++ made begun → grouped done begun (groups F C []) ≡ Is (Ok new)
+  pub all_grouped : (done new : List (List Command)) (begun : List Command) → new ≡ done ++ made begun
+      → grouped done begun (groups F C []) ≡ Is (Ok new)
   all_grouped done new begun e = ap (λ gs. Is (Ok gs)) (ap (λ gs. done ++ gs) (nothing_ahead begun) ∙ sym e)
 
-  module _ (w : World) (c : Cut) (commands : List (List Command)) (well : (c.stray || ends_piped c.lines) ≡ false) (are : groups F C c.lines ≡ Is (Ok commands)) where
+  module _ (w : World) (c : Cut) (commands : List (List Command)) (well : (c.stray || ends_piped c.lines) ≡ false)
+      (are : groups F C c.lines ≡ Is (Ok commands)) where
     pub finished_long : list_any (λ group. nat_lt most_piped (length group)) commands ≡ true → finished F C w c ≡ Is (Err PipeTooLong)
     finished_long long = rw (well, are, long) refl
 
     pub finished_well : list_any (λ group. nat_lt most_piped (length group)) commands ≡ false
-        → finished F C w c ≡ Is (Ok (record { job = job w c commands; notices = w.notices; outs = w.outputs; accumulated = w.options; next_number = w.number; cost = w.items }))
+        → finished F C w c ≡ Is (Ok (record {
+          job = job w c commands;
+          notices = w.notices;
+          outs = w.outputs;
+          accumulated =
+              w.options;
+          next_number = w.number;
+          cost = w.items;
+        }))
     finished_well short = rw (well, are, short) refl
 
 -- Files, each once.
@@ -106,41 +124,50 @@ none_kept kept files e = rw (e) (sym (all_others files))
 
 filter_same : {A : Type 0} (f g : A → Bool) (xs : List A) → ((x : A) → f x ≡ g x) → filter f xs ≡ filter g xs
 filter_same f g [] e = refl
-filter_same f g (x ∷ xs) e = ap (λ b. if b then x ∷ filter f xs else filter f xs) (e x) ∙ ap (λ ys. if g x then x ∷ ys else ys) (filter_same f g xs e)
+filter_same f g (x ∷ xs) e = ap (λ b. if b then x ∷ filter f xs else filter f xs) (e x)
+    ∙ ap (λ ys. if g x then x ∷ ys else ys) (filter_same f g xs e)
 
 filter_twice : {A : Type 0} (f g : A → Bool) (xs : List A) → filter f (filter g xs) ≡ filter (λ y. g y && f y) xs
 filter_twice f g [] = refl
 filter_twice {A = A} f g (x ∷ xs) = by (g x) (filter_twice f g xs)
   where
     by : (b : Bool) → filter f (filter g xs) ≡ filter (λ y. g y && f y) xs
-        → filter f (if b then x ∷ filter g xs else filter g xs) ≡ (if b && f x then x ∷ filter (λ y. g y && f y) xs else filter (λ y. g y && f y) xs)
+        → filter f (if b then x ∷ filter g xs else filter g xs)
+        ≡ (if b && f x then x ∷ filter (λ y. g y && f y) xs else filter (λ y. g y && f y) xs)
     by true others = ap (λ (ys : List A). if f x then x ∷ ys else ys) others
     by false others = others
 
 -- a file that was kept before
-kept_before : (kept : List (List ℕ)) (file other : List ℕ) → is_among kept file ≡ true → (not (pointwise nat_eq file other) && not (is_among kept other)) ≡ not (is_among kept other)
+kept_before : (kept : List (List ℕ)) (file other : List ℕ) → is_among kept file ≡ true
+    → (not (pointwise nat_eq file other) && not (is_among kept other)) ≡ not (is_among kept other)
 kept_before kept file other among = by (pointwise nat_eq file other) refl
   where
     by : (b : Bool) → pointwise nat_eq file other ≡ b → (not b && not (is_among kept other)) ≡ not (is_among kept other)
     by false e = refl
     by true e = sym (ap not (ap (is_among kept) (sym (same_text file other (sym e))) ∙ among))
 
-pub again : (kept : List (List ℕ)) (file : List ℕ) (files : List (List ℕ)) → is_among kept file ≡ true → kept ++ others_than kept (once (file ∷ files)) ≡ kept ++ others_than kept (once files)
+pub again : (kept : List (List ℕ)) (file : List ℕ) (files : List (List ℕ)) → is_among kept file ≡ true
+    → kept ++ others_than kept (once (file ∷ files)) ≡ kept ++ others_than kept (once files)
 again kept file files among =
-    ap (λ fs. kept ++ fs) (ap (λ b. if not b then file ∷ others_than kept (without file (once files)) else others_than kept (without file (once files))) among
+    ap (λ fs. kept ++ fs) (ap (λ b. if not b then file ∷ others_than kept (without file (once files))
+    else others_than kept (without file (once files))) among
     ∙ filter_twice (λ f. not (is_among kept f)) (λ f. not (pointwise nat_eq file f)) (once files)
-    ∙ filter_same (λ f. not (pointwise nat_eq file f) && not (is_among kept f)) (λ f. not (is_among kept f)) (once files) (λ f. kept_before kept file f among))
+    ∙ filter_same (λ f. not (pointwise nat_eq file f) && not (is_among kept f)) (λ f. not (is_among kept f)) (once files)
+    (λ f. kept_before kept file f among))
 
 -- or that is new
-among_more : (kept : List (List ℕ)) (file other : List ℕ) → (not (pointwise nat_eq file other) && not (is_among kept other)) ≡ not (is_among (kept ++ file ∷ []) other)
+among_more : (kept : List (List ℕ)) (file other : List ℕ)
+    → (not (pointwise nat_eq file other) && not (is_among kept other)) ≡ not (is_among (kept ++ file ∷ []) other)
 among_more [] file other = ap (λ b. not b && true) (nat_list_eq_equiv.symm file other) ∙ by (pointwise nat_eq other file)
   where
     by : (b : Bool) → (not b && true) ≡ not (b || false)
     by true = refl
     by false = refl
-among_more (k ∷ kept) file other = by (pointwise nat_eq other k) (pointwise nat_eq file other) (is_among kept other) (among_more kept file other)
+among_more (k ∷ kept) file other = by (pointwise nat_eq other k) (pointwise nat_eq file other) (is_among kept other)
+    (among_more kept file other)
   where
-    by : (a b c : Bool) → (not b && not c) ≡ not (is_among (kept ++ file ∷ []) other) → (not b && not (a || c)) ≡ not (a || is_among (kept ++ file ∷ []) other)
+    by : (a b c : Bool) → (not b && not c) ≡ not (is_among (kept ++ file ∷ []) other)
+        → (not b && not (a || c)) ≡ not (a || is_among (kept ++ file ∷ []) other)
     by true b c e = and_false b
       where
         and_false : (b : Bool) → (not b && false) ≡ false
@@ -151,9 +178,11 @@ among_more (k ∷ kept) file other = by (pointwise nat_eq other k) (pointwise na
 pub one_new : (kept new : List (List ℕ)) (file : List ℕ) (files : List (List ℕ)) → is_among kept file ≡ false → new ≡ kept ++ file ∷ []
     → kept ++ others_than kept (once (file ∷ files)) ≡ new ++ others_than new (once files)
 one_new kept new file files among e =
-    ap (λ b. kept ++ (if not b then file ∷ others_than kept (without file (once files)) else others_than kept (without file (once files)))) among
+    ap (λ b. kept ++ (if not b then file ∷ others_than kept (without file (once files)) else others_than kept (without file (once files))))
+    among
     ∙ ap (λ fs. kept ++ file ∷ fs) (filter_twice (λ f. not (is_among kept f)) (λ f. not (pointwise nat_eq file f)) (once files)
-    ∙ filter_same (λ f. not (pointwise nat_eq file f) && not (is_among kept f)) (λ f. not (is_among (kept ++ file ∷ []) f)) (once files) (λ f. among_more kept file f))
+    ∙ filter_same (λ f. not (pointwise nat_eq file f) && not (is_among kept f)) (λ f. not (is_among (kept ++ file ∷ []) f)) (once files)
+    (λ f. among_more kept file f))
     ∙ sym (append_assoc kept (file ∷ []) (others_than (kept ++ file ∷ []) (once files)))
     ∙ ap (λ ks. ks ++ others_than ks (once files)) (sym e)
 
@@ -162,15 +191,20 @@ pub one_added : (kept new : List (List ℕ)) (file : List ℕ) (files : List (Li
 one_added kept new file files e = by (is_among kept file) refl
   where
     by : (b : Bool) → is_among kept file ≡ b → kept ++ others_than kept (once (file ∷ files)) ≡ new ++ others_than new (once files)
-    by true among = again kept file files among ∙ ap (λ ks. ks ++ others_than ks (once files)) (sym (e ∙ ap (λ b. if b then kept else kept ++ file ∷ []) among))
+    by true among = again kept file files among ∙ ap (λ ks. ks ++ others_than ks (once files))
+        (sym (e ∙ ap (λ b. if b then kept else kept ++ file ∷ []) among))
     by false among = one_new kept new file files among (e ∙ ap (λ b. if b then kept else kept ++ file ∷ []) among)
 
 pub all_once : (kept : List (List ℕ)) → kept ++ others_than kept (once []) ≡ kept
 all_once kept = append-nil kept
 
 -- and those that stay
-pub one_stays : (f : List ℕ → Bool) (files new : List (List ℕ)) (file : List ℕ) (before : List (List ℕ)) → f file ≡ true → new ≡ filter f before ++ file ∷ [] → new ≡ filter f (before ++ file ∷ [])
-one_stays f files new file before stays e = e ∙ sym (filter-append f before (file ∷ []) ∙ ap (λ b. filter f before ++ (if b then file ∷ [] else [])) stays)
+pub one_stays : (f : List ℕ → Bool) (files new : List (List ℕ)) (file : List ℕ) (before : List (List ℕ)) → f file ≡ true
+    → new ≡ filter f before ++ file ∷ [] → new ≡ filter f (before ++ file ∷ [])
+one_stays f files new file before stays e = e ∙ sym
+    (filter-append f before (file ∷ []) ∙ ap (λ b. filter f before ++ (if b then file ∷ [] else [])) stays)
 
-pub one_goes : (f : List ℕ → Bool) (kept : List (List ℕ)) (file : List ℕ) (before : List (List ℕ)) → f file ≡ false → kept ≡ filter f before → kept ≡ filter f (before ++ file ∷ [])
-one_goes f kept file before goes e = e ∙ sym (filter-append f before (file ∷ []) ∙ ap (λ b. filter f before ++ (if b then file ∷ [] else [])) goes ∙ append-nil (filter f before))
+pub one_goes : (f : List ℕ → Bool) (kept : List (List ℕ)) (file : List ℕ) (before : List (List ℕ)) → f file ≡ false → kept ≡ filter f before
+    → kept ≡ filter f (before ++ file ∷ [])
+one_goes f kept file before goes e = e ∙ sym (filter-append f before (file ∷ [])
+    ∙ ap (λ b. filter f before ++ (if b then file ∷ [] else [])) goes ∙ append-nil (filter f before))

@@ -1,6 +1,7 @@
 use Rattle.drv_funcs.specs.Functions.{function_of, name_of}
 use Rattle.drv_funcs.specs.Functions as funcs
-use Rattle.drv_funcs.specs.declared.function.Function.TheVariants.{Getenv, IfExists, IfExistsElse, IfExistsThenElse, RemoveOutfile, ReplaceOutfile, VersionCompare}
+use Rattle.drv_funcs.specs.declared.function.Function.TheVariants.{Getenv, IfExists, IfExistsElse, IfExistsThenElse, RemoveOutfile}
+use Rattle.drv_funcs.specs.declared.function.Function.TheVariants.{ReplaceOutfile, VersionCompare}
 use Rattle.drv_funcs.specs.declared.function.Function.{Function}
 use Rattle.drv_syntax.proofs.FunctionNames.{same_pointwise}
 use Rattle.drv_syntax.specs.Bytes.{any_of, is_function, is_same}
@@ -11,12 +12,15 @@ use Rattle.std.specs.Prelude.{Bool, Some, cond, false, if◌then◌else◌, is_s
 
 -- For function_names: the names of functions in the grammar are those of the functions.
 
-among : {X : Type 0} (name : List ℕ) (rows : List (List ℕ × X)) → any_of (is_same name) (map (λ row. row.0) rows) ≡ is_some (lookup (pointwise nat_eq name) rows)
+among : {X : Type 0} (name : List ℕ) (rows : List (List ℕ × X))
+    → any_of (is_same name) (map (λ row. row.0) rows) ≡ is_some (lookup (pointwise nat_eq name) rows)
 among name [] = refl
-among name (row ∷ rows) = ap (λ t. if t then true else any_of (is_same name) (map (λ other. other.0) rows)) (sym (same_pointwise name row.0)) ∙ by (pointwise nat_eq name row.0) (among name rows)
+among name (row ∷ rows) = ap (λ t. if t then true else any_of (is_same name) (map (λ other. other.0) rows))
+    (sym (same_pointwise name row.0)) ∙ by (pointwise nat_eq name row.0) (among name rows)
   where
     by : (t : Bool) → any_of (is_same name) (map (λ other. other.0) rows) ≡ is_some (lookup (pointwise nat_eq name) rows)
-        → (if t then true else any_of (is_same name) (map (λ other. other.0) rows)) ≡ is_some (cond t (Some row.1) (lookup (pointwise nat_eq name) rows))
+        → (if t then true else any_of (is_same name) (map (λ other. other.0) rows))
+        ≡ is_some (cond t (Some row.1) (lookup (pointwise nat_eq name) rows))
     by true e = refl
     by false e = e
 

@@ -17,31 +17,40 @@ use Rattle.std.specs.Prelude.{is_some}
 -- For calls of functions: what a text makes of the result.
 
 module _ (F : Facts) (C : Context) (outer : Cut) (name : List ℕ) (s : Machine) where
-  value_is : after_arguments F C outer (value_step F C name) s ≡ (after_arguments F C outer (call_step F C name) s >>- λ r. run F C r.1 (bytes (unwrap_or r.0 [])))
+  value_is : after_arguments F C outer (value_step F C name) s
+      ≡ (after_arguments F C outer (call_step F C name) s >>- λ r. run F C r.1 (bytes (unwrap_or r.0 [])))
   value_is = after_then F C outer (call_step F C name) (λ given. bytes (unwrap_or given [])) s
 
-  holds_is : after_arguments F C outer (has_value F C name) s ≡ (after_arguments F C outer (call_step F C name) s >>- λ r. run F C r.1 (give (is_some r.0)))
+  holds_is : after_arguments F C outer (has_value F C name) s
+      ≡ (after_arguments F C outer (call_step F C name) s >>- λ r. run F C r.1 (give (is_some r.0)))
   holds_is = after_then F C outer (call_step F C name) (λ given. give (is_some given)) s
 
-  pub value_failed : (fault : MachineFault) → (fault ≡ Memory) ⊎ (after_arguments F C outer (call_step F C name) s ≡ Is (Err fault)) → (fault ≡ Memory) ⊎ (after_arguments F C outer (value_step F C name) s ≡ Is (Err fault))
+  pub value_failed : (fault : MachineFault) → (fault ≡ Memory) ⊎ (after_arguments F C outer (call_step F C name) s ≡ Is (Err fault))
+      → (fault ≡ Memory) ⊎ (after_arguments F C outer (value_step F C name) s ≡ Is (Err fault))
   value_failed fault (inl memory) = inl memory
   value_failed fault (inr e) = inr (value_is ∙ ap (λ x. x >>- λ r. run F C r.1 (bytes (unwrap_or r.0 []))) e)
 
-  pub holds_failed : (fault : MachineFault) → (fault ≡ Memory) ⊎ (after_arguments F C outer (call_step F C name) s ≡ Is (Err fault)) → (fault ≡ Memory) ⊎ (after_arguments F C outer (has_value F C name) s ≡ Is (Err fault))
+  pub holds_failed : (fault : MachineFault) → (fault ≡ Memory) ⊎ (after_arguments F C outer (call_step F C name) s ≡ Is (Err fault))
+      → (fault ≡ Memory) ⊎ (after_arguments F C outer (has_value F C name) s ≡ Is (Err fault))
   holds_failed fault (inl memory) = inl memory
   holds_failed fault (inr e) = inr (holds_is ∙ ap (λ x. x >>- λ r. run F C r.1 (give (is_some r.0))) e)
 
   module _ (t : Machine) (given : Option (List ℕ)) where
-    pub value_none : given ≡ None → after_arguments F C outer (call_step F C name) s ≡ Is (Ok (given, t)) → after_arguments F C outer (value_step F C name) s ≡ Is (Ok (tt, t))
+    pub value_none : given ≡ None → after_arguments F C outer (call_step F C name) s ≡ Is (Ok (given, t))
+        → after_arguments F C outer (value_step F C name) s ≡ Is (Ok (tt, t))
     value_none none e =
-        value_is ∙ ap (λ x. x >>- λ r. run F C r.1 (bytes (unwrap_or r.0 []))) e ∙ ap (λ (o : Option (List ℕ)). run F C t (bytes (unwrap_or o []))) none
+        value_is ∙ ap (λ x. x >>- λ r. run F C r.1 (bytes (unwrap_or r.0 []))) e
+        ∙ ap (λ (o : Option (List ℕ)). run F C t (bytes (unwrap_or o []))) none
 
-    pub holds_as : (holds : Bool) → is_some given ≡ holds → after_arguments F C outer (call_step F C name) s ≡ Is (Ok (given, t)) → after_arguments F C outer (has_value F C name) s ≡ Is (Ok (holds, t))
+    pub holds_as : (holds : Bool) → is_some given ≡ holds → after_arguments F C outer (call_step F C name) s ≡ Is (Ok (given, t))
+        → after_arguments F C outer (has_value F C name) s ≡ Is (Ok (holds, t))
     holds_as holds is e =
         holds_is ∙ ap (λ x. x >>- λ r. run F C r.1 (give (is_some r.0))) e ∙ ap (λ (b : Bool). run F C t (give b)) is
 
-  pub value_put : (t u : Machine) (given : Option (List ℕ)) (word : List ℕ) → given ≡ Some word → after_arguments F C outer (call_step F C name) s ≡ Is (Ok (given, t))
-      → (result : Result (Unit {0}) MachineFault) (put : List ℕ) → put ≡ word → GivesKnown Memory (λ v. (tt, u)) result (run F C t (bytes put))
+  pub value_put : (t u : Machine) (given : Option (List ℕ)) (word : List ℕ) → given ≡ Some word
+      → after_arguments F C outer (call_step F C name) s ≡ Is (Ok (given, t))
+      → (result : Result (Unit {0}) MachineFault) (put : List ℕ) → put ≡ word
+      → GivesKnown Memory (λ v. (tt, u)) result (run F C t (bytes put))
       → GivesKnown Memory (λ v. (tt, u)) result (after_arguments F C outer (value_step F C name) s)
   value_put t u given word some e result put same went =
       subst (λ x. GivesKnown Memory (λ v. (tt, u)) result x)

@@ -14,7 +14,8 @@ use Rattle.std.specs.Prelude.{cond, nat_eq}
 
 -- the index has one word more
 abbrev pub Grows : BTreeSet (List ℕ) → BTreeSet (List ℕ) → List ℕ → Type 0
-Grows index new word = (other : List ℕ) → contains (slice_cmp nat_cmp) new other ≡ cond (is_at (slice_cmp nat_cmp word) other) true (contains (slice_cmp nat_cmp) index other)
+Grows index new word = (other : List ℕ) → contains (slice_cmp nat_cmp) new other
+    ≡ cond (is_at (slice_cmp nat_cmp word) other) true (contains (slice_cmp nat_cmp) index other)
 
 same_word : (word other : List ℕ) → is_at (slice_cmp nat_cmp word) other ≡ pointwise nat_eq other word
 same_word word other = sym (texts_ties word other) ∙ nat_list_eq_equiv.symm word other
@@ -24,13 +25,16 @@ grown : (index new : BTreeSet (List ℕ)) (word other : List ℕ) → Grows inde
 grown index new word other grows = grows other ∙ ap (λ b. cond b true (contains (slice_cmp nat_cmp) index other)) (same_word word other)
 
 -- going over a list
-pub next_indexed : (index new : BTreeSet (List ℕ)) (words : List (List ℕ)) (i : ℕ) (item copy : List ℕ) → i < length words → item ≡ get_or words i item → copy ≡ item → Grows index new copy
+pub next_indexed : (index new : BTreeSet (List ℕ)) (words : List (List ℕ)) (i : ℕ) (item copy : List ℕ) → i < length words
+    → item ≡ get_or words i item → copy ≡ item → Grows index new copy
     → (other : List ℕ) → (contains (slice_cmp nat_cmp) index other || is_among (drop i words) other) ≡ is_among words other
     → (contains (slice_cmp nat_cmp) new other || is_among (drop (i + 1) words) other) ≡ is_among words other
 next_indexed index new words i item copy h is same grows other left =
-    ap (λ b. b || is_among (drop (i + 1) words) other) (grown index new copy other grows ∙ ap (λ w. cond (pointwise nat_eq other w) true (contains (slice_cmp nat_cmp) index other)) same)
+    ap (λ b. b || is_among (drop (i + 1) words) other)
+    (grown index new copy other grows ∙ ap (λ w. cond (pointwise nat_eq other w) true (contains (slice_cmp nat_cmp) index other)) same)
     ∙ moved (pointwise nat_eq other item) (contains (slice_cmp nat_cmp) index other) (is_among (drop (i + 1) words) other)
-    ∙ sym (ap (λ ws. contains (slice_cmp nat_cmp) index other || is_among ws other) (drop_more words i item h ∙ ap (λ w. w ∷ drop (i + 1) words) (sym is)))
+    ∙ sym (ap (λ ws. contains (slice_cmp nat_cmp) index other || is_among ws other)
+    (drop_more words i item h ∙ ap (λ w. w ∷ drop (i + 1) words) (sym is)))
     ∙ left
   where
     moved : (a b c : Bool) → (cond a true b || c) ≡ (b || (a || c))
@@ -40,7 +44,8 @@ next_indexed index new words i item copy h is same grows other left =
     moved false false c = refl
 
 -- a word more of a list and its index
-pub indexed_more : (index new : BTreeSet (List ℕ)) (words longer : List (List ℕ)) (word copy : List ℕ) → Indexes index words → copy ≡ word → Grows index new copy → longer ≡ words ++ word ∷ [] → Indexes new longer
+pub indexed_more : (index new : BTreeSet (List ℕ)) (words longer : List (List ℕ)) (word copy : List ℕ) → Indexes index words → copy ≡ word
+    → Grows index new copy → longer ≡ words ++ word ∷ [] → Indexes new longer
 indexed_more index new words longer word copy indexes same grows is other =
     grown index new copy other grows ∙ ap (λ w. cond (pointwise nat_eq other w) true (contains (slice_cmp nat_cmp) index other)) same
     ∙ ap (cond (pointwise nat_eq other word) true) (indexes other)

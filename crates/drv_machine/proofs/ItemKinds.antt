@@ -27,7 +27,8 @@ inner_step F C (tree.Function name items) levels star = item_step F C (tree.Func
 inner_step F C (tree.Braces brace) levels star = brace_step F C brace levels star
 inner_step F C _ levels star = nothing
 
-pub item_by_kind : (F : Facts) (C : Context) (item : Item) (levels : Levels) (star : List ℕ) → item_step F C item levels star ≡ kind_step F C (kind_of item) (label_of item) star (inner_step F C item levels star)
+pub item_by_kind : (F : Facts) (C : Context) (item : Item) (levels : Levels) (star : List ℕ)
+    → item_step F C item levels star ≡ kind_step F C (kind_of item) (label_of item) star (inner_step F C item levels star)
 item_by_kind F C (tree.Plain b) levels star = refl
 item_by_kind F C (tree.Escape b) levels star = refl
 item_by_kind F C tree.Blank levels star = refl
@@ -49,13 +50,15 @@ item_by_kind F C (tree.FailureFile brace) levels star = refl
 item_by_kind F C (tree.ArgumentsFile brace) levels star = refl
 
 -- a named text, by its label
-pub text_item : (F : Facts) (C : Context) (item : Item) (levels : Levels) (star : List ℕ) → kind_of item ≡ kinds.NamedText → item_step F C item levels star ≡ named F C (tree_named F C (label_of item).word) levels
+pub text_item : (F : Facts) (C : Context) (item : Item) (levels : Levels) (star : List ℕ) → kind_of item ≡ kinds.NamedText
+    → item_step F C item levels star ≡ named F C (tree_named F C (label_of item).word) levels
 text_item F C (tree.NamedText name) levels star e = refl
 text_item F C (tree.Braces (tree.Emit patterns)) levels star e = absurd cc
 text_item F C (tree.Braces (tree.Choose choices)) levels star e = absurd cc
 text_item F C _ levels star e = absurd cc
 
-pub builtin_item : (F : Facts) (C : Context) (item : Item) (levels : Levels) (star : List ℕ) → kind_of item ≡ kinds.BuiltinText → item_step F C item levels star ≡ named F C (tree_named F C (label_of item).word) levels
+pub builtin_item : (F : Facts) (C : Context) (item : Item) (levels : Levels) (star : List ℕ) → kind_of item ≡ kinds.BuiltinText
+    → item_step F C item levels star ≡ named F C (tree_named F C (label_of item).word) levels
 builtin_item F C (tree.BuiltinText name) levels star e = refl
 builtin_item F C (tree.Braces (tree.Emit patterns)) levels star e = absurd cc
 builtin_item F C (tree.Braces (tree.Choose choices)) levels star e = absurd cc
@@ -126,4 +129,5 @@ item_no_alternative item e = let f = item_no_part item in let g : is_part (kind_
 pub tests_first : (tests : Tests) (items : Items) → tests_in (both (test_nodes tests) (nodes_of items)) ≡ test_nodes tests
 tests_first tree.no_test tree.none = refl
 tests_first tree.no_test (tree.more span item items) = rw (item_no_test item) refl
-tests_first (tree.test span negated asked tests) items = ap (λ n. node kinds.Test (test_label negated asked) span (asked_nodes asked) n) (tests_first tests items)
+tests_first (tree.test span negated asked tests) items =
+    ap (λ n. node kinds.Test (test_label negated asked) span (asked_nodes asked) n) (tests_first tests items)

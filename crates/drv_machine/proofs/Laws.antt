@@ -26,30 +26,35 @@ module _ (F : Facts) (C : Context) where
   pub all_taken-append : (c : Cut) (xs ys : List Atom) → all_taken F C c (xs ++ ys) ≡ (all_taken F C c xs >>- λ d. all_taken F C d ys)
   all_taken-append c [] ys = refl
   all_taken-append c (x ∷ xs) ys =
-      then_same (taken F C c x) (λ d. all_taken F C d (xs ++ ys)) (λ d. all_taken F C d xs >>- λ e. all_taken F C e ys) (λ d. all_taken-append d xs ys)
+      then_same (taken F C c x) (λ d. all_taken F C d (xs ++ ys)) (λ d. all_taken F C d xs >>- λ e. all_taken F C e ys)
+      (λ d. all_taken-append d xs ys)
       ∙ sym (then_then (taken F C c x) (λ d. all_taken F C d xs) (λ e. all_taken F C e ys))
 
   further : {Y : Type 0} (c : Cut) (xs ys : List Atom) (last : Cut → Answer Y)
       → (all_taken F C c (xs ++ ys) >>- last) ≡ (all_taken F C c xs >>- λ d. all_taken F C d ys >>- last)
   further c xs ys last = ap (λ a. a >>- last) (all_taken-append c xs ys) ∙ then_then (all_taken F C c xs) (λ d. all_taken F C d ys) last
 
-  pub done-following : {Y : Type 0} (c : Cut) (xs : List Atom) (work : Worked Y) → done F C c (following xs work) ≡ (all_taken F C c xs >>- λ d. done F C d work)
+  pub done-following : {Y : Type 0} (c : Cut) (xs : List Atom) (work : Worked Y)
+      → done F C c (following xs work) ≡ (all_taken F C c xs >>- λ d. done F C d work)
   done-following c xs (Goes ys y w) = further c xs ys (λ d. Is (Ok (y, record { cut = d; world = w })))
   done-following c xs (Refuses ys fault) = further c xs ys (λ d. Is (Err fault))
   done-following c xs (Waits ys) = further c xs ys (λ d. Unasked)
 
   done-follow : {X Y : Type 0} (c : Cut) (work : Worked X) (f : X → Step Y)
       → done F C c (follow work f) ≡ (done F C c work >>- λ r. run F C r.1 (f r.0))
-  done-follow c (Goes xs x w) f = done-following c xs (f x w) ∙ sym (then_then (all_taken F C c xs) (λ d. Is (Ok (x, record { cut = d; world = w }))) (λ r. run F C r.1 (f r.0)))
+  done-follow c (Goes xs x w) f = done-following c xs (f x w)
+      ∙ sym (then_then (all_taken F C c xs) (λ d. Is (Ok (x, record { cut = d; world = w }))) (λ r. run F C r.1 (f r.0)))
   done-follow c (Refuses xs fault) f = sym (then_then (all_taken F C c xs) (λ d. Is (Err fault)) (λ r. run F C r.1 (f r.0)))
   done-follow c (Waits xs) f = sym (then_then (all_taken F C c xs) (λ d. Unasked) (λ r. run F C r.1 (f r.0)))
 
   -- one part and then another
-  pub run_then : {X Y : Type 0} (s : Machine) (a : Step X) (f : X → Step Y) → run F C s (a >>= f) ≡ (run F C s a >>- λ r. run F C r.1 (f r.0))
+  pub run_then : {X Y : Type 0} (s : Machine) (a : Step X) (f : X → Step Y)
+      → run F C s (a >>= f) ≡ (run F C s a >>- λ r. run F C r.1 (f r.0))
   run_then s a f = done-follow s.cut (a s.world) f
 
   cut_done : (work : Worked Unit) → cut F C work ≡ (done F C nothing_cut work >>- λ r. finished F C r.1.world r.1.cut)
-  cut_done (Goes xs u w) = sym (then_then (all_taken F C nothing_cut xs) (λ d. Is (Ok (u, record { cut = d; world = w }))) (λ r. finished F C r.1.world r.1.cut))
+  cut_done (Goes xs u w) = sym (then_then (all_taken F C nothing_cut xs) (λ d. Is (Ok (u, record { cut = d; world = w })))
+      (λ r. finished F C r.1.world r.1.cut))
   cut_done (Refuses xs fault) = sym (then_then (all_taken F C nothing_cut xs) (λ d. Is (Err fault)) (λ r. finished F C r.1.world r.1.cut))
   cut_done (Waits xs) = sym (then_then (all_taken F C nothing_cut xs) (λ d. Unasked) (λ r. finished F C r.1.world r.1.cut))
 

@@ -1,6 +1,6 @@
 use Rattle.drv_machine.proofs.ItemKinds.{item_no_alternative}
 use Rattle.drv_machine.proofs.Standing.{next_at, some_same, stand_grows}
-use Rattle.drv_machine.specs.Code.Standing.{Part, Stands}
+use Rattle.drv_machine.specs.Code.Standing.{PartAt, Stands}
 use Rattle.drv_machine.specs.Code.Walking.{Lies, Skips}
 use Rattle.drv_syntax.specs.Labels.{Label, alternative_label, choice_nodes, inner_nodes, label_of, labels_of, nodes_of}
 use Rattle.drv_syntax.specs.Parsed.{tree_of}
@@ -19,9 +19,11 @@ abbrev choices_joined : Choices → Choices → Choices
 choices_joined tree.no_choice ys = ys
 choices_joined (tree.choice span tests items xs) ys = tree.choice span tests items (choices_joined xs ys)
 
-skips_join : (text : List ℕ) (xs ys : Choices) (a b c : ℕ) → Stands text a (choice_nodes xs) b → Stands text b (choice_nodes ys) c → Stands text a (choice_nodes (choices_joined xs ys)) c
+skips_join : (text : List ℕ) (xs ys : Choices) (a b c : ℕ) → Stands text a (choice_nodes xs) b → Stands text b (choice_nodes ys) c
+    → Stands text a (choice_nodes (choices_joined xs ys)) c
 skips_join text tree.no_choice ys a b c e s = subst (λ (k : ℕ). Stands text k (choice_nodes ys) c) (sym e) s
-skips_join text (tree.choice span tests items xs) ys a b c (next, part, within, following) s = (next, part, within, skips_join text xs ys next b c following s)
+skips_join text (tree.choice span tests items xs) ys a b c (next, part, within, following) s =
+    (next, part, within, skips_join text xs ys next b c following s)
 
 pub no_skip : (text : List ℕ) (at : ℕ) → Skips text at at
 no_skip text at = (tree.no_choice, refl)
@@ -36,13 +38,16 @@ abbrev pub joined : Items → Items → Items
 joined tree.none ys = ys
 joined (tree.more span item xs) ys = tree.more span item (joined xs ys)
 
-pub lies_joined : (text : List ℕ) (xs rest : Items) (at middle end : ℕ) → Stands text at (nodes_of xs) middle → Lies text middle rest end → Lies text at (joined xs rest) end
+pub lies_joined : (text : List ℕ) (xs rest : Items) (at middle end : ℕ) → Stands text at (nodes_of xs) middle → Lies text middle rest end
+    → Lies text at (joined xs rest) end
 lies_joined text tree.none rest at middle end e l = subst (λ (k : ℕ). Lies text k rest end) (sym e) l
-lies_joined text (tree.more span item xs) rest at middle end (next, part, within, following) l = (at, next, no_skip text at, part, within, lies_joined text xs rest next middle end following l)
+lies_joined text (tree.more span item xs) rest at middle end (next, part, within, following) l =
+    (at, next, no_skip text at, part, within, lies_joined text xs rest next middle end following l)
 
 pub lies_alone : (text : List ℕ) (xs : Items) (at end : ℕ) → Stands text at (nodes_of xs) end → Lies text at xs end
 lies_alone text tree.none at end e = (tree.no_choice, e)
-lies_alone text (tree.more span item xs) at end (next, part, within, following) = (at, next, no_skip text at, part, within, lies_alone text xs next end following)
+lies_alone text (tree.more span item xs) at end (next, part, within, following) =
+    (at, next, no_skip text at, part, within, lies_alone text xs next end following)
 
 -- places grow
 pub lies_grows : (text : List ℕ) (at : ℕ) (rest : Items) (end : ℕ) → Lies text at rest end → at ≤ end
@@ -59,9 +64,11 @@ nothing_left text at (tree.more span item items) end h (start, next, skips, part
 -- a place before the end is one of the list
 pub place_in : (text : List ℕ) (at : ℕ) (rest : Items) (end : ℕ) → at < end → Lies text at rest end → at < length (tokens_of (tree_of text))
 place_in text at tree.none end h (tree.no_choice, e) = absurd (omega (arith, h, e))
-place_in text at tree.none end h (tree.choice span tests items others, (next, part, within, following)) = slice_get_within (tokens_of (tree_of text)) at part.token part.there
+place_in text at tree.none end h (tree.choice span tests items others, (next, part, within, following)) =
+    slice_get_within (tokens_of (tree_of text)) at part.token part.there
 place_in text at (tree.more span item items) end h (start, next, (tree.no_choice, e), part, within, following) =
-    subst (λ (k : ℕ). k < length (tokens_of (tree_of text))) (sym e) (slice_get_within (tokens_of (tree_of text)) start part.token part.there)
+    subst (λ (k : ℕ). k < length (tokens_of (tree_of text))) (sym e)
+    (slice_get_within (tokens_of (tree_of text)) start part.token part.there)
 place_in text at (tree.more span item items) end h (start, next, (tree.choice s tests xs others, (n, part, within, following)), p, w, b) =
     slice_get_within (tokens_of (tree_of text)) at part.token part.there
 
@@ -72,45 +79,62 @@ pub record Reached (text : List ℕ) (at : ℕ) (rest : Items) (end : ℕ) : Typ
   pub others : Items
   pub is : rest ≡ tree.more span item others
   pub next : ℕ
-  pub part : Part (tokens_of (tree_of text)) (labels_of (tree_of text)) at (kind_of item) (label_of item) next
+  pub part : PartAt (tokens_of (tree_of text)) (labels_of (tree_of text)) at (kind_of item) (label_of item) next
   pub within : Stands text (at + 1) (inner_nodes item) next
   pub following : Lies text next others end
 
-pub reached : (text : List ℕ) (at : ℕ) (rest : Items) (end : ℕ) → at < end → ((token : Token) → slice_get (tokens_of (tree_of text)) at ≡ Some token → token.kind ≡ kinds.Alternative → ⊥) → Lies text at rest end
+pub reached : (text : List ℕ) (at : ℕ) (rest : Items) (end : ℕ) → at < end
+    → ((token : Token) → slice_get (tokens_of (tree_of text)) at ≡ Some token → token.kind ≡ kinds.Alternative → ⊥) → Lies text at rest end
     → Reached text at rest end
 reached text at tree.none end h never (tree.no_choice, e) = absurd (omega (arith, h, e))
-reached text at tree.none end h never (tree.choice span tests items others, (next, part, within, following)) = absurd (never part.token part.there part.kind_is)
+reached text at tree.none end h never (tree.choice span tests items others, (next, part, within, following)) =
+    absurd (never part.token part.there part.kind_is)
 reached text at (tree.more span item items) end h never (start, next, (tree.no_choice, e), part, within, following) = record {
   span = span;
   item = item;
   others = items;
   is = refl;
   next = next;
-  part = subst (λ (k : ℕ). Part (tokens_of (tree_of text)) (labels_of (tree_of text)) k (kind_of item) (label_of item) next) (sym e) part;
+  part = subst (λ (k : ℕ). PartAt (tokens_of (tree_of text)) (labels_of (tree_of text)) k (kind_of item) (label_of item) next) (sym e) part;
   within = subst (λ (k : ℕ). Stands text (k + 1) (inner_nodes item) next) (sym e) within;
   following = following;
 }
-reached text at (tree.more span item items) end h never (start, next, (tree.choice s tests xs others, (n, part, within, following)), p, w, b) = absurd (never part.token part.there part.kind_is)
+reached text at (tree.more span item items) end h never
+    (start, next, (tree.choice s tests xs others, (n, part, within, following)), p, w, b) =
+    absurd (never part.token part.there part.kind_is)
 
 -- an alternative is passed over
-module _ (text : List ℕ) (at : ℕ) (token : Token) (there : slice_get (tokens_of (tree_of text)) at ≡ Some token) (alternative : token.kind ≡ kinds.Alternative) where
-  no_item : (item : Item) (next start : ℕ) → at ≡ start → Part (tokens_of (tree_of text)) (labels_of (tree_of text)) start (kind_of item) (label_of item) next → ⊥
+module _ (text : List ℕ) (at : ℕ) (token : Token) (there : slice_get (tokens_of (tree_of text)) at ≡ Some token)
+    (alternative : token.kind ≡ kinds.Alternative) where
+  no_item : (item : Item) (next start : ℕ) → at ≡ start
+      → PartAt (tokens_of (tree_of text)) (labels_of (tree_of text)) start (kind_of item) (label_of item) next → ⊥
   no_item item next start e part =
       let same = some_same part.token token (sym part.there ∙ ap (slice_get (tokens_of (tree_of text))) (sym e) ∙ there) in
       item_no_alternative item (sym part.kind_is ∙ ap (λ (t : Token). t.kind) same ∙ alternative)
 
-  past : (label : Label) (choices : Choices) (next end : ℕ) → Part (tokens_of (tree_of text)) (labels_of (tree_of text)) at kinds.Alternative label next → Stands text next (choice_nodes choices) end → Skips text token.next end
-  past label choices next end part following = (choices, subst (λ (k : ℕ). Stands text k (choice_nodes choices) end) (sym (next_at text at token kinds.Alternative label next there part)) following)
+  past : (label : Label) (choices : Choices) (next end : ℕ)
+      → PartAt (tokens_of (tree_of text)) (labels_of (tree_of text)) at kinds.Alternative label next
+      → Stands text next (choice_nodes choices) end → Skips text token.next end
+  past label choices next end part following = (
+    choices,
+    subst (λ (k : ℕ). Stands text k (choice_nodes choices) end)
+        (sym (next_at text at token kinds.Alternative label next there part)) following,
+  )
 
   pub lies_past : (rest : Items) (end : ℕ) → at < end → Lies text at rest end → Lies text token.next rest end
   lies_past tree.none end h (tree.no_choice, e) = absurd (omega (arith, h, e))
-  lies_past tree.none end h (tree.choice span tests items others, (next, part, within, following)) = past (alternative_label items) others next end part following
-  lies_past (tree.more span item items) end h (start, next, (tree.no_choice, e), part, within, following) = absurd (no_item item next start e part)
-  lies_past (tree.more span item items) end h (start, next, (tree.choice s tests xs others, (n, part, within, following)), p, w, b) = (start, next, past (alternative_label xs) others n start part following, p, w, b)
+  lies_past tree.none end h (tree.choice span tests items others, (next, part, within, following)) =
+      past (alternative_label items) others next end part following
+  lies_past (tree.more span item items) end h (start, next, (tree.no_choice, e), part, within, following) =
+      absurd (no_item item next start e part)
+  lies_past (tree.more span item items) end h (start, next, (tree.choice s tests xs others, (n, part, within, following)), p, w, b) =
+      (start, next, past (alternative_label xs) others n start part following, p, w, b)
 
   pub past_later : (rest : Items) (end : ℕ) → at < end → Lies text at rest end → at < token.next
   past_later tree.none end h (tree.no_choice, e) = absurd (omega (arith, h, e))
-  past_later tree.none end h (tree.choice span tests items others, (next, part, within, following)) = omega (arith, part.later, next_at text at token kinds.Alternative (alternative_label items) next there part)
-  past_later (tree.more span item items) end h (start, next, (tree.no_choice, e), part, within, following) = absurd (no_item item next start e part)
+  past_later tree.none end h (tree.choice span tests items others, (next, part, within, following)) =
+      omega (arith, part.later, next_at text at token kinds.Alternative (alternative_label items) next there part)
+  past_later (tree.more span item items) end h (start, next, (tree.no_choice, e), part, within, following) =
+      absurd (no_item item next start e part)
   past_later (tree.more span item items) end h (start, next, (tree.choice s tests xs others, (n, part, within, following)), p, w, b) =
       omega (arith, part.later, next_at text at token kinds.Alternative (alternative_label xs) n there part)

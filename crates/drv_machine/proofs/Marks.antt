@@ -3,7 +3,8 @@ use Rattle.drv_machine.specs.Atoms as a
 use Rattle.drv_machine.specs.Atoms.{atoms, items_step, levels_left, named, start}
 use Rattle.drv_machine.specs.Context.{Context}
 use Rattle.drv_machine.specs.Cutting.{all_taken, argument_words, nothing_cut}
-use Rattle.drv_machine.specs.Working.{◌>>-◌, Answer, Atom, Break, End, From, Goes, Marked, Open, Piped, Put, Refuses, To, Waits, Without, Worked, World}
+use Rattle.drv_machine.specs.Working.{◌>>-◌, Answer, Atom, Break, End, From, Goes, Marked, Open, Piped, Put, Refuses, To, Waits, Without}
+use Rattle.drv_machine.specs.Working.{Worked, World}
 use Rattle.drv_machine.specs.declared.machine.marking.Mark.TheVariants.{AsOutput, AsRemoved}
 use Rattle.drv_machine.specs.declared.fault.MachineFault.TheVariants.{SpecTooDeep, TooManySteps}
 use Rattle.drv_syntax.specs.Outcome.{parsed}
@@ -96,14 +97,16 @@ module _ (F : Facts) where
   no_stray = refl
 
   -- arguments
-  arguments : argument_words F one_switch (Put letter_a ∷ Put letter_b ∷ Break ∷ Open ∷ Break ∷ Put letter_c ∷ []) ≡ Is (Ok (codes "ab" ∷ [] ∷ codes "c" ∷ []))
+  arguments : argument_words F one_switch (Put letter_a ∷ Put letter_b ∷ Break ∷ Open ∷ Break ∷ Put letter_c ∷ [])
+      ≡ Is (Ok (codes "ab" ∷ [] ∷ codes "c" ∷ []))
   arguments = refl
 
   abbrev words_got : Worked (List (List ℕ)) → List (List ℕ)
   words_got (Goes atoms got w) = got
   words_got _ = []
 
-  arguments_of_text : words_got (a.arguments F one_switch (items_step F one_switch (tree (codes "x %{m*}y")) [] []) (start F one_switch)) ≡ codes "x" ∷ codes "-ma" ∷ codes "y" ∷ []
+  arguments_of_text : words_got (a.arguments F one_switch (items_step F one_switch (tree (codes "x %{m*}y")) [] []) (start F one_switch))
+      ≡ codes "x" ∷ codes "-ma" ∷ codes "y" ∷ []
   arguments_of_text = refl
 
   -- how far a part got: its atoms, and the items reached or what stops it
@@ -126,7 +129,8 @@ module _ (F : Facts) where
   abbrev starred : Items
   starred = tree (codes "a%{m*:%*}")
 
-  open_star : ends (items_step F one_switch starred (levels_left F one_switch 1) [] (from_item 0)) ≡ (Put letter_a ∷ Put letter_a ∷ Break ∷ [], Is (Ok 3))
+  open_star : ends (items_step F one_switch starred (levels_left F one_switch 1) [] (from_item 0))
+      ≡ (Put letter_a ∷ Put letter_a ∷ Break ∷ [], Is (Ok 3))
   open_star = refl
 
   too_deep : ends (items_step F one_switch starred [] [] (from_item 0)) ≡ (Put letter_a ∷ [], Is (Err SpecTooDeep))
@@ -135,10 +139,12 @@ module _ (F : Facts) where
   many_before_deep : ends (items_step F one_switch starred [] [] (from_item 999999)) ≡ (Put letter_a ∷ [], Is (Err TooManySteps))
   many_before_deep = refl
 
-  named_too_deep : ends (named F one_switch (Some starred) (levels_left F one_switch 1) (from_item 0)) ≡ (Put letter_a ∷ [], Is (Err SpecTooDeep))
+  named_too_deep : ends (named F one_switch (Some starred) (levels_left F one_switch 1) (from_item 0))
+      ≡ (Put letter_a ∷ [], Is (Err SpecTooDeep))
   named_too_deep = refl
 
-  named_deep : ends (named F one_switch (Some starred) (levels_left F one_switch 2) (from_item 0)) ≡ (Put letter_a ∷ Put letter_a ∷ Break ∷ [], Is (Ok 3))
+  named_deep : ends (named F one_switch (Some starred) (levels_left F one_switch 2) (from_item 0))
+      ≡ (Put letter_a ∷ Put letter_a ∷ Break ∷ [], Is (Ok 3))
   named_deep = refl
 
   named_missing : ends (named F one_switch None (levels_left F one_switch 2) (from_item 0)) ≡ ([], Is (Ok 0))
@@ -151,7 +157,8 @@ module _ (F : Facts) where
   star_in_test : ends (items_step F one_switch asked_with_star [] [] (from_item 0)) ≡ ([], Is (Err SpecTooDeep))
   star_in_test = refl
 
-  star_in_test_open : ends (items_step F one_switch asked_with_star (levels_left F one_switch 1) [] (from_item 0)) ≡ ([], Is (Err SpecTooDeep))
+  star_in_test_open : ends (items_step F one_switch asked_with_star (levels_left F one_switch 1) [] (from_item 0))
+      ≡ ([], Is (Err SpecTooDeep))
   star_in_test_open = refl
 
   -- an X without a %* of its own opens nothing

@@ -18,11 +18,13 @@ use Rattle.std.specs.Prelude.{option_map}
 -- For `%(NAME)`: a named text is opened.
 
 -- what was found of a name
-pub none_named : {R : Type 0} (now : R → List ℕ) (found : Option R) (text : Option (List ℕ)) → option_map now found ≡ text → found ≡ None → text ≡ None
+pub none_named : {R : Type 0} (now : R → List ℕ) (found : Option R) (text : Option (List ℕ)) → option_map now found ≡ text → found ≡ None
+    → text ≡ None
 none_named now None text e n = sym e
 none_named now (Some r) text e n = absurd cc
 
-pub some_named : {R : Type 0} (now : R → List ℕ) (found : Option R) (text : Option (List ℕ)) (r : R) → option_map now found ≡ text → found ≡ Some r → text ≡ Some (now r)
+pub some_named : {R : Type 0} (now : R → List ℕ) (found : Option R) (text : Option (List ℕ)) (r : R) → option_map now found ≡ text
+    → found ≡ Some r → text ≡ Some (now r)
 some_named now (Some x) text r e n = sym e ∙ ap (λ y. Some (now y)) (some_same x r n)
 some_named now None text r e n = absurd cc
 
@@ -35,8 +37,12 @@ module _ (F : Facts) (C : Context) (w : Walk) (at : ℕ) (inside : List ℕ) (s 
   abbrev frame : Frame
   frame = record { opened = Text w.text at; end = w.end; star = w.star }
 
-  pub text_opened : length w.frames < 64 → (end : ℕ) → end ≡ length (tokens_of (tree_of inside)) → (v : Walk) → v.at ≡ 0 → v.end ≡ end → v.star ≡ None → v.frames ≡ w.frames ++ frame ∷ []
+  pub text_opened : length w.frames < 64 → (end : ℕ) → end ≡ length (tokens_of (tree_of inside)) → (v : Walk) → v.at ≡ 0 → v.end ≡ end
+      → v.star ≡ None → v.frames ≡ w.frames ++ frame ∷ []
       → Left F C inside v s given
   text_opened h end long v at_is end_is star_is frames_is =
-      items_opened F C w.text.now w s given at _ b inside (Text w.text at) (tree.pattern [] false) tree.none nothing_kept tt refl refl v frames_is None star_is s (tree_of inside) 0 end (whole_there inside end long) at_is end_is
-      (sym (ap (λ levels. run F C s (named F C (Some (tree_of inside)) levels) >>- k) (one_deeper F C w.text.now w s given at _ b h)) ∙ b.same)
+      items_opened F C w.text.now w s given at _ b inside (Text w.text at)
+      (tree.pattern [] false) tree.none nothing_kept tt refl refl v frames_is None star_is s (tree_of inside) 0 end
+      (whole_there inside end long) at_is end_is
+      (sym (ap (λ levels. run F C s (named F C (Some (tree_of inside)) levels) >>- k) (one_deeper F C w.text.now w s given at _ b h))
+      ∙ b.same)

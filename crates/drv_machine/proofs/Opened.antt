@@ -57,14 +57,17 @@ module _ (F : Facts) where
   cost_of C text = texts.cost_of F C text
 
   -- a named text is run in the place of its name; a missing one gives nothing
-  named_text : words_of (named ((codes "n", codes "b c") ∷ []) (linking [])) (codes "a%(n)d %(m)") ≡ Is (Ok ((codes "ab" ∷ codes "cd" ∷ []) ∷ []))
+  named_text : words_of (named ((codes "n", codes "b c") ∷ []) (linking [])) (codes "a%(n)d %(m)")
+      ≡ Is (Ok ((codes "ab" ∷ codes "cd" ∷ []) ∷ []))
   named_text = refl
 
-  builtin_text : words_of (named ((codes "cc1", codes "x") ∷ (codes "asm", codes "y") ∷ []) (linking [])) (codes "%1 %a %2") ≡ Is (Ok ((codes "x" ∷ codes "y" ∷ []) ∷ []))
+  builtin_text : words_of (named ((codes "cc1", codes "x") ∷ (codes "asm", codes "y") ∷ []) (linking [])) (codes "%1 %a %2")
+      ≡ Is (Ok ((codes "x" ∷ codes "y" ∷ []) ∷ []))
   builtin_text = refl
 
   -- outside the braces of a text its %* is empty, whatever it is around the name
-  star_of_text : words_of (named ((codes "n", codes "%{k*:%*}") ∷ []) (linking (alone (codes "ma") ∷ alone (codes "kb") ∷ []))) (codes "%{m*:%(n)%*}") ≡ Is (Ok ((codes "b" ∷ codes "a" ∷ []) ∷ []))
+  star_of_text : words_of (named ((codes "n", codes "%{k*:%*}") ∷ []) (linking (alone (codes "ma") ∷ alone (codes "kb") ∷ [])))
+      (codes "%{m*:%(n)%*}") ≡ Is (Ok ((codes "b" ∷ codes "a" ∷ []) ∷ []))
   star_of_text = refl
 
   -- a refusal of a named text counts at its place
@@ -73,7 +76,8 @@ module _ (F : Facts) where
 
   -- each name has the one before it twice: 8 bytes at a cost of 23
   abbrev doubled : List (List ℕ × List ℕ)
-  doubled = (codes "a0", codes "x") ∷ (codes "a1", codes "%(a0)%(a0)") ∷ (codes "a2", codes "%(a1)%(a1)") ∷ (codes "a3", codes "%(a2)%(a2)") ∷ []
+  doubled = (codes "a0", codes "x") ∷ (codes "a1", codes "%(a0)%(a0)") ∷ (codes "a2", codes "%(a1)%(a1)") ∷ (codes "a3", codes "%(a2)%(a2)")
+      ∷ []
 
   doubled_words : words_of (named doubled (linking [])) (codes "%(a3)") ≡ Is (Ok ((codes "xxxxxxxx" ∷ []) ∷ []))
   doubled_words = refl
@@ -92,29 +96,37 @@ module _ (F : Facts) where
   deepest_cost : cost_of (named (chained ++ (codes "d64", codes "x") ∷ []) (linking [])) (codes "%(d1)") ≡ Is (Ok 65)
   deepest_cost = refl
 
-  too_deep : words_of (named (chained ++ (codes "d64", codes "%(d65)") ∷ (codes "d65", codes "x") ∷ []) (linking [])) (codes "%(d1)") ≡ Is (Err SpecTooDeep)
+  too_deep : words_of (named (chained ++ (codes "d64", codes "%(d65)") ∷ (codes "d65", codes "x") ∷ []) (linking [])) (codes "%(d1)")
+      ≡ Is (Err SpecTooDeep)
   too_deep = refl
 
   -- a working of an X with a %* is one of them, and so is each kind of part
-  deepest_star : words_of (named (chained ++ (codes "d64", codes "%{m*:x%*}") ∷ []) (linking (alone (codes "ma") ∷ []))) (codes "%(d2)") ≡ Is (Ok ((codes "xa" ∷ []) ∷ []))
+  deepest_star : words_of (named (chained ++ (codes "d64", codes "%{m*:x%*}") ∷ []) (linking (alone (codes "ma") ∷ []))) (codes "%(d2)")
+      ≡ Is (Ok ((codes "xa" ∷ []) ∷ []))
   deepest_star = refl
 
-  too_deep_star : words_of (named (chained ++ (codes "d64", codes "%{m*:x%*}") ∷ []) (linking (alone (codes "ma") ∷ []))) (codes "%(d1)") ≡ Is (Err SpecTooDeep)
+  too_deep_star : words_of (named (chained ++ (codes "d64", codes "%{m*:x%*}") ∷ []) (linking (alone (codes "ma") ∷ []))) (codes "%(d1)")
+      ≡ Is (Err SpecTooDeep)
   too_deep_star = refl
 
-  no_star_deep : words_of (named (chained ++ (codes "d64", codes "%{m*:x}") ∷ []) (linking (alone (codes "ma") ∷ []))) (codes "%(d1)") ≡ Is (Ok ((codes "x" ∷ []) ∷ []))
+  no_star_deep : words_of (named (chained ++ (codes "d64", codes "%{m*:x}") ∷ []) (linking (alone (codes "ma") ∷ []))) (codes "%(d1)")
+      ≡ Is (Ok ((codes "x" ∷ []) ∷ []))
   no_star_deep = refl
 
-  too_deep_failure : words_of (named (chained ++ (codes "d64", codes "%W{ma}") ∷ []) (linking (alone (codes "ma") ∷ []))) (codes "%(d1)") ≡ Is (Err SpecTooDeep)
+  too_deep_failure : words_of (named (chained ++ (codes "d64", codes "%W{ma}") ∷ []) (linking (alone (codes "ma") ∷ []))) (codes "%(d1)")
+      ≡ Is (Err SpecTooDeep)
   too_deep_failure = refl
 
-  too_deep_file : words_of (named (chained ++ (codes "d64", codes "%@{ma}") ∷ []) (linking (alone (codes "ma") ∷ []))) (codes "%(d1)") ≡ Is (Err SpecTooDeep)
+  too_deep_file : words_of (named (chained ++ (codes "d64", codes "%@{ma}") ∷ []) (linking (alone (codes "ma") ∷ []))) (codes "%(d1)")
+      ≡ Is (Err SpecTooDeep)
   too_deep_file = refl
 
-  too_deep_call : words_of (named (chained ++ (codes "d64", codes "%:getenv(H x)") ∷ []) (linking [])) (codes "%(d1)") ≡ Is (Err SpecTooDeep)
+  too_deep_call : words_of (named (chained ++ (codes "d64", codes "%:getenv(H x)") ∷ []) (linking [])) (codes "%(d1)")
+      ≡ Is (Err SpecTooDeep)
   too_deep_call = refl
 
-  too_deep_test : words_of (named (chained ++ (codes "d64", codes "%{%:getenv(H x):y}") ∷ []) (linking [])) (codes "%(d1)") ≡ Is (Err SpecTooDeep)
+  too_deep_test : words_of (named (chained ++ (codes "d64", codes "%{%:getenv(H x):y}") ∷ []) (linking [])) (codes "%(d1)")
+      ≡ Is (Err SpecTooDeep)
   too_deep_test = refl
 
   -- %W: the last word that ended since it began, also one that began before
@@ -139,14 +151,17 @@ module _ (F : Facts) where
   failure_twice : failing (codes "c %W{a:x %W{a:y} z}") ≡ Is (Ok (codes "y" ∷ codes "z" ∷ []))
   failure_twice = refl
 
-  failure_words : words_of (linking (with (codes "o") (codes "x") ∷ [])) (codes "c %W{o*}d") ≡ Is (Ok ((codes "c" ∷ codes "-o" ∷ codes "x" ∷ codes "d" ∷ []) ∷ []))
+  failure_words : words_of (linking (with (codes "o") (codes "x") ∷ [])) (codes "c %W{o*}d")
+      ≡ Is (Ok ((codes "c" ∷ codes "-o" ∷ codes "x" ∷ codes "d" ∷ []) ∷ []))
   failure_words = refl
 
-  failure_star : words_of (linking (alone (codes "ma") ∷ alone (codes "mb") ∷ [])) (codes "c %W{m*:x%*}d") ≡ Is (Ok ((codes "c" ∷ codes "xa" ∷ codes "xb" ∷ codes "d" ∷ []) ∷ []))
+  failure_star : words_of (linking (alone (codes "ma") ∷ alone (codes "mb") ∷ [])) (codes "c %W{m*:x%*}d")
+      ≡ Is (Ok ((codes "c" ∷ codes "xa" ∷ codes "xb" ∷ codes "d" ∷ []) ∷ []))
   failure_star = refl
 
   -- functions of the outputs, which are for the link
-  replaced : outputs_of F (codes "-lm" ∷ codes "a.o" ∷ codes "-lm" ∷ []) (codes "%:replace-outfile(-lm -lq)") ≡ Is (Ok (codes "-lq" ∷ codes "a.o" ∷ codes "-lq" ∷ []))
+  replaced : outputs_of F (codes "-lm" ∷ codes "a.o" ∷ codes "-lm" ∷ []) (codes "%:replace-outfile(-lm -lq)")
+      ≡ Is (Ok (codes "-lq" ∷ codes "a.o" ∷ codes "-lq" ∷ []))
   replaced = refl
 
   replaced_by_test : outputs_of F (codes "-lm" ∷ []) (codes "%{%:replace-outfile(-lm -lq):x}") ≡ Is (Ok (codes "-lq" ∷ []))
@@ -159,7 +174,8 @@ module _ (F : Facts) where
   compared : words_of (linking (alone (codes "mv=2.1") ∷ [])) (codes "%:version-compare(>= 2 mv= x)") ≡ Is (Ok ((codes "x" ∷ []) ∷ []))
   compared = refl
 
-  compared_below : words_of (linking (alone (codes "mv=1") ∷ [])) (codes "a%{%:version-compare(>= 2 mv= x):y;:z}") ≡ Is (Ok ((codes "az" ∷ []) ∷ []))
+  compared_below : words_of (linking (alone (codes "mv=1") ∷ [])) (codes "a%{%:version-compare(>= 2 mv= x):y;:z}")
+      ≡ Is (Ok ((codes "az" ∷ []) ∷ []))
   compared_below = refl
 
   bad_operator : words_of (linking []) (codes "%:version-compare(= 1 mv= x)") ≡ Is (Err (Funcs (BadOperator (codes "="))))
@@ -169,7 +185,8 @@ module _ (F : Facts) where
   wrong_count = refl
 
   -- arguments are run before the function is called, their items count, and what stops first counts
-  arguments_worked : words_of (linking (alone (codes "mv=2") ∷ alone (codes "q") ∷ [])) (codes "%:version-compare(>= 1 %{q:mv=} x)") ≡ Is (Ok ((codes "x" ∷ []) ∷ []))
+  arguments_worked : words_of (linking (alone (codes "mv=2") ∷ alone (codes "q") ∷ [])) (codes "%:version-compare(>= 1 %{q:mv=} x)")
+      ≡ Is (Ok ((codes "x" ∷ []) ∷ []))
   arguments_worked = refl
 
   argument_refused : words_of (linking []) (codes "%:version-compare(= %i)") ≡ Is (Err NoInput)
@@ -182,27 +199,33 @@ module _ (F : Facts) where
   cost_of_test = refl
 
   -- tests after one by a function, and alternatives after it
-  later_test : words_of (linking (alone (codes "q") ∷ [])) (codes "%{%:version-compare(>= 1 mv= x)|q:A;:B}") ≡ Is (Ok ((codes "A" ∷ []) ∷ []))
+  later_test : words_of (linking (alone (codes "q") ∷ [])) (codes "%{%:version-compare(>= 1 mv= x)|q:A;:B}")
+      ≡ Is (Ok ((codes "A" ∷ []) ∷ []))
   later_test = refl
 
-  later_alternative : words_of (linking (alone (codes "q") ∷ [])) (codes "%{%:version-compare(>= 1 mv= x):A;q:B;:C}") ≡ Is (Ok ((codes "B" ∷ []) ∷ []))
+  later_alternative : words_of (linking (alone (codes "q") ∷ [])) (codes "%{%:version-compare(>= 1 mv= x):A;q:B;:C}")
+      ≡ Is (Ok ((codes "B" ∷ []) ∷ []))
   later_alternative = refl
 
-  two_functions : words_of (linking (alone (codes "mv=2") ∷ [])) (codes "%{%:version-compare(< 1 mv= x):A;%:version-compare(>= 1 mv= x):B}") ≡ Is (Ok ((codes "B" ∷ []) ∷ []))
+  two_functions : words_of (linking (alone (codes "mv=2") ∷ [])) (codes "%{%:version-compare(< 1 mv= x):A;%:version-compare(>= 1 mv= x):B}")
+      ≡ Is (Ok ((codes "B" ∷ []) ∷ []))
   two_functions = refl
 
   denied : words_of (linking []) (codes "%{!%:version-compare(>= 1 mv= x):A}") ≡ Is (Ok ((codes "A" ∷ []) ∷ []))
   denied = refl
 
-  later_for_each : words_of (linking (alone (codes "ma") ∷ alone (codes "mb") ∷ [])) (codes "%{%:version-compare(>= 1 mv= x):A;m*:%*}") ≡ Is (Ok ((codes "a" ∷ codes "b" ∷ []) ∷ []))
+  later_for_each : words_of (linking (alone (codes "ma") ∷ alone (codes "mb") ∷ [])) (codes "%{%:version-compare(>= 1 mv= x):A;m*:%*}")
+      ≡ Is (Ok ((codes "a" ∷ codes "b" ∷ []) ∷ []))
   later_for_each = refl
 
   -- what is cut around arguments goes on after them
-  word_goes_on : words_of (linking (alone (codes "mv=2") ∷ [])) (codes "c a%:version-compare(>= 1 mv= x)b") ≡ Is (Ok ((codes "c" ∷ codes "axb" ∷ []) ∷ []))
+  word_goes_on : words_of (linking (alone (codes "mv=2") ∷ [])) (codes "c a%:version-compare(>= 1 mv= x)b")
+      ≡ Is (Ok ((codes "c" ∷ codes "axb" ∷ []) ∷ []))
   word_goes_on = refl
 
   -- %@ means what its braces mean where no word comes from a file
-  no_file : words_of (linking (with (codes "I") (codes "x") ∷ [])) (codes "prog %@{I*} y") ≡ Is (Ok ((codes "prog" ∷ codes "-I" ∷ codes "x" ∷ codes "y" ∷ []) ∷ []))
+  no_file : words_of (linking (with (codes "I") (codes "x") ∷ [])) (codes "prog %@{I*} y")
+      ≡ Is (Ok ((codes "prog" ∷ codes "-I" ∷ codes "x" ∷ codes "y" ∷ []) ∷ []))
   no_file = refl
 
   -- a link outside its inputs
@@ -242,7 +265,8 @@ from_file C = record C { from_file = true }
 abbrev two_folders : Context
 two_folders = from_file (on (with (codes "I") (codes "x") ∷ with (codes "I") (codes "y") ∷ []) (codes "a.q"))
 
-file_named : texts.words_of untouched two_folders (codes "prog %@{I*} %i") ≡ Is (Ok ((codes "prog" ∷ codes "@/tmp/cc0000002a_1.args" ∷ codes "a.q" ∷ []) ∷ []))
+file_named : texts.words_of untouched two_folders (codes "prog %@{I*} %i")
+    ≡ Is (Ok ((codes "prog" ∷ codes "@/tmp/cc0000002a_1.args" ∷ codes "a.q" ∷ []) ∷ []))
 file_named = rw (decimal_digit 1 (omega arith)) refl
 
 abbrev temps_of : Context → List ℕ → Answer (List Temp)
@@ -256,7 +280,8 @@ no_words : temps_of (from_file (on [] (codes "a.q"))) (codes "prog %@{I*} %i") �
 no_words = refl
 
 -- the name is drawn after those inside, as by %u, and an inner %@ makes no file
-drawn_after : texts.words_of untouched two_folders (codes "prog %@{I*:%g.s %@{I*}} %U.args") ≡ Is (Ok ((codes "prog" ∷ codes "@/tmp/cc0000002a_2.args" ∷ codes "/tmp/cc0000002a_2.args" ∷ []) ∷ []))
+drawn_after : texts.words_of untouched two_folders (codes "prog %@{I*:%g.s %@{I*}} %U.args")
+    ≡ Is (Ok ((codes "prog" ∷ codes "@/tmp/cc0000002a_2.args" ∷ codes "/tmp/cc0000002a_2.args" ∷ []) ∷ []))
 drawn_after = rw (decimal_digit 1 (omega arith), decimal_digit 2 (omega arith)) refl
 
 inner_file : temps_of two_folders (codes "prog %@{I*:a %@{I*:b}}")
@@ -264,12 +289,14 @@ inner_file : temps_of two_folders (codes "prog %@{I*:a %@{I*:b}}")
 inner_file = rw (decimal_digit 1 (omega arith)) refl
 
 -- a pipe and a newline in it are breaks, and the file may be the program
-file_breaks : texts.words_of untouched two_folders (codes "%@{I*:a |\nb}c") ≡ Is (Ok ((codes "@/tmp/cc0000002a_1.args" ∷ codes "c" ∷ []) ∷ []))
+file_breaks : texts.words_of untouched two_folders (codes "%@{I*:a |\nb}c")
+    ≡ Is (Ok ((codes "@/tmp/cc0000002a_1.args" ∷ codes "c" ∷ []) ∷ []))
 file_breaks = rw (decimal_digit 1 (omega arith)) refl
 
 -- after a pipe a file with words is stray, and one without is not
 file_after_pipe : texts.words_of untouched two_folders (codes "c | %@{I*}\nd") ≡ Is (Err StrayPipe)
 file_after_pipe = rw (decimal_digit 1 (omega arith)) refl
 
-no_file_after_pipe : texts.words_of untouched (from_file (linking [])) (codes "c | %@{I*}\nd") ≡ Is (Ok ((codes "c" ∷ []) ∷ (codes "d" ∷ []) ∷ []))
+no_file_after_pipe : texts.words_of untouched (from_file (linking [])) (codes "c | %@{I*}\nd")
+    ≡ Is (Ok ((codes "c" ∷ []) ∷ (codes "d" ∷ []) ∷ []))
 no_file_after_pipe = refl

@@ -19,7 +19,8 @@ holding outputs s = record s { world = record s.world { outputs = outputs } }
 abbrev given_back : List (List ℕ) → Unit {0} × Machine → Answer (Unit {0} × Machine)
 given_back outputs r = Is (Ok (tt, holding outputs r.1))
 
-held : (F : Facts) (C : Context) (s : Machine) (atoms : List Atom) (outputs : List (List ℕ)) → run F C (holding outputs s) (puts atoms) ≡ (run F C (holding [] s) (puts atoms) >>- given_back outputs)
+held : (F : Facts) (C : Context) (s : Machine) (atoms : List Atom) (outputs : List (List ℕ))
+    → run F C (holding outputs s) (puts atoms) ≡ (run F C (holding [] s) (puts atoms) >>- given_back outputs)
 held F C s atoms outputs = by (all_taken F C s.cut atoms)
   where
     with_cut : List (List ℕ) → Cut → Answer (Unit {0} × Machine)
@@ -31,18 +32,23 @@ held F C s atoms outputs = by (all_taken F C s.cut atoms)
     by Unasked = refl
 
 -- what is put meanwhile is put as if they had stayed
-pub put_held : (F : Facts) (C : Context) (s t : Machine) (atoms : List Atom) (outputs : List (List ℕ)) (result : Result (Unit {0}) MachineFault)
-    → GivesKnown Memory (λ u. (tt, t)) result (run F C (holding [] s) (puts atoms)) → GivesKnown Memory (λ u. (tt, holding outputs t)) result (run F C (holding outputs s) (puts atoms))
+pub put_held : (F : Facts) (C : Context) (s t : Machine) (atoms : List Atom) (outputs : List (List ℕ))
+    (result : Result (Unit {0}) MachineFault)
+    → GivesKnown Memory (λ u. (tt, t)) result (run F C (holding [] s) (puts atoms))
+    → GivesKnown Memory (λ u. (tt, holding outputs t)) result (run F C (holding outputs s) (puts atoms))
 put_held F C s t atoms outputs (Ok u) is = held F C s atoms outputs ∙ ap (λ a. a >>- given_back outputs) is
 put_held F C s t atoms outputs (Err e) (inl memory) = inl memory
 put_held F C s t atoms outputs (Err e) (inr is) = inr (held F C s atoms outputs ∙ ap (λ a. a >>- given_back outputs) is)
 
 pub outputs_put : (F : Facts) (C : Context) (s m t u : Machine) (outs list : List (List ℕ)) (result : Result (Unit {0}) MachineFault)
     → C.input ≡ None → outs ≡ s.world.outputs → list ≡ outs → m ≡ holding [] s → u ≡ holding outs t
-    → GivesKnown Memory (λ v. (tt, t)) result (run F C m (puts (Break ∷ words list))) → GivesKnown Memory (λ v. (tt, u)) result (run F C s (outputs_step F C))
+    → GivesKnown Memory (λ v. (tt, t)) result (run F C m (puts (Break ∷ words list)))
+    → GivesKnown Memory (λ v. (tt, u)) result (run F C s (outputs_step F C))
 outputs_put F C s m t u outs list result none taken same left back put =
     let out = subst (λ (n : Machine). GivesKnown Memory (λ v. (tt, t)) result (run F C n (puts (Break ∷ words list)))) left put in
-    let all = subst (λ (xs : List (List ℕ)). GivesKnown Memory (λ v. (tt, t)) result (run F C (holding [] s) (puts (Break ∷ words xs)))) (same ∙ taken) out in
+    let all = subst (λ (xs : List (List ℕ)). GivesKnown Memory (λ v. (tt, t)) result (run F C (holding [] s) (puts (Break ∷ words xs))))
+    (same ∙ taken) out in
     let whole = put_held F C s t (Break ∷ words s.world.outputs) s.world.outputs result all in
-    let given = subst (λ (n : Machine). GivesKnown Memory (λ v. (tt, n)) result (run F C s (puts (Break ∷ words s.world.outputs)))) (sym (back ∙ ap (λ o. holding o t) taken)) whole in
+    let given = subst (λ (n : Machine). GivesKnown Memory (λ v. (tt, n)) result (run F C s (puts (Break ∷ words s.world.outputs))))
+    (sym (back ∙ ap (λ o. holding o t) taken)) whole in
     subst (λ a. GivesKnown Memory (λ v. (tt, u)) result a) (sym (link_outputs F C s none)) given

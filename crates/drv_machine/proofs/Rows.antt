@@ -47,7 +47,8 @@ module _ (F : Facts) where
   abbrev script : List ℕ
   script = codes "%{mcu=*:--script=%*/memory.ld}"
 
-  star_once : words_of (on (alone (codes "mcu=newchip") ∷ []) (codes "a.c")) script ≡ Is (Ok ((codes "--script=newchip/memory.ld" ∷ []) ∷ []))
+  star_once : words_of (on (alone (codes "mcu=newchip") ∷ []) (codes "a.c")) script
+      ≡ Is (Ok ((codes "--script=newchip/memory.ld" ∷ []) ∷ []))
   star_once = refl
 
   star_twice : words_of (on (alone (codes "mcu=a") ∷ alone (codes "mcu=b") ∷ []) (codes "a.c")) script
@@ -60,16 +61,20 @@ module _ (F : Facts) where
   star_inside = refl
 
   -- hidden from the place of %< on
-  hidden : words_of (on (alone (codes "a") ∷ []) (codes "a.c")) (codes "%{a} %<a %{a} %{!a:Q}") ≡ Is (Ok ((codes "-a" ∷ codes "Q" ∷ []) ∷ []))
+  hidden : words_of (on (alone (codes "a") ∷ []) (codes "a.c")) (codes "%{a} %<a %{a} %{!a:Q}")
+      ≡ Is (Ok ((codes "-a" ∷ codes "Q" ∷ []) ∷ []))
   hidden = refl
 
-  hidden_later : words_of (on (alone (codes "ma") ∷ alone (codes "mb") ∷ []) (codes "a.c")) (codes "%{m*:%<mb %*}") ≡ Is (Ok ((codes "a" ∷ []) ∷ []))
+  hidden_later : words_of (on (alone (codes "ma") ∷ alone (codes "mb") ∷ []) (codes "a.c")) (codes "%{m*:%<mb %*}")
+      ≡ Is (Ok ((codes "a" ∷ []) ∷ []))
   hidden_later = refl
 
-  hidden_all : words_of (on (alone (codes "ma") ∷ alone (codes "n") ∷ []) (codes "a.c")) (codes "%>m* %{m*} %{ma} %{*}") ≡ Is (Ok ((codes "-n" ∷ []) ∷ []))
+  hidden_all : words_of (on (alone (codes "ma") ∷ alone (codes "n") ∷ []) (codes "a.c")) (codes "%>m* %{m*} %{ma} %{*}")
+      ≡ Is (Ok ((codes "-n" ∷ []) ∷ []))
   hidden_all = refl
 
-  hidden_itself : words_of (on (alone (codes "ma") ∷ alone (codes "mb") ∷ []) (codes "a.c")) (codes "%{m*:%>m* %*}") ≡ Is (Ok ((codes "a" ∷ []) ∷ []))
+  hidden_itself : words_of (on (alone (codes "ma") ∷ alone (codes "mb") ∷ []) (codes "a.c")) (codes "%{m*:%>m* %*}")
+      ≡ Is (Ok ((codes "a" ∷ []) ∷ []))
   hidden_itself = refl
 
   -- one command from the first text of a driver; without its switch there is none
@@ -88,7 +93,8 @@ module _ (F : Facts) where
   first_none = refl
 
   -- names of the input
-  base_and_stem : words_of (on [] (codes "d.x/a.b.c")) (codes "%i %b %B %b%O %%") ≡ Is (Ok ((codes "d.x/a.b.c" ∷ codes "a.b" ∷ codes "a.b.c" ∷ codes "a.b.o" ∷ codes "%" ∷ []) ∷ []))
+  base_and_stem : words_of (on [] (codes "d.x/a.b.c")) (codes "%i %b %B %b%O %%")
+      ≡ Is (Ok ((codes "d.x/a.b.c" ∷ codes "a.b" ∷ codes "a.b.c" ∷ codes "a.b.o" ∷ codes "%" ∷ []) ∷ []))
   base_and_stem = refl
 
   first_period : words_of (on [] (codes "d/.c")) (codes "%b %{.c:S}") ≡ Is (Ok ((codes ".c" ∷ []) ∷ []))
@@ -127,7 +133,8 @@ module _ (F : Facts) where
   pipe_later = refl
 
   -- emitted switches end a word, and their arguments are words
-  with_argument : words_of (on (with (codes "I") (codes "x y") ∷ []) []) (codes "x%{I*}y %{I*:-J%*}") ≡ Is (Ok ((codes "x-I" ∷ codes "x y" ∷ codes "y" ∷ codes "-J" ∷ codes "x y" ∷ []) ∷ []))
+  with_argument : words_of (on (with (codes "I") (codes "x y") ∷ []) []) (codes "x%{I*}y %{I*:-J%*}")
+      ≡ Is (Ok ((codes "x-I" ∷ codes "x y" ∷ codes "y" ∷ codes "-J" ∷ codes "x y" ∷ []) ∷ []))
   with_argument = refl
 
   -- a switch with an argument
@@ -158,7 +165,15 @@ module _ (F : Facts) where
   -- a whole outcome, for an input and for the link
   abbrev program_alone : Outcome
   program_alone = record {
-    job = record { source = None; groups = (record { program = codes "c"; words = [] } ∷ []) ∷ []; temps = []; marked = []; on_failure = []; output = None };
+    job = record {
+      source = None;
+      groups = (record { program = codes "c"; words = [] } ∷ []) ∷ [];
+      temps = [];
+      marked = [];
+      on_failure =
+          [];
+      output = None;
+    };
     notices = [];
     outs = [];
     accumulated = [];

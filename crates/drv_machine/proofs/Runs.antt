@@ -1,12 +1,15 @@
 use Rattle.drv_machine.specs.Context.{Context}
-use Rattle.drv_machine.specs.Cuts.{byte_of, ends_word, is_bar, is_barred, is_file, is_output, is_removed, is_script, opens_word, path, words_after}
-use Rattle.drv_machine.specs.Cutting.{Cut, CutLine, all_taken, broken, file_begun, file_done, found_file, found_script, in_word, inside_done, line_ended, marked, no_line, no_marks, pipe_done, pipe_ended, script_option, touched}
+use Rattle.drv_machine.specs.Cuts.{byte_of, ends_word, is_bar, is_barred, is_file, is_output, is_removed, is_script, opens_word, path}
+use Rattle.drv_machine.specs.Cuts.{words_after}
+use Rattle.drv_machine.specs.Cutting.{Cut, CutLine, all_taken, broken, file_begun, file_done, found_file, found_script, in_word}
+use Rattle.drv_machine.specs.Cutting.{inside_done, line_ended, marked, no_line, no_marks, pipe_done, pipe_ended, script_option, touched}
 use Rattle.drv_machine.specs.Working.{◌>>-◌, Answer, Atom, Break, End, FileFrom, FileTo, From, Marked, Open, Piped, Put, To, Without}
 use Rattle.drv_machine.specs.declared.fault.MachineFault.{MachineFault}
 use Rattle.drv_machine.specs.declared.machine.marking.Mark.TheVariants.{AsFile, AsOutput, AsRemoved, AsScript}
 use Rattle.drv_system.specs.Facts.{Facts}
 use Rattle.drv_system.specs.Known.{Is, Unasked}
-use Rattle.std.proofs.Common.{◌≡◌, ◌∙◌, ◌++◌, ◌||◌, Bool, List, [], ◌∷◌, None, Err, Ok, Option, Some, ap, append-nil, false, refl, subst, sym, true, ℕ}
+use Rattle.std.proofs.Common.{◌≡◌, ◌∙◌, ◌++◌, ◌||◌, Bool, List, [], ◌∷◌, None, Err, Ok, Option, Some, ap, append-nil, false, refl, subst}
+use Rattle.std.proofs.Common.{sym, true, ℕ}
 use Rattle.std.specs.List.{flat_map, list_any}
 use Rattle.std.specs.Option.{unwrap_or}
 use Rattle.std.proofs.lemmas.Grind.{flat_map-append}
@@ -101,18 +104,28 @@ yes_either_way : (b c : Bool) → (b || c) ≡ (if b then true else c)
 yes_either_way true c = refl
 yes_either_way false c = refl
 
-barred_after : (run : List Atom) (atom : Atom) → is_barred (run ++ atom ∷ []) ≡ (if is_bar atom then list_any opens_word run else is_barred run)
+barred_after : (run : List Atom) (atom : Atom) → is_barred (run ++ atom ∷ [])
+    ≡ (if is_bar atom then list_any opens_word run else is_barred run)
 barred_after [] atom = same_either_way (opens_word atom) false ∙ sym (same_either_way (is_bar atom) false)
 barred_after (x ∷ run) atom = by (opens_word x) (barred_after run atom)
   where
     by : (b : Bool) → is_barred (run ++ atom ∷ []) ≡ (if is_bar atom then list_any opens_word run else is_barred run)
-        → (if b then list_any is_bar (run ++ atom ∷ []) else is_barred (run ++ atom ∷ [])) ≡ (if is_bar atom then b || list_any opens_word run else (if b then list_any is_bar run else is_barred run))
+        → (if b then list_any is_bar (run ++ atom ∷ []) else is_barred (run ++ atom ∷ []))
+        ≡ (if is_bar atom then b || list_any opens_word run else (if b then list_any is_bar run else is_barred run))
     by true e = any_after is_bar run atom ∙ yes_either_way (is_bar atom) (list_any is_bar run)
     by false e = e
 
 opened_further : (run : List Atom) (atom : Atom) → opened_by (run ++ atom ∷ []) ≡ further (opened_by run) atom
 opened_further run atom =
-    rw (any_after opens_word run atom, bytes_after run atom, any_after is_removed run atom, any_after is_output run atom, any_after is_file run atom, any_after is_script run atom, barred_after run atom) refl
+    rw (
+      any_after opens_word run atom,
+      bytes_after run atom,
+      any_after is_removed run atom,
+      any_after is_output run atom,
+      any_after is_file run atom,
+      any_after is_script run atom,
+      barred_after run atom,
+    ) refl
 
 -- an atom that ends no word
 abbrev pub moved : Cut → Atom → Cut
@@ -136,7 +149,8 @@ line_unlined : (c : Cut) (outer : Option CutLine) → unlined (line_ended (recor
 line_unlined c None = refl
 line_unlined c (Some line) = refl
 
-pipe_done_unlined : (c : Cut) (words : List (List ℕ)) → unlined (pipe_done (record c { line = record { words = words; piped = c.line.piped } })) ≡ unlined c
+pipe_done_unlined : (c : Cut) (words : List (List ℕ))
+    → unlined (pipe_done (record c { line = record { words = words; piped = c.line.piped } })) ≡ unlined c
 pipe_done_unlined c [] = refl
 pipe_done_unlined c (w ∷ ws) = refl
 
@@ -195,13 +209,15 @@ with_word c o name = record c {
 }
 
 -- the words where an atom is no end of one, and at an end
-pub words_moved : (run atoms : List Atom) (atom : Atom) → ends_word atom ≡ false → words_after run (atom ∷ atoms) ≡ words_after (run ++ atom ∷ []) atoms
+pub words_moved : (run atoms : List Atom) (atom : Atom) → ends_word atom ≡ false
+    → words_after run (atom ∷ atoms) ≡ words_after (run ++ atom ∷ []) atoms
 words_moved run atoms atom e = rw e refl
 
 pub bare_ends : (run atoms : List Atom) → list_any opens_word run ≡ false → words_after run (Break ∷ atoms) ≡ words_after [] atoms
 bare_ends run atoms e = rw e refl
 
-pub word_ends : (run atoms : List Atom) → list_any opens_word run ≡ true → words_after run (Break ∷ atoms) ≡ record { atoms = run; following = atoms } ∷ words_after [] atoms
+pub word_ends : (run atoms : List Atom) → list_any opens_word run ≡ true
+    → words_after run (Break ∷ atoms) ≡ record { atoms = run; following = atoms } ∷ words_after [] atoms
 word_ends run atoms e = rw e refl
 
 module _ (F : Facts) (C : Context) where
@@ -216,7 +232,8 @@ module _ (F : Facts) (C : Context) where
   ended c o = ended_as c o o.begun (name_of o)
 
   broken_as : (c : Cut) (word : Option (List ℕ)) (script file : Bool)
-      → broken F C (record c { word = word; marks = record c.marks { script = script; file = file } }) ≡ ended c (open_in (record c { word = word; marks = record c.marks { script = script; file = file } }))
+      → broken F C (record c { word = word; marks = record c.marks { script = script; file = file } })
+      ≡ ended c (open_in (record c { word = word; marks = record c.marks { script = script; file = file } }))
   broken_as c None script file = refl
   broken_as c (Some word) true file = refl
   broken_as c (Some word) false true = refl
@@ -225,18 +242,24 @@ module _ (F : Facts) (C : Context) where
   pub broken_is : (c : Cut) → broken F C c ≡ ended c (open_in c)
   broken_is c = broken_as c c.word c.marks.script c.marks.file
 
-pub moves_on : (c : Cut) (run : List Atom) (atom : Atom) → ends_word atom ≡ false → open_in c ≡ opened_by run → open_in (moved c atom) ≡ opened_by (run ++ atom ∷ [])
+pub moves_on : (c : Cut) (run : List Atom) (atom : Atom) → ends_word atom ≡ false → open_in c ≡ opened_by run
+    → open_in (moved c atom) ≡ opened_by (run ++ atom ∷ [])
 moves_on c run atom ends e = moved_further c atom ends ∙ ap (λ o. further o atom) e ∙ sym (opened_further run atom)
 
 -- a list of atoms that is cut, run by run
 pub data Course (F : Facts) (C : Context) : List Atom → Cut → List Atom → Cut → Type 0 where
   over : {run : List Atom} {c : Cut} → Course F C run c [] c
-  moves : {run atoms : List Atom} {c d : Cut} (atom : Atom) → ends_word atom ≡ false → Course F C (run ++ atom ∷ []) (moved c atom) atoms d → Course F C run c (atom ∷ atoms) d
-  breaks_bare : {run atoms : List Atom} {c d : Cut} → list_any opens_word run ≡ false → Course F C [] (bare c) atoms d → Course F C run c (Break ∷ atoms) d
-  pipes_bare : {run atoms : List Atom} {c d : Cut} → list_any opens_word run ≡ false → Course F C [] (pipe_ended (bare c)) atoms d → Course F C run c (Piped ∷ atoms) d
-  breaks : {run atoms : List Atom} {c d : Cut} (name : List ℕ) → list_any opens_word run ≡ true → path F C (record { atoms = run; following = atoms }) ≡ Is (Ok name)
+  moves : {run atoms : List Atom} {c d : Cut} (atom : Atom) → ends_word atom ≡ false → Course F C (run ++ atom ∷ []) (moved c atom) atoms d
+      → Course F C run c (atom ∷ atoms) d
+  breaks_bare : {run atoms : List Atom} {c d : Cut} → list_any opens_word run ≡ false → Course F C [] (bare c) atoms d
+      → Course F C run c (Break ∷ atoms) d
+  pipes_bare : {run atoms : List Atom} {c d : Cut} → list_any opens_word run ≡ false → Course F C [] (pipe_ended (bare c)) atoms d
+      → Course F C run c (Piped ∷ atoms) d
+  breaks : {run atoms : List Atom} {c d : Cut} (name : List ℕ) → list_any opens_word run ≡ true
+      → path F C (record { atoms = run; following = atoms }) ≡ Is (Ok name)
       → Course F C [] (with_word c (opened_by run) name) atoms d → Course F C run c (Break ∷ atoms) d
-  pipes : {run atoms : List Atom} {c d : Cut} (name : List ℕ) → list_any opens_word run ≡ true → path F C (record { atoms = run; following = atoms }) ≡ Is (Ok name)
+  pipes : {run atoms : List Atom} {c d : Cut} (name : List ℕ) → list_any opens_word run ≡ true
+      → path F C (record { atoms = run; following = atoms }) ≡ Is (Ok name)
       → Course F C [] (pipe_ended (with_word c (opened_by run) name)) atoms d → Course F C run c (Piped ∷ atoms) d
 
 module _ (F : Facts) (C : Context) where
@@ -247,38 +270,53 @@ module _ (F : Facts) (C : Context) where
   waits a d e went = absurd cc
 
   -- a cut that goes through
-  pub course : (run : List Atom) (c : Cut) (atoms : List Atom) (d : Cut) → open_in c ≡ opened_by run → all_taken F C c atoms ≡ Is (Ok d) → Course F C run c atoms d
+  pub course : (run : List Atom) (c : Cut) (atoms : List Atom) (d : Cut) → open_in c ≡ opened_by run → all_taken F C c atoms ≡ Is (Ok d)
+      → Course F C run c atoms d
   course run c [] d e went = let same : c ≡ d = cc in subst (λ (x : Cut). Course F C run c [] x) same over
   course run c (Break ∷ atoms) d e went =
-      by (list_any opens_word run) (name_of F C (opened_by run)) refl refl (sym (ap (λ a. a >>- λ x. all_taken F C x atoms) (broken_is F C c ∙ ap (ended F C c) e)) ∙ went)
+      by (list_any opens_word run) (name_of F C (opened_by run)) refl refl
+      (sym (ap (λ a. a >>- λ x. all_taken F C x atoms) (broken_is F C c ∙ ap (ended F C c) e)) ∙ went)
       (λ name. course [] (with_word c (opened_by run) name) atoms d refl) (course [] (bare c) atoms d refl)
     where
       by : (begun : Bool) (name : Answer (List ℕ)) → list_any opens_word run ≡ begun → name_of F C (opened_by run) ≡ name
           → (ended_as F C c (opened_by run) begun name >>- λ x. all_taken F C x atoms) ≡ Is (Ok d)
-          → ((n : List ℕ) → all_taken F C (with_word c (opened_by run) n) atoms ≡ Is (Ok d) → Course F C [] (with_word c (opened_by run) n) atoms d)
+          → ((n : List ℕ) → all_taken F C (with_word c (opened_by run) n) atoms ≡ Is (Ok d)
+          → Course F C [] (with_word c (opened_by run) n) atoms d)
           → (all_taken F C (bare c) atoms ≡ Is (Ok d) → Course F C [] (bare c) atoms d) → Course F C run c (Break ∷ atoms) d
       by false name b n w full empty = breaks_bare b (empty w)
       by true (Is (Ok name)) b n w full empty = breaks name b n (full name w)
       by true (Is (Err fault)) b n w full empty = refused (Is (Err fault)) d fault refl w
       by true Unasked b n w full empty = waits Unasked d refl w
   course run c (Piped ∷ atoms) d e went =
-      by (list_any opens_word run) (name_of F C (opened_by run)) refl refl (sym (ap (λ a. (a >>- λ x. Is (Ok (pipe_ended x))) >>- λ x. all_taken F C x atoms) (broken_is F C c ∙ ap (ended F C c) e)) ∙ went)
-      (λ name. course [] (pipe_ended (with_word c (opened_by run) name)) atoms d (ap open_in (pipe_kept (with_word c (opened_by run) name)))) (course [] (pipe_ended (bare c)) atoms d (ap open_in (pipe_kept (bare c))))
+      by (list_any opens_word run) (name_of F C (opened_by run)) refl refl
+      (sym (ap (λ a. (a >>- λ x. Is (Ok (pipe_ended x))) >>- λ x. all_taken F C x atoms) (broken_is F C c ∙ ap (ended F C c) e)) ∙ went)
+      (λ name. course [] (pipe_ended (with_word c (opened_by run) name)) atoms d
+      (ap open_in (pipe_kept (with_word c (opened_by run) name))))
+      (course [] (pipe_ended (bare c)) atoms d (ap open_in (pipe_kept (bare c))))
     where
       by : (begun : Bool) (name : Answer (List ℕ)) → list_any opens_word run ≡ begun → name_of F C (opened_by run) ≡ name
           → ((ended_as F C c (opened_by run) begun name >>- λ x. Is (Ok (pipe_ended x))) >>- λ x. all_taken F C x atoms) ≡ Is (Ok d)
-          → ((n : List ℕ) → all_taken F C (pipe_ended (with_word c (opened_by run) n)) atoms ≡ Is (Ok d) → Course F C [] (pipe_ended (with_word c (opened_by run) n)) atoms d)
-          → (all_taken F C (pipe_ended (bare c)) atoms ≡ Is (Ok d) → Course F C [] (pipe_ended (bare c)) atoms d) → Course F C run c (Piped ∷ atoms) d
+          → ((n : List ℕ) → all_taken F C (pipe_ended (with_word c (opened_by run) n)) atoms ≡ Is (Ok d)
+          → Course F C [] (pipe_ended (with_word c (opened_by run) n)) atoms d)
+          → (all_taken F C (pipe_ended (bare c)) atoms ≡ Is (Ok d) → Course F C [] (pipe_ended (bare c)) atoms d)
+          → Course F C run c (Piped ∷ atoms) d
       by false name b n w full empty = pipes_bare b (empty w)
       by true (Is (Ok name)) b n w full empty = pipes name b n (full name w)
       by true (Is (Err fault)) b n w full empty = refused (Is (Err fault)) d fault refl w
       by true Unasked b n w full empty = waits Unasked d refl w
-  course run c (Put b ∷ atoms) d e went = moves (Put b) refl (course (run ++ Put b ∷ []) (moved c (Put b)) atoms d (moves_on c run (Put b) refl e) went)
-  course run c (Open ∷ atoms) d e went = moves Open refl (course (run ++ Open ∷ []) (moved c Open) atoms d (moves_on c run Open refl e) went)
+  course run c (Put b ∷ atoms) d e went = moves (Put b) refl
+      (course (run ++ Put b ∷ []) (moved c (Put b)) atoms d (moves_on c run (Put b) refl e) went)
+  course run c (Open ∷ atoms) d e went = moves Open refl
+      (course (run ++ Open ∷ []) (moved c Open) atoms d (moves_on c run Open refl e) went)
   course run c (End ∷ atoms) d e went = moves End refl (course (run ++ End ∷ []) (moved c End) atoms d (moves_on c run End refl e) went)
-  course run c (Marked mark ∷ atoms) d e went = moves (Marked mark) refl (course (run ++ (Marked mark) ∷ []) (moved c (Marked mark)) atoms d (moves_on c run (Marked mark) refl e) went)
-  course run c (Without ∷ atoms) d e went = moves Without refl (course (run ++ Without ∷ []) (moved c Without) atoms d (moves_on c run Without refl e) went)
-  course run c (From ∷ atoms) d e went = moves From refl (course (run ++ From ∷ []) (moved c From) atoms d (moves_on c run From refl e) went)
+  course run c (Marked mark ∷ atoms) d e went = moves (Marked mark) refl
+      (course (run ++ (Marked mark) ∷ []) (moved c (Marked mark)) atoms d (moves_on c run (Marked mark) refl e) went)
+  course run c (Without ∷ atoms) d e went = moves Without refl
+      (course (run ++ Without ∷ []) (moved c Without) atoms d (moves_on c run Without refl e) went)
+  course run c (From ∷ atoms) d e went = moves From refl
+      (course (run ++ From ∷ []) (moved c From) atoms d (moves_on c run From refl e) went)
   course run c (To ∷ atoms) d e went = moves To refl (course (run ++ To ∷ []) (moved c To) atoms d (moves_on c run To refl e) went)
-  course run c (FileFrom ∷ atoms) d e went = moves FileFrom refl (course (run ++ FileFrom ∷ []) (moved c FileFrom) atoms d (moves_on c run FileFrom refl e) went)
-  course run c (FileTo ∷ atoms) d e went = moves FileTo refl (course (run ++ FileTo ∷ []) (moved c FileTo) atoms d (moves_on c run FileTo refl e) went)
+  course run c (FileFrom ∷ atoms) d e went = moves FileFrom refl
+      (course (run ++ FileFrom ∷ []) (moved c FileFrom) atoms d (moves_on c run FileFrom refl e) went)
+  course run c (FileTo ∷ atoms) d e went = moves FileTo refl
+      (course (run ++ FileTo ∷ []) (moved c FileTo) atoms d (moves_on c run FileTo refl e) went)

@@ -1,4 +1,4 @@
-use Rattle.drv_machine.specs.Code.Standing.{Part, Spans, Stand, Stands, after_tests, is_test, tests_in}
+use Rattle.drv_machine.specs.Code.Standing.{PartAt, Spans, Stand, Stands, after_tests, is_test, tests_in}
 use Rattle.drv_syntax.proofs.FlatNodes.{items_flat}
 use Rattle.drv_syntax.specs.Code.Writing.{flat}
 use Rattle.drv_syntax.specs.Labels.{Label, Nodes, both, labels, labels_of, no_label, no_node, node, nodes_of}
@@ -8,7 +8,8 @@ use Rattle.drv_syntax.specs.Tree.{Span}
 use Rattle.drv_syntax.specs.declared.token.Token.{Token}
 use Rattle.drv_syntax.specs.declared.token.TokenKind.TheVariants as kinds
 use Rattle.drv_syntax.specs.declared.token.TokenKind.{TokenKind}
-use Rattle.std.proofs.Common.{◌≡◌, ◌<◌, ◌≤◌, ◌+◌, ◌-◌, ◌++◌, ◌∙◌, ◌∷◌, List, [], Option, Some, ap, append-nil, append_assoc, arith, false, get_or, if◌then◌else◌, length, length-append, refl, slice_get, subst, sym, true, unwrap_or, ℕ}
+use Rattle.std.proofs.Common.{◌≡◌, ◌<◌, ◌≤◌, ◌+◌, ◌-◌, ◌++◌, ◌∙◌, ◌∷◌, List, [], Option, Some, ap, append-nil, append_assoc, arith, false}
+use Rattle.std.proofs.Common.{get_or, if◌then◌else◌, length, length-append, refl, slice_get, subst, sym, true, unwrap_or, ℕ}
 use Rattle.std.proofs.lemmas.Option.{slice_get_within}
 use Rattle.std.proofs.Math.Seq.{get_or-append_seam}
 
@@ -23,39 +24,56 @@ same_size : (nodes : Nodes) (n : ℕ) → length (labels nodes) ≡ length (flat
 same_size no_node n = refl
 same_size (node kind label span inner others) n =
     let i : length (labels inner) ≡ length (flat (n + 1) inner) = same_size inner (n + 1) in
-    let o : length (labels others) ≡ length (flat (n + 1 + length (flat (n + 1) inner)) others) = same_size others (n + 1 + length (flat (n + 1) inner)) in
-    omega (arith, i, o, length-append (labels inner) (labels others), length-append (flat (n + 1) inner) (flat (n + 1 + length (flat (n + 1) inner)) others))
+    let o : length (labels others) ≡ length (flat (n + 1 + length (flat (n + 1) inner)) others) =
+    same_size others (n + 1 + length (flat (n + 1) inner)) in
+    omega (
+      arith,
+      i,
+      o,
+      length-append (labels inner) (labels others),
+      length-append (flat (n + 1) inner) (flat (n + 1 + length (flat (n + 1) inner)) others),
+    )
 
 module _ (tokens : List Token) (marks : List Label) where
-  first_part : (n : ℕ) (here : Token) (label : Label) (ts before following : List Token) (ls front back : List Label) → tokens ≡ before ++ (here ∷ (ts ++ following)) → marks ≡ front ++ (label ∷ (ls ++ back))
-      → length before ≡ n → length front ≡ n → n < here.next → Part tokens marks n here.kind label here.next
+  first_part : (n : ℕ) (here : Token) (label : Label) (ts before following : List Token) (ls front back : List Label)
+      → tokens ≡ before ++ (here ∷ (ts ++ following)) → marks ≡ front ++ (label ∷ (ls ++ back))
+      → length before ≡ n → length front ≡ n → n < here.next → PartAt tokens marks n here.kind label here.next
   first_part n here label ts before following ls front back t l b f g = record {
     token = here;
-    there = ap (λ xs. slice_get xs n) t ∙ subst (λ (k : ℕ). slice_get (before ++ (here ∷ (ts ++ following))) k ≡ Some here) b (slice_seam before here (ts ++ following));
+    there = ap (λ xs. slice_get xs n) t ∙ subst (λ (k : ℕ). slice_get (before ++ (here ∷ (ts ++ following))) k ≡ Some here) b
+        (slice_seam before here (ts ++ following));
     kind_is = refl;
     next_is = refl;
-    label_is = ap (λ xs. get_or xs n no_label) l ∙ subst (λ (k : ℕ). get_or (front ++ (label ∷ (ls ++ back))) k no_label ≡ label) f (get_or-append_seam front label (ls ++ back) no_label);
+    label_is = ap (λ xs. get_or xs n no_label) l ∙ subst (λ (k : ℕ). get_or (front ++ (label ∷ (ls ++ back))) k no_label ≡ label) f
+        (get_or-append_seam front label (ls ++ back) no_label);
     later = g;
   }
 
-  pub stand : (n : ℕ) (nodes : Nodes) (before following : List Token) (front back : List Label) → tokens ≡ before ++ (flat n nodes ++ following) → marks ≡ front ++ (labels nodes ++ back)
+  pub stand : (n : ℕ) (nodes : Nodes) (before following : List Token) (front back : List Label)
+      → tokens ≡ before ++ (flat n nodes ++ following) → marks ≡ front ++ (labels nodes ++ back)
       → length before ≡ n → length front ≡ n → Stand tokens marks n nodes (n + length (flat n nodes))
   stand n no_node before following front back t l b f = omega arith
   stand n (node kind label span inner others) before following front back t l b f =
       let next : ℕ = n + 1 + length (flat (n + 1) inner) in
       let here : Token = record { kind = kind; start = span.start; end = span.end; next = n + 1 + length (flat (n + 1) inner) } in
-      let size : n + length (flat n (node kind label span inner others)) ≡ next + length (flat next others) = omega (arith, length-append (flat (n + 1) inner) (flat next others)) in (
+      let size : n + length (flat n (node kind label span inner others)) ≡ next + length (flat next others) =
+      omega (arith, length-append (flat (n + 1) inner) (flat next others)) in (
         next,
-        first_part n here label (flat (n + 1) inner ++ flat next others) before following (labels inner ++ labels others) front back t l b f (omega arith),
+        first_part n here label (flat (n + 1) inner ++ flat next others) before following (labels inner ++ labels others) front back t l b f
+            (omega arith),
         stand (n + 1) inner (before ++ (here ∷ [])) (flat next others ++ following) (front ++ (label ∷ [])) (labels others ++ back)
-            (t ∙ ap (λ zs. before ++ (here ∷ zs)) (append_assoc (flat (n + 1) inner) (flat next others) following) ∙ sym (append_assoc before (here ∷ []) (flat (n + 1) inner ++ (flat next others ++ following))))
-            (l ∙ ap (λ zs. front ++ (label ∷ zs)) (append_assoc (labels inner) (labels others) back) ∙ sym (append_assoc front (label ∷ []) (labels inner ++ (labels others ++ back))))
+            (t ∙ ap (λ zs. before ++ (here ∷ zs)) (append_assoc (flat (n + 1) inner) (flat next others) following)
+            ∙ sym (append_assoc before (here ∷ []) (flat (n + 1) inner ++ (flat next others ++ following))))
+            (l ∙ ap (λ zs. front ++ (label ∷ zs)) (append_assoc (labels inner) (labels others) back)
+            ∙ sym (append_assoc front (label ∷ []) (labels inner ++ (labels others ++ back))))
             (omega (arith, b, length-append before (here ∷ [])))
             (omega (arith, f, length-append front (label ∷ []))),
         subst (λ (k : ℕ). Stand tokens marks next others k) (sym size)
             (stand next others (before ++ (here ∷ flat (n + 1) inner)) following (front ++ (label ∷ labels inner)) back
-            (t ∙ ap (λ zs. before ++ (here ∷ zs)) (append_assoc (flat (n + 1) inner) (flat next others) following) ∙ sym (append_assoc before (here ∷ flat (n + 1) inner) (flat next others ++ following)))
-            (l ∙ ap (λ zs. front ++ (label ∷ zs)) (append_assoc (labels inner) (labels others) back) ∙ sym (append_assoc front (label ∷ labels inner) (labels others ++ back)))
+            (t ∙ ap (λ zs. before ++ (here ∷ zs)) (append_assoc (flat (n + 1) inner) (flat next others) following)
+            ∙ sym (append_assoc before (here ∷ flat (n + 1) inner) (flat next others ++ following)))
+            (l ∙ ap (λ zs. front ++ (label ∷ zs)) (append_assoc (labels inner) (labels others) back)
+            ∙ sym (append_assoc front (label ∷ labels inner) (labels others ++ back)))
             (omega (arith, b, length-append before (here ∷ flat (n + 1) inner)))
             (omega (arith, f, same_size inner (n + 1), length-append front (label ∷ labels inner)))),
       )
@@ -63,7 +81,8 @@ module _ (tokens : List Token) (marks : List Label) where
   -- places grow
   pub stand_grows : (at : ℕ) (nodes : Nodes) (end : ℕ) → Stand tokens marks at nodes end → at ≤ end
   stand_grows at no_node end e = omega (arith, e)
-  stand_grows at (node kind label span inner others) end (next, part, within, rest) = omega (arith, part.later, stand_grows next others end rest)
+  stand_grows at (node kind label span inner others) end (next, part, within, rest) =
+      omega (arith, part.later, stand_grows next others end rest)
 
   -- parts beside others
   pub stand_both : (at : ℕ) (xs ys : Nodes) (end : ℕ) → Stand tokens marks at (both xs ys) end
@@ -76,7 +95,8 @@ module _ (tokens : List Token) (marks : List Label) where
 -- the whole tree
 pub whole_stands : (text : List ℕ) → Stands text 0 (nodes_of (tree_of text)) (length (tokens_of (tree_of text)))
 whole_stands text =
-    subst (λ (k : ℕ). Stands text 0 (nodes_of (tree_of text)) k) (by (length (flat 0 (nodes_of (tree_of text)))) ∙ sym (ap (λ ts. length ts) (items_flat 0 (tree_of text))))
+    subst (λ (k : ℕ). Stands text 0 (nodes_of (tree_of text)) k)
+    (by (length (flat 0 (nodes_of (tree_of text)))) ∙ sym (ap (λ ts. length ts) (items_flat 0 (tree_of text))))
     (stand (tokens_of (tree_of text)) (labels_of (tree_of text)) 0 (nodes_of (tree_of text)) [] [] [] []
     (items_flat 0 (tree_of text) ∙ sym (append-nil _)) (sym (append-nil _)) refl refl)
   where
@@ -97,8 +117,9 @@ pub some_same : {X : Type 0} (a b : X) → Some a ≡ Some b → a ≡ b
 some_same {X = X} a b e = ap (λ (o : Option X). unwrap_or o a) e
 
 -- the part at a place ends where its token says
-pub next_at : (text : List ℕ) (at : ℕ) (token : Token) (kind : TokenKind) (label : Label) (next : ℕ) → slice_get (tokens_of (tree_of text)) at ≡ Some token
-    → Part (tokens_of (tree_of text)) (labels_of (tree_of text)) at kind label next → token.next ≡ next
+pub next_at : (text : List ℕ) (at : ℕ) (token : Token) (kind : TokenKind) (label : Label) (next : ℕ)
+    → slice_get (tokens_of (tree_of text)) at ≡ Some token
+    → PartAt (tokens_of (tree_of text)) (labels_of (tree_of text)) at kind label next → token.next ≡ next
 next_at text at token kind label next e part = ap (λ (t : Token). t.next) (some_same token part.token (sym e ∙ part.there)) ∙ part.next_is
 
 -- the parts that are left at a place, and what holds of them
@@ -110,16 +131,18 @@ pub record PartsLeft {X : Type 0} (nodes : X → Nodes) (text : List ℕ) (at en
 -- a first part, and what follows it
 pub record First (text : List ℕ) (at : ℕ) (kind : TokenKind) (label : Label) (inner others : Nodes) (end : ℕ) : Type 0 where
   pub next : ℕ
-  pub part : Part (tokens_of (tree_of text)) (labels_of (tree_of text)) at kind label next
+  pub part : PartAt (tokens_of (tree_of text)) (labels_of (tree_of text)) at kind label next
   pub within : Stands text (at + 1) inner next
   pub following : Stands text next others end
 
 pub first_of : {text : List ℕ} {at : ℕ} {kind : TokenKind} {label : Label} {inner others : Nodes} {end : ℕ}
-    → (next : ℕ) × Part (tokens_of (tree_of text)) (labels_of (tree_of text)) at kind label next × Stands text (at + 1) inner next × Stands text next others end → First text at kind label inner others end
+    → (next : ℕ) × PartAt (tokens_of (tree_of text)) (labels_of (tree_of text)) at kind label next × Stands text (at + 1) inner next
+    × Stands text next others end → First text at kind label inner others end
 first_of (next, part, within, following) = record { next = next; part = part; within = within; following = following }
 
 -- by the token that is there
-module _ {text : List ℕ} {at : ℕ} {kind : TokenKind} {label : Label} {inner others : Nodes} {end : ℕ} (f : First text at kind label inner others end) (token : Token) (there : slice_get (tokens_of (tree_of text)) at ≡ Some token) where
+module _ {text : List ℕ} {at : ℕ} {kind : TokenKind} {label : Label} {inner others : Nodes} {end : ℕ}
+    (f : First text at kind label inner others end) (token : Token) (there : slice_get (tokens_of (tree_of text)) at ≡ Some token) where
   pub first_kind : token.kind ≡ kind
   first_kind = ap (λ (t : Token). t.kind) (some_same token f.part.token (sym there ∙ f.part.there)) ∙ f.part.kind_is
 
@@ -144,7 +167,8 @@ pub record Front (text : List ℕ) (at : ℕ) (nodes : Nodes) (end : ℕ) : Type
 
 pub front : (text : List ℕ) (at : ℕ) (nodes : Nodes) (end : ℕ) → at < end → Stands text at nodes end → Front text at nodes end
 front text at no_node end h e = absurd (omega (arith, h, e))
-front text at (node kind label span inner others) end h s = record { kind = kind; label = label; span = span; inner = inner; others = others; is = refl; first = first_of s }
+front text at (node kind label span inner others) end h s =
+    record { kind = kind; label = label; span = span; inner = inner; others = others; is = refl; first = first_of s }
 
 -- what is at a place before the end of parts, by the token there
 pub record Here (text : List ℕ) (at : ℕ) (token : Token) (end : ℕ) : Type 0 where
@@ -179,36 +203,43 @@ module _ (text : List ℕ) (at end : ℕ) (h : at < end) (token : Token) (e : sl
           rest = f.others;
           stands = stands_after f.first token e;
           joins = λ x s.
-              p.joins x (subst (λ (xs : Nodes). Stands text at xs x) (sym (ap tests_in f.is ∙ ap (λ b. if b then node f.kind f.label f.span f.inner (tests_in f.others) else no_node) test))
+              p.joins x (subst (λ (xs : Nodes). Stands text at xs x)
+              (sym (ap tests_in f.is ∙ ap (λ b. if b then node f.kind f.label f.span f.inner (tests_in f.others) else no_node) test))
               (f.first.next, f.first.part, f.first.within, subst (λ (k : ℕ). Stands text k (tests_in f.others) x) n s));
-          same = sym (ap (λ b. if b then after_tests f.others else node f.kind f.label f.span f.inner f.others) test) ∙ sym (ap after_tests f.is) ∙ p.same;
+          same = sym (ap (λ b. if b then after_tests f.others else node f.kind f.label f.span f.inner f.others) test)
+              ∙ sym (ap after_tests f.is) ∙ p.same;
         }
 
     pub passed_stop : is_test token.kind ≡ false → Stands text start (tests_in nodes) at × Stands text at (after_tests nodes) end
     passed_stop t =
         let f = front text at p.rest end h p.stands in
         let test : is_test f.kind ≡ false = ap is_test (sym (first_kind f.first token e)) ∙ t in (
-          p.joins at (subst (λ (xs : Nodes). Stands text at xs at) (sym (ap tests_in f.is ∙ ap (λ b. if b then node f.kind f.label f.span f.inner (tests_in f.others) else no_node) test)) refl),
+          p.joins at (subst (λ (xs : Nodes). Stands text at xs at)
+              (sym (ap tests_in f.is ∙ ap (λ b. if b then node f.kind f.label f.span f.inner (tests_in f.others) else no_node) test)) refl),
           subst (λ (xs : Nodes). Stands text at xs end)
-              (f.is ∙ sym (ap (λ b. if b then after_tests f.others else node f.kind f.label f.span f.inner f.others) test) ∙ sym (ap after_tests f.is) ∙ p.same) p.stands,
+              (f.is ∙ sym (ap (λ b. if b then after_tests f.others else node f.kind f.label f.span f.inner f.others) test)
+              ∙ sym (ap after_tests f.is) ∙ p.same) p.stands,
         )
 
 -- at the end nothing is left
 pub none_left : (text : List ℕ) (at end : ℕ) (nodes : Nodes) → end ≤ at → Stands text at nodes end → nodes ≡ no_node
 none_left text at end no_node h s = refl
-none_left text at end (node kind label span inner others) h (next, part, within, following) = absurd (omega (arith, h, part.later, stand_grows _ _ next others end following))
+none_left text at end (node kind label span inner others) h (next, part, within, following) =
+    absurd (omega (arith, h, part.later, stand_grows _ _ next others end following))
 
 pub not_test : (kind : TokenKind) → (kind ≡ kinds.Test → ⊥) → is_test kind ≡ false
 not_test kinds.Test h = absurd (h refl)
 not_test _ h = refl
 
 pub front_in : (text : List ℕ) (at end : ℕ) → at < end → Spans text at end → at < length (tokens_of (tree_of text))
-front_in text at end h s = let f = front text at s.nodes end h s.stands in slice_get_within (tokens_of (tree_of text)) at f.first.part.token f.first.part.there
+front_in text at end h s = let f = front text at s.nodes end h s.stands in
+    slice_get_within (tokens_of (tree_of text)) at f.first.part.token f.first.part.there
 
 at_end : (text : List ℕ) (at end : ℕ) (nodes : Nodes) → end ≤ at → Stands text at nodes end → at ≡ end
 at_end text at end nodes h s = omega (arith, h, stand_grows _ _ at nodes end s)
 
-pub passed_end : (text : List ℕ) (start at : ℕ) (nodes : Nodes) (end : ℕ) → end ≤ at → Passed text start at nodes end → Stands text start (tests_in nodes) at × Stands text at (after_tests nodes) end
+pub passed_end : (text : List ℕ) (start at : ℕ) (nodes : Nodes) (end : ℕ) → end ≤ at → Passed text start at nodes end
+    → Stands text start (tests_in nodes) at × Stands text at (after_tests nodes) end
 passed_end text start at nodes end h p =
     let none = none_left text at end p.rest h p.stands in (
       p.joins at (subst (λ (xs : Nodes). Stands text at xs at) (sym (ap tests_in none)) refl),

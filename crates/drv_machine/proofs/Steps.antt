@@ -20,16 +20,19 @@ module _ {X Y : Type 0} (F : Facts) (C : Context) (s : Machine) (a : Step X) (f 
   then_err fault e = run_then F C s a f ∙ ap (λ (g : Answer (X × Machine)). g >>- λ r. run F C r.1 (f r.0)) e
 
   -- a refusal of the first, or lack of memory
-  pub then_fails : (fault : MachineFault) → (fault ≡ Memory) ⊎ (run F C s a ≡ Is (Err fault)) → (fault ≡ Memory) ⊎ (run F C s (a >>= f) ≡ Is (Err fault))
+  pub then_fails : (fault : MachineFault) → (fault ≡ Memory) ⊎ (run F C s a ≡ Is (Err fault))
+      → (fault ≡ Memory) ⊎ (run F C s (a >>= f) ≡ Is (Err fault))
   then_fails fault (inl memory) = inl memory
   then_fails fault (inr e) = inr (then_err fault e)
 
 -- a look at the world
-pub looked : {X Y : Type 0} (F : Facts) (C : Context) (s : Machine) (f : Machine → X) (g : X → Step Y) (h : Step X) → run F C s h ≡ Is (Ok (f s, s)) → run F C s (h >>= g) ≡ run F C s (g (f s))
+pub looked : {X Y : Type 0} (F : Facts) (C : Context) (s : Machine) (f : Machine → X) (g : X → Step Y) (h : Step X)
+    → run F C s h ≡ Is (Ok (f s, s)) → run F C s (h >>= g) ≡ run F C s (g (f s))
 looked F C s f g h e = then_ok F C s h g (f s) s e
 
 -- the same by another name
-pub fails_as : {X Y : Type 0} {fault : MachineFault} (given : Answer X) (whole : Answer Y) → (fault ≡ Memory) ⊎ (given ≡ Is (Err fault)) → (given ≡ Is (Err fault) → whole ≡ Is (Err fault)) → (fault ≡ Memory) ⊎ (whole ≡ Is (Err fault))
+pub fails_as : {X Y : Type 0} {fault : MachineFault} (given : Answer X) (whole : Answer Y) → (fault ≡ Memory) ⊎ (given ≡ Is (Err fault))
+    → (given ≡ Is (Err fault) → whole ≡ Is (Err fault)) → (fault ≡ Memory) ⊎ (whole ≡ Is (Err fault))
 fails_as given whole (inl memory) f = inl memory
 fails_as given whole (inr e) f = inr (f e)
 
@@ -41,7 +44,8 @@ pub not_false : (b : Bool) → not b ≡ false → b ≡ true
 not_false true e = refl
 not_false false e = absurd cc
 
-pub gives_as : (new : Machine) (result : Result (Unit {0}) MachineFault) (given whole : Answer (Unit {0} × Machine)) → given ≡ whole → GivesKnown Memory (λ u. (tt, new)) result given → GivesKnown Memory (λ u. (tt, new)) result whole
+pub gives_as : (new : Machine) (result : Result (Unit {0}) MachineFault) (given whole : Answer (Unit {0} × Machine)) → given ≡ whole
+    → GivesKnown Memory (λ u. (tt, new)) result given → GivesKnown Memory (λ u. (tt, new)) result whole
 gives_as new result given whole e g = subst (λ x. GivesKnown Memory (λ u. (tt, new)) result x) e g
 
 -- what holds where a part of the walk went well

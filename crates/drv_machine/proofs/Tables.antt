@@ -92,7 +92,8 @@ module _ (F : Facts) where
   switches_5 : words_of (linking (alone (codes "ma") ∷ alone (codes "mb") ∷ [])) (codes "%{m*:%<mb %*}") ≡ Is (Ok ((codes "a" ∷ []) ∷ []))
   switches_5 = refl
 
-  switches_6 : words_of (linking (alone (codes "ma") ∷ alone (codes "n") ∷ [])) (codes "%>m* %{m*} %{ma} %{*}") ≡ Is (Ok ((codes "-n" ∷ []) ∷ []))
+  switches_6 : words_of (linking (alone (codes "ma") ∷ alone (codes "n") ∷ [])) (codes "%>m* %{m*} %{ma} %{*}")
+      ≡ Is (Ok ((codes "-n" ∷ []) ∷ []))
   switches_6 = refl
 
   switches_7 : words_of (linking (alone (codes "ma") ∷ alone (codes "mb") ∷ [])) (codes "%{m*:%>m* %*}") ≡ Is (Ok ((codes "a" ∷ []) ∷ []))
@@ -101,10 +102,12 @@ module _ (F : Facts) where
   switches_8 : words_of (linking (alone (codes "ma") ∷ alone (codes "mb") ∷ [])) (codes "%{m*:y}") ≡ Is (Ok ((codes "y" ∷ []) ∷ []))
   switches_8 = refl
 
-  switches_9 : words_of (linking (alone (codes "a1") ∷ alone (codes "a2") ∷ alone (codes "b3") ∷ [])) (codes "%{a*:<%{b*:%*}>}") ≡ Is (Ok ((codes "<3" ∷ codes ">" ∷ []) ∷ []))
+  switches_9 : words_of (linking (alone (codes "a1") ∷ alone (codes "a2") ∷ alone (codes "b3") ∷ [])) (codes "%{a*:<%{b*:%*}>}")
+      ≡ Is (Ok ((codes "<3" ∷ codes ">" ∷ []) ∷ []))
   switches_9 = refl
 
-  switches_10 : words_of (linking (alone (codes "a1") ∷ alone (codes "a2") ∷ alone (codes "b3") ∷ [])) (codes "%{a*:%*%{b*:%*}}") ≡ Is (Ok ((codes "13" ∷ codes "23" ∷ []) ∷ []))
+  switches_10 : words_of (linking (alone (codes "a1") ∷ alone (codes "a2") ∷ alone (codes "b3") ∷ [])) (codes "%{a*:%*%{b*:%*}}")
+      ≡ Is (Ok ((codes "13" ∷ codes "23" ∷ []) ∷ []))
   switches_10 = refl
 
   switches_11 : words_of (linking (with (codes "I") (codes "x") ∷ [])) (codes "%{I*:-J%*}") ≡ Is (Ok ((codes "-J" ∷ codes "x" ∷ []) ∷ []))
@@ -119,16 +122,20 @@ module _ (F : Facts) where
   switches_14 : words_of (linking (with (codes "I") [] ∷ [])) (codes "%{I*}") ≡ Is (Ok ((codes "-I" ∷ [] ∷ []) ∷ []))
   switches_14 = refl
 
-  switches_15 : words_of (linking (with (codes "I") (codes "x y") ∷ [])) (codes "x%{I*}y %{I*:-J%*}") ≡ Is (Ok ((codes "x-I" ∷ codes "x y" ∷ codes "y" ∷ codes "-J" ∷ codes "x y" ∷ []) ∷ []))
+  switches_15 : words_of (linking (with (codes "I") (codes "x y") ∷ [])) (codes "x%{I*}y %{I*:-J%*}")
+      ≡ Is (Ok ((codes "x-I" ∷ codes "x y" ∷ codes "y" ∷ codes "-J" ∷ codes "x y" ∷ []) ∷ []))
   switches_15 = refl
 
-  switches_16 : words_of (linking (alone (codes "Da") ∷ alone (codes "Ub") ∷ alone (codes "Dc") ∷ [])) (codes "%{D*&U*}") ≡ Is (Ok ((codes "-Da" ∷ codes "-Ub" ∷ codes "-Dc" ∷ []) ∷ []))
+  switches_16 : words_of (linking (alone (codes "Da") ∷ alone (codes "Ub") ∷ alone (codes "Dc") ∷ [])) (codes "%{D*&U*}")
+      ≡ Is (Ok ((codes "-Da" ∷ codes "-Ub" ∷ codes "-Dc" ∷ []) ∷ []))
   switches_16 = refl
 
-  switches_17 : words_of (linking (with (codes "D") (codes "M") ∷ alone (codes "Ub") ∷ [])) (codes "c%{D*&U*}") ≡ Is (Ok ((codes "c-D" ∷ codes "M" ∷ codes "-Ub" ∷ []) ∷ []))
+  switches_17 : words_of (linking (with (codes "D") (codes "M") ∷ alone (codes "Ub") ∷ [])) (codes "c%{D*&U*}")
+      ≡ Is (Ok ((codes "c-D" ∷ codes "M" ∷ codes "-Ub" ∷ []) ∷ []))
   switches_17 = refl
 
-  switches_18 : words_of (linking (alone (codes "a") ∷ alone (codes "b") ∷ [])) (codes "c %{b} %{a}") ≡ Is (Ok ((codes "c" ∷ codes "-b" ∷ codes "-a" ∷ []) ∷ []))
+  switches_18 : words_of (linking (alone (codes "a") ∷ alone (codes "b") ∷ [])) (codes "c %{b} %{a}")
+      ≡ Is (Ok ((codes "c" ∷ codes "-b" ∷ codes "-a" ∷ []) ∷ []))
   switches_18 = refl
 
   -- names of the input, words, and commands
@@ -165,7 +172,8 @@ module _ (F : Facts) where
   commands_13 : words_of (linking []) (codes " c\t d ") ≡ Is (Ok ((codes "c" ∷ codes "d" ∷ []) ∷ []))
   commands_13 = refl
 
-  commands_14 : words_of (linking []) (codes "a\\ b c\n\nd e\n") ≡ Is (Ok ((codes "a b" ∷ codes "c" ∷ []) ∷ (codes "d" ∷ codes "e" ∷ []) ∷ []))
+  commands_14 : words_of (linking []) (codes "a\\ b c\n\nd e\n")
+      ≡ Is (Ok ((codes "a b" ∷ codes "c" ∷ []) ∷ (codes "d" ∷ codes "e" ∷ []) ∷ []))
   commands_14 = refl
 
   commands_15 : words_of (linking []) (codes "\\%i \\\\ \\| \\;") ≡ Is (Ok ((codes "%i" ∷ codes "\\" ∷ codes "|" ∷ codes ";" ∷ []) ∷ []))
@@ -183,7 +191,8 @@ module _ (F : Facts) where
   commands_19 : words_of (linking []) (codes "c |\n d") ≡ Is (Ok ((codes "c" ∷ []) ∷ (codes "d" ∷ []) ∷ []))
   commands_19 = refl
 
-  commands_20 : words_of (linking []) (codes "c|\nd|\n\ne f") ≡ Is (Ok ((codes "c" ∷ []) ∷ (codes "d" ∷ []) ∷ (codes "e" ∷ codes "f" ∷ []) ∷ []))
+  commands_20 : words_of (linking []) (codes "c|\nd|\n\ne f")
+      ≡ Is (Ok ((codes "c" ∷ []) ∷ (codes "d" ∷ []) ∷ (codes "e" ∷ codes "f" ∷ []) ∷ []))
   commands_20 = refl
 
   commands_21 : words_of (linking []) (codes "c\nd |\n e") ≡ Is (Ok ((codes "c" ∷ []) ∷ (codes "d" ∷ []) ∷ (codes "e" ∷ []) ∷ []))

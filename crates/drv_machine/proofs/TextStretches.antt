@@ -1,13 +1,21 @@
 use Rattle.drv_funcs.specs.declared.function.Function.{Function as Func}
 use Rattle.drv_funcs.specs.Functions.{function_of}
-use Rattle.drv_machine.specs.Atoms.{added, filed, places, start, arguments, atoms, brace_step, broken_word, call_step, called_step, choices_step, draw, draw_with, drawn_or_new, each_hit, emitted, file_step, first_true, has_value, input_name, item_step, items_step, leaf_step, levels_left, matching, name_step, named, named_file, noted, outputs_step, starts_file, switch_atoms, temp_step, tree_named, truth, turned, value_step, worked, words_of}
+use Rattle.drv_machine.specs.Atoms.{added, filed, places, start, arguments, atoms, brace_step, broken_word, call_step, called_step}
+use Rattle.drv_machine.specs.Atoms.{choices_step, draw, draw_with, drawn_or_new, each_hit, emitted, file_step, first_true, has_value}
+use Rattle.drv_machine.specs.Atoms.{input_name, item_step, items_step, leaf_step, levels_left, matching, name_step, named, named_file}
+use Rattle.drv_machine.specs.Atoms.{noted, outputs_step, starts_file, switch_atoms, temp_step, tree_named, truth, turned, value_step}
+use Rattle.drv_machine.specs.Atoms.{worked, words_of}
 use Rattle.drv_machine.specs.Context.{Context, Source, argument, names, site_of}
 use Rattle.drv_machine.specs.Cutting.{all_taken, argument_words, file_words, nothing_cut}
 use Rattle.drv_machine.specs.Names.{is_word, language_of, suffix_of}
 use Rattle.drv_machine.specs.Temps.{last_drawn, temp_name}
 use Rattle.drv_funcs.specs.Outcome as outcomes
-use Rattle.drv_machine.specs.Cuts.{Balanced, Bare, Enclosed, Failure, File, Filed, Stretch, Stretched, bounds_file, is_broken, open_after, open_following, stretch_atoms}
-use Rattle.drv_machine.specs.Working.{◌>>-◌, ◌>>=◌, ◌>>◌, Answer, Atom, Break, End, FileFrom, FileTo, From, Goes, Levels, Marked, Piped, Put, Refuses, Step, To, Waits, Without, Worked, World, following, bytes, called, change, counted, known, follow, give, look, most_items, most_open, needs, opened, puts, refuse, whole_word, word_of, words}
+use Rattle.drv_machine.specs.Cuts.{Balanced, Bare, Enclosed, Failure, File, Filed, Stretch, Stretched, bounds_file, is_broken, open_after}
+use Rattle.drv_machine.specs.Cuts.{open_following, stretch_atoms}
+use Rattle.drv_machine.specs.Working.{◌>>-◌, ◌>>=◌, ◌>>◌, Answer, Atom, Break, End, FileFrom, FileTo, From, Goes, Levels, Marked, Piped}
+use Rattle.drv_machine.specs.Working.{Put, Refuses, Step, To, Waits, Without, Worked, World, following, bytes, called, change, counted}
+use Rattle.drv_machine.specs.Working.{known, follow, give, look, most_items, most_open, needs, opened, puts, refuse, whole_word, word_of}
+use Rattle.drv_machine.specs.Working.{words}
 use Rattle.drv_machine.specs.declared.fault.MachineFault.{MachineFault}
 use Rattle.drv_machine.specs.declared.fault.MachineFault.TheVariants as fault
 use Rattle.drv_machine.specs.declared.machine.marking.Mark.TheVariants.{AsFile, AsOutput, AsRemoved, AsScript}
@@ -17,8 +25,13 @@ use Rattle.drv_match.specs.Matching.{hidden_by, hits, is_hit, name_at}
 use Rattle.drv_search.specs.Search.{folder_options}
 use Rattle.drv_syntax.specs.Stars.{has_star}
 use Rattle.drv_syntax.specs.Tree as tree
-use Rattle.drv_syntax.specs.Tree.{AddOption, ArgumentsFile, Asked, Blank, Brace, Braces, BuiltinText, Choices, Choose, Emit, Escape, FailureFile, Function, HasLanguage, HasResult, HasSuffix, HasSwitch, Hide, Item, Items, NamedText, Newline, Notice, Pattern, Pipe, Plain, Span, Star, TempName, Tests, UserError, choice, more, no_choice, no_test, none, pattern, test}
-use Rattle.drv_syntax.specs.declared.token.Leaf.TheVariants.{AssemblerOptions, BaseName, BaseStem, Directories, FoundFile, FoundScript, InputName, LinkerOptions, NoOutput, ObjectSuffix, Output, Outputs, Percent, PreprocessorOptions, Removed}
+use Rattle.drv_syntax.specs.Tree.{AddOption, ArgumentsFile, Asked, Blank, Brace, Braces, BuiltinText, Choices, Choose, Emit, Escape}
+use Rattle.drv_syntax.specs.Tree.{FailureFile, Function, HasLanguage, HasResult, HasSuffix, HasSwitch, Hide, Item, Items, NamedText}
+use Rattle.drv_syntax.specs.Tree.{Newline, Notice, Pattern, Pipe, Plain, Span, Star, TempName, Tests, UserError, choice, more, no_choice}
+use Rattle.drv_syntax.specs.Tree.{no_test, none, pattern, test}
+use Rattle.drv_syntax.specs.declared.token.Leaf.TheVariants.{AssemblerOptions, BaseName, BaseStem, Directories, FoundFile, FoundScript}
+use Rattle.drv_syntax.specs.declared.token.Leaf.TheVariants.{InputName, LinkerOptions, NoOutput, ObjectSuffix, Output, Outputs, Percent}
+use Rattle.drv_syntax.specs.declared.token.Leaf.TheVariants.{PreprocessorOptions, Removed}
 use Rattle.drv_syntax.specs.declared.token.Leaf.{Leaf}
 use Rattle.drv_syntax.specs.declared.token.TempKind.TheVariants.{Last, New, PipedIn, PipedOut, Shared}
 use Rattle.drv_syntax.specs.declared.token.TempKind.{TempKind}
@@ -27,7 +40,8 @@ use Rattle.drv_system.specs.Known.{Is, Unasked}
 use Rattle.drv_words.specs.Bytes.{at_sign, hyphen, percent}
 use Rattle.drv_words.specs.FileNames.{base, stem}
 use Rattle.drv_words.specs.Response.{response_text}
-use Rattle.std.proofs.Common.{◌≡◌, ◌∙◌, ◌++◌, ◌||◌, Bool, List, [], ◌∷◌, None, Err, Ok, Option, Some, ap, append-nil, false, map, refl, subst, suc, sym, true, zero, ℕ}
+use Rattle.std.proofs.Common.{◌≡◌, ◌∙◌, ◌++◌, ◌||◌, Bool, List, [], ◌∷◌, None, Err, Ok, Option, Some, ap, append-nil, false, map, refl}
+use Rattle.std.proofs.Common.{subst, suc, sym, true, zero, ℕ}
 use Rattle.std.proofs.lemmas.Grind.{flat_map-append}
 use Rattle.std.proofs.lemmas.List.Folds.{list_any-append}
 use Rattle.std.specs.List.{filter, flat_map, list_any}
@@ -101,7 +115,8 @@ Begun atoms = (count : ℕ) → is_some (open_following atoms Failure count) ≡
 abbrev then_open : List Atom → Enclosed → Option ℕ → Option ℕ
 then_open atoms enclosed count = option_and_then (λ left. open_following atoms enclosed left) count
 
-open_append : (xs ys : List Atom) (enclosed : Enclosed) (count : ℕ) → open_following (xs ++ ys) enclosed count ≡ then_open ys enclosed (open_following xs enclosed count)
+open_append : (xs ys : List Atom) (enclosed : Enclosed) (count : ℕ)
+    → open_following (xs ++ ys) enclosed count ≡ then_open ys enclosed (open_following xs enclosed count)
 open_append [] ys enclosed count = refl
 open_append (x ∷ xs) ys enclosed count = by (open_after x enclosed count) (λ left. open_append xs ys enclosed left)
   where
@@ -151,7 +166,8 @@ unfiled_open (atom ∷ atoms) count e =
 file_open : (atoms : List Atom) → Unfiled atoms → open_following (stretch_atoms (Filed atoms)) File 0 ≡ Some 0
 file_open atoms e = open_append atoms (Break ∷ FileTo ∷ []) File 1 ∙ ap (then_open (Break ∷ FileTo ∷ []) File) (unfiled_open atoms 1 e)
 
-stretches_open : (stretches : List Stretch) → list_any is_broken stretches ≡ false → open_following (flat_map stretch_atoms stretches) File 0 ≡ Some 0
+stretches_open : (stretches : List Stretch) → list_any is_broken stretches ≡ false
+    → open_following (flat_map stretch_atoms stretches) File 0 ≡ Some 0
 stretches_open [] e = refl
 stretches_open (Bare atom ∷ stretches) e =
     let each = first_bare (bounds_file atom) (list_any is_broken stretches) e in
@@ -207,7 +223,8 @@ shaped_append true xs ys e f = unfiled_append xs ys e f
 shaped_append false xs ys e f = record {
   stretches = e.stretches ++ f.stretches;
   whole = broken_append e.stretches f.stretches e.whole f.whole;
-  same = flat_map-append stretch_atoms e.stretches f.stretches ∙ ap (λ (zs : List Atom). zs ++ flat_map stretch_atoms f.stretches) e.same ∙ ap (λ (zs : List Atom). xs ++ zs) f.same;
+  same = flat_map-append stretch_atoms e.stretches f.stretches ∙ ap (λ (zs : List Atom). zs ++ flat_map stretch_atoms f.stretches) e.same
+      ∙ ap (λ (zs : List Atom). xs ++ zs) f.same;
 }
 
 fits_append : (b : Bool) (xs ys : List Atom) → Fits b xs → Fits b ys → Fits b (xs ++ ys)
@@ -232,7 +249,8 @@ fits_bare b atoms e = (shaped_bare b atoms (unfiled_bare atoms e), even_bare ato
 
 fits_failure : (b : Bool) (atoms : List Atom) → Fits b atoms → Fits b (From ∷ atoms ++ Break ∷ To ∷ [])
 fits_failure b atoms e = (
-  shaped_append b (From ∷ []) (atoms ++ Break ∷ To ∷ []) (shaped_bare b (From ∷ []) refl) (shaped_append b atoms (Break ∷ To ∷ []) e.0 (shaped_bare b (Break ∷ To ∷ []) refl)),
+  shaped_append b (From ∷ []) (atoms ++ Break ∷ To ∷ []) (shaped_bare b (From ∷ []) refl)
+      (shaped_append b atoms (Break ∷ To ∷ []) e.0 (shaped_bare b (Break ∷ To ∷ []) refl)),
   even_failure atoms e.1,
 )
 
@@ -253,7 +271,8 @@ after_well b atoms (Goes others x v) e f = (fits_append b atoms others e f.0, f.
 after_well b atoms (Refuses others fault) e f = stops_append b atoms others e f
 after_well b atoms (Waits others) e f = stops_append b atoms others e f
 
-follow_well : {X Y : Type 0} (b : Bool) (work : Worked X) (f : X → Step Y) → WellDone b work → ((x : X) → Well (f x)) → WellDone b (follow work f)
+follow_well : {X Y : Type 0} (b : Bool) (work : Worked X) (f : X → Step Y) → WellDone b work → ((x : X) → Well (f x))
+    → WellDone b (follow work f)
 follow_well b (Goes atoms x v) f e goes = after_well b atoms (f x v) e.0 ((goes x).stays v b e.1)
 follow_well b (Refuses atoms fault) f e goes = e
 follow_well b (Waits atoms) f e goes = e
@@ -285,7 +304,8 @@ refuse_well fault = record { stays = λ w b i. stops_here b }
 look_puts_well : (f : World → List Atom) → ((w : World) → None-bounds (f w)) → Well (look f >>= puts)
 look_puts_well f e = record { stays = λ w b i. (fits_bare b (f w) (e w), i) }
 
-counted_as : (w : World) (b : Bool) (few : Bool) → w.is_in_file ≡ b → WellDone {X = Unit {0}} b (if few then Goes [] tt (record w { items = w.items + 1 }) else Refuses [] fault.TooManySteps)
+counted_as : (w : World) (b : Bool) (few : Bool) → w.is_in_file ≡ b
+    → WellDone {X = Unit {0}} b (if few then Goes [] tt (record w { items = w.items + 1 }) else Refuses [] fault.TooManySteps)
 counted_as w b true i = (fits_bare b [] refl, i)
 counted_as w b false i = stops_here b
 
@@ -302,7 +322,8 @@ WellLevels [] = ⊤
 WellLevels (deeper ∷ inside) = ((items : Items) → Well (deeper items)) × WellLevels inside
 
 opened_well : {X : Type 0} (levels : Levels) (part : (Items → Step (Unit {0})) → Levels → Step X) → WellLevels levels
-    → ((deeper : Items → Step (Unit {0})) (inside : Levels) → ((items : Items) → Well (deeper items)) → WellLevels inside → Well (part deeper inside)) → Well (opened levels part)
+    → ((deeper : Items → Step (Unit {0})) (inside : Levels) → ((items : Items) → Well (deeper items)) → WellLevels inside
+    → Well (part deeper inside)) → Well (opened levels part)
 opened_well [] part e goes = refuse_well fault.SpecTooDeep
 opened_well (deeper ∷ inside) part e goes = goes deeper inside e.0 e.1
 
@@ -310,7 +331,8 @@ opened_well (deeper ∷ inside) part e goes = goes deeper inside e.0 e.1
 failure_well : (step : Step (Unit {0})) → Well step → Well (puts (From ∷ []) >> step >> puts (Break ∷ To ∷ []))
 failure_well step e = record { stays = λ w b i. by b (step w) (e.stays w b i) }
   where
-    by : (b : Bool) (work : Worked (Unit {0})) → WellDone b work → WellDone b (follow (following (From ∷ []) work) (λ u. puts (Break ∷ To ∷ [])))
+    by : (b : Bool) (work : Worked (Unit {0})) → WellDone b work
+        → WellDone b (follow (following (From ∷ []) work) (λ u. puts (Break ∷ To ∷ [])))
     by b (Goes atoms u v) done = (fits_failure b atoms done.0, done.1)
     by b (Refuses atoms fault) done = stops_failure b atoms done
     by b (Waits atoms) done = stops_failure b atoms done
@@ -331,10 +353,17 @@ module _ (F : Facts) (C : Context) where
   draw_well : (contents : List ℕ) (drawing : Drawing) (suffix : List ℕ) → Well (draw_with F C contents drawing suffix)
   draw_well contents drawing suffix =
       then_well (look_well (λ w. w.number)) (λ number. then_well (needs_well (known (temp_name F C.seed number suffix))) (λ path. then_well
-      (change_well (λ w. record w { number = w.number + 1; drawn = w.drawn ++ record { drawing = drawing; suffix = suffix; path = path; contents = contents } ∷ [] }) (λ w. refl)) (λ u. give_well path)))
+      (change_well (λ w. record w {
+        number = w.number + 1;
+        drawn =
+            w.drawn ++ record { drawing = drawing; suffix = suffix; path = path; contents = contents } ∷ [];
+      }) (λ w. refl))
+      (λ u. give_well path)))
 
-  drawn_as : (drawing : Drawing) (suffix : List ℕ) (w : World) (b : Bool) (path : Option (List ℕ)) → last_drawn drawing suffix w.drawn ≡ path → w.is_in_file ≡ b → WellDone b (drawn_or_new F C drawing suffix w)
-  drawn_as drawing suffix w b None e i = rw e (after_well b [] (draw F C drawing suffix w) (fits_bare b [] refl) ((draw_well [] drawing suffix).stays w b i))
+  drawn_as : (drawing : Drawing) (suffix : List ℕ) (w : World) (b : Bool) (path : Option (List ℕ))
+      → last_drawn drawing suffix w.drawn ≡ path → w.is_in_file ≡ b → WellDone b (drawn_or_new F C drawing suffix w)
+  drawn_as drawing suffix w b None e i = rw e (after_well b [] (draw F C drawing suffix w) (fits_bare b [] refl)
+      ((draw_well [] drawing suffix).stays w b i))
   drawn_as drawing suffix w b (Some path) e i = rw e (fits_bare b [] refl, i)
 
   drawn_well : (drawing : Drawing) (suffix : List ℕ) → Well (drawn_or_new F C drawing suffix)
@@ -351,18 +380,24 @@ module _ (F : Facts) (C : Context) where
   temp_well PipedIn suffix = if_well C.is_piping (puts_well [] refl) (name_well Once suffix)
 
   switch_bare : (i : ℕ) → None-bounds (switch_atoms F C i)
-  switch_bare i = no_bounds (map Put (hyphen ∷ name_at (names C) i)) (Break ∷ word_of (argument C i)) (bytes_bare (hyphen ∷ name_at (names C) i)) (word_bare (argument C i))
+  switch_bare i = no_bounds (map Put (hyphen ∷ name_at (names C) i)) (Break ∷ word_of (argument C i))
+      (bytes_bare (hyphen ∷ name_at (names C) i)) (word_bare (argument C i))
 
   emitted_bare : (patterns : List (Span × Pattern)) (hidden : List Bool) → None-bounds (emitted F C patterns hidden)
-  emitted_bare patterns hidden = flat_bare (switch_atoms F C) switch_bare (filter (λ i. list_any (λ p. is_hit (names C) hidden (matching p.1) i) patterns) (places F C))
+  emitted_bare patterns hidden = flat_bare (switch_atoms F C) switch_bare
+      (filter (λ i. list_any (λ p. is_hit (names C) hidden (matching p.1) i) patterns) (places F C))
 
   called_well : (args : List (List ℕ)) (function : Option Func) (v : World) → Well (called_step F C args function v)
   called_well args None v = give_well None
   called_well args (Some function) v =
-      then_well (needs_well (called (outcomes.called F (names C) v.hidden (site_of C) function args v.outputs))) (λ c. then_well (change_well (λ u. record u { outputs = c.outputs }) (λ u. refl)) (λ u. give_well c.given))
+      then_well (needs_well (called (outcomes.called F (names C) v.hidden (site_of C) function args v.outputs)))
+      (λ c. then_well (change_well (λ u. record u { outputs = c.outputs }) (λ u. refl)) (λ u. give_well c.given))
 
   call_well : (name : List ℕ) (args : List (List ℕ)) → Well (call_step F C name args)
-  call_well name args = record { stays = λ w b i. after_well b [] (called_step F C args (function_of name) w w) (fits_bare b [] refl) ((called_well args (function_of name) w).stays w b i) }
+  call_well name args = record {
+    stays = λ w b i. after_well b [] (called_step F C args (function_of name) w w) (fits_bare b [] refl)
+        ((called_well args (function_of name) w).stays w b i);
+  }
 
   value_well : (name : List ℕ) (args : List (List ℕ)) → Well (value_step F C name args)
   value_well name args = then_well (call_well name args) (λ given. bytes_well (unwrap_or given []))
@@ -380,15 +415,23 @@ module _ (F : Facts) (C : Context) where
 
   named_file_well : (list : List (List ℕ)) → Well (named_file F C list)
   named_file_well [] = puts_well [] refl
-  named_file_well (word ∷ list) = then_well (draw_well (response_text (word ∷ list)) Anew (codes ".args")) (λ path. puts_well (map Put (at_sign ∷ path) ++ Break ∷ []) (broken_bare (at_sign ∷ path)))
+  named_file_well (word ∷ list) = then_well (draw_well (response_text (word ∷ list)) Anew (codes ".args"))
+      (λ path. puts_well (map Put (at_sign ∷ path) ++ Break ∷ []) (broken_bare (at_sign ∷ path)))
 
   -- a file
   one_file : (atoms : List Atom) → Unfiled atoms → Stretched (Break ∷ FileFrom ∷ atoms ++ Break ∷ FileTo ∷ [])
-  one_file atoms e = record { stretches = Filed atoms ∷ []; whole = ap (λ (b : Bool). b || false) e; same = append-nil (Break ∷ FileFrom ∷ atoms ++ Break ∷ FileTo ∷ []) }
+  one_file atoms e = record {
+    stretches = Filed atoms ∷ [];
+    whole = ap (λ (b : Bool). b || false) e;
+    same =
+        append-nil (Break ∷ FileFrom ∷ atoms ++ Break ∷ FileTo ∷ []);
+  }
 
   filed_well : (work : Worked (Unit {0})) → WellDone true work → WellDone false (filed F C work)
   filed_well (Goes atoms u v) e =
-      after_well false (Break ∷ FileFrom ∷ atoms ++ Break ∷ FileTo ∷ []) ((needs (file_words F C atoms) >>= named_file F C) (record v { is_in_file = false })) (one_file atoms e.0.0, even_file atoms e.0.1)
+      after_well false (Break ∷ FileFrom ∷ atoms ++ Break ∷ FileTo ∷ [])
+      ((needs (file_words F C atoms) >>= named_file F C) (record v { is_in_file = false }))
+      (one_file atoms e.0.0, even_file atoms e.0.1)
       ((then_well (needs_well (file_words F C atoms)) named_file_well).stays (record v { is_in_file = false }) false refl)
   filed_well (Refuses atoms fault) e = stops_file atoms e
   filed_well (Waits atoms) e = stops_file atoms e
@@ -396,28 +439,40 @@ module _ (F : Facts) (C : Context) where
   file_well : (step : Step (Unit {0})) (w : World) → Well step → WellDone false (file_step F C step w)
   file_well step w e = filed_well (step (record w { is_in_file = true })) (e.stays (record w { is_in_file = true }) true refl)
 
-  chosen_as : (step : Step (Unit {0})) (w : World) → Well step → (from b : Bool) → w.is_in_file ≡ b → WellDone b ((if from && not w.is_in_file then file_step F C step else step) w)
+  chosen_as : (step : Step (Unit {0})) (w : World) → Well step → (from b : Bool) → w.is_in_file ≡ b
+      → WellDone b ((if from && not w.is_in_file then file_step F C step else step) w)
   chosen_as step w e false b i = e.stays w b i
-  chosen_as step w e true true i = subst (λ (inside : Bool). WellDone true ((if not inside then file_step F C step else step) w)) (sym i) (e.stays w true i)
-  chosen_as step w e true false i = subst (λ (inside : Bool). WellDone false ((if not inside then file_step F C step else step) w)) (sym i) (file_well step w e)
+  chosen_as step w e true true i = subst (λ (inside : Bool). WellDone true ((if not inside then file_step F C step else step) w)) (sym i)
+      (e.stays w true i)
+  chosen_as step w e true false i = subst (λ (inside : Bool). WellDone false ((if not inside then file_step F C step else step) w)) (sym i)
+      (file_well step w e)
 
-  chosen_well : (step : Step (Unit {0})) → Well step → Well (look (starts_file F C) >>= λ starts. if starts then file_step F C step else step)
-  chosen_well step e = record { stays = λ w b i. after_well b [] ((if starts_file F C w then file_step F C step else step) w) (fits_bare b [] refl) (chosen_as step w e C.from_file b i) }
+  chosen_well : (step : Step (Unit {0})) → Well step
+      → Well (look (starts_file F C) >>= λ starts. if starts then file_step F C step else step)
+  chosen_well step e = record {
+    stays = λ w b i. after_well b [] ((if starts_file F C w then file_step F C step else step) w)
+        (fits_bare b [] refl) (chosen_as step w e C.from_file b i);
+  }
 
   named_well : (items : Option Items) (levels : Levels) → WellLevels levels → Well (named F C items levels)
   named_well None levels e = puts_well [] refl
   named_well (Some items) levels e = opened_well levels (λ deeper inside. deeper items) e (λ deeper inside goes following. goes items)
 
-  each_well : (p : Pattern) (X : List ℕ → Levels → Step (Unit {0})) (levels : Levels) → WellLevels levels → ((rest : List ℕ) (inside : Levels) → WellLevels inside → Well (X rest inside)) → (is : List ℕ) → Well (each_hit F C p X levels is)
+  each_well : (p : Pattern) (X : List ℕ → Levels → Step (Unit {0})) (levels : Levels) → WellLevels levels
+      → ((rest : List ℕ) (inside : Levels) → WellLevels inside → Well (X rest inside)) → (is : List ℕ) → Well (each_hit F C p X levels is)
   each_well p X levels e goes [] = puts_well [] refl
   each_well p X levels e goes (i ∷ is) =
       let rest : List ℕ = drop (length (matching p).name) (name_at (names C) i) in
       then_well (look_well (λ w. is_hit (names C) w.hidden (matching p) i)) (λ hit. then_well
-      (if_well hit (then_well (opened_well levels (λ deeper inside. X rest inside) e (λ deeper inside d following. goes rest inside following)) (λ u. puts_well (Break ∷ word_of (argument C i)) (word_bare (argument C i)))) (puts_well [] refl))
+      (if_well hit (then_well (opened_well levels (λ deeper inside. X rest inside) e
+      (λ deeper inside d following. goes rest inside following))
+      (λ u. puts_well (Break ∷ word_of (argument C i)) (word_bare (argument C i)))) (puts_well [] refl))
       (λ u. each_well p X levels e goes is))
 
-  worked_well : (found : Option Asked) (own : Bool) (X : List ℕ → Levels → Step (Unit {0})) (levels : Levels) (star : List ℕ) (others : Step (Unit {0})) → WellLevels levels
-      → ((rest : List ℕ) (inside : Levels) → WellLevels inside → Well (X rest inside)) → Well others → Well (worked F C found own X levels star others)
+  worked_well : (found : Option Asked) (own : Bool) (X : List ℕ → Levels → Step (Unit {0})) (levels : Levels) (star : List ℕ)
+      (others : Step (Unit {0})) → WellLevels levels
+      → ((rest : List ℕ) (inside : Levels) → WellLevels inside → Well (X rest inside)) → Well others
+      → Well (worked F C found own X levels star others)
   worked_well None own X levels star others e goes f = f
   worked_well (Some (HasSwitch p)) true X levels star others e goes f = each_well p X levels e goes (places F C)
   worked_well (Some (HasSwitch p)) false X levels star others e goes f = goes star levels e
@@ -443,7 +498,8 @@ module _ (F : Facts) (C : Context) where
   leaf_well LinkerOptions = look_puts_well (λ w. words w.options) (λ w. words_bare w.options)
   leaf_well AssemblerOptions = puts_well (words C.assembler) (words_bare C.assembler)
   leaf_well PreprocessorOptions = puts_well (words C.preprocessor) (words_bare C.preprocessor)
-  leaf_well Directories = then_well (needs_well (known (folder_options F C.prefixes))) (λ options. puts_well (flat_map broken_word options) (flat_bare broken_word broken_bare options))
+  leaf_well Directories = then_well (needs_well (known (folder_options F C.prefixes)))
+      (λ options. puts_well (flat_map broken_word options) (flat_bare broken_word broken_bare options))
 
   mutual
     item_well : (item : Item) (levels : Levels) (star : List ℕ) → WellLevels levels → Well (item_step F C item levels star)
@@ -461,14 +517,17 @@ module _ (F : Facts) (C : Context) where
     item_well (BuiltinText name) levels star e = named_well (tree_named F C name) levels e
     item_well (Hide p) levels star e = change_well (λ w. record w { hidden = hidden_by (matching p) (names C) w.hidden }) (λ w. refl)
     item_well (Function name items) levels star e =
-        opened_well levels (λ deeper inside. arguments F C (items_step F C items inside star) >>= value_step F C name) e (λ deeper inside d following. then_well (arguments_well (items_step F C items inside star) (items_well items inside star following)) (λ args. value_well name args))
+        opened_well levels (λ deeper inside. arguments F C (items_step F C items inside star) >>= value_step F C name) e
+        (λ deeper inside d following. then_well (arguments_well (items_step F C items inside star)
+        (items_well items inside star following)) (λ args. value_well name args))
     item_well (Braces brace) levels star e = brace_well brace levels star e
     item_well Star levels star e = bytes_well star
     item_well (FailureFile brace) levels star e =
         opened_well levels (λ deeper inside. puts (From ∷ []) >> brace_step F C brace inside star >> puts (Break ∷ To ∷ [])) e
         (λ deeper inside d following. failure_well (brace_step F C brace inside star) (brace_well brace inside star following))
     item_well (ArgumentsFile brace) levels star e =
-        opened_well levels (λ deeper inside. look (starts_file F C) >>= λ starts. if starts then file_step F C (brace_step F C brace inside star) else brace_step F C brace inside star) e
+        opened_well levels (λ deeper inside. look (starts_file F C) >>= λ starts. if starts
+        then file_step F C (brace_step F C brace inside star) else brace_step F C brace inside star) e
         (λ deeper inside d following. chosen_well (brace_step F C brace inside star) (brace_well brace inside star following))
 
     items_well : (items : Items) (levels : Levels) (star : List ℕ) → WellLevels levels → Well (items_step F C items levels star)
@@ -485,19 +544,23 @@ module _ (F : Facts) (C : Context) where
     choices_well (choice span no_test items choices) levels star e = items_well items levels star e
     choices_well (choice span (test place negated asked tests) items choices) levels star e =
         then_well (first_well (test place negated asked tests) levels star e)
-        (λ found. worked_well found (has_star items) (λ rest inside. items_step F C items inside rest) levels star (choices_step F C choices levels star) e (λ rest inside d. items_well items inside rest d) (choices_well choices levels star e))
+        (λ found. worked_well found (has_star items) (λ rest inside. items_step F C items inside rest) levels star
+        (choices_step F C choices levels star) e (λ rest inside d. items_well items inside rest d) (choices_well choices levels star e))
 
     first_well : (tests : Tests) (levels : Levels) (star : List ℕ) → WellLevels levels → Well (first_true F C tests levels star)
     first_well no_test levels star e = give_well None
     first_well (test span negated asked tests) levels star e =
-        then_well (truth_well asked levels star e) (λ holds. if_well (turned negated holds) (give_well (Some asked)) (first_well tests levels star e))
+        then_well (truth_well asked levels star e) (λ holds. if_well (turned negated holds) (give_well (Some asked))
+        (first_well tests levels star e))
 
     truth_well : (asked : Asked) (levels : Levels) (star : List ℕ) → WellLevels levels → Well (truth F C asked levels star)
     truth_well (HasSwitch p) levels star e = look_well (λ w. nat_lt 0 (length (hits (names C) w.hidden (matching p))))
     truth_well (HasSuffix word) levels star e = give_well (is_word word (suffix_of C.input))
     truth_well (HasLanguage word) levels star e = give_well (is_word word (language_of C.input))
     truth_well (HasResult name items) levels star e =
-        opened_well levels (λ deeper inside. arguments F C (items_step F C items inside star) >>= has_value F C name) e (λ deeper inside d following. then_well (arguments_well (items_step F C items inside star) (items_well items inside star following)) (λ args. has_well name args))
+        opened_well levels (λ deeper inside. arguments F C (items_step F C items inside star) >>= has_value F C name) e
+        (λ deeper inside d following. then_well (arguments_well (items_step F C items inside star)
+        (items_well items inside star following)) (λ args. has_well name args))
 
   levels_well : (n : ℕ) → WellLevels (levels_left F C n)
   levels_well zero = tt
@@ -532,4 +595,5 @@ module _ (F : Facts) (C : Context) where
 
   pub part_balanced : (items : Items) (n : ℕ) (star : List ℕ) (w : World) → Balanced (items_step F C items (levels_left F C n) star w)
   part_balanced items n star w =
-      balanced_as w.is_in_file (items_step F C items (levels_left F C n) star w) ((items_well items (levels_left F C n) star (levels_well n)).stays w w.is_in_file refl)
+      balanced_as w.is_in_file (items_step F C items (levels_left F C n) star w)
+      ((items_well items (levels_left F C n) star (levels_well n)).stays w w.is_in_file refl)

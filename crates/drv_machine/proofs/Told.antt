@@ -35,31 +35,45 @@ pub record Ended (F : Facts) (C : Context) (w : World) (c : Cut) (o : Outcome) :
 
 module _ (F : Facts) (C : Context) where
   abbrev made_of : World → Cut → List (List Command) → Outcome
-  made_of w c commands = record { job = job w c commands; notices = w.notices; outs = w.outputs; accumulated = w.options; next_number = w.number; cost = w.items }
+  made_of w c commands = record {
+    job = job w c commands;
+    notices = w.notices;
+    outs = w.outputs;
+    accumulated = w.options;
+    next_number =
+        w.number;
+    cost = w.items;
+  }
 
   not_too_long : (w : World) (c : Cut) (o : Outcome) → c.stray ≡ false → Came (groups F C c.lines)
-      (λ commands. if list_any (λ group. nat_lt most_piped (length group)) commands then Is (Err PipeTooLong) else Is (Ok (made_of w c commands))) o → Ended F C w c o
+      (λ commands. if list_any (λ group. nat_lt most_piped (length group)) commands then Is (Err PipeTooLong)
+      else Is (Ok (made_of w c commands))) o → Ended F C w c o
   not_too_long w c o n (commands, is, e) = by (list_any (λ group. nat_lt most_piped (length group)) commands) e
     where
       by : (b : Bool) → (if b then Is (Err PipeTooLong) else Is (Ok (made_of w c commands))) ≡ Is (Ok o) → Ended F C w c o
       by true f = absurd cc
-      by false f = let same : made_of w c commands ≡ o = cc in record { none_stray = n; commands = commands; groups_are = is; job_is = ap (λ (x : Outcome). x.job) (sym same) }
+      by false f = let same : made_of w c commands ≡ o = cc in
+          record { none_stray = n; commands = commands; groups_are = is; job_is = ap (λ (x : Outcome). x.job) (sym same) }
 
   ended_as : (w : World) (c : Cut) (o : Outcome) → finished F C w c ≡ Is (Ok o) → Ended F C w c o
   ended_as w c o e = by (c.stray || ends_piped c.lines) refl e
     where
       after : Answer Outcome
-      after = groups F C c.lines >>- λ commands. if list_any (λ group. nat_lt most_piped (length group)) commands then Is (Err PipeTooLong) else Is (Ok (made_of w c commands))
+      after = groups F C c.lines >>- λ commands. if list_any (λ group. nat_lt most_piped (length group)) commands then Is (Err PipeTooLong)
+          else Is (Ok (made_of w c commands))
 
       by : (b : Bool) → (c.stray || ends_piped c.lines) ≡ b → (if b then Is (Err StrayPipe) else after) ≡ Is (Ok o) → Ended F C w c o
       by true s f = absurd cc
       by false s f =
           not_too_long w c o (neither c.stray (ends_piped c.lines) s)
-          (came (groups F C c.lines) (λ commands. if list_any (λ group. nat_lt most_piped (length group)) commands then Is (Err PipeTooLong) else Is (Ok (made_of w c commands))) o f)
+          (came (groups F C c.lines) (λ commands. if list_any (λ group. nat_lt most_piped (length group)) commands then Is (Err PipeTooLong)
+          else Is (Ok (made_of w c commands))) o f)
 
-  told_as : (items : Items) (o : Outcome) (list : List Atom) (w : World) (c : Cut) → atoms F C items ≡ Goes list tt w → all_taken F C nothing_cut list ≡ Is (Ok c) → Stretched list → Ended F C w c o → Told F C items o
+  told_as : (items : Items) (o : Outcome) (list : List Atom) (w : World) (c : Cut) → atoms F C items ≡ Goes list tt w
+      → all_taken F C nothing_cut list ≡ Is (Ok c) → Stretched list → Ended F C w c o → Told F C items o
   told_as items o list w c gives cut_is made ended =
-      let again : all_taken F C nothing_cut (flat_map stretch_atoms made.stretches) ≡ Is (Ok c) = ap (all_taken F C nothing_cut) made.same ∙ cut_is in record {
+      let again : all_taken F C nothing_cut (flat_map stretch_atoms made.stretches) ≡ Is (Ok c) = ap (all_taken F C nothing_cut) made.same
+      ∙ cut_is in record {
         list = list;
         world = w;
         gives = gives;
@@ -73,11 +87,13 @@ module _ (F : Facts) (C : Context) where
             ∙ ended.groups_are ∙ ap (λ (j : Job). Is (Ok j.groups)) (sym ended.job_is);
       }
 
-  told_from : (items : Items) (o : Outcome) (list : List Atom) (w : World) → atoms F C items ≡ Goes list tt w → Came (all_taken F C nothing_cut list) (λ c. finished F C w c) o → Told F C items o
+  told_from : (items : Items) (o : Outcome) (list : List Atom) (w : World) → atoms F C items ≡ Goes list tt w
+      → Came (all_taken F C nothing_cut list) (λ c. finished F C w c) o → Told F C items o
   told_from items o list w gives (c, is, e) = told_as items o list w c gives is (are_stretched F C items list w gives) (ended_as w c o e)
 
   told_by : (items : Items) (o : Outcome) (work : Worked (Unit {0})) → atoms F C items ≡ work → cut F C work ≡ Is (Ok o) → Told F C items o
-  told_by items o (Goes list u w) gives e = told_from items o list w gives (came (all_taken F C nothing_cut list) (λ c. finished F C w c) o e)
+  told_by items o (Goes list u w) gives e = told_from items o list w gives
+      (came (all_taken F C nothing_cut list) (λ c. finished F C w c) o e)
   told_by items o (Refuses list fault) gives e = by (came (all_taken F C nothing_cut list) (λ c. Is (Err fault)) o e)
     where
       by : Came (all_taken F C nothing_cut list) (λ c. Is (Err fault)) o → Told F C items o

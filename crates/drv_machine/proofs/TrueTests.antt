@@ -4,7 +4,7 @@ use Rattle.drv_machine.specs.Atoms.{first_true, judged, truth, turned}
 use Rattle.drv_machine.specs.Code.ByKind.{AskedTest, TrueTest, asked_step, is_call}
 use Rattle.drv_machine.specs.Context.{Context}
 use Rattle.drv_machine.specs.Code.Running.{Machine, run}
-use Rattle.drv_machine.specs.Code.Standing.{Part, Stands}
+use Rattle.drv_machine.specs.Code.Standing.{PartAt, Stands}
 use Rattle.drv_machine.specs.Working.{Answer, Levels, give}
 use Rattle.drv_machine.specs.declared.fault.MachineFault.TheVariants.{Memory}
 use Rattle.drv_machine.specs.declared.fault.MachineFault.{MachineFault}
@@ -17,20 +17,23 @@ use Rattle.drv_syntax.specs.declared.token.Token.{Token}
 use Rattle.drv_syntax.specs.declared.token.TokenKind.TheVariants as kinds
 use Rattle.drv_system.specs.Facts.{Facts}
 use Rattle.drv_system.specs.Known.{Is}
-use Rattle.std.proofs.Common.{◌≡◌, ◌⊎◌, ◌<◌, ◌≤◌, ◌+◌, ◌∙◌, Bool, Err, List, Ok, Some, ap, arith, false, if◌then◌else◌, inl, inr, not, refl, slice_get, subst, sym, true, ℕ}
+use Rattle.std.proofs.Common.{◌≡◌, ◌⊎◌, ◌<◌, ◌≤◌, ◌+◌, ◌∙◌, Bool, Err, List, Ok, Some, ap, arith, false, if◌then◌else◌, inl, inr, not, refl}
+use Rattle.std.proofs.Common.{slice_get, subst, sym, true, ℕ}
 use mathlib.Core.Bool.{beq}
 
 -- For `first_true`: the tests of an alternative are judged one after another.
 
 -- a test that is by no function
-pub asked_is : (F : Facts) (C : Context) (negated : Bool) (asked : Asked) (levels : Levels) (star : List ℕ) → is_call (test_label negated asked) ≡ false → truth F C asked levels star ≡ asked_step C (test_label negated asked)
+pub asked_is : (F : Facts) (C : Context) (negated : Bool) (asked : Asked) (levels : Levels) (star : List ℕ)
+    → is_call (test_label negated asked) ≡ false → truth F C asked levels star ≡ asked_step C (test_label negated asked)
 asked_is F C negated (tree.HasSwitch (tree.pattern word starred)) levels star e = refl
 asked_is F C negated (tree.HasSuffix word) levels star e = refl
 asked_is F C negated (tree.HasLanguage word) levels star e = refl
 asked_is F C negated (tree.HasResult name items) levels star e = absurd cc
 
 -- and one that is
-result_asked : (negated : Bool) (asked : Asked) → is_call (test_label negated asked) ≡ true → (name : List ℕ) × (items : Items) × (asked ≡ tree.HasResult name items)
+result_asked : (negated : Bool) (asked : Asked) → is_call (test_label negated asked) ≡ true
+    → (name : List ℕ) × (items : Items) × (asked ≡ tree.HasResult name items)
 result_asked negated (tree.HasSwitch (tree.pattern word starred)) e = absurd cc
 result_asked negated (tree.HasSuffix word) e = absurd cc
 result_asked negated (tree.HasLanguage word) e = absurd cc
@@ -44,28 +47,40 @@ pub record FrontTest (text : List ℕ) (at : ℕ) (tests : Tests) (end : ℕ) : 
   pub is : tests ≡ tree.test span negated asked others
   pub first : First text at kinds.Test (test_label negated asked) (asked_nodes asked) (test_nodes others) end
 
-pub front_test : (text : List ℕ) (at : ℕ) (tests : Tests) (end : ℕ) → at < end → Stands text at (test_nodes tests) end → FrontTest text at tests end
+pub front_test : (text : List ℕ) (at : ℕ) (tests : Tests) (end : ℕ) → at < end → Stands text at (test_nodes tests) end
+    → FrontTest text at tests end
 front_test text at tree.no_test end h e = absurd (omega (arith, h, e))
-front_test text at (tree.test span negated asked others) end h s = record { span = span; negated = negated; asked = asked; others = others; is = refl; first = first_of s }
+front_test text at (tree.test span negated asked others) end h s =
+    record { span = span; negated = negated; asked = asked; others = others; is = refl; first = first_of s }
 
-pub no_tests_left : (text : List ℕ) (at : ℕ) (tests : Tests) (end : ℕ) → end ≤ at → Stands text at (test_nodes tests) end → tests ≡ tree.no_test
+pub no_tests_left : (text : List ℕ) (at : ℕ) (tests : Tests) (end : ℕ) → end ≤ at → Stands text at (test_nodes tests) end
+    → tests ≡ tree.no_test
 no_tests_left text at tree.no_test end h s = refl
-no_tests_left text at (tree.test span negated asked others) end h (next, part, within, following) = absurd (omega (arith, h, part.later, stand_grows _ _ next (test_nodes others) end following))
+no_tests_left text at (tree.test span negated asked others) end h (next, part, within, following) =
+    absurd (omega (arith, h, part.later, stand_grows _ _ next (test_nodes others) end following))
 
-module _ (F : Facts) (C : Context) (s u : Machine) (span : Span) (negated : Bool) (asked : Asked) (others : Tests) (levels : Levels) (star : List ℕ) (plain : is_call (test_label negated asked) ≡ false) where
-  test_answers : (holds : Bool) → run F C s (asked_step C (test_label negated asked)) ≡ Is (Ok (holds, u)) → run F C s (first_true F C (tree.test span negated asked others) levels star) ≡ run F C u (judged F C negated asked others levels star holds)
-  test_answers holds e = then_ok F C s (truth F C asked levels star) (judged F C negated asked others levels star) holds u (ap (run F C s) (asked_is F C negated asked levels star plain) ∙ e)
+module _ (F : Facts) (C : Context) (s u : Machine) (span : Span) (negated : Bool) (asked : Asked) (others : Tests) (levels : Levels)
+    (star : List ℕ) (plain : is_call (test_label negated asked) ≡ false) where
+  test_answers : (holds : Bool) → run F C s (asked_step C (test_label negated asked)) ≡ Is (Ok (holds, u))
+      → run F C s (first_true F C (tree.test span negated asked others) levels star)
+      ≡ run F C u (judged F C negated asked others levels star holds)
+  test_answers holds e = then_ok F C s (truth F C asked levels star) (judged F C negated asked others levels star) holds u
+      (ap (run F C s) (asked_is F C negated asked levels star plain) ∙ e)
 
-  pub test_refuses : (fault : MachineFault) → run F C s (asked_step C (test_label negated asked)) ≡ Is (Err fault) → run F C s (first_true F C (tree.test span negated asked others) levels star) ≡ Is (Err fault)
-  test_refuses fault e = then_err F C s (truth F C asked levels star) (judged F C negated asked others levels star) fault (ap (run F C s) (asked_is F C negated asked levels star plain) ∙ e)
+  pub test_refuses : (fault : MachineFault) → run F C s (asked_step C (test_label negated asked)) ≡ Is (Err fault)
+      → run F C s (first_true F C (tree.test span negated asked others) levels star) ≡ Is (Err fault)
+  test_refuses fault e = then_err F C s (truth F C asked levels star) (judged F C negated asked others levels star) fault
+      (ap (run F C s) (asked_is F C negated asked levels star plain) ∙ e)
 
   pub test_is_true : (holds : Bool) → run F C s (asked_step C (test_label negated asked)) ≡ Is (Ok (holds, u)) → turned negated holds ≡ true
       → run F C s (first_true F C (tree.test span negated asked others) levels star) ≡ Is (Ok (Some asked, u))
   test_is_true holds e t = test_answers holds e ∙ ap (λ b. run F C u (if b then give (Some asked) else first_true F C others levels star)) t
 
-  pub test_is_false : (holds : Bool) → run F C s (asked_step C (test_label negated asked)) ≡ Is (Ok (holds, u)) → turned negated holds ≡ false
+  pub test_is_false : (holds : Bool) → run F C s (asked_step C (test_label negated asked)) ≡ Is (Ok (holds, u))
+      → turned negated holds ≡ false
       → run F C s (first_true F C (tree.test span negated asked others) levels star) ≡ run F C u (first_true F C others levels star)
-  test_is_false holds e t = test_answers holds e ∙ ap (λ b. run F C u (if b then give (Some asked) else first_true F C others levels star)) t
+  test_is_false holds e t = test_answers holds e ∙ ap
+      (λ b. run F C u (if b then give (Some asked) else first_true F C others levels star)) t
 
 turned_is : (holds negated : Bool) → turned negated holds ≡ not (beq holds negated)
 turned_is true true = refl
@@ -79,25 +94,35 @@ negated_is negated (tree.HasSuffix word) = refl
 negated_is negated (tree.HasLanguage word) = refl
 negated_is negated (tree.HasResult name items) = refl
 
-pub negated_kept : (kept : Bool) (asked : Asked) (text : List ℕ) (at : ℕ) (holds negated b : Bool) → negated ≡ (label_at (tree_of text) at).negated → label_at (tree_of text) at ≡ test_label kept asked → not (beq holds negated) ≡ b → turned kept holds ≡ b
-negated_kept kept asked text at holds negated b n label e = ap (λ m. turned m holds) (sym (negated_is kept asked) ∙ ap (λ (l : Label). l.negated) (sym label) ∙ sym n) ∙ turned_is holds negated ∙ e
+pub negated_kept : (kept : Bool) (asked : Asked) (text : List ℕ) (at : ℕ) (holds negated b : Bool)
+    → negated ≡ (label_at (tree_of text) at).negated → label_at (tree_of text) at ≡ test_label kept asked → not (beq holds negated) ≡ b
+    → turned kept holds ≡ b
+negated_kept kept asked text at holds negated b n label e =
+    ap (λ m. turned m holds) (sym (negated_is kept asked) ∙ ap (λ (l : Label). l.negated) (sym label) ∙ sym n) ∙ turned_is holds negated ∙ e
 
 -- the tests that are left at a place, and the state that was there and that is
 abbrev pub TestsLeft : Facts → Context → List ℕ → Machine → Machine → ℕ → ℕ → Tests → Levels → List ℕ → Type 0
-TestsLeft F C text s t at end tests levels star = PartsLeft test_nodes text at end (λ rest. run F C t (first_true F C rest levels star) ≡ run F C s (first_true F C tests levels star))
+TestsLeft F C text s t at end tests levels star = PartsLeft test_nodes text at end
+    (λ rest. run F C t (first_true F C rest levels star) ≡ run F C s (first_true F C tests levels star))
 
-module _ (F : Facts) (C : Context) (text : List ℕ) (s v : Machine) (at end : ℕ) (h : at < end) (tests : Tests) (levels : Levels) (star : List ℕ) (left : TestsLeft F C text s v at end tests levels star) where
-  turned_at : (f : FrontTest text at left.rest end) (holds negated b : Bool) → negated ≡ (label_at (tree_of text) at).negated → not (beq holds negated) ≡ b → turned f.negated holds ≡ b
+module _ (F : Facts) (C : Context) (text : List ℕ) (s v : Machine) (at end : ℕ) (h : at < end) (tests : Tests) (levels : Levels)
+    (star : List ℕ) (left : TestsLeft F C text s v at end tests levels star) where
+  turned_at : (f : FrontTest text at left.rest end) (holds negated b : Bool) → negated ≡ (label_at (tree_of text) at).negated
+      → not (beq holds negated) ≡ b → turned f.negated holds ≡ b
   turned_at f holds negated b n e =
-      ap (λ m. turned m holds) (sym (negated_is f.negated f.asked) ∙ ap (λ (l : Label). l.negated) (sym f.first.part.label_is) ∙ sym n) ∙ turned_is holds negated ∙ e
+      ap (λ m. turned m holds) (sym (negated_is f.negated f.asked) ∙ ap (λ (l : Label). l.negated) (sym f.first.part.label_is) ∙ sym n)
+      ∙ turned_is holds negated ∙ e
 
-  asks_at : (f : FrontTest text at left.rest end) (given : Answer (Bool × Machine)) → run F C v (asked_step C (label_at (tree_of text) at)) ≡ given → run F C v (asked_step C (test_label f.negated f.asked)) ≡ given
+  asks_at : (f : FrontTest text at left.rest end) (given : Answer (Bool × Machine))
+      → run F C v (asked_step C (label_at (tree_of text) at)) ≡ given → run F C v (asked_step C (test_label f.negated f.asked)) ≡ given
   asks_at f given e = ap (λ l. run F C v (asked_step C l)) (sym f.first.part.label_is) ∙ e
 
-  from_rest : (f : FrontTest text at left.rest end) → run F C s (first_true F C tests levels star) ≡ run F C v (first_true F C (tree.test f.span f.negated f.asked f.others) levels star)
+  from_rest : (f : FrontTest text at left.rest end) → run F C s (first_true F C tests levels star)
+      ≡ run F C v (first_true F C (tree.test f.span f.negated f.asked f.others) levels star)
   from_rest f = sym left.same ∙ ap (λ ts. run F C v (first_true F C ts levels star)) f.is
 
-  plain_at : (f : FrontTest text at left.rest end) (b : Bool) → is_call (label_at (tree_of text) at) ≡ b → is_call (test_label f.negated f.asked) ≡ b
+  plain_at : (f : FrontTest text at left.rest end) (b : Bool) → is_call (label_at (tree_of text) at) ≡ b
+      → is_call (test_label f.negated f.asked) ≡ b
   plain_at f b e = ap is_call (sym f.first.part.label_is) ∙ e
 
   -- here is a test by a function
@@ -110,33 +135,42 @@ module _ (F : Facts) (C : Context) (text : List ℕ) (s v : Machine) (at end : �
         arguments = r.1;
         others = f.others;
         next = f.first.next;
-        part = subst (λ (a : Asked). Part (tokens_of (tree_of text)) (labels_of (tree_of text)) at kinds.Test (test_label f.negated a) f.first.next) r.2 f.first.part;
+        part = subst (λ (a : Asked). PartAt (tokens_of (tree_of text)) (labels_of (tree_of text)) at kinds.Test
+            (test_label f.negated a) f.first.next) r.2 f.first.part;
         within = subst (λ (a : Asked). Stands text (at + 1) (asked_nodes a) f.first.next) r.2 f.first.within;
         following = f.first.following;
         gives = from_rest f ∙ ap (λ (a : Asked). run F C v (first_true F C (tree.test f.span f.negated a f.others) levels star)) r.2;
       }
 
-  pub found_true : (plain : is_call (label_at (tree_of text) at) ≡ false) (u : Machine) (holds negated : Bool) → negated ≡ (label_at (tree_of text) at).negated → run F C v (asked_step C (label_at (tree_of text) at)) ≡ Is (Ok (holds, u))
+  pub found_true : (plain : is_call (label_at (tree_of text) at) ≡ false) (u : Machine) (holds negated : Bool)
+      → negated ≡ (label_at (tree_of text) at).negated → run F C v (asked_step C (label_at (tree_of text) at)) ≡ Is (Ok (holds, u))
       → not (beq holds negated) ≡ true → TrueTest F C text s u at (first_true F C tests levels star)
   found_true plain u holds negated n e t =
       let f = front_test text at left.rest end h left.stands in record {
         negated = f.negated;
         asked = f.asked;
         label_is = f.first.part.label_is;
-        gives = from_rest f ∙ test_is_true F C v u f.span f.negated f.asked f.others levels star (plain_at f false plain) holds (asks_at f (Is (Ok (holds, u))) e) (turned_at f holds negated true n t);
+        gives = from_rest f ∙ test_is_true F C v u f.span f.negated f.asked f.others levels star (plain_at f false plain) holds
+            (asks_at f (Is (Ok (holds, u))) e) (turned_at f holds negated true n t);
       }
 
-  pub found_false : (plain : is_call (label_at (tree_of text) at) ≡ false) (u : Machine) (holds negated : Bool) → negated ≡ (label_at (tree_of text) at).negated → run F C v (asked_step C (label_at (tree_of text) at)) ≡ Is (Ok (holds, u))
-      → not (beq holds negated) ≡ false → (token : Token) → slice_get (tokens_of (tree_of text)) at ≡ Some token → TestsLeft F C text s u token.next end tests levels star
+  pub found_false : (plain : is_call (label_at (tree_of text) at) ≡ false) (u : Machine) (holds negated : Bool)
+      → negated ≡ (label_at (tree_of text) at).negated → run F C v (asked_step C (label_at (tree_of text) at)) ≡ Is (Ok (holds, u))
+      → not (beq holds negated) ≡ false → (token : Token) → slice_get (tokens_of (tree_of text)) at ≡ Some token
+      → TestsLeft F C text s u token.next end tests levels star
   found_false plain u holds negated n e t token there =
       let f = front_test text at left.rest end h left.stands in record {
         rest = f.others;
         stands = stands_after f.first token there;
-        same = sym (from_rest f ∙ test_is_false F C v u f.span f.negated f.asked f.others levels star (plain_at f false plain) holds (asks_at f (Is (Ok (holds, u))) e) (turned_at f holds negated false n t));
+        same = sym (from_rest f ∙ test_is_false F C v u f.span f.negated f.asked f.others levels star (plain_at f false plain) holds
+            (asks_at f (Is (Ok (holds, u))) e) (turned_at f holds negated false n t));
       }
 
-  pub found_refusal : (plain : is_call (label_at (tree_of text) at) ≡ false) (fault : MachineFault) → (fault ≡ Memory) ⊎ (run F C v (asked_step C (label_at (tree_of text) at)) ≡ Is (Err fault)) → (fault ≡ Memory) ⊎ (run F C s (first_true F C tests levels star) ≡ Is (Err fault))
+  pub found_refusal : (plain : is_call (label_at (tree_of text) at) ≡ false) (fault : MachineFault)
+      → (fault ≡ Memory) ⊎ (run F C v (asked_step C (label_at (tree_of text) at)) ≡ Is (Err fault))
+      → (fault ≡ Memory) ⊎ (run F C s (first_true F C tests levels star) ≡ Is (Err fault))
   found_refusal plain fault (inl memory) = inl memory
   found_refusal plain fault (inr e) =
       let f = front_test text at left.rest end h left.stands in
-      inr (from_rest f ∙ test_refuses F C v v f.span f.negated f.asked f.others levels star (plain_at f false plain) fault (asks_at f (Is (Err fault)) e))
+      inr (from_rest f ∙ test_refuses F C v v f.span f.negated f.asked f.others levels star (plain_at f false plain) fault
+      (asks_at f (Is (Err fault)) e))

@@ -1,13 +1,15 @@
 use Rattle.drv_machine.proofs.ItemKinds.{failure_item, filed_item, function_item, inner_step}
 use Rattle.drv_machine.proofs.Lying.{Reached, lies_alone, place_in, reached}
-use Rattle.drv_machine.proofs.Onward.{Popped, after_in, after_item, builtin_there, choices_there, closes, count_stops, kind_there, leaf, means_there, none_open, part_ended, popped, same_step, step_there, text_there}
+use Rattle.drv_machine.proofs.Onward.{Popped, after_in, after_item, builtin_there, choices_there, closes, count_stops, kind_there, leaf}
+use Rattle.drv_machine.proofs.Onward.{means_there, none_open, part_ended, popped, same_step, step_there, text_there}
 use Rattle.drv_machine.proofs.Standing.{next_at, some_same, stand_grows}
 use Rattle.drv_machine.specs.Atoms.{choices_step, item_step, items_step, levels_left, named, tree_named}
 use Rattle.drv_machine.specs.Code.ByKind.{Means, kind_step}
 use Rattle.drv_machine.specs.Context.{Context}
 use Rattle.drv_machine.specs.Code.Running.{Machine, run}
 use Rattle.drv_machine.specs.Code.Standing.{Spans, Stands}
-use Rattle.drv_machine.specs.Code.Walking.{After, AtItem, Following, HasFrames, Kept, Lain, Left, Lies, OpenedFits, Went, back_of, closing, ends, levels_in, onward, star_of, text_around}
+use Rattle.drv_machine.specs.Code.Walking.{After, AtItem, Following, HasFrames, Kept, Lain, Left, Lies, OpenedFits, Went, back_of, closing}
+use Rattle.drv_machine.specs.Code.Walking.{ends, levels_in, onward, star_of, text_around}
 use Rattle.drv_machine.specs.Working.{◌>>-◌, Answer, Levels, Step, bytes, counted, most_open}
 use Rattle.drv_machine.specs.declared.fault.MachineFault.TheVariants.{Memory}
 use Rattle.drv_machine.specs.declared.fault.MachineFault.{MachineFault}
@@ -24,26 +26,37 @@ use Rattle.drv_syntax.specs.declared.token.TokenKind.{TokenKind}
 use Rattle.drv_system.specs.Facts.{Facts}
 use Rattle.drv_system.specs.Gives.{GivesKnown}
 use Rattle.drv_system.specs.Known.{Is, Unasked}
-use Rattle.std.proofs.Common.{◌≡◌, ◌⊎◌, ◌<◌, ◌≤◌, ◌+◌, ◌++◌, ◌∙◌, Err, List, [], ◌∷◌, None, Ok, Option, Result, Some, ap, arith, length, refl, slice_get, subst, suc, sym, zero, ℕ}
+use Rattle.std.proofs.Common.{◌≡◌, ◌⊎◌, ◌<◌, ◌≤◌, ◌+◌, ◌++◌, ◌∙◌, Err, List, [], ◌∷◌, None, Ok, Option, Result, Some, ap, arith, length}
+use Rattle.std.proofs.Common.{refl, slice_get, subst, suc, sym, zero, ℕ}
 use Rattle.std.proofs.lemmas.Bool.{false≢true}
 use Rattle.std.specs.Prelude.{◌↔◌, IsSome}
 
 -- For `turn`: one turn of the loop keeps `Left`, or ends in the defined refusal.
 
 -- the walk has gone on in the innermost part
-pub left_at : (F : Facts) (C : Context) (text : List ℕ) (w : Walk) (at : ℕ) (s : Machine) (given : Answer (Unit {0} × Machine)) → ((rest : Items) → Lies text w.at rest w.end → Lies text at rest w.end) → Left F C text w s given
+pub left_at : (F : Facts) (C : Context) (text : List ℕ) (w : Walk) (at : ℕ) (s : Machine) (given : Answer (Unit {0} × Machine))
+    → ((rest : Items) → Lies text w.at rest w.end → Lies text at rest w.end) → Left F C text w s given
     → Left F C text (record w { at = at }) s given
-left_at F C text w at s given lies left = record { rest = left.rest; arounds = left.arounds; lies = lies left.rest left.lies; framed = left.framed; same = left.same }
+left_at F C text w at s given lies left = record {
+  rest = left.rest;
+  arounds = left.arounds;
+  lies = lies left.rest left.lies;
+  framed =
+      left.framed;
+  same = left.same;
+}
 
 -- the token that is reached is of an item
-pub at_item : (text : List ℕ) (w : Walk) (token : Token) → w.at < w.end → slice_get (tokens_of (tree_of text)) w.at ≡ Some token → (token.kind ≡ kinds.Alternative → ⊥) → AtItem text w
+pub at_item : (text : List ℕ) (w : Walk) (token : Token) → w.at < w.end → slice_get (tokens_of (tree_of text)) w.at ≡ Some token
+    → (token.kind ≡ kinds.Alternative → ⊥) → AtItem text w
 at_item text w token h there never = record {
   before_end = h;
   no_alternative = λ other e k. never (ap (λ (t : Token). t.kind) (some_same token other (sym there ∙ e)) ∙ k);
 }
 
 -- a plain byte is an item
-pub plain_item : (text : List ℕ) (w : Walk) (token : Token) → w.at < w.end → slice_get (tokens_of (tree_of text)) w.at ≡ Some token → token.kind ≡ kinds.Plain → AtItem text w
+pub plain_item : (text : List ℕ) (w : Walk) (token : Token) → w.at < w.end → slice_get (tokens_of (tree_of text)) w.at ≡ Some token
+    → token.kind ≡ kinds.Plain → AtItem text w
 plain_item text w token h there plain = at_item text w token h there (λ k. let z : kinds.Plain ≡ kinds.Alternative = sym plain ∙ k in cc)
 
 -- the same by another name of the text
@@ -53,11 +66,16 @@ item_in text other w e item = subst (λ (t : List ℕ). AtItem t w) (sym e) item
 pub at_place : (text : List ℕ) (w : Walk) → Lain text w → AtItem text w → w.at < length (tokens_of (tree_of text))
 at_place text w lain item = place_in text w.at lain.rest w.end item.before_end lain.lies
 
-module _ (text : List ℕ) (w : Walk) (item : AtItem text w) (token : Token) (there : slice_get (tokens_of (tree_of text)) w.at ≡ Some token) where
+module _ (text : List ℕ) (w : Walk) (item : AtItem text w) (token : Token)
+    (there : slice_get (tokens_of (tree_of text)) w.at ≡ Some token) where
   pub inner_there : Lain text w → Spans text (w.at + 1) token.next
   inner_there lain =
       let r = reached text w.at lain.rest w.end item.before_end item.no_alternative lain.lies in
-      record { nodes = inner_nodes r.item; stands = subst (λ (k : ℕ). Stands text (w.at + 1) (inner_nodes r.item) k) (sym (next_at text w.at token (kind_of r.item) (label_of r.item) r.next there r.part)) r.within }
+      record {
+        nodes = inner_nodes r.item;
+        stands = subst (λ (k : ℕ). Stands text (w.at + 1) (inner_nodes r.item) k)
+            (sym (next_at text w.at token (kind_of r.item) (label_of r.item) r.next there r.part)) r.within;
+      }
 
   pub inner_later : Lain text w → w.at + 1 ≤ token.next
   inner_later lain = let inner = inner_there lain in stand_grows _ _ (w.at + 1) inner.nodes token.next inner.stands
@@ -66,72 +84,92 @@ module _ (text : List ℕ) (w : Walk) (item : AtItem text w) (token : Token) (th
   pub lain_after : Lain text w → Lain text (record w { at = token.next })
   lain_after lain =
       let r = reached text w.at lain.rest w.end item.before_end item.no_alternative lain.lies in
-      record { rest = r.others; lies = subst (λ (k : ℕ). Lies text k r.others w.end) (sym (next_at text w.at token (kind_of r.item) (label_of r.item) r.next there r.part)) r.following }
+      record {
+        rest = r.others;
+        lies = subst (λ (k : ℕ). Lies text k r.others w.end)
+            (sym (next_at text w.at token (kind_of r.item) (label_of r.item) r.next there r.part)) r.following;
+      }
 
   module _ (F : Facts) (C : Context) (s : Machine) (given : Answer (Unit {0} × Machine)) (left : Left F C text w s given) where
     pub front : Reached text w.at left.rest w.end
     front = reached text w.at left.rest w.end item.before_end item.no_alternative left.lies
 
-    pub turn_uncounted : (fault : MachineFault) → (fault ≡ Memory) ⊎ (run F C s counted ≡ Is (Err fault)) → (fault ≡ Memory) ⊎ (given ≡ Is (Err fault))
+    pub turn_uncounted : (fault : MachineFault) → (fault ≡ Memory) ⊎ (run F C s counted ≡ Is (Err fault))
+        → (fault ≡ Memory) ⊎ (given ≡ Is (Err fault))
     turn_uncounted fault stopped = count_stops F C text w s given left front fault stopped
 
     module _ (u : Machine) (e : run F C s counted ≡ Is (Ok (tt, u))) where
       pub counted_item : Following F C text w token.next (λ levels star. item_step F C front.item levels star) u given
       counted_item =
-          subst (λ (k : ℕ). Following F C text w k (λ levels star. item_step F C front.item levels star) u given) (sym (next_at text w.at token (kind_of front.item) (label_of front.item) front.next there front.part))
+          subst (λ (k : ℕ). Following F C text w k (λ levels star. item_step F C front.item levels star) u given)
+          (sym (next_at text w.at token (kind_of front.item) (label_of front.item) front.next there front.part))
           (after_item F C text w s given left front u e)
 
       -- an item that opens no part
       pub turn_item : (result : Result (Unit {0}) MachineFault) (t : Machine)
           → ((levels : Levels) (inner : Step (Unit {0})) → Means F C text token.kind (w.at + 1) token.next levels (star_of C w.star) inner
-          → GivesKnown Memory (λ x. (tt, t)) result (run F C u (kind_step F C token.kind (label_at (tree_of text) w.at) (star_of C w.star) inner)))
+          → GivesKnown Memory (λ x. (tt, t)) result (run F C u
+          (kind_step F C token.kind (label_at (tree_of text) w.at) (star_of C w.star) inner)))
           → Went F C text (record w { at = token.next }) t given result
       turn_item result t worked =
           let levels = levels_in F C counted_item.arounds in
           leaf F C text w u given token.next (λ levels star. item_step F C front.item levels star) counted_item result t
           (subst (λ step. GivesKnown Memory (λ x. (tt, t)) result (run F C u step))
-          (step_there F C text w.at front.next (levels_in F C counted_item.arounds) (star_of C w.star) front.item front.part front.within token there)
+          (step_there F C text w.at front.next (levels_in F C counted_item.arounds)
+          (star_of C w.star) front.item front.part front.within token there)
           (worked (levels_in F C counted_item.arounds) (inner_step F C front.item (levels_in F C counted_item.arounds) (star_of C w.star))
-          (means_there F C text w.at front.next (levels_in F C counted_item.arounds) (star_of C w.star) front.item front.part front.within token there)))
+          (means_there F C text w.at front.next (levels_in F C counted_item.arounds)
+          (star_of C w.star) front.item front.part front.within token there)))
 
       -- a plain byte
-      pub turn_plain : token.kind ≡ kinds.Plain → (word : List ℕ) → word ≡ (label_at (tree_of text) w.at).word → (result : Result (Unit {0}) MachineFault) (t : Machine)
+      pub turn_plain : token.kind ≡ kinds.Plain → (word : List ℕ) → word ≡ (label_at (tree_of text) w.at).word
+          → (result : Result (Unit {0}) MachineFault) (t : Machine)
           → GivesKnown Memory (λ x. (tt, t)) result (run F C u (bytes word)) → Went F C text (record w { at = token.next }) t given result
       turn_plain k word is result t put =
           turn_item result t
-          (λ levels inner means. subst (λ (kind : TokenKind). GivesKnown Memory (λ x. (tt, t)) result (run F C u (kind_step F C kind (label_at (tree_of text) w.at) (star_of C w.star) inner))) (sym k)
+          (λ levels inner means. subst (λ (kind : TokenKind). GivesKnown Memory (λ x. (tt, t)) result
+          (run F C u (kind_step F C kind (label_at (tree_of text) w.at) (star_of C w.star) inner))) (sym k)
           (subst (λ (n : List ℕ). GivesKnown Memory (λ x. (tt, t)) result (run F C u (bytes n))) is put))
 
       -- a named text, from the place after it
       text_after : (name : List ℕ) → name ≡ (label_at (tree_of text) w.at).word
-          → item_step F C front.item (levels_in F C counted_item.arounds) (star_of C w.star) ≡ named F C (tree_named F C (label_at (tree_of text) w.at).word) (levels_in F C counted_item.arounds)
+          → item_step F C front.item (levels_in F C counted_item.arounds) (star_of C w.star)
+          ≡ named F C (tree_named F C (label_at (tree_of text) w.at).word) (levels_in F C counted_item.arounds)
           → Following F C text (record w { at = token.next }) token.next (λ levels star. named F C (tree_named F C name) levels) u given
       text_after name is step =
-          subst (λ (n : List ℕ). Following F C text (record w { at = token.next }) token.next (λ levels star. named F C (tree_named F C n) levels) u given) (sym is)
-          (after_in F C text w (record w { at = token.next }) token.next (λ levels star. named F C (tree_named F C (label_at (tree_of text) w.at).word) levels) u given refl refl refl
-          (same_step F C text w u given token.next (λ levels star. item_step F C front.item levels star) counted_item (λ levels star. named F C (tree_named F C (label_at (tree_of text) w.at).word) levels) u (ap (run F C u) step)))
+          subst (λ (n : List ℕ). Following F C text (record w { at = token.next }) token.next
+          (λ levels star. named F C (tree_named F C n) levels) u given) (sym is)
+          (after_in F C text w (record w { at = token.next }) token.next
+          (λ levels star. named F C (tree_named F C (label_at (tree_of text) w.at).word) levels) u given refl refl refl
+          (same_step F C text w u given token.next (λ levels star. item_step F C front.item levels star) counted_item
+          (λ levels star. named F C (tree_named F C (label_at (tree_of text) w.at).word) levels) u (ap (run F C u) step)))
 
       pub turn_text : token.kind ≡ kinds.NamedText → (name : List ℕ) → name ≡ (label_at (tree_of text) w.at).word
           → Following F C text (record w { at = token.next }) token.next (λ levels star. named F C (tree_named F C name) levels) u given
       turn_text k name is =
-          text_after name is (text_there F C text w.at front.next (levels_in F C counted_item.arounds) (star_of C w.star) front.item front.part front.within token there k)
+          text_after name is (text_there F C text w.at front.next (levels_in F C counted_item.arounds)
+          (star_of C w.star) front.item front.part front.within token there k)
 
       pub turn_builtin : token.kind ≡ kinds.BuiltinText → (name : List ℕ) → name ≡ (label_at (tree_of text) w.at).word
           → Following F C text (record w { at = token.next }) token.next (λ levels star. named F C (tree_named F C name) levels) u given
       turn_builtin k name is =
-          text_after name is (builtin_there F C text w.at front.next (levels_in F C counted_item.arounds) (star_of C w.star) front.item front.part front.within token there k)
+          text_after name is (builtin_there F C text w.at front.next (levels_in F C counted_item.arounds)
+          (star_of C w.star) front.item front.part front.within token there k)
 
       -- what is inside the item
       inside_there : Stands text (w.at + 1) (inner_nodes front.item) token.next
       inside_there =
-          subst (λ (k : ℕ). Stands text (w.at + 1) (inner_nodes front.item) k) (sym (next_at text w.at token (kind_of front.item) (label_of front.item) front.next there front.part)) front.within
+          subst (λ (k : ℕ). Stands text (w.at + 1) (inner_nodes front.item) k)
+          (sym (next_at text w.at token (kind_of front.item) (label_of front.item) front.next there front.part)) front.within
 
       item_kind : token.kind ≡ kind_of front.item
-      item_kind = kind_there F C text w.at front.next (levels_in F C counted_item.arounds) (star_of C w.star) front.item front.part front.within token there
+      item_kind = kind_there F C text w.at front.next (levels_in F C counted_item.arounds)
+          (star_of C w.star) front.item front.part front.within token there
 
       -- a %W
       pub turn_failure : token.kind ≡ kinds.FailureFile → (P : Type 0)
-          → ((brace : Brace) → Stands text (w.at + 1) (brace_nodes brace) token.next → Following F C text w token.next (λ levels star. item_step F C (tree.FailureFile brace) levels star) u given → P) → P
+          → ((brace : Brace) → Stands text (w.at + 1) (brace_nodes brace) token.next
+          → Following F C text w token.next (λ levels star. item_step F C (tree.FailureFile brace) levels star) u given → P) → P
       turn_failure k P opening =
           let f = failure_item front.item (sym item_kind ∙ k) in
           opening f.0 (subst (λ (x : Item). Stands text (w.at + 1) (inner_nodes x) token.next) f.1 inside_there)
@@ -139,7 +177,8 @@ module _ (text : List ℕ) (w : Walk) (item : AtItem text w) (token : Token) (th
 
       -- a %@
       pub turn_filed : token.kind ≡ kinds.ArgumentsFile → (P : Type 0)
-          → ((brace : Brace) → Stands text (w.at + 1) (brace_nodes brace) token.next → Following F C text w token.next (λ levels star. item_step F C (tree.ArgumentsFile brace) levels star) u given → P) → P
+          → ((brace : Brace) → Stands text (w.at + 1) (brace_nodes brace) token.next
+          → Following F C text w token.next (λ levels star. item_step F C (tree.ArgumentsFile brace) levels star) u given → P) → P
       turn_filed k P opening =
           let f = filed_item front.item (sym item_kind ∙ k) in
           opening f.0 (subst (λ (x : Item). Stands text (w.at + 1) (inner_nodes x) token.next) f.1 inside_there)
@@ -147,7 +186,8 @@ module _ (text : List ℕ) (w : Walk) (item : AtItem text w) (token : Token) (th
 
       -- a function
       pub turn_function : token.kind ≡ kinds.Function → (P : Type 0)
-          → ((name : List ℕ) (items : Items) → (label_at (tree_of text) w.at).word ≡ name → Stands text (w.at + 1) (nodes_of items) token.next
+          → ((name : List ℕ) (items : Items) → (label_at (tree_of text) w.at).word ≡ name
+          → Stands text (w.at + 1) (nodes_of items) token.next
           → Following F C text w token.next (λ levels star. item_step F C (tree.Function name items) levels star) u given → P) → P
       turn_function k P opening =
           let f = function_item front.item (sym item_kind ∙ k) in
@@ -157,32 +197,40 @@ module _ (text : List ℕ) (w : Walk) (item : AtItem text w) (token : Token) (th
 
       -- a brace with alternatives
       pub turn_choose : token.kind ≡ kinds.Choose → (P : Type 0)
-          → ((choices : Choices) → Stands text (w.at + 1) (choice_nodes choices) token.next → Following F C text w token.next (λ levels star. choices_step F C choices levels star) u given → P) → P
+          → ((choices : Choices) → Stands text (w.at + 1) (choice_nodes choices) token.next
+          → Following F C text w token.next (λ levels star. choices_step F C choices levels star) u given → P) → P
       turn_choose k P chosen =
-          let ch = choices_there F C text w.at front.next (levels_in F C counted_item.arounds) (star_of C w.star) front.item front.part front.within token there k in
+          let ch = choices_there F C text w.at front.next (levels_in F C counted_item.arounds)
+          (star_of C w.star) front.item front.part front.within token there k in
           chosen ch.0 ch.1
-          (same_step F C text w u given token.next (λ levels star. item_step F C front.item levels star) counted_item (λ levels star. choices_step F C ch.0 levels star) u (ap (run F C u) ch.2))
+          (same_step F C text w u given token.next (λ levels star. item_step F C front.item levels star) counted_item
+          (λ levels star. choices_step F C ch.0 levels star) u (ap (run F C u) ch.2))
 
 -- an open part has ended
-module _ (text : List ℕ) (w : Walk) (h : w.end ≤ w.at) (frame : Frame) (outer : List Frame) (popped_is : w.frames ≡ outer ++ frame ∷ []) where
+module _ (text : List ℕ) (w : Walk) (h : w.end ≤ w.at) (frame : Frame) (outer : List Frame)
+    (popped_is : w.frames ≡ outer ++ frame ∷ []) where
   module _ (F : Facts) (C : Context) (s : Machine) (given : Answer (Unit {0} × Machine)) (left : Left F C text w s given) where
     inner : Popped text C left.arounds frame outer
     inner = popped text C w.frames left.arounds outer frame left.framed popped_is
 
     abbrev opened_fits : OpenedFits text C frame.opened inner.around.pattern inner.around.items inner.around.kept
-    opened_fits = subst (λ (x : Frame). OpenedFits text C x.opened inner.around.pattern inner.around.items inner.around.kept) inner.frame_is inner.fits.opened
+    opened_fits = subst (λ (x : Frame). OpenedFits text C x.opened inner.around.pattern inner.around.items inner.around.kept) inner.frame_is
+        inner.fits.opened
 
     pub can_close : (p : Pattern) × (items : Items) × (kept : Kept) × OpenedFits text C frame.opened p items kept
     can_close = (inner.around.pattern, inner.around.items, inner.around.kept, opened_fits)
 
     pub closed : (v : Walk) → v.end ≡ frame.end → v.star ≡ frame.star → v.frames ≡ outer → (P : Type 0)
         → ((p : Pattern) (items : Items) (kept : Kept) → OpenedFits text C frame.opened p items kept
-        → After F C (text_around text frame.opened) v (back_of frame.opened) (λ levels star t. closing F C levels star frame.opened p items kept t) s given → P) → P
+        → After F C (text_around text frame.opened) v (back_of frame.opened)
+        (λ levels star t. closing F C levels star frame.opened p items kept t) s given → P) → P
     closed v e f g P following =
-        following inner.around.pattern inner.around.items inner.around.kept opened_fits (closes F C text w s given left h frame outer inner v e f g)
+        following inner.around.pattern inner.around.items inner.around.kept opened_fits
+        (closes F C text w s given left h frame outer inner v e f g)
 
 -- the walk is at its end
-pub walk_ended : (F : Facts) (C : Context) (text : List ℕ) (w : Walk) (s : Machine) (given : Answer (Unit {0} × Machine)) → w.end ≤ w.at → length w.frames ≡ 0 → Left F C text w s given → given ≡ Is (Ok (tt, s))
+pub walk_ended : (F : Facts) (C : Context) (text : List ℕ) (w : Walk) (s : Machine) (given : Answer (Unit {0} × Machine)) → w.end ≤ w.at
+    → length w.frames ≡ 0 → Left F C text w s given → given ≡ Is (Ok (tt, s))
 walk_ended F C text w s given h n left =
     sym (part_ended F C text w s given left h) ∙ ap (λ list. ends F C list s) (none_open text C w.frames left.arounds left.framed n)
 
@@ -211,12 +259,15 @@ module _ (F : Facts) (C : Context) (text : List ℕ) (w : Walk) (s : Machine) wh
   started items end stands at_is end_is star_is frames_is = record {
     rest = items;
     arounds = [];
-    lies = subst (λ (k : ℕ). Lies text k items w.end) (sym at_is) (subst (λ (k : ℕ). Lies text 0 items k) (sym end_is) (lies_alone text items 0 end stands));
+    lies = subst (λ (k : ℕ). Lies text k items w.end) (sym at_is)
+        (subst (λ (k : ℕ). Lies text 0 items k) (sym end_is) (lies_alone text items 0 end stands));
     framed = frames_is;
-    same = ap (λ star. onward F C star items [] s) star_is ∙ nothing_after (run F C s (items_step F C items (levels_left F C most_open) []));
+    same = ap (λ star. onward F C star items [] s) star_is
+        ∙ nothing_after (run F C s (items_step F C items (levels_left F C most_open) []));
   }
 
 -- no frame was there
 pub none_popped : (result : Option Frame) (n : ℕ) → (IsSome result ↔ (0 < n)) → result ≡ None → n ≡ 0
 none_popped result zero v e = refl
-none_popped result (suc n) v e = let some : IsSome {T = Frame} None = subst (λ (o : Option Frame). IsSome o) e (v.1 (omega arith)) in absurd (false≢true some)
+none_popped result (suc n) v e = let some : IsSome {T = Frame} None = subst (λ (o : Option Frame). IsSome o) e (v.1 (omega arith)) in
+    absurd (false≢true some)

@@ -5,7 +5,9 @@ use Rattle.drv_machine.specs.Context.{Context, Source, argument, names, site_of,
 use Rattle.drv_machine.specs.Cutting.{all_taken, argument_words, file_words, nothing_cut}
 use Rattle.drv_machine.specs.Temps.{last_drawn, temp_name}
 use Rattle.drv_machine.specs.Names.{is_word, language_of, suffix_of}
-use Rattle.drv_machine.specs.Working.{◌>>-◌, ◌>>=◌, ◌>>◌, Atom, Break, End, FileFrom, FileTo, From, Goes, Levels, Marked, Piped, Put, Refuses, Step, To, Waits, Without, Worked, World, following, bytes, called, change, counted, give, is_among, known, look, most_open, needs, nothing, opened, puts, refuse, word_of, words}
+use Rattle.drv_machine.specs.Working.{◌>>-◌, ◌>>=◌, ◌>>◌, Atom, Break, End, FileFrom, FileTo, From, Goes, Levels, Marked, Piped, Put}
+use Rattle.drv_machine.specs.Working.{Refuses, Step, To, Waits, Without, Worked, World, following, bytes, called, change, counted, give}
+use Rattle.drv_machine.specs.Working.{is_among, known, look, most_open, needs, nothing, opened, puts, refuse, word_of, words}
 use Rattle.drv_machine.specs.declared.fault.MachineFault.TheVariants as fault
 use Rattle.drv_machine.specs.declared.fault.MachineFault.TheVariants.{NoInput, NotInLink}
 use Rattle.drv_machine.specs.declared.machine.marking.Mark.TheVariants.{AsFile, AsOutput, AsRemoved, AsScript}
@@ -19,8 +21,13 @@ use Rattle.drv_syntax.specs.declared.token.TempKind.{TempKind}
 use Rattle.drv_syntax.specs.Parsed.{tree_of}
 use Rattle.drv_syntax.specs.Stars.{has_star}
 use Rattle.drv_syntax.specs.Tree as tree
-use Rattle.drv_syntax.specs.Tree.{AddOption, ArgumentsFile, Asked, Blank, Brace, Braces, BuiltinText, Choices, Choose, Emit, Escape, FailureFile, Function, HasLanguage, HasResult, HasSuffix, HasSwitch, Hide, Item, Items, NamedText, Newline, Notice, Pattern, Pipe, Plain, Span, Star, TempName, Tests, UserError, choice, more, no_choice, no_test, none, pattern, test}
-use Rattle.drv_syntax.specs.declared.token.Leaf.TheVariants.{AssemblerOptions, BaseName, BaseStem, Directories, FoundFile, FoundScript, InputName, LinkerOptions, NoOutput, ObjectSuffix, Output, Outputs, Percent, PreprocessorOptions, Removed}
+use Rattle.drv_syntax.specs.Tree.{AddOption, ArgumentsFile, Asked, Blank, Brace, Braces, BuiltinText, Choices, Choose, Emit, Escape}
+use Rattle.drv_syntax.specs.Tree.{FailureFile, Function, HasLanguage, HasResult, HasSuffix, HasSwitch, Hide, Item, Items, NamedText}
+use Rattle.drv_syntax.specs.Tree.{Newline, Notice, Pattern, Pipe, Plain, Span, Star, TempName, Tests, UserError, choice, more, no_choice}
+use Rattle.drv_syntax.specs.Tree.{no_test, none, pattern, test}
+use Rattle.drv_syntax.specs.declared.token.Leaf.TheVariants.{AssemblerOptions, BaseName, BaseStem, Directories, FoundFile, FoundScript}
+use Rattle.drv_syntax.specs.declared.token.Leaf.TheVariants.{InputName, LinkerOptions, NoOutput, ObjectSuffix, Output, Outputs, Percent}
+use Rattle.drv_syntax.specs.declared.token.Leaf.TheVariants.{PreprocessorOptions, Removed}
 use Rattle.drv_syntax.specs.declared.token.Leaf.{Leaf}
 use Rattle.drv_system.specs.Facts.{Facts}
 use Rattle.drv_system.specs.Known.{Is, Unasked}
@@ -29,7 +36,8 @@ use Rattle.drv_words.specs.FileNames.{base, stem}
 use Rattle.drv_words.specs.Response.{response_text}
 use Rattle.std.specs.List.{filter, flat_map, list_any, range_with_len}
 use Rattle.std.specs.Option.{unwrap_or}
-use Rattle.std.specs.Prelude.{◌&&◌, ◌+◌, Err, Bool, List, [], ◌∷◌, ◌++◌, Option, None, Some, codes, drop, false, if◌then◌else◌, is_some, length, map, nat_lt, not, option_map, suc, true, zero, ℕ}
+use Rattle.std.specs.Prelude.{◌&&◌, ◌+◌, Err, Bool, List, [], ◌∷◌, ◌++◌, Option, None, Some, codes, drop, false, if◌then◌else◌, is_some}
+use Rattle.std.specs.Prelude.{length, map, nat_lt, not, option_map, suc, true, zero, ℕ}
 
 -- What each item of a text means: one row for each directive (GCC manual, "Spec Files"; what it leaves open is this
 -- project's profile).
@@ -71,7 +79,11 @@ module _ (F : Facts) (C : Context) where
   abbrev pub draw_with : List ℕ → Drawing → List ℕ → Step (List ℕ)
   draw_with contents drawing suffix =
       look (λ w. w.number) >>= λ number. needs (known (temp_name F C.seed number suffix)) >>= λ path.
-      change (λ w. record w { number = w.number + 1; drawn = w.drawn ++ record { drawing = drawing; suffix = suffix; path = path; contents = contents } ∷ [] }) >> give path
+      change (λ w. record w {
+        number = w.number + 1;
+        drawn =
+            w.drawn ++ record { drawing = drawing; suffix = suffix; path = path; contents = contents } ∷ [];
+      }) >> give path
 
   abbrev pub draw : Drawing → List ℕ → Step (List ℕ)
   draw drawing suffix = draw_with [] drawing suffix
@@ -163,7 +175,8 @@ module _ (F : Facts) (C : Context) where
   -- what is in a %@ that makes a file: its words are those of the file, and then the file is named
   abbrev pub filed : Worked (Unit {0}) → Worked (Unit {0})
   filed (Goes atoms u v) =
-      following (Break ∷ FileFrom ∷ atoms ++ Break ∷ FileTo ∷ []) ((needs (file_words F C atoms) >>= named_file) (record v { is_in_file = false }))
+      following (Break ∷ FileFrom ∷ atoms ++ Break ∷ FileTo ∷ [])
+      ((needs (file_words F C atoms) >>= named_file) (record v { is_in_file = false }))
   filed (Refuses atoms fault) = Refuses (Break ∷ FileFrom ∷ atoms) fault
   filed (Waits atoms) = Waits (Break ∷ FileFrom ∷ atoms)
 
@@ -184,7 +197,8 @@ module _ (F : Facts) (C : Context) where
   each_hit p X levels [] = nothing
   each_hit p X levels (i ∷ is) =
       look (λ w. is_hit (names C) w.hidden (matching p) i) >>= λ hit.
-      (if hit then opened levels (λ deeper inside. X (drop (length (matching p).name) (name_at (names C) i)) inside) >> puts (Break ∷ word_of (argument C i)) else nothing)
+      (if hit then opened levels (λ deeper inside. X (drop (length (matching p).name) (name_at (names C) i)) inside) >> puts
+      (Break ∷ word_of (argument C i)) else nothing)
       >> each_hit p X levels is
 
   -- X by the first of its tests that is true: for each hit where X has a %* of its own, else once; where none is true,
@@ -235,7 +249,8 @@ module _ (F : Facts) (C : Context) where
     item_step (FailureFile brace) levels star =
         opened levels (λ deeper inside. puts (From ∷ []) >> brace_step brace inside star >> puts (Break ∷ To ∷ []))  -- %W{..}
     item_step (ArgumentsFile brace) levels star =
-        opened levels (λ deeper inside. look starts_file >>= λ starts. if starts then file_step (brace_step brace inside star) else brace_step brace inside star)  -- %@{..}
+        opened levels (λ deeper inside. look starts_file >>= λ starts. if starts then file_step (brace_step brace inside star)
+        else brace_step brace inside star)  -- %@{..}
 
     -- items one after another, each counted before it is run
     pub items_step : Items → Levels → List ℕ → Step (Unit {0})
@@ -282,7 +297,17 @@ module _ (F : Facts) (C : Context) where
 
   -- nothing is hidden, drawn or counted; options, numbers and outputs go on from the texts before
   abbrev pub start : World
-  start = record { hidden = map (λ s. false) C.switches; options = C.options; drawn = []; number = C.number; outputs = C.outputs; notices = []; is_in_file = false; items = 0 }
+  start = record {
+    hidden = map (λ s. false) C.switches;
+    options = C.options;
+    drawn = [];
+    number = C.number;
+    outputs = C.outputs;
+    notices =
+        [];
+    is_in_file = false;
+    items = 0;
+  }
 
   -- a whole text, whose end ends its last command
   abbrev pub whole_text : Items → Step (Unit {0})

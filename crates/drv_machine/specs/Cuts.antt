@@ -1,11 +1,13 @@
 use Rattle.drv_machine.specs.Context.{Context}
 use Rattle.drv_machine.specs.Cutting.{CutLine, NamedLine, found_file, found_script, named_line, no_line, script_option}
-use Rattle.drv_machine.specs.Working.{◌>>-◌, Answer, Atom, Break, End, FileFrom, FileTo, From, Goes, Marked, Open, Piped, Put, Refuses, To, Waits, Without, Worked}
+use Rattle.drv_machine.specs.Working.{◌>>-◌, Answer, Atom, Break, End, FileFrom, FileTo, From, Goes, Marked, Open, Piped, Put, Refuses, To}
+use Rattle.drv_machine.specs.Working.{Waits, Without, Worked}
 use Rattle.drv_machine.specs.declared.machine.marking.Mark.TheVariants.{AsFile, AsOutput, AsRemoved, AsScript}
 use Rattle.drv_system.specs.Facts.{Facts}
 use Rattle.drv_system.specs.Known.{Is}
 use Rattle.std.specs.List.{filter, filter_map, flat_map, list_any}
-use Rattle.std.specs.Prelude.{◌≡◌, ◌&&◌, ◌||◌, Bool, List, [], ◌∷◌, ◌++◌, Option, None, Some, Ok, false, if◌then◌else◌, is_some, not, option_and_then, suc, true, zero, ℕ}
+use Rattle.std.specs.Prelude.{◌≡◌, ◌&&◌, ◌||◌, Bool, List, [], ◌∷◌, ◌++◌, Option, None, Some, Ok, false, if◌then◌else◌, is_some, not}
+use Rattle.std.specs.Prelude.{option_and_then, suc, true, zero, ℕ}
 
 -- What a list of atoms is cut into, by definitions over the whole list (this project's profile). `Cutting` says it atom by atom.
 
@@ -56,7 +58,8 @@ pub record Run : Type 0 where
 -- the runs that end; these atoms precede, since a word ended
 abbrev pub runs : List Atom → List Atom → List Run
 runs before [] = []
-runs before (atom ∷ atoms) = if ends_word atom then record { atoms = before; following = atoms } ∷ runs [] atoms else runs (before ++ atom ∷ []) atoms
+runs before (atom ∷ atoms) = if ends_word atom then record { atoms = before; following = atoms } ∷ runs [] atoms
+    else runs (before ++ atom ∷ []) atoms
 
 -- a run is a word where one is open in it
 abbrev pub is_word : Run → Bool
@@ -217,7 +220,8 @@ commands run pieces (atom ∷ atoms) = commands (run ++ atom ∷ []) (pieces ++ 
 abbrev pub open_command : List Atom → List Piece → List Atom → List Piece
 open_command run pieces [] = pieces
 open_command run pieces (Break ∷ atoms) = open_command [] (pieces ++ word_of (record { atoms = run; following = atoms })) atoms
-open_command run pieces (Piped ∷ atoms) = open_command [] ((pieces ++ word_of (record { atoms = run; following = atoms })) ++ Pipe ∷ []) atoms
+open_command run pieces (Piped ∷ atoms) = open_command []
+    ((pieces ++ word_of (record { atoms = run; following = atoms })) ++ Pipe ∷ []) atoms
 open_command run pieces (End ∷ atoms) = open_command (run ++ End ∷ []) [] atoms
 open_command run pieces (atom ∷ atoms) = open_command (run ++ atom ∷ []) (pieces ++ part_of atom) atoms
 
@@ -317,7 +321,8 @@ module _ (F : Facts) (C : Context) where
   -- the words of a command, and whether it has a pipe
   abbrev pub line_of : List Piece → Answer CutLine
   line_of [] = Is (Ok no_line)
-  line_of (Word word ∷ pieces) = texts F C word >>- λ words. line_of pieces >>- λ line. Is (Ok (record { words = words ++ line.words; piped = line.piped }))
+  line_of (Word word ∷ pieces) = texts F C word >>- λ words. line_of pieces
+      >>- λ line. Is (Ok (record { words = words ++ line.words; piped = line.piped }))
   line_of (Part ∷ pieces) = line_of pieces
   line_of (Pipe ∷ pieces) = line_of pieces >>- λ line. Is (Ok (record { words = line.words; piped = true }))
 

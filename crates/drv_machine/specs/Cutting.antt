@@ -1,5 +1,6 @@
 use Rattle.drv_machine.specs.Context.{Context}
-use Rattle.drv_machine.specs.Working.{◌>>-◌, Answer, Atom, Break, End, FileFrom, FileTo, From, Marked, Open, Piped, Put, To, Without, known, searched}
+use Rattle.drv_machine.specs.Working.{◌>>-◌, Answer, Atom, Break, End, FileFrom, FileTo, From, Marked, Open, Piped, Put, To, Without, known}
+use Rattle.drv_machine.specs.Working.{searched}
 use Rattle.drv_machine.specs.declared.machine.marking.Mark.TheVariants.{AsFile, AsOutput, AsRemoved, AsScript}
 use Rattle.drv_machine.specs.declared.machine.marking.Mark.{Mark}
 use Rattle.drv_machine.specs.declared.machine.marking.Marking.{Marking}
@@ -7,7 +8,8 @@ use Rattle.drv_search.specs.Search.{file_found, script_found}
 use Rattle.drv_system.specs.Facts.{Facts}
 use Rattle.drv_system.specs.Known.{Is}
 use Rattle.std.specs.Option.{unwrap_or}
-use Rattle.std.specs.Prelude.{◌&&◌, ◌||◌, Bool, List, [], ◌∷◌, ◌++◌, Option, None, Some, Ok, codes, false, if◌then◌else◌, is_some, map, not, option_map, option_to_list, true, ℕ}
+use Rattle.std.specs.Prelude.{◌&&◌, ◌||◌, Bool, List, [], ◌∷◌, ◌++◌, Option, None, Some, Ok, codes, false, if◌then◌else◌, is_some, map, not}
+use Rattle.std.specs.Prelude.{option_map, option_to_list, true, ℕ}
 
 -- Atoms cut into words with their marks, and words into commands (this project's profile).
 

@@ -12,7 +12,8 @@ use Rattle.drv_words.specs.declared.plan.Command.{Command}
 use Rattle.drv_words.specs.declared.plan.Job.{Job}
 use Rattle.std.specs.Cmp.Lexicographic.{pointwise}
 use Rattle.std.specs.List.{filter, list_any}
-use Rattle.std.specs.Prelude.{◌&&◌, ◌||◌, Bool, List, [], ◌∷◌, None, Err, Ok, false, if◌then◌else◌, length, map, nat_eq, nat_lt, not, true, ℕ}
+use Rattle.std.specs.Prelude.{◌&&◌, ◌||◌, Bool, List, [], ◌∷◌, None, Err, Ok, false, if◌then◌else◌, length, map, nat_eq, nat_lt, not, true}
+use Rattle.std.specs.Prelude.{ℕ}
 
 -- The job of a text: its commands, what they leave behind, and what working it cost (this project's profile).
 
@@ -70,7 +71,15 @@ finished F C w c =
     if c.stray || ends_piped c.lines then Is (Err StrayPipe)
     else (groups F C c.lines >>- λ commands.
     if list_any (λ group. nat_lt most_piped (length group)) commands then Is (Err PipeTooLong)
-    else Is (Ok (record { job = job w c commands; notices = w.notices; outs = w.outputs; accumulated = w.options; next_number = w.number; cost = w.items })))
+    else Is (Ok (record {
+      job = job w c commands;
+      notices = w.notices;
+      outs = w.outputs;
+      accumulated = w.options;
+      next_number =
+          w.number;
+      cost = w.items;
+    })))
 
 -- what stops first in the order of the list counts
 abbrev pub cut : Facts → Context → Worked (Unit {0}) → Answer Outcome

@@ -8,7 +8,8 @@ use Rattle.drv_words.specs.Bytes.{slash}
 use Rattle.std.specs.Cmp.Lexicographic.{pointwise}
 use Rattle.std.specs.Fmt.{decimal}
 use Rattle.std.specs.Str.{byte}
-use Rattle.std.specs.Prelude.{◌&&◌, ◌+◌, ◌-◌, ◌++◌, ◌/◌, ◌%◌, Bool, List, [], ◌∷◌, None, Option, Some, codes, if◌then◌else◌, nat_eq, nat_lt, suc, true, false, zero, ℕ}
+use Rattle.std.specs.Prelude.{◌&&◌, ◌+◌, ◌-◌, ◌++◌, ◌/◌, ◌%◌, Bool, List, [], ◌∷◌, None, Option, Some, codes, if◌then◌else◌, nat_eq, nat_lt}
+use Rattle.std.specs.Prelude.{suc, true, false, zero, ℕ}
 
 -- The names of temporaries (GCC manual, "Environment Variables", TMPDIR; how a name goes on from there is this project's
 -- profile).

@@ -1,6 +1,7 @@
 use Rattle.drv_machine.specs.Atoms.{atoms}
 use Rattle.drv_machine.specs.Context.{Context}
-use Rattle.drv_machine.specs.Cuts.{Stretched, each, failure_files, has_stray_pipe, if_any, lines, output, path, path_of, removed, without_file}
+use Rattle.drv_machine.specs.Cuts.{Stretched, each, failure_files, has_stray_pipe, if_any, lines, output, path, path_of, removed}
+use Rattle.drv_machine.specs.Cuts.{without_file}
 use Rattle.drv_machine.specs.Outcome.{groups, lasting}
 use Rattle.drv_machine.specs.Working.{◌>>-◌, Answer, Atom, Goes, World}
 use Rattle.drv_machine.specs.declared.outcome.Outcome.{Outcome}

@@ -10,7 +10,8 @@ use Rattle.drv_syntax.specs.Tree.{Items}
 use Rattle.drv_system.specs.Known.{Known, Is, Unasked}
 use Rattle.std.specs.Cmp.Lexicographic.{pointwise}
 use Rattle.std.specs.List.{list_any}
-use Rattle.std.specs.Prelude.{◌+◌, Bool, List, [], ◌∷◌, ◌++◌, Option, None, Some, Result, Err, Ok, flat_map, if◌then◌else◌, map, nat_eq, nat_lt, ℕ}
+use Rattle.std.specs.Prelude.{◌+◌, Bool, List, [], ◌∷◌, ◌++◌, Option, None, Some, Result, Err, Ok, flat_map, if◌then◌else◌, map, nat_eq}
+use Rattle.std.specs.Prelude.{nat_lt, ℕ}
 
 -- What working a part of a text gives: a list of atoms, and how the list ends (this project's profile).
 

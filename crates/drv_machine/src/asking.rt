@@ -15,7 +15,7 @@ ghost use Rattle.std.specs.Prelude.{◌≡◌, ◌<◌, List, Ok, false, length,
 use crate::Context;
 use crate::machine::Machine;
 use crate::names::{has_language, has_suffix};
-use crate::places::{pattern_at, token_at};
+use crate::tokens_at::{pattern_at, token_at};
 use drv_syntax::{SpecTree, TestKind};
 
 /// Whether what the test at a place asks, which is no function, is so, its `!` aside.

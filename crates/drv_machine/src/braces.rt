@@ -19,7 +19,7 @@ use crate::asking::{Judged, first_true};
 use crate::calling::open_test;
 use crate::hits::enter_next;
 use crate::machine::Machine;
-use crate::places::{tests_end, token_at};
+use crate::tokens_at::{tests_end, token_at};
 use crate::walk::{Asking, Each, Walk};
 use crate::{Context, MachineFault};
 use drv_syntax::{SpecTree, TestKind};

@@ -14,7 +14,7 @@ ghost use Rattle.drv_system.specs.Gives.{GivesKnown};
 ghost use Rattle.std.specs.Prelude.{◌≡◌, ◌<◌, All, IfOk, List, OnOk, length, map};
 
 use crate::machine::Machine;
-use crate::places::{pattern_at, token_at};
+use crate::tokens_at::{pattern_at, token_at};
 use crate::{Context, MachineFault};
 use drv_match::Pattern;
 use drv_syntax::SpecTree;

@@ -16,7 +16,7 @@ ghost use Rattle.std.specs.Prelude.{◌≡◌, IsFalse, IsTrue, List, OnOk, leng
 use crate::braces::choose;
 use crate::emitting::emit;
 use crate::machine::Machine;
-use crate::places::token_at;
+use crate::tokens_at::token_at;
 use crate::walk::{Frame, Opened, Walk};
 use crate::{Context, MachineFault};
 use drv_syntax::{SpecTree, TokenKind};

@@ -18,7 +18,7 @@ ghost use Rattle.drv_system.specs.Facts.{Facts};
 ghost use Rattle.std.specs.Prelude.{◌≡◌, ◌+◌, ◌-◌, ◌<◌, ◌≤◌, IfSome, List, OnOk, length, ℕ};
 
 use crate::machine::Machine;
-use crate::places::pattern_at;
+use crate::tokens_at::pattern_at;
 use crate::walk::{Each, Frame, Opened, Rest, Walk};
 use crate::{Context, MachineFault};
 use drv_match::Pattern;

@@ -21,7 +21,7 @@ ghost use Rattle.std.specs.Prelude.{◌≡◌, ◌+◌, ◌<◌, Ok, OnOk, lengt
 
 use crate::emitting::emit;
 use crate::machine::{Machine, Mark};
-use crate::places::pattern_at;
+use crate::tokens_at::pattern_at;
 use crate::walk::{Rest, star_of};
 use crate::{Context, MachineFault};
 use drv_syntax::{Leaf, SpecTree, Token, TokenKind};

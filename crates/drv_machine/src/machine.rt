@@ -33,11 +33,10 @@ use drawn_names::DrawnNames;
 use drv_funcs::Outputs;
 use drv_match::{Hidden, Pattern, Switches};
 use drv_system::{Outside, System};
-use drv_words::{Listing, Word};
+use drv_words::{Listing, Word, copy_words};
 pub(crate) use finishing::outcome_of;
 use indexed::IndexedWords;
 use inside::Inside;
-use lists::copied_words;
 pub(crate) use marking::{Mark, Marking};
 pub(crate) use naming::{Drawing, Drawn};
 use smallvec::SmallVec;
@@ -194,10 +193,10 @@ impl Machine {
             output: None,
             inside: Inside::new(alloc),
             hidden: Hidden::new(alloc, context.switches())?,
-            options: IndexedWords::new(alloc, copied_words(alloc, context.options())?),
+            options: IndexedWords::new(alloc, copy_words(alloc, context.options())?),
             drawn: DrawnNames::new(alloc),
             number: context.number(),
-            outputs: Outputs::new(alloc, copied_words(alloc, context.outputs())?),
+            outputs: Outputs::new(alloc, copy_words(alloc, context.outputs())?),
             notices: Listing::new(alloc),
             is_in_file: false,
             items: 0,

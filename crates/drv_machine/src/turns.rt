@@ -25,7 +25,7 @@ use crate::hits::close_hit;
 use crate::items::work_item;
 use crate::machine::{Cutter, Machine};
 use crate::named::open_text;
-use crate::places::token_at;
+use crate::tokens_at::token_at;
 use crate::walk::{Asking, Frame, Opened, Walk};
 use crate::{Context, MachineFault};
 use drv_syntax::{SpecTree, TokenKind};

@@ -11,8 +11,8 @@ ghost use Rattle.std.specs.Prelude.{◌≡◌, ◌<◌, [], None, length};
 
 use crate::Context;
 use crate::machine::Cutter;
-use crate::places::token_at;
 use crate::stack::Stack;
+use crate::tokens_at::token_at;
 use drv_syntax::{SpecTree, TokenKind};
 use std::alloc::Global;
 

@@ -191,7 +191,8 @@ block_found names order pattern start end low high first second = record {
         by false e =
             let lower : end < start = grind (arith, nat_tests) in
             let within : end < length order = omega (arith, lower, low) in
-            absurd (let clash : true ≡ false = sym (left _ _ (first.0 end 0 (omega arith) lower)) ∙ second.1 end 0 (omega arith) within in cc)
+            absurd (let clash : true ≡ false = sym (left _ _ (first.0 end 0 (omega arith) lower)) ∙ second.1 end 0 (omega arith) within in
+            cc)
 
 both_false : (t u : Bool) → t ≡ false → u ≡ false → (t || u) ≡ false
 both_false t u e e' = rw (e, e') refl
@@ -211,5 +212,6 @@ none_found names order pattern start low o first other = block_found names order
     past k d from to false e = e
     past k d from to true e =
         let here : start < length order = omega (arith, from, to) in
-        let no : asks_end names pattern (get_or order start d) ≡ false = both_false _ _ (first.1 start d (omega arith) here) (other here d) in
+        let no : asks_end names pattern (get_or order start d) ≡ false =
+        both_false _ _ (first.1 start d (omega arith) here) (other here d) in
         absurd (let clash : true ≡ false = sym (end_parts names order pattern o start k d from to e) ∙ no in cc)

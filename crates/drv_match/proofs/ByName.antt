@@ -104,7 +104,11 @@ pub has_place : (names : List (List ℕ)) (order : List ℕ) → IsOrder names o
 has_place names order o i within = Contains-permutation (range_with_len 0 (length names)) order i o.places here
   where
     here : Contains (range_with_len 0 (length names)) i
-    here = (i, omega (arith, length-range_with_len 0 (length names)), (let same : 0 + i ≡ i = omega arith in get_or-range_with_len 0 (length names) i i within ∙ same))
+    here = (
+      i,
+      omega (arith, length-range_with_len 0 (length names)),
+      (let same : 0 + i ≡ i = omega arith in get_or-range_with_len 0 (length names) i i within ∙ same),
+    )
 
 -- There is only one such order.
 

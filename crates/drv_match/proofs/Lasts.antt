@@ -119,8 +119,10 @@ live_from names place first within last = by (nat_le first place) refl
         let some : 0 < first = omega (arith, high) in
         let in' : first < length names = last.within some in
         let back : place + 1 + (first - (place + 1)) ≡ first = omega (arith, high) in
-        let here : cancels (get_or (drop (place + 1) names) (first - (place + 1)) []) (name_at names place) ≡ true = rw (get_or-drop (place + 1) names (first - (place + 1)) [], back) (last.passes some) in
-        rw (list_any_at (λ other. cancels other (name_at names place)) (drop (place + 1) names) (first - (place + 1)) [] (omega (arith, length-drop (place + 1) names, in', high)) here) refl
+        let here : cancels (get_or (drop (place + 1) names) (first - (place + 1)) []) (name_at names place) ≡ true =
+        rw (get_or-drop (place + 1) names (first - (place + 1)) [], back) (last.passes some) in
+        rw (list_any_at (λ other. cancels other (name_at names place)) (drop (place + 1) names) (first - (place + 1)) []
+        (omega (arith, length-drop (place + 1) names, in', high)) here) refl
 
 -- The last place of a name, looked up in the order.
 
@@ -213,11 +215,17 @@ named_last names order name end place o high point some is = by (pointwise nat_e
         let last : end - 1 < length order = omega (arith, some, high) in
         let before : found.0 ≤ end - 1 = omega (arith, low) in
         let upto_name : is_upto names name (get_or order (end - 1) 0) ≡ true = point.0 (end - 1) 0 (omega arith) (omega (arith, some)) in
-        let this_name : slice_cmp nat_cmp (name_at names i) name ≡ Equal = is_equal _ (sym (texts_ties (name_at names i) name) ∙ nat_list_eq_equiv.symm (name_at names i) name ∙ same) in
-        let down : is_lt (slice_cmp nat_cmp (name_at names (get_or order (end - 1) 0)) (name_at names i)) ≡ false = rw (← at) (far_names names order o found.0 (end - 1) 0 before last) in
-        let level : slice_cmp nat_cmp (name_at names (get_or order (end - 1) 0)) name ≡ Equal = squeezed _ (ap is_lt (sym (alike_right nat_list_cmp_total (name_at names i) name (name_at names (get_or order (end - 1) 0)) this_name)) ∙ down) upto_name in
-        let alike : slice_cmp nat_cmp (name_at names (get_or order (end - 1) 0)) (name_at names i) ≡ Equal = alike_right nat_list_cmp_total (name_at names i) name (name_at names (get_or order (end - 1) 0)) this_name ∙ level in
-        let places : get_or order found.0 0 ≤ get_or order (end - 1) 0 = far_places names order o found.0 (end - 1) 0 before last (rw at alike) in
+        let this_name : slice_cmp nat_cmp (name_at names i) name ≡ Equal =
+        is_equal _ (sym (texts_ties (name_at names i) name) ∙ nat_list_eq_equiv.symm (name_at names i) name ∙ same) in
+        let down : is_lt (slice_cmp nat_cmp (name_at names (get_or order (end - 1) 0)) (name_at names i)) ≡ false =
+        rw (← at) (far_names names order o found.0 (end - 1) 0 before last) in
+        let level : slice_cmp nat_cmp (name_at names (get_or order (end - 1) 0)) name ≡ Equal =
+        squeezed _ (ap is_lt (sym (alike_right nat_list_cmp_total (name_at names i) name
+        (name_at names (get_or order (end - 1) 0)) this_name)) ∙ down) upto_name in
+        let alike : slice_cmp nat_cmp (name_at names (get_or order (end - 1) 0)) (name_at names i) ≡ Equal =
+        alike_right nat_list_cmp_total (name_at names i) name (name_at names (get_or order (end - 1) 0)) this_name ∙ level in
+        let places : get_or order found.0 0 ≤ get_or order (end - 1) 0 =
+        far_places names order o found.0 (end - 1) 0 before last (rw at alike) in
         (rw is (texts_ties (name_at names (get_or order (end - 1) 0)) name ∙ ap is_eq level), omega (arith, is, at, places))
       where
         squeezed : (p : Ordering) → is_lt p ≡ false → is_le p ≡ true → p ≡ Equal
@@ -274,10 +282,12 @@ flags_next names order flags after k first same within told last is j below = rw
     by true u e e' =
         let place : get_or order j 0 ≡ get_or order k 0 = eqb-true _ _ e in
         rw (place, get_or-set_same flags (get_or order k 0) (nat_le first (get_or order k 0)) false (rw same within)) here
-    by false true e e' = absurd (let one : j ≡ k = eqb-true j k e' in let clash : true ≡ false = sym (nat_eq_equiv.refl (get_or order j 0)) ∙ ap (λ m. get_or order j 0 == get_or order m 0) one ∙ e in cc)
+    by false true e e' = absurd
+        (let one : j ≡ k = eqb-true j k e' in let clash : true ≡ false = sym (nat_eq_equiv.refl (get_or order j 0)) ∙ ap (λ m. get_or order j 0 == get_or order m 0) one ∙ e in cc)
     by false false e e' =
         let lower : j < k = grind (arith, nat_tests) in
-        rw (get_or-set_other flags (get_or order k 0) (get_or order j 0) (nat_le first (get_or order k 0)) false (λ place. absurd (let clash : true ≡ false = sym (nat_eq_equiv.refl (get_or order j 0)) ∙ ap (λ m. get_or order j 0 == m) place ∙ e in cc))) (told j lower)
+        rw (get_or-set_other flags (get_or order k 0) (get_or order j 0) (nat_le first (get_or order k 0)) false
+        (λ place. absurd (let clash : true ≡ false = sym (nat_eq_equiv.refl (get_or order j 0)) ∙ ap (λ m. get_or order j 0 == m) place ∙ e in cc))) (told j lower)
 
 pub flags_all : (names : List (List ℕ)) (order : List ℕ) (flags : List Bool) (k : ℕ) → IsOrder names order → length flags ≡ length names
     → length order ≤ k → ((j : ℕ) → j < k → get_or flags (get_or order j 0) false ≡ is_live names (get_or order j 0))

@@ -25,13 +25,15 @@ range_same : (f g : ℕ → Bool) (start n : ℕ) → ((i : ℕ) → start ≤ i
 range_same f g start zero same = refl
 range_same f g start (suc n) same =
     let here : f start ≡ g start = same start (omega arith) (omega arith) in
-    let rest : filter f (range_with_len (start + 1) n) ≡ filter g (range_with_len (start + 1) n) = range_same f g (start + 1) n (λ i low high. same i (omega (arith, low)) (omega (arith, high))) in
+    let rest : filter f (range_with_len (start + 1) n) ≡ filter g (range_with_len (start + 1) n) =
+    range_same f g (start + 1) n (λ i low high. same i (omega (arith, low)) (omega (arith, high))) in
     ap (λ b. if b then start ∷ filter f (range_with_len (start + 1) n) else filter f (range_with_len (start + 1) n)) here
     ∙ ap (λ is. if g start then start ∷ is else is) rest
 
 below : (f : ℕ → Bool) (n : ℕ) → All (λ i. i < n) (filter f (range_with_len 0 n))
 below f n = All-filter f (λ i. i < n) (range_with_len 0 n) (All-from_all_within (λ i. i < n) (range_with_len 0 n) (λ k d low high.
-    let within : k < n = omega (arith, length-range_with_len 0 n, high) in rw (get_or-range_with_len 0 n k d within) (omega (arith, within))))
+    let within : k < n = omega (arith, length-range_with_len 0 n, high) in
+    rw (get_or-range_with_len 0 n k d within) (omega (arith, within))))
 
 take_whole : {A : Type 0} (n : ℕ) (xs : List A) → length xs ≤ n → take n xs ≡ xs
 take_whole zero [] some = refl
@@ -96,7 +98,8 @@ module _ (names : List (List ℕ)) (hidden : List Bool) where
       by false e = refl
       by true e =
           let there : get_or (range_with_len 0 n) i 0 ≡ i = get_or-range_with_len 0 n i 0 within ∙ omega arith in
-          let found : list_any test (range_with_len 0 n) ≡ true = list_any_at test (range_with_len 0 n) i 0 (rw (length-range_with_len 0 n) within) (ap test there ∙ e) in
+          let found : list_any test (range_with_len 0 n) ≡ true =
+          list_any_at test (range_with_len 0 n) i 0 (rw (length-range_with_len 0 n) within) (ap test there ∙ e) in
           sym found ∙ none
 
   -- a pattern without a hit hits no place
@@ -348,7 +351,8 @@ module _ (names : List (List ℕ)) (hidden : List Bool) where
     next_least : (i j : ℕ) (named : List ℕ) (k next : ℕ) → LeastOf named k next → j < k → get_or named j 0 ≡ i → from ≤ i
         → is_hit names hidden pattern i ≡ true → next ≤ i
     next_least i j named k next l below is low hit =
-        let bound : next ≤ get_or named j 0 = l.least j below (omega (arith, is, low)) (ap (is_hit names hidden pattern) is ∙ hit) in omega (arith, is, bound)
+        let bound : next ≤ get_or named j 0 = l.least j below (omega (arith, is, low)) (ap (is_hit names hidden pattern) is ∙ hit) in
+        omega (arith, is, bound)
 
     none_before : (named : List ℕ) → AreNamed names pattern named → (k next : ℕ) → length named ≤ k → LeastOf named k next → (i : ℕ)
         → from ≤ i → i < next → is_hit names hidden pattern i ≡ false
@@ -397,7 +401,8 @@ module _ (names : List (List ℕ)) (hidden : List Bool) where
       is = λ less. (low, hit_counted (get_or named k 0) (is_one_named named a k below) count);
       least = λ j past low' hit. at_last (λ i. from ≤ get_or named i 0 → is_hit names hidden pattern (get_or named i 0) ≡ true
           → get_or named k 0 ≤ get_or named i 0) k j past
-          (λ less from_here so. let bound : next ≤ get_or named j 0 = l.least j less from_here so in omega (arith, bound, high)) (λ from_here so. omega arith) low' hit;
+          (λ less from_here so. let bound : next ≤ get_or named j 0 = l.least j less from_here so in omega (arith, bound, high))
+          (λ from_here so. omega arith) low' hit;
     })
 
     -- a place that doesn't

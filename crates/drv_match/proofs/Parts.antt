@@ -154,7 +154,11 @@ hidden_at (j ∷ places) hidden i within = hidden_at places (set hidden j true) 
     by true e =
         let same : i ≡ j = eqb-true i j e in
         rw (e, ← same, get_or-set_same hidden i true false within) (sym (or-true (get_or hidden i false)))
-    by false e = rw (e, get_or-set_other hidden j i true false (λ same. absurd (let clash : true ≡ false = sym (nat_eq_equiv.refl i) ∙ ap (λ z. i == z) same ∙ e in cc))) refl
+    by false e = rw (
+      e,
+      get_or-set_other hidden j i true false
+          (λ same. absurd (let clash : true ≡ false = sym (nat_eq_equiv.refl i) ∙ ap (λ z. i == z) same ∙ e in cc)),
+    ) refl
 
 any_same : (f g : ℕ → Bool) → ((x : ℕ) → f x ≡ g x) → (xs : List ℕ) → list_any f xs ≡ list_any g xs
 any_same f g same [] = refl
@@ -231,7 +235,8 @@ hidden_block names order hidden pattern start end o b same =
     ∙ sym (hidden_by-length pattern names hidden same)) (λ i within.
     let in' : i < length hidden = omega (arith, hidden_length places hidden, within) in
     let in'' : i < length names = omega (arith, in', same) in
-    hidden_at places hidden i in' ∙ ap (λ t. get_or hidden i false || t) (block_has names order pattern start end i o b in'') ∙ sym (hidden_by-at pattern names hidden i same in''))
+    hidden_at places hidden i in' ∙ ap (λ t. get_or hidden i false || t) (block_has names order pattern start end i o b in'')
+    ∙ sym (hidden_by-at pattern names hidden i same in''))
   where
     places : List ℕ
     places = take (end - start) (drop start order)

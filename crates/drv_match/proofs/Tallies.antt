@@ -87,7 +87,8 @@ same_order lt one (x ∷ xs) (y ∷ ys) up up' same =
     let low : lt y x ≡ false = first_least lt y x xs up (omega (arith, same y, heads y ys)) in
     let high : lt x y ≡ false = first_least lt x y ys up' (omega (arith, same x, heads x xs)) in
     let head : x ≡ y = one x y high low in
-    let rest : xs ≡ ys = same_order lt one xs ys (later lt x xs up) (later lt y ys up') (λ n. cancelled n (one_if (n == x)) (one_if (n == y)) (ap (λ z. one_if (n == z)) head) (same n)) in
+    let rest : xs ≡ ys = same_order lt one xs ys (later lt x xs up) (later lt y ys up')
+    (λ n. cancelled n (one_if (n == x)) (one_if (n == y)) (ap (λ z. one_if (n == z)) head) (same n)) in
     ap (λ z. z ∷ xs) head ∙ ap (λ zs. y ∷ zs) rest
   where
     cancelled : (n a b : ℕ) → a ≡ b → a + tally n xs ≡ b + tally n ys → tally n xs ≡ tally n ys

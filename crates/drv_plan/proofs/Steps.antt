@@ -174,10 +174,12 @@ prefixes_first F line set seed dirs inputs prefixes C dirs_are inputs_are made i
     ∙ ap (planned F set line.inputs) (sym is) ∙ ap (λ list. planned F set list C) (sym inputs_are)
 
 -- the effect of a text that was kept
-pub text_kept : (g : Progress) (done : Outcome) (C : Context) (notices : List (List ℕ)) → notices ≡ g.notices ++ done.notices → C ≡ record g.context { options = done.accumulated; number = done.next_number }
+pub text_kept : (g : Progress) (done : Outcome) (C : Context) (notices : List (List ℕ)) → notices ≡ g.notices ++ done.notices
+    → C ≡ record g.context { options = done.accumulated; number = done.next_number }
     → after_text done g ≡ record g { context = C; notices = notices }
 text_kept g done C notices told kept =
-    ap (λ (D : Context). record g { context = D; notices = g.notices ++ done.notices }) (sym kept) ∙ ap (λ list. record g { context = C; notices = list }) (sym told)
+    ap (λ (D : Context). record g { context = D; notices = g.notices ++ done.notices }) (sym kept)
+    ∙ ap (λ list. record g { context = C; notices = list }) (sym told)
 
 pub text_worked : (F : Facts) (text : List ℕ) (g after : Progress) (done : Outcome) (job : Job)
     → outcome F g.context (tree_of text) ≡ Is (Ok done)
@@ -192,29 +194,37 @@ pub text_refused : (F : Facts) (text : List ℕ) (g : Progress) (fault : Machine
 text_refused F text g fault refused = text_stops fault (outcome F g.context (tree_of text)) (λ o. Is (Ok (o.job, after_text o g))) refused
 
 -- a source, once the context has it
-pub source_set : (g : Progress) (source : Source) (C : Context) → C ≡ record g.context { input = Some source } → for_source source g ≡ record g { context = C }
+pub source_set : (g : Progress) (source : Source) (C : Context) → C ≡ record g.context { input = Some source }
+    → for_source source g ≡ record g { context = C }
 source_set g source C is = ap (λ (D : Context). record g { context = D }) (sym is)
 
-pub source_worked : (F : Facts) (place : ℕ) (source : Source) (text : List ℕ) (g : Progress) (C : Context) (job placed : Job) (worked_on after : Progress) → C ≡ record g.context { input = Some source }
-    → worked F text (record g { context = C }) ≡ Is (Ok (job, worked_on)) → placed ≡ of_source place job → after ≡ after_job placed worked_on → with_source F place source text g ≡ Is (Ok after)
+pub source_worked : (F : Facts) (place : ℕ) (source : Source) (text : List ℕ) (g : Progress) (C : Context) (job placed : Job)
+    (worked_on after : Progress) → C ≡ record g.context { input = Some source }
+    → worked F text (record g { context = C }) ≡ Is (Ok (job, worked_on)) → placed ≡ of_source place job
+    → after ≡ after_job placed worked_on → with_source F place source text g ≡ Is (Ok after)
 source_worked F place source text g C job placed worked_on after is works its added =
     goes (job, worked_on) (worked F text (for_source source g)) (λ done. Is (Ok (after_job (of_source place done.0) done.1)))
     (ap (worked F text) (source_set g source C is) ∙ works)
     ∙ ap (λ (j : Job). Is (Ok (after_job j worked_on))) (sym its) ∙ ap (λ (g' : Progress). Is (Ok g')) (sym added)
 
-pub source_refused : (F : Facts) (place : ℕ) (source : Source) (text : List ℕ) (g : Progress) (C : Context) (fault : PlanFault) → C ≡ record g.context { input = Some source }
-    → (fault ≡ Memory) ⊎ (worked F text (record g { context = C }) ≡ Is (Err fault)) → (fault ≡ Memory) ⊎ (with_source F place source text g ≡ Is (Err fault))
+pub source_refused : (F : Facts) (place : ℕ) (source : Source) (text : List ℕ) (g : Progress) (C : Context) (fault : PlanFault)
+    → C ≡ record g.context { input = Some source }
+    → (fault ≡ Memory) ⊎ (worked F text (record g { context = C }) ≡ Is (Err fault))
+    → (fault ≡ Memory) ⊎ (with_source F place source text g ≡ Is (Err fault))
 source_refused F place source text g C fault is refused =
     stops fault (worked F text (for_source source g)) (λ done. Is (Ok (after_job (of_source place done.0) done.1)))
-    (refused_alike fault (worked F text (record g { context = C })) (worked F text (for_source source g)) (ap (worked F text) (source_set g source C is)) refused)
+    (refused_alike fault (worked F text (record g { context = C })) (worked F text (for_source source g))
+    (ap (worked F text) (source_set g source C is)) refused)
 
 -- the link, once the context has its outputs
-pub link_set : (g : Progress) (C D : Context) (outputs left none : List (List ℕ)) → C ≡ record g.context { input = None } → D ≡ record C { outputs = outputs }
+pub link_set : (g : Progress) (C D : Context) (outputs left none : List (List ℕ)) → C ≡ record g.context { input = None }
+    → D ≡ record C { outputs = outputs }
     → outputs ≡ g.outputs → left ≡ none → none ≡ [] → for_link g ≡ record g { context = D; outputs = left }
 link_set g C D outputs left none first second are following empty =
     ap (λ list. record g { context = record g.context { input = None; outputs = list }; outputs = [] }) (sym are)
     ∙ ap (λ (E : Context). record g { context = record E { outputs = outputs }; outputs = [] }) (sym first)
-    ∙ ap (λ (E : Context). record g { context = E; outputs = [] }) (sym second) ∙ ap (λ list. record g { context = D; outputs = list }) (sym empty ∙ sym following)
+    ∙ ap (λ (E : Context). record g { context = E; outputs = [] }) (sym second)
+    ∙ ap (λ list. record g { context = D; outputs = list }) (sym empty ∙ sym following)
 
 pub link_done : (F : Facts) (text : List ℕ) (g after : Progress) (job : Job) (link : Option Job)
     → worked F text (for_link g) ≡ Is (Ok (job, after)) → link ≡ with_command job

@@ -39,7 +39,8 @@ state C before input notices jobs words names = record {
 }
 
 -- the progress after these parts too, with their results
-record Ran (F : Facts) (C : Context) (before : Option Outcome) (ps : List Part) (notices : List (List ℕ)) (jobs : List Job) (words names : List (List ℕ)) (g : Progress) : Type 0 where
+record Ran (F : Facts) (C : Context) (before : Option Outcome) (ps : List Part) (notices : List (List ℕ)) (jobs : List Job)
+    (words names : List (List ℕ)) (g : Progress) : Type 0 where
   outcomes : List Outcome
   input : Option Source
   each : EachWorked F C before ps outcomes
@@ -74,7 +75,8 @@ a_word F C before word ps notices jobs words names g r = record {
 
 an_object : (F : Facts) (C : Context) (before : Option Outcome) (name : List ℕ) (ps : List Part) (notices : List (List ℕ)) (jobs : List Job)
     (words names : List (List ℕ)) (g : Progress)
-    → Ran F C before ps notices jobs (words ++ name ∷ []) (names ++ name ∷ []) g → Ran F C before (Object name ∷ ps) notices jobs words names g
+    → Ran F C before ps notices jobs (words ++ name ∷ []) (names ++ name ∷ []) g
+    → Ran F C before (Object name ∷ ps) notices jobs words names g
 an_object F C before name ps notices jobs words names g r = record {
   outcomes = r.outcomes;
   input = r.input;
@@ -91,12 +93,14 @@ a_file : (F : Facts) (C : Context) (before : Option Outcome) (input : Option Sou
 a_file F C before input place name (Err fault) ps next notices jobs words names g follows e = absurd cc
 a_file F C before input place name (Ok None) ps next notices jobs words names g follows e = an_object F C before name ps notices jobs words
     names g (follows before input notices jobs (words ++ name ∷ []) (names ++ name ∷ []) e)
-a_file F C before input place name (Ok (Some c)) ps next notices jobs words names g follows e = by (outcome F (record (context_after before C) { input = Some source }) (tree_of c.text)) refl e
+a_file F C before input place name (Ok (Some c)) ps next notices jobs words names g follows e =
+    by (outcome F (record (context_after before C) { input = Some source }) (tree_of c.text)) refl e
   where
     source : Source
     source = record { name = name; language = c.name }
 
-    by : (answer : Answer Outcome) → outcome F (record (context_after before C) { input = Some (record { name = name; language = c.name }) }) (tree_of c.text) ≡ answer
+    by : (answer : Answer Outcome) → outcome F (record (context_after before C)
+        { input = Some (record { name = name; language = c.name }) }) (tree_of c.text) ≡ answer
         → then_by (then_by (then_by (of_text answer)
         (with_outcome (for_source (record { name = name; language = c.name }) (state C before input notices jobs words names))))
         (λ done. Is (Ok (after_job (of_source place done.0) done.1)))) next ≡ Is (Ok g)
@@ -104,12 +108,14 @@ a_file F C before input place name (Ok (Some c)) ps next notices jobs words name
     by Unasked is e = absurd cc
     by (Is (Err fault)) is e = absurd cc
     by (Is (Ok o)) is e =
-        let r = follows (Some o) (Some (record { name = name; language = c.name })) (notices ++ o.notices) (jobs ++ of_source place o.job ∷ []) (words ++ output_list o.job.output) names e in
+        let r = follows (Some o) (Some (record { name = name; language = c.name })) (notices ++ o.notices)
+        (jobs ++ of_source place o.job ∷ []) (words ++ output_list o.job.output) names e in
         record {
           outcomes = o ∷ r.outcomes;
           input = r.input;
           each = (is, r.each);
-          is = r.is ∙ same_state C (last (Some o) r.outcomes) r.input (append_assoc notices o.notices (flat_map (λ o. o.notices) r.outcomes))
+          is = r.is ∙ same_state C (last (Some o) r.outcomes) r.input
+              (append_assoc notices o.notices (flat_map (λ o. o.notices) r.outcomes))
               (append_assoc jobs (of_source place o.job ∷ []) (jobs_of ps r.outcomes))
               (append_assoc words (output_list o.job.output) (link_words ps r.outcomes)) refl;
         }
@@ -128,10 +134,12 @@ ran F C set place (File name language ∷ inputs) g before input notices jobs wo
     a_file F C before input place name (chosen_for set (File name language)) (parts set (place + 1) inputs)
     (λ p. with_inputs F set (place + 1) inputs p) notices jobs words names g (ran F C set (place + 1) inputs g) e
 ran F C set place (Library word ∷ inputs) g before input notices jobs words names e =
-    a_word F C before word (parts set (place + 1) inputs) notices jobs words names g (ran F C set (place + 1) inputs g before input notices jobs
+    a_word F C before word (parts set (place + 1) inputs) notices jobs words names g
+    (ran F C set (place + 1) inputs g before input notices jobs
     (words ++ word ∷ []) names e)
 ran F C set place (LinkWord word ∷ inputs) g before input notices jobs words names e =
-    a_word F C before word (parts set (place + 1) inputs) notices jobs words names g (ran F C set (place + 1) inputs g before input notices jobs
+    a_word F C before word (parts set (place + 1) inputs) notices jobs words names g
+    (ran F C set (place + 1) inputs g before input notices jobs
     (words ++ word ∷ []) names e)
 
 -- the link

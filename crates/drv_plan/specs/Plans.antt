@@ -66,7 +66,8 @@ abbrev pub EachWorked : Facts → Context → Option Outcome → List Part → L
 EachWorked F C before [] [] = ⊤
 EachWorked F C before [] (o ∷ os) = ⊥
 EachWorked F C before (Work t ∷ ps) [] = ⊥
-EachWorked F C before (Work t ∷ ps) (o ∷ os) = (outcome F (record (context_after before C) { input = Some t.source }) (tree_of t.text) ≡ Is (Ok o)) × EachWorked F C (Some o) ps os
+EachWorked F C before (Work t ∷ ps) (o ∷ os) = (outcome F (record (context_after before C) { input = Some t.source }) (tree_of t.text)
+    ≡ Is (Ok o)) × EachWorked F C (Some o) ps os
 EachWorked F C before (Object name ∷ ps) os = EachWorked F C before ps os
 EachWorked F C before (Word word ∷ ps) os = EachWorked F C before ps os
 
@@ -119,6 +120,8 @@ pub record IsPlanOf (F : Facts) (line : Line) (set : Set) (seed : ℕ) (plan : P
   pub jobs_are : plan.jobs ≡ jobs_of (parts set 0 line.inputs) outcomes
   pub link_notices : List (List ℕ)
   pub link_is :
-      LinkIs F (record (context_after (last None outcomes) (context_of line set prefixes seed)) { outputs = link_words (parts set 0 line.inputs) outcomes })
+      LinkIs F (record (context_after (last None outcomes) (context_of line set prefixes seed))
+      { outputs = link_words (parts set 0 line.inputs) outcomes })
       (link_text set (link_words (parts set 0 line.inputs) outcomes)) plan.link link_notices
-  pub notices_are : plan.notices ≡ flat_map (λ o. o.notices) outcomes ++ link_notices ++ unused plan.link (objects (parts set 0 line.inputs))
+  pub notices_are : plan.notices ≡ flat_map (λ o. o.notices) outcomes ++ link_notices
+      ++ unused plan.link (objects (parts set 0 line.inputs))

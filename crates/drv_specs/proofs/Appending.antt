@@ -11,13 +11,16 @@ use Rattle.std.specs.Prelude.{Ok, Option, Result, if◌then◌else◌, nat_eq}
 -- For `append`: a text that is taken out of the map, changed and put back.
 
 entry_twice : (name text other : List ℕ) (es : List (List ℕ × List ℕ))
-    → insert_entry (pointwise nat_eq) (insert_entry (pointwise nat_eq) es name other) name text ≡ insert_entry (pointwise nat_eq) es name text
+    → insert_entry (pointwise nat_eq) (insert_entry (pointwise nat_eq) es name other) name text
+    ≡ insert_entry (pointwise nat_eq) es name text
 entry_twice name text other [] = rw (nat_list_eq_equiv.refl name) refl
 entry_twice name text other (e ∷ es) = by (pointwise nat_eq name e.0) refl (entry_twice name text other es)
   where
     by : (hit : Bool) → pointwise nat_eq name e.0 ≡ hit
-        → insert_entry (pointwise nat_eq) (insert_entry (pointwise nat_eq) es name other) name text ≡ insert_entry (pointwise nat_eq) es name text
-        → insert_entry (pointwise nat_eq) (insert_entry (pointwise nat_eq) (e ∷ es) name other) name text ≡ insert_entry (pointwise nat_eq) (e ∷ es) name text
+        → insert_entry (pointwise nat_eq) (insert_entry (pointwise nat_eq) es name other) name text
+        ≡ insert_entry (pointwise nat_eq) es name text
+        → insert_entry (pointwise nat_eq) (insert_entry (pointwise nat_eq) (e ∷ es) name other) name text
+        ≡ insert_entry (pointwise nat_eq) (e ∷ es) name text
     by true is later = rw (is, is) refl
     by false is later = rw (is, is) (ap (λ rest. e ∷ rest) later)
 
@@ -28,14 +31,17 @@ named_twice set name text other = ap (λ (named : List (List ℕ × List ℕ)). 
     named_as named = record set { named = named }
 
 -- what an append gives, by what was taken, and by what is put back
-pub appended_puts : (set mid new : Set) (name addition text : List ℕ) (old : Option (List ℕ)) → false ≡ list_all is_white addition → old ≡ text_of set name → mid ≡ with_named set name []
-    → ((s : Set) → by_tree name s (parsed (appended_text old addition)) ≡ Ok s) → text ≡ appended_text old addition → new ≡ with_named mid name text → append set name addition ≡ Ok new
+pub appended_puts : (set mid new : Set) (name addition text : List ℕ) (old : Option (List ℕ)) → false ≡ list_all is_white addition
+    → old ≡ text_of set name → mid ≡ with_named set name []
+    → ((s : Set) → by_tree name s (parsed (appended_text old addition)) ≡ Ok s) → text ≡ appended_text old addition
+    → new ≡ with_named mid name text → append set name addition ≡ Ok new
 appended_puts set mid new name addition text old white there taken tree is back =
     ap (λ (t : Bool). if t then Ok set else put set name (appended_text (text_of set name) addition)) (sym white)
     ∙ ap (λ (o : Option (List ℕ)). put set name (appended_text o addition)) (sym there)
     ∙ tree (with_named set name (appended_text old addition))
     ∙ ap (λ (s : Set). passed s)
-    (sym (back ∙ ap (λ (s : Set). with_named s name text) taken ∙ named_twice set name text [] ∙ ap (λ (t : List ℕ). with_named set name t) is))
+    (sym (back ∙ ap (λ (s : Set). with_named s name text) taken ∙ named_twice set name text []
+    ∙ ap (λ (t : List ℕ). with_named set name t) is))
   where
     passed : Set → Result Set SpecsFault
     passed s = Ok s

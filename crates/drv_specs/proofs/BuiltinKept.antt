@@ -27,14 +27,16 @@ dump_settled : is_settled false (dumped builtin_specs) ≡ true
 unfolding builtin_named builtin_pairs
 dump_settled = refl
 
-dump_carried : all_carried (including no_facts nowhere 15) (record { set = no_specs; files = most_files }) (read_lines false 1 (lines_of (dumped builtin_specs))) ≡ Is (Ok (record { set = builtin_specs; files = most_files }))
+dump_carried : all_carried (including no_facts nowhere 15) (record { set = no_specs; files = most_files })
+    (read_lines false 1 (lines_of (dumped builtin_specs))) ≡ Is (Ok (record { set = builtin_specs; files = most_files }))
 unfolding builtin_named builtin_pairs
 dump_carried = refl
 
 dump_loads : loaded no_facts nowhere no_specs (dumped builtin_specs) ≡ Is (Ok builtin_specs)
 unfolding loaded
 dump_loads =
-    ap (λ text. then_by (all_carried (including no_facts nowhere 15) (record { set = no_specs; files = most_files }) (read_lines false 1 (lines_of text))) set_in) (settled_same (dumped builtin_specs) dump_settled)
+    ap (λ text. then_by (all_carried (including no_facts nowhere 15) (record { set = no_specs; files = most_files })
+    (read_lines false 1 (lines_of text))) set_in) (settled_same (dumped builtin_specs) dump_settled)
     ∙ ap (λ known. then_by known set_in) dump_carried
 
 builtin_kept : Kept builtin_specs

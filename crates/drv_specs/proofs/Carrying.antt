@@ -6,7 +6,8 @@ use Rattle.drv_specs.specs.declared.directive.IfMissing.TheVariants.{Refuse}
 use Rattle.drv_specs.specs.declared.directive.IfMissing.{IfMissing}
 use Rattle.drv_specs.specs.declared.directive.Directive.TheVariants as lent
 use Rattle.drv_specs.specs.declared.directive.Directive as code
-use Rattle.drv_specs.specs.Loading.{Carried, Including, all_carried, change, changed, file_loaded, file_text, including, set_in, text_read, then_by, worked}
+use Rattle.drv_specs.specs.Loading.{Carried, Including, all_carried, change, changed, file_loaded, file_text, including, set_in, text_read}
+use Rattle.drv_specs.specs.Loading.{then_by, worked}
 use Rattle.drv_specs.specs.Sets.{Set}
 use Rattle.drv_specs.specs.declared.fault.SpecsFault.TheVariants.{BadLine, IncludeTooDeep, Memory, TooManyIncludes}
 use Rattle.drv_specs.specs.declared.fault.SpecsFault.{SpecsFault}
@@ -17,7 +18,8 @@ use Rattle.drv_system.specs.Gives.{GivesKnown}
 use Rattle.drv_system.specs.Known.{◌>>=◌, Is, Known, Unasked, asked}
 use Rattle.drv_system.specs.declared.event.ReadAnswer.{ReadAnswer}
 use Rattle.drv_words.specs.Gives.{Gives}
-use Rattle.std.proofs.Common.{◌≡◌, ◌⊎◌, ◌∙◌, Bor, IsErrAnd, Option, List, ◌∷◌, ◌++◌, Err, Ok, Result, Some, ap, inl, inr, refl, subst, suc, sym, zero, ℕ}
+use Rattle.std.proofs.Common.{◌≡◌, ◌⊎◌, ◌∙◌, Bor, IsErrAnd, Option, List, ◌∷◌, ◌++◌, Err, Ok, Result, Some, ap, inl, inr, refl, subst, suc}
+use Rattle.std.proofs.Common.{sym, zero, ℕ}
 
 -- For `load` and `load_file`: directives are carried out one after another, those of included files too.
 
@@ -32,7 +34,8 @@ ReadsNoFile (Bad n) = Unit {0}
 abbrev pub state : Set → ℕ → Carried
 state set files = record { set = set; files = files }
 
-pub change_more : (inc : Including) (set set' : Set) (files : ℕ) (directive : Directive) (rest : List Directive) → ReadsNoFile directive → change set directive ≡ Ok set'
+pub change_more : (inc : Including) (set set' : Set) (files : ℕ) (directive : Directive) (rest : List Directive) → ReadsNoFile directive
+    → change set directive ≡ Ok set'
     → all_carried inc (state set files) (directive ∷ rest) ≡ all_carried inc (state set' files) rest
 change_more inc set set' files (Text name body) rest none is = ap (λ r. then_by (changed files r) (λ c'. all_carried inc c' rest)) is
 change_more inc set set' files (Pair key body) rest none is = ap (λ r. then_by (changed files r) (λ c'. all_carried inc c' rest)) is
@@ -40,7 +43,8 @@ change_more inc set set' files (Rename old new) rest none is = ap (λ r. then_by
 change_more inc set set' files (Include missing name) rest none is = absurd none
 change_more inc set set' files (Bad n) rest none is = absurd cc
 
-pub change_refused : (inc : Including) (set : Set) (files : ℕ) (directive : Directive) (rest : List Directive) (fault : SpecsFault) → ReadsNoFile directive → change set directive ≡ Err fault
+pub change_refused : (inc : Including) (set : Set) (files : ℕ) (directive : Directive) (rest : List Directive) (fault : SpecsFault)
+    → ReadsNoFile directive → change set directive ≡ Err fault
     → all_carried inc (state set files) (directive ∷ rest) ≡ Is (Err fault)
 change_refused inc set files (Text name body) rest fault none is = ap (λ r. then_by (changed files r) (λ c'. all_carried inc c' rest)) is
 change_refused inc set files (Pair key body) rest fault none is = ap (λ r. then_by (changed files r) (λ c'. all_carried inc c' rest)) is
@@ -49,16 +53,21 @@ change_refused inc set files (Include missing name) rest fault none is = absurd 
 change_refused inc set files (Bad n) rest fault none is = let same : BadLine n ≡ fault = cc in ap (λ f. Is (Err f)) same
 
 module _ (F : Facts) (prefixes : Prefixes) (set : Set) (missing : IfMissing) (name : List ℕ) (rest : List Directive) where
-  pub include_deep : (files : ℕ) → all_carried (including F prefixes zero) (state set files) (Include missing name ∷ rest) ≡ Is (Err IncludeTooDeep)
+  pub include_deep : (files : ℕ) → all_carried (including F prefixes zero) (state set files) (Include missing name ∷ rest)
+      ≡ Is (Err IncludeTooDeep)
   unfolding including
   include_deep files = refl
 
-  pub include_many : (levels : ℕ) → all_carried (including F prefixes (suc levels)) (state set zero) (Include missing name ∷ rest) ≡ Is (Err TooManyIncludes)
+  pub include_many : (levels : ℕ) → all_carried (including F prefixes (suc levels)) (state set zero) (Include missing name ∷ rest)
+      ≡ Is (Err TooManyIncludes)
   unfolding including
   include_many levels = refl
 
-  pub include_is : (levels files : ℕ) → all_carried (including F prefixes (suc levels)) (state set (suc files)) (Include missing name ∷ rest)
-      ≡ then_by (then_by (file_text F prefixes missing name) (λ text. all_carried (including F prefixes levels) (state set files) (directives_of text))) (λ c'. all_carried (including F prefixes (suc levels)) c' rest)
+  pub include_is : (levels files : ℕ) → all_carried (including F prefixes (suc levels)) (state set (suc files))
+      (Include missing name ∷ rest)
+      ≡ then_by (then_by (file_text F prefixes missing name)
+      (λ text. all_carried (including F prefixes levels) (state set files) (directives_of text)))
+      (λ c'. all_carried (including F prefixes (suc levels)) c' rest)
   unfolding including
   include_is levels files = refl
 
@@ -66,30 +75,38 @@ module _ (F : Facts) (prefixes : Prefixes) (set : Set) (missing : IfMissing) (na
       → all_carried (including F prefixes (suc levels)) (state set (suc files)) (Include missing name ∷ rest) ≡ Is (Err fault)
   include_unread levels files fault is =
       include_is levels files
-      ∙ ap (λ known. then_by (then_by known (λ text. all_carried (including F prefixes levels) (state set files) (directives_of text))) (λ c'. all_carried (including F prefixes (suc levels)) c' rest)) is
+      ∙ ap (λ known. then_by (then_by known (λ text. all_carried (including F prefixes levels) (state set files) (directives_of text)))
+      (λ c'. all_carried (including F prefixes (suc levels)) c' rest)) is
 
-  pub include_worked : (levels files : ℕ) (text : List ℕ) (given : Known (Result Carried SpecsFault)) → file_text F prefixes missing name ≡ Is (Ok text)
+  pub include_worked : (levels files : ℕ) (text : List ℕ) (given : Known (Result Carried SpecsFault))
+      → file_text F prefixes missing name ≡ Is (Ok text)
       → all_carried (including F prefixes levels) (state set files) (directives_of text) ≡ given
-      → all_carried (including F prefixes (suc levels)) (state set (suc files)) (Include missing name ∷ rest) ≡ then_by given (λ c'. all_carried (including F prefixes (suc levels)) c' rest)
+      → all_carried (including F prefixes (suc levels)) (state set (suc files)) (Include missing name ∷ rest)
+      ≡ then_by given (λ c'. all_carried (including F prefixes (suc levels)) c' rest)
   include_worked levels files text given is worked =
       include_is levels files
-      ∙ ap (λ known. then_by (then_by known (λ text. all_carried (including F prefixes levels) (state set files) (directives_of text))) (λ c'. all_carried (including F prefixes (suc levels)) c' rest)) is
+      ∙ ap (λ known. then_by (then_by known (λ text. all_carried (including F prefixes levels) (state set files) (directives_of text)))
+      (λ c'. all_carried (including F prefixes (suc levels)) c' rest)) is
       ∙ ap (λ known. then_by known (λ c'. all_carried (including F prefixes (suc levels)) c' rest)) worked
 
 -- a file's text, by what is left of it
-unread_file : (given : Known (Result (List ℕ) SpecsFault)) (fault : SpecsFault) → (given >>= λ g. Is (read_left g)) ≡ Is (Err fault) → given ≡ Is (Err fault)
+unread_file : (given : Known (Result (List ℕ) SpecsFault)) (fault : SpecsFault) → (given >>= λ g. Is (read_left g)) ≡ Is (Err fault)
+    → given ≡ Is (Err fault)
 unread_file Unasked fault is = absurd cc
 unread_file (Is (Ok text)) fault is = absurd cc
 unread_file (Is (Err fault')) fault is = is
 
-pub read_file : (given : Known (Result (List ℕ) SpecsFault)) (left : List ℕ) → (given >>= λ g. Is (read_left g)) ≡ Is (Ok left) → (text : List ℕ) × ((given ≡ Is (Ok text)) × (left ≡ settled text))
+pub read_file : (given : Known (Result (List ℕ) SpecsFault)) (left : List ℕ) → (given >>= λ g. Is (read_left g)) ≡ Is (Ok left)
+    → (text : List ℕ) × ((given ≡ Is (Ok text)) × (left ≡ settled text))
 read_file Unasked left is = absurd cc
 read_file (Is (Ok text)) left is = (text, (refl, let same : left ≡ settled text = cc in same))
 read_file (Is (Err fault)) left is = absurd cc
 
 -- what is left of the text of a file that was asked for
-pub text_given : (X : Type 0) (view : X → List ℕ) (F G : Facts) (prefixes : Prefixes) (missing : IfMissing) (name path : List ℕ) (answer : ReadAnswer) (result : Result X SpecsFault)
-    → file_found F prefixes name ≡ Is path → Extends G F → read_of G path ≡ Some answer → Gives Memory view result (read_left (text_read missing path answer))
+pub text_given : (X : Type 0) (view : X → List ℕ) (F G : Facts) (prefixes : Prefixes) (missing : IfMissing) (name path : List ℕ)
+    (answer : ReadAnswer) (result : Result X SpecsFault)
+    → file_found F prefixes name ≡ Is path → Extends G F → read_of G path ≡ Some answer
+    → Gives Memory view result (read_left (text_read missing path answer))
     → GivesKnown Memory view result (settled_file F prefixes missing name)
 text_given X view F G prefixes missing name path answer result found e known given = by result given
   where
@@ -98,19 +115,22 @@ text_given X view F G prefixes missing name path answer result found e known giv
         ap (λ known. (known >>= λ p. asked (read_of F p) >>= λ a. Is (text_read missing p a)) >>= λ g. Is (read_left g)) found
         ∙ ap (λ a. (asked a >>= λ a'. Is (text_read missing path a')) >>= λ g. Is (read_left g)) (e.reads path answer known)
 
-    by : (r : Result X SpecsFault) → Gives Memory view r (read_left (text_read missing path answer)) → GivesKnown Memory view r (settled_file F prefixes missing name)
+    by : (r : Result X SpecsFault) → Gives Memory view r (read_left (text_read missing path answer))
+        → GivesKnown Memory view r (settled_file F prefixes missing name)
     by (Ok text) is' = is ∙ ap Is is'
     by (Err fault) (inl memory) = inl memory
     by (Err fault) (inr is') = inr (is ∙ ap Is is')
 
 -- a refusal that is handed on
-pub refusal_given : {X Y : Type 0} (fault : SpecsFault) (result : Result X SpecsFault) (view : X → Y) (defined : Known (Result Y SpecsFault))
+pub refusal_given : {X Y : Type 0} (fault : SpecsFault) (result : Result X SpecsFault) (view : X → Y)
+    (defined : Known (Result Y SpecsFault))
     → IsErrAnd result (λ e. e ≡ fault) → (fault ≡ Memory) ⊎ (defined ≡ Is (Err fault)) → GivesKnown Memory view result defined
 refusal_given fault (Ok x) view defined is refused = absurd is
 refusal_given fault (Err e) view defined is (inl memory) = inl (is ∙ memory)
 refusal_given fault (Err e) view defined is (inr refused) = inr (refused ∙ ap (λ f. Is (Err f)) (sym is))
 
-pub reads_no_file : (directive : code.Directive) → ((missing : IfMissing) (file : Bor (List ℕ)) → directive ≡ lent.Include missing file → ⊥) → ReadsNoFile (shown directive)
+pub reads_no_file : (directive : code.Directive) → ((missing : IfMissing) (file : Bor (List ℕ)) → directive ≡ lent.Include missing file → ⊥)
+    → ReadsNoFile (shown directive)
 reads_no_file (lent.Text name body) not = tt
 reads_no_file (lent.Pair key body) not = tt
 reads_no_file (lent.Rename old new) not = tt
@@ -118,11 +138,13 @@ reads_no_file (lent.Include missing file) not = not missing file refl
 reads_no_file (lent.Bad n) not = tt
 
 -- a directive that was taken
-pub taken : (old new : List Directive) (result : Option code.Directive) (directive : code.Directive) (is : Directive) → old ≡ found result ++ new → result ≡ Some directive → shown directive ≡ is → old ≡ is ∷ new
+pub taken : (old new : List Directive) (result : Option code.Directive) (directive : code.Directive) (is : Directive)
+    → old ≡ found result ++ new → result ≡ Some directive → shown directive ≡ is → old ≡ is ∷ new
 taken old new result directive is whole some same = whole ∙ ap (λ r. found r ++ new) some ∙ ap (λ d. d ∷ new) same
 
 -- the next directive, where what is left gives the whole
-module _ (F : Facts) (prefixes : Prefixes) (set : Set) (files levels : ℕ) (left rest : List Directive) (directive : Directive) (whole : Known (Result Carried SpecsFault))
+module _ (F : Facts) (prefixes : Prefixes) (set : Set) (files levels : ℕ) (left rest : List Directive) (directive : Directive)
+    (whole : Known (Result Carried SpecsFault))
     (taken : left ≡ directive ∷ rest) (so_far : all_carried (including F prefixes levels) (state set files) left ≡ whole) where
   at_next : whole ≡ all_carried (including F prefixes levels) (state set files) (directive ∷ rest)
   at_next = sym so_far ∙ ap (all_carried (including F prefixes levels) (state set files)) taken
@@ -137,18 +159,21 @@ module _ (F : Facts) (prefixes : Prefixes) (set : Set) (files levels : ℕ) (lef
   changed_refused fault none (inr is) = inr (at_next ∙ change_refused (including F prefixes levels) set files directive rest fault none is)
 
 -- a file that is included
-module _ (F : Facts) (prefixes : Prefixes) (set : Set) (files levels : ℕ) (left rest : List Directive) (missing : IfMissing) (name : List ℕ) (whole : Known (Result Carried SpecsFault))
+module _ (F : Facts) (prefixes : Prefixes) (set : Set) (files levels : ℕ) (left rest : List Directive) (missing : IfMissing) (name : List ℕ)
+    (whole : Known (Result Carried SpecsFault))
     (taken : left ≡ Include missing name ∷ rest) (so_far : all_carried (including F prefixes levels) (state set files) left ≡ whole) where
   at_include : whole ≡ all_carried (including F prefixes levels) (state set files) (Include missing name ∷ rest)
   at_include = sym so_far ∙ ap (all_carried (including F prefixes levels) (state set files)) taken
 
   pub deep_refused : levels ≡ 0 → whole ≡ Is (Err IncludeTooDeep)
-  deep_refused none = at_include ∙ ap (λ n. all_carried (including F prefixes n) (state set files) (Include missing name ∷ rest)) none ∙ include_deep F prefixes set missing name rest files
+  deep_refused none = at_include ∙ ap (λ n. all_carried (including F prefixes n) (state set files) (Include missing name ∷ rest)) none
+      ∙ include_deep F prefixes set missing name rest files
 
   pub many_refused : (fewer : ℕ) → levels ≡ suc fewer → files ≡ 0 → whole ≡ Is (Err TooManyIncludes)
   many_refused fewer some none =
       at_include ∙ ap (λ n. all_carried (including F prefixes n) (state set files) (Include missing name ∷ rest)) some
-      ∙ ap (λ n. all_carried (including F prefixes (suc fewer)) (state set n) (Include missing name ∷ rest)) none ∙ include_many F prefixes set missing name rest fewer
+      ∙ ap (λ n. all_carried (including F prefixes (suc fewer)) (state set n) (Include missing name ∷ rest)) none
+      ∙ include_many F prefixes set missing name rest fewer
 
   at_file : (fewer : ℕ) (others : ℕ) → levels ≡ suc fewer → files ≡ suc others
       → whole ≡ all_carried (including F prefixes (suc fewer)) (state set (suc others)) (Include missing name ∷ rest)
@@ -160,37 +185,49 @@ module _ (F : Facts) (prefixes : Prefixes) (set : Set) (files levels : ℕ) (lef
       → (fault ≡ Memory) ⊎ (settled_file F prefixes missing name ≡ Is (Err fault)) → (fault ≡ Memory) ⊎ (whole ≡ Is (Err fault))
   unread_refused fewer others some some' fault (inl memory) = inl memory
   unread_refused fewer others some some' fault (inr unread) =
-      inr (at_file fewer others some some' ∙ include_unread F prefixes set missing name rest fewer others fault (unread_file (file_text F prefixes missing name) fault unread))
+      inr (at_file fewer others some some' ∙ include_unread F prefixes set missing name rest fewer others fault
+      (unread_file (file_text F prefixes missing name) fault unread))
 
-  at_worked : (fewer others : ℕ) → levels ≡ suc fewer → files ≡ suc others → (left' bytes : List ℕ) (given : Known (Result Carried SpecsFault))
-      → settled_file F prefixes missing name ≡ Is (Ok left') → bytes ≡ left' → all_carried (including F prefixes fewer) (state set others) (read_settled bytes) ≡ given
+  at_worked : (fewer others : ℕ) → levels ≡ suc fewer → files ≡ suc others
+      → (left' bytes : List ℕ) (given : Known (Result Carried SpecsFault))
+      → settled_file F prefixes missing name ≡ Is (Ok left') → bytes ≡ left'
+      → all_carried (including F prefixes fewer) (state set others) (read_settled bytes) ≡ given
       → whole ≡ then_by given (λ c'. all_carried (including F prefixes levels) c' rest)
   at_worked fewer others some some' left' bytes given read same worked =
       let file = read_file (file_text F prefixes missing name) left' read in
       at_file fewer others some some'
-      ∙ include_worked F prefixes set missing name rest fewer others file.0 given file.1.0 (ap (λ t. all_carried (including F prefixes fewer) (state set others) (read_settled t)) (sym (same ∙ file.1.1)) ∙ worked)
+      ∙ include_worked F prefixes set missing name rest fewer others file.0 given file.1.0
+      (ap (λ t. all_carried (including F prefixes fewer) (state set others) (read_settled t)) (sym (same ∙ file.1.1)) ∙ worked)
       ∙ ap (λ n. then_by given (λ c'. all_carried (including F prefixes n) c' rest)) (sym some)
 
   pub worked_refused : (fewer others : ℕ) → levels ≡ suc fewer → files ≡ suc others → (left' bytes : List ℕ) (fault : SpecsFault)
-      → settled_file F prefixes missing name ≡ Is (Ok left') → bytes ≡ left' → (fault ≡ Memory) ⊎ (all_carried (including F prefixes fewer) (state set others) (read_settled bytes) ≡ Is (Err fault))
+      → settled_file F prefixes missing name ≡ Is (Ok left') → bytes ≡ left'
+      → (fault ≡ Memory) ⊎ (all_carried (including F prefixes fewer) (state set others) (read_settled bytes) ≡ Is (Err fault))
       → (fault ≡ Memory) ⊎ (whole ≡ Is (Err fault))
   worked_refused fewer others some some' left' bytes fault read same (inl memory) = inl memory
-  worked_refused fewer others some some' left' bytes fault read same (inr worked) = inr (at_worked fewer others some some' left' bytes (Is (Err fault)) read same worked)
+  worked_refused fewer others some some' left' bytes fault read same (inr worked) =
+      inr (at_worked fewer others some some' left' bytes (Is (Err fault)) read same worked)
 
   pub worked_more : (fewer others : ℕ) → levels ≡ suc fewer → files ≡ suc others → (left' bytes : List ℕ) (c' : Carried)
-      → settled_file F prefixes missing name ≡ Is (Ok left') → bytes ≡ left' → all_carried (including F prefixes fewer) (state set others) (read_settled bytes) ≡ Is (Ok c')
+      → settled_file F prefixes missing name ≡ Is (Ok left') → bytes ≡ left'
+      → all_carried (including F prefixes fewer) (state set others) (read_settled bytes) ≡ Is (Ok c')
       → all_carried (including F prefixes levels) c' rest ≡ whole
-  worked_more fewer others some some' left' bytes c' read same worked = sym (at_worked fewer others some some' left' bytes (Is (Ok c')) read same worked)
+  worked_more fewer others some some' left' bytes c' read same worked =
+      sym (at_worked fewer others some some' left' bytes (Is (Ok c')) read same worked)
 
 -- directives worked on a draft that is the set
 module _ (F : Facts) (prefixes : Prefixes) (draft set : Set) (same : draft ≡ set) (files : ℕ) (directives : List Directive) where
-  worked_as : (given : Known (Result Carried SpecsFault)) → all_carried (including F prefixes 15) (state draft files) directives ≡ given → worked F prefixes set files directives ≡ then_by given set_in
-  worked_as given is = ap (λ s. then_by (all_carried (including F prefixes 15) (state s files) directives) set_in) (sym same) ∙ ap (λ known. then_by known set_in) is
+  worked_as : (given : Known (Result Carried SpecsFault)) → all_carried (including F prefixes 15) (state draft files) directives ≡ given
+      → worked F prefixes set files directives ≡ then_by given set_in
+  worked_as given is = ap (λ s. then_by (all_carried (including F prefixes 15) (state s files) directives) set_in) (sym same)
+      ∙ ap (λ known. then_by known set_in) is
 
-  pub worked_given : (c : Carried) → all_carried (including F prefixes 15) (state draft files) directives ≡ Is (Ok c) → worked F prefixes set files directives ≡ Is (Ok c.set)
+  pub worked_given : (c : Carried) → all_carried (including F prefixes 15) (state draft files) directives ≡ Is (Ok c)
+      → worked F prefixes set files directives ≡ Is (Ok c.set)
   worked_given c is = worked_as (Is (Ok c)) is
 
-  pub worked_fails : (fault : SpecsFault) → (fault ≡ Memory) ⊎ (all_carried (including F prefixes 15) (state draft files) directives ≡ Is (Err fault))
+  pub worked_fails : (fault : SpecsFault) → (fault ≡ Memory)
+      ⊎ (all_carried (including F prefixes 15) (state draft files) directives ≡ Is (Err fault))
       → (fault ≡ Memory) ⊎ (worked F prefixes set files directives ≡ Is (Err fault))
   worked_fails fault (inl memory) = inl memory
   worked_fails fault (inr is) = inr (worked_as (Is (Err fault)) is)
@@ -198,21 +235,27 @@ module _ (F : Facts) (prefixes : Prefixes) (draft set : Set) (same : draft ≡ s
 -- a file, by what is left of its text
 module _ (F : Facts) (prefixes : Prefixes) (set : Set) (name : List ℕ) where
   file_is : file_loaded F prefixes set name
-      ≡ then_by (then_by (file_text F prefixes Refuse name) (λ text. all_carried (including F prefixes 15) (state set 1999) (directives_of text))) set_in
+      ≡ then_by (then_by (file_text F prefixes Refuse name)
+      (λ text. all_carried (including F prefixes 15) (state set 1999) (directives_of text))) set_in
   unfolding file_loaded including
   file_is = refl
 
-  pub file_read : (left bytes : List ℕ) → settled_file F prefixes Refuse name ≡ Is (Ok left) → bytes ≡ left → worked F prefixes set 1999 (read_settled bytes) ≡ file_loaded F prefixes set name
+  pub file_read : (left bytes : List ℕ) → settled_file F prefixes Refuse name ≡ Is (Ok left) → bytes ≡ left
+      → worked F prefixes set 1999 (read_settled bytes) ≡ file_loaded F prefixes set name
   file_read left bytes read same =
       let file = read_file (file_text F prefixes Refuse name) left read in
       ap (λ l. worked F prefixes set 1999 (read_settled l)) (same ∙ file.1.1)
-      ∙ sym (file_is ∙ ap (λ known. then_by (then_by known (λ t. all_carried (including F prefixes 15) (state set 1999) (directives_of t))) set_in) file.1.0)
+      ∙ sym (file_is ∙ ap (λ known. then_by (then_by known (λ t. all_carried (including F prefixes 15) (state set 1999) (directives_of t)))
+      set_in) file.1.0)
 
-  pub file_unread : (fault : SpecsFault) → (fault ≡ Memory) ⊎ (settled_file F prefixes Refuse name ≡ Is (Err fault)) → (fault ≡ Memory) ⊎ (file_loaded F prefixes set name ≡ Is (Err fault))
+  pub file_unread : (fault : SpecsFault) → (fault ≡ Memory) ⊎ (settled_file F prefixes Refuse name ≡ Is (Err fault))
+      → (fault ≡ Memory) ⊎ (file_loaded F prefixes set name ≡ Is (Err fault))
   file_unread fault (inl memory) = inl memory
   file_unread fault (inr unread) =
-      inr (file_is ∙ ap (λ known. then_by (then_by known (λ t. all_carried (including F prefixes 15) (state set 1999) (directives_of t))) set_in) (unread_file (file_text F prefixes Refuse name) fault unread))
+      inr (file_is ∙ ap (λ known. then_by (then_by known (λ t. all_carried (including F prefixes 15) (state set 1999) (directives_of t)))
+      set_in) (unread_file (file_text F prefixes Refuse name) fault unread))
 
 -- a result that answers what is the same
-pub given_alike : {X Y : Type 0} (view : X → Y) (result : Result X SpecsFault) (a b : Known (Result Y SpecsFault)) → a ≡ b → GivesKnown Memory view result a → GivesKnown Memory view result b
+pub given_alike : {X Y : Type 0} (view : X → Y) (result : Result X SpecsFault) (a b : Known (Result Y SpecsFault)) → a ≡ b
+    → GivesKnown Memory view result a → GivesKnown Memory view result b
 given_alike view result a b same given = subst (GivesKnown Memory view result) same given

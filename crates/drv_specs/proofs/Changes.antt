@@ -4,14 +4,19 @@ use Rattle.drv_specs.proofs.SettledTexts.{ends_last}
 use Rattle.drv_specs.specs.Blanks.{has_byte, is_blank, is_white}
 use Rattle.drv_specs.specs.Kept.{Each, IsNamed, IsPair, Kept, begins_line, fits, is_body, is_text, sees}
 use Rattle.drv_specs.specs.Lines.{is_kept, without_end, without_front}
-use Rattle.drv_specs.specs.Sets.{Set, append, appended_text, begins_with_at, by_tree, deleted, ends_with_backslash, has_tree, is_key, is_name, is_no_text, pair_text, put, text_of, with_body, with_name, with_named, with_pair, with_pair_body, with_text}
+use Rattle.drv_specs.specs.Sets.{Set, append, appended_text, appends, begins_with_at, by_tree, deleted, ends_with_backslash, has_tree}
+use Rattle.drv_specs.specs.Sets.{is_key, is_name, is_no_text, pair_text, put, text_of, with_body, with_name, with_named, with_pair}
+use Rattle.drv_specs.specs.Sets.{with_pair_body, with_text}
 use Rattle.drv_specs.specs.declared.fault.SpecsFault.TheVariants.{AliasOfAlias, BadName, RenameMissing, RenameTaken, TrailingBackslash}
 use Rattle.drv_syntax.specs.Outcome.{parsed}
 use Rattle.drv_syntax.specs.Tree.{Items}
 use Rattle.drv_syntax.specs.declared.fault.SyntaxFault.{SyntaxFault}
 use Rattle.drv_words.specs.Bytes.{backslash, newline, plus}
 use Rattle.indexmap.specs.IndexMap.{insert_entry}
-use Rattle.std.proofs.Common.{◌≡◌, ◌⊎◌, ◌∙◌, ◌==◌, ◌&&◌, ◌||◌, Bool, Err, List, [], ◌∷◌, ◌++◌, None, Ok, Option, Result, Some, ap, append_assoc, cond, eqb-true, false, if◌then◌else◌, inl, inr, is_ok, is_some, nat_eq, not, refl, reverse, subst, sym, true, ℕ}
+use Rattle.std.proofs.Common.{◌≡◌, ◌⊎◌, ◌∙◌, ◌==◌, ◌&&◌, ◌||◌, Bool, Err, List, [], ◌∷◌, ◌++◌, None, Ok, Option, Result, Some, ap}
+use Rattle.std.proofs.Common.{append_assoc, cond, eqb-true, false, if◌then◌else◌, inl, inr, is_ok, is_some, length, nat_eq, not, refl}
+use Rattle.std.proofs.Common.{reverse, subst, sym, true, ℕ}
+use Rattle.std.proofs.Math.Dec.{eqb-suc-zero}
 use Rattle.std.proofs.lemmas.List.{reverse-append, reverse-reverse}
 use Rattle.std.specs.Cmp.Lexicographic.{nat_list_eq_equiv, pointwise}
 use Rattle.std.specs.List.{AllByRecursion, IsDistinct, list_all}
@@ -42,15 +47,18 @@ module _ (eq : List ℕ → Bool) where
   found_text [] text kept is = absurd cc
   found_text (e ∷ es) text kept is = by (eq e.0) is (found_text es text kept.1)
     where
-      by : (hit : Bool) → cond hit (Some e.1) (lookup eq es) ≡ Some text → (lookup eq es ≡ Some text → is_text text ≡ true) → is_text text ≡ true
+      by : (hit : Bool) → cond hit (Some e.1) (lookup eq es) ≡ Some text → (lookup eq es ≡ Some text → is_text text ≡ true)
+          → is_text text ≡ true
       by true is' later = let same : e.1 ≡ text = cc in ap is_text (sym same) ∙ kept.0.text
       by false is' later = later is'
 
-inserted_keeps : (name text : List ℕ) (es : List (List ℕ × List ℕ)) → IsNamed (name, text) → Each IsNamed es → Each IsNamed (insert_entry (pointwise nat_eq) es name text)
+inserted_keeps : (name text : List ℕ) (es : List (List ℕ × List ℕ)) → IsNamed (name, text) → Each IsNamed es
+    → Each IsNamed (insert_entry (pointwise nat_eq) es name text)
 inserted_keeps name text [] new kept = (new, tt)
 inserted_keeps name text (e ∷ es) new kept = by (pointwise nat_eq name e.0) (inserted_keeps name text es new kept.1)
   where
-    by : (hit : Bool) → Each IsNamed (insert_entry (pointwise nat_eq) es name text) → Each IsNamed (if hit then (e.0, text) ∷ es else e ∷ insert_entry (pointwise nat_eq) es name text)
+    by : (hit : Bool) → Each IsNamed (insert_entry (pointwise nat_eq) es name text)
+        → Each IsNamed (if hit then (e.0, text) ∷ es else e ∷ insert_entry (pointwise nat_eq) es name text)
     by true later = (record { name = kept.0.name; text = new.text; tree = new.tree }, kept.1)
     by false later = (kept.0, later)
 
@@ -67,34 +75,41 @@ apart_less eq name (e ∷ es) apart = by (eq e.0) (apart_less eq name es apart.1
     by true later = apart.1
     by false later = (apart.0, later)
 
-distinct_less : (eq : List ℕ → Bool) (es : List (List ℕ × List ℕ)) → IsDistinct (pointwise nat_eq) (keys_of es) → IsDistinct (pointwise nat_eq) (keys_of (remove_entry eq es))
+distinct_less : (eq : List ℕ → Bool) (es : List (List ℕ × List ℕ)) → IsDistinct (pointwise nat_eq) (keys_of es)
+    → IsDistinct (pointwise nat_eq) (keys_of (remove_entry eq es))
 unfolding IsDistinct
 distinct_less eq [] distinct = tt
 distinct_less eq (e ∷ es) distinct = by (eq e.0) (distinct_less eq es distinct.1)
   where
-    by : (hit : Bool) → IsDistinct (pointwise nat_eq) (keys_of (remove_entry eq es)) → IsDistinct (pointwise nat_eq) (keys_of (cond hit es (e ∷ remove_entry eq es)))
+    by : (hit : Bool) → IsDistinct (pointwise nat_eq) (keys_of (remove_entry eq es))
+        → IsDistinct (pointwise nat_eq) (keys_of (cond hit es (e ∷ remove_entry eq es)))
     by true later = distinct.1
     by false later = (apart_less eq e.0 es distinct.0, later)
 
-apart_more : (other name text : List ℕ) (es : List (List ℕ × List ℕ)) → pointwise nat_eq other name ≡ false → Apart other es → Apart other (insert_entry (pointwise nat_eq) es name text)
+apart_more : (other name text : List ℕ) (es : List (List ℕ × List ℕ)) → pointwise nat_eq other name ≡ false → Apart other es
+    → Apart other (insert_entry (pointwise nat_eq) es name text)
 apart_more other name text [] differ apart = (differ, tt)
 apart_more other name text (e ∷ es) differ apart = by (pointwise nat_eq name e.0) (apart_more other name text es differ apart.1)
   where
-    by : (hit : Bool) → Apart other (insert_entry (pointwise nat_eq) es name text) → Apart other (if hit then (e.0, text) ∷ es else e ∷ insert_entry (pointwise nat_eq) es name text)
+    by : (hit : Bool) → Apart other (insert_entry (pointwise nat_eq) es name text)
+        → Apart other (if hit then (e.0, text) ∷ es else e ∷ insert_entry (pointwise nat_eq) es name text)
     by true later = apart
     by false later = (apart.0, later)
 
-distinct_more : (name text : List ℕ) (es : List (List ℕ × List ℕ)) → IsDistinct (pointwise nat_eq) (keys_of es) → IsDistinct (pointwise nat_eq) (keys_of (insert_entry (pointwise nat_eq) es name text))
+distinct_more : (name text : List ℕ) (es : List (List ℕ × List ℕ)) → IsDistinct (pointwise nat_eq) (keys_of es)
+    → IsDistinct (pointwise nat_eq) (keys_of (insert_entry (pointwise nat_eq) es name text))
 unfolding IsDistinct
 distinct_more name text [] distinct = (tt, tt)
 distinct_more name text (e ∷ es) distinct = by (pointwise nat_eq name e.0) refl (distinct_more name text es distinct.1)
   where
-    by : (hit : Bool) → pointwise nat_eq name e.0 ≡ hit → IsDistinct (pointwise nat_eq) (keys_of (insert_entry (pointwise nat_eq) es name text))
+    by : (hit : Bool) → pointwise nat_eq name e.0 ≡ hit
+        → IsDistinct (pointwise nat_eq) (keys_of (insert_entry (pointwise nat_eq) es name text))
         → IsDistinct (pointwise nat_eq) (keys_of (if hit then (e.0, text) ∷ es else e ∷ insert_entry (pointwise nat_eq) es name text))
     by true hit later = distinct
     by false hit later = (apart_more e.0 name text es (nat_list_eq_equiv.symm e.0 name ∙ hit) distinct.0, later)
 
-apart_renamed : (eq : List ℕ → Bool) (other new : List ℕ) (es : List (List ℕ × List ℕ)) → pointwise nat_eq other new ≡ false → Apart other es → Apart other (set_key eq es new)
+apart_renamed : (eq : List ℕ → Bool) (other new : List ℕ) (es : List (List ℕ × List ℕ)) → pointwise nat_eq other new ≡ false
+    → Apart other es → Apart other (set_key eq es new)
 apart_renamed eq other new [] differ apart = tt
 apart_renamed eq other new (e ∷ es) differ apart = by (eq e.0) (apart_renamed eq other new es differ apart.1)
   where
@@ -106,22 +121,26 @@ absent_apart : (new : List ℕ) (es : List (List ℕ × List ℕ)) → lookup (p
 absent_apart new [] none = tt
 absent_apart new (e ∷ es) none = by (pointwise nat_eq new e.0) refl none (absent_apart new es)
   where
-    by : (hit : Bool) → pointwise nat_eq new e.0 ≡ hit → cond hit (Some e.1) (lookup (pointwise nat_eq new) es) ≡ None → (lookup (pointwise nat_eq new) es ≡ None → Apart new es) → Apart new (e ∷ es)
+    by : (hit : Bool) → pointwise nat_eq new e.0 ≡ hit → cond hit (Some e.1) (lookup (pointwise nat_eq new) es) ≡ None
+        → (lookup (pointwise nat_eq new) es ≡ None → Apart new es) → Apart new (e ∷ es)
     by true is none' later = absurd cc
     by false is none' later = (is, later none')
 
-distinct_renamed : (eq : List ℕ → Bool) (new : List ℕ) (es : List (List ℕ × List ℕ)) → Apart new es → IsDistinct (pointwise nat_eq) (keys_of es) → IsDistinct (pointwise nat_eq) (keys_of (set_key eq es new))
+distinct_renamed : (eq : List ℕ → Bool) (new : List ℕ) (es : List (List ℕ × List ℕ)) → Apart new es
+    → IsDistinct (pointwise nat_eq) (keys_of es) → IsDistinct (pointwise nat_eq) (keys_of (set_key eq es new))
 unfolding IsDistinct
 distinct_renamed eq new [] apart distinct = tt
 distinct_renamed eq new (e ∷ es) apart distinct = by (eq e.0) (distinct_renamed eq new es apart.1 distinct.1)
   where
-    by : (hit : Bool) → IsDistinct (pointwise nat_eq) (keys_of (set_key eq es new)) → IsDistinct (pointwise nat_eq) (keys_of (cond hit ((new, e.1) ∷ es) (e ∷ set_key eq es new)))
+    by : (hit : Bool) → IsDistinct (pointwise nat_eq) (keys_of (set_key eq es new))
+        → IsDistinct (pointwise nat_eq) (keys_of (cond hit ((new, e.1) ∷ es) (e ∷ set_key eq es new)))
     by true later = (apart.1, distinct.1)
     by false later = (apart_renamed eq e.0 new es (nat_list_eq_equiv.symm e.0 new ∙ apart.0) distinct.0, later)
 
 -- Named texts.
 
-put_by : (set : Set) (name text : List ℕ) (set' : Set) (given : Result Items SyntaxFault) → is_name name ≡ true → is_text text ≡ true → parsed text ≡ given → by_tree name (with_named set name text) given ≡ Ok set' → Kept set → Kept set'
+put_by : (set : Set) (name text : List ℕ) (set' : Set) (given : Result Items SyntaxFault) → is_name name ≡ true → is_text text ≡ true
+    → parsed text ≡ given → by_tree name (with_named set name text) given ≡ Ok set' → Kept set → Kept set'
 put_by set name text set' (Err fault) names body tree is kept = absurd cc
 put_by set name text set' (Ok items) names body tree is kept =
     let same : with_named set name text ≡ set' = cc in
@@ -131,11 +150,13 @@ put_by set name text set' (Ok items) names body tree is kept =
       distinct = distinct_more name text set.named kept.distinct;
     })
 
-put_keeps : (set : Set) (name text : List ℕ) (set' : Set) → is_name name ≡ true → is_text text ≡ true → put set name text ≡ Ok set' → Kept set → Kept set'
+put_keeps : (set : Set) (name text : List ℕ) (set' : Set) → is_name name ≡ true → is_text text ≡ true → put set name text ≡ Ok set'
+    → Kept set → Kept set'
 put_keeps set name text set' names body is kept = put_by set name text set' (parsed text) names body refl is kept
 
 -- a body with another after it, and one without the white space at its front
-body_append : (old addition : List ℕ) (seen back : Bool) → is_body seen back old ≡ true → is_body true false addition ≡ true → is_body seen back (old ++ addition) ≡ true
+body_append : (old addition : List ℕ) (seen back : Bool) → is_body seen back old ≡ true → is_body true false addition ≡ true
+    → is_body seen back (old ++ addition) ≡ true
 body_append [] addition true false is later = later
 body_append [] addition true true is later = absurd cc
 body_append [] addition false back is later = absurd cc
@@ -143,22 +164,27 @@ body_append (b ∷ old) addition seen back is later =
     ap (λ c. c && is_body (sees seen b) (ends_with_backslash (b ∷ [])) (old ++ addition)) (and_first (fits seen back b) _ is)
     ∙ body_append old addition (sees seen b) (ends_with_backslash (b ∷ [])) (and_second (fits seen back b) _ is) later
 
-solid_fits : (b : ℕ) (seen back : Bool) → fits seen back b ≡ true → is_white b ≡ false → (fits false false b ≡ true) × (sees false b ≡ sees seen b)
+solid_fits : (b : ℕ) (seen back : Bool) → fits seen back b ≡ true → is_white b ≡ false
+    → (fits false false b ≡ true) × (sees false b ≡ sees seen b)
 solid_fits b seen back fit white = by (is_blank b) refl (b == newline) refl
   where
-    by : (blank : Bool) → is_blank b ≡ blank → (cuts : Bool) → (b == newline) ≡ cuts → (fits false false b ≡ true) × (sees false b ≡ sees seen b)
+    by : (blank : Bool) → is_blank b ≡ blank → (cuts : Bool) → (b == newline) ≡ cuts
+        → (fits false false b ≡ true) × (sees false b ≡ sees seen b)
     by true blank cuts cuts' = absurd (let wrong : true ≡ false = ap (λ c. c || (b == newline)) (sym blank) ∙ white in cc)
-    by false blank true cuts = absurd (let wrong : true ≡ false = ap (λ c. c || true) (sym blank) ∙ ap (λ c. is_blank b || c) (sym cuts) ∙ white in cc)
+    by false blank true cuts =
+        absurd (let wrong : true ≡ false = ap (λ c. c || true) (sym blank) ∙ ap (λ c. is_blank b || c) (sym cuts) ∙ white in cc)
     by false blank false cuts = (
       ap (λ c. is_kept b && (not c || (false && true))) cuts ∙ ap (λ c. c && true) (and_first (is_kept b) _ fit),
-      ap (λ c. not c && (false || not (is_blank b))) cuts ∙ ap not blank ∙ sym (ap (λ c. not c && (seen || not (is_blank b))) cuts ∙ ap (λ c. seen || not c) blank ∙ or_true seen),
+      ap (λ c. not c && (false || not (is_blank b))) cuts ∙ ap not blank
+          ∙ sym (ap (λ c. not c && (seen || not (is_blank b))) cuts ∙ ap (λ c. seen || not c) blank ∙ or_true seen),
     )
       where
         or_true : (s : Bool) → (s || true) ≡ true
         or_true true = refl
         or_true false = refl
 
-body_fronted : (text : List ℕ) (seen back : Bool) → list_all is_white text ≡ false → is_body seen back text ≡ true → is_text (without_front is_white text) ≡ true
+body_fronted : (text : List ℕ) (seen back : Bool) → list_all is_white text ≡ false → is_body seen back text ≡ true
+    → is_text (without_front is_white text) ≡ true
 body_fronted [] seen back white is = absurd cc
 body_fronted (b ∷ text) seen back white is = by (is_white b) refl white (body_fronted text (sees seen b) (ends_with_backslash (b ∷ [])))
   where
@@ -166,28 +192,42 @@ body_fronted (b ∷ text) seen back white is = by (is_white b) refl white (body_
     later = and_second (fits seen back b) _ is
 
     by : (w : Bool) → is_white b ≡ w → (w && list_all is_white text) ≡ false
-        → (list_all is_white text ≡ false → is_body (sees seen b) (ends_with_backslash (b ∷ [])) text ≡ true → is_text (without_front is_white text) ≡ true)
+        → (list_all is_white text ≡ false → is_body (sees seen b) (ends_with_backslash (b ∷ [])) text ≡ true
+        → is_text (without_front is_white text) ≡ true)
         → is_text (if w then without_front is_white text else b ∷ text) ≡ true
     by true w all on = on all later
     by false w all on =
         let solid = solid_fits b seen back (and_first (fits seen back b) _ is) w in
-        ap (λ c. c && is_body (sees false b) (ends_with_backslash (b ∷ [])) text) solid.0 ∙ ap (λ s. is_body s (ends_with_backslash (b ∷ [])) text) solid.1 ∙ later
+        ap (λ c. c && is_body (sees false b) (ends_with_backslash (b ∷ [])) text) solid.0
+        ∙ ap (λ s. is_body s (ends_with_backslash (b ∷ [])) text) solid.1 ∙ later
 
-appended_body : (found : Option (List ℕ)) (addition : List ℕ) → ((text : List ℕ) → found ≡ Some text → is_text text ≡ true) → is_body true false addition ≡ true → list_all is_white addition ≡ false
+appended_body : (found : Option (List ℕ)) (addition : List ℕ) → ((text : List ℕ) → found ≡ Some text → is_text text ≡ true)
+    → is_body true false addition ≡ true → list_all is_white addition ≡ false
     → is_text (appended_text found addition) ≡ true
 appended_body None addition good body white = body_fronted addition true false white body
 appended_body (Some text) addition good body white = body_append text addition false false (good text refl) body
 
-append_keeps : (set : Set) (name addition : List ℕ) (set' : Set) → is_name name ≡ true → is_body true false addition ≡ true → append set name addition ≡ Ok set' → Kept set → Kept set'
+append_keeps : (set : Set) (name addition : List ℕ) (set' : Set) → is_name name ≡ true → is_body true false addition ≡ true
+    → append set name addition ≡ Ok set' → Kept set → Kept set'
 append_keeps set name addition set' names body is kept = by (list_all is_white addition) refl is
   where
-    by : (white : Bool) → list_all is_white addition ≡ white → (if white then Ok set else put set name (appended_text (text_of set name) addition)) ≡ Ok set' → Kept set'
+    by : (white : Bool) → list_all is_white addition ≡ white
+        → (if white then Ok set else put set name (appended_text (text_of set name) addition)) ≡ Ok set' → Kept set'
     by true white is' = let same : set ≡ set' = cc in subst Kept same kept
     by false white is' =
         put_keeps set name (appended_text (text_of set name) addition) set' names
-        (appended_body (text_of set name) addition (λ text found. found_text (pointwise nat_eq name) set.named text kept.named found) body white) is' kept
+        (appended_body (text_of set name) addition (λ text found. found_text (pointwise nat_eq name) set.named text kept.named found) body
+        white) is' kept
 
-body_keeps : (set : Set) (name body : List ℕ) (set' : Set) → is_name name ≡ true → (body ≡ []) ⊎ (is_text body ≡ true) → with_body set name body ≡ Ok set' → Kept set → Kept set'
+-- a body that has a byte appends or is put
+pub filled_body : (set : Set) (name : List ℕ) (b : ℕ) (text : List ℕ)
+    → with_body set name (b ∷ text) ≡ (if appends (b ∷ text) then append set name text else put set name (b ∷ text))
+filled_body set name b text =
+    ap (λ t. if t then Ok (deleted set name) else if appends (b ∷ text) then append set name text else put set name (b ∷ text))
+    (eqb-suc-zero (length text))
+
+body_keeps : (set : Set) (name body : List ℕ) (set' : Set) → is_name name ≡ true → (body ≡ []) ⊎ (is_text body ≡ true)
+    → with_body set name body ≡ Ok set' → Kept set → Kept set'
 body_keeps set name [] set' names good is kept =
     let same : deleted set name ≡ set' = cc in
     subst Kept same (record {
@@ -196,10 +236,13 @@ body_keeps set name [] set' names good is kept =
       distinct = distinct_less (pointwise nat_eq name) set.named kept.distinct;
     })
 body_keeps set name (b ∷ text) set' names (inl none) is kept = absurd cc
-body_keeps set name (b ∷ []) set' names (inr body) is kept = put_keeps set name (b ∷ []) set' names body is kept
-body_keeps set name (b ∷ c ∷ text) set' names (inr body) is kept = by (b == plus && is_blank c) refl is
+body_keeps set name (b ∷ []) set' names (inr body) is kept =
+    put_keeps set name (b ∷ []) set' names body (sym (filled_body set name b []) ∙ is) kept
+body_keeps set name (b ∷ c ∷ text) set' names (inr body) is kept =
+    by (b == plus && is_blank c) refl (sym (filled_body set name b (c ∷ text)) ∙ is)
   where
-    by : (adds : Bool) → (b == plus && is_blank c) ≡ adds → (if adds then append set name (c ∷ text) else put set name (b ∷ c ∷ text)) ≡ Ok set' → Kept set'
+    by : (adds : Bool) → (b == plus && is_blank c) ≡ adds
+        → (if adds then append set name (c ∷ text) else put set name (b ∷ c ∷ text)) ≡ Ok set' → Kept set'
     by true adds is' =
         let same : b ≡ plus = eqb-true b plus (and_first (b == plus) _ adds) in
         let whole : is_text (plus ∷ c ∷ text) ≡ true = ap (λ d. is_text (d ∷ c ∷ text)) (sym same) ∙ body in
@@ -216,7 +259,8 @@ pub text_keeps : (set : Set) (name body : List ℕ) (set' : Set) → IsBody body
 text_keeps set name body set' good is kept = by (is_name name) refl (ends_with_backslash body) refl is
   where
     by : (names : Bool) → is_name name ≡ names → (ends : Bool) → ends_with_backslash body ≡ ends
-        → (if not names then Err (BadName name) else if ends then Err (TrailingBackslash name) else with_body set name body) ≡ Ok set' → Kept set'
+        → (if not names then Err (BadName name) else if ends then Err (TrailingBackslash name) else with_body set name body) ≡ Ok set'
+        → Kept set'
     by false names ends ends' is' = absurd cc
     by true names true ends is' = absurd cc
     by true names false ends is' = body_keeps set name body set' names (whole_body body good ends) is' kept
@@ -224,11 +268,14 @@ text_keeps set name body set' good is kept = by (is_name name) refl (ends_with_b
 -- Names.
 
 pub name_keeps : (set : Set) (old new : List ℕ) (set' : Set) → with_name set old new ≡ Ok set' → Kept set → Kept set'
-name_keeps set old new set' is kept = by (is_name old) (is_name new) refl (is_some (text_of set old)) (pointwise nat_eq old new) (text_of set new) refl is
+name_keeps set old new set' is kept = by (is_name old) (is_name new) refl (is_some (text_of set old)) (pointwise nat_eq old new)
+    (text_of set new) refl is
   where
     by : (olds news : Bool) → is_name new ≡ news → (there same : Bool) (taken : Option (List ℕ)) → text_of set new ≡ taken
-        → (if not olds then Err (BadName old) else if not news then Err (BadName new) else if not there then Err (RenameMissing old) else if same then Ok set
-        else if is_some taken then Err (RenameTaken new) else Ok (record set { named = set_key (pointwise nat_eq old) set.named new })) ≡ Ok set' → Kept set'
+        → (if not olds then Err (BadName old) else if not news then Err (BadName new) else if not there then Err (RenameMissing old)
+        else if same then Ok set
+        else if is_some taken then Err (RenameTaken new) else Ok (record set { named = set_key (pointwise nat_eq old) set.named new }))
+        ≡ Ok set' → Kept set'
     by false news names there same taken taken' is' = absurd cc
     by true false names there same taken taken' is' = absurd cc
     by true true names false same taken taken' is' = absurd cc
@@ -267,7 +314,8 @@ front_split : (text : List ℕ) → (without_front is_white text ≡ []) ⊎ Fro
 front_split [] = inl refl
 front_split (b ∷ text) = by (is_white b) refl (front_split text)
   where
-    by : (w : Bool) → is_white b ≡ w → (without_front is_white text ≡ []) ⊎ Fronts text → (without_front is_white (b ∷ text) ≡ []) ⊎ Fronts (b ∷ text)
+    by : (w : Bool) → is_white b ≡ w → (without_front is_white text ≡ []) ⊎ Fronts text
+        → (without_front is_white (b ∷ text) ≡ []) ⊎ Fronts (b ∷ text)
     by true w (inl none) = inl (ap (λ c. if c then without_front is_white text else b ∷ text) w ∙ none)
     by true w (inr found) = inr (record {
       first = found.first;
@@ -313,12 +361,15 @@ ended text = by (front_split (reverse text))
       where
         whole : text ≡ reverse found.rest ++ found.first ∷ reverse found.white
         whole = sym (reverse-reverse text) ∙ ap reverse found.all ∙ reverse-append found.white (found.first ∷ found.rest)
-            ∙ ap (λ t. t ++ reverse found.white) (reverse-append (found.first ∷ []) found.rest) ∙ append_assoc (reverse found.rest) (found.first ∷ []) (reverse found.white)
+            ∙ ap (λ t. t ++ reverse found.white) (reverse-append (found.first ∷ []) found.rest)
+            ∙ append_assoc (reverse found.rest) (found.first ∷ []) (reverse found.white)
 
-        softly : (found.white ≡ []) ⊎ ((b : ℕ) × ((more : List ℕ) × ((found.white ≡ b ∷ more) × (is_white b ≡ true)))) → (reverse found.white ≡ []) ⊎ (ends_with_backslash text ≡ false)
+        softly : (found.white ≡ []) ⊎ ((b : ℕ) × ((more : List ℕ) × ((found.white ≡ b ∷ more) × (is_white b ≡ true))))
+            → (reverse found.white ≡ []) ⊎ (ends_with_backslash text ≡ false)
         softly (inl none) = inl (ap reverse none)
         softly (inr some) = inr (
-            ap ends_with_backslash (whole ∙ ap (λ w. reverse found.rest ++ found.first ∷ w) (ap reverse some.1.1.0 ∙ reverse-append (some.0 ∷ []) some.1.0))
+            ap ends_with_backslash (whole ∙ ap (λ w. reverse found.rest ++ found.first ∷ w)
+            (ap reverse some.1.1.0 ∙ reverse-append (some.0 ∷ []) some.1.0))
             ∙ ends_far (reverse found.rest) found.first (reverse some.1.0 ++ some.0 ∷ [])
             ∙ ends_last (found.first ∷ reverse some.1.0) some.0 ∙ white_ends some.0 some.1.1.1)
 
@@ -327,7 +378,8 @@ last_sees b seen back fit white = by (is_blank b) refl (b == newline) refl
   where
     by : (blank : Bool) → is_blank b ≡ blank → (cuts : Bool) → (b == newline) ≡ cuts → sees seen b ≡ true
     by true blank cuts cuts' = absurd (let wrong : true ≡ false = ap (λ c. c || (b == newline)) (sym blank) ∙ white in cc)
-    by false blank true cuts = absurd (let wrong : true ≡ false = ap (λ c. c || true) (sym blank) ∙ ap (λ c. is_blank b || c) (sym cuts) ∙ white in cc)
+    by false blank true cuts =
+        absurd (let wrong : true ≡ false = ap (λ c. c || true) (sym blank) ∙ ap (λ c. is_blank b || c) (sym cuts) ∙ white in cc)
     by false blank false cuts = ap (λ c. not c && (seen || not (is_blank b))) cuts ∙ ap (λ c. seen || not c) blank ∙ or_true seen
       where
         or_true : (s : Bool) → (s || true) ≡ true
@@ -335,11 +387,13 @@ last_sees b seen back fit white = by (is_blank b) refl (b == newline) refl
         or_true false = refl
 
 -- a body that is cut after a byte
-body_cut : (front : List ℕ) (last : ℕ) (end : List ℕ) (seen back : Bool) → is_body seen back (front ++ last ∷ end) ≡ true → is_white last ≡ false → ends_with_backslash (last ∷ []) ≡ false
+body_cut : (front : List ℕ) (last : ℕ) (end : List ℕ) (seen back : Bool) → is_body seen back (front ++ last ∷ end) ≡ true
+    → is_white last ≡ false → ends_with_backslash (last ∷ []) ≡ false
     → is_body seen back (front ++ last ∷ []) ≡ true
 body_cut [] last end seen back is solid ends =
     let fit = and_first (fits seen back last) _ is in
-    ap (λ c. c && (sees seen last && not (ends_with_backslash (last ∷ [])))) fit ∙ ap (λ c. c && not (ends_with_backslash (last ∷ []))) (last_sees last seen back fit solid) ∙ ap not ends
+    ap (λ c. c && (sees seen last && not (ends_with_backslash (last ∷ [])))) fit
+    ∙ ap (λ c. c && not (ends_with_backslash (last ∷ []))) (last_sees last seen back fit solid) ∙ ap not ends
 body_cut (b ∷ front) last end seen back is solid ends =
     ap (λ c. c && is_body (sees seen b) (ends_with_backslash (b ∷ [])) (front ++ last ∷ [])) (and_first (fits seen back b) _ is)
     ∙ body_cut front last end (sees seen b) (ends_with_backslash (b ∷ [])) (and_second (fits seen back b) _ is) solid ends
@@ -348,19 +402,23 @@ some_byte : (front : List ℕ) (last : ℕ) (end : List ℕ) → has_byte (front
 some_byte [] last end = refl
 some_byte (b ∷ front) last end = refl
 
-ended_body : (body : List ℕ) → IsBody body → (without_end is_white body ≡ []) ⊎ Ended body → ends_with_backslash (without_end is_white body) ≡ false
+ended_body : (body : List ℕ) → IsBody body → (without_end is_white body ≡ []) ⊎ Ended body
+    → ends_with_backslash (without_end is_white body) ≡ false
     → (without_end is_white body ≡ []) ⊎ (is_text (without_end is_white body) ≡ true)
 ended_body body good (inl none) ends = inl none
-ended_body body (inl none) (inr e) ends = absurd (let wrong : true ≡ false = sym (some_byte e.front e.last e.end) ∙ ap has_byte (sym e.whole ∙ none) in cc)
+ended_body body (inl none) (inr e) ends =
+    absurd (let wrong : true ≡ false = sym (some_byte e.front e.last e.end) ∙ ap has_byte (sym e.whole ∙ none) in cc)
 ended_body body (inr (inl last)) (inr e) ends = absurd (by e.soft)
   where
     by : (e.end ≡ []) ⊎ (ends_with_backslash body ≡ false) → ⊥
     by (inl none) = let wrong : true ≡ false = sym last ∙ ap ends_with_backslash (e.whole ∙ ap (λ t. e.front ++ e.last ∷ t) none ∙ sym e.is) ∙ ends in cc
     by (inr soft) = let wrong : true ≡ false = sym last ∙ soft in cc
 ended_body body (inr (inr good)) (inr e) ends =
-    inr (ap is_text e.is ∙ body_cut e.front e.last e.end false false (ap is_text (sym e.whole) ∙ good) e.solid (sym (ends_last e.front e.last) ∙ ap ends_with_backslash (sym e.is) ∙ ends))
+    inr (ap is_text e.is ∙ body_cut e.front e.last e.end false false (ap is_text (sym e.whole) ∙ good) e.solid
+    (sym (ends_last e.front e.last) ∙ ap ends_with_backslash (sym e.is) ∙ ends))
 
-pair_good : (body : List ℕ) → IsBody body → ends_with_backslash (pair_text body) ≡ false → (pair_text body ≡ []) ⊎ (is_text (pair_text body) ≡ true)
+pair_good : (body : List ℕ) → IsBody body → ends_with_backslash (pair_text body) ≡ false
+    → (pair_text body ≡ []) ⊎ (is_text (pair_text body) ≡ true)
 pair_good body good = by (is_no_text (without_end is_white body))
   where
     by : (none : Bool) → ends_with_backslash (if none then without_end is_white body else body) ≡ false
@@ -368,7 +426,8 @@ pair_good body good = by (is_no_text (without_end is_white body))
     by true ends = ended_body body good (ended body) ends
     by false ends = whole_body body good ends
 
-end_same : (text : List ℕ) → (without_end is_white text ≡ []) ⊎ Ended text → without_end is_white (without_end is_white text) ≡ without_end is_white text
+end_same : (text : List ℕ) → (without_end is_white text ≡ []) ⊎ Ended text
+    → without_end is_white (without_end is_white text) ≡ without_end is_white text
 end_same text (inl none) = ap (without_end is_white) none ∙ sym none
 end_same text (inr e) =
     ap (without_end is_white) e.is
@@ -389,7 +448,8 @@ pair_same body = by (is_no_text (without_end is_white body)) refl
     by : (none : Bool) → is_no_text (without_end is_white body) ≡ none → pair_text (pair_text body) ≡ pair_text body
     by true none =
         let is : pair_text body ≡ without_end is_white body = ap (λ c. if c then without_end is_white body else body) none in
-        ap pair_text is ∙ ap (λ t. if is_no_text t then t else without_end is_white body) (end_same body (ended body)) ∙ either_same (is_no_text (without_end is_white body)) (without_end is_white body) ∙ sym is
+        ap pair_text is ∙ ap (λ t. if is_no_text t then t else without_end is_white body) (end_same body (ended body))
+        ∙ either_same (is_no_text (without_end is_white body)) (without_end is_white body) ∙ sym is
     by false none = ap pair_text (ap (λ c. if c then without_end is_white body else body) none)
 
 text_or_none : (text : List ℕ) → (text ≡ []) ⊎ (is_text text ≡ true) → (not (has_byte text) || is_text text) ≡ true
@@ -402,23 +462,33 @@ some_key key is (inl none) = absurd (let wrong : false ≡ true = ap is_key (sym
 some_key key is (inr begins) = begins
 
 pair_added : (set : Set) (key text : List ℕ) → IsPair (key, text) → Kept set → Kept (with_pair set key text)
-pair_added set key text new kept = record { named = kept.named; pairs = each_append IsPair set.pairs ((key, text) ∷ []) kept.pairs (new, tt); distinct = kept.distinct }
+pair_added set key text new kept = record {
+  named = kept.named;
+  pairs =
+      each_append IsPair set.pairs ((key, text) ∷ []) kept.pairs (new, tt);
+  distinct = kept.distinct;
+}
 
-pair_by : (set : Set) (key text : List ℕ) (set' : Set) (given : Result Items SyntaxFault) → parsed text ≡ given → ((is_no_text text || has_tree text) ≡ true → IsPair (key, text)) → is_no_text text ≡ false
+pair_by : (set : Set) (key text : List ℕ) (set' : Set) (given : Result Items SyntaxFault) → parsed text ≡ given
+    → ((is_no_text text || has_tree text) ≡ true → IsPair (key, text)) → is_no_text text ≡ false
     → by_tree key (with_pair set key text) given ≡ Ok set' → Kept set → Kept set'
 pair_by set key text set' (Err fault) tree new none is kept = absurd cc
 pair_by set key text set' (Ok items) tree new none is kept =
     let same : with_pair set key text ≡ set' = cc in
     subst Kept same (pair_added set key text (new (ap (λ c. c || has_tree text) none ∙ ap is_ok tree)) kept)
 
-pub pair_keeps : (set : Set) (key body : List ℕ) (set' : Set) → (key ≡ []) ⊎ (begins_line key ≡ true) → IsBody body → with_pair_body set key body ≡ Ok set' → Kept set → Kept set'
+pub pair_keeps : (set : Set) (key body : List ℕ) (set' : Set) → (key ≡ []) ⊎ (begins_line key ≡ true) → IsBody body
+    → with_pair_body set key body ≡ Ok set' → Kept set → Kept set'
 pair_keeps set key body set' begins good is kept =
-    by (is_key key) refl (ends_with_backslash (pair_text body)) refl (begins_with_at key && begins_with_at (pair_text body)) refl (is_no_text (pair_text body)) refl is
+    by (is_key key) refl (ends_with_backslash (pair_text body)) refl (begins_with_at key && begins_with_at (pair_text body)) refl
+    (is_no_text (pair_text body)) refl is
   where
-    by : (keys : Bool) → is_key key ≡ keys → (ends : Bool) → ends_with_backslash (pair_text body) ≡ ends → (alias : Bool) → (begins_with_at key && begins_with_at (pair_text body)) ≡ alias
+    by : (keys : Bool) → is_key key ≡ keys → (ends : Bool) → ends_with_backslash (pair_text body) ≡ ends → (alias : Bool)
+        → (begins_with_at key && begins_with_at (pair_text body)) ≡ alias
         → (none : Bool) → is_no_text (pair_text body) ≡ none
         → (if keys then (if ends then Err (TrailingBackslash key) else if alias then Err (AliasOfAlias key)
-        else if none then Ok (with_pair set key (pair_text body)) else by_tree key (with_pair set key (pair_text body)) (parsed (pair_text body))) else Err (BadName key)) ≡ Ok set' → Kept set'
+        else if none then Ok (with_pair set key (pair_text body))
+        else by_tree key (with_pair set key (pair_text body)) (parsed (pair_text body))) else Err (BadName key)) ≡ Ok set' → Kept set'
     by false keys ends ends' alias alias' none none' is' = absurd cc
     by true keys true ends alias alias' none none' is' = absurd cc
     by true keys false ends true alias none none' is' = absurd cc
@@ -434,5 +504,13 @@ pair_keeps set key body set' begins good is kept =
         }) kept)
     by true keys false ends false alias false none is' =
         pair_by set key (pair_text body) set' (parsed (pair_text body)) refl
-        (λ tree. record { key = keys; begins = some_key key keys begins; text = text_or_none (pair_text body) (pair_good body good ends); whole = pair_same body; no_alias = alias; tree = tree })
+        (λ tree. record {
+          key = keys;
+          begins = some_key key keys begins;
+          text =
+              text_or_none (pair_text body) (pair_good body good ends);
+          whole = pair_same body;
+          no_alias = alias;
+          tree = tree;
+        })
         none is' kept

@@ -2,13 +2,16 @@ use Rattle.drv_specs.proofs.Booleans.{and_first, and_second, differs, not_true}
 use Rattle.drv_specs.proofs.Lining.{body_full, body_lines_are, inside_passed, lines_join, one_piece, pieces_then}
 use Rattle.drv_specs.proofs.SettledTexts.{body_settled, head_settled, is_line_byte, is_settled, settled_same}
 use Rattle.drv_specs.specs.Blanks.{has_byte, is_blank}
-use Rattle.drv_specs.specs.Directives.{Alone, Directive, Pair, Passed, Text, WithBody, body_lines, body_of, by_colon, by_key, by_keyword, directive_in, directives_of, is_colon, is_inside, opens_body, read_lines, start_at, start_of}
+use Rattle.drv_specs.specs.Directives.{Alone, Directive, Pair, Passed, Text, WithBody, body_lines, body_of, by_colon, by_key, by_keyword}
+use Rattle.drv_specs.specs.Directives.{directive_in, directives_of, is_colon, is_inside, opens_body, read_lines, start_at, start_of}
 use Rattle.drv_specs.specs.Dumping.{dumped, entry_text, named_text}
 use Rattle.drv_specs.specs.Kept.{Each, IsNamed, IsPair, Kept, begins_line, is_text}
 use Rattle.drv_specs.specs.Lines.{ends_line, is_kept, lines_of, without_front, words_of}
 use Rattle.drv_specs.specs.Sets.{Set, is_key, is_key_byte, is_name, is_name_byte, is_sized}
 use Rattle.drv_words.specs.Bytes.{asterisk, at_sign, colon, newline, number_sign, percent, space, tab}
-use Rattle.std.proofs.Common.{◌≡◌, ◌<◌, ◌+◌, ◌∙◌, ◌==◌, ◌&&◌, ◌||◌, Bool, List, [], ◌∷◌, ◌++◌, None, Some, ap, append_assoc, arith, cond, drop, eqb-true, false, flat_map, if◌then◌else◌, length, length-append, lt-ltb, map, nat_le, nat_lt, not, position, refl, suc, sym, take, true, ℕ}
+use Rattle.std.proofs.Common.{◌≡◌, ◌<◌, ◌+◌, ◌∙◌, ◌==◌, ◌&&◌, ◌||◌, Bool, List, [], ◌∷◌, ◌++◌, None, Some, ap, append_assoc, arith, cond}
+use Rattle.std.proofs.Common.{drop, eqb-true, false, flat_map, if◌then◌else◌, length, length-append, lt-ltb, map, nat_le, nat_lt, not}
+use Rattle.std.proofs.Common.{position, refl, suc, sym, take, true, ℕ}
 use Rattle.std.specs.List.{join_with_byte, list_all, position_or_len}
 
 -- For dump_reloads: the directives of a set's dump are its entries and then its pairs.
@@ -34,13 +37,15 @@ name_head name is = all_also is_name_byte is_head_byte name (head_byte is_name_b
 colon_last : (head : List ℕ) → list_all is_head_byte head ≡ true → position_or_len is_colon (head ++ colon ∷ []) ≡ length head
 colon_last [] is = refl
 colon_last (b ∷ head) is =
-    ap (λ c. cond (not c) (1 + position_or_len is_colon (head ++ colon ∷ [])) 0) (not_true (is_colon b) (and_second (is_line_byte b) _ (and_first (is_head_byte b) _ is)))
+    ap (λ c. cond (not c) (1 + position_or_len is_colon (head ++ colon ∷ [])) 0)
+    (not_true (is_colon b) (and_second (is_line_byte b) _ (and_first (is_head_byte b) _ is)))
     ∙ ap (λ n. 1 + n) (colon_last head (and_second (is_head_byte b) _ is)) ∙ omega arith
 
 colon_at : (head : List ℕ) → list_all is_head_byte head ≡ true → position is_colon (head ++ colon ∷ []) ≡ Some (length head)
 colon_at head is =
     let within : length head < length (head ++ colon ∷ []) = omega (arith, length-append head (colon ∷ [])) in
-    ap (λ n. cond (nat_lt n (length (head ++ colon ∷ []))) (Some n) None) (colon_last head is) ∙ ap (λ c. cond c (Some (length head)) None) (lt-ltb (length head) (length (head ++ colon ∷ [])) within)
+    ap (λ n. cond (nat_lt n (length (head ++ colon ∷ []))) (Some n) None) (colon_last head is)
+    ∙ ap (λ c. cond c (Some (length head)) None) (lt-ltb (length head) (length (head ++ colon ∷ [])) within)
 
 front_taken : (head : List ℕ) → take (length head) (head ++ colon ∷ []) ≡ head
 front_taken [] = refl
@@ -54,49 +59,60 @@ none_after (b ∷ head) = ap (λ n. drop n (b ∷ head ++ colon ∷ [])) more �
     more = omega arith
 
 keyed : (n : ℕ) (head : List ℕ) (lines : List (List ℕ)) → list_all is_head_byte head ≡ true
-    → by_colon n (head ++ colon ∷ []) lines (position is_colon (head ++ colon ∷ [])) ≡ by_key head (join_with_byte newline (body_lines lines))
+    → by_colon n (head ++ colon ∷ []) lines (position is_colon (head ++ colon ∷ []))
+    ≡ by_key head (join_with_byte newline (body_lines lines))
 keyed n head lines is =
     ap (by_colon n (head ++ colon ∷ []) lines) (colon_at head is)
     ∙ ap (λ key. by_key key (body_of (drop (length head + 1) (head ++ colon ∷ [])) lines)) (front_taken head)
     ∙ ap (λ rest. by_key head (body_of rest lines)) (none_after head)
 
 -- a line with a colon at its end, a body, and an empty line
-module _ (n : ℕ) (b : ℕ) (head : List ℕ) (is : list_all is_head_byte (b ∷ head) ≡ true) (solid : is_blank b ≡ false) (mark : (b == number_sign) ≡ false) (directive : (b == percent) ≡ false) where
+module _ (n : ℕ) (b : ℕ) (head : List ℕ) (is : list_all is_head_byte (b ∷ head) ≡ true) (solid : is_blank b ≡ false)
+    (mark : (b == number_sign) ≡ false) (directive : (b == percent) ≡ false) where
   abbrev tail : List ℕ
   tail = head ++ colon ∷ []
 
   start_is : (lines : List (List ℕ)) → start_of n (b ∷ tail) lines ≡ WithBody (by_colon n (b ∷ tail) lines (position is_colon (b ∷ tail)))
   start_is lines =
-      ap (λ c. if c then Passed else if b == percent then Alone (by_keyword n (b ∷ tail) (words_of (b ∷ tail))) else WithBody (by_colon n (b ∷ tail) lines (position is_colon (b ∷ tail)))) mark
-      ∙ ap (λ c. if c then Alone (by_keyword n (b ∷ tail) (words_of (b ∷ tail))) else WithBody (by_colon n (b ∷ tail) lines (position is_colon (b ∷ tail)))) directive
+      ap (λ c. if c then Passed else if b == percent then Alone (by_keyword n (b ∷ tail) (words_of (b ∷ tail)))
+      else WithBody (by_colon n (b ∷ tail) lines (position is_colon (b ∷ tail)))) mark
+      ∙ ap (λ c. if c then Alone (by_keyword n (b ∷ tail) (words_of (b ∷ tail)))
+      else WithBody (by_colon n (b ∷ tail) lines (position is_colon (b ∷ tail)))) directive
 
   begun : (lines : List (List ℕ)) → read_lines false n ((b ∷ head ++ colon ∷ []) ∷ lines)
       ≡ by_key (b ∷ head) (join_with_byte newline (body_lines lines)) ∷ read_lines true (n + 1) lines
   begun lines =
-      ap (λ e. directive_in (start_at e false n (b ∷ tail) lines) ++ read_lines (is_inside e false (start_at e false n (b ∷ tail) lines)) (n + 1) lines) (ap (λ c. c && list_all is_blank tail) solid)
-      ∙ ap (λ l. directive_in (start_of n l lines) ++ read_lines (opens_body (start_of n l lines)) (n + 1) lines) (ap (λ c. if c then without_front is_blank tail else b ∷ tail) solid)
+      ap (λ e. directive_in (start_at e false n (b ∷ tail) lines)
+      ++ read_lines (is_inside e false (start_at e false n (b ∷ tail) lines)) (n + 1) lines)
+      (ap (λ c. c && list_all is_blank tail) solid)
+      ∙ ap (λ l. directive_in (start_of n l lines) ++ read_lines (opens_body (start_of n l lines)) (n + 1) lines)
+      (ap (λ c. if c then without_front is_blank tail else b ∷ tail) solid)
       ∙ ap (λ s. directive_in s ++ read_lines (opens_body s) (n + 1) lines) (start_is lines)
       ∙ ap (λ d. d ∷ read_lines true (n + 1) lines) (keyed n (b ∷ head) lines is)
 
   pub entry_read : (text rest : List ℕ) → is_text text ≡ true
-      → (m : ℕ) × (read_lines false n ((b ∷ head ++ colon ∷ []) ∷ (lines_of text ++ ([] ∷ lines_of rest))) ≡ by_key (b ∷ head) text ∷ read_lines false m (lines_of rest))
+      → (m : ℕ) × (read_lines false n ((b ∷ head ++ colon ∷ []) ∷ (lines_of text ++ ([] ∷ lines_of rest))) ≡ by_key (b ∷ head) text
+      ∷ read_lines false m (lines_of rest))
   entry_read text rest body =
       let full = body_full text [] false false refl body in
       let passed = inside_passed (lines_of text) (lines_of rest) (n + 1) full in (
         passed.0,
         begun (lines_of text ++ ([] ∷ lines_of rest))
-            ∙ ap (λ ls. by_key (b ∷ head) (join_with_byte newline ls) ∷ read_lines true (n + 1) (lines_of text ++ ([] ∷ lines_of rest))) (body_lines_are (lines_of text) (lines_of rest) full)
+            ∙ ap (λ ls. by_key (b ∷ head) (join_with_byte newline ls) ∷ read_lines true (n + 1) (lines_of text ++ ([] ∷ lines_of rest)))
+            (body_lines_are (lines_of text) (lines_of rest) full)
             ∙ ap (λ t. by_key (b ∷ head) t ∷ read_lines true (n + 1) (lines_of text ++ ([] ∷ lines_of rest))) (lines_join text)
             ∙ ap (λ ds. by_key (b ∷ head) text ∷ ds) passed.1,
       )
 
-  pub empty_read : (rest : List ℕ) → (m : ℕ) × (read_lines false n ((b ∷ head ++ colon ∷ []) ∷ ([] ∷ [] ∷ lines_of rest)) ≡ by_key (b ∷ head) [] ∷ read_lines false m (lines_of rest))
+  pub empty_read : (rest : List ℕ) → (m : ℕ) × (read_lines false n ((b ∷ head ++ colon ∷ []) ∷ ([] ∷ [] ∷ lines_of rest))
+      ≡ by_key (b ∷ head) [] ∷ read_lines false m (lines_of rest))
   empty_read rest = (n + 1 + 1 + 1, begun ([] ∷ [] ∷ lines_of rest))
 
 -- the lines of an entry
 line_bytes : (text : List ℕ) → list_all is_line_byte text ≡ true → list_all (λ b. not (ends_line b)) (text ++ colon ∷ []) ≡ true
 line_bytes [] is = refl
-line_bytes (b ∷ text) is = rw (not_true (b == newline) (and_second (is_kept b) _ (and_first (is_line_byte b) _ is))) (line_bytes text (and_second (is_line_byte b) _ is))
+line_bytes (b ∷ text) is = rw (not_true (b == newline) (and_second (is_kept b) _ (and_first (is_line_byte b) _ is)))
+    (line_bytes text (and_second (is_line_byte b) _ is))
 
 entry_is : (key text rest : List ℕ) → entry_text (key, text) ++ rest ≡ (key ++ colon ∷ []) ++ newline ∷ (text ++ newline ∷ (newline ∷ rest))
 entry_is key text rest =
@@ -105,19 +121,23 @@ entry_is key text rest =
     ∙ append_assoc key (colon ∷ newline ∷ []) (text ++ newline ∷ (newline ∷ rest))
     ∙ sym (append_assoc key (colon ∷ []) (newline ∷ (text ++ newline ∷ (newline ∷ rest))))
 
-pub entry_lines : (key text rest : List ℕ) → list_all is_head_byte key ≡ true → lines_of (entry_text (key, text) ++ rest) ≡ (key ++ colon ∷ []) ∷ (lines_of text ++ ([] ∷ lines_of rest))
+pub entry_lines : (key text rest : List ℕ) → list_all is_head_byte key ≡ true
+    → lines_of (entry_text (key, text) ++ rest) ≡ (key ++ colon ∷ []) ∷ (lines_of text ++ ([] ∷ lines_of rest))
 entry_lines key text rest is =
     ap lines_of (entry_is key text rest)
     ∙ pieces_then (key ++ colon ∷ []) [] (text ++ newline ∷ (newline ∷ rest))
     ∙ ap (λ ls. ls ++ lines_of (text ++ newline ∷ (newline ∷ rest))) (one_piece (key ++ colon ∷ []) [] (line_bytes key (line_head key is)))
     ∙ ap (λ ls. (key ++ colon ∷ []) ∷ ls) (pieces_then text [] (newline ∷ rest))
 
-entry_settled : (key text rest : List ℕ) → list_all is_head_byte key ≡ true → is_text text ≡ true → is_settled false rest ≡ true → is_settled false (entry_text (key, text) ++ rest) ≡ true
+entry_settled : (key text rest : List ℕ) → list_all is_head_byte key ≡ true → is_text text ≡ true → is_settled false rest ≡ true
+    → is_settled false (entry_text (key, text) ++ rest) ≡ true
 entry_settled key text rest is body later =
     ap (is_settled false) (entry_is key text rest ∙ append_assoc key (colon ∷ []) (newline ∷ (text ++ newline ∷ (newline ∷ rest))))
-    ∙ head_settled key (text ++ newline ∷ (newline ∷ rest)) false (line_head key is) (body_settled text (newline ∷ rest) false false body later)
+    ∙ head_settled key (text ++ newline ∷ (newline ∷ rest)) false (line_head key is)
+    (body_settled text (newline ∷ rest) false false body later)
 
-empty_settled : (key rest : List ℕ) → list_all is_head_byte key ≡ true → is_settled false rest ≡ true → is_settled false (entry_text (key, []) ++ rest) ≡ true
+empty_settled : (key rest : List ℕ) → list_all is_head_byte key ≡ true → is_settled false rest ≡ true
+    → is_settled false (entry_text (key, []) ++ rest) ≡ true
 empty_settled key rest is later =
     ap (is_settled false) (entry_is key [] rest ∙ append_assoc key (colon ∷ []) (newline ∷ (newline ∷ (newline ∷ rest))))
     ∙ head_settled key (newline ∷ (newline ∷ rest)) false (line_head key is) later
@@ -133,21 +153,25 @@ starred name is = name_head name is
 starred_is : (name text rest : List ℕ) → named_text (name, text) ++ rest ≡ entry_text (asterisk ∷ name, text) ++ rest
 starred_is name text rest = refl
 
-pub named_read : (named : List (List ℕ × List ℕ)) (rest : List ℕ) (directives : List Directive) → Each IsNamed named → ((m : ℕ) → read_lines false m (lines_of rest) ≡ directives)
+pub named_read : (named : List (List ℕ × List ℕ)) (rest : List ℕ) (directives : List Directive) → Each IsNamed named
+    → ((m : ℕ) → read_lines false m (lines_of rest) ≡ directives)
     → (n : ℕ) → read_lines false n (lines_of (flat_map named_text named ++ rest)) ≡ map text_directive named ++ directives
 named_read [] rest directives kept later n = later n
 named_read (entry ∷ named) rest directives kept later n =
     let more = flat_map named_text named ++ rest in
     let head = starred entry.0 kept.0.name in
-    let lines = ap lines_of (append_assoc (named_text entry) (flat_map named_text named) rest) ∙ entry_lines (asterisk ∷ entry.0) entry.1 more head in
+    let lines = ap lines_of (append_assoc (named_text entry) (flat_map named_text named) rest)
+    ∙ entry_lines (asterisk ∷ entry.0) entry.1 more head in
     let taken = entry_read n asterisk entry.0 head refl refl refl entry.1 more kept.0.text in
     ap (read_lines false n) lines ∙ taken.1 ∙ ap (λ ds. Text entry.0 entry.1 ∷ ds) (named_read named rest directives kept.1 later taken.0)
 
-pub named_settled : (named : List (List ℕ × List ℕ)) (rest : List ℕ) → Each IsNamed named → is_settled false rest ≡ true → is_settled false (flat_map named_text named ++ rest) ≡ true
+pub named_settled : (named : List (List ℕ × List ℕ)) (rest : List ℕ) → Each IsNamed named → is_settled false rest ≡ true
+    → is_settled false (flat_map named_text named ++ rest) ≡ true
 named_settled [] rest kept later = later
 named_settled (entry ∷ named) rest kept later =
     ap (is_settled false) (append_assoc (named_text entry) (flat_map named_text named) rest)
-    ∙ entry_settled (asterisk ∷ entry.0) entry.1 (flat_map named_text named ++ rest) (starred entry.0 kept.0.name) kept.0.text (named_settled named rest kept.1 later)
+    ∙ entry_settled (asterisk ∷ entry.0) entry.1 (flat_map named_text named ++ rest) (starred entry.0 kept.0.name) kept.0.text
+    (named_settled named rest kept.1 later)
 
 -- Pairs.
 
@@ -158,7 +182,8 @@ blank_not : (b : ℕ) → (b == space) ≡ false → (b == tab) ≡ false → is
 blank_not b space_not tab_not = ap (λ c. c || b == tab) space_not ∙ tab_not
 
 -- a key is a line's head
-key_parts : (at : Bool) (b : ℕ) (key : List ℕ) → (b == at_sign) ≡ at → (if at then is_name key else (has_byte (b ∷ key) && list_all is_key_byte (b ∷ key))) ≡ true
+key_parts : (at : Bool) (b : ℕ) (key : List ℕ) → (b == at_sign) ≡ at
+    → (if at then is_name key else (has_byte (b ∷ key) && list_all is_key_byte (b ∷ key))) ≡ true
     → (list_all is_head_byte (b ∷ key) ≡ true) × (is_blank b ≡ false)
 key_parts true b key at is =
     let same = eqb-true b at_sign at in
@@ -196,32 +221,44 @@ pair_read (b ∷ key) text rest n is begins body = by text body
     star : (b == asterisk) ≡ false
     star = not_true _ (and_second (not (b == percent)) _ others)
 
-    by : (t : List ℕ) → (not (has_byte t) || is_text t) ≡ true → (m : ℕ) × (read_lines false n (lines_of (entry_text (b ∷ key, t) ++ rest)) ≡ Pair (b ∷ key) t ∷ read_lines false m (lines_of rest))
+    by : (t : List ℕ) → (not (has_byte t) || is_text t) ≡ true
+        → (m : ℕ) × (read_lines false n (lines_of (entry_text (b ∷ key, t) ++ rest)) ≡ Pair (b ∷ key) t
+        ∷ read_lines false m (lines_of rest))
     by [] body' =
-        let taken = empty_read n b key parts.0 parts.1 mark directive rest in
-        (taken.0, ap (read_lines false n) (entry_lines (b ∷ key) [] rest parts.0) ∙ taken.1 ∙ ap (λ d. d ∷ read_lines false taken.0 (lines_of rest)) (pair_is b key [] star))
+        let taken = empty_read n b key parts.0 parts.1 mark directive rest in (
+          taken.0,
+          ap (read_lines false n) (entry_lines (b ∷ key) [] rest parts.0) ∙ taken.1
+              ∙ ap (λ d. d ∷ read_lines false taken.0 (lines_of rest)) (pair_is b key [] star),
+        )
     by (c ∷ t) body' =
-        let taken = entry_read n b key parts.0 parts.1 mark directive (c ∷ t) rest body' in
-        (taken.0, ap (read_lines false n) (entry_lines (b ∷ key) (c ∷ t) rest parts.0) ∙ taken.1 ∙ ap (λ d. d ∷ read_lines false taken.0 (lines_of rest)) (pair_is b key (c ∷ t) star))
+        let taken = entry_read n b key parts.0 parts.1 mark directive (c ∷ t) rest body' in (
+          taken.0,
+          ap (read_lines false n) (entry_lines (b ∷ key) (c ∷ t) rest parts.0) ∙ taken.1
+              ∙ ap (λ d. d ∷ read_lines false taken.0 (lines_of rest)) (pair_is b key (c ∷ t) star),
+        )
 
-pub pairs_read : (pairs : List (List ℕ × List ℕ)) → Each IsPair pairs → (n : ℕ) → read_lines false n (lines_of (flat_map entry_text pairs)) ≡ map pair_directive pairs
+pub pairs_read : (pairs : List (List ℕ × List ℕ)) → Each IsPair pairs → (n : ℕ)
+    → read_lines false n (lines_of (flat_map entry_text pairs)) ≡ map pair_directive pairs
 pairs_read [] kept n = refl
 pairs_read (pair ∷ pairs) kept n =
     let taken = pair_read pair.0 pair.1 (flat_map entry_text pairs) n kept.0.key kept.0.begins kept.0.text in
     taken.1 ∙ ap (λ ds. Pair pair.0 pair.1 ∷ ds) (pairs_read pairs kept.1 taken.0)
 
-pair_settled : (key text rest : List ℕ) → is_key key ≡ true → begins_line key ≡ true → (not (has_byte text) || is_text text) ≡ true → is_settled false rest ≡ true → is_settled false (entry_text (key, text) ++ rest) ≡ true
+pair_settled : (key text rest : List ℕ) → is_key key ≡ true → begins_line key ≡ true → (not (has_byte text) || is_text text) ≡ true
+    → is_settled false rest ≡ true → is_settled false (entry_text (key, text) ++ rest) ≡ true
 pair_settled [] text rest is begins body later = absurd cc
 pair_settled (b ∷ key) [] rest is begins body later = empty_settled (b ∷ key) rest (key_is b key is).0 later
 pair_settled (b ∷ key) (c ∷ text) rest is begins body later = entry_settled (b ∷ key) (c ∷ text) rest (key_is b key is).0 body later
 
 pub pairs_settled : (pairs : List (List ℕ × List ℕ)) → Each IsPair pairs → is_settled false (flat_map entry_text pairs) ≡ true
 pairs_settled [] kept = refl
-pairs_settled (pair ∷ pairs) kept = pair_settled pair.0 pair.1 (flat_map entry_text pairs) kept.0.key kept.0.begins kept.0.text (pairs_settled pairs kept.1)
+pairs_settled (pair ∷ pairs) kept = pair_settled pair.0 pair.1 (flat_map entry_text pairs) kept.0.key kept.0.begins kept.0.text
+    (pairs_settled pairs kept.1)
 
 -- what a dump says
 pub dump_read : (set : Set) → Kept set → directives_of (dumped set) ≡ map text_directive set.named ++ map pair_directive set.pairs
 dump_read set kept =
-    let same = settled_same (dumped set) (named_settled set.named (flat_map entry_text set.pairs) kept.named (pairs_settled set.pairs kept.pairs)) in
+    let same = settled_same (dumped set) (named_settled set.named (flat_map entry_text set.pairs) kept.named
+    (pairs_settled set.pairs kept.pairs)) in
     ap (λ text. read_lines false 1 (lines_of text)) same
     ∙ named_read set.named (flat_map entry_text set.pairs) (map pair_directive set.pairs) kept.named (pairs_read set.pairs kept.pairs) 1

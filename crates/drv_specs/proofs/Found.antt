@@ -4,7 +4,8 @@ use Rattle.drv_specs.proofs.Booleans.{and_first, and_second}
 use Rattle.drv_specs.specs.Lines.{ends_line, is_kept, joined_onto}
 use Rattle.drv_specs.specs.Code.Slices.{settled_onto}
 use Rattle.drv_words.specs.Bytes.{backslash, carriage_return, newline}
-use Rattle.std.proofs.Common.{◌≡◌, ◌<◌, ◌≤◌, ◌+◌, ◌-◌, ◌∙◌, ◌==◌, ◌&&◌, ◌||◌, Bool, List, [], ◌∷◌, ◌++◌, ap, append_assoc, arith, drop, eqb-true, false, filter, fold, if◌then◌else◌, length, nat_eq, not, refl, suc, sym, take, true, zero, ℕ}
+use Rattle.std.proofs.Common.{◌≡◌, ◌<◌, ◌≤◌, ◌+◌, ◌-◌, ◌∙◌, ◌==◌, ◌&&◌, ◌||◌, Bool, List, [], ◌∷◌, ◌++◌, ap, append_assoc, arith, drop}
+use Rattle.std.proofs.Common.{eqb-true, false, filter, fold, if◌then◌else◌, length, nat_eq, not, refl, suc, sym, take, true, zero, ℕ}
 use Rattle.std.proofs.lemmas.List.{append-nil, drop_more, take-append-drop}
 use Rattle.std.specs.List.{ends_with, list_all}
 use Rattle.std.specs.Prelude.{None, Option, Some, slice_index}
@@ -18,7 +19,8 @@ fails_of t never = by t refl
     by true is = absurd (never is)
     by false is = is
 
-front_clean : (test : ℕ → Bool) (text : List ℕ) (at : ℕ) → Nowhere (Passes test text) 0 at → at ≤ length text → list_all (λ b. not (test b)) (take at text) ≡ true
+front_clean : (test : ℕ → Bool) (text : List ℕ) (at : ℕ) → Nowhere (Passes test text) 0 at → at ≤ length text
+    → list_all (λ b. not (test b)) (take at text) ≡ true
 front_clean test text zero none within = refl
 front_clean test [] (suc n) none within = refl
 front_clean test (b ∷ text) (suc n) none within =
@@ -28,17 +30,20 @@ front_clean test (b ∷ text) (suc n) none within =
 pub split_at : (text : List ℕ) (at : ℕ) → at < length text → text ≡ take at text ++ slice_index text at ∷ drop (at + 1) text
 split_at text at below = sym (take-append-drop at text) ∙ ap (λ t. take at text ++ t) (drop_more text at 0 below)
 
-pub clean_front : (test : ℕ → Bool) (text : List ℕ) (found : Option ℕ) (at : ℕ) → IsFirstByte test text found → found ≡ Some at → list_all (λ b. not (test b)) (take at text) ≡ true
+pub clean_front : (test : ℕ → Bool) (text : List ℕ) (found : Option ℕ) (at : ℕ) → IsFirstByte test text found → found ≡ Some at
+    → list_all (λ b. not (test b)) (take at text) ≡ true
 clean_front test text None at h is = absurd cc
 clean_front test text (Some k) at h is =
     let same : k ≡ at = cc in
     ap (λ n. list_all (λ b. not (test b)) (take n text)) (sym same) ∙ front_clean test text k h.0.before (omega (arith, h.0.high))
 
-pub found_below : (test : ℕ → Bool) (text : List ℕ) (found : Option ℕ) (at : ℕ) → IsFirstByte test text found → found ≡ Some at → at < length text
+pub found_below : (test : ℕ → Bool) (text : List ℕ) (found : Option ℕ) (at : ℕ) → IsFirstByte test text found → found ≡ Some at
+    → at < length text
 found_below test text None at h is = absurd cc
 found_below test text (Some k) at h is = let same : k ≡ at = cc in omega (arith, same, h.0.high)
 
-pub found_passes : (test : ℕ → Bool) (text : List ℕ) (found : Option ℕ) (at : ℕ) → IsFirstByte test text found → found ≡ Some at → test (slice_index text at) ≡ true
+pub found_passes : (test : ℕ → Bool) (text : List ℕ) (found : Option ℕ) (at : ℕ) → IsFirstByte test text found → found ≡ Some at
+    → test (slice_index text at) ≡ true
 found_passes test text None at h is = absurd cc
 found_passes test text (Some k) at h is = let same : k ≡ at = cc in ap (λ n. test (slice_index text n)) (sym same) ∙ h.1
 
@@ -46,20 +51,26 @@ take_all : (text : List ℕ) → take (length text) text ≡ text
 take_all [] = refl
 take_all (b ∷ text) = ap (λ t. b ∷ t) (take_all text)
 
-pub clean_all : (test : ℕ → Bool) (text : List ℕ) (found : Option ℕ) → IsFirstByte test text found → found ≡ None → list_all (λ b. not (test b)) text ≡ true
-clean_all test text None h is = ap (list_all (λ b. not (test b))) (sym (take_all text)) ∙ front_clean test text (length text) h (omega arith)
+pub clean_all : (test : ℕ → Bool) (text : List ℕ) (found : Option ℕ) → IsFirstByte test text found → found ≡ None
+    → list_all (λ b. not (test b)) text ≡ true
+clean_all test text None h is = ap (list_all (λ b. not (test b))) (sym (take_all text))
+    ∙ front_clean test text (length text) h (omega arith)
 clean_all test text (Some k) h is = absurd cc
 
 -- the end of a line
-pub line_found : (text : List ℕ) (found : Option ℕ) (at : ℕ) → IsFirstByte (is_byte newline) text found → found ≡ Some at → text ≡ take at text ++ newline ∷ drop (at + 1) text
+pub line_found : (text : List ℕ) (found : Option ℕ) (at : ℕ) → IsFirstByte (is_byte newline) text found → found ≡ Some at
+    → text ≡ take at text ++ newline ∷ drop (at + 1) text
 line_found text found at h is =
     split_at text at (found_below (is_byte newline) text found at h is)
-    ∙ ap (λ b. take at text ++ b ∷ drop (at + 1) text) (eqb-true (slice_index text at) newline (found_passes (is_byte newline) text found at h is))
+    ∙ ap (λ b. take at text ++ b ∷ drop (at + 1) text)
+    (eqb-true (slice_index text at) newline (found_passes (is_byte newline) text found at h is))
 
-pub line_clean : (text : List ℕ) (found : Option ℕ) (at : ℕ) → IsFirstByte (is_byte newline) text found → found ≡ Some at → list_all (λ b. not (ends_line b)) (take at text) ≡ true
+pub line_clean : (text : List ℕ) (found : Option ℕ) (at : ℕ) → IsFirstByte (is_byte newline) text found → found ≡ Some at
+    → list_all (λ b. not (ends_line b)) (take at text) ≡ true
 line_clean text found at h is = clean_front (is_byte newline) text found at h is
 
-pub line_alone : (text : List ℕ) (found : Option ℕ) → IsFirstByte (is_byte newline) text found → found ≡ None → list_all (λ b. not (ends_line b)) text ≡ true
+pub line_alone : (text : List ℕ) (found : Option ℕ) → IsFirstByte (is_byte newline) text found → found ≡ None
+    → list_all (λ b. not (ends_line b)) text ≡ true
 line_alone text found h is = clean_all (is_byte newline) text found h is
 
 -- the ends of lines that settling looks for
@@ -75,24 +86,29 @@ plain b is = by (b == carriage_return) (b == newline) is
     by false true is' = absurd cc
     by false false is' = (refl, refl)
 
-run_settled : (run rest left : List ℕ) → list_all (λ b. not (is_in settles b)) run ≡ true → fold joined_onto left (filter is_kept (run ++ rest)) ≡ fold joined_onto (left ++ run) (filter is_kept rest)
+run_settled : (run rest left : List ℕ) → list_all (λ b. not (is_in settles b)) run ≡ true
+    → fold joined_onto left (filter is_kept (run ++ rest)) ≡ fold joined_onto (left ++ run) (filter is_kept rest)
 run_settled [] rest left is = ap (λ l. fold joined_onto l (filter is_kept rest)) (sym (append-nil left))
 run_settled (b ∷ run) rest left is =
     let fits = plain b (and_first (not (is_in settles b)) _ is) in
     ap (λ kept. fold joined_onto left (if kept then b ∷ filter is_kept (run ++ rest) else filter is_kept (run ++ rest))) fits.0
-    ∙ ap (λ ends. fold joined_onto (if ends && ends_with nat_eq left (backslash ∷ []) then take (length left - 1) left else left ++ b ∷ []) (filter is_kept (run ++ rest))) fits.1
+    ∙ ap (λ ends. fold joined_onto (if ends && ends_with nat_eq left (backslash ∷ []) then take (length left - 1) left else left ++ b ∷ [])
+    (filter is_kept (run ++ rest))) fits.1
     ∙ run_settled run rest (left ++ b ∷ []) (and_second (not (is_in settles b)) _ is)
     ∙ ap (λ l. fold joined_onto l (filter is_kept rest)) (append_assoc left (b ∷ []) run)
 
-end_settled : (b : ℕ) (rest left : List ℕ) → fold joined_onto left (filter is_kept (b ∷ rest)) ≡ fold joined_onto (settled_onto left b) (filter is_kept rest)
+end_settled : (b : ℕ) (rest left : List ℕ) → fold joined_onto left (filter is_kept (b ∷ rest))
+    ≡ fold joined_onto (settled_onto left b) (filter is_kept rest)
 end_settled b rest left = by (is_kept b) refl
   where
-    by : (kept : Bool) → is_kept b ≡ kept → fold joined_onto left (if kept then b ∷ filter is_kept rest else filter is_kept rest) ≡ fold joined_onto (if kept then joined_onto left b else left) (filter is_kept rest)
+    by : (kept : Bool) → is_kept b ≡ kept → fold joined_onto left (if kept then b ∷ filter is_kept rest else filter is_kept rest)
+        ≡ fold joined_onto (if kept then joined_onto left b else left) (filter is_kept rest)
     by true kept = refl
     by false kept = refl
 
 -- a line settled, and its end
-pub line_settled : (text left front after whole : List ℕ) (found : Option ℕ) (at b : ℕ) → IsFirstByte (is_in settles) text found → found ≡ Some at → b ≡ slice_index text at
+pub line_settled : (text left front after whole : List ℕ) (found : Option ℕ) (at b : ℕ) → IsFirstByte (is_in settles) text found
+    → found ≡ Some at → b ≡ slice_index text at
     → front ≡ left ++ take at text → after ≡ settled_onto front b → fold joined_onto left (filter is_kept text) ≡ whole
     → fold joined_onto after (filter is_kept (drop (at + 1) text)) ≡ whole
 line_settled text left front after whole found at b h is here fronts afters so_far =
@@ -104,7 +120,9 @@ line_settled text left front after whole found at b h is here fronts afters so_f
     ∙ so_far
 
 -- the last line
-pub rest_settled : (text left all whole : List ℕ) (found : Option ℕ) → IsFirstByte (is_in settles) text found → found ≡ None → all ≡ left ++ text
+pub rest_settled : (text left all whole : List ℕ) (found : Option ℕ) → IsFirstByte (is_in settles) text found → found ≡ None
+    → all ≡ left ++ text
     → fold joined_onto left (filter is_kept text) ≡ whole → all ≡ whole
 rest_settled text left all whole found h is alls so_far =
-    alls ∙ sym (run_settled text [] left (clean_all (is_in settles) text found h is)) ∙ ap (λ t. fold joined_onto left (filter is_kept t)) (append-nil text) ∙ so_far
+    alls ∙ sym (run_settled text [] left (clean_all (is_in settles) text found h is))
+    ∙ ap (λ t. fold joined_onto left (filter is_kept t)) (append-nil text) ∙ so_far

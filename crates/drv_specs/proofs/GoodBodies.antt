@@ -3,14 +3,17 @@ use Rattle.drv_specs.proofs.Lining.{is_full}
 use Rattle.drv_specs.proofs.SettledLines.{Clean, last_back, last_is, settled_clean}
 use Rattle.drv_specs.proofs.SettledTexts.{ends_more, is_line_byte}
 use Rattle.drv_specs.specs.Blanks.{has_byte, is_blank}
-use Rattle.drv_specs.specs.Directives.{Alone, Bad, Directive, Include, Pair, Passed, Rename, Text, WithBody, body_lines, body_of, by_colon, by_key, by_keyword, directive_in, directives_of, first_line, included, is_colon, is_inside, read_lines, renamed, start_at, start_of}
+use Rattle.drv_specs.specs.Directives.{Alone, Bad, Directive, Include, Pair, Passed, Rename, Text, WithBody, body_lines, body_of, by_colon}
+use Rattle.drv_specs.specs.Directives.{by_key, by_keyword, directive_in, directives_of, first_line, included, is_colon, is_inside}
+use Rattle.drv_specs.specs.Directives.{read_lines, renamed, start_at, start_of}
 use Rattle.drv_specs.specs.Kept.{Each, begins_line, is_body, is_text, sees}
 use Rattle.drv_specs.specs.Lines.{is_empty_line, is_kept, lines_of, settled, trimmed, without_front, words_of}
 use Rattle.drv_specs.specs.Sets.{ends_with_backslash}
 use Rattle.drv_words.specs.Bytes.{asterisk, greater_than, less_than, newline, number_sign, percent}
 use Rattle.drv_specs.specs.declared.directive.IfMissing.TheVariants.{PassOver, Refuse}
 use Rattle.drv_specs.specs.declared.directive.IfMissing.{IfMissing}
-use Rattle.std.proofs.Common.{◌≡◌, ◌⊎◌, ◌+◌, ◌-◌, ◌∙◌, ◌==◌, ◌&&◌, ◌||◌, Bool, List, [], ◌∷◌, ◌++◌, None, Option, Some, ap, codes, drop, false, filter, if◌then◌else◌, inl, inr, length, nat_eq, not, position, refl, suc, sym, take, true, zero, ℕ}
+use Rattle.std.proofs.Common.{◌≡◌, ◌⊎◌, ◌+◌, ◌-◌, ◌∙◌, ◌==◌, ◌&&◌, ◌||◌, Bool, List, [], ◌∷◌, ◌++◌, None, Option, Some, ap, codes, drop}
+use Rattle.std.proofs.Common.{false, filter, if◌then◌else◌, inl, inr, length, nat_eq, not, position, refl, suc, sym, take, true, zero, ℕ}
 use Rattle.std.specs.Cmp.Lexicographic.{pointwise}
 use Rattle.std.specs.List.{ends_with, join_with_byte, list_all}
 
@@ -62,21 +65,25 @@ fronted (b ∷ text) = by (is_blank b) refl (fronted text)
   where
     by : (blank : Bool) → is_blank b ≡ blank → Fronted text → Fronted (b ∷ text)
     by true blank later = record {
-      ends = λ is. ap (λ c. ends_with_backslash (if c then without_front is_blank text else b ∷ text)) blank ∙ later.ends (ends_tail b text is);
-      bytes = λ is. ap (λ c. list_all is_line_byte (if c then without_front is_blank text else b ∷ text)) blank ∙ later.bytes (and_second (is_line_byte b) _ is);
+      ends = λ is. ap (λ c. ends_with_backslash (if c then without_front is_blank text else b ∷ text)) blank
+          ∙ later.ends (ends_tail b text is);
+      bytes = λ is. ap (λ c. list_all is_line_byte (if c then without_front is_blank text else b ∷ text)) blank
+          ∙ later.bytes (and_second (is_line_byte b) _ is);
       solid = λ c rest is. later.solid c rest (sym (ap (λ d. if d then without_front is_blank text else b ∷ text) blank) ∙ is);
     }
     by false blank later = record {
       ends = λ is. ap (λ c. ends_with_backslash (if c then without_front is_blank text else b ∷ text)) blank ∙ is;
       bytes = λ is. ap (λ c. list_all is_line_byte (if c then without_front is_blank text else b ∷ text)) blank ∙ is;
-      solid = λ c rest is. ap is_blank (sym (ap (first_or b) (sym (ap (λ d. if d then without_front is_blank text else b ∷ text) blank) ∙ is))) ∙ blank;
+      solid = λ c rest is. ap is_blank (sym (ap (first_or b)
+          (sym (ap (λ d. if d then without_front is_blank text else b ∷ text) blank) ∙ is))) ∙ blank;
     }
 
 -- Lines put together.
 
 abbrev FullClean : List (List ℕ) → Type 0
 FullClean [] = Unit {0}
-FullClean (line ∷ lines) = ((list_all is_line_byte line ≡ true) × (is_full line ≡ true)) × (((lines ≡ []) ⊎ (ends_with_backslash line ≡ false)) × FullClean lines)
+FullClean (line ∷ lines) = ((list_all is_line_byte line ≡ true) × (is_full line ≡ true))
+    × (((lines ≡ []) ⊎ (ends_with_backslash line ≡ false)) × FullClean lines)
 
 fuller : (seen blank e : Bool) → (seen || not (blank && e)) ≡ true → ((seen || not blank) || not e) ≡ true
 fuller true blank e is = refl
@@ -88,28 +95,33 @@ ends_full true back is none = ap not none
 ends_full false back is none = absurd cc
 
 -- one byte of a line
-line_step : (b : ℕ) (seen back : Bool) (rest : List ℕ) → is_kept b ≡ true → (b == newline) ≡ false → is_body seen back (b ∷ rest) ≡ is_body (seen || not (is_blank b)) (ends_with_backslash (b ∷ [])) rest
+line_step : (b : ℕ) (seen back : Bool) (rest : List ℕ) → is_kept b ≡ true → (b == newline) ≡ false
+    → is_body seen back (b ∷ rest) ≡ is_body (seen || not (is_blank b)) (ends_with_backslash (b ∷ [])) rest
 line_step b seen back rest kept plain =
     ap (λ c. (c && (not (b == newline) || (seen && not back))) && is_body (sees seen b) (ends_with_backslash (b ∷ [])) rest) kept
     ∙ ap (λ c. (not c || (seen && not back)) && is_body (not c && (seen || not (is_blank b))) (ends_with_backslash (b ∷ [])) rest) plain
 
 -- a line, and a line with a newline and a body after it
-line_body : (line : List ℕ) (seen back : Bool) → list_all is_line_byte line ≡ true → (seen || is_full line) ≡ true → last_back back line ≡ false → is_body seen back line ≡ true
+line_body : (line : List ℕ) (seen back : Bool) → list_all is_line_byte line ≡ true → (seen || is_full line) ≡ true
+    → last_back back line ≡ false → is_body seen back line ≡ true
 line_body [] seen back bytes full last = ends_full seen back full last
 line_body (b ∷ line) seen back bytes full last =
     let byte = and_first (is_line_byte b) _ bytes in
     let plain = not_true _ (and_second (is_kept b) _ byte) in
     line_step b seen back line (and_first (is_kept b) _ byte) plain
-    ∙ line_body line (seen || not (is_blank b)) (ends_with_backslash (b ∷ [])) (and_second (is_line_byte b) _ bytes) (fuller seen (is_blank b) (is_empty_line line) full) last
+    ∙ line_body line (seen || not (is_blank b)) (ends_with_backslash (b ∷ [])) (and_second (is_line_byte b) _ bytes)
+    (fuller seen (is_blank b) (is_empty_line line) full) last
 
-line_then : (line rest : List ℕ) (seen back : Bool) → list_all is_line_byte line ≡ true → (seen || is_full line) ≡ true → last_back back line ≡ false → is_body false false rest ≡ true
+line_then : (line rest : List ℕ) (seen back : Bool) → list_all is_line_byte line ≡ true → (seen || is_full line) ≡ true
+    → last_back back line ≡ false → is_body false false rest ≡ true
     → is_body seen back (line ++ newline ∷ rest) ≡ true
 line_then [] rest seen back bytes full last later = ap (λ c. c && is_body false false rest) (ends_full seen back full last) ∙ later
 line_then (b ∷ line) rest seen back bytes full last later =
     let byte = and_first (is_line_byte b) _ bytes in
     let plain = not_true _ (and_second (is_kept b) _ byte) in
     line_step b seen back (line ++ newline ∷ rest) (and_first (is_kept b) _ byte) plain
-    ∙ line_then line rest (seen || not (is_blank b)) (ends_with_backslash (b ∷ [])) (and_second (is_line_byte b) _ bytes) (fuller seen (is_blank b) (is_empty_line line) full) last later
+    ∙ line_then line rest (seen || not (is_blank b)) (ends_with_backslash (b ∷ [])) (and_second (is_line_byte b) _ bytes)
+    (fuller seen (is_blank b) (is_empty_line line) full) last later
 
 pub ends_far : (line : List ℕ) (c : ℕ) (rest : List ℕ) → ends_with_backslash (line ++ c ∷ rest) ≡ ends_with_backslash (c ∷ rest)
 ends_far [] c rest = refl
@@ -120,7 +132,8 @@ ends_newline : (text : List ℕ) → ends_with_backslash text ≡ true → ends_
 ends_newline [] is = absurd cc
 ends_newline (b ∷ text) is = ends_more newline b text ∙ is
 
-lines_good : (line : List ℕ) (lines : List (List ℕ)) → FullClean (line ∷ lines) → (ends_with_backslash (join_with_byte newline (line ∷ lines)) ≡ true) ⊎ (is_text (join_with_byte newline (line ∷ lines)) ≡ true)
+lines_good : (line : List ℕ) (lines : List (List ℕ)) → FullClean (line ∷ lines)
+    → (ends_with_backslash (join_with_byte newline (line ∷ lines)) ≡ true) ⊎ (is_text (join_with_byte newline (line ∷ lines)) ≡ true)
 lines_good line [] clean = by (ends_with_backslash line) refl
   where
     by : (e : Bool) → ends_with_backslash line ≡ e → (ends_with_backslash line ≡ true) ⊎ (is_text line ≡ true)
@@ -153,18 +166,23 @@ body_clean (line ∷ lines) clean = by (is_empty_line line) refl (body_clean lin
     by true e later = tt
     by false e later = ((clean.0, ap not e), (ends clean.1.0, later))
 
-first_clean : (rest : List ℕ) (lines : List (List ℕ)) → list_all is_line_byte rest ≡ true → (lines ≡ []) ⊎ (ends_with_backslash rest ≡ false) → FullClean (body_lines lines)
+first_clean : (rest : List ℕ) (lines : List (List ℕ)) → list_all is_line_byte rest ≡ true
+    → (lines ≡ []) ⊎ (ends_with_backslash rest ≡ false) → FullClean (body_lines lines)
     → FullClean (first_line rest ++ body_lines lines)
 first_clean rest lines bytes last later = by (without_front is_blank rest) refl
   where
-    ends : (lines ≡ []) ⊎ (ends_with_backslash rest ≡ false) → (body_lines lines ≡ []) ⊎ (ends_with_backslash (without_front is_blank rest) ≡ false)
+    ends : (lines ≡ []) ⊎ (ends_with_backslash rest ≡ false)
+        → (body_lines lines ≡ []) ⊎ (ends_with_backslash (without_front is_blank rest) ≡ false)
     ends (inl none) = inl (ap body_lines none)
     ends (inr e) = inr ((fronted rest).ends e)
 
     by : (text : List ℕ) → without_front is_blank rest ≡ text → FullClean (filter has_byte (text ∷ []) ++ body_lines lines)
     by [] is = later
     by (b ∷ text) is = (
-      (ap (list_all is_line_byte) (sym is) ∙ (fronted rest).bytes bytes, ap (λ c. not (c && list_all is_blank text)) ((fronted rest).solid b text is)),
+      (
+        ap (list_all is_line_byte) (sym is) ∙ (fronted rest).bytes bytes,
+        ap (λ c. not (c && list_all is_blank text)) ((fronted rest).solid b text is),
+      ),
       (ends_same (ap ends_with_backslash is) (ends last), later),
     )
       where
@@ -172,8 +190,10 @@ first_clean rest lines bytes last later = by (without_front is_blank rest) refl
         ends_same same (inl none) = inl none
         ends_same same (inr e) = inr (sym same ∙ e)
 
-body_good : (rest : List ℕ) (lines : List (List ℕ)) → list_all is_line_byte rest ≡ true → (lines ≡ []) ⊎ (ends_with_backslash rest ≡ false) → Clean lines → IsBody (body_of rest lines)
-body_good rest lines bytes last clean = joined_good (first_line rest ++ body_lines lines) (first_clean rest lines bytes last (body_clean lines clean))
+body_good : (rest : List ℕ) (lines : List (List ℕ)) → list_all is_line_byte rest ≡ true → (lines ≡ []) ⊎ (ends_with_backslash rest ≡ false)
+    → Clean lines → IsBody (body_of rest lines)
+body_good rest lines bytes last clean = joined_good (first_line rest ++ body_lines lines)
+    (first_clean rest lines bytes last (body_clean lines clean))
 
 -- Directives.
 
@@ -193,7 +213,8 @@ included_good n missing (b ∷ text) = by (b == less_than && ends_with nat_eq te
 
 keyword_good : (n : ℕ) (line : List ℕ) (words : List (List ℕ)) → IsGood (by_keyword n line words)
 keyword_good n line [] = tt
-keyword_good n line (word ∷ words) = by (pointwise nat_eq word (codes "%rename")) (pointwise nat_eq word (codes "%include")) (pointwise nat_eq word (codes "%include_noerr"))
+keyword_good n line (word ∷ words) = by (pointwise nat_eq word (codes "%rename")) (pointwise nat_eq word (codes "%include"))
+    (pointwise nat_eq word (codes "%include_noerr"))
   where
     by : (rename include noerr : Bool) → IsGood (if rename then renamed n words
         else if include then included n Refuse (trimmed (drop (length word) line))
@@ -205,34 +226,44 @@ keyword_good n line (word ∷ words) = by (pointwise nat_eq word (codes "%rename
     by false false false = tt
 
 -- a line that begins with none of the marks of other forms
-key_good : (b : ℕ) (line body : List ℕ) (at : ℕ) → (b == number_sign) ≡ false → (b == percent) ≡ false → IsBody body → IsGood (by_key (take at (b ∷ line)) body)
+key_good : (b : ℕ) (line body : List ℕ) (at : ℕ) → (b == number_sign) ≡ false → (b == percent) ≡ false → IsBody body
+    → IsGood (by_key (take at (b ∷ line)) body)
 key_good b line body zero mark directive good = (inl refl, good)
 key_good b line body (suc at) mark directive good = by (b == asterisk) refl
   where
     by : (star : Bool) → (b == asterisk) ≡ star → IsGood (if star then Text (take at line) body else Pair (b ∷ take at line) body)
     by true star = good
-    by false star = (inr (ap (λ c. not c && (not (b == percent) && not (b == asterisk))) mark ∙ ap (λ c. not c && not (b == asterisk)) directive ∙ ap not star), good)
+    by false star = (
+      inr (ap (λ c. not c && (not (b == percent) && not (b == asterisk))) mark
+          ∙ ap (λ c. not c && not (b == asterisk)) directive ∙ ap not star),
+      good,
+    )
 
-line_good : (n b : ℕ) (line : List ℕ) (lines : List (List ℕ)) → list_all is_line_byte (b ∷ line) ≡ true → (lines ≡ []) ⊎ (ends_with_backslash (b ∷ line) ≡ false) → Clean lines
+line_good : (n b : ℕ) (line : List ℕ) (lines : List (List ℕ)) → list_all is_line_byte (b ∷ line) ≡ true
+    → (lines ≡ []) ⊎ (ends_with_backslash (b ∷ line) ≡ false) → Clean lines
     → Each IsGood (directive_in (start_of n (b ∷ line) lines))
 line_good n b line lines bytes last clean = by (b == number_sign) refl (b == percent) refl
   where
-    ends : (at : ℕ) → (lines ≡ []) ⊎ (ends_with_backslash (b ∷ line) ≡ false) → (lines ≡ []) ⊎ (ends_with_backslash (drop (at + 1) (b ∷ line)) ≡ false)
+    ends : (at : ℕ) → (lines ≡ []) ⊎ (ends_with_backslash (b ∷ line) ≡ false)
+        → (lines ≡ []) ⊎ (ends_with_backslash (drop (at + 1) (b ∷ line)) ≡ false)
     ends at (inl none) = inl none
     ends at (inr e) = inr (ends_after (at + 1) (b ∷ line) e)
 
     colon : (b == number_sign) ≡ false → (b == percent) ≡ false → (place : Option ℕ) → IsGood (by_colon n (b ∷ line) lines place)
     colon mark directive None = tt
     colon mark directive (Some at) =
-        key_good b line (body_of (drop (at + 1) (b ∷ line)) lines) at mark directive (body_good (drop (at + 1) (b ∷ line)) lines (bytes_after (at + 1) (b ∷ line) bytes) (ends at last) clean)
+        key_good b line (body_of (drop (at + 1) (b ∷ line)) lines) at mark directive
+        (body_good (drop (at + 1) (b ∷ line)) lines (bytes_after (at + 1) (b ∷ line) bytes) (ends at last) clean)
 
     by : (mark : Bool) → (b == number_sign) ≡ mark → (directive : Bool) → (b == percent) ≡ directive
-        → Each IsGood (directive_in (if mark then Passed else if directive then Alone (by_keyword n (b ∷ line) (words_of (b ∷ line))) else WithBody (by_colon n (b ∷ line) lines (position is_colon (b ∷ line)))))
+        → Each IsGood (directive_in (if mark then Passed else if directive then Alone (by_keyword n (b ∷ line) (words_of (b ∷ line)))
+        else WithBody (by_colon n (b ∷ line) lines (position is_colon (b ∷ line)))))
     by true mark directive directive' = tt
     by false mark true directive' = (keyword_good n (b ∷ line) (words_of (b ∷ line)), tt)
     by false mark false directive' = (colon mark directive' (position is_colon (b ∷ line)), tt)
 
-start_good : (n : ℕ) (line : List ℕ) (lines : List (List ℕ)) (empty inside : Bool) → list_all is_line_byte line ≡ true → (lines ≡ []) ⊎ (ends_with_backslash line ≡ false) → Clean lines
+start_good : (n : ℕ) (line : List ℕ) (lines : List (List ℕ)) (empty inside : Bool) → list_all is_line_byte line ≡ true
+    → (lines ≡ []) ⊎ (ends_with_backslash line ≡ false) → Clean lines
     → Each IsGood (directive_in (start_at empty inside n line lines))
 start_good n line lines true inside bytes last clean = tt
 start_good n line lines false true bytes last clean = tt
@@ -248,12 +279,14 @@ start_good n line lines false false bytes last clean = by (without_front is_blan
 
     by : (text : List ℕ) → without_front is_blank line ≡ text → Each IsGood (directive_in (start_of n text lines))
     by [] is = tt
-    by (b ∷ text) is = line_good n b text lines (ap (list_all is_line_byte) (sym is) ∙ (fronted line).bytes bytes) (ends_same (ap ends_with_backslash is) (ends last)) clean
+    by (b ∷ text) is = line_good n b text lines (ap (list_all is_line_byte) (sym is) ∙ (fronted line).bytes bytes)
+        (ends_same (ap ends_with_backslash is) (ends last)) clean
 
 read_good : (lines : List (List ℕ)) (inside : Bool) (n : ℕ) → Clean lines → Each IsGood (read_lines inside n lines)
 read_good [] inside n clean = tt
 read_good (line ∷ lines) inside n clean =
-    each_append IsGood (directive_in (start_at (is_empty_line line) inside n line lines)) (read_lines (is_inside (is_empty_line line) inside (start_at (is_empty_line line) inside n line lines)) (n + 1) lines)
+    each_append IsGood (directive_in (start_at (is_empty_line line) inside n line lines))
+    (read_lines (is_inside (is_empty_line line) inside (start_at (is_empty_line line) inside n line lines)) (n + 1) lines)
     (start_good n line lines (is_empty_line line) inside clean.0 clean.1.0 clean.1.1)
     (read_good lines (is_inside (is_empty_line line) inside (start_at (is_empty_line line) inside n line lines)) (n + 1) clean.1.1)
 

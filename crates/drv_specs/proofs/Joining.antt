@@ -3,7 +3,8 @@ use Rattle.drv_specs.specs.Lines.{joined, joined_onto}
 use Rattle.drv_specs.specs.Reading.{IsJoined, Joins, is_joined, pair_goes}
 use Rattle.drv_specs.specs.Sets.{ends_with_backslash}
 use Rattle.drv_words.specs.Bytes.{backslash, newline}
-use Rattle.std.proofs.Common.{◌≡◌, ◌-◌, ◌⊎◌, ◌∙◌, ◌==◌, ◌&&◌, Bool, List, [], ◌∷◌, ◌++◌, ap, append_assoc, arith, eqb-true, false, fold, if◌then◌else◌, inl, inr, length, length-append, refl, subst, sym, take, true, ℕ}
+use Rattle.std.proofs.Common.{◌≡◌, ◌-◌, ◌⊎◌, ◌∙◌, ◌==◌, ◌&&◌, Bool, List, [], ◌∷◌, ◌++◌, ap, append_assoc, arith, eqb-true, false, fold}
+use Rattle.std.proofs.Common.{if◌then◌else◌, inl, inr, length, length-append, refl, subst, sym, take, true, ℕ}
 use Rattle.std.proofs.lemmas.List.{append-nil, take_at}
 use Rattle.drv_specs.proofs.Booleans.{and_first, and_second}
 
@@ -40,7 +41,8 @@ before_backslash (b ∷ c ∷ text) is =
     (b ∷ rest.0, ap (λ l. b ∷ l) rest.1)
 
 without_last : (front : List ℕ) → take (length (front ++ backslash ∷ []) - 1) (front ++ backslash ∷ []) ≡ front
-without_last front = take_at front (backslash ∷ []) (length (front ++ backslash ∷ []) - 1) (omega (arith, length-append front (backslash ∷ [])))
+without_last front = take_at front (backslash ∷ []) (length (front ++ backslash ∷ []) - 1)
+    (omega (arith, length-append front (backslash ∷ [])))
 
 -- Joined texts.
 
@@ -48,18 +50,22 @@ abbrev is_pair : List ℕ → ℕ → Bool
 is_pair text b = b == newline && ends_with_backslash text
 
 front_joined : (front : List ℕ) → IsJoined (front ++ backslash ∷ []) → IsJoined front
-front_joined front all = λ a b is. all a (b ++ backslash ∷ []) (ap (λ l. l ++ backslash ∷ []) is ∙ append_assoc a (backslash ∷ newline ∷ b) (backslash ∷ []))
+front_joined front all = λ a b is. all a (b ++ backslash ∷ [])
+    (ap (λ l. l ++ backslash ∷ []) is ∙ append_assoc a (backslash ∷ newline ∷ b) (backslash ∷ []))
 
 more_joined : (done : List ℕ) (b : ℕ) → IsJoined done → is_pair done b ≡ false → IsJoined (done ++ b ∷ [])
 more_joined done b all plain = λ front back is. by front back (last_of back) is
   where
-    by : (front back : List ℕ) → (back ≡ []) ⊎ ((ys : List ℕ) × (c : ℕ) × (back ≡ ys ++ c ∷ [])) → done ++ b ∷ [] ≡ front ++ backslash ∷ newline ∷ back → ⊥
+    by : (front back : List ℕ) → (back ≡ []) ⊎ ((ys : List ℕ) × (c : ℕ) × (back ≡ ys ++ c ∷ []))
+        → done ++ b ∷ [] ≡ front ++ backslash ∷ newline ∷ back → ⊥
     by front back (inl none) is =
-        let ends = snoc_same done (front ++ backslash ∷ []) b newline (is ∙ ap (λ l. front ++ backslash ∷ newline ∷ l) none ∙ sym (append_assoc front (backslash ∷ []) (newline ∷ []))) in
+        let ends = snoc_same done (front ++ backslash ∷ []) b newline
+        (is ∙ ap (λ l. front ++ backslash ∷ newline ∷ l) none ∙ sym (append_assoc front (backslash ∷ []) (newline ∷ []))) in
         let pair : is_pair done b ≡ true = rw (ends.0, ends.1) (ends_last front backslash) in
         absurd (let apart : false ≡ true = sym plain ∙ pair in cc)
     by front back (inr (ys, c, last)) is =
-        all front ys (snoc_same done (front ++ backslash ∷ newline ∷ ys) b c (is ∙ ap (λ l. front ++ backslash ∷ newline ∷ l) last ∙ sym (append_assoc front (backslash ∷ newline ∷ ys) (c ∷ [])))).0
+        all front ys (snoc_same done (front ++ backslash ∷ newline ∷ ys) b c
+        (is ∙ ap (λ l. front ++ backslash ∷ newline ∷ l) last ∙ sym (append_assoc front (backslash ∷ newline ∷ ys) (c ∷ [])))).0
 
 -- From the relation to the function.
 
@@ -69,14 +75,18 @@ fold_both (b ∷ front) back start = fold_both front back (joined_onto start b)
 
 stays : (rest done : List ℕ) → IsJoined (done ++ rest) → fold joined_onto done rest ≡ done ++ rest
 stays [] done all = sym (append-nil done)
-stays (b ∷ rest) done all = by (is_pair done b) refl (stays rest (done ++ b ∷ []) (subst IsJoined (sym (append_assoc done (b ∷ []) rest)) all))
+stays (b ∷ rest) done all = by (is_pair done b) refl
+    (stays rest (done ++ b ∷ []) (subst IsJoined (sym (append_assoc done (b ∷ []) rest)) all))
   where
-    by : (pair : Bool) → is_pair done b ≡ pair → fold joined_onto (done ++ b ∷ []) rest ≡ (done ++ b ∷ []) ++ rest → fold joined_onto done (b ∷ rest) ≡ done ++ b ∷ rest
-    by false plain later = ap (λ p. fold joined_onto (if p then take (length done - 1) done else done ++ b ∷ []) rest) plain ∙ later ∙ append_assoc done (b ∷ []) rest
+    by : (pair : Bool) → is_pair done b ≡ pair → fold joined_onto (done ++ b ∷ []) rest ≡ (done ++ b ∷ []) ++ rest
+        → fold joined_onto done (b ∷ rest) ≡ done ++ b ∷ rest
+    by false plain later = ap (λ p. fold joined_onto (if p then take (length done - 1) done else done ++ b ∷ []) rest) plain ∙ later
+        ∙ append_assoc done (b ∷ []) rest
     by true pair_is later =
         let front = before_backslash done (and_second (b == newline) _ pair_is) in
         let line = eqb-true b newline (and_first (b == newline) _ pair_is) in
-        absurd (all front.0 rest (ap (λ l. l ++ b ∷ rest) front.1 ∙ append_assoc front.0 (backslash ∷ []) (b ∷ rest) ∙ ap (λ c. front.0 ++ backslash ∷ c ∷ rest) line))
+        absurd (all front.0 rest (ap (λ l. l ++ b ∷ rest) front.1 ∙ append_assoc front.0 (backslash ∷ []) (b ∷ rest)
+        ∙ ap (λ c. front.0 ++ backslash ∷ c ∷ rest) line))
 
 pair_gone : (front back : List ℕ) → joined (front ++ backslash ∷ newline ∷ back) ≡ joined (front ++ back)
 pair_gone front back =
@@ -84,7 +94,8 @@ pair_gone front back =
   where
     by : (done : List ℕ) → fold joined_onto done (backslash ∷ newline ∷ back) ≡ fold joined_onto done back
     by done =
-        ap (λ p. fold joined_onto (if p then take (length (done ++ backslash ∷ []) - 1) (done ++ backslash ∷ []) else (done ++ backslash ∷ []) ++ newline ∷ []) back) (ends_last done backslash)
+        ap (λ p. fold joined_onto (if p then take (length (done ++ backslash ∷ []) - 1) (done ++ backslash ∷ [])
+        else (done ++ backslash ∷ []) ++ newline ∷ []) back) (ends_last done backslash)
         ∙ ap (λ l. fold joined_onto l back) (without_last done)
 
 pub joins_gives : {text left : List ℕ} → Joins text left → joined text ≡ left
@@ -100,18 +111,22 @@ joins_from (b ∷ rest) done all = by (is_pair done b) refl (joins_from rest)
     by : (pair : Bool) → is_pair done b ≡ pair → ((front : List ℕ) → IsJoined front → Joins (front ++ rest) (fold joined_onto front rest))
         → Joins (done ++ b ∷ rest) (fold joined_onto done (b ∷ rest))
     by false plain later =
-        subst (λ l. Joins (done ++ b ∷ rest) l) (sym (ap (λ p. fold joined_onto (if p then take (length done - 1) done else done ++ b ∷ []) rest) plain))
-        (subst (λ l. Joins l (fold joined_onto (done ++ b ∷ []) rest)) (append_assoc done (b ∷ []) rest) (later (done ++ b ∷ []) (more_joined done b all plain)))
+        subst (λ l. Joins (done ++ b ∷ rest) l) (sym (ap (λ p. fold joined_onto
+        (if p then take (length done - 1) done else done ++ b ∷ []) rest) plain))
+        (subst (λ l. Joins l (fold joined_onto (done ++ b ∷ []) rest)) (append_assoc done (b ∷ []) rest)
+        (later (done ++ b ∷ []) (more_joined done b all plain)))
     by true pair_is later =
         let front = before_backslash done (and_second (b == newline) _ pair_is) in
         let line = eqb-true b newline (and_first (b == newline) _ pair_is) in
         let whole : front.0 ++ backslash ∷ newline ∷ rest ≡ done ++ b ∷ rest =
-        sym (ap (λ l. l ++ b ∷ rest) front.1 ∙ append_assoc front.0 (backslash ∷ []) (b ∷ rest) ∙ ap (λ c. front.0 ++ backslash ∷ c ∷ rest) line) in
+        sym (ap (λ l. l ++ b ∷ rest) front.1 ∙ append_assoc front.0 (backslash ∷ []) (b ∷ rest)
+        ∙ ap (λ c. front.0 ++ backslash ∷ c ∷ rest) line) in
         let folded : fold joined_onto front.0 rest ≡ fold joined_onto done (b ∷ rest) =
         sym (ap (λ p. fold joined_onto (if p then take (length done - 1) done else done ++ b ∷ []) rest) pair_is
         ∙ ap (λ l. fold joined_onto (take (length l - 1) l) rest) front.1 ∙ ap (λ l. fold joined_onto l rest) (without_last front.0)) in
         subst (λ l. Joins (done ++ b ∷ rest) l) folded
-        (subst (λ l. Joins l (fold joined_onto front.0 rest)) whole (pair_goes front.0 rest (later front.0 (front_joined front.0 (subst IsJoined front.1 all)))))
+        (subst (λ l. Joins l (fold joined_onto front.0 rest)) whole
+        (pair_goes front.0 rest (later front.0 (front_joined front.0 (subst IsJoined front.1 all)))))
 
 none_joined : IsJoined []
 none_joined = λ front back is. by front back is

@@ -4,7 +4,8 @@ use Rattle.drv_specs.proofs.GoodBodies.{IsGood, directives_good}
 use Rattle.drv_specs.specs.Directives.{Bad, Directive, Include, Pair, Rename, Text, directives_of, read_settled}
 use Rattle.drv_specs.specs.Code.Slices.{IsSettled}
 use Rattle.drv_specs.specs.Kept.{Each, Kept}
-use Rattle.drv_specs.specs.Loading.{Carried, Including, all_carried, carried, changed, file_carried, file_loaded, file_text, including, loaded, most_files, set_in, then_by, worked}
+use Rattle.drv_specs.specs.Loading.{Carried, Including, all_carried, carried, changed, file_carried, file_loaded, file_text, including}
+use Rattle.drv_specs.specs.Loading.{loaded, most_files, set_in, then_by, worked}
 use Rattle.drv_specs.specs.Sets.{Set, with_name, with_pair_body, with_text}
 use Rattle.drv_specs.specs.declared.directive.IfMissing.TheVariants.{Refuse}
 use Rattle.drv_specs.specs.declared.directive.IfMissing.{IfMissing}
@@ -18,55 +19,72 @@ use Rattle.std.proofs.Common.{◌≡◌, Err, List, [], ◌∷◌, Ok, Result, r
 abbrev pub Keeps : Including → Type 0
 Keeps inc = (c : Carried) (missing : IfMissing) (name : List ℕ) (c' : Carried) → inc c missing name ≡ Is (Ok c') → Kept c.set → Kept c'.set
 
-changed_keeps : (set : Set) (files : ℕ) (given : Result Set SpecsFault) (c' : Carried) → changed files given ≡ Is (Ok c') → ((set' : Set) → given ≡ Ok set' → Kept set') → Kept c'.set
+changed_keeps : (set : Set) (files : ℕ) (given : Result Set SpecsFault) (c' : Carried) → changed files given ≡ Is (Ok c')
+    → ((set' : Set) → given ≡ Ok set' → Kept set') → Kept c'.set
 changed_keeps set files (Ok set') c' is kept = let same : set' ≡ c'.set = cc in subst Kept same (kept set' refl)
 changed_keeps set files (Err fault) c' is kept = absurd cc
 
-carried_keeps : (inc : Including) → Keeps inc → (c : Carried) (directive : Directive) (c' : Carried) → IsGood directive → carried inc c directive ≡ Is (Ok c') → Kept c.set → Kept c'.set
-carried_keeps inc keeps c (Text name body) c' good is kept = changed_keeps c.set c.files (with_text c.set name body) c' is (λ set' is'. text_keeps c.set name body set' good is' kept)
-carried_keeps inc keeps c (Pair key body) c' good is kept = changed_keeps c.set c.files (with_pair_body c.set key body) c' is (λ set' is'. pair_keeps c.set key body set' good.0 good.1 is' kept)
-carried_keeps inc keeps c (Rename old new) c' good is kept = changed_keeps c.set c.files (with_name c.set old new) c' is (λ set' is'. name_keeps c.set old new set' is' kept)
+carried_keeps : (inc : Including) → Keeps inc → (c : Carried) (directive : Directive) (c' : Carried) → IsGood directive
+    → carried inc c directive ≡ Is (Ok c') → Kept c.set → Kept c'.set
+carried_keeps inc keeps c (Text name body) c' good is kept =
+    changed_keeps c.set c.files (with_text c.set name body) c' is (λ set' is'. text_keeps c.set name body set' good is' kept)
+carried_keeps inc keeps c (Pair key body) c' good is kept =
+    changed_keeps c.set c.files (with_pair_body c.set key body) c' is (λ set' is'. pair_keeps c.set key body set' good.0 good.1 is' kept)
+carried_keeps inc keeps c (Rename old new) c' good is kept =
+    changed_keeps c.set c.files (with_name c.set old new) c' is (λ set' is'. name_keeps c.set old new set' is' kept)
 carried_keeps inc keeps c (Include missing name) c' good is kept = keeps c missing name c' is kept
 carried_keeps inc keeps c (Bad n) c' good is kept = absurd cc
 
-all_keep : (inc : Including) → Keeps inc → (directives : List Directive) (c c' : Carried) → Each IsGood directives → all_carried inc c directives ≡ Is (Ok c') → Kept c.set → Kept c'.set
+all_keep : (inc : Including) → Keeps inc → (directives : List Directive) (c c' : Carried) → Each IsGood directives
+    → all_carried inc c directives ≡ Is (Ok c') → Kept c.set → Kept c'.set
 all_keep inc keeps [] c c' good is kept = let same : c ≡ c' = cc in subst (λ (d : Carried). Kept d.set) same kept
-all_keep inc keeps (directive ∷ directives) c c' good is kept = by (carried inc c directive) refl is (λ d. all_keep inc keeps directives d c' good.1)
+all_keep inc keeps (directive ∷ directives) c c' good is kept =
+    by (carried inc c directive) refl is (λ d. all_keep inc keeps directives d c' good.1)
   where
-    by : (given : Known (Result Carried SpecsFault)) → carried inc c directive ≡ given → then_by given (λ d. all_carried inc d directives) ≡ Is (Ok c')
+    by : (given : Known (Result Carried SpecsFault)) → carried inc c directive ≡ given
+        → then_by given (λ d. all_carried inc d directives) ≡ Is (Ok c')
         → ((d : Carried) → all_carried inc d directives ≡ Is (Ok c') → Kept d.set → Kept c'.set) → Kept c'.set
     by Unasked given is' later = absurd cc
     by (Is (Err fault)) given is' later = absurd cc
     by (Is (Ok d)) given is' later = later d is' (carried_keeps inc keeps c directive d good.0 given kept)
 
 module _ (F : Facts) (prefixes : Prefixes) where
-  file_keeps : (inc : Including) → Keeps inc → (set : Set) (files : ℕ) (missing : IfMissing) (name : List ℕ) (c' : Carried) → file_carried F prefixes inc set files missing name ≡ Is (Ok c') → Kept set → Kept c'.set
+  file_keeps : (inc : Including) → Keeps inc → (set : Set) (files : ℕ) (missing : IfMissing) (name : List ℕ) (c' : Carried)
+      → file_carried F prefixes inc set files missing name ≡ Is (Ok c') → Kept set → Kept c'.set
   file_keeps inc keeps set zero missing name c' is kept = absurd cc
   file_keeps inc keeps set (suc left) missing name c' is kept = by (file_text F prefixes missing name) is
     where
-      by : (given : Known (Result (List ℕ) SpecsFault)) → then_by given (λ text. all_carried inc (record { set = set; files = left }) (directives_of text)) ≡ Is (Ok c') → Kept c'.set
+      by : (given : Known (Result (List ℕ) SpecsFault)) → then_by given
+          (λ text. all_carried inc (record { set = set; files = left }) (directives_of text)) ≡ Is (Ok c') → Kept c'.set
       by Unasked is' = absurd cc
       by (Is (Err fault)) is' = absurd cc
-      by (Is (Ok text)) is' = all_keep inc keeps (directives_of text) (record { set = set; files = left }) c' (directives_good text) is' kept
+      by (Is (Ok text)) is' = all_keep inc keeps (directives_of text) (record { set = set; files = left }) c'
+          (directives_good text) is' kept
 
   including_keeps : (levels : ℕ) → Keeps (including F prefixes levels)
   unfolding including
   including_keeps zero c missing name c' is kept = absurd cc
-  including_keeps (suc levels) c missing name c' is kept = file_keeps (including F prefixes levels) (including_keeps levels) c.set c.files missing name c' is kept
+  including_keeps (suc levels) c missing name c' is kept =
+      file_keeps (including F prefixes levels) (including_keeps levels) c.set c.files missing name c' is kept
 
-  set_by : (given : Known (Result Carried SpecsFault)) (set' : Set) → then_by given set_in ≡ Is (Ok set') → ((c : Carried) → given ≡ Is (Ok c) → Kept c.set) → Kept set'
+  set_by : (given : Known (Result Carried SpecsFault)) (set' : Set) → then_by given set_in ≡ Is (Ok set')
+      → ((c : Carried) → given ≡ Is (Ok c) → Kept c.set) → Kept set'
   set_by Unasked set' is kept = absurd cc
   set_by (Is (Err fault)) set' is kept = absurd cc
   set_by (Is (Ok c)) set' is kept = let same : c.set ≡ set' = cc in subst Kept same (kept c refl)
 
   -- a text that was run
-  pub worked_keeps : (set set' : Set) (files : ℕ) (text : List ℕ) → Kept set → worked F prefixes set files (directives_of text) ≡ Is (Ok set') → Kept set'
+  pub worked_keeps : (set set' : Set) (files : ℕ) (text : List ℕ) → Kept set
+      → worked F prefixes set files (directives_of text) ≡ Is (Ok set') → Kept set'
   worked_keeps set set' files text kept is =
       set_by (all_carried (including F prefixes 15) (record { set = set; files = files }) (directives_of text)) set' is
-      (λ c given. all_keep (including F prefixes 15) (including_keeps 15) (directives_of text) (record { set = set; files = files }) c (directives_good text) given kept)
+      (λ c given. all_keep (including F prefixes 15) (including_keeps 15) (directives_of text) (record { set = set; files = files }) c
+      (directives_good text) given kept)
 
-  pub settled_keeps : (set set' : Set) (files : ℕ) (left : List ℕ) → IsSettled left → Kept set → worked F prefixes set files (read_settled left) ≡ Is (Ok set') → Kept set'
-  settled_keeps set set' files left settled kept is = worked_keeps set set' files settled.0 kept (ap (λ l. worked F prefixes set files (read_settled l)) (sym settled.1) ∙ is)
+  pub settled_keeps : (set set' : Set) (files : ℕ) (left : List ℕ) → IsSettled left → Kept set
+      → worked F prefixes set files (read_settled left) ≡ Is (Ok set') → Kept set'
+  settled_keeps set set' files left settled kept is =
+      worked_keeps set set' files settled.0 kept (ap (λ l. worked F prefixes set files (read_settled l)) (sym settled.1) ∙ is)
 
   pub loaded_keeps : (set set' : Set) (text : List ℕ) → Kept set → loaded F prefixes set text ≡ Is (Ok set') → Kept set'
   unfolding loaded

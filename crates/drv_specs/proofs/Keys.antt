@@ -1,6 +1,7 @@
 use Rattle.indexmap.proofs.MapLemmas.{absent_from_lookup, insert_entry-absent, swap_remove_entry-found}
 use Rattle.indexmap.specs.IndexMap.{insert_entry, swap_remove_entry}
-use Rattle.std.proofs.Common.{◌≡◌, ◌<◌, ◌+◌, ◌-◌, ◌∙◌, Bool, List, [], ◌∷◌, ◌++◌, None, Some, ap, arith, cond, false, length, length-append, lt-ltb, not, refl, set, slice_index_or, suc, swap_remove, sym, take, true, zero, ℕ}
+use Rattle.std.proofs.Common.{◌≡◌, ◌<◌, ◌+◌, ◌-◌, ◌∙◌, Bool, List, [], ◌∷◌, ◌++◌, None, Some, ap, arith, cond, false, length, length-append}
+use Rattle.std.proofs.Common.{lt-ltb, not, refl, set, slice_index_or, suc, swap_remove, sym, take, true, zero, ℕ}
 use Rattle.std.specs.Cmp.Lexicographic.{pointwise}
 use Rattle.std.specs.Global.{Vec}
 use Rattle.std.specs.List.{AllZip}
@@ -48,7 +49,8 @@ module _ {K X : Type 0} (t : K → Bool) where
   first_of x [] is = absurd cc
   first_of x (e ∷ es) is = by (t e.0) refl is (first_of x es)
     where
-      by : (hit : Bool) → t e.0 ≡ hit → cond hit (Some e.1) (lookup t es) ≡ Some x → (lookup t es ≡ Some x → (i : ℕ) × IsFirst es i) → (i : ℕ) × IsFirst (e ∷ es) i
+      by : (hit : Bool) → t e.0 ≡ hit → cond hit (Some e.1) (lookup t es) ≡ Some x → (lookup t es ≡ Some x → (i : ℕ) × IsFirst es i)
+          → (i : ℕ) × IsFirst (e ∷ es) i
       by true hit is' later = (0, hit)
       by false hit is' later = let found = later is' in (suc found.0, (hit, found.1))
 
@@ -60,11 +62,13 @@ module _ {K X : Type 0} (t : K → Bool) where
   first_or_len : (es : List (K × X)) (i : ℕ) → IsFirst es i → position_or_len t (keys_of es) ≡ i
   first_or_len [] i h = absurd h
   first_or_len (e ∷ es) zero h = ap (λ b. cond (not b) (1 + position_or_len t (keys_of es)) 0) h
-  first_or_len (e ∷ es) (suc i) h = ap (λ b. cond (not b) (1 + position_or_len t (keys_of es)) 0) h.0 ∙ ap (λ n. 1 + n) (first_or_len es i h.1) ∙ omega arith
+  first_or_len (e ∷ es) (suc i) h = ap (λ b. cond (not b) (1 + position_or_len t (keys_of es)) 0) h.0
+      ∙ ap (λ n. 1 + n) (first_or_len es i h.1) ∙ omega arith
 
   first_is : (es : List (K × X)) (i : ℕ) → IsFirst es i → position t (keys_of es) ≡ Some i
   first_is es i h =
-      ap (λ n. cond (nat_lt n (length (keys_of es))) (Some n) None) (first_or_len es i h) ∙ ap (λ b. cond b (Some i) None) (lt-ltb i (length (keys_of es)) (first_within es i h))
+      ap (λ n. cond (nat_lt n (length (keys_of es))) (Some n) None) (first_or_len es i h)
+      ∙ ap (λ b. cond b (Some i) None) (lt-ltb i (length (keys_of es)) (first_within es i h))
 
 module _ {K X : Type 0} (t : K → Bool) (k : K) (x : X) where
   first_front : (es rest : List (K × X)) (i : ℕ) → IsFirst t es i → IsFirst t (es ++ rest) i
@@ -72,13 +76,16 @@ module _ {K X : Type 0} (t : K → Bool) (k : K) (x : X) where
   first_front (e ∷ es) rest zero h = h
   first_front (e ∷ es) rest (suc i) h = (h.0, first_front es rest i h.1)
 
-  put_there : (es : List (K × X)) (i : ℕ) → IsFirst t es i → lookup t es ≡ Some x → take (length es) (set (es ++ (k, x) ∷ []) i (k, x)) ≡ set_key t es k
+  put_there : (es : List (K × X)) (i : ℕ) → IsFirst t es i → lookup t es ≡ Some x
+      → take (length es) (set (es ++ (k, x) ∷ []) i (k, x)) ≡ set_key t es k
   put_there [] i h is = absurd h
   put_there (e ∷ es) zero h is =
       let same : x ≡ e.1 = some_is (sym is ∙ ap (λ b. cond b (Some e.1) (lookup t es)) h) in
-      ap (λ rest. (k, x) ∷ rest) (front_of es (k, x)) ∙ ap (λ v. (k, v) ∷ es) same ∙ sym (ap (λ b. cond b ((k, e.1) ∷ es) (e ∷ set_key t es k)) h)
+      ap (λ rest. (k, x) ∷ rest) (front_of es (k, x)) ∙ ap (λ v. (k, v) ∷ es) same
+      ∙ sym (ap (λ b. cond b ((k, e.1) ∷ es) (e ∷ set_key t es k)) h)
   put_there (e ∷ es) (suc i) h is =
-      ap (λ rest. e ∷ rest) (put_there es i h.1 (sym (ap (λ b. cond b (Some e.1) (lookup t es)) h.0) ∙ is)) ∙ sym (ap (λ b. cond b ((k, e.1) ∷ es) (e ∷ set_key t es k)) h.0)
+      ap (λ rest. e ∷ rest) (put_there es i h.1 (sym (ap (λ b. cond b (Some e.1) (lookup t es)) h.0) ∙ is))
+      ∙ sym (ap (λ b. cond b ((k, e.1) ∷ es) (e ∷ set_key t es k)) h.0)
 
   length_more : (es : List (K × X)) → length (es ++ (k, x) ∷ []) - 1 ≡ length es
   length_more es = omega (arith, length-append es ((k, x) ∷ []))
@@ -93,5 +100,6 @@ module _ {K X : Type 0} (t : K → Bool) (k : K) (x : X) where
   pub key_renamed : (es : List (K × X)) → lookup t es ≡ Some x → swap_remove_entry t (es ++ (k, x) ∷ []) ≡ set_key t es k
   key_renamed es is =
       let first = first_of t x es is in
-      swap_remove_entry-found t (es ++ (k, x) ∷ []) first.0 (k, x) (first_is t (es ++ (k, x) ∷ []) first.0 (first_front es ((k, x) ∷ []) first.0 first.1))
+      swap_remove_entry-found t (es ++ (k, x) ∷ []) first.0 (k, x)
+      (first_is t (es ++ (k, x) ∷ []) first.0 (first_front es ((k, x) ∷ []) first.0 first.1))
       ∙ swapped es first.0 first.1 is

@@ -2,7 +2,8 @@ use Rattle.drv_specs.proofs.Keys.{is_key_of, key_renamed, same_bytes, same_key, 
 use Rattle.drv_specs.specs.Code.Keyed.{texts_left, with_left}
 use Rattle.indexmap.proofs.MapLemmas.{absent_from_lookup, insert_entry-absent}
 use Rattle.indexmap.specs.IndexMap.{insert_entry, swap_remove_entry}
-use Rattle.std.proofs.Common.{◌≡◌, ◌∙◌, Bool, List, [], ◌∷◌, None, Option, Some, ap, cond, false, filter, if◌then◌else◌, is_some, nat_eq, refl, subst, sym, true, ℕ}
+use Rattle.std.proofs.Common.{◌≡◌, ◌∙◌, Bool, List, [], ◌∷◌, None, Option, Some, ap, cond, false, filter, if◌then◌else◌, is_some, nat_eq}
+use Rattle.std.proofs.Common.{refl, subst, sym, true, ℕ}
 use Rattle.std.proofs.lemmas.Option.{slice_get-map}
 use Rattle.std.proofs.lemmas.Map.Keys.{IsDistinct-head, IsDistinct-tail}
 use Rattle.std.proofs.lemmas.Cmp.{nat_list_eq_equiv}
@@ -20,7 +21,8 @@ module _ (name : List ℕ) where
   abbrev Lacks : List (Vec ℕ × Option (List ℕ)) → Type 0
   Lacks es = AllByRecursion (λ (key : Vec ℕ). pointwise nat_eq name key.items ≡ false) (keys_of es)
 
-  lacks : (key : Vec ℕ) (es : List (Vec ℕ × Option (List ℕ))) → name ≡ key.items → AllByRecursion (λ other. same_key key other ≡ false) (keys_of es) → Lacks es
+  lacks : (key : Vec ℕ) (es : List (Vec ℕ × Option (List ℕ))) → name ≡ key.items
+      → AllByRecursion (λ other. same_key key other ≡ false) (keys_of es) → Lacks es
   lacks key [] same none = tt
   lacks key (e ∷ es) same none = (ap (λ n. pointwise nat_eq n e.0.items) same ∙ none.0, lacks key es same none.1)
 
@@ -28,50 +30,65 @@ module _ (name : List ℕ) where
   none_left [] none = refl
   none_left (e ∷ es) none = by e.1 (none_left es none.1)
     where
-      by : (text : Option (List ℕ)) → lookup (pointwise nat_eq name) (texts_left es) ≡ None → lookup (pointwise nat_eq name) (with_left e.0.items text (texts_left es)) ≡ None
+      by : (text : Option (List ℕ)) → lookup (pointwise nat_eq name) (texts_left es) ≡ None
+          → lookup (pointwise nat_eq name) (with_left e.0.items text (texts_left es)) ≡ None
       by None later = later
       by (Some text) later = ap (λ b. cond b (Some text) (lookup (pointwise nat_eq name) (texts_left es))) none.0 ∙ later
 
   -- the text of a name
-  pub lookup_left : (es : List (Vec ℕ × Option (List ℕ))) → IsDistinct same_key (keys_of es) → lookup (pointwise nat_eq name) (texts_left es) ≡ option_flatten (lookup (is_key_of name) es)
+  pub lookup_left : (es : List (Vec ℕ × Option (List ℕ))) → IsDistinct same_key (keys_of es)
+      → lookup (pointwise nat_eq name) (texts_left es) ≡ option_flatten (lookup (is_key_of name) es)
   lookup_left [] distinct = refl
-  lookup_left (e ∷ es) distinct = by e.1 (pointwise nat_eq name e.0.items) refl (lookup_left es (IsDistinct-tail same_key e.0 (keys_of es) distinct))
+  lookup_left (e ∷ es) distinct = by e.1 (pointwise nat_eq name e.0.items) refl
+      (lookup_left es (IsDistinct-tail same_key e.0 (keys_of es) distinct))
     where
-      by : (text : Option (List ℕ)) (hit : Bool) → pointwise nat_eq name e.0.items ≡ hit → lookup (pointwise nat_eq name) (texts_left es) ≡ option_flatten (lookup (is_key_of name) es)
-          → lookup (pointwise nat_eq name) (with_left e.0.items text (texts_left es)) ≡ option_flatten (cond (pointwise nat_eq name e.0.items) (Some text) (lookup (is_key_of name) es))
+      by : (text : Option (List ℕ)) (hit : Bool) → pointwise nat_eq name e.0.items ≡ hit
+          → lookup (pointwise nat_eq name) (texts_left es) ≡ option_flatten (lookup (is_key_of name) es)
+          → lookup (pointwise nat_eq name) (with_left e.0.items text (texts_left es))
+          ≡ option_flatten (cond (pointwise nat_eq name e.0.items) (Some text) (lookup (is_key_of name) es))
       by None true is later =
           none_left es (lacks e.0 es (same_text name e.0.items (sym is)) (IsDistinct-head same_key e.0 (keys_of es) distinct))
           ∙ sym (ap (λ b. option_flatten (cond b (Some None) (lookup (is_key_of name) es))) is)
       by None false is later = later ∙ sym (ap (λ b. option_flatten (cond b (Some None) (lookup (is_key_of name) es))) is)
       by (Some text) true is later =
-          ap (λ b. cond b (Some text) (lookup (pointwise nat_eq name) (texts_left es))) is ∙ sym (ap (λ b. option_flatten (cond b (Some (Some text)) (lookup (is_key_of name) es))) is)
+          ap (λ b. cond b (Some text) (lookup (pointwise nat_eq name) (texts_left es))) is
+          ∙ sym (ap (λ b. option_flatten (cond b (Some (Some text)) (lookup (is_key_of name) es))) is)
       by (Some text) false is later =
-          ap (λ b. cond b (Some text) (lookup (pointwise nat_eq name) (texts_left es))) is ∙ later ∙ sym (ap (λ b. option_flatten (cond b (Some (Some text)) (lookup (is_key_of name) es))) is)
+          ap (λ b. cond b (Some text) (lookup (pointwise nat_eq name) (texts_left es))) is ∙ later
+          ∙ sym (ap (λ b. option_flatten (cond b (Some (Some text)) (lookup (is_key_of name) es))) is)
 
-  pub unlisted : (es : List (Vec ℕ × Option (List ℕ))) → lookup (is_key_of name) es ≡ None → lookup (pointwise nat_eq name) (texts_left es) ≡ None
+  pub unlisted : (es : List (Vec ℕ × Option (List ℕ))) → lookup (is_key_of name) es ≡ None
+      → lookup (pointwise nat_eq name) (texts_left es) ≡ None
   unlisted [] none = refl
   unlisted (e ∷ es) none = by e.1 (pointwise nat_eq name e.0.items) refl none (unlisted es)
     where
-      by : (text : Option (List ℕ)) (hit : Bool) → pointwise nat_eq name e.0.items ≡ hit → cond hit (Some text) (lookup (is_key_of name) es) ≡ None
-          → (lookup (is_key_of name) es ≡ None → lookup (pointwise nat_eq name) (texts_left es) ≡ None) → lookup (pointwise nat_eq name) (with_left e.0.items text (texts_left es)) ≡ None
+      by : (text : Option (List ℕ)) (hit : Bool) → pointwise nat_eq name e.0.items ≡ hit
+          → cond hit (Some text) (lookup (is_key_of name) es) ≡ None
+          → (lookup (is_key_of name) es ≡ None → lookup (pointwise nat_eq name) (texts_left es) ≡ None)
+          → lookup (pointwise nat_eq name) (with_left e.0.items text (texts_left es)) ≡ None
       by text true is none later = absurd cc
       by None false is none later = later none
       by (Some text) false is none later = ap (λ b. cond b (Some text) (lookup (pointwise nat_eq name) (texts_left es))) is ∙ later none
 
   -- the entry of a name without a text is dropped
-  pub left_vacated : (es : List (Vec ℕ × Option (List ℕ))) → lookup (pointwise nat_eq name) (texts_left es) ≡ None → texts_left (remove_entry (is_key_of name) es) ≡ texts_left es
+  pub left_vacated : (es : List (Vec ℕ × Option (List ℕ))) → lookup (pointwise nat_eq name) (texts_left es) ≡ None
+      → texts_left (remove_entry (is_key_of name) es) ≡ texts_left es
   left_vacated [] none = refl
   left_vacated (e ∷ es) none = by e.1 (pointwise nat_eq name e.0.items) refl none (left_vacated es)
     where
-      by : (text : Option (List ℕ)) (hit : Bool) → pointwise nat_eq name e.0.items ≡ hit → lookup (pointwise nat_eq name) (with_left e.0.items text (texts_left es)) ≡ None
+      by : (text : Option (List ℕ)) (hit : Bool) → pointwise nat_eq name e.0.items ≡ hit
+          → lookup (pointwise nat_eq name) (with_left e.0.items text (texts_left es)) ≡ None
           → (lookup (pointwise nat_eq name) (texts_left es) ≡ None → texts_left (remove_entry (is_key_of name) es) ≡ texts_left es)
-          → texts_left (cond (pointwise nat_eq name e.0.items) es ((e.0, text) ∷ remove_entry (is_key_of name) es)) ≡ with_left e.0.items text (texts_left es)
+          → texts_left (cond (pointwise nat_eq name e.0.items) es ((e.0, text) ∷ remove_entry (is_key_of name) es))
+          ≡ with_left e.0.items text (texts_left es)
       by None true is none later = ap (λ b. texts_left (cond b es ((e.0, None) ∷ remove_entry (is_key_of name) es))) is
       by None false is none later = ap (λ b. texts_left (cond b es ((e.0, None) ∷ remove_entry (is_key_of name) es))) is ∙ later none
-      by (Some text) true is none later = absurd (let wrong : Some text ≡ None = sym (ap (λ b. cond b (Some text) (lookup (pointwise nat_eq name) (texts_left es))) is) ∙ none in cc)
+      by (Some text) true is none later =
+          absurd (let wrong : Some text ≡ None = sym (ap (λ b. cond b (Some text) (lookup (pointwise nat_eq name) (texts_left es))) is) ∙ none in cc)
       by (Some text) false is none later =
           ap (λ b. texts_left (cond b es ((e.0, Some text) ∷ remove_entry (is_key_of name) es))) is
-          ∙ ap (λ l. (e.0.items, text) ∷ l) (later (sym (ap (λ b. cond b (Some text) (lookup (pointwise nat_eq name) (texts_left es))) is) ∙ none))
+          ∙ ap (λ l. (e.0.items, text) ∷ l) (later (sym (ap (λ b. cond b (Some text) (lookup (pointwise nat_eq name) (texts_left es))) is)
+          ∙ none))
 
   none_removed : (es : List (Vec ℕ × Option (List ℕ))) → Lacks es → remove_entry (pointwise nat_eq name) (texts_left es) ≡ texts_left es
   none_removed [] none = refl
@@ -80,19 +97,25 @@ module _ (name : List ℕ) where
       by : (text : Option (List ℕ)) → remove_entry (pointwise nat_eq name) (texts_left es) ≡ texts_left es
           → remove_entry (pointwise nat_eq name) (with_left e.0.items text (texts_left es)) ≡ with_left e.0.items text (texts_left es)
       by None later = later
-      by (Some text) later = ap (λ b. cond b (texts_left es) ((e.0.items, text) ∷ remove_entry (pointwise nat_eq name) (texts_left es))) none.0 ∙ ap (λ l. (e.0.items, text) ∷ l) later
+      by (Some text) later = ap (λ b. cond b (texts_left es) ((e.0.items, text) ∷ remove_entry (pointwise nat_eq name) (texts_left es)))
+          none.0 ∙ ap (λ l. (e.0.items, text) ∷ l) later
 
   -- a name loses its text
-  pub left_without : (es : List (Vec ℕ × Option (List ℕ))) → IsDistinct same_key (keys_of es) → texts_left (set_value (is_key_of name) es None) ≡ remove_entry (pointwise nat_eq name) (texts_left es)
+  pub left_without : (es : List (Vec ℕ × Option (List ℕ))) → IsDistinct same_key (keys_of es)
+      → texts_left (set_value (is_key_of name) es None) ≡ remove_entry (pointwise nat_eq name) (texts_left es)
   left_without [] distinct = refl
-  left_without (e ∷ es) distinct = by e.1 (pointwise nat_eq name e.0.items) refl (left_without es (IsDistinct-tail same_key e.0 (keys_of es) distinct))
+  left_without (e ∷ es) distinct = by e.1 (pointwise nat_eq name e.0.items) refl
+      (left_without es (IsDistinct-tail same_key e.0 (keys_of es) distinct))
     where
-      by : (text : Option (List ℕ)) (hit : Bool) → pointwise nat_eq name e.0.items ≡ hit → texts_left (set_value (is_key_of name) es None) ≡ remove_entry (pointwise nat_eq name) (texts_left es)
-          → texts_left (cond (pointwise nat_eq name e.0.items) ((e.0, None) ∷ es) ((e.0, text) ∷ set_value (is_key_of name) es None)) ≡ remove_entry (pointwise nat_eq name) (with_left e.0.items text (texts_left es))
+      by : (text : Option (List ℕ)) (hit : Bool) → pointwise nat_eq name e.0.items ≡ hit
+          → texts_left (set_value (is_key_of name) es None) ≡ remove_entry (pointwise nat_eq name) (texts_left es)
+          → texts_left (cond (pointwise nat_eq name e.0.items) ((e.0, None) ∷ es) ((e.0, text) ∷ set_value (is_key_of name) es None))
+          ≡ remove_entry (pointwise nat_eq name) (with_left e.0.items text (texts_left es))
       by None true is later =
           ap (λ b. texts_left (cond b ((e.0, None) ∷ es) ((e.0, None) ∷ set_value (is_key_of name) es None))) is
           ∙ sym (none_removed es (lacks e.0 es (same_text name e.0.items (sym is)) (IsDistinct-head same_key e.0 (keys_of es) distinct)))
-      by None false is later = ap (λ b. texts_left (cond b ((e.0, None) ∷ es) ((e.0, None) ∷ set_value (is_key_of name) es None))) is ∙ later
+      by None false is later = ap (λ b. texts_left (cond b ((e.0, None) ∷ es) ((e.0, None) ∷ set_value (is_key_of name) es None))) is
+          ∙ later
       by (Some text) true is later =
           ap (λ b. texts_left (cond b ((e.0, None) ∷ es) ((e.0, Some text) ∷ set_value (is_key_of name) es None))) is
           ∙ sym (ap (λ b. cond b (texts_left es) ((e.0.items, text) ∷ remove_entry (pointwise nat_eq name) (texts_left es))) is)
@@ -101,17 +124,21 @@ module _ (name : List ℕ) where
           ∙ ap (λ l. (e.0.items, text) ∷ l) later
           ∙ sym (ap (λ b. cond b (texts_left es) ((e.0.items, text) ∷ remove_entry (pointwise nat_eq name) (texts_left es))) is)
 
-  pub left_unlisted : (es : List (Vec ℕ × Option (List ℕ))) → lookup (is_key_of name) es ≡ None → texts_left es ≡ remove_entry (pointwise nat_eq name) (texts_left es)
+  pub left_unlisted : (es : List (Vec ℕ × Option (List ℕ))) → lookup (is_key_of name) es ≡ None
+      → texts_left es ≡ remove_entry (pointwise nat_eq name) (texts_left es)
   left_unlisted es none = absent (texts_left es) (unlisted es none)
     where
-      absent : (texts : List (List ℕ × List ℕ)) → lookup (pointwise nat_eq name) texts ≡ None → texts ≡ remove_entry (pointwise nat_eq name) texts
+      absent : (texts : List (List ℕ × List ℕ)) → lookup (pointwise nat_eq name) texts ≡ None
+          → texts ≡ remove_entry (pointwise nat_eq name) texts
       absent [] none = refl
       absent (t ∷ texts) none = by (pointwise nat_eq name t.0) refl none (absent texts)
         where
           by : (hit : Bool) → pointwise nat_eq name t.0 ≡ hit → cond hit (Some t.1) (lookup (pointwise nat_eq name) texts) ≡ None
-              → (lookup (pointwise nat_eq name) texts ≡ None → texts ≡ remove_entry (pointwise nat_eq name) texts) → t ∷ texts ≡ remove_entry (pointwise nat_eq name) (t ∷ texts)
+              → (lookup (pointwise nat_eq name) texts ≡ None → texts ≡ remove_entry (pointwise nat_eq name) texts)
+              → t ∷ texts ≡ remove_entry (pointwise nat_eq name) (t ∷ texts)
           by true is none later = absurd cc
-          by false is none later = ap (λ l. t ∷ l) (later none) ∙ sym (ap (λ b. cond b texts (t ∷ remove_entry (pointwise nat_eq name) texts)) is)
+          by false is none later = ap (λ l. t ∷ l) (later none)
+              ∙ sym (ap (λ b. cond b texts (t ∷ remove_entry (pointwise nat_eq name) texts)) is)
 
 -- no value
 pub none_of : {X : Type 0} (o : Option X) → is_some o ≡ false → o ≡ None
@@ -119,10 +146,13 @@ none_of None is = refl
 none_of (Some x) is = absurd cc
 
 -- the text of a name whose entry has a place
-pub text_found : (name : List ℕ) (es : List (Vec ℕ × Option (List ℕ))) (place : ℕ) (found : Option (Vec ℕ × Option (List ℕ))) → IsDistinct same_key (keys_of es)
-    → slice_get (values_of es) place ≡ lookup (is_key_of name) es → found ≡ slice_get es place → lookup (pointwise nat_eq name) (texts_left es) ≡ option_flatten (option_map (λ e. e.1) found)
+pub text_found : (name : List ℕ) (es : List (Vec ℕ × Option (List ℕ))) (place : ℕ) (found : Option (Vec ℕ × Option (List ℕ)))
+    → IsDistinct same_key (keys_of es)
+    → slice_get (values_of es) place ≡ lookup (is_key_of name) es → found ≡ slice_get es place
+    → lookup (pointwise nat_eq name) (texts_left es) ≡ option_flatten (option_map (λ e. e.1) found)
 text_found name es place found distinct there is =
-    lookup_left name es distinct ∙ ap option_flatten (sym there ∙ slice_get-map (λ (e : Vec ℕ × Option (List ℕ)). e.1) es place ∙ ap (option_map (λ e. e.1)) (sym is))
+    lookup_left name es distinct ∙ ap option_flatten (sym there ∙ slice_get-map (λ (e : Vec ℕ × Option (List ℕ)). e.1) es place
+    ∙ ap (option_map (λ e. e.1)) (sym is))
 
 -- the entry of a name is not one without a text
 abbrev pub IsHeld : Option (Option (List ℕ)) → Type 0
@@ -136,9 +166,12 @@ pub left_with : (key : Vec ℕ) (text : List ℕ) (es : List (Vec ℕ × Option 
 left_with key text [] held = refl
 left_with key text (e ∷ es) held = by e.1 (pointwise nat_eq key.items e.0.items) refl held (left_with key text es)
   where
-    by : (had : Option (List ℕ)) (hit : Bool) → pointwise nat_eq key.items e.0.items ≡ hit → IsHeld (cond (pointwise nat_eq key.items e.0.items) (Some had) (lookup (is_key_of key.items) es))
-        → (IsHeld (lookup (is_key_of key.items) es) → texts_left (insert_entry same_key es key (Some text)) ≡ insert_entry (pointwise nat_eq) (texts_left es) key.items text)
-        → texts_left (if pointwise nat_eq key.items e.0.items then (e.0, Some text) ∷ es else (e.0, had) ∷ insert_entry same_key es key (Some text))
+    by : (had : Option (List ℕ)) (hit : Bool) → pointwise nat_eq key.items e.0.items ≡ hit
+        → IsHeld (cond (pointwise nat_eq key.items e.0.items) (Some had) (lookup (is_key_of key.items) es))
+        → (IsHeld (lookup (is_key_of key.items) es) → texts_left (insert_entry same_key es key (Some text))
+        ≡ insert_entry (pointwise nat_eq) (texts_left es) key.items text)
+        → texts_left (if pointwise nat_eq key.items e.0.items then (e.0, Some text) ∷ es
+        else (e.0, had) ∷ insert_entry same_key es key (Some text))
         ≡ insert_entry (pointwise nat_eq) (with_left e.0.items had (texts_left es)) key.items text
     by None true is held later = absurd (subst (λ b. IsHeld (cond b (Some None) (lookup (is_key_of key.items) es))) is held)
     by None false is held later =
@@ -146,68 +179,88 @@ left_with key text (e ∷ es) held = by e.1 (pointwise nat_eq key.items e.0.item
         ∙ later (subst (λ b. IsHeld (cond b (Some None) (lookup (is_key_of key.items) es))) is held)
     by (Some had) true is held later =
         ap (λ b. texts_left (if b then (e.0, Some text) ∷ es else (e.0, Some had) ∷ insert_entry same_key es key (Some text))) is
-        ∙ sym (ap (λ b. if b then (e.0.items, text) ∷ texts_left es else (e.0.items, had) ∷ insert_entry (pointwise nat_eq) (texts_left es) key.items text) is)
+        ∙ sym (ap (λ b. if b then (e.0.items, text) ∷ texts_left es
+        else (e.0.items, had) ∷ insert_entry (pointwise nat_eq) (texts_left es) key.items text) is)
     by (Some had) false is held later =
         ap (λ b. texts_left (if b then (e.0, Some text) ∷ es else (e.0, Some had) ∷ insert_entry same_key es key (Some text))) is
         ∙ ap (λ l. (e.0.items, had) ∷ l) (later (subst (λ b. IsHeld (cond b (Some (Some had)) (lookup (is_key_of key.items) es))) is held))
-        ∙ sym (ap (λ b. if b then (e.0.items, text) ∷ texts_left es else (e.0.items, had) ∷ insert_entry (pointwise nat_eq) (texts_left es) key.items text) is)
+        ∙ sym (ap (λ b. if b then (e.0.items, text) ∷ texts_left es
+        else (e.0.items, had) ∷ insert_entry (pointwise nat_eq) (texts_left es) key.items text) is)
 
 replaced : (name : List ℕ) (key : Vec ℕ) (text : Option (List ℕ)) (es : List (Vec ℕ × Option (List ℕ))) → key.items ≡ name
     → remove_entry (is_key_of name) (insert_entry same_key es key text) ≡ remove_entry (is_key_of name) es
-replaced name key text [] same = ap (λ n. cond (pointwise nat_eq name n) [] ((key, text) ∷ [])) same ∙ ap (λ b. cond b [] ((key, text) ∷ [])) (nat_list_eq_equiv.refl name)
+replaced name key text [] same = ap (λ n. cond (pointwise nat_eq name n) [] ((key, text) ∷ [])) same
+    ∙ ap (λ b. cond b [] ((key, text) ∷ [])) (nat_list_eq_equiv.refl name)
 replaced name key text (e ∷ es) same = by (pointwise nat_eq name e.0.items) refl (replaced name key text es same)
   where
-    by : (hit : Bool) → pointwise nat_eq name e.0.items ≡ hit → remove_entry (is_key_of name) (insert_entry same_key es key text) ≡ remove_entry (is_key_of name) es
+    by : (hit : Bool) → pointwise nat_eq name e.0.items ≡ hit
+        → remove_entry (is_key_of name) (insert_entry same_key es key text) ≡ remove_entry (is_key_of name) es
         → remove_entry (is_key_of name) (insert_entry same_key (e ∷ es) key text) ≡ remove_entry (is_key_of name) (e ∷ es)
     by true is later =
-        ap (λ b. remove_entry (is_key_of name) (if b then (e.0, text) ∷ es else e ∷ insert_entry same_key es key text)) (ap (λ n. pointwise nat_eq n e.0.items) same ∙ is)
+        ap (λ b. remove_entry (is_key_of name) (if b then (e.0, text) ∷ es else e ∷ insert_entry same_key es key text))
+        (ap (λ n. pointwise nat_eq n e.0.items) same ∙ is)
         ∙ ap (λ b. cond b es ((e.0, text) ∷ remove_entry (is_key_of name) es)) is
         ∙ sym (ap (λ b. cond b es (e ∷ remove_entry (is_key_of name) es)) is)
     by false is later =
-        ap (λ b. remove_entry (is_key_of name) (if b then (e.0, text) ∷ es else e ∷ insert_entry same_key es key text)) (ap (λ n. pointwise nat_eq n e.0.items) same ∙ is)
+        ap (λ b. remove_entry (is_key_of name) (if b then (e.0, text) ∷ es else e ∷ insert_entry same_key es key text))
+        (ap (λ n. pointwise nat_eq n e.0.items) same ∙ is)
         ∙ ap (λ b. cond b (insert_entry same_key es key text) (e ∷ remove_entry (is_key_of name) (insert_entry same_key es key text))) is
         ∙ ap (λ l. e ∷ l) later
         ∙ sym (ap (λ b. cond b es (e ∷ remove_entry (is_key_of name) es)) is)
 
 -- a key that is there keeps its place
-keys_kept : (key : Vec ℕ) (text : Option (List ℕ)) (es : List (Vec ℕ × Option (List ℕ))) → is_some (lookup (same_key key) es) ≡ true → keys_of (insert_entry same_key es key text) ≡ keys_of es
+keys_kept : (key : Vec ℕ) (text : Option (List ℕ)) (es : List (Vec ℕ × Option (List ℕ))) → is_some (lookup (same_key key) es) ≡ true
+    → keys_of (insert_entry same_key es key text) ≡ keys_of es
 keys_kept key text [] there = absurd cc
 keys_kept key text (e ∷ es) there = by (same_key key e.0) refl there (keys_kept key text es)
   where
     by : (hit : Bool) → same_key key e.0 ≡ hit → is_some (cond hit (Some e.1) (lookup (same_key key) es)) ≡ true
-        → (is_some (lookup (same_key key) es) ≡ true → keys_of (insert_entry same_key es key text) ≡ keys_of es) → keys_of (insert_entry same_key (e ∷ es) key text) ≡ keys_of (e ∷ es)
+        → (is_some (lookup (same_key key) es) ≡ true → keys_of (insert_entry same_key es key text) ≡ keys_of es)
+        → keys_of (insert_entry same_key (e ∷ es) key text) ≡ keys_of (e ∷ es)
     by true is there later = ap (λ b. keys_of (if b then (e.0, text) ∷ es else e ∷ insert_entry same_key es key text)) is
-    by false is there later = ap (λ b. keys_of (if b then (e.0, text) ∷ es else e ∷ insert_entry same_key es key text)) is ∙ ap (λ l. e.0 ∷ l) (later there)
+    by false is there later = ap (λ b. keys_of (if b then (e.0, text) ∷ es else e ∷ insert_entry same_key es key text)) is
+        ∙ ap (λ l. e.0 ∷ l) (later there)
 
-distinct_before : (key : Vec ℕ) (text : Option (List ℕ)) (es after : List (Vec ℕ × Option (List ℕ))) → is_some (lookup (same_key key) es) ≡ true → after ≡ insert_entry same_key es key text
+distinct_before : (key : Vec ℕ) (text : Option (List ℕ)) (es after : List (Vec ℕ × Option (List ℕ)))
+    → is_some (lookup (same_key key) es) ≡ true → after ≡ insert_entry same_key es key text
     → IsDistinct same_key (keys_of after) → IsDistinct same_key (keys_of es)
 distinct_before key text es after there is distinct = subst (IsDistinct same_key) (ap keys_of is ∙ keys_kept key text es there) distinct
 
 -- the text that a name had
-pub text_before : (key : Vec ℕ) (name : List ℕ) (text : List ℕ) (es after : List (Vec ℕ × Option (List ℕ))) → key.items ≡ name → after ≡ insert_entry same_key es key (Some text)
+pub text_before : (key : Vec ℕ) (name : List ℕ) (text : List ℕ) (es after : List (Vec ℕ × Option (List ℕ))) → key.items ≡ name
+    → after ≡ insert_entry same_key es key (Some text)
     → IsDistinct same_key (keys_of after) → lookup (pointwise nat_eq name) (texts_left es) ≡ option_flatten (lookup (same_key key) es)
 text_before key name text es after same is distinct = by (lookup (same_key key) es) refl
   where
-    by : (old : Option (Option (List ℕ))) → lookup (same_key key) es ≡ old → lookup (pointwise nat_eq name) (texts_left es) ≡ option_flatten (lookup (same_key key) es)
+    by : (old : Option (Option (List ℕ))) → lookup (same_key key) es ≡ old
+        → lookup (pointwise nat_eq name) (texts_left es) ≡ option_flatten (lookup (same_key key) es)
     by None none = unlisted name es (ap (λ n. lookup (is_key_of n) es) (sym same) ∙ none) ∙ sym (ap option_flatten none)
     by (Some old) there =
-        lookup_left name es (distinct_before key (Some text) es after (ap is_some there) is distinct) ∙ ap (λ n. option_flatten (lookup (is_key_of n) es)) (sym same)
+        lookup_left name es (distinct_before key (Some text) es after (ap is_some there) is distinct)
+        ∙ ap (λ n. option_flatten (lookup (is_key_of n) es)) (sym same)
 
 -- a text under a name that had none, behind all others
-pub moved : (key again : Vec ℕ) (name text : List ℕ) (put : Option (List ℕ)) (es first second third : List (Vec ℕ × Option (List ℕ))) → key.items ≡ name → again.items ≡ name
-    → lookup (same_key key) es ≡ Some None → first ≡ insert_entry same_key es key (Some text) → IsDistinct same_key (keys_of first) → lookup (same_key key) first ≡ Some (Some text)
-    → Some put ≡ lookup (is_key_of name) first → second ≡ remove_entry (is_key_of name) first → lookup (is_key_of name) second ≡ None → third ≡ insert_entry same_key second again put
+pub moved : (key again : Vec ℕ) (name text : List ℕ) (put : Option (List ℕ)) (es first second third : List (Vec ℕ × Option (List ℕ)))
+    → key.items ≡ name → again.items ≡ name
+    → lookup (same_key key) es ≡ Some None → first ≡ insert_entry same_key es key (Some text) → IsDistinct same_key (keys_of first)
+    → lookup (same_key key) first ≡ Some (Some text)
+    → Some put ≡ lookup (is_key_of name) first → second ≡ remove_entry (is_key_of name) first → lookup (is_key_of name) second ≡ None
+    → third ≡ insert_entry same_key second again put
     → texts_left third ≡ insert_entry (pointwise nat_eq) (texts_left es) name text
 moved key again name text put es first second third same same' had is distinct now taken without none last =
-    let lost : lookup (pointwise nat_eq name) (texts_left es) ≡ None = text_before key name text es first same is distinct ∙ ap option_flatten had in
+    let lost : lookup (pointwise nat_eq name) (texts_left es) ≡ None = text_before key name text es first same is distinct
+    ∙ ap option_flatten had in
     let it : put ≡ Some text = some_is (taken ∙ ap (λ n. lookup (is_key_of n) first) (sym same) ∙ now) in
-    let rest : texts_left second ≡ texts_left es = ap texts_left (without ∙ ap (remove_entry (is_key_of name)) is ∙ replaced name key (Some text) es same) ∙ left_vacated name es lost in
+    let rest : texts_left second ≡ texts_left es = ap texts_left
+    (without ∙ ap (remove_entry (is_key_of name)) is ∙ replaced name key (Some text) es same) ∙ left_vacated name es lost in
     ap texts_left (last ∙ ap (insert_entry same_key second again) it)
     ∙ left_with again text second (subst IsHeld (sym (ap (λ n. lookup (is_key_of n) second) same' ∙ none)) tt)
-    ∙ ap (λ l. insert_entry (pointwise nat_eq) l again.items text) rest ∙ ap (λ n. insert_entry (pointwise nat_eq) (texts_left es) n text) same'
+    ∙ ap (λ l. insert_entry (pointwise nat_eq) l again.items text) rest
+    ∙ ap (λ n. insert_entry (pointwise nat_eq) (texts_left es) n text) same'
 
 -- where the name wasn't there, or had a text
-pub put_there : (key : Vec ℕ) (name text : List ℕ) (old : Option (Option (List ℕ))) (es after : List (Vec ℕ × Option (List ℕ))) → key.items ≡ name → old ≡ lookup (same_key key) es → IsHeld old
+pub put_there : (key : Vec ℕ) (name text : List ℕ) (old : Option (Option (List ℕ))) (es after : List (Vec ℕ × Option (List ℕ)))
+    → key.items ≡ name → old ≡ lookup (same_key key) es → IsHeld old
     → after ≡ insert_entry same_key es key (Some text) → texts_left after ≡ insert_entry (pointwise nat_eq) (texts_left es) name text
 put_there key name text old es after same had held is =
     ap texts_left is ∙ left_with key text es (subst IsHeld had held) ∙ ap (λ n. insert_entry (pointwise nat_eq) (texts_left es) n text) same
@@ -221,60 +274,79 @@ left_kept es kept is = ap texts_left is ∙ all es
     all (x ∷ xs) = by x.1 (all xs)
       where
         by : (text : Option (List ℕ)) → texts_left (filter (λ e. is_some e.1) xs) ≡ texts_left xs
-            → texts_left (cond (is_some text) ((x.0, text) ∷ filter (λ e. is_some e.1) xs) (filter (λ e. is_some e.1) xs)) ≡ with_left x.0.items text (texts_left xs)
+            → texts_left (cond (is_some text) ((x.0, text) ∷ filter (λ e. is_some e.1) xs) (filter (λ e. is_some e.1) xs))
+            ≡ with_left x.0.items text (texts_left xs)
         by None later = later
         by (Some text) later = ap (λ l. (x.0.items, text) ∷ l) later
 
 -- a text under a new name
-left_renamed_at : (old : List ℕ) (new : Vec ℕ) (text : List ℕ) (es : List (Vec ℕ × Option (List ℕ))) → lookup (is_key_of old) es ≡ Some (Some text)
+left_renamed_at : (old : List ℕ) (new : Vec ℕ) (text : List ℕ) (es : List (Vec ℕ × Option (List ℕ)))
+    → lookup (is_key_of old) es ≡ Some (Some text)
     → texts_left (set_key (is_key_of old) es new) ≡ set_key (pointwise nat_eq old) (texts_left es) new.items
 left_renamed_at old new text [] there = absurd cc
 left_renamed_at old new text (e ∷ es) there = by e.1 (pointwise nat_eq old e.0.items) refl there (left_renamed_at old new text es)
   where
-    by : (had : Option (List ℕ)) (hit : Bool) → pointwise nat_eq old e.0.items ≡ hit → cond (pointwise nat_eq old e.0.items) (Some had) (lookup (is_key_of old) es) ≡ Some (Some text)
-        → (lookup (is_key_of old) es ≡ Some (Some text) → texts_left (set_key (is_key_of old) es new) ≡ set_key (pointwise nat_eq old) (texts_left es) new.items)
-        → texts_left (cond (pointwise nat_eq old e.0.items) ((new, had) ∷ es) ((e.0, had) ∷ set_key (is_key_of old) es new)) ≡ set_key (pointwise nat_eq old) (with_left e.0.items had (texts_left es)) new.items
-    by None true is there later = absurd (let wrong : Some None ≡ Some (Some text) = sym (ap (λ b. cond b (Some None) (lookup (is_key_of old) es)) is) ∙ there in cc)
+    by : (had : Option (List ℕ)) (hit : Bool) → pointwise nat_eq old e.0.items ≡ hit
+        → cond (pointwise nat_eq old e.0.items) (Some had) (lookup (is_key_of old) es) ≡ Some (Some text)
+        → (lookup (is_key_of old) es ≡ Some (Some text) → texts_left (set_key (is_key_of old) es new)
+        ≡ set_key (pointwise nat_eq old) (texts_left es) new.items)
+        → texts_left (cond (pointwise nat_eq old e.0.items) ((new, had) ∷ es) ((e.0, had) ∷ set_key (is_key_of old) es new))
+        ≡ set_key (pointwise nat_eq old) (with_left e.0.items had (texts_left es)) new.items
+    by None true is there later =
+        absurd (let wrong : Some None ≡ Some (Some text) = sym (ap (λ b. cond b (Some None) (lookup (is_key_of old) es)) is) ∙ there in cc)
     by None false is there later =
         ap (λ b. texts_left (cond b ((new, None) ∷ es) ((e.0, None) ∷ set_key (is_key_of old) es new))) is
         ∙ later (sym (ap (λ b. cond b (Some None) (lookup (is_key_of old) es)) is) ∙ there)
     by (Some had) true is there later =
         ap (λ b. texts_left (cond b ((new, Some had) ∷ es) ((e.0, Some had) ∷ set_key (is_key_of old) es new))) is
-        ∙ sym (ap (λ b. cond b ((new.items, had) ∷ texts_left es) ((e.0.items, had) ∷ set_key (pointwise nat_eq old) (texts_left es) new.items)) is)
+        ∙ sym (ap (λ b. cond b ((new.items, had) ∷ texts_left es)
+        ((e.0.items, had) ∷ set_key (pointwise nat_eq old) (texts_left es) new.items)) is)
     by (Some had) false is there later =
         ap (λ b. texts_left (cond b ((new, Some had) ∷ es) ((e.0, Some had) ∷ set_key (is_key_of old) es new))) is
         ∙ ap (λ l. (e.0.items, had) ∷ l) (later (sym (ap (λ b. cond b (Some (Some had)) (lookup (is_key_of old) es)) is) ∙ there))
-        ∙ sym (ap (λ b. cond b ((new.items, had) ∷ texts_left es) ((e.0.items, had) ∷ set_key (pointwise nat_eq old) (texts_left es) new.items)) is)
+        ∙ sym (ap (λ b. cond b ((new.items, had) ∷ texts_left es)
+        ((e.0.items, had) ∷ set_key (pointwise nat_eq old) (texts_left es) new.items)) is)
 
 both_some : (o : Option (Option (List ℕ))) (text : List ℕ) → option_flatten o ≡ Some text → o ≡ Some (Some text)
 both_some None text is = absurd cc
 both_some (Some None) text is = absurd cc
 both_some (Some (Some other)) text is = ap Some is
 
-pub left_renamed : (old name text : List ℕ) (new : Vec ℕ) (es without with_new after : List (Vec ℕ × Option (List ℕ))) → new.items ≡ name → lookup (pointwise nat_eq old) (texts_left es) ≡ Some text
-    → lookup (pointwise nat_eq name) (texts_left es) ≡ None → without ≡ remove_entry (is_key_of name) es → IsDistinct same_key (keys_of without) → lookup (is_key_of name) without ≡ None
-    → with_new ≡ insert_entry same_key without new (Some text) → after ≡ swap_remove_entry (is_key_of old) with_new → texts_left after ≡ set_key (pointwise nat_eq old) (texts_left es) name
+pub left_renamed : (old name text : List ℕ) (new : Vec ℕ) (es without with_new after : List (Vec ℕ × Option (List ℕ))) → new.items ≡ name
+    → lookup (pointwise nat_eq old) (texts_left es) ≡ Some text
+    → lookup (pointwise nat_eq name) (texts_left es) ≡ None → without ≡ remove_entry (is_key_of name) es
+    → IsDistinct same_key (keys_of without) → lookup (is_key_of name) without ≡ None
+    → with_new ≡ insert_entry same_key without new (Some text) → after ≡ swap_remove_entry (is_key_of old) with_new
+    → texts_left after ≡ set_key (pointwise nat_eq old) (texts_left es) name
 left_renamed old name text new es without with_new after same there free is distinct gone put taken =
     let rest : texts_left without ≡ texts_left es = ap texts_left is ∙ left_vacated name es free in
     let found : lookup (is_key_of old) without ≡ Some (Some text) =
-    both_some (lookup (is_key_of old) without) text (sym (lookup_left old without distinct) ∙ ap (lookup (pointwise nat_eq old)) rest ∙ there) in
+    both_some (lookup (is_key_of old) without) text (sym (lookup_left old without distinct) ∙ ap (lookup (pointwise nat_eq old)) rest
+    ∙ there) in
     ap texts_left (taken ∙ ap (swap_remove_entry (is_key_of old)) (put ∙ insert_entry-absent same_key new (Some text) without
-    (absent_from_lookup (same_key new) without (ap (λ n. lookup (is_key_of n) without) same ∙ gone))) ∙ key_renamed (is_key_of old) new (Some text) without found)
-    ∙ left_renamed_at old new text without found ∙ ap (λ l. set_key (pointwise nat_eq old) l new.items) rest ∙ ap (set_key (pointwise nat_eq old) (texts_left es)) same
+    (absent_from_lookup (same_key new) without (ap (λ n. lookup (is_key_of n) without) same ∙ gone)))
+    ∙ key_renamed (is_key_of old) new (Some text) without found)
+    ∙ left_renamed_at old new text without found ∙ ap (λ l. set_key (pointwise nat_eq old) l new.items) rest
+    ∙ ap (set_key (pointwise nat_eq old) (texts_left es)) same
 
 -- a name without a text has no new name
-pub unnamed : (old new : List ℕ) (texts : List (List ℕ × List ℕ)) → lookup (pointwise nat_eq old) texts ≡ None → texts ≡ set_key (pointwise nat_eq old) texts new
+pub unnamed : (old new : List ℕ) (texts : List (List ℕ × List ℕ)) → lookup (pointwise nat_eq old) texts ≡ None
+    → texts ≡ set_key (pointwise nat_eq old) texts new
 unnamed old new [] none = refl
 unnamed old new (t ∷ texts) none = by (pointwise nat_eq old t.0) refl none (unnamed old new texts)
   where
     by : (hit : Bool) → pointwise nat_eq old t.0 ≡ hit → cond hit (Some t.1) (lookup (pointwise nat_eq old) texts) ≡ None
-        → (lookup (pointwise nat_eq old) texts ≡ None → texts ≡ set_key (pointwise nat_eq old) texts new) → t ∷ texts ≡ set_key (pointwise nat_eq old) (t ∷ texts) new
+        → (lookup (pointwise nat_eq old) texts ≡ None → texts ≡ set_key (pointwise nat_eq old) texts new)
+        → t ∷ texts ≡ set_key (pointwise nat_eq old) (t ∷ texts) new
     by true is none later = absurd cc
-    by false is none later = ap (λ l. t ∷ l) (later none) ∙ sym (ap (λ b. cond b ((new, t.1) ∷ texts) (t ∷ set_key (pointwise nat_eq old) texts new)) is)
+    by false is none later = ap (λ l. t ∷ l) (later none)
+        ∙ sym (ap (λ b. cond b ((new, t.1) ∷ texts) (t ∷ set_key (pointwise nat_eq old) texts new)) is)
 
 -- the texts of a copy, where a copy of a text is that text
-pub left_copied : (R : Option (List ℕ) → Option (List ℕ) → Type 0) → ((x y : Option (List ℕ)) → R x y → y ≡ x) → (es copies : List (Vec ℕ × Option (List ℕ)))
-    → AllZip (λ e copy. (AllZip (λ b c. c ≡ b) e.0.items copy.0.items × (vec_len copy.0 ≡ vec_len e.0)) × R e.1 copy.1) es copies → texts_left copies ≡ texts_left es
+pub left_copied : (R : Option (List ℕ) → Option (List ℕ) → Type 0) → ((x y : Option (List ℕ)) → R x y → y ≡ x)
+    → (es copies : List (Vec ℕ × Option (List ℕ)))
+    → AllZip (λ e copy. (AllZip (λ b c. c ≡ b) e.0.items copy.0.items × (vec_len copy.0 ≡ vec_len e.0)) × R e.1 copy.1) es copies
+    → texts_left copies ≡ texts_left es
 left_copied R same [] [] alike = refl
 left_copied R same [] (e ∷ copies) alike = absurd alike
 left_copied R same (e ∷ es) [] alike = absurd alike

@@ -6,7 +6,8 @@ use Rattle.drv_specs.specs.Kept.{fits, is_body, sees}
 use Rattle.drv_specs.specs.Lines.{ends_line, is_empty_line, is_kept, pieces_from}
 use Rattle.drv_specs.specs.Sets.{ends_with_backslash}
 use Rattle.drv_words.specs.Bytes.{newline}
-use Rattle.std.proofs.Common.{◌≡◌, ◌+◌, ◌∙◌, ◌==◌, ◌&&◌, ◌||◌, Bool, List, [], ◌∷◌, ◌++◌, ap, append_assoc, drop, eqb-true, false, flat_map, not, refl, sym, true, ℕ}
+use Rattle.std.proofs.Common.{◌≡◌, ◌+◌, ◌∙◌, ◌==◌, ◌&&◌, ◌||◌, Bool, List, [], ◌∷◌, ◌++◌, ap, append_assoc, drop, eqb-true, false, flat_map}
+use Rattle.std.proofs.Common.{not, refl, sym, true, ℕ}
 use Rattle.std.proofs.lemmas.List.{append-nil}
 use Rattle.std.proofs.lemmas.List.Folds.{list_all-append}
 use Rattle.std.specs.List.{join_with_byte, list_all}
@@ -14,18 +15,22 @@ use Rattle.std.specs.List.{join_with_byte, list_all}
 -- For the dump and the reading of a file: a text and its lines determine each other.
 
 -- a text with a newline and more after it
-pub pieces_then : (text front rest : List ℕ) → pieces_from ends_line front (text ++ newline ∷ rest) ≡ pieces_from ends_line front text ++ pieces_from ends_line [] rest
+pub pieces_then : (text front rest : List ℕ) → pieces_from ends_line front (text ++ newline ∷ rest) ≡ pieces_from ends_line front text
+    ++ pieces_from ends_line [] rest
 pieces_then [] front rest = refl
 pieces_then (b ∷ text) front rest = by (ends_line b) refl (pieces_then text [] rest) (pieces_then text (front ++ b ∷ []) rest)
   where
-    by : (cuts : Bool) → ends_line b ≡ cuts → pieces_from ends_line [] (text ++ newline ∷ rest) ≡ pieces_from ends_line [] text ++ pieces_from ends_line [] rest
-        → pieces_from ends_line (front ++ b ∷ []) (text ++ newline ∷ rest) ≡ pieces_from ends_line (front ++ b ∷ []) text ++ pieces_from ends_line [] rest
+    by : (cuts : Bool) → ends_line b ≡ cuts → pieces_from ends_line [] (text ++ newline ∷ rest) ≡ pieces_from ends_line [] text
+        ++ pieces_from ends_line [] rest
+        → pieces_from ends_line (front ++ b ∷ []) (text ++ newline ∷ rest) ≡ pieces_from ends_line (front ++ b ∷ []) text
+        ++ pieces_from ends_line [] rest
         → pieces_from ends_line front (b ∷ text ++ newline ∷ rest) ≡ pieces_from ends_line front (b ∷ text) ++ pieces_from ends_line [] rest
     by true is cut on = rw is (ap (λ ls. front ∷ ls) cut)
     by false is cut on = rw is on
 
 -- a text of one line
-pub one_piece : (line front : List ℕ) → list_all (λ b. not (ends_line b)) line ≡ true → pieces_from ends_line front line ≡ (front ++ line) ∷ []
+pub one_piece : (line front : List ℕ) → list_all (λ b. not (ends_line b)) line ≡ true
+    → pieces_from ends_line front line ≡ (front ++ line) ∷ []
 one_piece [] front is = ap (λ l. l ∷ []) (sym (append-nil front))
 one_piece (b ∷ line) front is =
     rw (not_true (ends_line b) (and_first (not (ends_line b)) _ is))
@@ -51,23 +56,28 @@ is_full line = not (is_empty_line line)
 
 full_more : (front : List ℕ) (b : ℕ) (seen : Bool) → seen ≡ is_full front → (b == newline) ≡ false → sees seen b ≡ is_full (front ++ b ∷ [])
 full_more front b seen same line =
-    rw line (ap (λ s. s || not (is_blank b)) same ∙ by (is_empty_line front) (is_blank b) ∙ ap not (sym (list_all-append is_blank front (b ∷ []))))
+    rw line (ap (λ s. s || not (is_blank b)) same ∙ by (is_empty_line front) (is_blank b)
+    ∙ ap not (sym (list_all-append is_blank front (b ∷ []))))
   where
     by : (e blank : Bool) → (not e || not blank) ≡ not (e && (blank && true))
     by true true = refl
     by true false = refl
     by false blank = refl
 
-pub body_full : (text front : List ℕ) (seen back : Bool) → seen ≡ is_full front → is_body seen back text ≡ true → list_all is_full (pieces_from ends_line front text) ≡ true
+pub body_full : (text front : List ℕ) (seen back : Bool) → seen ≡ is_full front → is_body seen back text ≡ true
+    → list_all is_full (pieces_from ends_line front text) ≡ true
 body_full [] front seen back same is = rw (sym same) (rw (and_first seen (not back) is) refl)
-body_full (b ∷ text) front seen back same is = by (ends_line b) refl (body_full text [] (sees seen b) (ends_with_backslash (b ∷ []))) (body_full text (front ++ b ∷ []) (sees seen b) (ends_with_backslash (b ∷ [])))
+body_full (b ∷ text) front seen back same is = by (ends_line b) refl (body_full text [] (sees seen b) (ends_with_backslash (b ∷ [])))
+    (body_full text (front ++ b ∷ []) (sees seen b) (ends_with_backslash (b ∷ [])))
   where
     later : is_body (sees seen b) (ends_with_backslash (b ∷ [])) text ≡ true
     later = and_second (fits seen back b) _ is
 
     by : (cuts : Bool) → ends_line b ≡ cuts
-        → (sees seen b ≡ is_full [] → is_body (sees seen b) (ends_with_backslash (b ∷ [])) text ≡ true → list_all is_full (pieces_from ends_line [] text) ≡ true)
-        → (sees seen b ≡ is_full (front ++ b ∷ []) → is_body (sees seen b) (ends_with_backslash (b ∷ [])) text ≡ true → list_all is_full (pieces_from ends_line (front ++ b ∷ []) text) ≡ true)
+        → (sees seen b ≡ is_full [] → is_body (sees seen b) (ends_with_backslash (b ∷ [])) text ≡ true
+        → list_all is_full (pieces_from ends_line [] text) ≡ true)
+        → (sees seen b ≡ is_full (front ++ b ∷ []) → is_body (sees seen b) (ends_with_backslash (b ∷ [])) text ≡ true
+        → list_all is_full (pieces_from ends_line (front ++ b ∷ []) text) ≡ true)
         → list_all is_full (pieces_from ends_line front (b ∷ text)) ≡ true
     by true cuts cut on =
         let line : (not (b == newline) || (seen && not back)) ≡ true = and_second (is_kept b) _ (and_first (fits seen back b) _ is) in
@@ -79,12 +89,16 @@ body_full (b ∷ text) front seen back same is = by (ends_line b) refl (body_ful
 pub body_lines_are : (lines rest : List (List ℕ)) → list_all is_full lines ≡ true → body_lines (lines ++ [] ∷ rest) ≡ lines
 body_lines_are [] rest is = refl
 body_lines_are (line ∷ lines) rest is =
-    rw (not_true (is_empty_line line) (and_first (is_full line) _ is)) (ap (λ ls. line ∷ ls) (body_lines_are lines rest (and_second (is_full line) _ is)))
+    rw (not_true (is_empty_line line) (and_first (is_full line) _ is))
+    (ap (λ ls. line ∷ ls) (body_lines_are lines rest (and_second (is_full line) _ is)))
 
-pub inside_next : (line : List ℕ) (lines : List (List ℕ)) (n : ℕ) → is_empty_line line ≡ false → read_lines true n (line ∷ lines) ≡ read_lines true (n + 1) lines
-inside_next line lines n is = ap (λ e. directive_in (start_at e true n line lines) ++ read_lines (is_inside e true (start_at e true n line lines)) (n + 1) lines) is
+pub inside_next : (line : List ℕ) (lines : List (List ℕ)) (n : ℕ) → is_empty_line line ≡ false
+    → read_lines true n (line ∷ lines) ≡ read_lines true (n + 1) lines
+inside_next line lines n is = ap (λ e. directive_in (start_at e true n line lines)
+    ++ read_lines (is_inside e true (start_at e true n line lines)) (n + 1) lines) is
 
-pub inside_passed : (lines rest : List (List ℕ)) (n : ℕ) → list_all is_full lines ≡ true → (m : ℕ) × (read_lines true n (lines ++ [] ∷ rest) ≡ read_lines false m rest)
+pub inside_passed : (lines rest : List (List ℕ)) (n : ℕ) → list_all is_full lines ≡ true
+    → (m : ℕ) × (read_lines true n (lines ++ [] ∷ rest) ≡ read_lines false m rest)
 inside_passed [] rest n is = (n + 1, refl)
 inside_passed (line ∷ lines) rest n is =
     let passed = inside_passed lines rest (n + 1) (and_second (is_full line) _ is) in

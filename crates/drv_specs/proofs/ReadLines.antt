@@ -2,11 +2,13 @@ use Rattle.drv_specs.proofs.Booleans.{and_first, and_second, not_true}
 use Rattle.drv_specs.proofs.Joining.{joined_joins, joins_gives}
 use Rattle.drv_specs.proofs.Sliced.{line_begins}
 use Rattle.drv_specs.specs.Blanks.{is_blank}
-use Rattle.drv_specs.specs.Directives.{Directive, WithBody, body_lines, by_colon, by_key, by_keyword, directive_in, directives_of, first_line, is_colon, opens_body, read_lines, start_of}
+use Rattle.drv_specs.specs.Directives.{Directive, WithBody, body_lines, by_colon, by_key, by_keyword, directive_in, directives_of}
+use Rattle.drv_specs.specs.Directives.{first_line, is_colon, opens_body, read_lines, start_of}
 use Rattle.drv_specs.specs.Lines.{is_empty_line, is_kept, lines_of, settled, without_front, words_of}
 use Rattle.drv_specs.specs.Reading.{EndsBody, IsRead, Reads, at_empty, at_end, comment, empty, entry, is_full_line, keyword, no_lines}
 use Rattle.drv_words.specs.Bytes.{newline, number_sign, percent}
-use Rattle.std.proofs.Common.{◌≡◌, ◌↔◌, ◌+◌, ◌∙◌, ◌==◌, ◌&&◌, Bool, List, [], ◌∷◌, ◌++◌, None, Option, Some, ap, arith, drop, eqb-true, false, filter, if◌then◌else◌, length, not, refl, subst, sym, take, true, ℕ}
+use Rattle.std.proofs.Common.{◌≡◌, ◌↔◌, ◌+◌, ◌∙◌, ◌==◌, ◌&&◌, Bool, List, [], ◌∷◌, ◌++◌, None, Option, Some, ap, arith, drop, eqb-true}
+use Rattle.std.proofs.Common.{false, filter, if◌then◌else◌, length, not, refl, subst, sym, take, true, ℕ}
 use Rattle.std.specs.List.{join_with_byte, list_all, position}
 
 -- For directives_are_read: the directives of lines are the same by cases and line by line.
@@ -18,13 +20,17 @@ body_is [] (line ∷ lines) full (at_empty is) = rw is refl
 body_is (line ∷ body) lines full ends =
     ap (λ rest. if is_empty_line line then [] else line ∷ rest) (body_is body lines (and_second (is_full_line line) _ full) ends)
 
-colon_is : (n : ℕ) (line : List ℕ) (body lines : List (List ℕ)) (at : Option ℕ) → body_lines (body ++ lines) ≡ body_lines body → by_colon n line (body ++ lines) at ≡ by_colon n line body at
+colon_is : (n : ℕ) (line : List ℕ) (body lines : List (List ℕ)) (at : Option ℕ) → body_lines (body ++ lines) ≡ body_lines body
+    → by_colon n line (body ++ lines) at ≡ by_colon n line body at
 colon_is n line body lines None same = refl
-colon_is n line body lines (Some at) same = ap (λ ls. by_key (take at line) (join_with_byte newline (first_line (drop (at + 1) line) ++ ls))) same
+colon_is n line body lines (Some at) same = ap (λ ls. by_key (take at line)
+    (join_with_byte newline (first_line (drop (at + 1) line) ++ ls))) same
 
-after_body : (body lines : List (List ℕ)) (n : ℕ) → list_all is_full_line body ≡ true → EndsBody lines → read_lines true n (body ++ lines) ≡ read_lines false (n + length body) lines
+after_body : (body lines : List (List ℕ)) (n : ℕ) → list_all is_full_line body ≡ true → EndsBody lines
+    → read_lines true n (body ++ lines) ≡ read_lines false (n + length body) lines
 after_body [] [] n full ends = refl
-after_body [] (line ∷ lines) n full (at_empty is) = rw is (ap (λ m. read_lines false (m + 1) lines) (let same : n ≡ n + 0 = omega arith in same))
+after_body [] (line ∷ lines) n full (at_empty is) =
+    rw is (ap (λ m. read_lines false (m + 1) lines) (let same : n ≡ n + 0 = omega arith in same))
 after_body (line ∷ body) lines n full ends =
     let is = not_true (is_empty_line line) (and_first (is_full_line line) _ full) in
     rw is (after_body body lines (n + 1) (and_second (is_full_line line) _ full) ends
@@ -32,7 +38,8 @@ after_body (line ∷ body) lines n full ends =
 
 -- From the relation to the function.
 
-reads_gives : {n : ℕ} {lines : List (List ℕ)} {directives : List Directive} → Reads n lines directives → read_lines false n lines ≡ directives
+reads_gives : {n : ℕ} {lines : List (List ℕ)} {directives : List Directive} → Reads n lines directives
+    → read_lines false n lines ≡ directives
 reads_gives no_lines = refl
 reads_gives (empty is reads) = rw is (reads_gives reads)
 reads_gives (comment {n} {line} {text} {lines} begins reads) =
@@ -45,9 +52,11 @@ reads_gives (keyword {n} {line} {text} {lines} begins reads) =
     ∙ ap (λ ds. by_keyword n (percent ∷ text) (words_of (percent ∷ text)) ∷ ds) (reads_gives reads)
 reads_gives (entry {n} {b} {line} {text} body {lines} begins no_comment no_keyword full ends reads) =
     let at : Option ℕ = position is_colon (b ∷ text) in
-    let starts : start_of n (b ∷ text) (body ++ lines) ≡ WithBody (by_colon n (b ∷ text) (body ++ lines) at) = rw (no_comment, no_keyword) refl in
+    let starts : start_of n (b ∷ text) (body ++ lines) ≡ WithBody (by_colon n (b ∷ text) (body ++ lines) at) =
+    rw (no_comment, no_keyword) refl in
     line_begins n line (body ++ lines)
-    ∙ ap (λ l. directive_in (start_of n l (body ++ lines)) ++ read_lines (opens_body (start_of n l (body ++ lines))) (n + 1) (body ++ lines)) begins
+    ∙ ap (λ l. directive_in (start_of n l (body ++ lines))
+    ++ read_lines (opens_body (start_of n l (body ++ lines))) (n + 1) (body ++ lines)) begins
     ∙ ap (λ s. directive_in s ++ read_lines (opens_body s) (n + 1) (body ++ lines)) starts
     ∙ ap (λ d. d ∷ read_lines true (n + 1) (body ++ lines)) (colon_is n (b ∷ text) body lines at (body_is body lines full ends))
     ∙ ap (λ ds. by_colon n (b ∷ text) body at ∷ ds) (after_body body lines (n + 1) full ends ∙ reads_gives reads)
@@ -70,22 +79,28 @@ front_none : (line : List ℕ) → without_front is_blank line ≡ [] → is_emp
 front_none [] none = refl
 front_none (b ∷ line) none = by (is_blank b) refl (front_none line)
   where
-    by : (blank : Bool) → is_blank b ≡ blank → (without_front is_blank line ≡ [] → is_empty_line line ≡ true) → is_empty_line (b ∷ line) ≡ true
+    by : (blank : Bool) → is_blank b ≡ blank → (without_front is_blank line ≡ [] → is_empty_line line ≡ true)
+        → is_empty_line (b ∷ line) ≡ true
     by true is later = rw is (later (sym (ap (λ t. if t then without_front is_blank line else b ∷ line) is) ∙ none))
-    by false is later = absurd (let apart : b ∷ line ≡ [] = sym (ap (λ t. if t then without_front is_blank line else b ∷ line) is) ∙ none in cc)
+    by false is later = absurd (let apart : b ∷ line ≡ [] = sym (ap (λ t. if t then without_front is_blank line else b ∷ line) is) ∙ none in
+        cc)
 
 begun : (n b : ℕ) (line text : List ℕ) (lines : List (List ℕ)) → without_front is_blank line ≡ b ∷ text → AreRead lines → Cut lines
-    → (comments keys : Bool) → (b == number_sign) ≡ comments → (b == percent) ≡ keys → (directives : List Directive) × Reads n (line ∷ lines) directives
+    → (comments keys : Bool) → (b == number_sign) ≡ comments → (b == percent) ≡ keys
+    → (directives : List Directive) × Reads n (line ∷ lines) directives
 begun n b line text lines begins read cut true keys is key =
     ((read (n + 1)).0, comment (begins ∙ ap (λ c. c ∷ text) (eqb-true b number_sign is)) (read (n + 1)).1)
-begun n b line text lines begins read cut false true is key =
-    (by_keyword n (percent ∷ text) (words_of (percent ∷ text)) ∷ (read (n + 1)).0, keyword (begins ∙ ap (λ c. c ∷ text) (eqb-true b percent key)) (read (n + 1)).1)
+begun n b line text lines begins read cut false true is key = (
+  by_keyword n (percent ∷ text) (words_of (percent ∷ text)) ∷ (read (n + 1)).0,
+  keyword (begins ∙ ap (λ c. c ∷ text) (eqb-true b percent key)) (read (n + 1)).1,
+)
 begun n b line text lines begins read cut false false is key =
     let following = cut.read (n + 1 + length cut.body) in
     let directives : List Directive = by_colon n (b ∷ text) cut.body (position is_colon (b ∷ text)) ∷ following.0 in
     (directives, subst (λ ls. Reads n (line ∷ ls) directives) cut.parts (entry cut.body begins is key cut.full cut.ends following.1))
 
-full_read : (n : ℕ) (line : List ℕ) (lines : List (List ℕ)) → is_empty_line line ≡ false → AreRead lines → Cut lines → (directives : List Directive) × Reads n (line ∷ lines) directives
+full_read : (n : ℕ) (line : List ℕ) (lines : List (List ℕ)) → is_empty_line line ≡ false → AreRead lines → Cut lines
+    → (directives : List Directive) × Reads n (line ∷ lines) directives
 full_read n line lines is read cut = by (without_front is_blank line) refl
   where
     by : (front : List ℕ) → without_front is_blank line ≡ front → (directives : List Directive) × Reads n (line ∷ lines) directives

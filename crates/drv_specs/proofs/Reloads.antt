@@ -1,12 +1,14 @@
 use Rattle.drv_search.specs.declared.prefixes.Prefixes.{Prefixes}
 use Rattle.drv_specs.proofs.Booleans.{and_first, and_second, not_true}
+use Rattle.drv_specs.proofs.Changes.{filled_body}
 use Rattle.drv_specs.proofs.Dumps.{dump_read, pair_directive, text_directive}
 use Rattle.drv_specs.proofs.SettledTexts.{body_ends}
 use Rattle.drv_specs.specs.Blanks.{has_byte}
-use Rattle.drv_specs.specs.Dumping.{Plain, appends, doubled, dumped}
+use Rattle.drv_specs.specs.Dumping.{Plain, doubled, dumped}
 use Rattle.drv_specs.specs.Kept.{Each, IsNamed, IsPair, Kept, is_text}
 use Rattle.drv_specs.specs.Loading.{Carried, Including, all_carried, changed, including, loaded, most_files, set_in, then_by}
-use Rattle.drv_specs.specs.Sets.{Set, by_tree, ends_with_backslash, has_tree, is_no_text, no_specs, put, with_body, with_named, with_pair, with_pair_body, with_pair_text, with_text}
+use Rattle.drv_specs.specs.Sets.{Set, append, appends, by_tree, ends_with_backslash, has_tree, is_no_text, no_specs, put, with_body}
+use Rattle.drv_specs.specs.Sets.{with_named, with_pair, with_pair_body, with_pair_text, with_text}
 use Rattle.drv_specs.specs.Directives.{Directive}
 use Rattle.drv_syntax.specs.Outcome.{parsed}
 use Rattle.drv_syntax.specs.Tree.{Items}
@@ -15,7 +17,8 @@ use Rattle.drv_system.specs.Facts.{Facts}
 use Rattle.drv_system.specs.Known.{Is}
 use Rattle.indexmap.proofs.MapLemmas.{absent_before, absent_from_lookup, insert_entry-absent}
 use Rattle.indexmap.specs.IndexMap.{insert_entry}
-use Rattle.std.proofs.Common.{◌≡◌, ◌∙◌, ◌||◌, Bool, Err, List, [], ◌∷◌, ◌++◌, Ok, Result, ap, append_assoc, false, if◌then◌else◌, is_ok, map, nat_eq, not, refl, subst, sym, true, ℕ, IfOk}
+use Rattle.std.proofs.Common.{◌≡◌, ◌∙◌, ◌||◌, Bool, Err, List, [], ◌∷◌, ◌++◌, Ok, Result, ap, append_assoc, false, if◌then◌else◌, is_ok}
+use Rattle.std.proofs.Common.{map, nat_eq, not, refl, subst, sym, true, ℕ, IfOk}
 use Rattle.std.proofs.lemmas.List.{append-nil}
 use Rattle.std.specs.Cmp.Lexicographic.{nat_list_eq_equiv, pointwise}
 use Rattle.std.specs.List.{AllByRecursion, IsDistinct, list_all}
@@ -30,10 +33,12 @@ abbrev state : Set → ℕ → Carried
 state set files = record { set = set; files = files }
 
 -- an entry whose name no earlier one has goes last
-insert_last : (done rest : List (List ℕ × List ℕ)) (name text : List ℕ) → IsDistinct (pointwise nat_eq) (keys_of (done ++ (name, text) ∷ rest))
+insert_last : (done rest : List (List ℕ × List ℕ)) (name text : List ℕ)
+    → IsDistinct (pointwise nat_eq) (keys_of (done ++ (name, text) ∷ rest))
     → insert_entry (pointwise nat_eq) done name text ≡ done ++ (name, text) ∷ []
 insert_last done rest name text distinct =
-    insert_entry-absent (pointwise nat_eq) name text done (absent_from_lookup (pointwise nat_eq name) done (absent_before nat_list_eq_equiv done rest (name, text) distinct))
+    insert_entry-absent (pointwise nat_eq) name text done
+    (absent_from_lookup (pointwise nat_eq name) done (absent_before nat_list_eq_equiv done rest (name, text) distinct))
 
 tree_there : {X : Type 0} (name : List ℕ) (x : X) (given : Result Items SyntaxFault) → is_ok given ≡ true → by_tree name x given ≡ Ok x
 tree_there name x (Ok tree) is = refl
@@ -41,25 +46,32 @@ tree_there name x (Err fault) is = absurd cc
 
 body_put : (set : Set) (name text : List ℕ) → is_text text ≡ true → not (appends text) ≡ true → with_body set name text ≡ put set name text
 body_put set name [] body plain = absurd cc
-body_put set name (b ∷ []) body plain = refl
-body_put set name (b ∷ c ∷ text) body plain = rw (not_true _ plain) refl
+body_put set name (b ∷ text) body plain =
+    filled_body set name b text
+    ∙ ap (λ t. if t then append set name text else put set name (b ∷ text)) (not_true (appends (b ∷ text)) plain)
 
 text_ends : (text : List ℕ) → is_text text ≡ true → ends_with_backslash text ≡ false
 text_ends [] body = absurd cc
 text_ends (b ∷ text) body = body_ends b text false false body
 
-text_taken : (set : Set) (entry : List ℕ × List ℕ) → IsNamed entry → not (appends entry.1) ≡ true → with_text set entry.0 entry.1 ≡ Ok (with_named set entry.0 entry.1)
+text_taken : (set : Set) (entry : List ℕ × List ℕ) → IsNamed entry → not (appends entry.1) ≡ true
+    → with_text set entry.0 entry.1 ≡ Ok (with_named set entry.0 entry.1)
 text_taken set entry kept plain =
-    rw kept.name (rw (text_ends entry.1 kept.text) (body_put set entry.0 entry.1 kept.text plain ∙ tree_there entry.0 (with_named set entry.0 entry.1) (parsed entry.1) kept.tree))
+    rw kept.name (rw (text_ends entry.1 kept.text) (body_put set entry.0 entry.1 kept.text plain
+    ∙ tree_there entry.0 (with_named set entry.0 entry.1) (parsed entry.1) kept.tree))
 
-named_loaded : (inc : Including) (files : ℕ) (directives : List Directive) (done named : List (List ℕ × List ℕ)) → Each IsNamed named → list_all (λ entry. not (appends entry.1)) named ≡ true
+named_loaded : (inc : Including) (files : ℕ) (directives : List Directive) (done named : List (List ℕ × List ℕ)) → Each IsNamed named
+    → list_all (λ entry. not (appends entry.1)) named ≡ true
     → IsDistinct (pointwise nat_eq) (keys_of (done ++ named))
-    → all_carried inc (state (set_of done []) files) (map text_directive named ++ directives) ≡ all_carried inc (state (set_of (done ++ named) []) files) directives
-named_loaded inc files directives done [] kept plain distinct = ap (λ es. all_carried inc (state (set_of es []) files) directives) (sym (append-nil done))
+    → all_carried inc (state (set_of done []) files) (map text_directive named ++ directives)
+    ≡ all_carried inc (state (set_of (done ++ named) []) files) directives
+named_loaded inc files directives done [] kept plain distinct =
+    ap (λ es. all_carried inc (state (set_of es []) files) directives) (sym (append-nil done))
 named_loaded inc files directives done (entry ∷ named) kept plain distinct =
     let whole = append_assoc done (entry ∷ []) named in
     ap (λ r. then_by (changed files r) (λ c. all_carried inc c (map text_directive named ++ directives)))
-    (text_taken (set_of done []) entry kept.0 (and_first (not (appends entry.1)) _ plain) ∙ ap (λ es. Ok (set_of es [])) (insert_last done named entry.0 entry.1 distinct))
+    (text_taken (set_of done []) entry kept.0 (and_first (not (appends entry.1)) _ plain)
+    ∙ ap (λ es. Ok (set_of es [])) (insert_last done named entry.0 entry.1 distinct))
     ∙ named_loaded inc files directives (done ++ entry ∷ []) named kept.1 (and_second (not (appends entry.1)) _ plain)
     (subst (λ es. IsDistinct (pointwise nat_eq) (keys_of es)) (sym whole) distinct)
     ∙ ap (λ es. all_carried inc (state (set_of es []) files) directives) whole
@@ -88,7 +100,8 @@ pairs_loaded inc files named done (pair ∷ pairs) kept =
     ∙ pairs_loaded inc files named (done ++ pair ∷ []) pairs kept.1
     ∙ ap (λ es. Is (Ok (state (set_of named es) files))) (append_assoc done (pair ∷ []) pairs)
 
-pub dump_loaded : (F : Facts) (prefixes : Prefixes) (set : Set) → Kept set → Plain set → loaded F prefixes no_specs (dumped set) ≡ Is (Ok set)
+pub dump_loaded : (F : Facts) (prefixes : Prefixes) (set : Set) → Kept set → Plain set
+    → loaded F prefixes no_specs (dumped set) ≡ Is (Ok set)
 unfolding loaded
 dump_loaded F prefixes set kept plain =
     ap (λ ds. then_by (all_carried (including F prefixes 15) (state no_specs most_files) ds) set_in) (dump_read set kept)
@@ -98,36 +111,44 @@ dump_loaded F prefixes set kept plain =
 
 -- A set's dump loaded over the set.
 
-apart_there : (name : List ℕ) (done : List (List ℕ × List ℕ)) (entry : List ℕ × List ℕ) (rest : List (List ℕ × List ℕ)) → AllByRecursion (λ other. pointwise nat_eq name other ≡ false) (keys_of (done ++ entry ∷ rest))
+apart_there : (name : List ℕ) (done : List (List ℕ × List ℕ)) (entry : List ℕ × List ℕ) (rest : List (List ℕ × List ℕ))
+    → AllByRecursion (λ other. pointwise nat_eq name other ≡ false) (keys_of (done ++ entry ∷ rest))
     → pointwise nat_eq name entry.0 ≡ false
 apart_there name [] entry rest apart = apart.0
 apart_there name (e ∷ done) entry rest apart = apart_there name done entry rest apart.1
 
 -- an entry that is there, put again
-put_again : (done rest : List (List ℕ × List ℕ)) (name text : List ℕ) → IsDistinct (pointwise nat_eq) (keys_of (done ++ (name, text) ∷ rest))
+put_again : (done rest : List (List ℕ × List ℕ)) (name text : List ℕ)
+    → IsDistinct (pointwise nat_eq) (keys_of (done ++ (name, text) ∷ rest))
     → insert_entry (pointwise nat_eq) (done ++ (name, text) ∷ rest) name text ≡ done ++ (name, text) ∷ rest
 unfolding IsDistinct
 put_again [] rest name text distinct =
-    ap (λ hit. if hit then (name, text) ∷ rest else (name, text) ∷ insert_entry (pointwise nat_eq) rest name text) (nat_list_eq_equiv.refl name)
+    ap (λ hit. if hit then (name, text) ∷ rest else (name, text) ∷ insert_entry (pointwise nat_eq) rest name text)
+    (nat_list_eq_equiv.refl name)
 put_again (e ∷ done) rest name text distinct =
     let other : pointwise nat_eq name e.0 ≡ false = nat_list_eq_equiv.symm name e.0 ∙ apart_there e.0 done (name, text) rest distinct.0 in
-    ap (λ hit. if hit then (e.0, text) ∷ (done ++ (name, text) ∷ rest) else e ∷ insert_entry (pointwise nat_eq) (done ++ (name, text) ∷ rest) name text) other
+    ap (λ hit. if hit then (e.0, text) ∷ (done ++ (name, text) ∷ rest)
+    else e ∷ insert_entry (pointwise nat_eq) (done ++ (name, text) ∷ rest) name text) other
     ∙ ap (λ es. e ∷ es) (put_again done rest name text distinct.1)
 
-named_again : (inc : Including) (files : ℕ) (directives : List Directive) (pairs done named : List (List ℕ × List ℕ)) → Each IsNamed named → list_all (λ entry. not (appends entry.1)) named ≡ true
+named_again : (inc : Including) (files : ℕ) (directives : List Directive) (pairs done named : List (List ℕ × List ℕ)) → Each IsNamed named
+    → list_all (λ entry. not (appends entry.1)) named ≡ true
     → IsDistinct (pointwise nat_eq) (keys_of (done ++ named))
-    → all_carried inc (state (set_of (done ++ named) pairs) files) (map text_directive named ++ directives) ≡ all_carried inc (state (set_of (done ++ named) pairs) files) directives
+    → all_carried inc (state (set_of (done ++ named) pairs) files) (map text_directive named ++ directives)
+    ≡ all_carried inc (state (set_of (done ++ named) pairs) files) directives
 named_again inc files directives pairs done [] kept plain distinct = refl
 named_again inc files directives pairs done (entry ∷ named) kept plain distinct =
     let whole = append_assoc done (entry ∷ []) named in
     ap (λ r. then_by (changed files r) (λ c. all_carried inc c (map text_directive named ++ directives)))
-    (text_taken (set_of (done ++ entry ∷ named) pairs) entry kept.0 (and_first (not (appends entry.1)) _ plain) ∙ ap (λ es. Ok (set_of es pairs)) (put_again done named entry.0 entry.1 distinct))
+    (text_taken (set_of (done ++ entry ∷ named) pairs) entry kept.0 (and_first (not (appends entry.1)) _ plain)
+    ∙ ap (λ es. Ok (set_of es pairs)) (put_again done named entry.0 entry.1 distinct))
     ∙ ap (λ es. all_carried inc (state (set_of es pairs) files) (map text_directive named ++ directives)) (sym whole)
     ∙ named_again inc files directives pairs (done ++ entry ∷ []) named kept.1 (and_second (not (appends entry.1)) _ plain)
     (subst (λ es. IsDistinct (pointwise nat_eq) (keys_of es)) (sym whole) distinct)
     ∙ ap (λ es. all_carried inc (state (set_of es pairs) files) directives) whole
 
-pub dump_doubles : (F : Facts) (prefixes : Prefixes) (set : Set) → Kept set → Plain set → loaded F prefixes set (dumped set) ≡ Is (Ok (doubled set))
+pub dump_doubles : (F : Facts) (prefixes : Prefixes) (set : Set) → Kept set → Plain set
+    → loaded F prefixes set (dumped set) ≡ Is (Ok (doubled set))
 unfolding loaded
 dump_doubles F prefixes set kept plain =
     ap (λ ds. then_by (all_carried (including F prefixes 15) (state set most_files) ds) set_in) (dump_read set kept)
@@ -136,7 +157,8 @@ dump_doubles F prefixes set kept plain =
     ∙ pairs_loaded (including F prefixes 15) most_files set.named set.pairs set.pairs kept.pairs)
 
 -- what a dump says of its text
-pub dump_given : {E : Type 0} (result : Result (List ℕ) E) (set : Set) → IfOk result (λ text. text ≡ dumped set) → Kept set → Plain set → (F : Facts) (prefixes : Prefixes)
+pub dump_given : {E : Type 0} (result : Result (List ℕ) E) (set : Set) → IfOk result (λ text. text ≡ dumped set) → Kept set → Plain set
+    → (F : Facts) (prefixes : Prefixes)
     → IfOk result (λ text. loaded F prefixes no_specs text ≡ Is (Ok set))
 dump_given (Ok text) set is kept plain F prefixes = ap (loaded F prefixes no_specs) is ∙ dump_loaded F prefixes set kept plain
 dump_given (Err e) set is kept plain F prefixes = tt

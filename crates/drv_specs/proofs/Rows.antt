@@ -5,7 +5,8 @@ use Rattle.drv_specs.specs.Loading.{all_carried, file_loaded, including, loaded}
 use Rattle.drv_specs.specs.Sets.{Set, no_specs, text_of}
 use Rattle.drv_specs.specs.Directives.{Include}
 use Rattle.drv_specs.specs.declared.directive.IfMissing.TheVariants.{PassOver, Refuse}
-use Rattle.drv_specs.specs.declared.fault.SpecsFault.TheVariants.{AliasOfAlias, BadLine, BadName, IncludeTooDeep, NoSuchFile, RenameMissing, RenameTaken, Syntax, TooManyIncludes, TrailingBackslash, Unreadable}
+use Rattle.drv_specs.specs.declared.fault.SpecsFault.TheVariants.{AliasOfAlias, BadLine, BadName, IncludeTooDeep, NoSuchFile, RenameMissing}
+use Rattle.drv_specs.specs.declared.fault.SpecsFault.TheVariants.{RenameTaken, Syntax, TooManyIncludes, TrailingBackslash, Unreadable}
 use Rattle.drv_specs.specs.declared.fault.SpecsFault.{SpecsFault}
 use Rattle.drv_syntax.specs.declared.fault.SyntaxFault.TheVariants.{BadDirective, Unclosed}
 use Rattle.drv_system.specs.Facts.{Facts, no_facts}
@@ -197,7 +198,8 @@ unfolding loaded including
 file_31 = refl
 
 -- a name given away, and put again after
-file_32 : shown (loaded no_facts here no_specs (codes "*a:\nx\n\n*b:\ny\n\n%rename  a\told_a  \n\n*a:\n%(old_a) z\n")) ≡ Some (codes "*old_a:\nx\n\n*b:\ny\n\n*a:\n%(old_a) z\n\n")
+file_32 : shown (loaded no_facts here no_specs (codes "*a:\nx\n\n*b:\ny\n\n%rename  a\told_a  \n\n*a:\n%(old_a) z\n"))
+    ≡ Some (codes "*old_a:\nx\n\n*b:\ny\n\n*a:\n%(old_a) z\n\n")
 unfolding loaded including
 file_32 = refl
 
@@ -242,25 +244,34 @@ unfolding loaded including
 file_40 = refl
 
 -- the text of the built-in set
-builtin_dump : dumped builtin_specs ≡ codes "*asm:\n%{mcpu=*}\n\n*cpp:\n%{posix:-D_POSIX_SOURCE}\n\n*cc1:\n%{mcpu=*}\n\n*endfile:\ncrtend.o%s crtn.o%s\n\n*link:\n%{shared} %{static}\n\n*lib:\n-lc\n\n*libgcc:\n-lgcc\n\n*link_gcc_c_sequence:\n%G %L\n\n*linker:\nrectool link\n\n*signed_char:\n%{funsigned-char:-D__CHAR_UNSIGNED__}\n\n*startfile:\ncrt1.o%s crti.o%s\n\n*cpp_cmd:\nrectool cpp\n\n*cc1_cmd:\nrectool cc1\n\n*as_cmd:\nrectool as\n\n*cpp_unique_options:\n%{nostdinc*} %{C} %{P} %{D*&U*} %{I*} %{M*} %{i*}\n\n*cpp_options:\n%(cpp_unique_options) %{std=*} %C %Z\n\n*cc1_options:\n%{O*} %{g*} %{f*} %{W*} %{w} %1\n\n*asm_options:\n%{g*} %a %Y %{c:%W{o*}%{!o*:-o %w%b%O}}%{!c:-o %w%u%O}\n\n*link_command:\n%{!E:%{!S:%{!c:%(linker) %l %{e*} %{r} %{s} %{t} %{T*} %{u*} %{z} %{L*} %X %W{o*}%{!o*:-o %wa.out} %{!nostdlib:%{!r:%{!nostartfiles:%S}}} %o %{!nostdlib:%{!r:%{!nodefaultlibs:%(link_gcc_c_sequence)} %{!nostartfiles:%E}}}}}}\n\n.c:\n@c\n\n.i:\n@cpp-output\n\n.s:\n@assembler\n\n.S:\n@assembler-with-cpp\n\n.sx:\n@assembler-with-cpp\n\n.h:\n#C header\n\n.cc:\n#C++\n\n.cp:\n#C++\n\n.cxx:\n#C++\n\n.cpp:\n#C++\n\n.CPP:\n#C++\n\n.c++:\n#C++\n\n.C:\n#C++\n\n.ii:\n#C++\n\n.m:\n#Objective-C\n\n.mi:\n#Objective-C\n\n.mm:\n#Objective-C++\n\n.M:\n#Objective-C++\n\n.mii:\n#Objective-C++\n\n@c-header:\n#C header\n\n@c++:\n#C++\n\n@c++-cpp-output:\n#C++\n\n@objective-c:\n#Objective-C\n\n@c:\n%{E:%(cpp_cmd) %(cpp_options) %i %W{o*} %V}%{!E:%(cc1_cmd) %(cpp_options) %(cc1_options) %i %{S:%W{o*}%{!o*:-o %w%b.s}}%{!S:-o %|.s |\n %(as_cmd) %(asm_options) %m.s %A}}\n\n@cpp-output:\n%{!E:%(cc1_cmd) %(cc1_options) %i %{S:%W{o*}%{!o*:-o %w%b.s}}%{!S:-o %|.s |\n %(as_cmd) %(asm_options) %m.s %A}}\n\n@assembler:\n%{!E:%{!S:%(as_cmd) %(asm_options) %i %A}}\n\n@assembler-with-cpp:\n%{E:%(cpp_cmd) %(cpp_options) %i %W{o*} %V}%{!E:%{!S:%(cpp_cmd) %(cpp_options) %i -o %|.s |\n %(as_cmd) %(asm_options) %m.s %A}}\n\n"
+builtin_dump : dumped builtin_specs
+    ≡ codes "*asm:\n%{mcpu=*}\n\n*cpp:\n%{posix:-D_POSIX_SOURCE}\n\n*cc1:\n%{mcpu=*}\n\n*endfile:\ncrtend.o%s crtn.o%s\n\n*link:\n%{shared} %{static}\n\n*lib:\n-lc\n\n*libgcc:\n-lgcc\n\n*link_gcc_c_sequence:\n%G %L\n\n*linker:\nrectool link\n\n*signed_char:\n%{funsigned-char:-D__CHAR_UNSIGNED__}\n\n*startfile:\ncrt1.o%s crti.o%s\n\n*cpp_cmd:\nrectool cpp\n\n*cc1_cmd:\nrectool cc1\n\n*as_cmd:\nrectool as\n\n*cpp_unique_options:\n%{nostdinc*} %{C} %{P} %{D*&U*} %{I*} %{M*} %{i*}\n\n*cpp_options:\n%(cpp_unique_options) %{std=*} %C %Z\n\n*cc1_options:\n%{O*} %{g*} %{f*} %{W*} %{w} %1\n\n*asm_options:\n%{g*} %a %Y %{c:%W{o*}%{!o*:-o %w%b%O}}%{!c:-o %w%u%O}\n\n*link_command:\n%{!E:%{!S:%{!c:%(linker) %l %{e*} %{r} %{s} %{t} %{T*} %{u*} %{z} %{L*} %X %W{o*}%{!o*:-o %wa.out} %{!nostdlib:%{!r:%{!nostartfiles:%S}}} %o %{!nostdlib:%{!r:%{!nodefaultlibs:%(link_gcc_c_sequence)} %{!nostartfiles:%E}}}}}}\n\n.c:\n@c\n\n.i:\n@cpp-output\n\n.s:\n@assembler\n\n.S:\n@assembler-with-cpp\n\n.sx:\n@assembler-with-cpp\n\n.h:\n#C header\n\n.cc:\n#C++\n\n.cp:\n#C++\n\n.cxx:\n#C++\n\n.cpp:\n#C++\n\n.CPP:\n#C++\n\n.c++:\n#C++\n\n.C:\n#C++\n\n.ii:\n#C++\n\n.m:\n#Objective-C\n\n.mi:\n#Objective-C\n\n.mm:\n#Objective-C++\n\n.M:\n#Objective-C++\n\n.mii:\n#Objective-C++\n\n@c-header:\n#C header\n\n@c++:\n#C++\n\n@c++-cpp-output:\n#C++\n\n@objective-c:\n#Objective-C\n\n@c:\n%{E:%(cpp_cmd) %(cpp_options) %i %W{o*} %V}%{!E:%(cc1_cmd) %(cpp_options) %(cc1_options) %i %{S:%W{o*}%{!o*:-o %w%b.s}}%{!S:-o %|.s |\n %(as_cmd) %(asm_options) %m.s %A}}\n\n@cpp-output:\n%{!E:%(cc1_cmd) %(cc1_options) %i %{S:%W{o*}%{!o*:-o %w%b.s}}%{!S:-o %|.s |\n %(as_cmd) %(asm_options) %m.s %A}}\n\n@assembler:\n%{!E:%{!S:%(as_cmd) %(asm_options) %i %A}}\n\n@assembler-with-cpp:\n%{E:%(cpp_cmd) %(cpp_options) %i %W{o*} %V}%{!E:%{!S:%(cpp_cmd) %(cpp_options) %i -o %|.s |\n %(as_cmd) %(asm_options) %m.s %A}}\n\n"
 unfolding builtin_named builtin_pairs
 builtin_dump = refl
 
 -- a name given away and put again: the text keeps its place, and the new one goes last
-wrapped : text_in (codes "old_lib") (loaded no_facts here builtin_specs (codes "%rename lib old_lib\n\n*lib:\n--start-group -lgcc -lc -leval1 --end-group %(old_lib)\n")) ≡ Some (codes "-lc")
+wrapped : text_in (codes "old_lib") (loaded no_facts here builtin_specs
+    (codes "%rename lib old_lib\n\n*lib:\n--start-group -lgcc -lc -leval1 --end-group %(old_lib)\n")) ≡ Some (codes "-lc")
 unfolding builtin_named builtin_pairs loaded including
 wrapped = refl
 
-wrapped_names : named_in (loaded no_facts here builtin_specs (codes "%rename lib old_lib\n\n*lib:\n--start-group -lgcc -lc -leval1 --end-group %(old_lib)\n")) ≡ codes "asm" ∷ codes "cpp" ∷ codes "cc1" ∷ codes "endfile" ∷ codes "link" ∷ codes "old_lib" ∷ codes "libgcc" ∷ codes "link_gcc_c_sequence" ∷ codes "linker" ∷ codes "signed_char" ∷ codes "startfile" ∷ codes "cpp_cmd" ∷ codes "cc1_cmd" ∷ codes "as_cmd" ∷ codes "cpp_unique_options" ∷ codes "cpp_options" ∷ codes "cc1_options" ∷ codes "asm_options" ∷ codes "link_command" ∷ codes "lib" ∷ []
+wrapped_names : named_in (loaded no_facts here builtin_specs
+    (codes "%rename lib old_lib\n\n*lib:\n--start-group -lgcc -lc -leval1 --end-group %(old_lib)\n")) ≡ codes "asm" ∷ codes "cpp"
+    ∷ codes "cc1" ∷ codes "endfile" ∷ codes "link" ∷ codes "old_lib" ∷ codes "libgcc" ∷ codes "link_gcc_c_sequence" ∷ codes "linker"
+    ∷ codes "signed_char" ∷ codes "startfile" ∷ codes "cpp_cmd" ∷ codes "cc1_cmd" ∷ codes "as_cmd" ∷ codes "cpp_unique_options"
+    ∷ codes "cpp_options" ∷ codes "cc1_options" ∷ codes "asm_options" ∷ codes "link_command" ∷ codes "lib" ∷ []
 unfolding builtin_named builtin_pairs loaded including
 wrapped_names = refl
 
-wrapped_file : text_in (codes "lib") (file_loaded (with_file (codes "w") (read.Read (codes "%rename lib old_lib\n\n*lib:\n--start-group -lgcc -lc -leval1 --end-group %(old_lib)\n"))) here builtin_specs (codes "w")) ≡ Some (codes "--start-group -lgcc -lc -leval1 --end-group %(old_lib)")
+wrapped_file : text_in (codes "lib") (file_loaded (with_file (codes "w")
+    (read.Read (codes "%rename lib old_lib\n\n*lib:\n--start-group -lgcc -lc -leval1 --end-group %(old_lib)\n"))) here builtin_specs
+    (codes "w")) ≡ Some (codes "--start-group -lgcc -lc -leval1 --end-group %(old_lib)")
 unfolding builtin_named builtin_pairs file_loaded including
 wrapped_file = refl
 
 -- a name that is there is no new name
-taken : loaded no_facts here no_specs (codes "*old_lib:\ny\n\n*lib:\nx\n\n*z:\nq\n\n%rename lib old_lib\n") ≡ Is (Err (RenameTaken (codes "old_lib")))
+taken : loaded no_facts here no_specs (codes "*old_lib:\ny\n\n*lib:\nx\n\n*z:\nq\n\n%rename lib old_lib\n")
+    ≡ Is (Err (RenameTaken (codes "old_lib")))
 unfolding loaded including
 taken = refl
 
@@ -278,12 +289,14 @@ unfolding loaded including
 appended_again = refl
 
 -- pairs after the built-in ones
-pairs_after : shown (loaded no_facts here (record { named = []; pairs = builtin_pairs }) (codes ".ZZ:\n@c\n\n.ZZ:\n#Zed\n")) ≡ Some (dumped (record { named = []; pairs = builtin_pairs ++ (codes ".ZZ", codes "@c") ∷ (codes ".ZZ", codes "#Zed") ∷ [] }))
+pairs_after : shown (loaded no_facts here (record { named = []; pairs = builtin_pairs }) (codes ".ZZ:\n@c\n\n.ZZ:\n#Zed\n"))
+    ≡ Some (dumped (record { named = []; pairs = builtin_pairs ++ (codes ".ZZ", codes "@c") ∷ (codes ".ZZ", codes "#Zed") ∷ [] }))
 unfolding builtin_pairs loaded including
 pairs_after = refl
 
 -- texts that name one another, and themselves
-recursive : shown (loaded no_facts here no_specs (codes "*a0:\nx\n\n*a1:\n%(a0)%(a0)\n\n*a2:\n%(a1)%(a1)\n\n*a:\n%(a)\n")) ≡ Some (codes "*a0:\nx\n\n*a1:\n%(a0)%(a0)\n\n*a2:\n%(a1)%(a1)\n\n*a:\n%(a)\n\n")
+recursive : shown (loaded no_facts here no_specs (codes "*a0:\nx\n\n*a1:\n%(a0)%(a0)\n\n*a2:\n%(a1)%(a1)\n\n*a:\n%(a)\n"))
+    ≡ Some (codes "*a0:\nx\n\n*a1:\n%(a0)%(a0)\n\n*a2:\n%(a1)%(a1)\n\n*a:\n%(a)\n\n")
 unfolding loaded including
 recursive = refl
 
@@ -381,11 +394,13 @@ unfolding loaded including
 refused_23 = refl
 
 -- a file that is missing
-no_file : loaded (with_file (codes "no.specs") read.Missing) here no_specs (codes "%include <no.specs>\n") ≡ Is (Err (NoSuchFile (codes "no.specs")))
+no_file : loaded (with_file (codes "no.specs") read.Missing) here no_specs (codes "%include <no.specs>\n")
+    ≡ Is (Err (NoSuchFile (codes "no.specs")))
 unfolding loaded including
 no_file = refl
 
-no_file_passed : shown (loaded (with_file (codes "no.specs") read.Missing) here no_specs (codes "%include_noerr <no.specs>\n*a:\nx\n")) ≡ Some (codes "*a:\nx\n\n")
+no_file_passed : shown (loaded (with_file (codes "no.specs") read.Missing) here no_specs (codes "%include_noerr <no.specs>\n*a:\nx\n"))
+    ≡ Some (codes "*a:\nx\n\n")
 unfolding loaded including
 no_file_passed = refl
 
@@ -407,12 +422,19 @@ unfolding file_loaded including
 file_unreadable = refl
 
 -- a file that includes itself
-itself : file_loaded (with_file (codes "self") (read.Read (codes "%include <self>\n"))) here no_specs (codes "self") ≡ Is (Err IncludeTooDeep)
+itself : file_loaded (with_file (codes "self") (read.Read (codes "%include <self>\n"))) here no_specs (codes "self")
+    ≡ Is (Err IncludeTooDeep)
 unfolding file_loaded including
 itself = refl
 
 -- files within files: their directives take the place where they are included
-nested : shown (loaded (record { reads = (codes "e", read.Read (codes "*b:\ny\n")) ∷ (codes "f", read.Read (codes "%include <e>\n*c:\nz\n")) ∷ []; kinds = []; variables = [] }) here no_specs (codes "*a:\nx\n\n  %include   <f>  \n*d:\nw\n")) ≡ Some (codes "*a:\nx\n\n*b:\ny\n\n*c:\nz\n\n*d:\nw\n\n")
+nested : shown (loaded (record {
+  reads = (codes "e", read.Read (codes "*b:\ny\n")) ∷ (codes "f", read.Read (codes "%include <e>\n*c:\nz\n"))
+      ∷ [];
+  kinds = [];
+  variables = [];
+}) here no_specs (codes "*a:\nx\n\n  %include   <f>  \n*d:\nw\n"))
+    ≡ Some (codes "*a:\nx\n\n*b:\ny\n\n*c:\nz\n\n*d:\nw\n\n")
 unfolding loaded including
 nested = refl
 
@@ -422,20 +444,24 @@ unfolding loaded including
 unasked = refl
 
 -- 2,000 files may be read, and one more may not
-most_files : all_carried (including (with_file (codes "e") (read.Read [])) here 15) (record { set = no_specs; files = 2000 }) (replicate 2000 (Include Refuse (codes "e"))) ≡ Is (Ok (record { set = no_specs; files = 0 }))
+most_files : all_carried (including (with_file (codes "e") (read.Read [])) here 15) (record { set = no_specs; files = 2000 })
+    (replicate 2000 (Include Refuse (codes "e"))) ≡ Is (Ok (record { set = no_specs; files = 0 }))
 unfolding including
 most_files = refl
 
-one_file_more : all_carried (including (with_file (codes "e") (read.Read [])) here 15) (record { set = no_specs; files = 2000 }) (replicate 2001 (Include Refuse (codes "e"))) ≡ Is (Err TooManyIncludes)
+one_file_more : all_carried (including (with_file (codes "e") (read.Read [])) here 15) (record { set = no_specs; files = 2000 })
+    (replicate 2001 (Include Refuse (codes "e"))) ≡ Is (Err TooManyIncludes)
 unfolding including
 one_file_more = refl
 
-missing_files_count : all_carried (including (with_file (codes "e") read.Missing) here 15) (record { set = no_specs; files = 2000 }) (replicate 2001 (Include PassOver (codes "e"))) ≡ Is (Err TooManyIncludes)
+missing_files_count : all_carried (including (with_file (codes "e") read.Missing) here 15) (record { set = no_specs; files = 2000 })
+    (replicate 2001 (Include PassOver (codes "e"))) ≡ Is (Err TooManyIncludes)
 unfolding including
 missing_files_count = refl
 
 -- a name of 255 bytes, and of one more
-longest_name : shown (loaded no_facts here no_specs (codes "*" ++ replicate 255 97 ++ codes ":\nx")) ≡ Some (codes "*" ++ replicate 255 97 ++ codes ":\nx\n\n")
+longest_name : shown (loaded no_facts here no_specs (codes "*" ++ replicate 255 97 ++ codes ":\nx"))
+    ≡ Some (codes "*" ++ replicate 255 97 ++ codes ":\nx\n\n")
 unfolding loaded including
 longest_name = refl
 

@@ -3,7 +3,8 @@ use Rattle.drv_specs.proofs.SettledTexts.{ends_last, ends_more, is_line_byte, is
 use Rattle.drv_specs.specs.Lines.{ends_line, is_kept, joined_onto, lines_of, pieces_from, settled}
 use Rattle.drv_specs.specs.Sets.{ends_with_backslash}
 use Rattle.drv_words.specs.Bytes.{newline}
-use Rattle.std.proofs.Common.{◌≡◌, ◌⊎◌, ◌-◌, ◌∙◌, ◌==◌, ◌&&◌, Bool, List, [], ◌∷◌, ◌++◌, ap, eqb-true, false, filter, fold, if◌then◌else◌, inl, inr, length, not, refl, suc, sym, take, true, zero, ℕ}
+use Rattle.std.proofs.Common.{◌≡◌, ◌⊎◌, ◌-◌, ◌∙◌, ◌==◌, ◌&&◌, Bool, List, [], ◌∷◌, ◌++◌, ap, eqb-true, false, filter, fold, if◌then◌else◌}
+use Rattle.std.proofs.Common.{inl, inr, length, not, refl, suc, sym, take, true, zero, ℕ}
 use Rattle.std.specs.List.{list_all}
 use Rattle.std.proofs.lemmas.List.Folds.{list_all-append}
 
@@ -22,7 +23,8 @@ pub last_is : (text : List ℕ) → last_back false text ≡ ends_with_backslash
 last_is [] = refl
 last_is (b ∷ text) = last_of b text
 
-settled_more : (text : List ℕ) (b : ℕ) (back : Bool) → is_settled back text ≡ true → is_kept b ≡ true → (b == newline && last_back back text) ≡ false → is_settled back (text ++ b ∷ []) ≡ true
+settled_more : (text : List ℕ) (b : ℕ) (back : Bool) → is_settled back text ≡ true → is_kept b ≡ true
+    → (b == newline && last_back back text) ≡ false → is_settled back (text ++ b ∷ []) ≡ true
 settled_more [] b back is kept apart = rw kept (ap (λ c. not c && true) apart)
 settled_more (c ∷ text) b back is kept apart =
     let rest = and_second (is_kept c) _ is in
@@ -40,19 +42,23 @@ settled_less (suc n) (c ∷ text) back is =
 joined_settled : (text : List ℕ) (b : ℕ) → is_settled false text ≡ true → is_kept b ≡ true → is_settled false (joined_onto text b) ≡ true
 joined_settled text b is kept = by (b == newline && ends_with_backslash text) refl
   where
-    by : (pair : Bool) → (b == newline && ends_with_backslash text) ≡ pair → is_settled false (if pair then take (length text - 1) text else text ++ b ∷ []) ≡ true
+    by : (pair : Bool) → (b == newline && ends_with_backslash text) ≡ pair
+        → is_settled false (if pair then take (length text - 1) text else text ++ b ∷ []) ≡ true
     by true pair = settled_less (length text - 1) text false is
     by false pair = settled_more text b false is kept (ap (λ e. b == newline && e) (last_is text) ∙ pair)
 
-fold_settled : (text done : List ℕ) → list_all is_kept text ≡ true → is_settled false done ≡ true → is_settled false (fold joined_onto done text) ≡ true
+fold_settled : (text done : List ℕ) → list_all is_kept text ≡ true → is_settled false done ≡ true
+    → is_settled false (fold joined_onto done text) ≡ true
 fold_settled [] done kept is = is
-fold_settled (b ∷ text) done kept is = fold_settled text (joined_onto done b) (and_second (is_kept b) _ kept) (joined_settled done b is (and_first (is_kept b) _ kept))
+fold_settled (b ∷ text) done kept is = fold_settled text (joined_onto done b) (and_second (is_kept b) _ kept)
+    (joined_settled done b is (and_first (is_kept b) _ kept))
 
 all_kept : (text : List ℕ) → list_all is_kept (filter is_kept text) ≡ true
 all_kept [] = refl
 all_kept (b ∷ text) = by (is_kept b) refl (all_kept text)
   where
-    by : (kept : Bool) → is_kept b ≡ kept → list_all is_kept (filter is_kept text) ≡ true → list_all is_kept (if kept then b ∷ filter is_kept text else filter is_kept text) ≡ true
+    by : (kept : Bool) → is_kept b ≡ kept → list_all is_kept (filter is_kept text) ≡ true
+        → list_all is_kept (if kept then b ∷ filter is_kept text else filter is_kept text) ≡ true
     by true kept later = ap (λ c. c && list_all is_kept (filter is_kept text)) kept ∙ later
     by false kept later = later
 
@@ -64,10 +70,12 @@ abbrev pub Clean : List (List ℕ) → Type 0
 Clean [] = Unit {0}
 Clean (line ∷ lines) = (list_all is_line_byte line ≡ true) × (((lines ≡ []) ⊎ (ends_with_backslash line ≡ false)) × Clean lines)
 
-clean_pieces : (text front : List ℕ) (back : Bool) → is_settled back text ≡ true → list_all is_line_byte front ≡ true → back ≡ ends_with_backslash front → Clean (pieces_from ends_line front text)
+clean_pieces : (text front : List ℕ) (back : Bool) → is_settled back text ≡ true → list_all is_line_byte front ≡ true
+    → back ≡ ends_with_backslash front → Clean (pieces_from ends_line front text)
 clean_pieces [] front back is bytes same = (bytes, (inl refl, tt))
 clean_pieces (b ∷ text) front back is bytes same =
-    by (b == newline) refl (clean_pieces text [] (ends_with_backslash (b ∷ [])) later refl) (clean_pieces text (front ++ b ∷ []) (ends_with_backslash (b ∷ [])) later)
+    by (b == newline) refl (clean_pieces text [] (ends_with_backslash (b ∷ [])) later refl)
+    (clean_pieces text (front ++ b ∷ []) (ends_with_backslash (b ∷ [])) later)
   where
     rest : (not (b == newline && back) && is_settled (ends_with_backslash (b ∷ [])) text) ≡ true
     rest = and_second (is_kept b) _ is
@@ -76,13 +84,21 @@ clean_pieces (b ∷ text) front back is bytes same =
     later = and_second (not (b == newline && back)) _ rest
 
     by : (cuts : Bool) → (b == newline) ≡ cuts → (ends_with_backslash (b ∷ []) ≡ false → Clean (pieces_from ends_line [] text))
-        → (list_all is_line_byte (front ++ b ∷ []) ≡ true → ends_with_backslash (b ∷ []) ≡ ends_with_backslash (front ++ b ∷ []) → Clean (pieces_from ends_line (front ++ b ∷ []) text))
+        → (list_all is_line_byte (front ++ b ∷ []) ≡ true → ends_with_backslash (b ∷ []) ≡ ends_with_backslash (front ++ b ∷ [])
+        → Clean (pieces_from ends_line (front ++ b ∷ []) text))
         → Clean (if cuts then front ∷ pieces_from ends_line [] text else pieces_from ends_line (front ++ b ∷ []) text)
     by true cuts cut on =
-        let apart : (b == newline && back) ≡ false = not_true _ (and_first (not (b == newline && back)) _ rest) in
-        (bytes, (inr (sym same ∙ ap (λ c. c && back) (sym cuts) ∙ apart), cut (ap (λ c. ends_with_backslash (c ∷ [])) (eqb-true b newline cuts))))
+        let apart : (b == newline && back) ≡ false = not_true _ (and_first (not (b == newline && back)) _ rest) in (
+          bytes,
+          (
+            inr (sym same ∙ ap (λ c. c && back) (sym cuts) ∙ apart),
+            cut (ap (λ c. ends_with_backslash (c ∷ [])) (eqb-true b newline cuts)),
+          ),
+        )
     by false cuts cut on =
-        on (list_all-append is_line_byte front (b ∷ []) ∙ ap (λ c. c && list_all is_line_byte (b ∷ [])) bytes ∙ ap (λ c. (c && not (b == newline)) && true) (and_first (is_kept b) _ is) ∙ ap (λ c. not c && true) cuts) (sym (ends_last front b))
+        on (list_all-append is_line_byte front (b ∷ []) ∙ ap (λ c. c && list_all is_line_byte (b ∷ [])) bytes
+        ∙ ap (λ c. (c && not (b == newline)) && true) (and_first (is_kept b) _ is) ∙ ap (λ c. not c && true) cuts)
+        (sym (ends_last front b))
 
 pub settled_clean : (text : List ℕ) → Clean (lines_of (settled text))
 settled_clean text = clean_pieces (settled text) [] false (settles text) refl refl

@@ -3,7 +3,8 @@ use Rattle.drv_specs.specs.Kept.{fits, is_body, sees}
 use Rattle.drv_specs.specs.Lines.{is_kept, joined_onto, settled}
 use Rattle.drv_specs.specs.Sets.{ends_with_backslash}
 use Rattle.drv_words.specs.Bytes.{backslash, colon, newline}
-use Rattle.std.proofs.Common.{◌≡◌, ◌-◌, ◌∙◌, ◌==◌, ◌&&◌, ◌||◌, Bool, List, [], ◌∷◌, ◌++◌, ap, append_assoc, arith, drop, false, filter, fold, if◌then◌else◌, length, length-append, nat_eq, not, refl, suc, sym, take, true, ℕ}
+use Rattle.std.proofs.Common.{◌≡◌, ◌-◌, ◌∙◌, ◌==◌, ◌&&◌, ◌||◌, Bool, List, [], ◌∷◌, ◌++◌, ap, append_assoc, arith, drop, false, filter}
+use Rattle.std.proofs.Common.{fold, if◌then◌else◌, length, length-append, nat_eq, not, refl, suc, sym, take, true, ℕ}
 use Rattle.std.proofs.lemmas.List.{append-nil}
 use Rattle.std.specs.Cmp.Lexicographic.{pointwise}
 use Rattle.std.specs.List.{list_all}
@@ -36,7 +37,8 @@ abbrev pub is_settled : Bool → List ℕ → Bool
 is_settled back [] = true
 is_settled back (b ∷ text) = is_kept b && (not (b == newline && back) && is_settled (ends_with_backslash (b ∷ [])) text)
 
-settles_same : (text done : List ℕ) → is_settled (ends_with_backslash done) text ≡ true → fold joined_onto done (filter is_kept text) ≡ done ++ text
+settles_same : (text done : List ℕ) → is_settled (ends_with_backslash done) text ≡ true
+    → fold joined_onto done (filter is_kept text) ≡ done ++ text
 settles_same [] done is = sym (append-nil done)
 settles_same (b ∷ text) done is =
     let kept = and_first (is_kept b) _ is in
@@ -63,7 +65,8 @@ no_pair true true true is = is
 no_pair true false true is = is
 
 -- a body with a newline after it
-pub body_settled : (text rest : List ℕ) (seen back : Bool) → is_body seen back text ≡ true → is_settled false (newline ∷ rest) ≡ true → is_settled back (text ++ newline ∷ rest) ≡ true
+pub body_settled : (text rest : List ℕ) (seen back : Bool) → is_body seen back text ≡ true → is_settled false (newline ∷ rest) ≡ true
+    → is_settled back (text ++ newline ∷ rest) ≡ true
 body_settled [] rest true false is later = later
 body_settled [] rest true true is later = absurd cc
 body_settled [] rest false back is later = absurd cc
@@ -74,7 +77,8 @@ body_settled (b ∷ text) rest seen back is later =
     rw kept (rw apart (body_settled text rest (sees seen b) (ends_with_backslash (b ∷ [])) (and_second (fits seen back b) _ is) later))
 
 -- a line with a colon after it, and a newline
-pub head_settled : (key rest : List ℕ) (back : Bool) → list_all is_line_byte key ≡ true → is_settled false rest ≡ true → is_settled back (key ++ colon ∷ newline ∷ rest) ≡ true
+pub head_settled : (key rest : List ℕ) (back : Bool) → list_all is_line_byte key ≡ true → is_settled false rest ≡ true
+    → is_settled back (key ++ colon ∷ newline ∷ rest) ≡ true
 head_settled [] rest back is later = later
 head_settled (b ∷ key) rest back is later =
     let line = and_first (is_line_byte b) _ is in
@@ -85,4 +89,5 @@ head_settled (b ∷ key) rest back is later =
 -- no backslash ends a body
 pub body_ends : (b : ℕ) (text : List ℕ) (seen back : Bool) → is_body seen back (b ∷ text) ≡ true → ends_with_backslash (b ∷ text) ≡ false
 body_ends b [] seen back is = not_true _ (and_second (sees seen b) _ (and_second (fits seen back b) _ is))
-body_ends b (c ∷ text) seen back is = ends_more b c text ∙ body_ends c text (sees seen b) (ends_with_backslash (b ∷ [])) (and_second (fits seen back b) _ is)
+body_ends b (c ∷ text) seen back is = ends_more b c text
+    ∙ body_ends c text (sees seen b) (ends_with_backslash (b ∷ [])) (and_second (fits seen back b) _ is)

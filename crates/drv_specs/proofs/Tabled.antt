@@ -23,7 +23,8 @@ pub suffixes_added : all_added no_specs (filter has_no_text builtin_pairs) ≡ s
 unfolding builtin_pairs
 suffixes_added = refl
 
-pub alone_added : (set : Set) (pair : List ℕ × List ℕ) (pairs : List (List ℕ × List ℕ)) → all_added (with_alone set pair) (filter has_no_text pairs)
+pub alone_added : (set : Set) (pair : List ℕ × List ℕ) (pairs : List (List ℕ × List ℕ))
+    → all_added (with_alone set pair) (filter has_no_text pairs)
     ≡ all_added set (filter has_no_text (pair ∷ pairs))
 alone_added set pair pairs = by (is_no_text pair.1)
   where

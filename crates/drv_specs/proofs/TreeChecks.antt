@@ -6,8 +6,10 @@ use Rattle.std.proofs.Common.{◌≡◌, Err, List, Ok, Result, ap, ℕ}
 
 -- For `parsed_text` and `extended_text`: what a text gives, by the answer of its parse.
 
-pub tree_given : (name : List ℕ) (set : Set) (tree : Items) (given : Result Items SyntaxFault) → given ≡ Ok tree → by_tree name set given ≡ Ok set
+pub tree_given : (name : List ℕ) (set : Set) (tree : Items) (given : Result Items SyntaxFault) → given ≡ Ok tree
+    → by_tree name set given ≡ Ok set
 tree_given name set tree given is = ap (by_tree name set) is
 
-pub tree_refused : (name : List ℕ) (set : Set) (fault : SyntaxFault) (given : Result Items SyntaxFault) → given ≡ Err fault → by_tree name set given ≡ Err (Syntax name fault)
+pub tree_refused : (name : List ℕ) (set : Set) (fault : SyntaxFault) (given : Result Items SyntaxFault) → given ≡ Err fault
+    → by_tree name set given ≡ Err (Syntax name fault)
 tree_refused name set fault given is = ap (by_tree name set) is

@@ -1,5 +1,6 @@
 use Rattle.drv_specs.specs.Lines.{without_end, without_front}
-use Rattle.std.proofs.Common.{◌≡◌, ◌<◌, ◌≤◌, ◌+◌, ◌-◌, ◌∙◌, Bool, List, [], ◌∷◌, ◌++◌, ap, arith, cond, drop, false, length, nat_lt, not, refl, reverse, suc, sym, take, true, ℕ}
+use Rattle.std.proofs.Common.{◌≡◌, ◌<◌, ◌≤◌, ◌+◌, ◌-◌, ◌∙◌, Bool, List, [], ◌∷◌, ◌++◌, ap, arith, cond, drop, false, length, nat_lt, not}
+use Rattle.std.proofs.Common.{refl, reverse, suc, sym, take, true, ℕ}
 use Rattle.std.proofs.lemmas.Grind.{take_at_read}
 use Rattle.std.proofs.lemmas.Bool.Decides.{nat_tests}
 use Rattle.std.proofs.lemmas.List.Sums.{prefix_len-le-length}
@@ -27,23 +28,29 @@ not_below a b is = grind (arith, nat_tests, is)
 place_is : (test : ℕ → Bool) (text : List ℕ) → unwrap_or (position test text) (length text) ≡ position_or_len test text
 place_is test text = by (nat_lt (position_or_len test text) (length text)) refl
   where
-    by : (below : Bool) → nat_lt (position_or_len test text) (length text) ≡ below → unwrap_or (cond below (Some (position_or_len test text)) None) (length text) ≡ position_or_len test text
+    by : (below : Bool) → nat_lt (position_or_len test text) (length text) ≡ below
+        → unwrap_or (cond below (Some (position_or_len test text)) None) (length text) ≡ position_or_len test text
     by true is = refl
-    by false is = let at_least : length text ≤ position_or_len test text = not_below (position_or_len test text) (length text) is in omega (arith, at_least, prefix_len-le-length (λ b. not (test b)) text)
+    by false is = let at_least : length text ≤ position_or_len test text = not_below (position_or_len test text) (length text) is in
+        omega (arith, at_least, prefix_len-le-length (λ b. not (test b)) text)
 
-pub front_by : (test : ℕ → Bool) (text rest : List ℕ) (place : Option ℕ) (size count : ℕ) → place ≡ position (λ b. not (test b)) text → size ≡ length text → count ≡ unwrap_or place size
+pub front_by : (test : ℕ → Bool) (text rest : List ℕ) (place : Option ℕ) (size count : ℕ) → place ≡ position (λ b. not (test b)) text
+    → size ≡ length text → count ≡ unwrap_or place size
     → rest ≡ drop count text → rest ≡ without_front test text
 front_by test text rest place size count is sized counts cut =
-    cut ∙ ap (λ n. drop n text) (counts ∙ ap (unwrap_or place) sized ∙ ap (λ p. unwrap_or p (length text)) is ∙ place_is (λ b. not (test b)) text) ∙ front_is test text
+    cut ∙ ap (λ n. drop n text) (counts ∙ ap (unwrap_or place) sized ∙ ap (λ p. unwrap_or p (length text)) is
+    ∙ place_is (λ b. not (test b)) text) ∙ front_is test text
 
 pub front_within : (test : ℕ → Bool) (text rest : List ℕ) → rest ≡ without_front test text → length rest ≤ length text
 front_within test text rest is =
-    let size : length rest ≡ length text - position_or_len (λ b. not (test b)) text = ap length (is ∙ sym (front_is test text)) ∙ length-drop (position_or_len (λ b. not (test b)) text) text in
+    let size : length rest ≡ length text - position_or_len (λ b. not (test b)) text = ap length (is ∙ sym (front_is test text))
+    ∙ length-drop (position_or_len (λ b. not (test b)) text) text in
     omega (arith, size)
 
 -- A text trimmed from its end.
 
-last_of : (text : List ℕ) (end : ℕ) (byte : ℕ) → 0 < end → end - 1 < length text → byte ≡ get_or text (end - 1) byte → take end text ≡ take (end - 1) text ++ byte ∷ []
+last_of : (text : List ℕ) (end : ℕ) (byte : ℕ) → 0 < end → end - 1 < length text → byte ≡ get_or text (end - 1) byte
+    → take end text ≡ take (end - 1) text ++ byte ∷ []
 last_of text end byte some below here =
     let whole : end ≡ end - 1 + 1 = omega (arith, some) in
     ap (λ n. take n text) whole ∙ (take_at_read text (end - 1) byte below).1 ∙ ap (λ b. take (end - 1) text ++ b ∷ []) (sym here)
@@ -51,16 +58,21 @@ last_of text end byte some below here =
 reversed : (front : List ℕ) (byte : ℕ) → reverse (front ++ byte ∷ []) ≡ byte ∷ reverse front
 reversed front byte = reverse-append front (byte ∷ [])
 
-pub end_goes : (test : ℕ → Bool) (text : List ℕ) (end : ℕ) (byte : ℕ) → 0 < end → end - 1 < length text → byte ≡ get_or text (end - 1) byte → test byte ≡ true
+pub end_goes : (test : ℕ → Bool) (text : List ℕ) (end : ℕ) (byte : ℕ) → 0 < end → end - 1 < length text → byte ≡ get_or text (end - 1) byte
+    → test byte ≡ true
     → without_end test (take (end - 1) text) ≡ without_end test (take end text)
 end_goes test text end byte some below here goes =
-    sym (ap (without_end test) (last_of text end byte some below here) ∙ ap (λ t. reverse (without_front test t)) (reversed (take (end - 1) text) byte) ∙ rw goes refl)
+    sym (ap (without_end test) (last_of text end byte some below here)
+    ∙ ap (λ t. reverse (without_front test t)) (reversed (take (end - 1) text) byte) ∙ rw goes refl)
 
-pub end_stays : (test : ℕ → Bool) (text : List ℕ) (end : ℕ) (byte : ℕ) → 0 < end → end - 1 < length text → byte ≡ get_or text (end - 1) byte → test byte ≡ false
+pub end_stays : (test : ℕ → Bool) (text : List ℕ) (end : ℕ) (byte : ℕ) → 0 < end → end - 1 < length text → byte ≡ get_or text (end - 1) byte
+    → test byte ≡ false
     → take end text ≡ without_end test (take end text)
 end_stays test text end byte some below here stays =
-    sym (ap (without_end test) (last_of text end byte some below here) ∙ ap (λ t. reverse (without_front test t)) (reversed (take (end - 1) text) byte) ∙ rw stays refl
-    ∙ ap reverse (sym (reversed (take (end - 1) text) byte)) ∙ reverse-reverse (take (end - 1) text ++ byte ∷ []) ∙ sym (last_of text end byte some below here))
+    sym (ap (without_end test) (last_of text end byte some below here)
+    ∙ ap (λ t. reverse (without_front test t)) (reversed (take (end - 1) text) byte) ∙ rw stays refl
+    ∙ ap reverse (sym (reversed (take (end - 1) text) byte)) ∙ reverse-reverse (take (end - 1) text ++ byte ∷ [])
+    ∙ sym (last_of text end byte some below here))
 
 pub end_empty : (test : ℕ → Bool) (text : List ℕ) → [] ≡ without_end test (take 0 text)
 end_empty test [] = refl

@@ -5,7 +5,8 @@ use Rattle.drv_specs.specs.declared.directive.IfMissing.{IfMissing}
 use Rattle.drv_specs.specs.declared.directive.IfMissing.TheVariants.{PassOver, Refuse}
 use Rattle.std.specs.Cmp.Lexicographic.{pointwise}
 use Rattle.std.specs.List.{ends_with, join_with_byte, position}
-use Rattle.std.specs.Prelude.{◌+◌, ◌-◌, ◌==◌, ◌&&◌, Bool, List, [], ◌∷◌, ◌++◌, None, Option, Some, codes, drop, false, filter, if◌then◌else◌, length, nat_eq, take, true, ℕ}
+use Rattle.std.specs.Prelude.{◌+◌, ◌-◌, ◌==◌, ◌&&◌, Bool, List, [], ◌∷◌, ◌++◌, None, Option, Some, codes, drop, false, filter}
+use Rattle.std.specs.Prelude.{if◌then◌else◌, length, nat_eq, take, true, ℕ}
 
 -- The directives of a spec file's text, one after another; a line that is none is `Bad` with its number (GCC manual, "Spec
 -- Files"; this project's profile).
@@ -26,7 +27,8 @@ pub data Start : Type 0 where
 -- %include: the file is between a < and the last >, and nothing else is there
 abbrev pub included : ℕ → IfMissing → List ℕ → Directive
 included n missing [] = Bad n
-included n missing (b ∷ text) = if b == less_than && ends_with nat_eq text (greater_than ∷ []) then Include missing (take (length text - 1) text) else Bad n
+included n missing (b ∷ text) = if b == less_than && ends_with nat_eq text (greater_than ∷ [])
+    then Include missing (take (length text - 1) text) else Bad n
 
 -- %rename: two names
 abbrev pub renamed : ℕ → List (List ℕ) → Directive

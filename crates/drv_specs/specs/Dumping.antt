@@ -1,8 +1,7 @@
-use Rattle.drv_specs.specs.Blanks.{is_blank}
-use Rattle.drv_words.specs.Bytes.{colon, newline, plus, asterisk}
-use Rattle.drv_specs.specs.Sets.{Set}
+use Rattle.drv_words.specs.Bytes.{colon, newline, asterisk}
+use Rattle.drv_specs.specs.Sets.{Set, appends}
 use Rattle.std.specs.List.{list_all}
-use Rattle.std.specs.Prelude.{◌≡◌, ◌==◌, ◌&&◌, Bool, List, [], ◌∷◌, ◌++◌, false, flat_map, not, true, ℕ}
+use Rattle.std.specs.Prelude.{◌≡◌, List, [], ◌∷◌, ◌++◌, flat_map, not, true, ℕ}
 
 -- The text of a set (GCC manual, "-dumpspecs"; that the pairs are in it is this project's profile).
 
@@ -15,13 +14,7 @@ named_text entry = asterisk ∷ entry_text entry
 abbrev pub dumped : Set → List ℕ
 dumped set = flat_map named_text set.named ++ flat_map entry_text set.pairs
 
--- a text that begins with + and a blank, which as a body would append
-abbrev pub appends : List ℕ → Bool
-appends [] = false
-appends (b ∷ []) = false
-appends (b ∷ c ∷ text) = b == plus && is_blank c
-
--- no named text is one that would append
+-- no named text is one that as a body would append
 abbrev pub Plain : Set → Type 0
 Plain set = list_all (λ entry. not (appends entry.1)) set.named ≡ true
 

@@ -1,7 +1,8 @@
 use Rattle.drv_specs.specs.Blanks.{has_byte, is_blank}
 use Rattle.drv_words.specs.Bytes.{backslash, carriage_return, newline}
 use Rattle.std.specs.List.{ends_with, list_all}
-use Rattle.std.specs.Prelude.{◌-◌, ◌==◌, ◌&&◌, Bool, List, [], ◌∷◌, ◌++◌, filter, fold, if◌then◌else◌, length, nat_eq, not, reverse, take, ℕ}
+use Rattle.std.specs.Prelude.{◌-◌, ◌==◌, ◌&&◌, Bool, List, [], ◌∷◌, ◌++◌, filter, fold, if◌then◌else◌, length, nat_eq, not, reverse, take}
+use Rattle.std.specs.Prelude.{ℕ}
 
 -- The lines of a spec file's text (GCC manual, "Spec Files"; what is removed is this project's profile).
 

@@ -66,7 +66,8 @@ text_read missing path read.TooLarge = Err (Unreadable path)
 
 -- found as the search of library files finds it
 abbrev pub file_text : Facts → Prefixes → IfMissing → List ℕ → Known (Result (List ℕ) SpecsFault)
-file_text F prefixes missing name = file_found F prefixes name >>= λ path. asked (read_of F path) >>= λ answer. Is (text_read missing path answer)
+file_text F prefixes missing name = file_found F prefixes name >>= λ path. asked (read_of F path)
+    >>= λ answer. Is (text_read missing path answer)
 
 -- a file that is read: one more of those that may be
 abbrev pub file_carried : Facts → Prefixes → Including → Set → ℕ → IfMissing → List ℕ → Known (Result Carried SpecsFault)
@@ -91,7 +92,8 @@ most_levels = 16
 
 -- directives of a text, in which so many more files may be read
 abbrev pub worked : Facts → Prefixes → Set → ℕ → List Directive → Known (Result Set SpecsFault)
-worked F prefixes set files directives = then_by (all_carried (including F prefixes 15) (record { set = set; files = files }) directives) set_in
+worked F prefixes set files directives = then_by (all_carried (including F prefixes 15) (record { set = set; files = files }) directives)
+    set_in
 
 -- a text loaded, and a file
 unfoldable pub loaded : Facts → Prefixes → Set → List ℕ → Known (Result Set SpecsFault)

@@ -1,7 +1,8 @@
 use Rattle.drv_specs.specs.Blanks.{has_byte, is_blank, is_white}
 use Rattle.drv_words.specs.Bytes.{at_sign, backslash, colon, hyphen, number_sign, period, plus, space, underscore}
 use Rattle.drv_specs.specs.Lines.{without_end, without_front}
-use Rattle.drv_specs.specs.declared.fault.SpecsFault.TheVariants.{AliasOfAlias, BadName, RenameMissing, RenameTaken, Syntax, TrailingBackslash}
+use Rattle.drv_specs.specs.declared.fault.SpecsFault.TheVariants.{AliasOfAlias, BadName, RenameMissing, RenameTaken, Syntax}
+use Rattle.drv_specs.specs.declared.fault.SpecsFault.TheVariants.{TrailingBackslash}
 use Rattle.drv_specs.specs.declared.fault.SpecsFault.{SpecsFault}
 use Rattle.drv_syntax.specs.Outcome.{parsed}
 use Rattle.drv_syntax.specs.Tree.{Items}
@@ -11,7 +12,8 @@ use Rattle.std.specs.Char.{is_ascii_alphanumeric}
 use Rattle.std.specs.Cmp.Lexicographic.{pointwise}
 use Rattle.std.specs.List.{ends_with, list_all}
 use Rattle.std.specs.Map.{lookup, remove_entry, set_key}
-use Rattle.std.specs.Prelude.{◌==◌, ◌&&◌, ◌||◌, Bool, Err, List, [], ◌∷◌, ◌++◌, None, Ok, Option, Result, Some, drop, false, if◌then◌else◌, is_ok, is_some, length, nat_eq, nat_le, not, ℕ}
+use Rattle.std.specs.Prelude.{◌==◌, ◌&&◌, ◌||◌, Bool, Err, List, [], ◌∷◌, ◌++◌, None, Ok, Option, Result, Some, drop, false, if◌then◌else◌}
+use Rattle.std.specs.Prelude.{is_ok, is_some, length, nat_eq, nat_le, not, ℕ}
 
 -- Spec sets and how a directive changes one (GCC manual, "Spec Files"; this project's profile).
 
@@ -75,11 +77,18 @@ appended_text (Some text) addition = text ++ addition
 abbrev pub append : Set → List ℕ → List ℕ → Result Set SpecsFault
 append set name addition = if list_all is_white addition then Ok set else put set name (appended_text (text_of set name) addition)
 
--- what a body does to a name: an empty one deletes it, one that begins with + and a blank appends the rest, any other is put
+-- a body that appends begins with + and a blank
+abbrev pub appends : List ℕ → Bool
+appends [] = false
+appends (b ∷ []) = false
+appends (b ∷ c ∷ text) = b == plus && is_blank c
+
+-- what a body does to a name: an empty one deletes it, one that appends adds what follows its +, any other is put
 abbrev pub with_body : Set → List ℕ → List ℕ → Result Set SpecsFault
-with_body set name [] = Ok (deleted set name)
-with_body set name (b ∷ []) = put set name (b ∷ [])
-with_body set name (b ∷ c ∷ text) = if b == plus && is_blank c then append set name (c ∷ text) else put set name (b ∷ c ∷ text)
+with_body set name body =
+    if length body == 0 then Ok (deleted set name)
+    else if appends body then append set name (drop 1 body)
+    else put set name body
 
 abbrev pub with_text : Set → List ℕ → List ℕ → Result Set SpecsFault
 with_text set name body =

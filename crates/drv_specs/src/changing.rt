@@ -2,7 +2,7 @@
 
 ghost use Rattle.drv_specs.specs.Loading.{change};
 ghost use Rattle.drv_specs.specs.Code.Slices.{shown};
-ghost use Rattle.drv_specs.specs.Sets.{append, appended_text, begins_with_at, by_tree, is_alias};
+ghost use Rattle.drv_specs.specs.Sets.{append, appended_text, appends, begins_with_at, by_tree, is_alias};
 ghost use Rattle.drv_specs.specs.Sets.{is_key, is_key_byte, is_key_text, is_name, is_name_byte};
 ghost use Rattle.drv_specs.specs.Sets.{is_no_text, is_not_installed, is_sized, pair_text, put, Set};
 ghost use Rattle.drv_specs.specs.Sets.{with_body, with_name, with_pair_body, with_pair_text};
@@ -183,6 +183,16 @@ fn appended_text(
     }
 }
 
+/// Whether a body appends: it begins with `+` and a blank.
+fn appends(body: &[u8]) -> bool
+    ensures { result ≡ appends body.now }
+{
+    match body {
+        [b'+', blank, ..] => is_blank(*blank),
+        _ => false,
+    }
+}
+
 impl Entries {
     /// Puts a text that has a tree.
     pub(crate) fn put(&mut self, name: &[u8], text: &[u8]) -> Result<(), SpecsFault>
@@ -211,13 +221,13 @@ impl Entries {
     fn put_body(&mut self, name: &[u8], body: &[u8]) -> Result<(), SpecsFault>
         ensures { Gives fault.Memory (λ _. self.new) result (with_body self.old name.now body.now) }
     {
-        match body {
-            [] => {
-                self.remove(name);
-                Ok(())
-            }
-            [b'+', blank, ..] if is_blank(*blank) => self.append(name, without_first(body)),
-            text => self.put(name, text),
+        if body.is_empty() {
+            self.remove(name);
+            Ok(())
+        } else if appends(body) {
+            self.append(name, without_first(body))
+        } else {
+            self.put(name, body)
         }
     }
 

@@ -193,12 +193,12 @@ impl Entries {
     }
 
     /// A copy, which shares the trees.
-    pub(crate) fn copied(&self) -> Result<Entries, AllocError>
+    pub(crate) fn try_clone(&self) -> Result<Entries, AllocError>
         ensures { IfOk result (λ copy. copy ≡ self.now) }
     {
         Ok(Entries {
             alloc: self.alloc,
-            named: self.named.copied()?,
+            named: self.named.try_clone()?,
             pairs: copied_pairs(self.alloc, self.pairs.as_slice())?,
             trees: copied_texts(self.alloc, self.trees.as_slice())?,
         })

@@ -146,7 +146,7 @@ fn draft_of<S: System>(
         → GivesKnown fault.Memory (λ draft. draft) result
         (worked F prefixes.now entries.now files (read_settled text.now)) }
 {
-    let draft = entries.copied()?;
+    let draft = entries.try_clone()?;
     worked_entries(draft, files, text, prefixes, outside)
 }
 

@@ -164,7 +164,7 @@ impl NamedTexts {
     }
 
     /// A copy, which shares the trees.
-    pub(crate) fn copied(&self) -> Result<NamedTexts, AllocError>
+    pub(crate) fn try_clone(&self) -> Result<NamedTexts, AllocError>
         ensures { IfOk result (λ copy. copy ≡ self.now) }
     {
         Ok(NamedTexts {

@@ -90,7 +90,8 @@ answer_at es key other answer (Some known) true had is =
 answer_at es key other answer (Some known) false had is = rw (had, is) (or_none (answer_to es other))
 answer_at es key other answer None true had is =
     let z : answer_to es other ≡ None = ap (answer_to es) (same_key other key is) ∙ had in
-    let y : answer_to (with_pair es key answer) other ≡ Some answer = ap (answer_to (with_pair es key answer)) (same_key other key is) ∙ pair_here es key answer in
+    let y : answer_to (with_pair es key answer) other ≡ Some answer = ap (answer_to (with_pair es key answer)) (same_key other key is)
+    ∙ pair_here es key answer in
     rw (had, z, is) y
 answer_at es key other answer None false had is = rw (had, is) (pair_elsewhere es key other answer is ∙ or_none (answer_to es other))
 
@@ -109,7 +110,8 @@ absent None there is missing = refl
 absent (Some answer) there is missing = absurd (let z : false ≡ true = sym missing ∙ is in cc)
 
 -- the maps of a place: made, filled, and cleared
-module _ {Y : Type 0} (es made : List (List ℕ × Y)) (key : List ℕ) (blank : Y) (new : None ≡ answer_to es key) (is : made ≡ with_pair es key blank) where
+module _ {Y : Type 0} (es made : List (List ℕ × Y)) (key : List ℕ) (blank : Y) (new : None ≡ answer_to es key)
+    (is : made ≡ with_pair es key blank) where
   pub place_filled : (full : List (List ℕ × Y)) (answer : Y) → full ≡ set_value (is_at (slice_cmp nat_cmp key)) made answer
       → full ≡ with_answer es key answer
   place_filled full answer step = rw (← new) (step ∙ ap (λ xs. set_value (is_at (slice_cmp nat_cmp key)) xs answer) is

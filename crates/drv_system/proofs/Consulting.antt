@@ -7,7 +7,8 @@ use Rattle.std.specs.Prelude.{◌≡◌, Err, List, [], ◌∷◌, ◌++◌, Non
 
 -- For `FactTable`: one look-up, over the journal and the facts before and after it.
 
-module _ {X : Type 0} (journal journal' : List Event) (F F' : Facts) (event : X → Event) (before after : Option X) (new : None ≡ before) where
+module _ {X : Type 0} (journal journal' : List Event) (F F' : Facts) (event : X → Event) (before after : Option X)
+    (new : None ≡ before) where
   -- the question was answered
   pub consulted : {Y : Type 0} (E : Type 0) (answer : X) (y : Y) → after ≡ Some answer
       → journal' ≡ journal ++ event answer ∷ [] → F' ≡ learnt F (event answer)

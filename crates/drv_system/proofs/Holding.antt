@@ -103,7 +103,8 @@ pub holds_started : {n m l : ℕ} {p q : Bool} {events events' : List Event} (st
     → events' ≡ events ++ made step (answer.Start (start.Started l)) ∷ [] → m ≡ n + 1 → l ≡ n
     → q ≡ pending_with p step (answer.Start (start.Started l)) → Holds m q events'
 holds_started {n = n} {m = m} {l = l} step holds is more same pipe =
-    let numbers = next_number n m l more same in holds_after step (answer.Start (start.Started l)) holds is numbers.0 numbers.1 numbers.2 pipe
+    let numbers = next_number n m l more same in holds_after step
+    (answer.Start (start.Started l)) holds is numbers.0 numbers.1 numbers.2 pipe
 
 -- the same, if the number of children stays the same
 pub numbered_step : {n m : ℕ} {events events' : List Event} (step : Step) (a : Answer) → Numbered n events

@@ -20,7 +20,8 @@ from_more done [] key answer = refl
 from_more done (pair ∷ pairs) key answer = from_more (with_pair done pair.0 pair.1) pairs key answer
 
 -- what the table knows, the map knows
-pub in_order_unknown : {Y : Type 0} (pairs : List (List ℕ × Y)) (path : List ℕ) → SameAnswers pairs → None ≡ lookup (pointwise nat_eq path) pairs
+pub in_order_unknown : {Y : Type 0} (pairs : List (List ℕ × Y)) (path : List ℕ) → SameAnswers pairs
+    → None ≡ lookup (pointwise nat_eq path) pairs
     → None ≡ answer_to (in_order pairs) path
 in_order_unknown pairs path same none = none ∙ same path
 
@@ -43,7 +44,8 @@ module _ {Y : Type 0} (pairs more : List (List ℕ × Y)) (key path : List ℕ) 
   ordered_more = ap in_order grows ∙ from_more [] pairs key answer ∙ ap (λ k. with_pair (in_order pairs) k answer) is
 
   pub ordered_with : in_order more ≡ with_answer (in_order pairs) path answer
-  ordered_with = let unknown : None ≡ answer_to (in_order pairs) path = in_order_unknown pairs path same none in ordered_more ∙ rw (← unknown) refl
+  ordered_with = let unknown : None ≡ answer_to (in_order pairs) path = in_order_unknown pairs path same none in ordered_more
+      ∙ rw (← unknown) refl
 
   pub ordered_here : answer_to (in_order more) path ≡ Some answer
   ordered_here = ap (λ es. answer_to es path) ordered_more ∙ pair_here (in_order pairs) path answer
@@ -58,7 +60,8 @@ module _ {Y : Type 0} (pairs more : List (List ℕ × Y)) (key path : List ℕ) 
   same_test : (other : List ℕ) → pointwise nat_eq key other ≡ is_at (slice_cmp nat_cmp other) path
   same_test other = ap (λ k. pointwise nat_eq k other) is ∙ nat_list_eq_equiv.symm path other ∙ texts_ties other path
 
-  pub answers_more : ((other : List ℕ) → lookup (pointwise nat_eq other) more ≡ cond (pointwise nat_eq key other) (Some answer) (lookup (pointwise nat_eq other) pairs))
+  pub answers_more : ((other : List ℕ) → lookup (pointwise nat_eq other) more
+      ≡ cond (pointwise nat_eq key other) (Some answer) (lookup (pointwise nat_eq other) pairs))
       → SameAnswers more
   answers_more updates other =
       updates other ∙ ap (λ b. cond b (Some answer) (lookup (pointwise nat_eq other) pairs)) (same_test other)

@@ -47,7 +47,8 @@ stays_open : (place : Place) (id : ℕ) (events : List RunEvent)
     → open_from place id true events ≡ true
 stays_open place id [] none = refl
 stays_open place id (e ∷ events) none =
-    let both : (is_wait_for place id e.step ≡ false) × (not (list_any (λ (f : RunEvent). is_wait_for place id f.step) events) ≡ true) = not_both (is_wait_for place id e.step) _ none in
+    let both : (is_wait_for place id e.step ≡ false) × (not (list_any (λ (f : RunEvent). is_wait_for place id f.step) events) ≡ true) =
+    not_both (is_wait_for place id e.step) _ none in
     still (is_start_at place e.step && is_child id e.answer) (is_wait_for place id e.step) both.0 (stays_open place id events both.1)
   where
     still : (starts waits : Bool) → waits ≡ false → open_from place id true events ≡ true
@@ -61,7 +62,8 @@ pub opens : (place : Place) (id : ℕ) (was : Bool) (events : List RunEvent)
     → not (list_any (λ (e : RunEvent). is_wait_for place id e.step) events) ≡ true → open_from place id was events ≡ true
 opens place id was [] some none = absurd cc
 opens place id was (e ∷ events) some none =
-    let both : (is_wait_for place id e.step ≡ false) × (not (list_any (λ (f : RunEvent). is_wait_for place id f.step) events) ≡ true) = not_both (is_wait_for place id e.step) _ none in
+    let both : (is_wait_for place id e.step ≡ false) × (not (list_any (λ (f : RunEvent). is_wait_for place id f.step) events) ≡ true) =
+    not_both (is_wait_for place id e.step) _ none in
     by (is_start_at place e.step && is_child id e.answer) some (stays_open place id events both.1)
     (λ rest. opens place id (if is_wait_for place id e.step then false else was) events rest both.1)
   where

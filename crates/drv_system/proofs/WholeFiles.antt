@@ -29,7 +29,8 @@ too_large (Some xs) None new bytes taken before now over = absurd before
 too_large (Some xs) (Some ys) None bytes taken before now over = absurd now
 too_large (Some xs) (Some ys) (Some zs) bytes taken before now over =
     let size : length xs ≡ length bytes + (length taken + length zs) =
-    ap length (before ∙ ap (λ rest. bytes ++ rest) now) ∙ length-append bytes (taken ++ zs) ∙ ap (λ k. length bytes + k) (length-append taken zs) in
+    ap length (before ∙ ap (λ rest. bytes ++ rest) now) ∙ length-append bytes (taken ++ zs)
+    ∙ ap (λ k. length bytes + k) (length-append taken zs) in
     ap (λ k. nat_lt 16777216 k) size ∙ larger (length bytes) (length taken) 16777216 over (length zs)
 
 -- at most as many as a file may have

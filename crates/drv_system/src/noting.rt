@@ -1,21 +1,11 @@
 //! Adds questions and messages to a journal.
 
 ghost use Rattle.drv_system.specs.declared.event.Event.TheVariants as event;
-ghost use Rattle.std.specs.Prelude.{◌≡◌, ◌∷◌, ◌++◌, [], IfOk, OnErr, OnOk};
+ghost use Rattle.std.specs.Prelude.{◌≡◌, ◌∷◌, ◌++◌, [], OnErr, OnOk};
 
 use crate::{Event, PathKind, ReadAnswer, TellAnswer};
-use drv_words::Word;
+use drv_words::{Word, copy_word};
 use std::alloc::AllocError;
-
-/// A copy of a value, if there is one.
-fn copy_of(value: &Option<Word>) -> Result<Option<Word>, AllocError>
-    ensures { IfOk result (λ copy. copy ≡ value.now) }
-{
-    match value {
-        Some(word) => Ok(Some(word.clone()?)),
-        None => Ok(None),
-    }
-}
 
 /// Adds the reading of a file.
 pub fn note_read(
@@ -51,7 +41,7 @@ pub fn note_variable(
         ≡ journal.old.items ++ event.Variable name.now value.now ∷ []) }
     ensures memory { OnErr result (journal.new.items ≡ journal.old.items) }
 {
-    let event = Event::Variable(name.clone()?, copy_of(value)?);
+    let event = Event::Variable(name.clone()?, copy_word(value)?);
     Ok(journal.push(event)?)
 }
 

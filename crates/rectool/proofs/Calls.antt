@@ -34,7 +34,8 @@ nothing_here (Some path) before = refl
 grows : (n : ℕ) (digits : List ℕ) → n ≤ number_after n digits
 grows n [] = omega arith
 grows n (digit ∷ digits) =
-    let more : n * 10 + (digit - 48) ≤ number_after (n * 10 + (digit - 48)) digits = grows (n * 10 + (digit - 48)) digits in omega (arith, more)
+    let more : n * 10 + (digit - 48) ≤ number_after (n * 10 + (digit - 48)) digits = grows (n * 10 + (digit - 48)) digits in
+    omega (arith, more)
 
 no_code : (are_digits is_small : Bool) (n : ℕ) → is_small ≡ false → (if are_digits && is_small then Some n else None) ≡ None
 no_code true small n is = rw is refl

@@ -86,7 +86,8 @@ piped_start k job g was ids (start.NotStarted why) = refl
 piped_start k job g was ids (start.Started id) = by (nat_lt (length ids + 1) (length (group_at job g)))
   where
     by : (t : Bool) → t ≡ piped (if t then Starts g was (ids ++ id ∷ []) else enter_waits job g was (ids ++ id ∷ []) 0 false)
-    by true = sym (less 0 (length (ids ++ id ∷ [])) (let len : length (ids ++ id ∷ []) ≡ length ids + 1 = length-append {A = ℕ} ids (id ∷ []) in omega (arith, len)))
+    by true = sym (less 0 (length (ids ++ id ∷ []))
+        (let len : length (ids ++ id ∷ []) ≡ length ids + 1 = length-append {A = ℕ} ids (id ∷ []) in omega (arith, len)))
     by false = no_pipe_waits job g was (ids ++ id ∷ []) 0 false
 
 piped_refusal : (job : Job) (g : ℕ) (was : Bool) (ids : List ℕ) (why : NotStarted) (t : Bool)
@@ -187,8 +188,10 @@ makes plan k (StartReport g was ids why) E v z o l p = less (length ids) (length
 makes plan k (Closing g was ids why told) E v z o l p = p
 makes plan k (Waits g was ids i fault) E v z o l p = o
 makes plan k (WaitReport g was ids i fault (Exit n)) E v z o l p = absurd (let no : true ≡ false = v.1 in cc)
-makes plan k (WaitReport g was ids i fault Signal) E v z o l p = less i (length (group_at (job_at plan k) g)) (let lt = v.0 in omega (arith, lt, z))
-makes plan k (WaitReport g was ids i fault Lost) E v z o l p = less i (length (group_at (job_at plan k) g)) (let lt = v.0 in omega (arith, lt, z))
+makes plan k (WaitReport g was ids i fault Signal) E v z o l p =
+    less i (length (group_at (job_at plan k) g)) (let lt = v.0 in omega (arith, lt, z))
+makes plan k (WaitReport g was ids i fault Lost) E v z o l p =
+    less i (length (group_at (job_at plan k) g)) (let lt = v.0 in omega (arith, lt, z))
 makes plan k (Removals i) E v z o l p = less i (length (job_at plan k).on_failure) v
 makes plan k (RemovalReport i) E v z o l p = less i (length (job_at plan k).on_failure) v
 makes plan k Ended E v z o l p = absurd cc

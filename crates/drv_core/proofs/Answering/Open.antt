@@ -215,7 +215,8 @@ later_waited k g i id a E w h l at = unwaited_more (place.Command k h l) E (even
     apart (inl x) = last (nat_eq k k) (nat_eq h g && nat_eq l i) (let ne : nat_eq h g ≡ false = grind (arith, nat_tests) in rw ne refl)
     apart (inr x) =
         let p = x.1 in
-        last (nat_eq k k) (nat_eq h g && nat_eq l i) (last (nat_eq h g) (nat_eq l i) (let ne : nat_eq l i ≡ false = grind (arith, nat_tests) in ne))
+        last (nat_eq k k) (nat_eq h g && nat_eq l i) (last (nat_eq h g) (nat_eq l i)
+        (let ne : nat_eq l i ≡ false = grind (arith, nat_tests) in ne))
 
 begun_waited : (k g : ℕ) (ids : List ℕ) (i : ℕ) (E : List RunEvent) (e : RunEvent) → Begun k g ids i E → Begun k g ids (i + 1) (E ++ e ∷ [])
 begun_waited k g ids i E e b l from lt = started_more (place.Command k g l) (get_or ids l 0) E e (b l (omega (arith, from)) lt)
@@ -411,7 +412,8 @@ sized_started job g was ids (start.Started id) lt = by (nat_lt (length ids + 1) 
   where
     by : (t : Bool) → Sized job (if t then Starts g was (ids ++ id ∷ []) else enter_waits job g was (ids ++ id ∷ []) 0 false)
     by true = tt
-    by false = sized_waits job g was (ids ++ id ∷ []) 0 false (let len : length (ids ++ id ∷ []) ≡ length ids + 1 = length-append {A = ℕ} ids (id ∷ []) in omega (arith, len, lt))
+    by false = sized_waits job g was (ids ++ id ∷ []) 0 false
+        (let len : length (ids ++ id ∷ []) ≡ length ids + 1 = length-append {A = ℕ} ids (id ∷ []) in omega (arith, len, lt))
 
 sized_refusal : (job : Job) (g : ℕ) (was : Bool) (ids : List ℕ) (why : NotStarted) (t : Bool) → length ids < length (group_at job g)
     → Sized job (after job (StartReport g was ids why) (answer.Reported t))

@@ -87,7 +87,8 @@ answers (step.Report n) = refl
 
 pub cost_some : (k : ℕ) (job : Job) (s : Stage) → Valid job s → left s ≡ true → 0 < cost job s
 cost_some k job s v l =
-    let lt : cost job (after job s (answer_for (asked (asks k job s)))) < cost job s = cost_less k job s (answer_for (asked (asks k job s))) v l (answers (asked (asks k job s))) in
+    let lt : cost job (after job s (answer_for (asked (asks k job s)))) < cost job s =
+    cost_less k job s (answer_for (asked (asks k job s))) v l (answers (asked (asks k job s))) in
     omega (arith, lt)
 
 some_summed : (n k : ℕ) (f : ℕ → ℕ) → k < n → 0 < f k → 0 < summed n f
@@ -108,8 +109,10 @@ left_in jobs N f E g = ap left (g.at f.current) ∙ g.more
 pub sure_fewer : (jobs : List Job) (N most : ℕ) (f : Fleet) (E : List RunEvent) → Sure jobs N most f E → length E < most
 sure_fewer jobs N most f E s =
     let le = s.bound in
-    let some : 0 < to_come jobs (stage_in f) = some_summed (length jobs) f.current (λ j. cost (get_or jobs j no_job) (stage_in f j)) (is_less f.current (length jobs) s.going.may.is_source)
-    (cost_some f.current (get_or jobs f.current no_job) (stage_in f f.current) (valid_in jobs N f E s.going) (left_in jobs N f E s.going)) in
+    let some : 0 < to_come jobs (stage_in f) = some_summed (length jobs) f.current (λ j. cost (get_or jobs j no_job) (stage_in f j))
+    (is_less f.current (length jobs) s.going.may.is_source)
+    (cost_some f.current (get_or jobs f.current no_job) (stage_in f f.current) (valid_in jobs N f E s.going)
+    (left_in jobs N f E s.going)) in
     omega (arith, le, some)
 
 -- one more answer
@@ -164,9 +167,12 @@ sure_takes jobs N most f E a some filled s kind = by (takes jobs N f E a some fi
 
     bound : length (E ++ made jobs f (stage_in f) a ∷ []) + to_come jobs (stage_in (taken jobs f a)) ≤ most
     bound =
-        let less : to_come jobs (put (stage_in f) f.current (next_stage jobs f (stage_in f) a)) < to_come jobs (stage_in f) = less_to_come jobs (stage_in f) f.current a in_range valid more kind in
-        let is : to_come jobs (stage_in (taken jobs f a)) ≡ to_come jobs (put (stage_in f) f.current (next_stage jobs f (stage_in f) a)) = ap (λ st. to_come jobs st) (fun_ext at) in
-        let len : length (E ++ made jobs f (stage_in f) a ∷ []) ≡ length E + 1 = length-append {A = RunEvent} E (made jobs f (stage_in f) a ∷ []) in
+        let less : to_come jobs (put (stage_in f) f.current (next_stage jobs f (stage_in f) a)) < to_come jobs (stage_in f) =
+        less_to_come jobs (stage_in f) f.current a in_range valid more kind in
+        let is : to_come jobs (stage_in (taken jobs f a)) ≡ to_come jobs (put (stage_in f) f.current (next_stage jobs f (stage_in f) a)) =
+        ap (λ st. to_come jobs st) (fun_ext at) in
+        let len : length (E ++ made jobs f (stage_in f) a ∷ []) ≡ length E + 1 =
+        length-append {A = RunEvent} E (made jobs f (stage_in f) a ∷ []) in
         let le = s.bound in
         omega (arith, less, is, len, le)
 

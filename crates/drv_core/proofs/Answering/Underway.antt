@@ -73,7 +73,11 @@ stage_closed f j = by (left (stage_in f f.current))
 pub stage_opened : (jobs : List Job) (f : Fleet) (j : ℕ) → stage_in (opened jobs f) j ≡ stage_in f j
 stage_opened jobs f j = by (nat_eq f.current f.next)
   where
-    by : (t : Bool) → stage_in (if t then record f { begun = f.begun ++ f.current ∷ []; next = first_busy (f.current + 1) (drop (f.current + 1) jobs) } else f) j ≡ stage_in f j
+    by : (t : Bool) → stage_in (if t then record f {
+      begun = f.begun ++ f.current ∷ [];
+      next =
+          first_busy (f.current + 1) (drop (f.current + 1) jobs);
+    } else f) j ≡ stage_in f j
     by true = refl
     by false = refl
 
@@ -95,8 +99,11 @@ current_before jobs N f E g = by (nat_lt f.next f.current) refl
     by true e = absurd (
         let lt : f.next < f.current = is_less f.next f.current e in
         let l : left (stage_in f f.next) ≡ true = g.counts.next_left (let r = in_range in omega (arith, r, lt)) in
-        let skipped : (not (has f.next g.run.blocks) && left (base (g.st f.next))) ≡ true = ap (λ (t : Bool). not t && left (base (g.st f.next))) (g.counts.has_is f.next l ∙ not_less f.next f.next (omega arith)) ∙ left_base_is ∙ l in
-        let one : 1 ≤ count f.current (λ j. not (has j g.run.blocks) && left (base (g.st j))) = count_some f.current f.next (λ j. not (has j g.run.blocks) && left (base (g.st j))) lt skipped in
+        let skipped : (not (has f.next g.run.blocks) && left (base (g.st f.next))) ≡ true =
+        ap (λ (t : Bool). not t && left (base (g.st f.next))) (g.counts.has_is f.next l ∙ not_less f.next f.next (omega arith))
+        ∙ left_base_is ∙ l in
+        let one : 1 ≤ count f.current (λ j. not (has j g.run.blocks) && left (base (g.st j))) =
+        count_some f.current f.next (λ j. not (has j g.run.blocks) && left (base (g.st j))) lt skipped in
         let order : count f.current (λ j. not (has j g.run.blocks) && left (base (g.st j))) ≡ 0 = g.may.in_order in
         omega (arith, one, order)
         )

@@ -49,7 +49,8 @@ cost_group job g was = by (nat_lt g (length job.groups)) refl
     by : (t : Bool) → nat_lt g (length job.groups) ≡ t → cost job (if t then Starts g was [] else Ended) ≤ groups_cost job g + 2 *
         length job.on_failure
     by true e =
-        let more : groups_cost job g ≡ 4 * length (group_at job g) + groups_cost job (g + 1) = sum_by-drop_more (λ group. 4 * length group) job.groups g [] (is_less g (length job.groups) e) in
+        let more : groups_cost job g ≡ 4 * length (group_at job g) + groups_cost job (g + 1) =
+        sum_by-drop_more (λ group. 4 * length group) job.groups g [] (is_less g (length job.groups) e) in
         omega (arith, more)
     by false e = omega arith
 
@@ -87,13 +88,15 @@ cost_waits job g was ids i fault = by (nat_lt i (length ids))
         + groups_cost job (g + 1) + 2 * length job.on_failure
     by true = omega arith
     by false =
-        let e : cost job (end_group job g (was || not (none ids)) fault) ≤ groups_cost job (g + 1) + 2 * length job.on_failure = cost_end job g (was || not (none ids)) fault in
+        let e : cost job (end_group job g (was || not (none ids)) fault) ≤ groups_cost job (g + 1) + 2 * length job.on_failure =
+        cost_end job g (was || not (none ids)) fault in
         omega (arith, e)
 
 cost_claimed : (job : Job) (i : ℕ) (x : ClaimAnswer) → i < length job.temps
     → cost job (after job (Claims i) (answer.Claim x)) < cost job (Claims i)
 cost_claimed job i claim.Claimed lt =
-    let c : cost job (enter_claims job (i + 1)) ≤ 2 * (length job.temps - (i + 1)) + groups_cost job 0 + 2 * length job.on_failure = cost_claims job (i + 1) in
+    let c : cost job (enter_claims job (i + 1)) ≤ 2 * (length job.temps - (i + 1)) + groups_cost job 0 + 2 * length job.on_failure =
+    cost_claims job (i + 1) in
     omega (arith, c, lt)
 cost_claimed job i claim.Taken lt = omega (arith, lt)
 cost_claimed job i claim.Failed lt = omega (arith, lt)
@@ -111,7 +114,8 @@ cost_started job g was ids (start.Started id) lt = by (nat_lt (length ids + 1) (
     by true = let l = len in omega (arith, l, lt)
     by false =
         let l = len in
-        let w : cost job (enter_waits job g was (ids ++ id ∷ []) 0 false) ≤ 2 * (length (ids ++ id ∷ []) - 0) + groups_cost job (g + 1) + 2 * length job.on_failure = cost_waits job g was (ids ++ id ∷ []) 0 false in
+        let w : cost job (enter_waits job g was (ids ++ id ∷ []) 0 false) ≤ 2 * (length (ids ++ id ∷ []) - 0) + groups_cost job
+        (g + 1) + 2 * length job.on_failure = cost_waits job g was (ids ++ id ∷ []) 0 false in
         omega (arith, l, w, lt)
 
 cost_refused : (job : Job) (g : ℕ) (was : Bool) (ids : List ℕ) (why : NotStarted) (t : Bool)
@@ -122,19 +126,22 @@ cost_refused job g was ids why t = by (nat_lt 0 (length ids))
         job (g + 1) + 2 * length job.on_failure
     by true = omega arith
     by false =
-        let w : cost job (enter_waits job g was ids 0 true) ≤ 2 * (length ids - 0) + groups_cost job (g + 1) + 2 * length job.on_failure = cost_waits job g was ids 0 true in
+        let w : cost job (enter_waits job g was ids 0 true) ≤ 2 * (length ids - 0) + groups_cost job (g + 1) + 2 * length job.on_failure =
+        cost_waits job g was ids 0 true in
         omega (arith, w)
 
 cost_passed : (job : Job) (g : ℕ) (was : Bool) (ids : List ℕ) (i : ℕ) (fault : Bool) → i < length ids
     → cost job (enter_waits job g was ids (i + 1) fault) + 2 ≤ 2 * (length ids - i) + groups_cost job (g + 1) + 2 * length job.on_failure
 cost_passed job g was ids i fault lt =
-    let w : cost job (enter_waits job g was ids (i + 1) fault) ≤ 2 * (length ids - (i + 1)) + groups_cost job (g + 1) + 2 * length job.on_failure = cost_waits job g was ids (i + 1) fault in
+    let w : cost job (enter_waits job g was ids (i + 1) fault) ≤ 2 * (length ids - (i + 1)) + groups_cost job
+    (g + 1) + 2 * length job.on_failure = cost_waits job g was ids (i + 1) fault in
     omega (arith, w, lt)
 
 cost_waited : (job : Job) (g : ℕ) (was : Bool) (ids : List ℕ) (i : ℕ) (fault : Bool) (x : WaitAnswer) → i < length ids
     → cost job (after job (Waits g was ids i fault) (answer.Wait x)) < cost job (Waits g was ids i fault)
 cost_waited job g was ids i fault (Exit n) lt =
-    let p : cost job (enter_waits job g was ids (i + 1) (fault || not (nat_eq n 0))) + 2 ≤ 2 * (length ids - i) + groups_cost job (g + 1) + 2 * length job.on_failure = cost_passed job g was ids i (fault || not (nat_eq n 0)) lt in
+    let p : cost job (enter_waits job g was ids (i + 1) (fault || not (nat_eq n 0))) + 2 ≤ 2 * (length ids - i) + groups_cost job
+    (g + 1) + 2 * length job.on_failure = cost_passed job g was ids i (fault || not (nat_eq n 0)) lt in
     omega (arith, p)
 cost_waited job g was ids i fault Signal lt = omega (arith, lt)
 cost_waited job g was ids i fault Lost lt = omega (arith, lt)
@@ -167,12 +174,14 @@ cost_less k job (Starts g was ids) a v l e = absurd cc
 cost_less k job (StartReport g was ids why) (answer.Reported t) v l e = cost_refused job g was ids why t
 cost_less k job (StartReport g was ids why) a v l e = absurd cc
 cost_less k job (Closing g was ids why told) a v l e =
-    let w : cost job (enter_waits job g was ids 0 true) ≤ 2 * (length ids - 0) + groups_cost job (g + 1) + 2 * length job.on_failure = cost_waits job g was ids 0 true in
+    let w : cost job (enter_waits job g was ids 0 true) ≤ 2 * (length ids - 0) + groups_cost job (g + 1) + 2 * length job.on_failure =
+    cost_waits job g was ids 0 true in
     omega (arith, w)
 cost_less k job (Waits g was ids i fault) (answer.Wait x) v l e = cost_waited job g was ids i fault x v
 cost_less k job (Waits g was ids i fault) a v l e = absurd cc
 cost_less k job (WaitReport g was ids i fault x) a v l e =
-    let p : cost job (enter_waits job g was ids (i + 1) true) + 2 ≤ 2 * (length ids - i) + groups_cost job (g + 1) + 2 * length job.on_failure = cost_passed job g was ids i true v.0 in
+    let p : cost job (enter_waits job g was ids (i + 1) true) + 2 ≤ 2 * (length ids - i) + groups_cost job
+    (g + 1) + 2 * length job.on_failure = cost_passed job g was ids i true v.0 in
     let lt = v.0 in
     omega (arith, p, lt)
 cost_less k job (Removals i) (answer.Remove x) v l e = cost_removed job i x v
@@ -189,7 +198,8 @@ cost_begin job = by (none job.groups)
     by : (t : Bool) → cost job (if t then Ended else enter_claims job 0) + 2 * (length job.temps + length job.marked) ≤ job_events job
     by true = omega arith
     by false =
-        let c : cost job (enter_claims job 0) ≤ 2 * (length job.temps - 0) + groups_cost job 0 + 2 * length job.on_failure = cost_claims job 0 in
+        let c : cost job (enter_claims job 0) ≤ 2 * (length job.temps - 0) + groups_cost job 0 + 2 * length job.on_failure =
+        cost_claims job 0 in
         omega (arith, c)
 
 abbrev pub to_come : List Job → (ℕ → Stage) → ℕ

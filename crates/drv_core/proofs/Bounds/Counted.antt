@@ -52,7 +52,9 @@ if_none true = refl
 if_none false = refl
 
 -- one more claim
-claimed_one : (n j i : ℕ) (x : Leftovers) (E : List RunEvent) → Counted n x E → Counted n (record x { claimed = slice_set x.claimed j (get_or x.claimed j 0 + 1) }) (E ++ event (step.Claim (place.Temp j i)) (answer.Claim claim.Claimed) ∷ [])
+claimed_one : (n j i : ℕ) (x : Leftovers) (E : List RunEvent) → Counted n x E
+    → Counted n (record x { claimed = slice_set x.claimed j (get_or x.claimed j 0 + 1) })
+    (E ++ event (step.Claim (place.Temp j i)) (answer.Claim claim.Claimed) ∷ [])
 claimed_one n j i x E c = record {
   sizes = length-set x.claimed j (get_or x.claimed j 0 + 1) ∙ c.sizes;
   counts = λ k le. by k le (nat_eq j k) refl;
@@ -61,18 +63,23 @@ claimed_one n j i x E c = record {
     by : (k : ℕ) → k ≤ n → (t : Bool) → nat_eq j k ≡ t → get_or (slice_set x.claimed j (get_or x.claimed j 0 + 1)) k 0
         ≡ tally k (E ++ event (step.Claim (place.Temp j i)) (answer.Claim claim.Claimed) ∷ [])
     by k le true e =
-        let more : tally k (E ++ event (step.Claim (place.Temp j i)) (answer.Claim claim.Claimed) ∷ []) ≡ tally k E + one_if (nat_eq j k && true) = tally_more k E (step.Claim (place.Temp j i)) (answer.Claim claim.Claimed) in
+        let more : tally k (E ++ event (step.Claim (place.Temp j i)) (answer.Claim claim.Claimed) ∷ [])
+        ≡ tally k E + one_if (nat_eq j k && true) = tally_more k E (step.Claim (place.Temp j i)) (answer.Claim claim.Claimed) in
         let one : one_if (nat_eq j k && true) ≡ 1 = ap (λ (t : Bool). one_if (t && true)) e in
         let is = c.counts k le in
         let set : get_or (slice_set x.claimed j (get_or x.claimed j 0 + 1)) k 0 ≡ get_or x.claimed k 0 + 1 =
-        subst (λ m. get_or (slice_set x.claimed j (get_or x.claimed j 0 + 1)) m 0 ≡ get_or x.claimed m 0 + 1) (same j k e) (get_or-set_same x.claimed j (get_or x.claimed j 0 + 1) 0 (let len = c.sizes in let at : j ≡ k = same j k e in omega (arith, len, at, le))) in
+        subst (λ m. get_or (slice_set x.claimed j (get_or x.claimed j 0 + 1)) m 0 ≡ get_or x.claimed m 0 + 1) (same j k e)
+        (get_or-set_same x.claimed j (get_or x.claimed j 0 + 1) 0
+        (let len = c.sizes in let at : j ≡ k = same j k e in omega (arith, len, at, le))) in
         omega (arith, more, one, is, set)
     by k le false e =
-        let more : tally k (E ++ event (step.Claim (place.Temp j i)) (answer.Claim claim.Claimed) ∷ []) ≡ tally k E + one_if (nat_eq j k && true) = tally_more k E (step.Claim (place.Temp j i)) (answer.Claim claim.Claimed) in
+        let more : tally k (E ++ event (step.Claim (place.Temp j i)) (answer.Claim claim.Claimed) ∷ [])
+        ≡ tally k E + one_if (nat_eq j k && true) = tally_more k E (step.Claim (place.Temp j i)) (answer.Claim claim.Claimed) in
         let none : one_if (nat_eq j k && true) ≡ 0 = ap (λ (t : Bool). one_if (t && true)) e in
         let is = c.counts k le in
         let set : get_or (slice_set x.claimed j (get_or x.claimed j 0 + 1)) k 0 ≡ get_or x.claimed k 0 =
-        get_or-set_other x.claimed j k (get_or x.claimed j 0 + 1) 0 (λ at. clash (nat_eq j k) (ap (λ m. nat_eq j m) at ∙ nat_eq_equiv.refl j) e) in
+        get_or-set_other x.claimed j k (get_or x.claimed j 0 + 1) 0
+        (λ at. clash (nat_eq j k) (ap (λ m. nat_eq j m) at ∙ nat_eq_equiv.refl j) e) in
         omega (arith, more, none, is, set)
 
 claim_counted : (n : ℕ) (x : Leftovers) (E : List RunEvent) (p : Place) (c : ClaimAnswer) → Counted n x E

@@ -29,7 +29,9 @@ many_files k job = by (none job.groups)
   where
     both : length (temp_files k 0 job.temps ++ marked_files k 0 job.marked) ≡ length job.temps + length job.marked
     both =
-        let all : length (temp_files k 0 job.temps ++ marked_files k 0 job.marked) ≡ length (temp_files k 0 job.temps) + length (marked_files k 0 job.marked) = length-append {A = File} (temp_files k 0 job.temps) (marked_files k 0 job.marked) in
+        let all : length (temp_files k 0 job.temps ++ marked_files k 0 job.marked)
+        ≡ length (temp_files k 0 job.temps) + length (marked_files k 0 job.marked) =
+        length-append {A = File} (temp_files k 0 job.temps) (marked_files k 0 job.marked) in
         let temps = many_temps k 0 job.temps in
         let marked = many_marked k 0 job.marked in
         omega (arith, all, temps, marked)
@@ -48,7 +50,8 @@ all_fit k (job ∷ jobs) =
     let rest : sum_by first_cost jobs + 2 * length (files_from (k + 1) jobs) ≤ sum_by job_events jobs = all_fit (k + 1) jobs in
     let here : first_cost job + 2 * (length job.temps + length job.marked) ≤ job_events job = cost_begin job in
     let few : length (job_files k job) ≤ length job.temps + length job.marked = many_files k job in
-    let both : length (job_files k job ++ files_from (k + 1) jobs) ≡ length (job_files k job) + length (files_from (k + 1) jobs) = length-append {A = File} (job_files k job) (files_from (k + 1) jobs) in
+    let both : length (job_files k job ++ files_from (k + 1) jobs) ≡ length (job_files k job) + length (files_from (k + 1) jobs) =
+    length-append {A = File} (job_files k job) (files_from (k + 1) jobs) in
     let costs : sum_by first_cost (job ∷ jobs) ≡ first_cost job + sum_by first_cost jobs = sum_by-cons first_cost job jobs in
     let events : sum_by job_events (job ∷ jobs) ≡ job_events job + sum_by job_events jobs = sum_by-cons job_events job jobs in
     omega (arith, rest, here, few, both, costs, events)
@@ -65,7 +68,10 @@ sum_is (job ∷ jobs) f = summed_first (length jobs) (λ j. f (get_or (job ∷ j
 pub run_fits : (plan : Plan) → to_come plan.jobs (λ j. begin (get_or plan.jobs j no_job)) + sum_by first_cost (option_to_list plan.link) + 2
     * length (all_files plan) ≤ needed plan
 run_fits plan =
-    let all : sum_by first_cost (plan.jobs ++ option_to_list plan.link) + 2 * length (all_files plan) ≤ needed plan = all_fit 0 (plan.jobs ++ option_to_list plan.link) in
-    let parts : sum_by first_cost (plan.jobs ++ option_to_list plan.link) ≡ sum_by first_cost plan.jobs + sum_by first_cost (option_to_list plan.link) = sum_by-append first_cost plan.jobs (option_to_list plan.link) in
+    let all : sum_by first_cost (plan.jobs ++ option_to_list plan.link) + 2 * length (all_files plan) ≤ needed plan =
+    all_fit 0 (plan.jobs ++ option_to_list plan.link) in
+    let parts : sum_by first_cost (plan.jobs ++ option_to_list plan.link)
+    ≡ sum_by first_cost plan.jobs + sum_by first_cost (option_to_list plan.link) =
+    sum_by-append first_cost plan.jobs (option_to_list plan.link) in
     let sources : to_come plan.jobs (λ j. begin (get_or plan.jobs j no_job)) ≡ sum_by first_cost plan.jobs = sum_is plan.jobs first_cost in
     omega (arith, all, parts, sources)

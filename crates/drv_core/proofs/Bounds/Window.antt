@@ -54,7 +54,11 @@ removal_same p a = by (removal_failed (remove_of a))
 opened_window : (jobs : List Job) (f : Fleet) → (opened jobs f).window ≡ f.window
 opened_window jobs f = by (nat_eq f.current f.next)
   where
-    by : (t : Bool) → (if t then record f { begun = f.begun ++ f.current ∷ []; next = first_busy (f.current + 1) (drop (f.current + 1) jobs) } else f).window ≡ f.window
+    by : (t : Bool) → (if t then record f {
+      begun = f.begun ++ f.current ∷ [];
+      next =
+          first_busy (f.current + 1) (drop (f.current + 1) jobs);
+    } else f).window ≡ f.window
     by true = refl
     by false = refl
 
@@ -76,7 +80,8 @@ moved_window : (plan : Plan) (p : RunState) (s : Step) (a : Answer) → (moved p
 moved_window plan p s a = by p.phase
   where
     by : (q : Phase) → (moved_in q plan (kept p s a) a).fleet.window ≡ p.fleet.window
-    by Sources = ap (λ f. f.window) (flown_same (record (kept p s a) { fleet = taken plan.jobs p.fleet a })).0 ∙ settled_window plan.jobs (worked (get_or plan.jobs p.fleet.current no_job) p.fleet a)
+    by Sources = ap (λ f. f.window) (flown_same (record (kept p s a) { fleet = taken plan.jobs p.fleet a })).0
+        ∙ settled_window plan.jobs (worked (get_or plan.jobs p.fleet.current no_job) p.fleet a)
     by Link = ap (λ f. f.window) (linked_same (record (kept p s a) { link = link_after plan.link p.link a })).0
     by Removals = ap (λ f. f.window) (removal_same (kept p s a) a).0
     by Report = refl

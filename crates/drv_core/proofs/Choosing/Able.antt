@@ -90,7 +90,10 @@ before_next jobs N f blocks keep c k lt = by (left (stage_in f k)) refl
     by_goes m = ap (λ n. nat_eq n 0 && (nat_lt (count (length jobs) (λ j. (has j blocks || nat_eq j k) && left (stage_in f j))) (N + 1)
         && (not (nat_lt 0 (pending (stage_in f k))) || nat_eq (count (length jobs) (λ j. in_flight (of j blocks)))
         (min N (count (length jobs) (λ j. left (stage_in f j))))))) m.in_order
-        ∙ ap (λ (t : Bool). t && (not (nat_lt 0 (pending (stage_in f k))) || nat_eq (count (length jobs) (λ j. in_flight (of j blocks))) (min N (count (length jobs) (λ j. left (stage_in f j)))))) (less (count (length jobs) (λ j. (has j blocks || nat_eq j k) && left (stage_in f j))) (N + 1) (let w = m.in_window in omega (arith, w)))
+        ∙ ap (λ (t : Bool). t && (not (nat_lt 0 (pending (stage_in f k)))
+        || nat_eq (count (length jobs) (λ j. in_flight (of j blocks))) (min N (count (length jobs) (λ j. left (stage_in f j))))))
+        (less (count (length jobs) (λ j. (has j blocks || nat_eq j k) && left (stage_in f j))) (N + 1)
+        (let w = m.in_window in omega (arith, w)))
         ∙ turn (nat_lt 0 (pending (stage_in f k))) (nat_eq (count (length jobs) (λ j. in_flight (of j blocks)))
         (min N (count (length jobs) (λ j. left (stage_in f j)))))
         ∙ ap (λ (t : Bool). t || not (nat_lt 0 (pending (stage_in f k)))) (sym (fly_is jobs N f blocks keep c))
@@ -217,7 +220,8 @@ after_next jobs N f blocks c k lt past = ap (λ (t : Bool). left (stage_in f k) 
 
     none : nat_eq (count k (λ j. not (has j blocks) && left (stage_in f j))) 0 ≡ false
     none =
-        let some : 1 ≤ count k (λ j. not (has j blocks) && left (stage_in f j)) = count_some k f.next (λ j. not (has j blocks) && left (stage_in f j)) past skipped in
+        let some : 1 ≤ count k (λ j. not (has j blocks) && left (stage_in f j)) =
+        count_some k f.next (λ j. not (has j blocks) && left (stage_in f j)) past skipped in
         grind (arith, nat_tests, some)
 
 -- so the two lists are the same
@@ -237,7 +241,8 @@ able_is jobs N f blocks keep c = ap (λ l. l ++ (if may_begin jobs f then f.next
         ∙ sym (listed_up_to (suc f.next) (length jobs) (test jobs N f blocks) (omega (arith, lt))
         (λ j le below. after_next jobs N f blocks c j below (omega (arith, le))))
     by false e =
-        let all : f.next ≡ length jobs = (let le = c.next_within in let ge : length jobs ≤ f.next = is_not_less f.next (length jobs) e in omega (arith, le, ge)) in
+        let all : f.next ≡ length jobs = (let le = c.next_within in let ge : length jobs ≤ f.next = is_not_less f.next (length jobs) e in
+        omega (arith, le, ge)) in
         append-nil (listed f.next (test jobs N f blocks)) ∙ ap (λ n. listed n (test jobs N f blocks)) all
 
 pub able_count : (jobs : List Job) (N : ℕ) (f : Fleet) (blocks : List SourceBlock) → Keeps jobs N (stage_in f) blocks

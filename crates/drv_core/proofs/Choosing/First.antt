@@ -47,7 +47,8 @@ linked_closed p f = by (left p.link.stage)
 left_closed : (p : RunState) (f : Fleet) → between_blocks (sources_left p).phase f ≡ false
 left_closed p f = by (nat_eq p.code 0)
   where
-    by : (t : Bool) → between_blocks (if t then linked (record p { leftovers = record p.leftovers { linked = true } }) else removing_first p).phase f ≡ false
+    by : (t : Bool) → between_blocks (if t then linked (record p { leftovers = record p.leftovers { linked = true } })
+        else removing_first p).phase f ≡ false
     by true = linked_closed (record p { leftovers = record p.leftovers { linked = true } }) f
     by false = first_closed p f
 
@@ -88,7 +89,10 @@ moved_first plan p s a = by p.phase refl
     by Sources is = flown_first plan (record (kept p s a) { fleet = taken plan.jobs p.fleet a })
         (λ e. settled_first plan.jobs (worked (get_or plan.jobs p.fleet.current no_job) p.fleet a)
         (subst (λ q. between_blocks q (taken plan.jobs p.fleet a) ≡ true) is e))
-    by Link is = λ e. absurd (clash (between_blocks (linked (record (kept p s a) { link = link_after plan.link p.link a })).phase (linked (record (kept p s a) { link = link_after plan.link p.link a })).fleet) e (linked_closed (record (kept p s a) { link = link_after plan.link p.link a }) (linked (record (kept p s a) { link = link_after plan.link p.link a })).fleet))
+    by Link is = λ e. absurd (clash (between_blocks (linked (record (kept p s a) { link = link_after plan.link p.link a })).phase
+        (linked (record (kept p s a) { link = link_after plan.link p.link a })).fleet) e
+        (linked_closed (record (kept p s a) { link = link_after plan.link p.link a })
+        (linked (record (kept p s a) { link = link_after plan.link p.link a })).fleet))
     by Removals is = λ e. absurd (clash (between_blocks (removal_made (kept p s a) a).phase (removal_made (kept p s a) a).fleet) e
         (removal_closed (kept p s a) a (removal_made (kept p s a) a).fleet))
     by Report is = λ e. absurd (clash (between_blocks (removing_next (kept p s a)).phase (removing_next (kept p s a)).fleet) e

@@ -104,7 +104,9 @@ counts_closed jobs N f blocks o = by (left (stage_in f f.current)) refl
           ∙ listed_same f.next (λ j. (left (stage_in f j) || nat_eq j f.current) && not (nat_eq j f.current)) (λ j. left (stage_in f j))
           (λ j lt. gone e j (nat_eq j f.current) refl);
       unended_is = (let more : count (length jobs) (λ j. left (stage_in f j) || nat_eq j f.current) ≡ count (length jobs) (λ j. left (stage_in f j)) + 1 = count_with (length jobs) f.current (λ j. left (stage_in f j)) (λ j. left (stage_in f j) || nat_eq j f.current) o.current_in e
-          (ap (λ (t : Bool). left (stage_in f f.current) || t) (nat_eq_equiv.refl f.current) ∙ or_all (left (stage_in f f.current))) (λ j is. ap (λ (t : Bool). left (stage_in f j) || t) is ∙ or_same (left (stage_in f j))) in let all = o.unended_is in omega (arith, more, all));
+          (ap (λ (t : Bool). left (stage_in f f.current) || t) (nat_eq_equiv.refl f.current) ∙ or_all (left (stage_in f f.current)))
+          (λ j is. ap (λ (t : Bool). left (stage_in f j) || t) is ∙ or_same (left (stage_in f j))) in let all = o.unended_is in
+          omega (arith, more, all));
       window_is = o.window_is;
       room_is = o.room_is;
       rooms = o.rooms;
@@ -144,7 +146,13 @@ first_at k (job ∷ js) = by (none job.groups) refl (first_at (k + 1) js)
 
     by : (t : Bool) → none job.groups ≡ t → FirstAt (k + 1) js (first_busy (k + 1) js)
         → FirstAt k (job ∷ js) (if t then first_busy (k + 1) js else k)
-    by true n f = record { least = (let le = f.least in omega (arith, le)); most = (let le = f.most in omega (arith, le)); at = λ i e lt. at_later i f e lt; before = λ i lt. before_later i n f lt }
+    by true n f = record {
+      least = (let le = f.least in omega (arith, le));
+      most = (let le = f.most in omega (arith, le));
+      at =
+          λ i e lt. at_later i f e lt;
+      before = λ i lt. before_later i n f lt;
+    }
     by false n f = record { least = omega arith; most = omega arith; at = λ i e lt. at_here i e n; before = λ i lt. absurd (omega arith) }
 
 some_group : (gs : List (List Command)) → none gs ≡ false → nat_lt 0 (length gs) ≡ true
@@ -178,8 +186,13 @@ pub next_is : (jobs : List Job) (from : ℕ) → from ≤ length jobs → Next j
 next_is jobs from within = record {
   least = f.least;
   most = (let m = f.most in let len = length-drop from jobs in omega (arith, m, len, within));
-  at = λ lt. subst (λ i. none (get_or jobs i no_job).groups ≡ false) (let e : from + (r - from) ≡ r = (let l = f.least in omega (arith, l)) in e) (subst (λ job. none job.groups ≡ false) (get_or-drop from jobs (r - from) no_job) (f.at (r - from) (let l = f.least in omega (arith, l)) (let l = f.least in let len = length-drop from jobs in omega (arith, l, len, lt))));
-  before = λ j le lt. subst (λ i. none (get_or jobs i no_job).groups ≡ true) (let e : from + (j - from) ≡ j = omega (arith, le) in e) (subst (λ job. none job.groups ≡ true) (get_or-drop from jobs (j - from) no_job) (f.before (j - from) (omega (arith, le, lt))));
+  at = λ lt. subst (λ i. none (get_or jobs i no_job).groups ≡ false)
+      (let e : from + (r - from) ≡ r = (let l = f.least in omega (arith, l)) in e)
+      (subst (λ job. none job.groups ≡ false) (get_or-drop from jobs (r - from) no_job)
+      (f.at (r - from) (let l = f.least in omega (arith, l))
+      (let l = f.least in let len = length-drop from jobs in omega (arith, l, len, lt))));
+  before = λ j le lt. subst (λ i. none (get_or jobs i no_job).groups ≡ true) (let e : from + (j - from) ≡ j = omega (arith, le) in e)
+      (subst (λ job. none job.groups ≡ true) (get_or-drop from jobs (j - from) no_job) (f.before (j - from) (omega (arith, le, lt))));
 }
   where
     r : ℕ
@@ -264,7 +277,8 @@ opened_is jobs N f g blocks more w = by (nat_eq g.current g.next) refl
 
         at : (j < g.current) ⊎ (g.current < j) → nat_lt j f.next ≡ nat_lt j r
         at (inl lt) = less j f.next (subst (λ i. j < i) is lt) ∙ sym (less j r (let le = nx.least in omega (arith, le, lt)))
-        at (inr lt) = not_less j f.next (let le : g.current ≤ j = omega (arith, lt) in subst (λ i. i ≤ j) is le) ∙ sym (beyond (nat_lt j r) refl lt)
+        at (inr lt) = not_less j f.next (let le : g.current ≤ j = omega (arith, lt) in subst (λ i. i ≤ j) is le)
+            ∙ sym (beyond (nat_lt j r) refl lt)
 
     begun_first : (r : ℕ) → Next jobs (g.current + 1) r → g.current ≡ f.next
         → g.begun ++ g.current ∷ [] ≡ listed r (λ j. left (stage_in g j) || nat_eq j g.current)
@@ -272,7 +286,8 @@ opened_is jobs N f g blocks more w = by (nat_eq g.current g.next) refl
         ∙ listed_same g.current (λ j. left (stage_in f j)) (λ j. left (stage_in g j) || nat_eq j g.current) (λ j lt. same_was j))
         ∙ sym (listed_next g.current (λ j. left (stage_in g j) || nat_eq j g.current) (ap (λ (t : Bool). left (stage_in g g.current) || t)
         (nat_eq_equiv.refl g.current) ∙ or_all (left (stage_in g g.current))))
-        ∙ sym (listed_up_to (suc g.current) r (λ j. left (stage_in g j) || nat_eq j g.current) (let le = nx.least in omega (arith, le)) (λ j le lt. none_there j (omega (arith, le)) lt))
+        ∙ sym (listed_up_to (suc g.current) r (λ j. left (stage_in g j) || nat_eq j g.current) (let le = nx.least in omega (arith, le))
+        (λ j le lt. none_there j (omega (arith, le)) lt))
       where
         none_there : (j : ℕ) → g.current < j → j < r → (left (stage_in g j) || nat_eq j g.current) ≡ false
         none_there j past lt = ap (λ (t : Bool). left (stage_in g j) || t) (not_same g.current j past) ∙ or_same (left (stage_in g j))
@@ -282,13 +297,15 @@ opened_is jobs N f g blocks more w = by (nat_eq g.current g.next) refl
     unended = w.same_unended ∙ c.unended_is ∙ count_same (length jobs) (λ j. left (stage_in f j))
         (λ j. left (stage_in g j) || nat_eq j g.current) (λ j lt. same_was j)
 
-    first : (r : ℕ) → Next jobs (g.current + 1) r → g.current ≡ f.next → Opened jobs N (record g { begun = g.begun ++ g.current ∷ []; next = r }) more
+    first : (r : ℕ) → Next jobs (g.current + 1) r → g.current ≡ f.next
+        → Opened jobs N (record g { begun = g.begun ++ g.current ∷ []; next = r }) more
     first r nx is = record {
       sizes = w.sizes ∙ c.sizes;
       next_within = nx.most;
       next_left = λ lt. ap (λ s. left s) (w.others r (not_same g.current r past) ∙ c.waiting r (subst (λ i. i < r) is past))
           ∙ begun_next (get_or jobs r no_job) (nx.at lt);
-      waiting = λ j lt. let after_it : g.current < j = omega (arith, past, lt) in w.others j (not_same g.current j after_it) ∙ c.waiting j (subst (λ i. i < j) is after_it);
+      waiting = λ j lt. let after_it : g.current < j = omega (arith, past, lt) in w.others j (not_same g.current j after_it)
+          ∙ c.waiting j (subst (λ i. i < j) is after_it);
       has_is = has_is r past (later_next r nx is);
       begun_is = begun_first r nx is;
       unended_is = unended;
@@ -308,7 +325,8 @@ opened_is jobs N f g blocks more w = by (nat_eq g.current g.next) refl
       next_left = λ below. subst (λ n. left (stage_in g n) ≡ true) (sym w.same_next)
           (ap (λ s. left s) (w.others f.next (not_same g.current f.next lt))
           ∙ c.next_left (subst (λ n. n < length jobs) w.same_next below));
-      waiting = λ j past. let past_next : f.next < j = subst (λ n. n < j) w.same_next past in w.others j (not_same g.current j (omega (arith, lt, past_next))) ∙ c.waiting j past_next;
+      waiting = λ j past. let past_next : f.next < j = subst (λ n. n < j) w.same_next past in
+          w.others j (not_same g.current j (omega (arith, lt, past_next))) ∙ c.waiting j past_next;
       has_is = λ j l. subst (λ n. has j more ≡ nat_lt j n) (sym w.same_next) (has_is f.next lt (λ i e m. refl) j l);
       begun_is = w.same_begun ∙ c.begun_is ∙ listed_same f.next (λ j. left (stage_in f j)) (λ j. left (stage_in g j) || nat_eq j g.current)
           (λ j below. same_was j) ∙ ap (λ n. listed n (λ j. left (stage_in g j) || nat_eq j g.current)) (sym w.same_next);
@@ -319,8 +337,11 @@ opened_is jobs N f g blocks more w = by (nat_eq g.current g.next) refl
       rooms = λ j below. w.rooms j below ∙ c.rooms j below;
     }
 
-    by : (t : Bool) → nat_eq g.current g.next ≡ t → Opened jobs N (if t then record g { begun = g.begun ++ g.current ∷ []; next = first_busy (g.current + 1) (drop (g.current + 1) jobs) } else g) more
-    by true e = first (first_busy (g.current + 1) (drop (g.current + 1) jobs)) (next_is jobs (g.current + 1) (let lt = w.current_in in omega (arith, lt))) (same g.current g.next e ∙ w.same_next)
+    by : (t : Bool) → nat_eq g.current g.next ≡ t → Opened jobs N
+        (if t then record g { begun = g.begun ++ g.current ∷ []; next = first_busy (g.current + 1) (drop (g.current + 1) jobs) } else g)
+        more
+    by true e = first (first_busy (g.current + 1) (drop (g.current + 1) jobs))
+        (next_is jobs (g.current + 1) (let lt = w.current_in in omega (arith, lt))) (same g.current g.next e ∙ w.same_next)
     by false e = again (at (apart_from g.current g.next e))
       where
         at : (g.current < g.next) ⊎ (g.next < g.current) → g.current < f.next
@@ -412,7 +433,8 @@ picks jobs N f blocks some keep c k below more = subst (λ l. Picks jobs N (stag
     old x lt q =
         let l : left (stage_in f x) ≡ true = and_first (left (stage_in f x)) (may_go (all_fly f) f x) q in
         record {
-          may = begun_goes (length jobs) N (λ j. has j blocks) (λ j. left (stage_in f j)) (λ j. in_flight (of j blocks)) (λ j. nat_lt 0 (pending (stage_in f j))) x b (let n = c.next_within in omega (arith, n, lt)) (c.has_is x l ∙ less x f.next lt)
+          may = begun_goes (length jobs) N (λ j. has j blocks) (λ j. left (stage_in f j)) (λ j. in_flight (of j blocks))
+              (λ j. nat_lt 0 (pending (stage_in f j))) x b (let n = c.next_within in omega (arith, n, lt)) (c.has_is x l ∙ less x f.next lt)
               (λ wa. all_is (goes x (awaits (stage_in f x)) refl q (awaits_is (stage_in f x) ∙ wa)));
           more = l;
         }
@@ -449,7 +471,8 @@ picks jobs N f blocks some keep c k below more = subst (λ l. Picks jobs N (stag
         at : (t u : Bool) → nat_lt g.k f.next ≡ t → nat_lt f.next g.k ≡ u → g.k ≡ f.next
         at true u e h = absurd (stuck none g (is_less g.k f.next e))
         at false true e h = absurd (let lt : f.next < g.k = is_less f.next g.k h in
-            let one : 1 ≤ count g.k (λ j. not (has j blocks) && left (stage_in f j)) = count_some g.k f.next (λ j. not (has j blocks) && left (stage_in f j)) lt (skipped lt) in
+            let one : 1 ≤ count g.k (λ j. not (has j blocks) && left (stage_in f j)) =
+            count_some g.k f.next (λ j. not (has j blocks) && left (stage_in f j)) lt (skipped lt) in
             let order : count g.k (λ j. not (has j blocks) && left (stage_in f j)) ≡ 0 = g.may.in_order in
             omega (arith, one, order))
         at false false e h =

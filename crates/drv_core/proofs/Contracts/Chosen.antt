@@ -107,8 +107,11 @@ kth_last : (n : ℕ) (p : ℕ → Bool) (d : ℕ) (l : List ℕ) (i j : ℕ) →
 kth_last n p d [] i zero e many h lt = record { below = omega arith; passes = e; number = many }
 kth_last n p d [] i (suc j) e many h lt = absurd (omega (arith, lt))
 kth_last n p d (x ∷ l) i zero e many h lt = wider n p (i + 0) x (h 0 (omega arith))
-kth_last n p d (x ∷ l) i (suc j) e many h lt = subst (λ m. Kth (suc n) p m (get_or (l ++ n ∷ []) j d)) (let z : suc i + j ≡ i + suc j = omega arith in z)
-    (kth_last n p d l (suc i) j e (omega (arith, many)) (λ m below. subst (λ q. Kth n p q (get_or l m d)) (let z : i + suc m ≡ suc i + m = omega arith in z) (h (suc m) (omega (arith, below)))) (omega (arith, lt)))
+kth_last n p d (x ∷ l) i (suc j) e many h lt = subst (λ m. Kth (suc n) p m (get_or (l ++ n ∷ []) j d))
+    (let z : suc i + j ≡ i + suc j = omega arith in z)
+    (kth_last n p d l (suc i) j e (omega (arith, many))
+    (λ m below. subst (λ q. Kth n p q (get_or l m d)) (let z : i + suc m ≡ suc i + m = omega arith in z)
+    (h (suc m) (omega (arith, below)))) (omega (arith, lt)))
 
 kth : (n : ℕ) (p : ℕ → Bool) (d k : ℕ) → k < length (listed n p) → Kth n p k (get_or (listed n p) k d)
 kth zero p d k lt = absurd (omega arith)
@@ -118,7 +121,8 @@ kth (suc n) p d k lt = by (p n) refl lt (λ m less. kth n p d m less)
         → ((m : ℕ) → m < length (listed n p) → Kth n p m (get_or (listed n p) m d))
         → Kth (suc n) p k (get_or (listed n p ++ (if t then n ∷ [] else [])) k d)
     by true e below h = subst (λ q. Kth (suc n) p q (get_or (listed n p ++ n ∷ []) k d)) (let z : 0 + k ≡ k = omega arith in z)
-        (kth_last n p d (listed n p) 0 k e (let many = listed_count n p in omega (arith, many)) (λ m less. subst (λ q. Kth n p q (get_or (listed n p) m d)) (let z : m ≡ 0 + m = omega arith in z) (h m less)) below)
+        (kth_last n p d (listed n p) 0 k e (let many = listed_count n p in omega (arith, many))
+        (λ m less. subst (λ q. Kth n p q (get_or (listed n p) m d)) (let z : m ≡ 0 + m = omega arith in z) (h m less)) below)
     by false e below h = subst (λ l. Kth (suc n) p k (get_or l k d)) (sym (append-nil (listed n p)))
         (wider n p k (get_or (listed n p) k d) (h k (subst (λ (l : List ℕ). k < length l) (append-nil (listed n p)) below)))
 
@@ -241,7 +245,8 @@ chosen_next plan N p i k lt b = by (where_is plan N p k)
   where
     next_at : (o : IsOpen plan N p) (x : ℕ) → get_or (able plan.jobs p.fleet) i p.fleet.next ≡ x
         → next_of plan (choosing plan p i) ≡ asks x (get_or plan.jobs x no_job) (stage_in p.fleet x)
-    next_at o x is = ap (λ (t : Bool). next_of plan (if t then record p { fleet = selected plan.jobs p.fleet i } else p)) (open_test plan N p o)
+    next_at o x is = ap (λ (t : Bool). next_of plan (if t then record p { fleet = selected plan.jobs p.fleet i } else p))
+        (open_test plan N p o)
         ∙ ap (λ q. asked_in q plan (record p { fleet = selected plan.jobs p.fleet i })) o.phase
         ∙ ap (λ y. asks y (get_or plan.jobs y no_job) (stage_in p.fleet y)) is
 
@@ -252,7 +257,8 @@ chosen_next plan N p i k lt b = by (where_is plan N p k)
       source = x;
       in_range = m.below;
       may = tests x m.below ∙ m.passes;
-      number = count_same x (source_may plan N p.events b) (test plan.jobs N p.fleet o.going.run.blocks) (λ j below. tests j (let all = m.below in omega (arith, all, below))) ∙ m.number;
+      number = count_same x (source_may plan N p.events b) (test plan.jobs N p.fleet o.going.run.blocks)
+          (λ j below. tests j (let all = m.below in omega (arith, all, below))) ∙ m.number;
       step = a.step;
       asks = next_at o x is ∙ a.asks;
       of_source = a.own;
@@ -286,7 +292,8 @@ goes : (n N : ℕ) (begun left flying waits : ℕ → Bool) (k : ℕ) → MayCom
 goes n N begun left flying waits k m more = ap (λ (t : Bool). t && (nat_eq (count k (λ j. not (begun j) && left j)) 0 && window_and_wait))
     more
     ∙ ap (λ c. nat_eq c 0 && window_and_wait) m.in_order
-    ∙ ap (λ (t : Bool). t && wait (waits k)) (less (count n (λ j. (begun j || nat_eq j k) && left j)) (N + 1) (let w = m.in_window in omega (arith, w)))
+    ∙ ap (λ (t : Bool). t && wait (waits k)) (less (count n (λ j. (begun j || nat_eq j k) && left j)) (N + 1)
+    (let w = m.in_window in omega (arith, w)))
     ∙ waited (waits k) m.all_in_flight
   where
     wait : Bool → Bool

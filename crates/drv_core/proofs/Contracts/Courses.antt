@@ -71,7 +71,8 @@ over_holds plan N c filled o = by plan.link refl
 
     runs : (job : Job) → plan.link ≡ Some job → (t : Bool) → nat_eq (run_code c.events) 0 ≡ t
         → Holds plan N (following_sources plan (if t then job else no_job) c)
-    runs job is true e = linking_holds plan N (record c { link = begin job }) job is (link_starts plan N (most_of plan) c.fleet job c.events (filled.link job is) o is e)
+    runs job is true e = linking_holds plan N (record c { link = begin job }) job is
+        (link_starts plan N (most_of plan) c.fleet job c.events (filled.link job is) o is e)
     runs job is false e = quiet (ap (λ l. link_by l (run_code c.events)) is ∙ ap (λ (t : Bool). if t then job else no_job) e)
 
     by : (l : Option Job) → plan.link ≡ l → Holds plan N (following_sources plan (link_by l (run_code c.events)) c)
@@ -80,17 +81,22 @@ over_holds plan N c filled o = by plan.link refl
 
 sourced_holds : (plan : Plan) (N : ℕ) (c : Course) → FilledPlan plan → Sure plan.jobs N (most_of plan) c.fleet c.events ⊎ Over plan.jobs N
     (most_of plan) c.fleet c.events → Holds plan N (sourced plan c)
-sourced_holds plan N c filled (inl s) = subst (λ (t : Bool). Holds plan N (if t then following_sources plan (link_by plan.link (run_code c.events)) c else record c { phase = Sources })) (sym some_left) s
+sourced_holds plan N c filled (inl s) = subst (λ (t : Bool). Holds plan N
+    (if t then following_sources plan (link_by plan.link (run_code c.events)) c else record c { phase = Sources })) (sym some_left) s
   where
     in_range : c.fleet.current < length plan.jobs
     in_range = is_less c.fleet.current (length plan.jobs) s.going.may.is_source
 
     some_left : nat_eq c.fleet.unended 0 ≡ false
     some_left =
-        let one : 1 ≤ count (length plan.jobs) (λ j. left (stage_in c.fleet j)) = count_some (length plan.jobs) c.fleet.current (λ j. left (stage_in c.fleet j)) in_range (ap left (s.going.at c.fleet.current) ∙ s.going.more) in
+        let one : 1 ≤ count (length plan.jobs) (λ j. left (stage_in c.fleet j)) =
+        count_some (length plan.jobs) c.fleet.current (λ j. left (stage_in c.fleet j)) in_range
+        (ap left (s.going.at c.fleet.current) ∙ s.going.more) in
         let is : c.fleet.unended ≡ count (length plan.jobs) (λ j. left (stage_in c.fleet j)) = s.going.counts.unended_is in
         apart_above c.fleet.unended 0 (omega (arith, one, is))
-sourced_holds plan N c filled (inr o) = subst (λ (t : Bool). Holds plan N (if t then following_sources plan (link_by plan.link (run_code c.events)) c else record c { phase = Sources })) (sym (ap (λ n. nat_eq n 0) o.landed.unended_is)) (over_holds plan N c filled o)
+sourced_holds plan N c filled (inr o) = subst (λ (t : Bool). Holds plan N
+    (if t then following_sources plan (link_by plan.link (run_code c.events)) c else record c { phase = Sources }))
+    (sym (ap (λ n. nat_eq n 0) o.landed.unended_is)) (over_holds plan N c filled o)
 
 -- at the beginning
 pub fresh_holds : (plan : Plan) (N : ℕ) → 1 ≤ N → FilledPlan plan → Holds plan N (fresh_course plan N)
@@ -115,17 +121,28 @@ event_with c s t a e = ap (λ x. c.events ++ event x a ∷ []) e
 sources_step : (plan : Plan) (N : ℕ) (c : Course) (s : Step) (a : Answer) → 1 ≤ N → FilledPlan plan
     → Sure plan.jobs N (most_of plan) c.fleet c.events → asked_of plan.jobs c.fleet ≡ Some s → is_kind s a ≡ true
     → Holds plan N (sourced plan (record c { fleet = taken plan.jobs c.fleet a; events = c.events ++ event s a ∷ [] }))
-sources_step plan N c s a some filled h is kind = subst (λ t. Holds plan N (sourced plan (record c { fleet = taken plan.jobs c.fleet a; events = c.events ++ event t a ∷ [] }))) (ap asked is)
-    (sourced_holds plan N (record c { fleet = taken plan.jobs c.fleet a; events = c.events ++ made plan.jobs c.fleet (stage_in c.fleet) a ∷ [] }) filled
+sources_step plan N c s a some filled h is kind = subst
+    (λ t. Holds plan N (sourced plan (record c { fleet = taken plan.jobs c.fleet a; events = c.events ++ event t a ∷ [] }))) (ap asked is)
+    (sourced_holds plan N (record c {
+      fleet = taken plan.jobs c.fleet a;
+      events =
+          c.events ++ made plan.jobs c.fleet (stage_in c.fleet) a ∷ [];
+    }) filled
     (sure_takes plan.jobs N (most_of plan) c.fleet c.events a some filled.jobs h
     (subst (λ t. is_kind t a ≡ true) (sym (ap asked is)) kind)))
 
 link_step : (plan : Plan) (N : ℕ) (c : Course) (s : Step) (a : Answer) → FilledPlan plan → AtLink plan N c
     → asks (length plan.jobs) (link_of plan.link) c.link ≡ Some s → is_kind s a ≡ true
-    → Holds plan N (linking plan (link_of plan.link) (record c { link = after (link_of plan.link) c.link a; events = c.events ++ event s a ∷ [] }))
-link_step plan N c s a filled h is kind = subst (λ j. Holds plan N (linking plan j (record c { link = after j c.link a; events = c.events ++ event s a ∷ [] }))) (sym job_is)
+    → Holds plan N (linking plan (link_of plan.link) (record c
+    { link = after (link_of plan.link) c.link a; events = c.events ++ event s a ∷ [] }))
+link_step plan N c s a filled h is kind = subst (λ j. Holds plan N
+    (linking plan j (record c { link = after j c.link a; events = c.events ++ event s a ∷ [] }))) (sym job_is)
     (subst (λ t. Holds plan N (linking plan h.job (record c { link = after h.job c.link a; events = c.events ++ event t a ∷ [] }))) asks_is
-    (linking_holds plan N (record c { link = after h.job c.link a; events = c.events ++ event (asked (asks (length plan.jobs) h.job c.link)) a ∷ [] }) h.job h.is
+    (linking_holds plan N (record c {
+      link = after h.job c.link a;
+      events =
+          c.events ++ event (asked (asks (length plan.jobs) h.job c.link)) a ∷ [];
+    }) h.job h.is
     (link_takes plan N (most_of plan + first_cost h.job) h.job c.link c.events a (filled.link h.job h.is) h.linked h.more
     (subst (λ t. is_kind t a ≡ true) (sym asks_is) kind))))
   where
@@ -141,7 +158,11 @@ next_is_first : (plan : Plan) (N : ℕ) (failed : Bool) (c : Course) (h : AtEnd 
 next_is_first plan N failed c h = h.due_is ∙ drop_more (end_files plan N h.i failed c.events h.ending) h.i no_file h.some
 
 removal_answered : (plan : Plan) (N : ℕ) (c : Course) (h : AtEnd plan N false c) (x : RemoveAnswer)
-    → Holds plan N (removed (record c { events = c.events ++ event (step.Remove (file_at (end_files plan N h.i false c.events h.ending) h.i).place) (answer.Remove x) ∷ [] }) (answer.Remove x))
+    → Holds plan N (removed (record c {
+      events = c.events
+          ++ event (step.Remove (file_at (end_files plan N h.i false c.events h.ending) h.i).place) (answer.Remove x) ∷ [];
+    })
+    (answer.Remove x))
 removal_answered plan N c h remove.Removed = removal_passes plan N c h remove.Removed refl
 removal_answered plan N c h remove.Missing = removal_passes plan N c h remove.Missing refl
 removal_answered plan N c h remove.NotPlain = removal_passes plan N c h remove.NotPlain refl
@@ -149,24 +170,34 @@ removal_answered plan N c h remove.Failed = removal_fails plan N c h
 
 removal_of_kind : (plan : Plan) (N : ℕ) (c : Course) (h : AtEnd plan N false c) (a : Answer)
     → is_kind (step.Remove (file_at (end_files plan N h.i false c.events h.ending) h.i).place) a ≡ true
-    → Holds plan N (removed (record c { events = c.events ++ event (step.Remove (file_at (end_files plan N h.i false c.events h.ending) h.i).place) a ∷ [] }) a)
+    → Holds plan N (removed (record c {
+      events = c.events
+          ++ event (step.Remove (file_at (end_files plan N h.i false c.events h.ending) h.i).place) a ∷ [];
+    }) a)
 removal_of_kind plan N c h (answer.Remove x) kind = removal_answered plan N c h x
 removal_of_kind plan N c h a kind = absurd (no kind)
 
-removal_step : (plan : Plan) (N : ℕ) (c : Course) (s : Step) (a : Answer) → AtEnd plan N false c → removes c.due ≡ Some s → is_kind s a ≡ true → Holds plan N (removed (record c { events = c.events ++ event s a ∷ [] }) a)
-removal_step plan N c s a h is kind = subst (λ t. Holds plan N (removed (record c { events = c.events ++ event t a ∷ [] }) a)) asks_is (removal_of_kind plan N c h a (subst (λ t. is_kind t a ≡ true) (sym asks_is) kind))
+removal_step : (plan : Plan) (N : ℕ) (c : Course) (s : Step) (a : Answer) → AtEnd plan N false c → removes c.due ≡ Some s
+    → is_kind s a ≡ true → Holds plan N (removed (record c { events = c.events ++ event s a ∷ [] }) a)
+removal_step plan N c s a h is kind = subst (λ t. Holds plan N (removed (record c { events = c.events ++ event t a ∷ [] }) a)) asks_is
+    (removal_of_kind plan N c h a (subst (λ t. is_kind t a ≡ true) (sym asks_is) kind))
   where
     asks_is : step.Remove (file_at (end_files plan N h.i false c.events h.ending) h.i).place ≡ s
     asks_is = ap (λ l. asked (removes l)) (sym (next_is_first plan N false c h)) ∙ ap asked is
 
 report_of_kind : (plan : Plan) (N : ℕ) (c : Course) (h : AtEnd plan N true c) (a : Answer)
     → is_kind (step.Report (note.NotRemoved (file_at (end_files plan N h.i true c.events h.ending) h.i).place)) a ≡ true
-    → Holds plan N (removing (record c { events = c.events ++ event (step.Report (note.NotRemoved (file_at (end_files plan N h.i true c.events h.ending) h.i).place)) a ∷ [] }) (drop 1 c.due))
+    → Holds plan N (removing (record c {
+      events = c.events
+          ++ event (step.Report (note.NotRemoved (file_at (end_files plan N h.i true c.events h.ending) h.i).place)) a ∷ [];
+    }) (drop 1 c.due))
 report_of_kind plan N c h (answer.Reported t) kind = report_passes plan N c h t
 report_of_kind plan N c h a kind = absurd (no kind)
 
-report_step : (plan : Plan) (N : ℕ) (c : Course) (s : Step) (a : Answer) → AtEnd plan N true c → reports c.due ≡ Some s → is_kind s a ≡ true → Holds plan N (removing (record c { events = c.events ++ event s a ∷ [] }) (drop 1 c.due))
-report_step plan N c s a h is kind = subst (λ t. Holds plan N (removing (record c { events = c.events ++ event t a ∷ [] }) (drop 1 c.due))) asks_is (report_of_kind plan N c h a (subst (λ t. is_kind t a ≡ true) (sym asks_is) kind))
+report_step : (plan : Plan) (N : ℕ) (c : Course) (s : Step) (a : Answer) → AtEnd plan N true c → reports c.due ≡ Some s → is_kind s a ≡ true
+    → Holds plan N (removing (record c { events = c.events ++ event s a ∷ [] }) (drop 1 c.due))
+report_step plan N c s a h is kind = subst (λ t. Holds plan N (removing (record c { events = c.events ++ event t a ∷ [] }) (drop 1 c.due)))
+    asks_is (report_of_kind plan N c h a (subst (λ t. is_kind t a ≡ true) (sym asks_is) kind))
   where
     asks_is : step.Report (note.NotRemoved (file_at (end_files plan N h.i true c.events h.ending) h.i).place) ≡ s
     asks_is = ap (λ l. asked (reports l)) (sym (next_is_first plan N true c h)) ∙ ap asked is
@@ -175,7 +206,8 @@ pub steps : (plan : Plan) (N : ℕ) (c : Course) (s : Step) (a : Answer) → 1 �
     → is_kind s a ≡ true → Holds plan N (stepped plan c s a)
 steps plan N c s a some filled h is kind = by c.phase h is
   where
-    by : (p : Phase) → HoldsAt plan N p c → asked_at plan p c ≡ Some s → Holds plan N (stepped_at plan p (record c { events = c.events ++ event s a ∷ [] }) a)
+    by : (p : Phase) → HoldsAt plan N p c → asked_at plan p c ≡ Some s
+        → Holds plan N (stepped_at plan p (record c { events = c.events ++ event s a ∷ [] }) a)
     by Sources held asks_is = sources_step plan N c s a some filled held asks_is kind
     by Link held asks_is = link_step plan N c s a filled held asks_is kind
     by Removals held asks_is = removal_step plan N c s a held asks_is kind
@@ -183,14 +215,16 @@ steps plan N c s a some filled h is kind = by c.phase h is
     by Done held asks_is = absurd (none_asked s asks_is)
 
 -- after the choice of another source
-pub selected_holds : (plan : Plan) (N : ℕ) (c : Course) (k : ℕ) → between_blocks c.phase c.fleet ≡ true → Holds plan N c → k < length (able plan.jobs c.fleet) → Holds plan N (record c { fleet = selected plan.jobs c.fleet k })
+pub selected_holds : (plan : Plan) (N : ℕ) (c : Course) (k : ℕ) → between_blocks c.phase c.fleet ≡ true → Holds plan N c
+    → k < length (able plan.jobs c.fleet) → Holds plan N (record c { fleet = selected plan.jobs c.fleet k })
 selected_holds plan N c k e h lt = by c.phase e h
   where
     out : (t : Bool) → not t ≡ true → t ≡ false
     out true e = absurd (no e)
     out false e = refl
 
-    by : (p : Phase) → between_blocks p c.fleet ≡ true → HoldsAt plan N p c → HoldsAt plan N p (record c { fleet = selected plan.jobs c.fleet k })
+    by : (p : Phase) → between_blocks p c.fleet ≡ true → HoldsAt plan N p c
+        → HoldsAt plan N p (record c { fleet = selected plan.jobs c.fleet k })
     by Sources between held = sure_selected plan.jobs N (most_of plan) c.fleet c.events k held
         (out (inside (stage_in c.fleet c.fleet.current)) between) lt
     by Link between held = absurd (no between)

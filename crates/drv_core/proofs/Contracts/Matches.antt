@@ -83,13 +83,17 @@ pub record Matches (plan : Plan) (room : ℕ) (p : RunState) (c : Course) : Type
 
 -- the files that are still to be removed
 
-to_remove_same : (x : Leftovers) (g gone : List Bool) (at : ℕ) (ls : List Leftover) → to_remove (record x { gone = g; at = at }) gone ls ≡ to_remove x gone ls
+to_remove_same : (x : Leftovers) (g gone : List Bool) (at : ℕ) (ls : List Leftover)
+    → to_remove (record x { gone = g; at = at }) gone ls ≡ to_remove x gone ls
 to_remove_same x g gone at [] = refl
 to_remove_same x g gone at (l ∷ ls) = by (is_due x gone l) (to_remove_same x g (slice_set gone l.first true) at ls)
     (to_remove_same x g gone at ls)
   where
-    by : (t : Bool) → to_remove (record x { gone = g; at = at }) (slice_set gone l.first true) ls ≡ to_remove x (slice_set gone l.first true) ls → to_remove (record x { gone = g; at = at }) gone ls ≡ to_remove x gone ls
-        → (if t then l.place ∷ to_remove (record x { gone = g; at = at }) (slice_set gone l.first true) ls else to_remove (record x { gone = g; at = at }) gone ls) ≡ (if t then l.place ∷ to_remove x (slice_set gone l.first true) ls else to_remove x gone ls)
+    by : (t : Bool) → to_remove (record x { gone = g; at = at }) (slice_set gone l.first true) ls
+        ≡ to_remove x (slice_set gone l.first true) ls → to_remove (record x { gone = g; at = at }) gone ls ≡ to_remove x gone ls
+        → (if t then l.place ∷ to_remove (record x { gone = g; at = at }) (slice_set gone l.first true) ls
+        else to_remove (record x { gone = g; at = at }) gone ls)
+        ≡ (if t then l.place ∷ to_remove x (slice_set gone l.first true) ls else to_remove x gone ls)
     by true a b = ap (λ m. l.place ∷ m) a
     by false a b = b
 
@@ -104,7 +108,9 @@ some_place (f ∷ due) q qs e = refl
 abbrev from_files : RunState → Leftovers → ℕ → RunState
 from_files p x from = shown (record p { leftovers = seeking x from })
 
-removing_matches : (plan : Plan) (room : ℕ) (p : RunState) (x : Leftovers) (from : ℕ) (c : Course) (due : List File) → Alike plan room (record p { leftovers = x }) c → map place_in due ≡ to_remove x x.gone (drop from x.files) → Matches plan room (from_files p x from) (removing c due)
+removing_matches : (plan : Plan) (room : ℕ) (p : RunState) (x : Leftovers) (from : ℕ) (c : Course) (due : List File)
+    → Alike plan room (record p { leftovers = x }) c → map place_in due ≡ to_remove x x.gone (drop from x.files)
+    → Matches plan room (from_files p x from) (removing c due)
 removing_matches plan room p x from c due a is = by (nat_lt (sought x from (drop from x.files)) (length x.files)) refl
   where
     f : Found x (drop from x.files) (sought x from (drop from x.files))
@@ -129,7 +135,9 @@ removing_matches plan room p x from c due a is = by (nat_lt (sought x from (drop
           (sought x from (drop from x.files)) (drop (sought x from (drop from x.files) + 1) x.files)));
     }
 
-    shows : (t u : Bool) → t ≡ u → (t ≡ true → sought x from (drop from x.files) < length x.files) → Matches plan room (record p { leftovers = seeking x from; phase = if t then Removals else Done }) (record c { phase = if not u then Done else Removals; due = due })
+    shows : (t u : Bool) → t ≡ u → (t ≡ true → sought x from (drop from x.files) < length x.files)
+        → Matches plan room (record p { leftovers = seeking x from; phase = if t then Removals else Done })
+        (record c { phase = if not u then Done else Removals; due = due })
     shows true true e h = record { phase = refl; alike = alike Removals; here = some (h refl) }
     shows true false e h = absurd cc
     shows false true e h = absurd cc
@@ -139,15 +147,30 @@ removing_matches plan room p x from c due a is = by (nat_lt (sought x from (drop
     turned true = refl
     turned false = refl
 
-    by : (t : Bool) → nat_lt (sought x from (drop from x.files)) (length x.files) ≡ t → Matches plan room (record p { leftovers = seeking x from; phase = if nat_lt (sought x from (drop from x.files)) (length x.files) then Removals else Done }) (record c { phase = if none due then Done else Removals; due = due })
-    by true e = subst (λ (u : Bool). Matches plan room (record p { leftovers = seeking x from; phase = if nat_lt (sought x from (drop from x.files)) (length x.files) then Removals else Done }) (record c { phase = if u then Done else Removals; due = due })) (turned (none due))
+    by : (t : Bool) → nat_lt (sought x from (drop from x.files)) (length x.files) ≡ t
+        → Matches plan room (record p {
+          leftovers = seeking x from;
+          phase = if nat_lt (sought x from (drop from x.files)) (length x.files)
+              then Removals else Done;
+        }) (record c { phase = if none due then Done else Removals; due = due })
+    by true e = subst (λ (u : Bool). Matches plan room
+        (record p {
+          leftovers = seeking x from;
+          phase = if nat_lt (sought x from (drop from x.files)) (length x.files) then Removals
+              else Done;
+        }) (record c { phase = if u then Done else Removals; due = due })) (turned (none due))
         (shows (nat_lt (sought x from (drop from x.files)) (length x.files)) (not (none due))
         (e ∙ sym (ap not (some_place due (get_or x.files (sought x from (drop from x.files)) no_leftover).place
         (to_remove x (slice_set x.gone (get_or x.files (sought x from (drop from x.files)) no_leftover).first true)
         (drop (sought x from (drop from x.files) + 1) x.files))
         (is ∙ f.due (is_less (sought x from (drop from x.files)) (length x.files) e)))))
         (λ h. is_less (sought x from (drop from x.files)) (length x.files) e))
-    by false e = subst (λ (u : Bool). Matches plan room (record p { leftovers = seeking x from; phase = if nat_lt (sought x from (drop from x.files)) (length x.files) then Removals else Done }) (record c { phase = if u then Done else Removals; due = due })) (turned (none due))
+    by false e = subst (λ (u : Bool). Matches plan room
+        (record p {
+          leftovers = seeking x from;
+          phase = if nat_lt (sought x from (drop from x.files)) (length x.files) then Removals
+              else Done;
+        }) (record c { phase = if u then Done else Removals; due = due })) (turned (none due))
         (shows (nat_lt (sought x from (drop from x.files)) (length x.files)) (not (none due))
         (e ∙ sym (ap not (no_place due (is ∙ f.none_due (is_not_less (sought x from (drop from x.files)) (length x.files) e)))))
         (λ h. is_less (sought x from (drop from x.files)) (length x.files) h))
@@ -162,7 +185,9 @@ first_matches plan room p c job a gone l = removing_matches plan room p p.leftov
 -- after a file
 next_matches : (plan : Plan) (room : ℕ) (p : RunState) (c : Course) → Alike plan room p c → InEnd p.leftovers c.due
     → Matches plan room (removing_next p) (removing c (drop 1 c.due))
-next_matches plan room p c a h = removing_matches plan room p (record p.leftovers { gone = slice_set p.leftovers.gone (get_or p.leftovers.files p.leftovers.at no_leftover).first true }) (p.leftovers.at + 1) c (drop 1 c.due)
+next_matches plan room p c a h = removing_matches plan room p
+    (record p.leftovers { gone = slice_set p.leftovers.gone (get_or p.leftovers.files p.leftovers.at no_leftover).first true })
+    (p.leftovers.at + 1) c (drop 1 c.due)
     (record {
       fleet = a.fleet;
       events = a.events;
@@ -187,9 +212,12 @@ linked_matches : (plan : Plan) (room : ℕ) (p : RunState) (c : Course) → Alik
     → p.link.room ≡ (fresh (link_of plan.link)).room → p.leftovers.linked ≡ true
     → p.leftovers.gone ≡ replicate (length (all_files plan)) false
     → Matches plan room (linked p) (linking plan (link_of plan.link) c)
-linked_matches plan room p c a stage rooms was gone = subst (λ (t : Bool). Matches plan room (if t then record p { phase = Link } else removing_first p) (linking plan (link_of plan.link) c)) (sym (ap left stage)) (by (left c.link))
+linked_matches plan room p c a stage rooms was gone =
+    subst (λ (t : Bool). Matches plan room (if t then record p { phase = Link } else removing_first p) (linking plan (link_of plan.link) c))
+    (sym (ap left stage)) (by (left c.link))
   where
-    by : (t : Bool) → Matches plan room (if t then record p { phase = Link } else removing_first p) (if t then record c { phase = Link } else after_link plan (link_of plan.link) c)
+    by : (t : Bool) → Matches plan room (if t then record p { phase = Link } else removing_first p)
+        (if t then record c { phase = Link } else after_link plan (link_of plan.link) c)
     by true = record {
       phase = refl;
       alike = record {
@@ -219,7 +247,8 @@ flown_matches plan room p c phase a h = subst (λ (t : Bool). Matches plan room 
     not_ran None e = refl
     not_ran (Some job) e = ap (λ (u : Bool). if u then job else no_job) e
 
-    link_alike : Alike plan room (record p { leftovers = record p.leftovers { linked = true } }) (record c { link = begin (link_of plan.link) })
+    link_alike : Alike plan room (record p { leftovers = record p.leftovers { linked = true } })
+        (record c { link = begin (link_of plan.link) })
     link_alike = record {
       fleet = a.fleet;
       events = a.events;
@@ -241,14 +270,22 @@ flown_matches plan room p c phase a h = subst (λ (t : Bool). Matches plan room 
       counted = a.counted;
     }
 
-    left_by : (t : Bool) → nat_eq (run_code c.events) 0 ≡ t → Matches plan room (if t then linked (record p { leftovers = record p.leftovers { linked = true } }) else removing_first p) (following_sources plan (link_by plan.link (run_code c.events)) c)
-    left_by true e = subst (λ job. Matches plan room (linked (record p { leftovers = record p.leftovers { linked = true } })) (following_sources plan job c)) (sym (ran plan.link true e refl))
-        (linked_matches plan room (record p { leftovers = record p.leftovers { linked = true } }) (record c { link = begin (link_of plan.link) }) link_alike (ap (λ w. w.stage) h.link) (ap (λ w. w.room) h.link) refl h.gone)
+    left_by : (t : Bool) → nat_eq (run_code c.events) 0 ≡ t
+        → Matches plan room (if t then linked (record p { leftovers = record p.leftovers { linked = true } }) else removing_first p)
+        (following_sources plan (link_by plan.link (run_code c.events)) c)
+    left_by true e = subst (λ job. Matches plan room (linked (record p { leftovers = record p.leftovers { linked = true } }))
+        (following_sources plan job c)) (sym (ran plan.link true e refl))
+        (linked_matches plan room (record p { leftovers = record p.leftovers { linked = true } })
+        (record c { link = begin (link_of plan.link) }) link_alike (ap (λ w. w.stage) h.link) (ap (λ w. w.room) h.link) refl h.gone)
     left_by false e = subst (λ job. Matches plan room (removing_first p) (following_sources plan job c)) (sym (not_ran plan.link e))
-        (first_matches plan room p (record c { link = Ended }) no_job end_alike h.gone (was_not_run h.linked (a.counted.counts (length plan.jobs) (omega arith) ∙ h.unclaimed)))
+        (first_matches plan room p (record c { link = Ended }) no_job end_alike h.gone
+        (was_not_run h.linked (a.counted.counts (length plan.jobs) (omega arith) ∙ h.unclaimed)))
 
-    by : (t : Bool) → Matches plan room (if t then sources_left p else p) (if t then following_sources plan (link_by plan.link (run_code c.events)) c else record c { phase = Sources })
-    by true = subst (λ (t : Bool). Matches plan room (if t then linked (record p { leftovers = record p.leftovers { linked = true } }) else removing_first p) (following_sources plan (link_by plan.link (run_code c.events)) c)) (sym (ap (λ n. nat_eq n 0) a.code)) (left_by (nat_eq (run_code c.events) 0) refl)
+    by : (t : Bool) → Matches plan room (if t then sources_left p else p)
+        (if t then following_sources plan (link_by plan.link (run_code c.events)) c else record c { phase = Sources })
+    by true = subst (λ (t : Bool). Matches plan room (if t then linked (record p { leftovers = record p.leftovers { linked = true } })
+        else removing_first p) (following_sources plan (link_by plan.link (run_code c.events)) c)) (sym (ap (λ n. nat_eq n 0) a.code))
+        (left_by (nat_eq (run_code c.events) 0) refl)
     by false = record {
       phase = phase;
       alike = record {
@@ -281,7 +318,8 @@ fresh_matches plan N room = flown_matches plan room (first_run plan N room)
   where
     sizes : length {A = ℕ} (replicate (length plan.jobs) 0 ++ 0 ∷ []) ≡ length plan.jobs + 1
     sizes =
-        let len : length {A = ℕ} (replicate (length plan.jobs) 0 ++ 0 ∷ []) ≡ length {A = ℕ} (replicate (length plan.jobs) 0) + 1 = length-append {A = ℕ} (replicate (length plan.jobs) 0) (0 ∷ []) in
+        let len : length {A = ℕ} (replicate (length plan.jobs) 0 ++ 0 ∷ []) ≡ length {A = ℕ} (replicate (length plan.jobs) 0) + 1 =
+        length-append {A = ℕ} (replicate (length plan.jobs) 0) (0 ∷ []) in
         let many : length {A = ℕ} (replicate (length plan.jobs) 0) ≡ length plan.jobs = length-replicate (length plan.jobs) 0 in
         omega (arith, len, many)
 
@@ -292,7 +330,10 @@ fresh_matches plan N room = flown_matches plan room (first_run plan N room)
     in_zeros (x ∷ xs) h (suc k) = in_zeros xs (λ i lt. h (suc i) (omega (arith, lt))) k
 
     nothing : (k : ℕ) → get_or {A = ℕ} (replicate (length plan.jobs) 0 ++ 0 ∷ []) k 0 ≡ 0
-    nothing k = in_zeros (replicate (length plan.jobs) 0) (λ i lt. get_or-replicate (length plan.jobs) i 0 0 (let many : length {A = ℕ} (replicate (length plan.jobs) 0) ≡ length plan.jobs = length-replicate (length plan.jobs) 0 in omega (arith, many, lt))) k
+    nothing k = in_zeros (replicate (length plan.jobs) 0)
+        (λ i lt. get_or-replicate (length plan.jobs) i 0 0
+        (let many : length {A = ℕ} (replicate (length plan.jobs) 0) ≡ length plan.jobs = length-replicate (length plan.jobs) 0 in
+        omega (arith, many, lt))) k
 
 -- both have the same next step
 
@@ -340,7 +381,8 @@ noted : (x : Leftovers) (s : Step) (a : Answer) → Noted x (noting x s a)
 noted x (step.Claim p) a = noted_claim x p a
 noted x s a = record { files = refl; gone = refl; many = refl; linked = refl }
 
-kept_alike : (plan : Plan) (room : ℕ) (p : RunState) (c : Course) (s : Step) (a : Answer) → is_kind s a ≡ true → Alike plan room p c → Alike plan room (kept p s a) (record c { events = c.events ++ event s a ∷ [] })
+kept_alike : (plan : Plan) (room : ℕ) (p : RunState) (c : Course) (s : Step) (a : Answer) → is_kind s a ≡ true → Alike plan room p c
+    → Alike plan room (kept p s a) (record c { events = c.events ++ event s a ∷ [] })
 kept_alike plan room p c s a kind l = record {
   fleet = l.fleet;
   events = ap (λ E. E ++ event s a ∷ []) l.events;
@@ -385,10 +427,15 @@ step_matches plan N room p c s a h m is kind = subst (λ q. Matches plan room (m
         let no = claims_of_other k (length plan.jobs) job t s a (apart k (length plan.jobs) lt) e in
         omega (arith, more, no, none)
 
-    in_sources : InSources plan p c → tally (length plan.jobs) (c.events ++ event s a ∷ []) ≡ 0 → InSources plan (record (kept p s a) { fleet = taken plan.jobs p.fleet a }) (record c { events = c.events ++ event s a ∷ []; fleet = taken plan.jobs c.fleet a })
+    in_sources : InSources plan p c → tally (length plan.jobs) (c.events ++ event s a ∷ []) ≡ 0
+        → InSources plan (record (kept p s a) { fleet = taken plan.jobs p.fleet a })
+        (record c { events = c.events ++ event s a ∷ []; fleet = taken plan.jobs c.fleet a })
     in_sources here none = record { link = here.link; linked = z.linked ∙ here.linked; gone = z.gone ∙ here.gone; unclaimed = none }
 
-    removal_by : (t : Bool) → InEnd (noting p.leftovers s a) c.due → Matches plan room (if t then record (kept p s a) { phase = Report } else removing_next (kept p s a)) (if t then record c { events = c.events ++ event s a ∷ []; phase = Report } else removing (record c { events = c.events ++ event s a ∷ [] }) (drop 1 c.due))
+    removal_by : (t : Bool) → InEnd (noting p.leftovers s a) c.due
+        → Matches plan room (if t then record (kept p s a) { phase = Report } else removing_next (kept p s a))
+        (if t then record c { events = c.events ++ event s a ∷ []; phase = Report }
+        else removing (record c { events = c.events ++ event s a ∷ [] }) (drop 1 c.due))
     removal_by true here = record {
       phase = refl;
       alike = record {
@@ -404,7 +451,8 @@ step_matches plan N room p c s a h m is kind = subst (λ q. Matches plan room (m
     }
     removal_by false here = next_matches plan room (kept p s a) (record c { events = c.events ++ event s a ∷ [] }) l here
 
-    link_alike : Alike plan room (record (kept p s a) { link = link_after plan.link p.link a }) (record c { events = c.events ++ event s a ∷ []; link = after (link_of plan.link) c.link a })
+    link_alike : Alike plan room (record (kept p s a) { link = link_after plan.link p.link a })
+        (record c { events = c.events ++ event s a ∷ []; link = after (link_of plan.link) c.link a })
     link_alike = record {
       fleet = l.fleet;
       events = l.events;
@@ -415,8 +463,10 @@ step_matches plan N room p c s a h m is kind = subst (λ q. Matches plan room (m
       counted = l.counted;
     }
 
-    by : (q : Phase) → p.phase ≡ q → HoldsAt plan N q c → InPhase q plan p c → asked_at plan q c ≡ Some s → Matches plan room (moved_in q plan (kept p s a) a) (stepped_at plan q (record c { events = c.events ++ event s a ∷ [] }) a)
-    by Sources phase held here e = flown_matches plan room (record (kept p s a) { fleet = taken plan.jobs p.fleet a }) (record c { events = c.events ++ event s a ∷ []; fleet = taken plan.jobs c.fleet a }) phase
+    by : (q : Phase) → p.phase ≡ q → HoldsAt plan N q c → InPhase q plan p c → asked_at plan q c ≡ Some s
+        → Matches plan room (moved_in q plan (kept p s a) a) (stepped_at plan q (record c { events = c.events ++ event s a ∷ [] }) a)
+    by Sources phase held here e = flown_matches plan room (record (kept p s a) { fleet = taken plan.jobs p.fleet a })
+        (record c { events = c.events ++ event s a ∷ []; fleet = taken plan.jobs c.fleet a }) phase
         (record {
           fleet = ap (λ f. taken plan.jobs f a) m.alike.fleet;
           events = l.events;
@@ -428,11 +478,13 @@ step_matches plan N room p c s a h m is kind = subst (λ q. Matches plan room (m
         })
         (in_sources here (unclaimed c.fleet.current (get_or plan.jobs c.fleet.current no_job) (stage_in c.fleet c.fleet.current)
         (is_less c.fleet.current (length plan.jobs) held.going.may.is_source) e here.unclaimed))
-    by Link phase held here e = linked_matches plan room (record (kept p s a) { link = link_after plan.link p.link a }) (record c { events = c.events ++ event s a ∷ []; link = after (link_of plan.link) c.link a }) link_alike
+    by Link phase held here e = linked_matches plan room (record (kept p s a) { link = link_after plan.link p.link a })
+        (record c { events = c.events ++ event s a ∷ []; link = after (link_of plan.link) c.link a }) link_alike
         (ap (λ o. (link_after o p.link a).stage) held.is ∙ ap (λ t. after held.job t a) here.stage
         ∙ sym (ap (λ o. after (link_of o) c.link a) held.is))
         (room_after plan.link p.link a ∙ here.room) (z.linked ∙ here.linked) (z.gone ∙ here.gone)
     by Removals phase held here e = removal_by (removal_failed (remove_of a))
         (subst (λ x. InEnd x c.due) (sym (removes_quiet c.due s a p.leftovers e)) here)
-    by Report phase held here e = next_matches plan room (kept p s a) (record c { events = c.events ++ event s a ∷ [] }) l (subst (λ x. InEnd x c.due) (sym (reports_quiet c.due s a p.leftovers e)) here)
+    by Report phase held here e = next_matches plan room (kept p s a) (record c { events = c.events ++ event s a ∷ [] }) l
+        (subst (λ x. InEnd x c.due) (sym (reports_quiet c.due s a p.leftovers e)) here)
     by Done phase held here e = absurd cc

@@ -88,14 +88,16 @@ chosen plan N room p k t lt = by (between_blocks p.phase p.fleet) refl lt
       counted = t.match.alike.counted;
     }
 
-    here : (q : Phase) → between_blocks q t.c.fleet ≡ true → InPhase q plan p t.c → InPhase q plan (record p { fleet = selected plan.jobs p.fleet k }) (record t.c { fleet = selected plan.jobs t.c.fleet k })
+    here : (q : Phase) → between_blocks q t.c.fleet ≡ true → InPhase q plan p t.c
+        → InPhase q plan (record p { fleet = selected plan.jobs p.fleet k }) (record t.c { fleet = selected plan.jobs t.c.fleet k })
     here Sources e h = record { link = h.link; linked = h.linked; gone = h.gone; unclaimed = h.unclaimed }
     here Link e h = absurd cc
     here Removals e h = absurd cc
     here Report e h = absurd cc
     here Done e h = absurd cc
 
-    by : (u : Bool) → between_blocks p.phase p.fleet ≡ u → k < (if u then length (able plan.jobs p.fleet) else 1) → Stands plan N room (if u then record p { fleet = selected plan.jobs p.fleet k } else p)
+    by : (u : Bool) → between_blocks p.phase p.fleet ≡ u → k < (if u then length (able plan.jobs p.fleet) else 1)
+        → Stands plan N room (if u then record p { fleet = selected plan.jobs p.fleet k } else p)
     by true e below = record {
       c = record t.c { fleet = selected plan.jobs t.c.fleet k };
       holds = selected_holds plan N t.c k (b e) t.holds (subst (λ f. k < length (able plan.jobs f)) t.match.alike.fleet below);
@@ -189,7 +191,11 @@ fleet_ready plan N most f c s = record {
       (subst (λ t. Valid (get_or plan.jobs f.current no_job) t) (sym (s.going.at f.current)) (s.going.run.valid f.current))
       (s.going.counts.rooms f.current in_range);
   room = (let many : length f.begun ≡ count (length plan.jobs) (λ j. has j s.going.run.blocks && left (stage_in f j)) = begun_many plan.jobs N f s.going.run.blocks s.going.counts in
-      let same : count (length plan.jobs) (λ j. has j s.going.run.blocks && left (stage_in f j)) ≡ count (length plan.jobs) (λ j. has j s.going.run.blocks && left (bases s.going.st j)) = count_same (length plan.jobs) (λ j. has j s.going.run.blocks && left (stage_in f j)) (λ j. has j s.going.run.blocks && left (bases s.going.st j)) (λ j lt. ap (λ (t : Bool). has j s.going.run.blocks && t) (ap left (s.going.at j) ∙ sym (left_base (s.going.st j)))) in
+      let same : count (length plan.jobs) (λ j. has j s.going.run.blocks && left (stage_in f j))
+      ≡ count (length plan.jobs) (λ j. has j s.going.run.blocks && left (bases s.going.st j)) =
+      count_same (length plan.jobs) (λ j. has j s.going.run.blocks && left (stage_in f j))
+      (λ j. has j s.going.run.blocks && left (bases s.going.st j))
+      (λ j lt. ap (λ (t : Bool). has j s.going.run.blocks && t) (ap left (s.going.at j) ∙ sym (left_base (s.going.st j)))) in
       let few = s.going.run.keep.window in let is = s.going.counts.room_is in omega (arith, many, same, few, is));
 }
   where
@@ -218,7 +224,9 @@ few plan N p k i = by (nat_lt (length plan.jobs) i) refl
 
     by : (u : Bool) → nat_lt (length plan.jobs) i ≡ u → get_or p.leftovers.claimed i 0 ≤ length p.events
     by true e =
-        let z : get_or p.leftovers.claimed i 0 ≡ 0 = get_or_past p.leftovers.claimed i 0 (let len = t.match.alike.counted.sizes in let lt : length plan.jobs < i = is_less (length plan.jobs) i e in omega (arith, len, lt)) in
+        let z : get_or p.leftovers.claimed i 0 ≡ 0 = get_or_past p.leftovers.claimed i 0
+        (let len = t.match.alike.counted.sizes in let lt : length plan.jobs < i = is_less (length plan.jobs) i e in
+        omega (arith, len, lt)) in
         omega (arith, z)
     by false e =
         let is = t.match.alike.counted.counts i (is_not_less (length plan.jobs) i e) in

@@ -99,7 +99,9 @@ pub record Leads (k : ℕ) (job : Job) (bs : List Block) : Type 0 where
 
 pub leads : (fuel : ℕ) (k : ℕ) (job : Job) (bs : List Block) (s : Stage) → Path k job (begin job) bs s → still job s < fuel → Leads k job bs
 leads zero k job bs s p lt = absurd (omega arith)
-leads (suc fuel) k job bs s p lt = by (left s) refl (λ f. leads fuel k job (bs ++ f.b ∷ []) f.m (path_more k job (begin job) bs s f.b f.m p f.one) (let nearer = f.nearer in omega (arith, nearer)))
+leads (suc fuel) k job bs s p lt = by (left s) refl
+    (λ f. leads fuel k job (bs ++ f.b ∷ []) f.m (path_more k job (begin job) bs s f.b f.m p f.one)
+    (let nearer = f.nearer in omega (arith, nearer)))
   where
     by : (t : Bool) → left s ≡ t → ((f : Fails k job s) → Leads k job (bs ++ f.b ∷ [])) → Leads k job bs
     by true e go =

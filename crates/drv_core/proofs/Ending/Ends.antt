@@ -81,7 +81,8 @@ pub removing_holds : (plan : Plan) (N i : ℕ) (c : Course) (due : List File) �
     → length c.events + 2 * (length (end_files plan N i false c.events e) - i) ≤ needed plan → Holds plan N (removing c due)
 removing_holds plan N i c due e is within pipe bound = by due is
   where
-    by : (fs : List File) → fs ≡ drop i (end_files plan N i false c.events e) → HoldsAt plan N (if none fs then Done else Removals) (record c { phase = if none fs then Done else Removals; due = fs })
+    by : (fs : List File) → fs ≡ drop i (end_files plan N i false c.events e)
+        → HoldsAt plan N (if none fs then Done else Removals) (record c { phase = if none fs then Done else Removals; due = fs })
     by [] d = record {
       i = i;
       ending = e;
@@ -104,10 +105,16 @@ few_linked plan job is = sym (ap (λ l. length (files_from 0 (plan.jobs ++ optio
 
 few_unlinked : (plan : Plan) → length (files_from 0 (plan.jobs ++ no_job ∷ [])) ≤ length (all_files plan)
 few_unlinked plan =
-    let a : length (files_from 0 (plan.jobs ++ no_job ∷ [])) ≡ length (files_from 0 plan.jobs ++ files_from (0 + length plan.jobs) (no_job ∷ [])) = ap (λ (l : List File). length l) (files_append 0 plan.jobs (no_job ∷ [])) in
-    let b : length (files_from 0 plan.jobs ++ files_from (0 + length plan.jobs) (no_job ∷ [])) ≡ length (files_from 0 plan.jobs) + 0 = length-append {A = File} (files_from 0 plan.jobs) [] in
-    let c : length (all_files plan) ≡ length (files_from 0 plan.jobs ++ files_from (0 + length plan.jobs) (option_to_list plan.link)) = ap (λ (l : List File). length l) (files_append 0 plan.jobs (option_to_list plan.link)) in
-    let d : length (files_from 0 plan.jobs ++ files_from (0 + length plan.jobs) (option_to_list plan.link)) ≡ length (files_from 0 plan.jobs) + length (files_from (0 + length plan.jobs) (option_to_list plan.link)) = length-append {A = File} (files_from 0 plan.jobs) (files_from (0 + length plan.jobs) (option_to_list plan.link)) in
+    let a : length (files_from 0 (plan.jobs ++ no_job ∷ []))
+    ≡ length (files_from 0 plan.jobs ++ files_from (0 + length plan.jobs) (no_job ∷ [])) =
+    ap (λ (l : List File). length l) (files_append 0 plan.jobs (no_job ∷ [])) in
+    let b : length (files_from 0 plan.jobs ++ files_from (0 + length plan.jobs) (no_job ∷ [])) ≡ length (files_from 0 plan.jobs) + 0 =
+    length-append {A = File} (files_from 0 plan.jobs) [] in
+    let c : length (all_files plan) ≡ length (files_from 0 plan.jobs ++ files_from (0 + length plan.jobs) (option_to_list plan.link)) =
+    ap (λ (l : List File). length l) (files_append 0 plan.jobs (option_to_list plan.link)) in
+    let d : length (files_from 0 plan.jobs ++ files_from (0 + length plan.jobs) (option_to_list plan.link))
+    ≡ length (files_from 0 plan.jobs) + length (files_from (0 + length plan.jobs) (option_to_list plan.link)) =
+    length-append {A = File} (files_from 0 plan.jobs) (files_from (0 + length plan.jobs) (option_to_list plan.link)) in
     omega (arith, a, b, c, d)
 
 -- after the link
@@ -127,11 +134,13 @@ link_ends plan N c job is k = removing_holds plan N 0 c (due_files plan job (λ 
     bound : length c.events + 2 *
         (length (end_files plan N 0 false c.events (end_of_link plan N (most_of plan + first_cost job) job c.events k)) - 0) ≤ needed plan
     bound =
-        let many : length (end_files plan N 0 false c.events (end_of_link plan N (most_of plan + first_cost job) job c.events k)) ≡ length (due_files plan job (λ j. tally j c.events)) = ap (λ (l : List File). length l) files in
+        let many : length (end_files plan N 0 false c.events (end_of_link plan N (most_of plan + first_cost job) job c.events k))
+        ≡ length (due_files plan job (λ j. tally j c.events)) = ap (λ (l : List File). length l) files in
         let few = due_fewer plan job (λ j. tally j c.events) in
         let all = few_linked plan job is in
         let fits = run_fits plan in
-        let cost : sum_by first_cost (option_to_list plan.link) ≡ first_cost job + sum_by first_cost [] = ap (λ l. sum_by first_cost (option_to_list l)) is ∙ sum_by-cons first_cost job [] in
+        let cost : sum_by first_cost (option_to_list plan.link) ≡ first_cost job + sum_by first_cost [] =
+        ap (λ l. sum_by first_cost (option_to_list l)) is ∙ sum_by-cons first_cost job [] in
         let le = k.bound in
         omega (arith, many, few, all, fits, cost, le)
 
@@ -150,7 +159,8 @@ sources_end plan N c o none_runs = removing_holds plan N 0 c (due_files plan no_
     bound : length c.events + 2 *
         (length (end_files plan N 0 false c.events (end_of_sources plan N (most_of plan) c.fleet c.events o none_runs)) - 0) ≤ needed plan
     bound =
-        let many : length (end_files plan N 0 false c.events (end_of_sources plan N (most_of plan) c.fleet c.events o none_runs)) ≡ length (due_files plan no_job (λ j. tally j c.events)) = ap (λ (l : List File). length l) files in
+        let many : length (end_files plan N 0 false c.events (end_of_sources plan N (most_of plan) c.fleet c.events o none_runs))
+        ≡ length (due_files plan no_job (λ j. tally j c.events)) = ap (λ (l : List File). length l) files in
         let few = due_fewer plan no_job (λ j. tally j c.events) in
         let all = few_unlinked plan in
         let fits = run_fits plan in
@@ -188,11 +198,16 @@ quiet_report E n t e = pending_append false E (report n t) ∙ e
 
 -- the file is gone or is kept
 pub removal_passes : (plan : Plan) (N : ℕ) (c : Course) (h : AtEnd plan N false c) (x : RemoveAnswer) → removal_failed x ≡ false
-    → Holds plan N (removing (record c { events = c.events ++ event (step.Remove (file_at (end_files plan N h.i false c.events h.ending) h.i).place) (answer.Remove x) ∷ [] }) (drop 1 c.due))
-removal_passes plan N c h x ok = removing_holds plan N (h.i + 1) (record c { events = c.events ++ event (step.Remove (file_at files h.i).place) (answer.Remove x) ∷ [] }) (drop 1 c.due)
+    → Holds plan N (removing (record c {
+      events = c.events
+          ++ event (step.Remove (file_at (end_files plan N h.i false c.events h.ending) h.i).place) (answer.Remove x) ∷ [];
+    }) (drop 1 c.due))
+removal_passes plan N c h x ok = removing_holds plan N (h.i + 1)
+    (record c { events = c.events ++ event (step.Remove (file_at files h.i).place) (answer.Remove x) ∷ [] }) (drop 1 c.due)
     (with_last plan N h.i (h.i + 1) false false c.events (event (step.Remove (file_at files h.i).place) (answer.Remove x)) h.ending
     (removing_more files h.i h.ending.last x ok h.ending.removing h.some))
-    (rest_due files c.due h.i h.due_is h.some) (let lt = h.some in omega (arith, lt)) (quiet_remove c.events (file_at files h.i).place x h.pipe)
+    (rest_due files c.due h.i h.due_is h.some) (let lt = h.some in omega (arith, lt))
+    (quiet_remove c.events (file_at files h.i).place x h.pipe)
     (let len : length (c.events ++ event (step.Remove (file_at files h.i).place) (answer.Remove x) ∷ []) ≡ length c.events + 1 = length-append {A = RunEvent} c.events (event (step.Remove (file_at files h.i).place) (answer.Remove x) ∷ []) in
     let lt = h.some in let le = h.bound in omega (arith, len, lt, le))
   where
@@ -201,7 +216,12 @@ removal_passes plan N c h x ok = removing_holds plan N (h.i + 1) (record c { eve
 
 -- the removal failed, which is reported
 pub removal_fails : (plan : Plan) (N : ℕ) (c : Course) (h : AtEnd plan N false c)
-    → AtEnd plan N true (record c { phase = Report; events = c.events ++ event (step.Remove (file_at (end_files plan N h.i false c.events h.ending) h.i).place) (answer.Remove remove.Failed) ∷ [] })
+    → AtEnd plan N true (record c {
+      phase = Report;
+      events =
+          c.events ++ event (step.Remove (file_at (end_files plan N h.i false c.events h.ending) h.i).place) (answer.Remove remove.Failed)
+          ∷ [];
+    })
 removal_fails plan N c h = record {
   i = h.i;
   ending = with_last plan N h.i h.i false true c.events
@@ -215,11 +235,16 @@ removal_fails plan N c h = record {
 }
 
 pub report_passes : (plan : Plan) (N : ℕ) (c : Course) (h : AtEnd plan N true c) (t : Bool)
-    → Holds plan N (removing (record c { events = c.events ++ report (note.NotRemoved (file_at (end_files plan N h.i true c.events h.ending) h.i).place) t ∷ [] }) (drop 1 c.due))
-report_passes plan N c h t = removing_holds plan N (h.i + 1) (record c { events = c.events ++ report (note.NotRemoved (file_at files h.i).place) t ∷ [] }) (drop 1 c.due)
+    → Holds plan N (removing (record c {
+      events = c.events
+          ++ report (note.NotRemoved (file_at (end_files plan N h.i true c.events h.ending) h.i).place) t ∷ [];
+    }) (drop 1 c.due))
+report_passes plan N c h t = removing_holds plan N (h.i + 1)
+    (record c { events = c.events ++ report (note.NotRemoved (file_at files h.i).place) t ∷ [] }) (drop 1 c.due)
     (with_last plan N h.i (h.i + 1) true false c.events (report (note.NotRemoved (file_at files h.i).place) t) h.ending
     (removing_told files h.i h.ending.last t h.ending.removing))
-    (rest_due files c.due h.i h.due_is h.some) (let lt = h.some in omega (arith, lt)) (quiet_report c.events (note.NotRemoved (file_at files h.i).place) t h.pipe)
+    (rest_due files c.due h.i h.due_is h.some) (let lt = h.some in omega (arith, lt))
+    (quiet_report c.events (note.NotRemoved (file_at files h.i).place) t h.pipe)
     (let len : length (c.events ++ report (note.NotRemoved (file_at files h.i).place) t ∷ []) ≡ length c.events + 1 = length-append {A = RunEvent} c.events (report (note.NotRemoved (file_at files h.i).place) t ∷ []) in
     let lt = h.some in let le = h.bound in omega (arith, len, lt, le))
   where
@@ -237,7 +262,9 @@ job_there : (plan : Plan) (job : Job) → plan.link ≡ Some job → (j : ℕ) �
 job_there plan job is j = ap (λ l. get_or (plan.jobs ++ option_to_list l) j no_job) is
 
 link_all : (plan : Plan) (job : Job) (claimed : ℕ → ℕ) → plan.link ≡ Some job → AllFiles plan (due_files plan job claimed)
-link_all plan job claimed is = due_all plan job claimed (λ j lt. job_all plan (0 + j) (claimed (0 + j)) (get_or (plan.jobs ++ job ∷ []) j no_job) (ap (λ n. job_at plan n) (let e : 0 + j ≡ j = omega arith in e) ∙ job_there plan job is j))
+link_all plan job claimed is = due_all plan job claimed
+    (λ j lt. job_all plan (0 + j) (claimed (0 + j)) (get_or (plan.jobs ++ job ∷ []) j no_job)
+    (ap (λ n. job_at plan n) (let e : 0 + j ≡ j = omega arith in e) ∙ job_there plan job is j))
 
 padded : (jobs : List Job) (i : ℕ) → length jobs ≤ i → get_or (jobs ++ no_job ∷ []) i no_job ≡ no_job
 padded [] zero le = refl
@@ -253,7 +280,10 @@ no_link_all plan claimed = due_all plan no_job claimed (λ j lt. by j (nat_lt j 
 
     by : (j : ℕ) (t : Bool) → nat_lt j (length plan.jobs) ≡ t
         → AllFiles plan (due_of_job (0 + j) (get_or (plan.jobs ++ no_job ∷ []) j no_job) (claimed (0 + j)))
-    by j true e = job_all plan (0 + j) (claimed (0 + j)) (get_or (plan.jobs ++ no_job ∷ []) j no_job) (ap (λ n. job_at plan n) (let z : 0 + j ≡ j = omega arith in z) ∙ get_or_append_left plan.jobs (option_to_list plan.link) no_job j (is_less j (length plan.jobs) e) ∙ sym (get_or_append_left plan.jobs (no_job ∷ []) no_job j (is_less j (length plan.jobs) e)))
+    by j true e = job_all plan (0 + j) (claimed (0 + j)) (get_or (plan.jobs ++ no_job ∷ []) j no_job)
+        (ap (λ n. job_at plan n) (let z : 0 + j ≡ j = omega arith in z)
+        ∙ get_or_append_left plan.jobs (option_to_list plan.link) no_job j (is_less j (length plan.jobs) e)
+        ∙ sym (get_or_append_left plan.jobs (no_job ∷ []) no_job j (is_less j (length plan.jobs) e)))
     by j false e = subst (λ job. AllFiles plan (due_of_job (0 + j) job (claimed (0 + j))))
         (sym (padded plan.jobs j (is_not_less j (length plan.jobs) e))) (none_due (0 + j) (claimed (0 + j)))
 

@@ -80,7 +80,8 @@ link_takes plan N most job s E a filled k more kind = record {
   sized = sized_after (length plan.jobs) job s a k.alone.valid more kind k.sized;
   pipe = pipe_kept (length plan.jobs) job s a E more kind k.pipe;
   bound = (let less : cost job (after job s a) < cost job s = cost_less (length plan.jobs) job s a k.alone.valid more kind in
-      let len : length (E ++ event (asked (asks (length plan.jobs) job s)) a ∷ []) ≡ length E + 1 = length-append {A = RunEvent} E (event (asked (asks (length plan.jobs) job s)) a ∷ []) in
+      let len : length (E ++ event (asked (asks (length plan.jobs) job s)) a ∷ []) ≡ length E + 1 =
+      length-append {A = RunEvent} E (event (asked (asks (length plan.jobs) job s)) a ∷ []) in
       let le = k.bound in omega (arith, less, len, le));
 }
 
@@ -181,14 +182,18 @@ files_are plan N i failed E e = due_at_end plan (answers e.ran.run.answers e.lin
 
     counted : (j : ℕ) → j < length plan.jobs → tally j (e.sources ++ e.own) ≡ claimed_count (get_or e.ran.run.answers j no_answers).claims
     counted j lt =
-        let front : tally j e.sources ≡ claimed_count (get_or e.ran.run.answers j no_answers).claims = ap (λ l. tally j l) e.ran.events ∙ sources_tally plan.jobs N e.ran.blocks e.ran.run j lt in
-        let back : tally j e.own ≡ 0 = link_tally j ∙ ap (λ (t : Bool). if t then claimed_count e.link.a.claims else 0) (apart_above (length plan.jobs) j lt) in
+        let front : tally j e.sources ≡ claimed_count (get_or e.ran.run.answers j no_answers).claims = ap (λ l. tally j l) e.ran.events
+        ∙ sources_tally plan.jobs N e.ran.blocks e.ran.run j lt in
+        let back : tally j e.own ≡ 0 = link_tally j ∙ ap (λ (t : Bool). if t then claimed_count e.link.a.claims else 0)
+        (apart_above (length plan.jobs) j lt) in
         let all = both j in
         omega (arith, front, back, all)
 
     last : tally (length plan.jobs) (e.sources ++ e.own) ≡ claimed_count e.link.a.claims
     last =
-        let front : tally (length plan.jobs) e.sources ≡ 0 = ap (λ l. tally (length plan.jobs) l) e.ran.events ∙ sources_none plan.jobs N e.ran.blocks e.ran.run (length plan.jobs) (omega arith) in
-        let back : tally (length plan.jobs) e.own ≡ claimed_count e.link.a.claims = link_tally (length plan.jobs) ∙ ap (λ (t : Bool). if t then claimed_count e.link.a.claims else 0) (nat_eq_equiv.refl (length plan.jobs)) in
+        let front : tally (length plan.jobs) e.sources ≡ 0 = ap (λ l. tally (length plan.jobs) l) e.ran.events
+        ∙ sources_none plan.jobs N e.ran.blocks e.ran.run (length plan.jobs) (omega arith) in
+        let back : tally (length plan.jobs) e.own ≡ claimed_count e.link.a.claims = link_tally (length plan.jobs)
+        ∙ ap (λ (t : Bool). if t then claimed_count e.link.a.claims else 0) (nat_eq_equiv.refl (length plan.jobs)) in
         let all = both (length plan.jobs) in
         omega (arith, front, back, all)

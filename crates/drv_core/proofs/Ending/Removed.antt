@@ -36,7 +36,11 @@ known : (x : Leftovers) (i : ℕ) (l : Leftover) (ls : List Leftover)
 known x i l ls f = record { due = f.due; none_due = f.none_due }
 
 pub found : (x : Leftovers) (i : ℕ) (ls : List Leftover) → drop i x.files ≡ ls → Found x ls (sought x i ls)
-found x i [] is = record { due = λ lt. absurd (let len = length-drop i x.files in let none_left : length (drop i x.files) ≡ 0 = ap (λ (l : List Leftover). length l) is in omega (arith, len, none_left, lt)); none_due = λ le. refl }
+found x i [] is = record {
+  due =
+      λ lt. absurd (let len = length-drop i x.files in let none_left : length (drop i x.files) ≡ 0 = ap (λ (l : List Leftover). length l) is in omega (arith, len, none_left, lt));
+  none_due = λ le. refl;
+}
 found x i (l ∷ ls) is = known x i l ls (by (is_due x x.gone l) (found x (i + 1) ls rest))
   where
     within : i < length x.files
@@ -84,9 +88,13 @@ temps_due claimed sources linked k i (t ∷ ts) = by (nat_lt i (get_or claimed k
         (temp_files k (i + 1) ts) else filter (left_file claimed sources linked) (temp_files k (i + 1) ts))
         ≡ take (get_or claimed k 0 - i) (record { place = place.Temp k i; path = t.path } ∷ temp_files k (i + 1) ts)
     by true e ih = ap (λ l. record { place = place.Temp k i; path = t.path } ∷ l) ih
-        ∙ ap (λ n. take n (record { place = place.Temp k i; path = t.path } ∷ temp_files k (i + 1) ts)) (let lt : i < get_or claimed k 0 = is_less i (get_or claimed k 0) e in let m : suc (get_or claimed k 0 - (i + 1)) ≡ get_or claimed k 0 - i = omega (arith, lt) in m)
-    by false e ih = ih ∙ ap (λ n. take n (temp_files k (i + 1) ts)) (let le : get_or claimed k 0 ≤ i = is_not_less i (get_or claimed k 0) e in let z : get_or claimed k 0 - (i + 1) ≡ 0 = omega (arith, le) in z)
-        ∙ ap (λ n. take n (record { place = place.Temp k i; path = t.path } ∷ temp_files k (i + 1) ts)) (let le : get_or claimed k 0 ≤ i = is_not_less i (get_or claimed k 0) e in let z : 0 ≡ get_or claimed k 0 - i = omega (arith, le) in z)
+        ∙ ap (λ n. take n (record { place = place.Temp k i; path = t.path } ∷ temp_files k (i + 1) ts))
+        (let lt : i < get_or claimed k 0 = is_less i (get_or claimed k 0) e in let m : suc (get_or claimed k 0 - (i + 1)) ≡ get_or claimed k 0 - i = omega (arith, lt) in m)
+    by false e ih = ih ∙ ap (λ n. take n (temp_files k (i + 1) ts))
+        (let le : get_or claimed k 0 ≤ i = is_not_less i (get_or claimed k 0) e in let z : get_or claimed k 0 - (i + 1) ≡ 0 = omega (arith, le) in z)
+        ∙ ap (λ n. take n (record { place = place.Temp k i; path = t.path } ∷ temp_files k (i + 1) ts))
+        (let le : get_or claimed k 0 ≤ i = is_not_less i (get_or claimed k 0) e in let z : 0 ≡ get_or claimed k 0 - i = omega (arith, le) in
+            z)
 
 marked_due : (claimed : List ℕ) (sources : ℕ) (linked : Bool) (k i : ℕ) (ms : List (List ℕ))
     → filter (left_file claimed sources linked) (marked_files k i ms) ≡ (if (nat_lt k sources || linked) then marked_files k i ms else [])
@@ -112,7 +120,9 @@ job_due claimed sources linked k job ran = by (none job.groups)
     both : filter (left_file claimed sources linked) (temp_files k 0 job.temps ++ marked_files k 0 job.marked) ≡ take (get_or claimed k 0)
         (temp_files k 0 job.temps) ++ marked_files k 0 job.marked
     both = filter-append (left_file claimed sources linked) (temp_files k 0 job.temps) (marked_files k 0 job.marked)
-        ∙ ap (λ l. l ++ filter (left_file claimed sources linked) (marked_files k 0 job.marked)) (temps_due claimed sources linked k 0 job.temps ∙ ap (λ n. take n (temp_files k 0 job.temps)) (let z : get_or claimed k 0 - 0 ≡ get_or claimed k 0 = omega arith in z))
+        ∙ ap (λ l. l ++ filter (left_file claimed sources linked) (marked_files k 0 job.marked))
+        (temps_due claimed sources linked k 0 job.temps ∙ ap (λ n. take n (temp_files k 0 job.temps))
+        (let z : get_or claimed k 0 - 0 ≡ get_or claimed k 0 = omega arith in z))
         ∙ ap (λ l. take (get_or claimed k 0) (temp_files k 0 job.temps) ++ l) (marked_due claimed sources linked k 0 job.marked
         ∙ ap (λ (t : Bool). if t then marked_files k 0 job.marked else []) ran)
 
@@ -128,7 +138,9 @@ job_not_due claimed sources linked k job ran nothing = by (none job.groups)
   where
     both : filter (left_file claimed sources linked) (temp_files k 0 job.temps ++ marked_files k 0 job.marked) ≡ []
     both = filter-append (left_file claimed sources linked) (temp_files k 0 job.temps) (marked_files k 0 job.marked)
-        ∙ ap (λ l. l ++ filter (left_file claimed sources linked) (marked_files k 0 job.marked)) (temps_due claimed sources linked k 0 job.temps ∙ ap (λ n. take n (temp_files k 0 job.temps)) (let z : get_or claimed k 0 - 0 ≡ 0 = omega (arith, nothing) in z))
+        ∙ ap (λ l. l ++ filter (left_file claimed sources linked) (marked_files k 0 job.marked))
+        (temps_due claimed sources linked k 0 job.temps ∙ ap (λ n. take n (temp_files k 0 job.temps))
+        (let z : get_or claimed k 0 - 0 ≡ 0 = omega (arith, nothing) in z))
         ∙ marked_due claimed sources linked k 0 job.marked ∙ ap (λ (t : Bool). if t then marked_files k 0 job.marked else []) ran
 
     by : (t : Bool) → filter (left_file claimed sources linked) (if t then [] else temp_files k 0 job.temps ++ marked_files k 0 job.marked)

@@ -88,7 +88,9 @@ no_claim_waits k j g i (NotStarted why ∷ xs) ws = refl
 no_claim_waits k j g i (Started id ∷ xs) (w ∷ ws) =
     let rest : tally k (events_of (wait_blocks j g (i + 1) xs ws)) ≡ 0 = no_claim_waits k j g (i + 1) xs ws in
     let told : tally k (wait_report (place.Command j g i) w.answer w.told) ≡ 0 = no_claim_report k (place.Command j g i) w.answer w.told in
-    let all : tally k (wait_block j g i id w ++ events_of (wait_blocks j g (i + 1) xs ws)) ≡ tally k (wait_block j g i id w) + tally k (events_of (wait_blocks j g (i + 1) xs ws)) = total_append (claims_in k) (wait_block j g i id w) (events_of (wait_blocks j g (i + 1) xs ws)) in
+    let all : tally k (wait_block j g i id w ++ events_of (wait_blocks j g (i + 1) xs ws))
+    ≡ tally k (wait_block j g i id w) + tally k (events_of (wait_blocks j g (i + 1) xs ws)) =
+    total_append (claims_in k) (wait_block j g i id w) (events_of (wait_blocks j g (i + 1) xs ws)) in
     omega (arith, rest, told, all)
 
 no_claim_groups : (k j g : ℕ) (cs : List (List Command)) (xs : List GroupAnswers) → tally k (events_of (group_blocks j g cs xs)) ≡ 0
@@ -98,7 +100,10 @@ no_claim_groups k j g (c ∷ cs) (a ∷ xs) =
     let rest : tally k (events_of (group_blocks j (g + 1) cs xs)) ≡ 0 = no_claim_groups k j (g + 1) cs xs in
     let starts : tally k (starts_block j g (length c) 0 a.refused a.starts) ≡ 0 = no_claim_starts k j g (length c) 0 a.refused a.starts in
     let waits : tally k (events_of (wait_blocks j g 0 a.starts a.waits)) ≡ 0 = no_claim_waits k j g 0 a.starts a.waits in
-    let here : tally k (starts_block j g (length c) 0 a.refused a.starts ++ events_of (wait_blocks j g 0 a.starts a.waits)) ≡ tally k (starts_block j g (length c) 0 a.refused a.starts) + tally k (events_of (wait_blocks j g 0 a.starts a.waits)) = total_append (claims_in k) (starts_block j g (length c) 0 a.refused a.starts) (events_of (wait_blocks j g 0 a.starts a.waits)) in
+    let here : tally k (starts_block j g (length c) 0 a.refused a.starts ++ events_of (wait_blocks j g 0 a.starts a.waits))
+    ≡ tally k (starts_block j g (length c) 0 a.refused a.starts) + tally k (events_of (wait_blocks j g 0 a.starts a.waits)) =
+    total_append (claims_in k) (starts_block j g (length c) 0 a.refused a.starts)
+    (events_of (wait_blocks j g 0 a.starts a.waits)) in
     both_append (claims_in k) (starts_block j g (length c) 0 a.refused a.starts ∷ wait_blocks j g 0 a.starts a.waits)
     (group_blocks j (g + 1) cs xs) ∙ omega (arith, rest, starts, waits, here)
 
@@ -115,11 +120,16 @@ no_claim_removals k j i (r ∷ rs) = by (removal_failed r.answer) (no_claim_remo
 pub story_tally : (k j : ℕ) (job : Job) (a : JobAnswers)
     → tally k (events_of (story j job a)) ≡ (if nat_eq j k then claimed_count a.claims else 0)
 story_tally k j job a =
-    let claims : tally k (events_of (claim_blocks j 0 a.claims)) ≡ (if nat_eq j k then claimed_count a.claims else 0) = claims_told k j 0 a.claims in
+    let claims : tally k (events_of (claim_blocks j 0 a.claims)) ≡ (if nat_eq j k then claimed_count a.claims else 0) =
+    claims_told k j 0 a.claims in
     let groups : tally k (events_of (group_blocks j 0 job.groups a.groups)) ≡ 0 = no_claim_groups k j 0 job.groups a.groups in
     let removals : tally k (events_of (own_removals j 0 a.removals)) ≡ 0 = no_claim_removals k j 0 a.removals in
-    let both : tally k (events_of (group_blocks j 0 job.groups a.groups ++ own_removals j 0 a.removals)) ≡ tally k (events_of (group_blocks j 0 job.groups a.groups)) + tally k (events_of (own_removals j 0 a.removals)) = both_append (claims_in k) (group_blocks j 0 job.groups a.groups) (own_removals j 0 a.removals) in
-    let all : tally k (events_of (story j job a)) ≡ tally k (events_of (claim_blocks j 0 a.claims)) + tally k (events_of (group_blocks j 0 job.groups a.groups ++ own_removals j 0 a.removals)) = both_append (claims_in k) (claim_blocks j 0 a.claims) (group_blocks j 0 job.groups a.groups ++ own_removals j 0 a.removals) in
+    let both : tally k (events_of (group_blocks j 0 job.groups a.groups ++ own_removals j 0 a.removals))
+    ≡ tally k (events_of (group_blocks j 0 job.groups a.groups)) + tally k (events_of (own_removals j 0 a.removals)) =
+    both_append (claims_in k) (group_blocks j 0 job.groups a.groups) (own_removals j 0 a.removals) in
+    let all : tally k (events_of (story j job a)) ≡ tally k (events_of (claim_blocks j 0 a.claims)) + tally k
+    (events_of (group_blocks j 0 job.groups a.groups ++ own_removals j 0 a.removals)) =
+    both_append (claims_in k) (claim_blocks j 0 a.claims) (group_blocks j 0 job.groups a.groups ++ own_removals j 0 a.removals) in
     all ∙ (let e : tally k (events_of (claim_blocks j 0 a.claims)) + tally k (events_of (group_blocks j 0 job.groups a.groups ++ own_removals j 0 a.removals)) ≡ tally k (events_of (claim_blocks j 0 a.claims)) = omega (arith, both, groups, removals) in e) ∙ claims
 
 -- in the events of all sources
@@ -159,16 +169,21 @@ pub told_at : (blocks : List SourceBlock) (k : ℕ) (jobs : List Job) (xs : List
 told_at blocks k [] xs w t j lt = absurd (omega arith)
 told_at blocks k (job ∷ jobs) [] w t j lt = absurd cc
 told_at blocks k (job ∷ jobs) (a ∷ xs) w t zero lt = subst (λ n. of n blocks ≡ story n job a) (let e : k ≡ k + 0 = omega arith in e) t.0
-told_at blocks k (job ∷ jobs) (a ∷ xs) w t (suc j) lt = subst (λ n. of n blocks ≡ story n (get_or jobs j no_job) (get_or xs j no_answers)) (let e : k + 1 + j ≡ k + suc j = omega arith in e) (told_at blocks (k + 1) jobs xs (and_second (whole_job job a) (whole_jobs jobs xs) w) t.1 j (omega arith))
+told_at blocks k (job ∷ jobs) (a ∷ xs) w t (suc j) lt =
+    subst (λ n. of n blocks ≡ story n (get_or jobs j no_job) (get_or xs j no_answers)) (let e : k + 1 + j ≡ k + suc j = omega arith in e)
+    (told_at blocks (k + 1) jobs xs (and_second (whole_job job a) (whole_jobs jobs xs) w) t.1 j (omega arith))
 
 summed_only : (n k : ℕ) (c : ℕ → ℕ) → k < n → summed n (λ j. if nat_eq j k then c j else 0) ≡ c k
-summed_only n k c lt = summed_with n k (c k) (λ j. 0) (λ j. if nat_eq j k then c j else 0) lt (ap (λ (t : Bool). if t then c k else 0) (nat_eq_equiv.refl k) ∙ plus (c k)) (λ j e. other j (nat_eq j k) refl e) ∙ (let z : 0 ≡ summed n (λ j. 0) = no_sum n in omega (arith, z))
+summed_only n k c lt = summed_with n k (c k) (λ j. 0) (λ j. if nat_eq j k then c j else 0) lt
+    (ap (λ (t : Bool). if t then c k else 0) (nat_eq_equiv.refl k) ∙ plus (c k)) (λ j e. other j (nat_eq j k) refl e)
+    ∙ (let z : 0 ≡ summed n (λ j. 0) = no_sum n in omega (arith, z))
   where
     plus : (m : ℕ) → m ≡ m + 0
     plus m = omega arith
 
     other : (j : ℕ) (t : Bool) → nat_eq j k ≡ t → nat_eq k j ≡ false → (if t then c j else 0) ≡ 0
-    other j true e h = absurd (let is : j ≡ k = same j k e in let clash : true ≡ false = sym (nat_eq_equiv.refl k) ∙ subst (λ i. nat_eq k i ≡ false) is h in cc)
+    other j true e h = absurd
+        (let is : j ≡ k = same j k e in let clash : true ≡ false = sym (nat_eq_equiv.refl k) ∙ subst (λ i. nat_eq k i ≡ false) is h in cc)
     other j false e h = refl
 
 pub sources_tally : (jobs : List Job) (N : ℕ) (blocks : List SourceBlock) (run : SourcesRun jobs N blocks) (k : ℕ) → k < length jobs
@@ -181,7 +196,9 @@ sources_tally jobs N blocks run k lt = blocks_total (length jobs) (claims_in k) 
   where
     one : (j : ℕ) → j < length jobs
         → tally k (events_of (of j blocks)) ≡ (if nat_eq j k then claimed_count (get_or run.answers j no_answers).claims else 0)
-    one j below = ap (λ l. tally k (events_of l)) (subst (λ n. of n blocks ≡ story n (get_or jobs j no_job) (get_or run.answers j no_answers)) (let e : 0 + j ≡ j = omega arith in e) (told_at blocks 0 jobs run.answers run.all run.stories j below))
+    one j below = ap (λ l. tally k (events_of l)) (subst
+        (λ n. of n blocks ≡ story n (get_or jobs j no_job) (get_or run.answers j no_answers)) (let e : 0 + j ≡ j = omega arith in e)
+        (told_at blocks 0 jobs run.answers run.all run.stories j below))
         ∙ story_tally k j (get_or jobs j no_job) (get_or run.answers j no_answers)
 
 pub sources_none : (jobs : List Job) (N : ℕ) (blocks : List SourceBlock) (run : SourcesRun jobs N blocks) (k : ℕ) → length jobs ≤ k
@@ -191,7 +208,9 @@ sources_none jobs N blocks run k past = blocks_total (length jobs) (claims_in k)
     ∙ summed_same (length jobs) (λ j. tally k (events_of (of j blocks))) (λ j. 0) (λ j below. one j below) ∙ sym (no_sum (length jobs))
   where
     one : (j : ℕ) → j < length jobs → tally k (events_of (of j blocks)) ≡ 0
-    one j below = ap (λ l. tally k (events_of l)) (subst (λ n. of n blocks ≡ story n (get_or jobs j no_job) (get_or run.answers j no_answers)) (let e : 0 + j ≡ j = omega arith in e) (told_at blocks 0 jobs run.answers run.all run.stories j below))
+    one j below = ap (λ l. tally k (events_of l)) (subst
+        (λ n. of n blocks ≡ story n (get_or jobs j no_job) (get_or run.answers j no_answers)) (let e : 0 + j ≡ j = omega arith in e)
+        (told_at blocks 0 jobs run.answers run.all run.stories j below))
         ∙ story_tally k j (get_or jobs j no_job) (get_or run.answers j no_answers)
         ∙ ap (λ (t : Bool). if t then claimed_count (get_or run.answers j no_answers).claims else 0)
         (apart j k (omega (arith, below, past)))
@@ -209,14 +228,17 @@ files_append k [] (x ∷ xs) job a w = absurd cc
 files_append k (j ∷ jobs) [] job a w = absurd cc
 files_append k (j ∷ jobs) (x ∷ xs) job a w = ap (λ l. files_of_job k j x ++ l)
     (files_append (k + 1) jobs xs job a (and_second (whole_job j x) (whole_jobs jobs xs) w))
-    ∙ ap (λ n. files_of_job k j x ++ (files_of_jobs (k + 1) jobs xs ++ files_of_job n job a)) (let e : k + 1 + length jobs ≡ k + length (j ∷ jobs) = omega arith in e)
+    ∙ ap (λ n. files_of_job k j x ++ (files_of_jobs (k + 1) jobs xs ++ files_of_job n job a))
+    (let e : k + 1 + length jobs ≡ k + length (j ∷ jobs) = omega arith in e)
     ∙ sym (append_assoc (files_of_job k j x) (files_of_jobs (k + 1) jobs xs) (files_of_job (k + length (j ∷ jobs)) job a))
 
 pub due_append : (k : ℕ) (jobs : List Job) (job : Job) (claimed : ℕ → ℕ) → due_from k (jobs ++ job ∷ []) claimed ≡ due_from k jobs claimed
     ++ due_of_job (k + length jobs) job (claimed (k + length jobs))
-due_append k [] job claimed = append-nil (due_of_job k job (claimed k)) ∙ ap (λ n. due_of_job n job (claimed n)) (let e : k ≡ k + 0 = omega arith in e)
+due_append k [] job claimed = append-nil (due_of_job k job (claimed k))
+    ∙ ap (λ n. due_of_job n job (claimed n)) (let e : k ≡ k + 0 = omega arith in e)
 due_append k (j ∷ jobs) job claimed = ap (λ l. due_of_job k j (claimed k) ++ l) (due_append (k + 1) jobs job claimed)
-    ∙ ap (λ n. due_of_job k j (claimed k) ++ (due_from (k + 1) jobs claimed ++ due_of_job n job (claimed n))) (let e : k + 1 + length jobs ≡ k + length (j ∷ jobs) = omega arith in e)
+    ∙ ap (λ n. due_of_job k j (claimed k) ++ (due_from (k + 1) jobs claimed ++ due_of_job n job (claimed n)))
+    (let e : k + 1 + length jobs ≡ k + length (j ∷ jobs) = omega arith in e)
     ∙ sym (append_assoc (due_of_job k j (claimed k)) (due_from (k + 1) jobs claimed)
     (due_of_job (k + length (j ∷ jobs)) job (claimed (k + length (j ∷ jobs)))))
 
@@ -227,10 +249,13 @@ due_sources k [] [] claimed w counts = refl
 due_sources k [] (x ∷ xs) claimed w counts = absurd cc
 due_sources k (job ∷ jobs) [] claimed w counts = absurd cc
 due_sources k (job ∷ jobs) (a ∷ xs) claimed w counts =
-    let first : claimed k ≡ claimed_count a.claims = subst (λ n. claimed n ≡ claimed_count a.claims) (let e : k + 0 ≡ k = omega arith in e) (counts 0 (omega arith)) in
+    let first : claimed k ≡ claimed_count a.claims = subst (λ n. claimed n ≡ claimed_count a.claims) (let e : k + 0 ≡ k = omega arith in e)
+    (counts 0 (omega arith)) in
     ap (λ l. l ++ files_of_jobs (k + 1) jobs xs) (due_is k job a (and_first (whole_job job a) (whole_jobs jobs xs) w)
     ∙ ap (λ n. due_of_job k job n) (sym first))
-    ∙ ap (λ l. due_of_job k job (claimed k) ++ l) (due_sources (k + 1) jobs xs claimed (and_second (whole_job job a) (whole_jobs jobs xs) w) (λ j lt. subst (λ n. claimed n ≡ claimed_count (get_or xs j no_answers).claims) (let e : k + suc j ≡ k + 1 + j = omega arith in e) (counts (suc j) (omega arith))))
+    ∙ ap (λ l. due_of_job k job (claimed k) ++ l) (due_sources (k + 1) jobs xs claimed (and_second (whole_job job a) (whole_jobs jobs xs) w)
+    (λ j lt. subst (λ n. claimed n ≡ claimed_count (get_or xs j no_answers).claims) (let e : k + suc j ≡ k + 1 + j = omega arith in e)
+    (counts (suc j) (omega arith))))
 
 -- the files that are removed at the end
 pub due_at_end : (plan : Plan) (o : Answers) (claimed : ℕ → ℕ) → whole_jobs plan.jobs o.jobs ≡ true
@@ -240,7 +265,12 @@ pub due_at_end : (plan : Plan) (o : Answers) (claimed : ℕ → ℕ) → whole_j
     → removed_at_end plan o ≡ due_files plan (link_run plan.link o.jobs) claimed
 due_at_end plan o claimed w l counts last = ap (λ fs. each_once [] fs) (
     files_append 0 plan.jobs o.jobs (link_run plan.link o.jobs) o.link w
-    ∙ ap (λ fs. fs ++ files_of_job (0 + length plan.jobs) (link_run plan.link o.jobs) o.link) (due_sources 0 plan.jobs o.jobs claimed w (λ j lt. subst (λ n. claimed n ≡ claimed_count (get_or o.jobs j no_answers).claims) (let e : j ≡ 0 + j = omega arith in e) (counts j lt)))
-    ∙ ap (λ fs. due_from 0 plan.jobs claimed ++ fs) (due_is (0 + length plan.jobs) (link_run plan.link o.jobs) o.link l ∙ ap (λ n. due_of_job (0 + length plan.jobs) (link_run plan.link o.jobs) n) (sym (subst (λ n. claimed n ≡ claimed_count o.link.claims) (let e : length plan.jobs ≡ 0 + length plan.jobs = omega arith in e) last)))
+    ∙ ap (λ fs. fs ++ files_of_job (0 + length plan.jobs) (link_run plan.link o.jobs) o.link)
+    (due_sources 0 plan.jobs o.jobs claimed w (λ j lt. subst (λ n. claimed n ≡ claimed_count (get_or o.jobs j no_answers).claims)
+    (let e : j ≡ 0 + j = omega arith in e) (counts j lt)))
+    ∙ ap (λ fs. due_from 0 plan.jobs claimed ++ fs) (due_is (0 + length plan.jobs) (link_run plan.link o.jobs) o.link l
+    ∙ ap (λ n. due_of_job (0 + length plan.jobs) (link_run plan.link o.jobs) n)
+    (sym (subst (λ n. claimed n ≡ claimed_count o.link.claims)
+    (let e : length plan.jobs ≡ 0 + length plan.jobs = omega arith in e) last)))
     ∙ sym (due_append 0 plan.jobs (link_run plan.link o.jobs) claimed)
     )

@@ -77,8 +77,10 @@ is_may_come n N before later k wait e = record {
 all_come : (n N : ℕ) (before blocks : List SourceBlock) → all_may_come n N before blocks ≡ true → AllMayCome n N nowhere before blocks
 all_come n N before [] e = tt
 all_come n N before (b ∷ after) e = (
-  is_may_come n N before (b ∷ after) b.source (is_wait b.block) (and_first (may_come n N before (b ∷ after) b.source (is_wait b.block)) (all_may_come n N (before ++ b ∷ []) after) e),
-  all_come n N (before ++ b ∷ []) after (and_second (may_come n N before (b ∷ after) b.source (is_wait b.block)) (all_may_come n N (before ++ b ∷ []) after) e),
+  is_may_come n N before (b ∷ after) b.source (is_wait b.block)
+      (and_first (may_come n N before (b ∷ after) b.source (is_wait b.block)) (all_may_come n N (before ++ b ∷ []) after) e),
+  all_come n N (before ++ b ∷ []) after (and_second (may_come n N before (b ∷ after) b.source (is_wait b.block))
+      (all_may_come n N (before ++ b ∷ []) after) e),
 )
 
 -- the blocks of the stories in the order that `order` gives, which names a source for each block

@@ -66,7 +66,8 @@ all_is xs = ap not (any_code job_failed job_code job_is xs) ∙ twice (nat_eq (g
 pub sources_code : (jobs : List Job) (N : ℕ) (blocks : List SourceBlock) (run : SourcesRun jobs N blocks)
     → run_code (events_of (blocks_of blocks)) ≡ greatest job_code run.answers
 sources_code jobs N blocks run = code_blocks (length jobs) blocks (all_below (length jobs) N nowhere [] blocks run.may_come)
-    ∙ top_same (length jobs) (λ j. run_code (events_of (of j blocks))) (λ j. run_code (events_of (of (0 + j) blocks))) (λ j lt. ap (λ i. run_code (events_of (of i blocks))) (let at : j ≡ 0 + j = omega arith in at))
+    ∙ top_same (length jobs) (λ j. run_code (events_of (of j blocks))) (λ j. run_code (events_of (of (0 + j) blocks)))
+    (λ j lt. ap (λ i. run_code (events_of (of i blocks))) (let at : j ≡ 0 + j = omega arith in at))
     ∙ code_stories blocks 0 jobs run.answers run.all run.stories
 
 pub succeeded_is : (jobs : List Job) (N : ℕ) (E : List RunEvent) (ran : Ran jobs N E)

@@ -70,7 +70,12 @@ due_is k job a e = by (none job.groups) refl e
     by true n h = quiet (and_first (none a.claims) (none a.groups) (and_first (none a.claims && none a.groups) (none a.removals) h))
         (and_second (none a.claims) (none a.groups) (and_first (none a.claims && none a.groups) (none a.removals) h))
     by false n h =
-        let both : (whole_claims job.temps a.claims && (if claims_failed a then none a.groups else whole_groups job.groups a.groups)) ≡ true = and_first (whole_claims job.temps a.claims && (if claims_failed a then none a.groups else whole_groups job.groups a.groups)) (nat_eq (length a.removals) (length (removed_by_job job a))) h in
-        let claims : whole_claims job.temps a.claims ≡ true = and_first (whole_claims job.temps a.claims) (if claims_failed a then none a.groups else whole_groups job.groups a.groups) both in
+        let both : (whole_claims job.temps a.claims && (if claims_failed a then none a.groups else whole_groups job.groups a.groups))
+        ≡ true = and_first (whole_claims job.temps a.claims
+        && (if claims_failed a then none a.groups else whole_groups job.groups a.groups))
+        (nat_eq (length a.removals) (length (removed_by_job job a))) h in
+        let claims : whole_claims job.temps a.claims ≡ true =
+        and_first (whole_claims job.temps a.claims) (if claims_failed a then none a.groups else whole_groups job.groups a.groups)
+        both in
         loud (makes_call job a.claims a.groups n claims (and_second (whole_claims job.temps a.claims)
         (if claims_failed a then none a.groups else whole_groups job.groups a.groups) both)) claims

@@ -58,10 +58,12 @@ pub job_all : (plan : Plan) (k claimed : ℕ) (job : Job) → job_at plan k ≡ 
 job_all plan k claimed job is = by (none job.groups)
   where
     temps : AllFiles plan (temp_files k 0 job.temps)
-    temps = temps_all plan k 0 job.temps (let e : length (job_at plan k).temps ≡ length job.temps = ap (λ j. length j.temps) is in omega (arith, e))
+    temps = temps_all plan k 0 job.temps (let e : length (job_at plan k).temps ≡ length job.temps = ap (λ j. length j.temps) is in
+        omega (arith, e))
 
     marked : AllFiles plan (marked_files k 0 job.marked)
-    marked = marked_all plan k 0 job.marked (let e : length (job_at plan k).marked ≡ length job.marked = ap (λ j. length j.marked) is in omega (arith, e))
+    marked = marked_all plan k 0 job.marked (let e : length (job_at plan k).marked ≡ length job.marked = ap (λ j. length j.marked) is in
+        omega (arith, e))
 
     by : (t : Bool) → AllFiles plan (if t then [] else take claimed (temp_files k 0 job.temps) ++ marked_files k 0 job.marked)
     by true = tt
@@ -74,7 +76,8 @@ jobs_all : (plan : Plan) (k : ℕ) (jobs : List Job) (claimed : ℕ → ℕ)
 jobs_all plan k [] claimed each = tt
 jobs_all plan k (job ∷ jobs) claimed each = all_both plan (due_of_job k job (claimed k)) (due_from (k + 1) jobs claimed)
     (subst (λ n. AllFiles plan (due_of_job n job (claimed n))) (let e : k + 0 ≡ k = omega arith in e) (each 0 (omega arith)))
-    (jobs_all plan (k + 1) jobs claimed (λ j lt. subst (λ n. AllFiles plan (due_of_job n (get_or jobs j no_job) (claimed n))) (let e : k + suc j ≡ k + 1 + j = omega arith in e) (each (suc j) (omega arith))))
+    (jobs_all plan (k + 1) jobs claimed (λ j lt. subst (λ n. AllFiles plan (due_of_job n (get_or jobs j no_job) (claimed n)))
+    (let e : k + suc j ≡ k + 1 + j = omega arith in e) (each (suc j) (omega arith))))
 
 -- no more than those
 
@@ -99,16 +102,23 @@ job_fewer k claimed job = by (none job.groups)
         (if t then [] else temp_files k 0 job.temps ++ marked_files k 0 job.marked)
     by true = omega arith
     by false =
-        let a : length (take claimed (temp_files k 0 job.temps) ++ marked_files k 0 job.marked) ≡ length (take claimed (temp_files k 0 job.temps)) + length (marked_files k 0 job.marked) = length-append {A = File} (take claimed (temp_files k 0 job.temps)) (marked_files k 0 job.marked) in
-        let b : length (temp_files k 0 job.temps ++ marked_files k 0 job.marked) ≡ length (temp_files k 0 job.temps) + length (marked_files k 0 job.marked) = length-append {A = File} (temp_files k 0 job.temps) (marked_files k 0 job.marked) in
+        let a : length (take claimed (temp_files k 0 job.temps) ++ marked_files k 0 job.marked)
+        ≡ length (take claimed (temp_files k 0 job.temps)) + length (marked_files k 0 job.marked) =
+        length-append {A = File} (take claimed (temp_files k 0 job.temps)) (marked_files k 0 job.marked) in
+        let b : length (temp_files k 0 job.temps ++ marked_files k 0 job.marked)
+        ≡ length (temp_files k 0 job.temps) + length (marked_files k 0 job.marked) =
+        length-append {A = File} (temp_files k 0 job.temps) (marked_files k 0 job.marked) in
         let le = taken_fewer claimed (temp_files k 0 job.temps) in
         omega (arith, a, b, le)
 
 pub from_fewer : (k : ℕ) (jobs : List Job) (claimed : ℕ → ℕ) → length (due_from k jobs claimed) ≤ length (files_from k jobs)
 from_fewer k [] claimed = omega arith
 from_fewer k (job ∷ jobs) claimed =
-    let a : length (due_of_job k job (claimed k) ++ due_from (k + 1) jobs claimed) ≡ length (due_of_job k job (claimed k)) + length (due_from (k + 1) jobs claimed) = length-append {A = File} (due_of_job k job (claimed k)) (due_from (k + 1) jobs claimed) in
-    let b : length (job_files k job ++ files_from (k + 1) jobs) ≡ length (job_files k job) + length (files_from (k + 1) jobs) = length-append {A = File} (job_files k job) (files_from (k + 1) jobs) in
+    let a : length (due_of_job k job (claimed k) ++ due_from (k + 1) jobs claimed)
+    ≡ length (due_of_job k job (claimed k)) + length (due_from (k + 1) jobs claimed) =
+    length-append {A = File} (due_of_job k job (claimed k)) (due_from (k + 1) jobs claimed) in
+    let b : length (job_files k job ++ files_from (k + 1) jobs) ≡ length (job_files k job) + length (files_from (k + 1) jobs) =
+    length-append {A = File} (job_files k job) (files_from (k + 1) jobs) in
     let here = job_fewer k (claimed k) job in
     let rest = from_fewer (k + 1) jobs claimed in
     omega (arith, a, b, here, rest)
@@ -116,7 +126,8 @@ from_fewer k (job ∷ jobs) claimed =
 pub due_fewer : (plan : Plan) (job : Job) (claimed : ℕ → ℕ)
     → length (due_files plan job claimed) ≤ length (files_from 0 (plan.jobs ++ job ∷ []))
 due_fewer plan job claimed =
-    let once : length (each_once [] (due_from 0 (plan.jobs ++ job ∷ []) claimed)) ≤ length (due_from 0 (plan.jobs ++ job ∷ []) claimed) = once_fewer [] (due_from 0 (plan.jobs ++ job ∷ []) claimed) in
+    let once : length (each_once [] (due_from 0 (plan.jobs ++ job ∷ []) claimed)) ≤ length (due_from 0 (plan.jobs ++ job ∷ []) claimed) =
+    once_fewer [] (due_from 0 (plan.jobs ++ job ∷ []) claimed) in
     let from = from_fewer 0 (plan.jobs ++ job ∷ []) claimed in
     omega (arith, once, from)
 

@@ -123,7 +123,8 @@ own_codes j (e ∷ E) a = by (is_work_of j e.step) refl a.0 (own_codes j E a.1)
         → greatest (λ c. c) ((if t then answer_code e.answer ∷ [] else []) ++ codes_in j E) ≡ max (answer_code e.answer) (run_code E)
     by true is at rest = ap (λ n. max (answer_code e.answer) n) rest
     by false is (inl work) rest = absurd (let clash : true ≡ false = sym work ∙ is in cc)
-    by false is (inr none) rest = rest ∙ (let z : run_code E ≡ max 0 (run_code E) = omega arith in z) ∙ ap (λ n. max n (run_code E)) (sym none.1)
+    by false is (inr none) rest = rest ∙ (let z : run_code E ≡ max 0 (run_code E) = omega arith in z)
+        ∙ ap (λ n. max n (run_code E)) (sym none.1)
 
 away : (j k : ℕ) (s : Step) → nat_eq j k ≡ false → is_work_of j s ≡ true → is_work_of k s ≡ false
 away j k (step.Claim p) other e = ap (λ i. nat_eq i k) (same (job_of p) j e) ∙ other
@@ -148,7 +149,8 @@ pub fails_where : (plan : Plan) (N : ℕ) (o : Answers) (E : List RunEvent) → 
 fails_where plan N o E w k lt = job_is (get_or o.jobs k no_answers) ∙ ap (λ n. not (nat_eq n 0)) (sym codes_are)
   where
     told : of k w.blocks ≡ story k (get_or plan.jobs k no_job) (get_or o.jobs k no_answers)
-    told = subst (λ i. of i w.blocks ≡ story i (get_or plan.jobs k no_job) (get_or o.jobs k no_answers)) (let at : 0 + k ≡ k = omega arith in at) (told_at w.blocks 0 plan.jobs o.jobs (jobs_whole plan N o E w) w.stories k lt)
+    told = subst (λ i. of i w.blocks ≡ story i (get_or plan.jobs k no_job) (get_or o.jobs k no_answers))
+        (let at : 0 + k ≡ k = omega arith in at) (told_at w.blocks 0 plan.jobs o.jobs (jobs_whole plan N o E w) w.stories k lt)
 
     after : codes_in k (events_of (after_sources plan o)) ≡ []
     after = two_lists (work_code k) (story (length plan.jobs) (link_run plan.link o.jobs) o.link)

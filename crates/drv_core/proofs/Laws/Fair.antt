@@ -46,21 +46,34 @@ fair_at s w (x ∷ xs) b ys f e = rw (total_append starts_child x (events_of xs)
 -- one more block
 
 fair_quiet : (s w : ℕ) (b : Block) (bs : List Block) → total starts_child b ≡ 0 → total waits_child b ≡ 0 → Fair s w bs → Fair s w (b ∷ bs)
-fair_quiet s w b bs no_start no_wait f = (by, rw (no_start, no_wait) (subst (λ n. Fair n (w + 0) bs) (let e : s ≡ s + 0 = omega arith in e) (subst (λ n. Fair s n bs) (let e : w ≡ w + 0 = omega arith in e) f)))
+fair_quiet s w b bs no_start no_wait f = (
+  by,
+  rw (no_start, no_wait)
+      (subst (λ n. Fair n (w + 0) bs) (let e : s ≡ s + 0 = omega arith in e)
+      (subst (λ n. Fair s n bs) (let e : w ≡ w + 0 = omega arith in e) f)),
+)
   where
     by : nat_lt 0 (total waits_child b) ≡ true → w < s
     by e = absurd (let none_here : nat_lt 0 0 ≡ true = rw no_wait at e in cc)
 
 fair_starts : (s w n : ℕ) (b : Block) (bs : List Block) → total starts_child b ≡ n → total waits_child b ≡ 0 → Fair (s + n) w bs
     → Fair s w (b ∷ bs)
-fair_starts s w n b bs starts no_wait f = (by, rw (starts, no_wait) (subst (λ m. Fair (s + n) m bs) (let e : w ≡ w + 0 = omega arith in e) f))
+fair_starts s w n b bs starts no_wait f = (
+  by,
+  rw (starts, no_wait)
+      (subst (λ m. Fair (s + n) m bs) (let e : w ≡ w + 0 = omega arith in e) f),
+)
   where
     by : nat_lt 0 (total waits_child b) ≡ true → w < s
     by e = absurd (let none_here : nat_lt 0 0 ≡ true = rw no_wait at e in cc)
 
 fair_wait : (s w : ℕ) (b : Block) (bs : List Block) → w < s → total starts_child b ≡ 0 → total waits_child b ≡ 1 → Fair s (w + 1) bs
     → Fair s w (b ∷ bs)
-fair_wait s w b bs lt no_start one f = (λ e. lt, rw (no_start, one) (subst (λ n. Fair n (w + 1) bs) (let e : s ≡ s + 0 = omega arith in e) f))
+fair_wait s w b bs lt no_start one f = (
+  λ e. lt,
+  rw (no_start, one)
+      (subst (λ n. Fair n (w + 1) bs) (let e : s ≡ s + 0 = omega arith in e) f),
+)
 
 -- claims and removals
 
@@ -174,8 +187,10 @@ fair_groups s k g [] [] rest e f = f s
 fair_groups s k g [] (x ∷ xs) rest e f = absurd cc
 fair_groups s k g (c ∷ cs) [] rest e f = absurd cc
 fair_groups s k g (c ∷ cs) (x ∷ xs) rest e f =
-    let this : whole_group c x.starts x.waits ≡ true = and_first (whole_group c x.starts x.waits) (if group_failed x then none xs else whole_groups cs xs) e in
-    let others : (if group_failed x then none xs else whole_groups cs xs) ≡ true = and_second (whole_group c x.starts x.waits) (if group_failed x then none xs else whole_groups cs xs) e in
+    let this : whole_group c x.starts x.waits ≡ true =
+    and_first (whole_group c x.starts x.waits) (if group_failed x then none xs else whole_groups cs xs) e in
+    let others : (if group_failed x then none xs else whole_groups cs xs) ≡ true =
+    and_second (whole_group c x.starts x.waits) (if group_failed x then none xs else whole_groups cs xs) e in
     fair_starts s s (children x.starts) (starts_block k g (length c) 0 x.refused x.starts)
     ((wait_blocks k g 0 x.starts x.waits ++ group_blocks k (g + 1) cs xs) ++ rest) (starts_total k g (length c) 0 x.refused c x.starts
     x.waits this) (starts_wait k g (length c) 0 x.refused x.starts)
@@ -219,7 +234,9 @@ fair_story k job a e = by (none job.groups) e
         (nat_eq (length a.removals) (length (removed_by_job job a))) h)))
 
 pub settled : (bs : List Block) → Fair 0 0 bs → in_flight bs ≡ false
-settled bs f = not_less (total waits_child (events_of bs)) (total starts_child (events_of bs)) (let end : 0 + total starts_child (events_of bs) ≤ 0 + total waits_child (events_of bs) = fair_end 0 0 bs f in omega arith)
+settled bs f = not_less (total waits_child (events_of bs)) (total starts_child (events_of bs))
+    (let end : 0 + total starts_child (events_of bs) ≤ 0 + total waits_child (events_of bs) = fair_end 0 0 bs f in omega arith)
 
 pub flying : (xs : List Block) (b : Block) (ys : List Block) → Fair 0 0 (xs ++ b ∷ ys) → is_wait b ≡ true → in_flight xs ≡ true
-flying xs b ys f e = less (total waits_child (events_of xs)) (total starts_child (events_of xs)) (let at : 0 + total waits_child (events_of xs) < 0 + total starts_child (events_of xs) = fair_at 0 0 xs b ys f e in omega arith)
+flying xs b ys f e = less (total waits_child (events_of xs)) (total starts_child (events_of xs))
+    (let at : 0 + total waits_child (events_of xs) < 0 + total starts_child (events_of xs) = fair_at 0 0 xs b ys f e in omega arith)

@@ -64,8 +64,10 @@ walk : (n m : ℕ) (before after : List SourceBlock) → Upto m before → Order
     → AllMayCome n 1 nowhere before after
 walk n m before [] upto order fair = tt
 walk n m before (b ∷ after) upto order fair = (
-  may n b.source before (b ∷ after) (is_wait b.block) order.1 ended (λ j above. of_after b.source j before up above) (rw (nat_eq_equiv.refl b.source) refl) done flies,
-  walk n b.source (before ++ b ∷ []) after (upto_append b.source before b up (omega arith)) order.2 (λ j. subst (λ l. Fair 0 0 (of j l)) (sym (append_assoc before (b ∷ []) after)) (fair j)),
+  may n b.source before (b ∷ after) (is_wait b.block) order.1 ended (λ j above. of_after b.source j before up above)
+      (rw (nat_eq_equiv.refl b.source) refl) done flies,
+  walk n b.source (before ++ b ∷ []) after (upto_append b.source before b up (omega arith)) order.2
+      (λ j. subst (λ l. Fair 0 0 (of j l)) (sym (append_assoc before (b ∷ []) after)) (fair j)),
 )
   where
     up : Upto b.source before
@@ -113,7 +115,8 @@ fair_all : (bs : List SourceBlock) (jobs : List Job) (xs : List JobAnswers) → 
 fair_all bs jobs xs t e j = by (nat_lt j (length jobs)) refl
   where
     by : (u : Bool) → nat_lt j (length jobs) ≡ u → Fair 0 0 (of j (by_source (length jobs) bs))
-    by true is = rw (of_by_source (length jobs) j bs (is_less j (length jobs) is)) (fair_told bs 0 jobs xs t e j (omega arith) (let lt : j < length jobs = is_less j (length jobs) is in omega arith))
+    by true is = rw (of_by_source (length jobs) j bs (is_less j (length jobs) is))
+        (fair_told bs 0 jobs xs t e j (omega arith) (let lt : j < length jobs = is_less j (length jobs) is in omega arith))
     by false is = rw (of_beyond (length jobs) j bs (is_not_less j (length jobs) is)) (omega arith)
 
 pub rearranges : Rearranges

@@ -123,7 +123,8 @@ answered job a e = by (none job.groups) e
         (length (removed_by_job job a))) ≡ true → length a.removals ≡ length (removed_by_job job a)
     by true h = ap (λ (l : List (Told RemoveAnswer)). length l)
         (empty a.removals (and_second (none a.claims && none a.groups) (none a.removals) h))
-        ∙ sym (ap (λ (l : List (List ℕ)). length l) (let both = and_first (none a.claims && none a.groups) (none a.removals) h in idle (and_first (none a.claims) (none a.groups) both) (and_second (none a.claims) (none a.groups) both)))
+        ∙ sym (ap (λ (l : List (List ℕ)). length l) (let both = and_first (none a.claims && none a.groups) (none a.removals) h in
+        idle (and_first (none a.claims) (none a.groups) both) (and_second (none a.claims) (none a.groups) both)))
     by false h = same (length a.removals) (length (removed_by_job job a))
         (and_second (whole_claims job.temps a.claims && (if claims_failed a then none a.groups else whole_groups job.groups a.groups))
         (nat_eq (length a.removals) (length (removed_by_job job a))) h)
@@ -305,7 +306,8 @@ removes_by_rule plan N o E w = record {
 
     link : RemovesOwn E (length plan.jobs) (link_run plan.link o.jobs) o.link
     link = halves (own (length plan.jobs)) plan N o E w (length plan.jobs) (others (length plan.jobs))
-        ∙ ap (λ l. sift (own (length plan.jobs)) l ++ sift (own (length plan.jobs)) (after_sources plan o)) (none_above plan N o E w (length plan.jobs) (let le : length plan.jobs ≤ length plan.jobs = omega arith in le))
+        ∙ ap (λ l. sift (own (length plan.jobs)) l ++ sift (own (length plan.jobs)) (after_sources plan o))
+        (none_above plan N o E w (length plan.jobs) (let le : length plan.jobs ≤ length plan.jobs = omega arith in le))
         ∙ two_lists (own (length plan.jobs)) (story (length plan.jobs) (link_run plan.link o.jobs) o.link)
         (end_removals (removed_at_end plan o) o.last)
         ∙ only_first (own_story (length plan.jobs) (link_run plan.link o.jobs) o.link (link_whole plan N o E w))

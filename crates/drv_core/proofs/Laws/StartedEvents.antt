@@ -69,7 +69,8 @@ starts plan k g n i refused cs (Started id ∷ xs) at = ap (λ l. l ++ started_i
     (λ h. ap (λ m. slice_get (group_at (job_at plan k) g) m) (let is : i + 1 + h ≡ i + suc h = omega arith in is) ∙ at (suc h))
   where
     this : command_at plan k (place.Command k g i) ≡ option_to_list (slice_get (group_at (job_at plan k) g) (i + 0))
-    this = ap (λ (t : Bool). if t then option_to_list (slice_get (group_at (job_at plan k) g) i) else []) (nat_eq_equiv.refl k) ∙ ap (λ m. option_to_list (slice_get (group_at (job_at plan k) g) m)) (let is : i ≡ i + 0 = omega arith in is)
+    this = ap (λ (t : Bool). if t then option_to_list (slice_get (group_at (job_at plan k) g) i) else []) (nat_eq_equiv.refl k)
+        ∙ ap (λ m. option_to_list (slice_get (group_at (job_at plan k) g) m)) (let is : i ≡ i + 0 = omega arith in is)
 
     by : (ds : List Command) → slice_get (group_at (job_at plan k) g) (i + 0) ≡ slice_get ds 0
         → ((es : List Command) → ((h : ℕ) → slice_get (group_at (job_at plan k) g) (i + 1 + h) ≡ slice_get es h)
@@ -105,10 +106,13 @@ groups plan k g (c ∷ cs) (x ∷ xs) at e =
     both plan k (starts_block k g (length c) 0 x.refused x.starts ∷ wait_blocks k g 0 x.starts x.waits) (group_blocks k (g + 1) cs xs)
     ∙ ap (λ l. l ++ seen plan k (group_blocks k (g + 1) cs xs)) (two plan k (starts_block k g (length c) 0 x.refused x.starts)
     (events_of (wait_blocks k g 0 x.starts x.waits))
-    ∙ only_first (starts plan k g (length c) 0 x.refused c x.starts (λ h. ap (λ m. slice_get (group_at (job_at plan k) g) m) (let is : 0 + h ≡ h = omega arith in is) ∙ ap (λ l. slice_get l h) here)) (no_waits (λ e. started_by plan k e.step e.answer) k g (λ i id w t. no_wait plan k k g i id w t) 0 x.starts x.waits))
+    ∙ only_first (starts plan k g (length c) 0 x.refused c x.starts
+    (λ h. ap (λ m. slice_get (group_at (job_at plan k) g) m) (let is : 0 + h ≡ h = omega arith in is) ∙ ap (λ l. slice_get l h) here))
+    (no_waits (λ e. started_by plan k e.step e.answer) k g (λ i id w t. no_wait plan k k g i id w t) 0 x.starts x.waits))
     ∙ ap (λ l. started_in_group c x.starts ++ l)
     (rest (group_failed x) xs (and_second (whole_group c x.starts x.waits) (if group_failed x then none xs else whole_groups cs xs) e)
-    (λ w. groups plan k (g + 1) cs xs (λ h. ap (λ m. group_at (job_at plan k) m) (let is : g + 1 + h ≡ g + suc h = omega arith in is) ∙ at (suc h)) w))
+    (λ w. groups plan k (g + 1) cs xs (λ h. ap (λ m. group_at (job_at plan k) m) (let is : g + 1 + h ≡ g + suc h = omega arith in is)
+    ∙ at (suc h)) w))
   where
     here : group_at (job_at plan k) g ≡ c
     here = ap (λ m. group_at (job_at plan k) m) (let is : g ≡ g + 0 = omega arith in is) ∙ at 0
@@ -161,7 +165,8 @@ own_story plan k job a here whole = in_story plan k k job a ∙ by (none job.gro
     claimed : (t : Bool) → (if t then none a.groups else whole_groups job.groups a.groups) ≡ true → none job.groups ≡ false
         → seen plan k (group_blocks k 0 job.groups a.groups) ≡ (if t then [] else started_in_groups job.groups a.groups)
     claimed true h busy = unanswered plan k job.groups a.groups h
-    claimed false h busy = groups plan k 0 job.groups a.groups (λ m. ap (λ i. group_at (job_at plan k) i) (let is : 0 + m ≡ m = omega arith in is) ∙ ap (λ j. group_at j m) (here busy)) h
+    claimed false h busy = groups plan k 0 job.groups a.groups
+        (λ m. ap (λ i. group_at (job_at plan k) i) (let is : 0 + m ≡ m = omega arith in is) ∙ ap (λ j. group_at j m) (here busy)) h
 
     nothing_started : (t : Bool) → started_in_groups job.groups a.groups ≡ []
         → (if t then [] else started_in_groups job.groups a.groups) ≡ []
@@ -213,8 +218,10 @@ starts_the_same plan N o E w k = in_halves plan 1 o (serial plan o w.blocks) (re
 
 pub started_first : (plan : Plan) (N : ℕ) (o : Answers) (E : List RunEvent) → Windowed plan N o E
     → EachStartsFirst plan E 0 (plan.jobs ++ link_run plan.link o.jobs ∷ []) (o.jobs ++ o.link ∷ [])
-started_first plan N o E w = each 0 plan.jobs o.jobs (jobs_whole plan N o E w) w.stories (let is : 0 + length plan.jobs ≡ length plan.jobs = omega arith in is)
-    (λ h lt. ap (λ i. job_at plan i) (let is : 0 + h ≡ h = omega arith in is) ∙ get_or-append plan.jobs (option_to_list plan.link) no_job h lt)
+started_first plan N o E w = each 0 plan.jobs o.jobs (jobs_whole plan N o E w) w.stories
+    (let is : 0 + length plan.jobs ≡ length plan.jobs = omega arith in is)
+    (λ h lt. ap (λ i. job_at plan i) (let is : 0 + h ≡ h = omega arith in is)
+    ∙ get_or-append plan.jobs (option_to_list plan.link) no_job h lt)
   where
     ends : (k : ℕ) → seen plan k (after_sources plan o) ≡ seen plan k (story (length plan.jobs) (link_run plan.link o.jobs) o.link)
     ends k = both plan k (story (length plan.jobs) (link_run plan.link o.jobs) o.link) (end_removals (removed_at_end plan o) o.last)
@@ -246,13 +253,17 @@ started_first plan N o E w = each 0 plan.jobs o.jobs (jobs_whole plan N o E w) w
         → EachStartsFirst plan E from (jobs ++ link_run plan.link o.jobs ∷ []) (xs ++ o.link ∷ [])
     each from [] [] whole t count at =
         let is : from ≡ length plan.jobs = (let e = count in omega (arith, e)) in (
-          subst (λ k. StartsFirst plan E k (link_run plan.link o.jobs) o.link) (sym is) (first (length plan.jobs) (link_run plan.link o.jobs)
+          subst (λ k. StartsFirst plan E k (link_run plan.link o.jobs) o.link) (sym is)
+              (first (length plan.jobs) (link_run plan.link o.jobs)
               o.link (link_whole plan N o E w) link),
           tt,
         )
     each from [] (x ∷ xs) whole t count at = absurd cc
     each from (job ∷ jobs) [] whole t count at = absurd cc
     each from (job ∷ jobs) (a ∷ xs) whole t count at = (
-      first from job a (and_first (whole_job job a) (whole_jobs jobs xs) whole) (source from job a (omega arith) (ap (λ i. job_at plan i) (let is : from ≡ from + 0 = omega arith in is) ∙ at 0 (omega arith)) t.0 (and_first (whole_job job a) (whole_jobs jobs xs) whole)),
-      each (from + 1) jobs xs (and_second (whole_job job a) (whole_jobs jobs xs) whole) t.1 (omega arith) (λ h lt. ap (λ i. job_at plan i) (let is : from + 1 + h ≡ from + suc h = omega arith in is) ∙ at (suc h) (omega arith)),
+      first from job a (and_first (whole_job job a) (whole_jobs jobs xs) whole)
+          (source from job a (omega arith) (ap (λ i. job_at plan i) (let is : from ≡ from + 0 = omega arith in is) ∙ at 0 (omega arith)) t.0
+          (and_first (whole_job job a) (whole_jobs jobs xs) whole)),
+      each (from + 1) jobs xs (and_second (whole_job job a) (whole_jobs jobs xs) whole) t.1 (omega arith)
+          (λ h lt. ap (λ i. job_at plan i) (let is : from + 1 + h ≡ from + suc h = omega arith in is) ∙ at (suc h) (omega arith)),
     )

@@ -112,8 +112,10 @@ code_groups k g [] [] e = refl
 code_groups k g [] (x ∷ xs) e = absurd cc
 code_groups k g (c ∷ cs) [] e = absurd cc
 code_groups k g (c ∷ cs) (x ∷ xs) e =
-    let this : whole_group c x.starts x.waits ≡ true = and_first (whole_group c x.starts x.waits) (if group_failed x then none xs else whole_groups cs xs) e in
-    let others : (if group_failed x then none xs else whole_groups cs xs) ≡ true = and_second (whole_group c x.starts x.waits) (if group_failed x then none xs else whole_groups cs xs) e in
+    let this : whole_group c x.starts x.waits ≡ true =
+    and_first (whole_group c x.starts x.waits) (if group_failed x then none xs else whole_groups cs xs) e in
+    let others : (if group_failed x then none xs else whole_groups cs xs) ≡ true =
+    and_second (whole_group c x.starts x.waits) (if group_failed x then none xs else whole_groups cs xs) e in
     events_two (starts_block k g (length c) 0 x.refused x.starts ∷ wait_blocks k g 0 x.starts x.waits) (group_blocks k (g + 1) cs xs)
     ∙ ap (λ n. max n (run_code (events_of (group_blocks k (g + 1) cs xs)))) (code_append (starts_block k g (length c) 0 x.refused x.starts)
     (events_of (wait_blocks k g 0 x.starts x.waits)))
@@ -231,7 +233,8 @@ code_blocks n (b ∷ bs) below = code_append b.block (events_of (blocks_of bs)) 
 -- the first number and the others
 top_first : (n : ℕ) (f : ℕ → ℕ) → top (suc n) f ≡ max (f 0) (top n (λ j. f (suc j)))
 top_first zero f = refl
-top_first (suc n) f = ap (λ m. max (f (suc n)) m) (top_first n f) ∙ (let swap : max (f (suc n)) (max (f 0) (top n (λ j. f (suc j)))) ≡ max (f 0) (max (f (suc n)) (top n (λ j. f (suc j)))) = omega arith in swap)
+top_first (suc n) f = ap (λ m. max (f (suc n)) m) (top_first n f)
+    ∙ (let swap : max (f (suc n)) (max (f 0) (top n (λ j. f (suc j)))) ≡ max (f 0) (max (f (suc n)) (top n (λ j. f (suc j)))) = omega arith in swap)
 
 pub code_stories : (blocks : List SourceBlock) (k : ℕ) (jobs : List Job) (xs : List JobAnswers) → whole_jobs jobs xs ≡ true
     → TellStories blocks k jobs xs → top (length jobs) (λ j. run_code (events_of (of (k + j) blocks))) ≡ greatest job_code xs
@@ -239,11 +242,14 @@ code_stories blocks k [] [] e t = refl
 code_stories blocks k [] (x ∷ xs) e t = absurd cc
 code_stories blocks k (job ∷ jobs) [] e t = absurd cc
 code_stories blocks k (job ∷ jobs) (a ∷ xs) e t = top_first (length jobs) (λ j. run_code (events_of (of (k + j) blocks)))
-    ∙ ap (λ i. max (run_code (events_of (of i blocks))) (top (length jobs) (λ j. run_code (events_of (of (k + suc j) blocks))))) (let at : k + 0 ≡ k = omega arith in at)
+    ∙ ap (λ i. max (run_code (events_of (of i blocks))) (top (length jobs) (λ j. run_code (events_of (of (k + suc j) blocks)))))
+    (let at : k + 0 ≡ k = omega arith in at)
     ∙ ap (λ l. max (run_code (events_of l)) (top (length jobs) (λ j. run_code (events_of (of (k + suc j) blocks))))) t.0
     ∙ ap (λ m. max m (top (length jobs) (λ j. run_code (events_of (of (k + suc j) blocks)))))
     (code_story k job a (and_first (whole_job job a) (whole_jobs jobs xs) e))
-    ∙ ap (λ m. max (job_code a) m) (top_same (length jobs) (λ j. run_code (events_of (of (k + suc j) blocks))) (λ j. run_code (events_of (of (k + 1 + j) blocks))) (λ j lt. ap (λ i. run_code (events_of (of i blocks))) (let at : k + suc j ≡ k + 1 + j = omega arith in at))
+    ∙ ap (λ m. max (job_code a) m) (top_same (length jobs) (λ j. run_code (events_of (of (k + suc j) blocks)))
+    (λ j. run_code (events_of (of (k + 1 + j) blocks)))
+    (λ j lt. ap (λ i. run_code (events_of (of i blocks))) (let at : k + suc j ≡ k + 1 + j = omega arith in at))
     ∙ code_stories blocks (k + 1) jobs xs (and_second (whole_job job a) (whole_jobs jobs xs) e) t.1)
 
 greatest_last : (xs : List JobAnswers) (a : JobAnswers) → greatest job_code (xs ++ a ∷ []) ≡ max (greatest job_code xs) (job_code a)
@@ -258,7 +264,8 @@ status_is plan N o E pass_codes w = ap (λ n. status_from pass_codes n)
     (ap run_code w.events ∙ code_append (events_of (blocks_of w.blocks)) (events_of (after_sources plan o))
     ∙ ap (λ n. max n (run_code (events_of (after_sources plan o)))) (code_blocks (length plan.jobs) w.blocks
     (all_below (length plan.jobs) N nowhere [] w.blocks w.may_come)
-    ∙ top_same (length plan.jobs) (λ j. run_code (events_of (of j w.blocks))) (λ j. run_code (events_of (of (0 + j) w.blocks))) (λ j lt. ap (λ i. run_code (events_of (of i w.blocks))) (let at : j ≡ 0 + j = omega arith in at))
+    ∙ top_same (length plan.jobs) (λ j. run_code (events_of (of j w.blocks))) (λ j. run_code (events_of (of (0 + j) w.blocks)))
+    (λ j lt. ap (λ i. run_code (events_of (of i w.blocks))) (let at : j ≡ 0 + j = omega arith in at))
     ∙ code_stories w.blocks 0 plan.jobs o.jobs jobs_whole w.stories)
     ∙ ap (λ n. max (greatest job_code o.jobs) n) (events_two (story (length plan.jobs) (link_run plan.link o.jobs) o.link)
     (end_removals (removed_at_end plan o) o.last)

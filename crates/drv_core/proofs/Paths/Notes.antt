@@ -31,7 +31,8 @@ first_front i p (x ∷ xs) ys = by (pointwise nat_eq p x.path) (first_front (i +
         → (if t then Some i else first_with (i + 1) p (xs ++ ys)) ≡ found_then (if t then Some i else first_with (i + 1) p xs)
         (first_with (i + length (x ∷ xs)) p ys)
     by true ih = refl
-    by false ih = ih ∙ ap (λ n. found_then (first_with (i + 1) p xs) (first_with n p ys)) (let e : i + 1 + length xs ≡ i + length (x ∷ xs) = omega arith in e)
+    by false ih = ih ∙ ap (λ n. found_then (first_with (i + 1) p xs) (first_with n p ys))
+        (let e : i + 1 + length xs ≡ i + length (x ∷ xs) = omega arith in e)
 
 pub numbered_append : (before xs ys : List File) → numbered_files before (xs ++ ys) ≡ numbered_files before xs ++ numbered_files
     (before ++ xs) ys
@@ -73,7 +74,8 @@ found_more before n path p place first o many is known = by (pointwise nat_eq pa
     fresh true u e None is_none = refl
     fresh true u e (Some m) is_some = ap (λ k. Some k) (sym (same first n e) ∙ is ∙ ap (λ (x : Option ℕ). unwrap_or x n) is_some)
     fresh false u e (Some m) is_some = refl
-    fresh false u e None is_none = absurd (let clash : true ≡ false = sym (nat_eq_equiv.refl n) ∙ ap (λ k. nat_eq k n) (sym (is ∙ ap (λ (x : Option ℕ). unwrap_or x n) is_none)) ∙ e in cc)
+    fresh false u e None is_none =
+        absurd (let clash : true ≡ false = sym (nat_eq_equiv.refl n) ∙ ap (λ k. nat_eq k n) (sym (is ∙ ap (λ (x : Option ℕ). unwrap_or x n) is_none)) ∙ e in cc)
 
     with_none : (x : Option ℕ) → x ≡ found_then x None
     with_none None = refl
@@ -89,7 +91,8 @@ found_more before n path p place first o many is known = by (pointwise nat_eq pa
         let one : path ≡ p = same_text path p (sym e) in
         let found : o ≡ first_with 0 path before = known ∙ ap (λ q. first_with 0 q before) (sym one) in
         ap (λ x. if nat_eq first n then Some n else x) found ∙ fresh (nat_eq first n) true refl (first_with 0 path before) refl
-        ∙ ap (λ q. found_then (first_with 0 q before) (Some n)) one ∙ ap (λ k. found_then (first_with 0 p before) (Some k)) (let z : n ≡ 0 + length before = omega (arith, many) in z)
+        ∙ ap (λ q. found_then (first_with 0 q before) (Some n)) one
+        ∙ ap (λ k. found_then (first_with 0 p before) (Some k)) (let z : n ≡ 0 + length before = omega (arith, many) in z)
         ∙ ap (λ (t : Bool). found_then (first_with 0 p before) (if t then Some (0 + length before) else None))
         (sym (nat_list_eq_equiv.symm p path ∙ e))
     by false e = sym (whichever (nat_eq first n)) ∙ known ∙ with_none (first_with 0 p before)

@@ -17,14 +17,16 @@ number_in fs p = unwrap_or (first_with 0 p fs) (length fs)
 -- a path that no earlier file has is found at its own file
 first_here : (i : ℕ) (p : List ℕ) (before : List File) (f : File) (rest : List File) → pointwise nat_eq p f.path ≡ true
     → first_with i p (before ++ f ∷ rest) ≡ Some (unwrap_or (first_with i p before) (i + length before))
-first_here i p [] f rest e = ap (λ (t : Bool). if t then Some i else first_with (i + 1) p rest) e ∙ ap (λ n. Some n) (let z : i ≡ i + 0 = omega arith in z)
+first_here i p [] f rest e = ap (λ (t : Bool). if t then Some i else first_with (i + 1) p rest) e
+    ∙ ap (λ n. Some n) (let z : i ≡ i + 0 = omega arith in z)
 first_here i p (b ∷ before) f rest e = by (pointwise nat_eq p b.path) (first_here (i + 1) p before f rest e)
   where
     by : (t : Bool) → first_with (i + 1) p (before ++ f ∷ rest) ≡ Some (unwrap_or (first_with (i + 1) p before) (i + 1 + length before))
         → (if t then Some i else first_with (i + 1) p (before ++ f ∷ rest))
         ≡ Some (unwrap_or (if t then Some i else first_with (i + 1) p before) (i + suc (length before)))
     by true ih = refl
-    by false ih = ih ∙ ap (λ n. Some (unwrap_or (first_with (i + 1) p before) n)) (let z : i + 1 + length before ≡ i + suc (length before) = omega arith in z)
+    by false ih = ih ∙ ap (λ n. Some (unwrap_or (first_with (i + 1) p before) n))
+        (let z : i + 1 + length before ≡ i + suc (length before) = omega arith in z)
 
 number_here : (before : List File) (f : File) (rest : List File) → number_in (before ++ f ∷ rest) f.path ≡ unwrap_or
     (first_with 0 f.path before) (length before)
@@ -116,7 +118,8 @@ alike fs f g i j = by (pointwise nat_eq g.path f.path) refl
 numbered_rest : (fs before rest : List File) → before ++ rest ≡ fs → Numbered (number_in fs) rest
 numbered_rest fs before [] e = tt
 numbered_rest fs before (f ∷ rest) e = (
-  each_in (λ g. pointwise nat_eq g.path f.path ≡ nat_eq (number_in fs f.path) (number_in fs g.path)) fs (before ++ f ∷ []) rest (append_assoc before (f ∷ []) rest ∙ e) (λ g j. alike fs f g (record { before = before; rest = rest; parts = e }) j),
+  each_in (λ g. pointwise nat_eq g.path f.path ≡ nat_eq (number_in fs f.path) (number_in fs g.path)) fs (before ++ f ∷ []) rest
+      (append_assoc before (f ∷ []) rest ∙ e) (λ g j. alike fs f g (record { before = before; rest = rest; parts = e }) j),
   numbered_rest fs (before ++ f ∷ []) rest (append_assoc before (f ∷ []) rest ∙ e),
 )
 

@@ -253,7 +253,8 @@ step_start k job g was ids (start.Started id) lt = by (nat_lt (length ids + 1) n
     by false e = ends (inside (enter_waits job g was (ids ++ id ∷ []) 0 false)) k job (Starts g was ids)
         (enter_waits job g was (ids ++ id ∷ []) 0 false) (starts_so_far k g (length (group_at job g)) 0 ids ++ start_event k g
         (length (group_at job g)) (length ids) (start.Started id) ∷ []) (out_waits job g was (ids ++ id ∷ []) 0 false)
-        (rw (← more) (started_all k job g was (ids ++ id ∷ []) (let past : length (group_at job g) ≤ length ids + 1 = is_not_less (length ids + 1) (length (group_at job g)) e in let len : length (ids ++ id ∷ []) ≡ length ids + 1 = length-append {A = ℕ} ids (id ∷ []) in omega arith)))
+        (rw (← more) (started_all k job g was (ids ++ id ∷ [])
+        (let past : length (group_at job g) ≤ length ids + 1 = is_not_less (length ids + 1) (length (group_at job g)) e in let len : length (ids ++ id ∷ []) ≡ length ids + 1 = length-append {A = ℕ} ids (id ∷ []) in omega arith)))
 
 pub step_refused : (k : ℕ) (job : Job) (g : ℕ) (was : Bool) (ids : List ℕ) (why : NotStarted) (t : Bool)
     → length ids < length (group_at job g)

@@ -93,7 +93,9 @@ some_start k g n refused (c ∷ cs) (start.NotStarted why ∷ xs) fit lt = refl
 one_some : (k : ℕ) (job : Job) (s : Stage) (b : Block) (m : Stage) → Valid job s → OneBlock k job s b m → none b ≡ false
 one_some k job (Claims i) b m v o = ap (λ (l : Block). none l) o.is
 one_some k job (ClaimReport i x) b m v o = absurd o
-one_some k job (Starts g was ids) b m v o = ap (λ (l : Block). none l) o.is ∙ some_start k g (length (group_at job g)) o.refused (group_at job g) o.xs o.fit (let lt : length ids < length (group_at job g) = v in omega (arith, lt))
+one_some k job (Starts g was ids) b m v o = ap (λ (l : Block). none l) o.is
+    ∙ some_start k g (length (group_at job g)) o.refused (group_at job g) o.xs o.fit
+    (let lt : length ids < length (group_at job g) = v in omega (arith, lt))
 one_some k job (StartReport g was ids why) b m v o = absurd o
 one_some k job (Closing g was ids why told) b m v o = absurd o
 one_some k job (Waits g was ids i fault) b m v o = ap (λ (l : Block). none l) o.is

@@ -37,7 +37,8 @@ removals_follow k job i (r ∷ rs) e = by (nat_lt i (length job.on_failure)) ref
         → Walk k job (enter_removals job (i + 1)) (own_removals k (i + 1) rs))
         → Walk k job (if t then Removals i else Ended) (own_removals k i (r ∷ rs))
     by true is ih =
-        let one_more : suc (length rs) ≡ suc (length (drop (i + 1) job.on_failure)) = e ∙ ap (λ l. length l) (drop_more job.on_failure i [] (is_less i (length job.on_failure) is)) in
+        let one_more : suc (length rs) ≡ suc (length (drop (i + 1) job.on_failure)) = e
+        ∙ ap (λ l. length l) (drop_more job.on_failure i [] (is_less i (length job.on_failure) is)) in
         (enter_removals job (i + 1), (record { a = r; is = refl; leads = refl }, ih (omega (arith, one_more))))
     by false is ih = absurd (let none_left : suc (length rs) ≡ 0 = e ∙ ap (λ l. length l) (drop_all i job.on_failure (is_not_less i (length job.on_failure) is)) in omega (arith, none_left))
 
@@ -154,7 +155,8 @@ groups_follow k job g was (a ∷ gs) rs e many = by (nat_lt g (length job.groups
           (
             record { xs = a.starts; refused = a.refused; fit = whole_fit (group_at job g) a.starts a.waits this; is = refl; leads = refl },
             subst (λ l. Walk k job (enter_waits job g was (ids_of a.starts) 0 (any_refused a.starts)) l)
-                (ap (λ l. l ++ (group_blocks k (g + 1) (drop (g + 1) job.groups) gs ++ own_removals k 0 rs)) (waits_are k g 0 a.starts a.waits)
+                (ap (λ l. l ++ (group_blocks k (g + 1) (drop (g + 1) job.groups) gs ++ own_removals k 0 rs))
+                (waits_are k g 0 a.starts a.waits)
                 ∙ sym (append_assoc (wait_blocks k g 0 a.starts a.waits) (group_blocks k (g + 1) (drop (g + 1) job.groups) gs)
                 (own_removals k 0 rs)))
                 (waits_follow k job g was (ids_of a.starts) 0 (any_refused a.starts) a.waits
@@ -173,7 +175,8 @@ groups_follow k job g was (a ∷ gs) rs e many = by (nat_lt g (length job.groups
         → Walk k job (enter_group job (g + 1) started) (group_blocks k (g + 1) (drop (g + 1) job.groups) gs ++ own_removals k 0 rs))
         → Walk k job (if t then Starts g was [] else Ended) (group_blocks k g (drop g job.groups) (a ∷ gs) ++ own_removals k 0 rs)
     by true is ih =
-        let whole_here : whole_groups (group_at job g ∷ drop (g + 1) job.groups) (a ∷ gs) ≡ true = subst (λ l. whole_groups l (a ∷ gs) ≡ true) (drop_more job.groups g [] (is_less g (length job.groups) is)) e in
+        let whole_here : whole_groups (group_at job g ∷ drop (g + 1) job.groups) (a ∷ gs) ≡ true =
+        subst (λ l. whole_groups l (a ∷ gs) ≡ true) (drop_more job.groups g [] (is_less g (length job.groups) is)) e in
         begins (is_less g (length job.groups) is) ih
         (and_first (whole_group (group_at job g) a.starts a.waits) (if group_failed a then none gs else whole_groups
         (drop (g + 1) job.groups) gs) whole_here)
@@ -260,7 +263,10 @@ follows k job a e = by (none job.groups) e
         (none a.removals) h)) (and_second (none a.claims) (none a.groups) (and_first (none a.claims && none a.groups) (none a.removals) h))
         (and_second (none a.claims && none a.groups) (none a.removals) h)
     by false h =
-        let both : (whole_claims job.temps a.claims && (if claims_failed a then none a.groups else whole_groups job.groups a.groups)) ≡ true = and_first (whole_claims job.temps a.claims && (if claims_failed a then none a.groups else whole_groups job.groups a.groups)) (nat_eq (length a.removals) (length (removed_by_job job a))) h in
+        let both : (whole_claims job.temps a.claims && (if claims_failed a then none a.groups else whole_groups job.groups a.groups))
+        ≡ true = and_first (whole_claims job.temps a.claims
+        && (if claims_failed a then none a.groups else whole_groups job.groups a.groups))
+        (nat_eq (length a.removals) (length (removed_by_job job a))) h in
         claims_follow k job 0 a.claims a.groups a.removals (and_first (whole_claims job.temps a.claims)
         (if claims_failed a then none a.groups else whole_groups job.groups a.groups) both)
         (and_second (whole_claims job.temps a.claims) (if claims_failed a then none a.groups else whole_groups job.groups

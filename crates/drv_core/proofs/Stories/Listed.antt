@@ -53,7 +53,9 @@ further_is (suc d) n = let e : further d n ≡ n + d = further_is d n in omega (
 
 listed_further : (d n : ℕ) (p : ℕ → Bool) → ((j : ℕ) → n ≤ j → j < further d n → p j ≡ false) → listed (further d n) p ≡ listed n p
 listed_further zero n p none = refl
-listed_further (suc d) n p none = ap (λ (t : Bool). listed (further d n) p ++ (if t then further d n ∷ [] else [])) (none (further d n) (let e : further d n ≡ n + d = further_is d n in omega (arith, e)) (omega arith)) ∙ append-nil (listed (further d n) p)
+listed_further (suc d) n p none = ap (λ (t : Bool). listed (further d n) p ++ (if t then further d n ∷ [] else []))
+    (none (further d n) (let e : further d n ≡ n + d = further_is d n in omega (arith, e)) (omega arith))
+    ∙ append-nil (listed (further d n) p)
     ∙ listed_further d n p (λ j le lt. none j le (omega (arith, lt)))
 
 pub listed_up_to : (n m : ℕ) (p : ℕ → Bool) → n ≤ m → ((j : ℕ) → n ≤ j → j < m → p j ≡ false) → listed m p ≡ listed n p

@@ -94,7 +94,9 @@ so_far k job g was front (id ∷ ids) i at few = (
       (sym (less (length front + 1) (length (group_at job g)) (omega (arith, few))))
       (subst (λ l. Replays k job (Starts g was (front ++ id ∷ [])) (starts_so_far k g (length (group_at job g)) (i + 1) ids)
       (Starts g was l)) (append_assoc front (id ∷ []) ids)
-      (so_far k job g was (front ++ id ∷ []) ids (i + 1) (let len : length (front ++ id ∷ []) ≡ length front + 1 = length-append {A = ℕ} front (id ∷ []) in omega (arith, len, at)) (let len : length (front ++ id ∷ []) ≡ length front + 1 = length-append {A = ℕ} front (id ∷ []) in omega (arith, len, few)))),
+      (so_far k job g was (front ++ id ∷ []) ids (i + 1)
+      (let len : length (front ++ id ∷ []) ≡ length front + 1 = length-append {A = ℕ} front (id ∷ []) in omega (arith, len, at))
+      (let len : length (front ++ id ∷ []) ≡ length front + 1 = length-append {A = ℕ} front (id ∷ []) in omega (arith, len, few)))),
 )
 
 refused_so : (k : ℕ) (job : Job) (g : ℕ) (was : Bool) (ids : List ℕ) (why : NotStarted) → length ids < length (group_at job g)
@@ -112,7 +114,8 @@ lost_so k job g was ids i fault Lost e = refl
 pub open_replays : (k : ℕ) (job : Job) (s : Stage) → Valid job s → Replays k job (base s) (open_of k job s) s
 open_replays k job (Claims i) v = refl
 open_replays k job (ClaimReport i x) v = (refl, ap (λ (t : Bool). if t then enter_claims job (i + 1) else ClaimReport i x) v.1)
-open_replays k job (Starts g was ids) v = so_far k job g was [] ids 0 refl (let few : length ids < length (group_at job g) = v in omega (arith, few))
+open_replays k job (Starts g was ids) v = so_far k job g was [] ids 0 refl
+    (let few : length ids < length (group_at job g) = v in omega (arith, few))
 open_replays k job (StartReport g was ids why) v = refused_so k job g was ids why v
 open_replays k job (Closing g was ids why told) v = replays_then k job (Starts g was [])
     (refused_so_far k g (length (group_at job g)) ids why) (StartReport g was ids why)

@@ -109,7 +109,8 @@ lane_replays jobs N st cur E r filled j lt = subst (λ l. Replays j (get_or jobs
         (base_out (st j) (r.others j e)) (to_base j lt))
 
 -- the run is between blocks, and the same sources may go on
-pub record Seen (plan : Plan) (N : ℕ) (f : Fleet) (E : List RunEvent) (g : Going plan.jobs N f E) (b : BetweenBlocks plan N E) : Type 0 where
+pub record Seen (plan : Plan) (N : ℕ) (f : Fleet) (E : List RunEvent) (g : Going plan.jobs N f E)
+    (b : BetweenBlocks plan N E) : Type 0 where
   pub out : inside (stage_in f f.current) ≡ false
   pub tests : (j : ℕ) → j < length plan.jobs → source_may plan N E b j ≡ test plan.jobs N f g.run.blocks j
 

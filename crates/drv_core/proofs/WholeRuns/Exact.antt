@@ -100,7 +100,8 @@ whole_link plan N o E w = and_second (whole_jobs plan.jobs o.jobs) (whole_job (l
 
 pub story_is : (plan : Plan) (N : ℕ) (o : Answers) (E : List RunEvent) (w : Windowed plan N o E) (j : ℕ) → j < length plan.jobs
     → of j w.blocks ≡ story j (get_or plan.jobs j no_job) (get_or o.jobs j no_answers)
-story_is plan N o E w j lt = subst (λ n. of n w.blocks ≡ story n (get_or plan.jobs j no_job) (get_or o.jobs j no_answers)) (let e : 0 + j ≡ j = omega arith in e) (told_at w.blocks 0 plan.jobs o.jobs (all_whole_jobs plan N o E w) w.stories j lt)
+story_is plan N o E w j lt = subst (λ n. of n w.blocks ≡ story n (get_or plan.jobs j no_job) (get_or o.jobs j no_answers))
+    (let e : 0 + j ≡ j = omega arith in e) (told_at w.blocks 0 plan.jobs o.jobs (all_whole_jobs plan N o E w) w.stories j lt)
 
 pub whole_owned : (plan : Plan) (N : ℕ) (o : Answers) (E : List RunEvent) (w : Windowed plan N o E)
     → AllOwned (length plan.jobs) (all_blocks plan o w.blocks)

@@ -66,7 +66,8 @@ after_is plan N S ran own last = ap (λ l. l ++ (events_of own ++ events_of last
 
 pub ran_story : (plan : Plan) (N : ℕ) (S : List RunEvent) (ran : Ran plan.jobs N S) (j : ℕ) → j < length plan.jobs
     → of j ran.blocks ≡ story j (get_or plan.jobs j no_job) (get_or ran.run.answers j no_answers)
-ran_story plan N S ran j lt = subst (λ n. of n ran.blocks ≡ story n (get_or plan.jobs j no_job) (get_or ran.run.answers j no_answers)) (let e : 0 + j ≡ j = omega arith in e) (told_at ran.blocks 0 plan.jobs ran.run.answers ran.run.all ran.run.stories j lt)
+ran_story plan N S ran j lt = subst (λ n. of n ran.blocks ≡ story n (get_or plan.jobs j no_job) (get_or ran.run.answers j no_answers))
+    (let e : 0 + j ≡ j = omega arith in e) (told_at ran.blocks 0 plan.jobs ran.run.answers ran.run.all ran.run.stories j lt)
 
 ran_below : (plan : Plan) (N : ℕ) (S : List RunEvent) (ran : Ran plan.jobs N S) → Below (length plan.jobs) ran.blocks
 ran_below plan N S ran = all_below (length plan.jobs) N nowhere [] ran.blocks ran.run.may_come
@@ -110,7 +111,8 @@ link_following plan N S ran own last = of_after plan N S ran own last (length pl
 
 below_next : (n : ℕ) (bs : List SourceBlock) → Below n bs → of (suc n) bs ≡ []
 below_next n [] below = refl
-below_next n (b ∷ bs) below = ap (λ (t : Bool). if t then b.block ∷ of (suc n) bs else of (suc n) bs) (apart b.source (suc n) (let lt = below.0 in omega (arith, lt))) ∙ below_next n bs below.1
+below_next n (b ∷ bs) below = ap (λ (t : Bool). if t then b.block ∷ of (suc n) bs else of (suc n) bs)
+    (apart b.source (suc n) (let lt = below.0 in omega (arith, lt))) ∙ below_next n bs below.1
 
 last_after : (plan : Plan) (N : ℕ) (S : List RunEvent) (ran : Ran plan.jobs N S) (own last : List Block)
     → of (suc (length plan.jobs)) (following_sources plan N S ran own last) ≡ last

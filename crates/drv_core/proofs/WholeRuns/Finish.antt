@@ -59,7 +59,8 @@ still_waits job g was ids i = by (nat_lt i (length ids))
         job.on_failure + (1 + (length ids - i))
     by true = omega arith
     by false =
-        let f : still job (end_group job g (was || not (none ids)) true) ≤ 1 + length job.on_failure = still_failed job g (was || not (none ids)) in
+        let f : still job (end_group job g (was || not (none ids)) true) ≤ 1 + length job.on_failure =
+        still_failed job g (was || not (none ids)) in
         omega (arith, f)
 
 still_last_wait : (job : Job) (g : ℕ) (was : Bool) (ids : List ℕ) (i : ℕ) → i < length ids
@@ -71,7 +72,8 @@ still_last_wait job g was ids i lt = by (nat_lt (i + 1) (length ids)) refl
         (length ids - i)
     by true e = omega (arith, lt)
     by false e =
-        let f : still job (end_group job g (was || not (none ids)) true) ≤ 1 + length job.on_failure = still_failed job g (was || not (none ids)) in
+        let f : still job (end_group job g (was || not (none ids)) true) ≤ 1 + length job.on_failure =
+        still_failed job g (was || not (none ids)) in
         omega (arith, f)
 
 still_group : (job : Job) (g : ℕ) (was : Bool) → still job (enter_group job (g + 1) was) < 3 + length job.on_failure +
@@ -124,7 +126,8 @@ fails k job (Starts g was ids) so l = by (group_at job g) refl
       b = starts_block k g (length (group_at job g)) 0 true (start.NotStarted Other ∷ []);
       m = enter_waits job g was [] 0 true;
       one = record { xs = start.NotStarted Other ∷ []; refused = true; fit = rw e refl; is = refl; leads = refl };
-      nearer = (let f : still job (end_group job g (was || false) true) ≤ 1 + length job.on_failure = still_failed job g (was || false) in omega (arith, f));
+      nearer = (let f : still job (end_group job g (was || false) true) ≤ 1 + length job.on_failure = still_failed job g (was || false) in
+          omega (arith, f));
     }
 fails k job (StartReport g was ids why) so l = absurd so
 fails k job (Closing g was ids why told) so l = absurd so
@@ -158,7 +161,8 @@ pub record Keeps (jobs : List Job) (N : ℕ) (st : ℕ → Stage) (blocks : List
 
 begun_waiting : (k : ℕ) (job : Job) (bs : List Block) (m : Stage) → Path k job (begin job) bs m → nat_lt 0 (pending m) ≡ true
     → not (none bs) ≡ true
-begun_waiting k job [] m p e = absurd (let no : nat_lt 0 0 ≡ true = ap (λ n. nat_lt 0 n) (sym (begins job).none_pending ∙ ap pending p) ∙ e in cc)
+begun_waiting k job [] m p e =
+    absurd (let no : nat_lt 0 0 ≡ true = ap (λ n. nat_lt 0 n) (sym (begins job).none_pending ∙ ap pending p) ∙ e in cc)
 begun_waiting k job (b ∷ bs) m p e = refl
 
 waiting_left : (s : Stage) → nat_lt 0 (pending s) ≡ true → left s ≡ true
@@ -338,7 +342,9 @@ finish_by (suc fuel) jobs N st blocks some keep far_below = by (find (length job
     by : First (length jobs) (λ j. left (st j)) ⊎ ((j : ℕ) → j < length jobs → left (st j) ≡ false)
         → ((near : Nearer jobs N st blocks) → Finished jobs N (blocks ++ near.block ∷ [])) → Finished jobs N blocks
     by (inl f) go =
-        let near : Nearer jobs N st blocks = nearer_by jobs N st blocks keep (progress (length jobs) N (λ j. has j blocks) (λ j. left (st j)) (λ j. in_flight (of j blocks)) (λ j. nat_lt 0 (pending (st j))) some (between jobs N st blocks keep) f.at f.below f.passes) in
+        let near : Nearer jobs N st blocks = nearer_by jobs N st blocks keep
+        (progress (length jobs) N (λ j. has j blocks) (λ j. left (st j)) (λ j. in_flight (of j blocks))
+        (λ j. nat_lt 0 (pending (st j))) some (between jobs N st blocks keep) f.at f.below f.passes) in
         record {
           more = near.block ∷ (go near).more;
           run = subst (λ l. SourcesRun jobs N l)

@@ -152,7 +152,8 @@ all_wait n N begun left flying waits b none_free full = flying_is ∙ by full
         → count n (λ j. begun j && left j) ≡ min N (count n left)
     by (inl is) = let less_all = fewer in omega (arith, is, less_all)
     by (inr none) =
-        let is : count n (λ j. begun j && left j) ≡ count n left = count_same n (λ j. begun j && left j) left (λ j lt. all_begun (begun j) (left j) (none j lt)) in
+        let is : count n (λ j. begun j && left j) ≡ count n left =
+        count_same n (λ j. begun j && left j) left (λ j lt. all_begun (begun j) (left j) (none j lt)) in
         let w = b.in_window in
         omega (arith, is, w)
 
@@ -183,7 +184,8 @@ progress n N begun left flying waits some b k lt more = free (find n (λ j. begu
     some_begun : count n (λ j. begun j && left j) ≡ N → First n (λ j. begun j && left j) ⊎ ((j : ℕ) → j < n → (begun j && left j) ≡ false)
         → First n (λ j. begun j && left j)
     some_begun full (inl f) = f
-    some_begun full (inr none) = absurd (let zero_all : count n (λ j. begun j && left j) ≡ 0 = count_none n (λ j. begun j && left j) none in omega arith)
+    some_begun full (inr none) = absurd (let zero_all : count n (λ j. begun j && left j) ≡ 0 = count_none n (λ j. begun j && left j) none in
+        omega arith)
 
     room : ((j : ℕ) → j < n → (begun j && (left j && not (waits j))) ≡ false) → (f : First n (λ j. not (begun j) && left j)) → (t : Bool)
         → nat_lt (count n (λ j. begun j && left j)) N ≡ t → Goes n N begun left flying waits
@@ -194,7 +196,9 @@ progress n N begun left flying waits some b k lt more = free (find n (λ j. begu
           flying waits b f (is_less (count n (λ j. begun j && left j)) N e);
     }
     room none f false e =
-        let full : count n (λ j. begun j && left j) ≡ N = (let most = b.in_window in let least : N ≤ count n (λ j. begun j && left j) = is_not_less (count n (λ j. begun j && left j)) N e in omega (arith, most, least)) in
+        let full : count n (λ j. begun j && left j) ≡ N =
+        (let most = b.in_window in let least : N ≤ count n (λ j. begun j && left j) = is_not_less (count n (λ j. begun j && left j)) N e in
+            omega (arith, most, least)) in
         waiting none (inl full) (some_begun full (find n (λ j. begun j && left j)))
 
     new : ((j : ℕ) → j < n → (begun j && (left j && not (waits j))) ≡ false) → First n (λ j. not (begun j) && left j) ⊎ ((j : ℕ) → j < n
@@ -207,6 +211,7 @@ progress n N begun left flying waits some b k lt more = free (find n (λ j. begu
     free (inl f) = record {
       k = f.at;
       has_more = and_first (left f.at) (not (waits f.at)) (and_second (begun f.at) (left f.at && not (waits f.at)) f.passes);
-      may = begun_goes n N begun left flying waits f.at b f.below (and_first (begun f.at) (left f.at && not (waits f.at)) f.passes) (λ e. absurd (let no : waits f.at ≡ false = not-true (waits f.at) (and_second (left f.at) (not (waits f.at)) (and_second (begun f.at) (left f.at && not (waits f.at)) f.passes)) in let clash : true ≡ false = sym e ∙ no in cc));
+      may = begun_goes n N begun left flying waits f.at b f.below (and_first (begun f.at) (left f.at && not (waits f.at)) f.passes)
+          (λ e. absurd (let no : waits f.at ≡ false = not-true (waits f.at) (and_second (left f.at) (not (waits f.at)) (and_second (begun f.at) (left f.at && not (waits f.at)) f.passes)) in let clash : true ≡ false = sym e ∙ no in cc));
     }
     free (inr none) = new none (find n (λ j. not (begun j) && left j))

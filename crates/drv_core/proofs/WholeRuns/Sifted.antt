@@ -145,7 +145,8 @@ below plan N o E w = all_below (length plan.jobs) N nowhere [] w.blocks w.may_co
 
 above : (n k : ℕ) (bs : List SourceBlock) → Below n bs → n ≤ k → of k bs ≡ []
 above n k [] under le = refl
-above n k (b ∷ bs) under le = ap (λ (t : Bool). if t then b.block ∷ of k bs else of k bs) (apart b.source k (let lt = under.0 in omega (arith, lt, le))) ∙ above n k bs under.1 le
+above n k (b ∷ bs) under le = ap (λ (t : Bool). if t then b.block ∷ of k bs else of k bs)
+    (apart b.source k (let lt = under.0 in omega (arith, lt, le))) ∙ above n k bs under.1 le
 
 -- a number that no source has belongs to no block
 pub none_above : (plan : Plan) (N : ℕ) (o : Answers) (E : List RunEvent) → (w : Windowed plan N o E) → (k : ℕ) → length plan.jobs ≤ k

@@ -209,8 +209,10 @@ flies k job bs m p = by (nat_lt 0 (pending m)) refl
     calm = (begins job).none_pending
 
     by : (t : Bool) → nat_lt 0 (pending m) ≡ t → in_flight bs ≡ t
-    by true e = less (total waits_child (events_of bs)) (total starts_child (events_of bs)) (let some : 0 < pending m = is_less 0 (pending m) e in let ev = total_even in let no = calm in omega (arith, ev, no))
-    by false e = not_less (total waits_child (events_of bs)) (total starts_child (events_of bs)) (let nothing : pending m ≤ 0 = is_not_less 0 (pending m) e in let ev = total_even in let no = calm in omega (arith, ev, no))
+    by true e = less (total waits_child (events_of bs)) (total starts_child (events_of bs))
+        (let some : 0 < pending m = is_less 0 (pending m) e in let ev = total_even in let no = calm in omega (arith, ev, no))
+    by false e = not_less (total waits_child (events_of bs)) (total starts_child (events_of bs))
+        (let nothing : pending m ≤ 0 = is_not_less 0 (pending m) e in let ev = total_even in let no = calm in omega (arith, ev, no))
 
 -- the next block is a wait exactly if a child is pending
 pub waits_next : (k : ℕ) (job : Job) (bs : List Block) (s : Stage) (b : Block) (m : Stage) → Path k job (begin job) bs s
@@ -247,7 +249,9 @@ come_more n N now next before [] b same_left come may = (
 )
 come_more n N now next before (c ∷ after) b same_left come may = (
   subst (λ f. MayCome n N (λ j. has j before) f (λ j. in_flight (of j before)) c.source (is_wait c.block)) (fun_ext pointwise_same) come.0,
-  come_more n N now next (before ++ c ∷ []) after b same_left come.1 (subst (λ l. MayCome n N (λ j. has j l) now (λ j. in_flight (of j l)) b.source (is_wait b.block)) (sym (append_assoc before (c ∷ []) after)) may),
+  come_more n N now next (before ++ c ∷ []) after b same_left come.1
+      (subst (λ l. MayCome n N (λ j. has j l) now (λ j. in_flight (of j l)) b.source (is_wait b.block))
+      (sym (append_assoc before (c ∷ []) after)) may),
 )
   where
     pointwise_same : (j : ℕ) → (has j (c ∷ after) || now j) ≡ (has j (c ∷ (after ++ b ∷ [])) || next j)
@@ -305,8 +309,11 @@ all_told : (blocks : List SourceBlock) (k : ℕ) (jobs : List Job)
     → ((i : ℕ) → i < length jobs → ToldStory (k + i) (get_or jobs i no_job) (of (k + i) blocks)) → AllTold blocks k jobs
 all_told blocks k [] told = record { answers = []; all = refl; stories = tt }
 all_told blocks k (job ∷ jobs) told =
-    let first : ToldStory k job (of k blocks) = subst (λ i. ToldStory i job (of i blocks)) (let e : k + 0 ≡ k = omega arith in e) (told 0 (omega arith)) in
-    let rest : AllTold blocks (k + 1) jobs = all_told blocks (k + 1) jobs (λ i lt. subst (λ n. ToldStory n (get_or jobs i no_job) (of n blocks)) (let e : k + suc i ≡ k + 1 + i = omega arith in e) (told (suc i) (omega arith))) in
+    let first : ToldStory k job (of k blocks) = subst (λ i. ToldStory i job (of i blocks)) (let e : k + 0 ≡ k = omega arith in e)
+    (told 0 (omega arith)) in
+    let rest : AllTold blocks (k + 1) jobs = all_told blocks (k + 1) jobs
+    (λ i lt. subst (λ n. ToldStory n (get_or jobs i no_job) (of n blocks)) (let e : k + suc i ≡ k + 1 + i = omega arith in e)
+    (told (suc i) (omega arith))) in
     record { answers = first.a ∷ rest.answers; all = rw (first.all) rest.all; stories = (first.is, rest.stories) }
 
 pub record SourcesRun (jobs : List Job) (N : ℕ) (blocks : List SourceBlock) : Type 0 where
@@ -329,4 +336,5 @@ sources_run jobs N st blocks stand ended = record {
         (subst (λ s. Path i (get_or jobs i no_job) (begin (get_or jobs i no_job)) (of i blocks) s) (ended i) (stand.paths i lt)))
 
     told : AllTold blocks 0 jobs
-    told = all_told blocks 0 jobs (λ i lt. subst (λ n. ToldStory n (get_or jobs i no_job) (of n blocks)) (let e : i ≡ 0 + i = omega arith in e) (one i lt))
+    told = all_told blocks 0 jobs (λ i lt. subst (λ n. ToldStory n (get_or jobs i no_job) (of n blocks))
+        (let e : i ≡ 0 + i = omega arith in e) (one i lt))

@@ -39,7 +39,8 @@ no_end (f ∷ files) = refl
 end_more : (files : List File) (rs : List (Told RemoveAnswer)) (i : ℕ) (r : Told RemoveAnswer) → length rs ≡ i → i < length files
     → end_removals files (rs ++ r ∷ []) ≡ end_removals files rs ++ removal_block (file_at files i).place r ∷ []
 end_more [] rs i r e lt = absurd (omega arith)
-end_more (f ∷ files) [] i r e lt = ap (λ l. removal_block f.place r ∷ l) (no_end files) ∙ ap (λ j. removal_block (file_at (f ∷ files) j).place r ∷ []) (let z : 0 ≡ i = omega arith in z)
+end_more (f ∷ files) [] i r e lt = ap (λ l. removal_block f.place r ∷ l) (no_end files)
+    ∙ ap (λ j. removal_block (file_at (f ∷ files) j).place r ∷ []) (let z : 0 ≡ i = omega arith in z)
 end_more (f ∷ files) (x ∷ rs) i r e lt = ap (λ l. removal_block f.place x ∷ l) (end_more files rs (length rs) r refl (omega arith))
     ∙ ap (λ j. removal_block f.place x ∷ (end_removals files rs ++ removal_block (file_at (f ∷ files) j).place r ∷ [])) e
 
@@ -143,7 +144,9 @@ removals_between files i E r = by (end_split files r.rs (gone (length files - i)
 pub removals_begin : (files : List File) (i : ℕ) (failed : Bool) (E : List RunEvent) → Removing files i failed E → RemovalsBegin files E
 removals_begin files i false E r = removals_between files i E r
 removals_begin files i true E r =
-    let b : RemovalsBegin files (E ++ report (note.NotRemoved (file_at files i).place) true ∷ []) = removals_between files (i + 1) (E ++ report (note.NotRemoved (file_at files i).place) true ∷ []) (removing_told files i E true r) in
+    let b : RemovalsBegin files (E ++ report (note.NotRemoved (file_at files i).place) true ∷ []) =
+    removals_between files (i + 1) (E ++ report (note.NotRemoved (file_at files i).place) true ∷ [])
+    (removing_told files i E true r) in
     record {
       last = b.last;
       many = b.many;

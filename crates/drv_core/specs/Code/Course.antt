@@ -77,7 +77,8 @@ abbrev pub following_sources : Plan → Job → Course → Course
 following_sources plan job c = linking plan job (record c { link = begin job })
 
 abbrev pub sourced : Plan → Course → Course
-sourced plan c = if nat_eq c.fleet.unended 0 then following_sources plan (link_by plan.link (run_code c.events)) c else record c { phase = Sources }
+sourced plan c = if nat_eq c.fleet.unended 0 then following_sources plan (link_by plan.link (run_code c.events)) c
+    else record c { phase = Sources }
 
 abbrev pub removed : Course → Answer → Course
 removed c a = if removal_failed (remove_of a) then record c { phase = Report } else removing c (drop 1 c.due)

@@ -90,7 +90,8 @@ worked job f a = record f {
 
 -- after its first block a source has begun
 abbrev pub opened : List Job → Fleet → Fleet
-opened jobs f = if nat_eq f.current f.next then record f { begun = f.begun ++ f.current ∷ []; next = first_busy (f.current + 1) (drop (f.current + 1) jobs) } else f
+opened jobs f = if nat_eq f.current f.next then record f
+    { begun = f.begun ++ f.current ∷ []; next = first_busy (f.current + 1) (drop (f.current + 1) jobs) } else f
 
 abbrev pub ended : Fleet → Fleet
 ended f = record f { begun = filter (λ k. not (nat_eq k f.current)) f.begun; unended = f.unended - 1 }

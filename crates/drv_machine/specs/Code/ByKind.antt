@@ -2,7 +2,7 @@ use Rattle.drv_machine.specs.Atoms.{added, choices_step, emitted, first_true, ju
 use Rattle.drv_machine.specs.Context.{Context, names}
 use Rattle.drv_machine.specs.Names.{is_word, language_of, suffix_of}
 use Rattle.drv_machine.specs.Code.Running.{Machine, run}
-use Rattle.drv_machine.specs.Code.Standing.{Part, Stands}
+use Rattle.drv_machine.specs.Code.Standing.{PartAt, Stands}
 use Rattle.drv_machine.specs.Working.{◌>>=◌, Atom, Break, End, Levels, Piped, Step, bytes, change, give, look, nothing, puts, refuse}
 use Rattle.drv_machine.specs.declared.asking.Judged.TheVariants as found
 use Rattle.drv_machine.specs.declared.asking.Judged.{Judged}
@@ -22,7 +22,8 @@ use Rattle.drv_syntax.specs.declared.token.TokenKind.{TokenKind}
 use Rattle.drv_system.specs.Facts.{Facts}
 use Rattle.drv_system.specs.Known.{Is}
 use Rattle.std.specs.List.{flat_map}
-use Rattle.std.specs.Prelude.{◌≡◌, ◌⊎◌, ◌+◌, ◌<◌, ◌≤◌, Bool, List, [], ◌∷◌, ◌++◌, Option, None, Some, Result, Err, Ok, false, length, nat_lt, true, ⊤, ℕ}
+use Rattle.std.specs.Prelude.{◌≡◌, ◌⊎◌, ◌+◌, ◌<◌, ◌≤◌, Bool, List, [], ◌∷◌, ◌++◌, Option, None, Some, Result, Err, Ok, false, length}
+use Rattle.std.specs.Prelude.{nat_lt, true, ⊤, ℕ}
 
 -- What an item means, by its kind and its label (this project's profile). For the clauses of the code alone.
 
@@ -59,8 +60,10 @@ asked_step C label = by label.asks
 -- what the braces of this kind mean, whose parts go from one place up to another
 abbrev pub Means : Facts → Context → List ℕ → TokenKind → ℕ → ℕ → Levels → List ℕ → Step (Unit {0}) → Type 0
 Means F C text kinds.Emit at end levels star inner =
-    (patterns : List (Span × Pattern)) × Stands text at (pattern_nodes patterns) end × (inner ≡ (look (λ w. emitted F C patterns w.hidden) >>= puts))
-Means F C text kinds.Choose at end levels star inner = (choices : Choices) × Stands text at (choice_nodes choices) end × (inner ≡ choices_step F C choices levels star)
+    (patterns : List (Span × Pattern)) × Stands text at (pattern_nodes patterns) end
+    × (inner ≡ (look (λ w. emitted F C patterns w.hidden) >>= puts))
+Means F C text kinds.Choose at end levels star inner =
+    (choices : Choices) × Stands text at (choice_nodes choices) end × (inner ≡ choices_step F C choices levels star)
 Means F C text _ at end levels star inner = ⊤
 
 -- a test by a function
@@ -79,13 +82,14 @@ pub record TrueTest (F : Facts) (C : Context) (text : List ℕ) (s t : Machine) 
   pub gives : run F C s step ≡ Is (Ok (Some asked, t))
 
 -- a test by a function, at a place, and the state before it
-pub record AskedTest (F : Facts) (C : Context) (text : List ℕ) (end : ℕ) (s t : Machine) (at : ℕ) (tests : Tests) (levels : Levels) (star : List ℕ) : Type 0 where
+pub record AskedTest (F : Facts) (C : Context) (text : List ℕ) (end : ℕ) (s t : Machine) (at : ℕ) (tests : Tests) (levels : Levels)
+    (star : List ℕ) : Type 0 where
   pub negated : Bool
   pub name : List ℕ
   pub arguments : Items
   pub others : Tests
   pub next : ℕ
-  pub part : Part (tokens_of (tree_of text)) (labels_of (tree_of text)) at kinds.Test (test_label negated (HasResult name arguments)) next
+  pub part : PartAt (tokens_of (tree_of text)) (labels_of (tree_of text)) at kinds.Test (test_label negated (HasResult name arguments)) next
   pub within : Stands text (at + 1) (nodes_of arguments) next
   pub following : Stands text next (test_nodes others) end
   pub gives : run F C s (first_true F C tests levels star)

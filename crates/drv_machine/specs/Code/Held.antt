@@ -12,7 +12,8 @@ use Rattle.std.specs.BTreeMap.{BTreeMap, get}
 use Rattle.std.specs.BTreeSet.{BTreeSet, contains}
 use Rattle.std.specs.Cmp.Lexicographic.{pointwise, slice_cmp}
 use Rattle.std.specs.Ordering.{nat_cmp}
-use Rattle.std.specs.Prelude.{◌≡◌, ◌-◌, ◌++◌, Bool, List, [], ◌∷◌, None, Ok, Option, Some, false, if◌then◌else◌, nat_eq, replicate, true, ⊤, ℕ}
+use Rattle.std.specs.Prelude.{◌≡◌, ◌-◌, ◌++◌, Bool, List, [], ◌∷◌, None, Ok, Option, Some, false, if◌then◌else◌, nat_eq, replicate, true, ⊤}
+use Rattle.std.specs.Prelude.{ℕ}
 
 -- How the code holds what is cut. Only private clauses cite it.
 
@@ -66,7 +67,8 @@ paths_of Anew lasts = lasts.anew
 
 -- the paths of the last of these names, by their suffixes
 abbrev pub Lasts : LastPaths → List Drawn → Type 0
-Lasts lasts names = (drawing : Drawing) (suffix : List ℕ) → get (slice_cmp nat_cmp) (paths_of drawing lasts) suffix ≡ last_drawn drawing suffix names
+Lasts lasts names = (drawing : Drawing) (suffix : List ℕ)
+    → get (slice_cmp nat_cmp) (paths_of drawing lasts) suffix ≡ last_drawn drawing suffix names
 
 -- names, and the paths of the last ones where these were made
 abbrev pub LastsOf : Option LastPaths → List Drawn → Type 0
@@ -76,4 +78,5 @@ LastsOf (Some lasts) names = Lasts lasts names
 -- the path of a name is the last one of its suffix
 abbrev pub NotesPath : BTreeMap (List ℕ) (List ℕ) → BTreeMap (List ℕ) (List ℕ) → Drawn → Type 0
 NotesPath paths after name =
-    (suffix : List ℕ) → get (slice_cmp nat_cmp) after suffix ≡ (if pointwise nat_eq name.suffix suffix then Some name.path else get (slice_cmp nat_cmp) paths suffix)
+    (suffix : List ℕ) → get (slice_cmp nat_cmp) after suffix
+    ≡ (if pointwise nat_eq name.suffix suffix then Some name.path else get (slice_cmp nat_cmp) paths suffix)

@@ -9,7 +9,7 @@ use Rattle.std.specs.Prelude.{◌≡◌, ◌<◌, ◌+◌, Bool, List, Some, fal
 -- Where the parts of a tree are in its flat list (this project's profile). Only clauses of the code cite it.
 
 -- at this place is a part of this kind with this label, and the next part that isn't inside it is at `next`
-pub record Part (tokens : List Token) (labels : List Label) (at : ℕ) (kind : TokenKind) (label : Label) (next : ℕ) : Type 0 where
+pub record PartAt (tokens : List Token) (labels : List Label) (at : ℕ) (kind : TokenKind) (label : Label) (next : ℕ) : Type 0 where
   pub token : Token
   pub there : slice_get tokens at ≡ Some token
   pub kind_is : token.kind ≡ kind
@@ -21,7 +21,7 @@ pub record Part (tokens : List Token) (labels : List Label) (at : ℕ) (kind : T
 abbrev pub Stand : List Token → List Label → ℕ → Nodes → ℕ → Type 0
 Stand tokens labels at no_node end = at ≡ end
 Stand tokens labels at (node kind label span inner others) end =
-    (next : ℕ) × Part tokens labels at kind label next × Stand tokens labels (at + 1) inner next × Stand tokens labels next others end
+    (next : ℕ) × PartAt tokens labels at kind label next × Stand tokens labels (at + 1) inner next × Stand tokens labels next others end
 
 -- in the list of a text
 abbrev pub Stands : List ℕ → ℕ → Nodes → ℕ → Type 0

@@ -1,9 +1,10 @@
-use Rattle.drv_machine.specs.Atoms.{arguments, brace_step, choices_step, each_hit, found_step, has_value, items_step, judged, levels_left, matching, named_file, value_step}
+use Rattle.drv_machine.specs.Atoms.{arguments, brace_step, choices_step, each_hit, found_step, has_value, items_step, judged, levels_left}
+use Rattle.drv_machine.specs.Atoms.{matching, named_file, value_step}
 use Rattle.drv_machine.specs.Code.ByKind.{labelled}
 use Rattle.drv_machine.specs.Context.{Context, argument, names}
 use Rattle.drv_machine.specs.Cutting.{Cut, file_begun, file_done, words_in_file}
 use Rattle.drv_machine.specs.Code.Running.{Machine, run}
-use Rattle.drv_machine.specs.Code.Standing.{Part, Stands}
+use Rattle.drv_machine.specs.Code.Standing.{PartAt, Stands}
 use Rattle.drv_machine.specs.Working.{◌>>-◌, ◌>>=◌, ◌>>◌, Answer, Break, Levels, Step, To, most_open, nothing, opened, puts, word_of}
 use Rattle.drv_machine.specs.declared.fault.MachineFault.TheVariants.{Memory}
 use Rattle.drv_machine.specs.declared.fault.MachineFault.{MachineFault}
@@ -25,7 +26,8 @@ use Rattle.drv_syntax.specs.declared.token.TokenKind.TheVariants as kinds
 use Rattle.drv_system.specs.Facts.{Facts}
 use Rattle.drv_system.specs.Known.{Is}
 use Rattle.std.specs.List.{range_with_len}
-use Rattle.std.specs.Prelude.{◌≡◌, ◌⊎◌, ◌<◌, ◌+◌, ◌-◌, ◌++◌, Bool, Err, List, [], ◌∷◌, Ok, Option, None, Result, Some, drop, false, length, slice_get, true, ⊤, ℕ}
+use Rattle.std.specs.Prelude.{◌≡◌, ◌⊎◌, ◌<◌, ◌+◌, ◌-◌, ◌++◌, Bool, Err, List, [], ◌∷◌, Ok, Option, None, Result, Some, drop, false, length}
+use Rattle.std.specs.Prelude.{slice_get, true, ⊤, ℕ}
 
 -- What is left of a walk over a text (this project's profile). For the clauses of the code alone.
 
@@ -37,7 +39,8 @@ Skips text at end = (choices : Choices) × Stands text at (choice_nodes choices)
 abbrev pub Lies : List ℕ → ℕ → Items → ℕ → Type 0
 Lies text at none end = Skips text at end
 Lies text at (more span item items) end =
-    (start : ℕ) × (next : ℕ) × Skips text at start × Part (tokens_of (tree_of text)) (labels_of (tree_of text)) start (kind_of item) (label_of item) next
+    (start : ℕ) × (next : ℕ) × Skips text at start × PartAt (tokens_of (tree_of text)) (labels_of (tree_of text)) start (kind_of item)
+    (label_of item) next
     × Stands text (start + 1) (inner_nodes item) next × Lies text next items end
 
 -- the value of %*
@@ -154,12 +157,14 @@ out_of_file s = record { cut = file_done s.cut; world = record s.world { is_in_f
 module _ (F : Facts) (C : Context) where
   -- X for the switches from a place on
   abbrev pub each_from : Pattern → Items → Levels → ℕ → Step (Unit {0})
-  each_from p items levels i = each_hit F C p (λ rest inside. items_step F C items inside rest) levels (range_with_len i (length C.switches - i))
+  each_from p items levels i = each_hit F C p (λ rest inside. items_step F C items inside rest) levels
+      (range_with_len i (length C.switches - i))
 
   -- X for a switch that is hit
   abbrev pub hit_step : Pattern → Items → Levels → ℕ → Step (Unit {0})
   hit_step p items levels i =
-      opened levels (λ deeper inside. items_step F C items inside (drop (length (matching p).name) (name_at (names C) i))) >> puts (Break ∷ word_of (argument C i))
+      opened levels (λ deeper inside. items_step F C items inside (drop (length (matching p).name) (name_at (names C) i))) >> puts
+      (Break ∷ word_of (argument C i))
 
   -- and then for the switches after it
   abbrev pub from_hit : Pattern → Items → Levels → ℕ → Step (Unit {0})
@@ -188,11 +193,13 @@ module _ (F : Facts) (C : Context) where
 
   -- what a test by a function asks, whose arguments these items are
   abbrev pub arguments_of : Items → List ℕ → Levels → List ℕ → Step Bool
-  arguments_of items name levels star = opened levels (λ deeper inside. arguments F C (items_step F C items inside star) >>= has_value F C name)
+  arguments_of items name levels star = opened levels
+      (λ deeper inside. arguments F C (items_step F C items inside star) >>= has_value F C name)
 
   -- what a test decides that was answered so: its X, or what follows it
   abbrev pub decided_on : Items → Kept → Levels → List ℕ → Bool → Step (Unit {0})
-  decided_on items kept levels star holds = judged F C kept.negated kept.asked kept.tests levels star holds >>= found_step F C items kept.choices levels star
+  decided_on items kept levels star holds = judged F C kept.negated kept.asked kept.tests levels star holds
+      >>= found_step F C items kept.choices levels star
 
   -- a test by a function with these words, and what it decides
   abbrev pub asked_on : Items → Kept → Levels → List ℕ → List (List ℕ) → Step (Unit {0})
@@ -201,7 +208,8 @@ module _ (F : Facts) (C : Context) where
   -- a test by a function whose arguments these items are, and what it decides
   abbrev pub tested_on : Items → Items → Kept → Levels → List ℕ → Step (Unit {0})
   tested_on args items kept levels star =
-      arguments_of args kept.name levels star >>= judged F C kept.negated kept.asked kept.tests levels star >>= found_step F C items kept.choices levels star
+      arguments_of args kept.name levels star >>= judged F C kept.negated kept.asked kept.tests levels star
+      >>= found_step F C items kept.choices levels star
 
   -- the beginning of a %@ that makes a file
   abbrev pub file_from : Machine → Answer (Unit {0} × Machine)
@@ -241,7 +249,8 @@ module _ (F : Facts) (C : Context) where
     pub same : onward w.star rest arounds s ≡ given
 
   -- a step, and then what is left from a place on, give this
-  pub record Following (text : List ℕ) (w : Walk) (at : ℕ) (step : Levels → List ℕ → Step (Unit {0})) (s : Machine) (given : Answer (Unit {0} × Machine)) : Type 0 where
+  pub record Following (text : List ℕ) (w : Walk) (at : ℕ) (step : Levels → List ℕ → Step (Unit {0})) (s : Machine)
+      (given : Answer (Unit {0} × Machine)) : Type 0 where
     pub rest : Items
     pub arounds : List Around
     pub lies : Lies text at rest w.end
@@ -249,7 +258,8 @@ module _ (F : Facts) (C : Context) where
     pub same : (run F C s (step (levels_in arounds) (star_of C w.star)) >>- λ r. onward w.star rest arounds r.1) ≡ given
 
   -- what the end of an open part gives, and then what is left from a place on, give this
-  pub record After (text : List ℕ) (w : Walk) (at : ℕ) (f : Levels → List ℕ → Machine → Answer (Unit {0} × Machine)) (s : Machine) (given : Answer (Unit {0} × Machine)) : Type 0 where
+  pub record After (text : List ℕ) (w : Walk) (at : ℕ) (f : Levels → List ℕ → Machine → Answer (Unit {0} × Machine)) (s : Machine)
+      (given : Answer (Unit {0} × Machine)) : Type 0 where
     pub rest : Items
     pub arounds : List Around
     pub lies : Lies text at rest w.end
@@ -262,7 +272,8 @@ module _ (F : Facts) (C : Context) where
   Went text w s given (Err fault) = (fault ≡ Memory) ⊎ (given ≡ Is (Err fault))
 
   -- a part was opened, and a step is in it before a place; or the refusal is given
-  abbrev pub Reaches : List ℕ → Walk → ℕ → (Levels → List ℕ → Step (Unit {0})) → Machine → Answer (Unit {0} × Machine) → Result (Unit {0}) MachineFault → Type 0
+  abbrev pub Reaches : List ℕ → Walk → ℕ → (Levels → List ℕ → Step (Unit {0})) → Machine → Answer (Unit {0} × Machine)
+      → Result (Unit {0}) MachineFault → Type 0
   Reaches text w at step s given (Ok u) = Following text w at step s given
   Reaches text w at step s given (Err fault) = (fault ≡ Memory) ⊎ (given ≡ Is (Err fault))
 
@@ -294,4 +305,5 @@ Emits brace = (patterns : List (Span × Pattern)) × (brace ≡ Emit patterns)
 pub record Chooses (text : List ℕ) (start end : ℕ) (brace : Brace) : Type 0 where
   pub choices : Choices
   pub stands : Stands text start (choice_nodes choices) end
-  pub same : (F : Facts) (C : Context) (s : Machine) (levels : Levels) (star : List ℕ) → run F C s (brace_step F C brace levels star) ≡ run F C s (choices_step F C choices levels star)
+  pub same : (F : Facts) (C : Context) (s : Machine) (levels : Levels) (star : List ℕ)
+      → run F C s (brace_step F C brace levels star) ≡ run F C s (choices_step F C choices levels star)

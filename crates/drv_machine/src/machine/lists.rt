@@ -18,19 +18,8 @@ use crate::{Context, MachineFault};
 use drv_funcs::Outputs;
 use drv_search::dir_options;
 use drv_system::{Outside, System};
-use drv_words::{Listing, Word};
+use drv_words::{Listing, Word, copy_words};
 use std::alloc::{AllocError, Global};
-
-/// Copies of words.
-pub(crate) fn copied_words(alloc: Global, words: &[Word]) -> Result<Listing<Word>, AllocError>
-    ensures { IfOk result (λ copies. copies ≡ words.now) }
-{
-    let mut copies = Listing::from_vec(Vec::with_capacity(alloc, words.len())?);
-    for word in words {
-        copies.push(word.clone()?)?;
-    }
-    Ok(copies)
-}
 
 /// Whether a word is among these.
 pub(crate) fn is_among(list: &[Word], word: &[u8]) -> bool
@@ -117,7 +106,7 @@ impl Machine {
         ensures sized { length self.new.world.hidden ≡ length self.old.world.hidden }
         ensures uncounted { OnOk result (self.new.world.items ≡ self.old.world.items) }
     {
-        let options = copied_words(self.alloc, self.options.as_slice())?;
+        let options = copy_words(self.alloc, self.options.as_slice())?;
         self.put_words(options.as_slice(), context, outside)
     }
 

@@ -12,7 +12,8 @@ use Rattle.drv_system.specs.Facts.{Facts}
 use Rattle.drv_system.specs.Known.{◌>>=◌, Is, Known}
 use Rattle.drv_words.specs.Bytes.{newline, number_sign, percent}
 use Rattle.std.specs.Option.{option_map}
-use Rattle.std.specs.Prelude.{◌≡◌, ◌==◌, Bool, Err, List, [], ◌∷◌, ◌++◌, None, Ok, Option, Result, Some, false, if◌then◌else◌, length, true, ℕ}
+use Rattle.std.specs.Prelude.{◌≡◌, ◌==◌, Bool, Err, List, [], ◌∷◌, ◌++◌, None, Ok, Option, Result, Some, false, if◌then◌else◌, length, true}
+use Rattle.std.specs.Prelude.{ℕ}
 
 -- How the code reads directives: they are slices of a settled text, of which it keeps what is left. For the code alone.
 

@@ -12,4 +12,6 @@ only_jobs plan none =
     sym (all_jobs plan ∙ ap (λ n. sum_by job_events plan.jobs + n) rest ∙ add-zero (sum_by job_events plan.jobs))
 
 pub returns-in-None : goal.returns-in-None
-returns-in-None c = all_counted job_events c.as_slice-job-items.result.now c.loop-job.job-index c.loop-job.total (needed c.args.plan.now) c.loop-job-test.false (c.loop-job.invariant.counted ∙ ap (λ l. sum_by job_events l) c.as_slice-job-items.ensures ∙ only_jobs c.args.plan.now c.in-None.is) c.loop-job.invariant.fits
+returns-in-None c = all_counted job_events c.as_slice-job-items.result.now c.loop-job.job-index c.loop-job.total
+    (needed c.args.plan.now) c.loop-job-test.false (c.loop-job.invariant.counted
+    ∙ ap (λ l. sum_by job_events l) c.as_slice-job-items.ensures ∙ only_jobs c.args.plan.now c.in-None.is) c.loop-job.invariant.fits

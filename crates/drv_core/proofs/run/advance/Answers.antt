@@ -15,7 +15,9 @@ pub take-requires-clause-few : goal.take-requires-clause-few
 take-requires-clause-few c = few_at c.args.plan.now c.args.work.now c.requires.stands
 
 pub returns-in-Some-clause-stands : goal.returns-in-Some-clause-stands
-returns-in-Some-clause-stands c = advanced c.args.plan.now c.args.work.now c.take.new.self c.in-Some.step c.args.answer c.requires.stands (sym c.asks.ensures ∙ c.in-Some.is) (c.requires.kind c.in-Some.step (sym c.asks.ensures ∙ c.in-Some.is)) c.take.ensures
+returns-in-Some-clause-stands c = advanced c.args.plan.now c.args.work.now c.take.new.self c.in-Some.step c.args.answer c.requires.stands
+    (sym c.asks.ensures ∙ c.in-Some.is) (c.requires.kind c.in-Some.step (sym c.asks.ensures ∙ c.in-Some.is)) c.take.ensures
 
 pub returns-in-Some-clause-window : goal.returns-in-Some-clause-window
-returns-in-Some-clause-window c = window_kept c.args.plan.now c.args.work.now c.take.new.self c.in-Some.step c.args.answer c.requires.stands (sym c.asks.ensures ∙ c.in-Some.is) (c.requires.kind c.in-Some.step (sym c.asks.ensures ∙ c.in-Some.is)) c.take.ensures
+returns-in-Some-clause-window c = window_kept c.args.plan.now c.args.work.now c.take.new.self c.in-Some.step c.args.answer c.requires.stands
+    (sym c.asks.ensures ∙ c.in-Some.is) (c.requires.kind c.in-Some.step (sym c.asks.ensures ∙ c.in-Some.is)) c.take.ensures

@@ -3,4 +3,5 @@ use Rattle.drv_funcs.proofs.changes.add_before.Goals as goal
 
 pub returns : goal.returns
 returns c changes are =
-    ends_before c.args.ends.now c.insert.new.self c.args.change.now c.in_ok-clone.field-0 c.in_ok-end.end changes are c.in_ok-clone.ensures.cases c.in_ok-end.ensures c.in_ok-insert.ensures.updates.0
+    ends_before c.args.ends.now c.insert.new.self c.args.change.now c.in_ok-clone.field-0 c.in_ok-end.end changes are
+    c.in_ok-clone.ensures.cases c.in_ok-end.ensures c.in_ok-insert.ensures.updates.0

@@ -25,7 +25,8 @@ loop-byte-preserved c =
           let dot : get_or c.args.text.now c.loop-byte.byte-index 0 ≡ byte "." = w.if-byte-eq46.true in
           let some : 0 < c.loop-byte.digits = omega arith in
           let room : length c.loop-byte.numbers.items < 32 = omega arith in
-          let after : c.if-is_ascii_digit.numbers.items ≡ c.loop-byte.numbers.items ++ c.loop-byte.number ∷ [] = rw w.numbers-is w.push.ensures.items in
+          let after : c.if-is_ascii_digit.numbers.items ≡ c.loop-byte.numbers.items ++ c.loop-byte.number ∷ [] =
+          rw w.numbers-is w.push.ensures.items in
           record {
             few = rw w.digits-is (omega arith);
             bound = rw (w.number-is, w.digits-is) (omega arith);

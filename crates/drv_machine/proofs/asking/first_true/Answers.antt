@@ -20,12 +20,17 @@ truth-requires-clause-no_result c = sym c.is_call.ensures ∙ c.if-is_call.false
 
 pub returns-then-is_call-clause-does : goal.returns-then-is_call-clause-does
 returns-then-is_call-clause-does c F tests levels star s =
-    found_asks F c.args.context.now c.args.text.now c.args.machine.now c.args.machine.now c.loop-at.at c.args.end c.loop-at-test.true tests levels star
+    found_asks F c.args.context.now c.args.text.now c.args.machine.now c.args.machine.now c.loop-at.at c.args.end c.loop-at-test.true tests
+    levels star
     (c.loop-at.invariant.left F tests levels star s) (sym c.is_call.ensures ∙ c.if-is_call.true)
 
 pub returns-then-is_call-clause-within : goal.returns-then-is_call-clause-within
-returns-then-is_call-clause-within c =
-    (c.loop-at.invariant.low, c.loop-at-test.true, front_in c.args.text.now c.loop-at.at c.args.end c.loop-at-test.true c.loop-at.invariant.spans)
+returns-then-is_call-clause-within c = (
+  c.loop-at.invariant.low,
+  c.loop-at-test.true,
+  front_in c.args.text.now c.loop-at.at c.args.end c.loop-at-test.true
+      c.loop-at.invariant.spans,
+)
 
 pub truth-requires-clause-in_list : goal.truth-requires-clause-in_list
 truth-requires-clause-in_list c = front_in c.args.text.now c.loop-at.at c.args.end c.loop-at-test.true c.loop-at.invariant.spans
@@ -37,21 +42,28 @@ pub token_at-at-requires : goal.token_at-at-requires
 token_at-at-requires c = front_in c.args.text.now c.loop-at.at c.args.end c.loop-at-test.true c.loop-at.invariant.spans
 
 pub loop-at-smaller : goal.loop-at-smaller
-loop-at-smaller c = nearer c.args.text.now c.loop-at.at c.args.end c.loop-at-test.true c.token_at-at.result c.token_at-at.ensures c.loop-at.invariant.spans
+loop-at-smaller c = nearer c.args.text.now c.loop-at.at c.args.end c.loop-at-test.true c.token_at-at.result c.token_at-at.ensures
+    c.loop-at.invariant.spans
 
 pub returns-then-truth-negated-clause-does : goal.returns-then-truth-negated-clause-does
 returns-then-truth-negated-clause-does c F tests levels star s =
-    found_true F c.args.context.now c.args.text.now c.args.machine.now c.args.machine.now c.loop-at.at c.args.end c.loop-at-test.true tests levels star
-    (c.loop-at.invariant.left F tests levels star s) (sym c.is_call.ensures ∙ c.if-is_call.false) c.args.machine.now c.truth.result c.negated.result c.negated.ensures (c.truth.ensures F) c.if-truth-negated.true
+    found_true F c.args.context.now c.args.text.now c.args.machine.now c.args.machine.now c.loop-at.at c.args.end c.loop-at-test.true tests
+    levels star
+    (c.loop-at.invariant.left F tests levels star s) (sym c.is_call.ensures ∙ c.if-is_call.false) c.args.machine.now c.truth.result
+    c.negated.result c.negated.ensures (c.truth.ensures F) c.if-truth-negated.true
 
 pub loop-at-preserved : goal.loop-at-preserved
 loop-at-preserved c =
-    let h = here c.args.text.now c.loop-at.at c.args.end c.loop-at-test.true c.token_at-at.result c.token_at-at.ensures c.loop-at.invariant.spans in record {
+    let h = here c.args.text.now c.loop-at.at c.args.end c.loop-at-test.true c.token_at-at.result c.token_at-at.ensures
+    c.loop-at.invariant.spans in record {
       low = omega (arith, c.loop-at.invariant.low, h.later);
-      spans = (here c.args.text.now c.loop-at.at c.args.end c.loop-at-test.true c.token_at-at.result c.token_at-at.ensures c.loop-at.invariant.spans).following;
+      spans = (here c.args.text.now c.loop-at.at c.args.end c.loop-at-test.true c.token_at-at.result c.token_at-at.ensures
+          c.loop-at.invariant.spans).following;
       left = λ F tests levels star s.
-          found_false F c.args.context.now c.args.text.now c.args.machine.now c.args.machine.now c.loop-at.at c.args.end c.loop-at-test.true tests levels star
-          (c.loop-at.invariant.left F tests levels star s) (sym c.is_call.ensures ∙ c.if-is_call.false) c.args.machine.now c.truth.result c.negated.result c.negated.ensures (c.truth.ensures F)
+          found_false F c.args.context.now c.args.text.now c.args.machine.now c.args.machine.now c.loop-at.at c.args.end c.loop-at-test.true
+          tests levels star
+          (c.loop-at.invariant.left F tests levels star s) (sym c.is_call.ensures ∙ c.if-is_call.false) c.args.machine.now c.truth.result
+          c.negated.result c.negated.ensures (c.truth.ensures F)
           c.if-truth-negated.false c.token_at-at.result c.token_at-at.ensures;
     }
 
@@ -62,5 +74,9 @@ returns-clause-does c F tests levels star s =
     sym left.same ∙ ap (λ ts. run F c.args.context.now c.args.machine.now (atoms.first_true F c.args.context.now ts levels star)) none
 
 pub returns-then-truth-negated-clause-within : goal.returns-then-truth-negated-clause-within
-returns-then-truth-negated-clause-within c =
-    (c.loop-at.invariant.low, c.loop-at-test.true, front_in c.args.text.now c.loop-at.at c.args.end c.loop-at-test.true c.loop-at.invariant.spans)
+returns-then-truth-negated-clause-within c = (
+  c.loop-at.invariant.low,
+  c.loop-at-test.true,
+  front_in c.args.text.now c.loop-at.at c.args.end c.loop-at-test.true
+      c.loop-at.invariant.spans,
+)

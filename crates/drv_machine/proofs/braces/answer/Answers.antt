@@ -23,38 +23,61 @@ first_true-requires-clause-spans c = record { nodes = test_nodes c.requires.fits
 pub returns-then-holds-negated-clause-does : goal.returns-then-holds-negated-clause-does
 returns-then-holds-negated-clause-does c F items kept given fits b =
     c.enter_alternative.ensures.does F kept.negated kept.asked items _ given fits.own_is fits.label_is fits.items_stand
-    (answer_true F c.args.context.now c.args.text.now c.args.walk.now items kept given c.args.asking fits c.args.holds c.args.machine.now b (negated_kept kept.negated kept.asked c.args.text.now c.args.asking.test c.args.holds c.negated.result true c.negated.ensures fits.label_is c.if-holds-negated.true))
+    (answer_true F c.args.context.now c.args.text.now c.args.walk.now items kept given c.args.asking fits c.args.holds c.args.machine.now b
+    (negated_kept kept.negated kept.asked c.args.text.now c.args.asking.test c.args.holds c.negated.result true c.negated.ensures
+    fits.label_is c.if-holds-negated.true))
 
 pub returns-in-True-clause-does : goal.returns-in-True-clause-does
 returns-in-True-clause-does c F items kept given fits b =
-    let following = answer_false F c.args.context.now c.args.text.now c.args.walk.now items kept given c.args.asking fits c.args.holds c.args.machine.now b (negated_kept kept.negated kept.asked c.args.text.now c.args.asking.test c.args.holds c.negated.result false c.negated.ensures fits.label_is c.if-holds-negated.false) in
-    later_true F c.args.context.now c.args.text.now c.args.walk.now items kept given c.args.asking fits c.args.holds c.args.machine.now b following c.args.machine.now c.in-True.test (λ levels star. subst (λ (f : Judged). Found F c.args.context.now c.args.text.now c.args.asking.start c.args.machine.now c.args.machine.now (Ok f) kept.tests levels star) c.in-True.is (c.first_true.ensures.does F kept.tests levels star fits.tests_stand))
-    (Went F c.args.context.now c.args.text.now c.enter_alternative-in-True.new.walk c.args.machine.now given c.enter_alternative-in-True.result)
-    (λ negated asked others label stands. c.enter_alternative-in-True.ensures.does F negated asked items others given fits.own_is label fits.items_stand stands)
+    let following = answer_false F c.args.context.now c.args.text.now c.args.walk.now items kept given c.args.asking fits c.args.holds
+    c.args.machine.now b (negated_kept kept.negated kept.asked c.args.text.now c.args.asking.test c.args.holds c.negated.result
+    false c.negated.ensures fits.label_is c.if-holds-negated.false) in
+    later_true F c.args.context.now c.args.text.now c.args.walk.now items kept given c.args.asking fits c.args.holds c.args.machine.now b
+    following c.args.machine.now c.in-True.test (λ levels star. subst
+    (λ (f : Judged). Found F c.args.context.now c.args.text.now c.args.asking.start c.args.machine.now c.args.machine.now
+    (Ok f) kept.tests levels star) c.in-True.is (c.first_true.ensures.does F kept.tests levels star fits.tests_stand))
+    (Went F c.args.context.now c.args.text.now c.enter_alternative-in-True.new.walk c.args.machine.now given
+    c.enter_alternative-in-True.result)
+    (λ negated asked others label stands. c.enter_alternative-in-True.ensures.does F negated asked items others given fits.own_is label
+    fits.items_stand stands)
 
 pub returns-in-Asks-clause-does : goal.returns-in-Asks-clause-does
 returns-in-Asks-clause-does c F items kept given fits b =
-    let following = answer_false F c.args.context.now c.args.text.now c.args.walk.now items kept given c.args.asking fits c.args.holds c.args.machine.now b (negated_kept kept.negated kept.asked c.args.text.now c.args.asking.test c.args.holds c.negated.result false c.negated.ensures fits.label_is c.if-holds-negated.false) in
-    later_asks F c.args.context.now c.args.text.now c.args.walk.now items kept given c.args.asking fits c.args.holds c.args.machine.now b following c.args.machine.now c.in-Asks.test c.token_at.result c.token_at.ensures (λ levels star. subst (λ (f : Judged). Found F c.args.context.now c.args.text.now c.args.asking.start c.args.machine.now c.args.machine.now (Ok f) kept.tests levels star) c.in-Asks.is (c.first_true.ensures.does F kept.tests levels star fits.tests_stand))
+    let following = answer_false F c.args.context.now c.args.text.now c.args.walk.now items kept given c.args.asking fits c.args.holds
+    c.args.machine.now b (negated_kept kept.negated kept.asked c.args.text.now c.args.asking.test c.args.holds c.negated.result
+    false c.negated.ensures fits.label_is c.if-holds-negated.false) in
+    later_asks F c.args.context.now c.args.text.now c.args.walk.now items kept given c.args.asking fits c.args.holds c.args.machine.now b
+    following c.args.machine.now c.in-Asks.test c.token_at.result c.token_at.ensures
+    (λ levels star. subst (λ (f : Judged). Found F c.args.context.now c.args.text.now c.args.asking.start c.args.machine.now
+    c.args.machine.now (Ok f) kept.tests levels star) c.in-Asks.is
+    (c.first_true.ensures.does F kept.tests levels star fits.tests_stand))
     (Went F c.args.context.now c.args.text.now c.open_test.new.walk c.open_test.new.machine given c.open_test.result)
-    (λ arguments later others stands after. c.open_test.ensures.does F c.args.context.now c.args.text.now items arguments later given others stands after)
+    (λ arguments later others stands after. c.open_test.ensures.does F c.args.context.now c.args.text.now items arguments later given others
+    stands after)
 
 pub returns-in-Neither-clause-does : goal.returns-in-Neither-clause-does
 returns-in-Neither-clause-does c F items kept given fits b =
-    let following = answer_false F c.args.context.now c.args.text.now c.args.walk.now items kept given c.args.asking fits c.args.holds c.args.machine.now b (negated_kept kept.negated kept.asked c.args.text.now c.args.asking.test c.args.holds c.negated.result false c.negated.ensures fits.label_is c.if-holds-negated.false) in
+    let following = answer_false F c.args.context.now c.args.text.now c.args.walk.now items kept given c.args.asking fits c.args.holds
+    c.args.machine.now b (negated_kept kept.negated kept.asked c.args.text.now c.args.asking.test c.args.holds c.negated.result
+    false c.negated.ensures fits.label_is c.if-holds-negated.false) in
     c.choose.ensures.does F kept.choices given fits.choices_stand
-    (none_later F c.args.context.now c.args.text.now c.args.walk.now items kept given c.args.asking fits c.args.holds c.args.machine.now b following c.args.machine.now (λ levels star. subst (λ (f : Judged). Found F c.args.context.now c.args.text.now c.args.asking.start c.args.machine.now c.args.machine.now (Ok f) kept.tests levels star) c.in-Neither.is (c.first_true.ensures.does F kept.tests levels star fits.tests_stand)))
+    (none_later F c.args.context.now c.args.text.now c.args.walk.now items kept given c.args.asking fits c.args.holds c.args.machine.now b
+    following c.args.machine.now (λ levels star. subst
+    (λ (f : Judged). Found F c.args.context.now c.args.text.now c.args.asking.start c.args.machine.now c.args.machine.now
+    (Ok f) kept.tests levels star) c.in-Neither.is (c.first_true.ensures.does F kept.tests levels star fits.tests_stand)))
 
 pub open_test-requires : goal.open_test-requires
 open_test-requires c =
-    let found = subst (λ (f : Judged). Within c.args.asking.from c.args.asking.start (length (tokens_of (tree_of c.args.text.now))) f) c.in-Asks.is c.first_true.ensures.within in
+    let found = subst (λ (f : Judged). Within c.args.asking.from c.args.asking.start (length (tokens_of (tree_of c.args.text.now))) f)
+    c.in-Asks.is c.first_true.ensures.within in
     found.1
 
 pub returns-then-holds-negated-clause-lighter : goal.returns-then-holds-negated-clause-lighter
 returns-then-holds-negated-clause-lighter c = ok_as c.enter_alternative.result (λ l. omega (arith, l)) c.enter_alternative.ensures.lighter
 
 pub returns-in-True-clause-lighter : goal.returns-in-True-clause-lighter
-returns-in-True-clause-lighter c = ok_as c.enter_alternative-in-True.result (λ l. omega (arith, l)) c.enter_alternative-in-True.ensures.lighter
+returns-in-True-clause-lighter c = ok_as c.enter_alternative-in-True.result
+    (λ l. omega (arith, l)) c.enter_alternative-in-True.ensures.lighter
 
 pub returns-in-Asks-clause-lighter : goal.returns-in-Asks-clause-lighter
 returns-in-Asks-clause-lighter c =
@@ -62,8 +85,10 @@ returns-in-Asks-clause-lighter c =
     let tests = stand_grows _ _ c.args.asking.from _ c.args.asking.start fits.tests_stand in
     let items = stand_grows _ _ c.args.asking.start _ c.args.asking.next fits.items_stand in
     let choices = stand_grows _ _ c.args.asking.next _ c.args.asking.end fits.choices_stand in
-    let found = subst (λ (f : Judged). Within c.args.asking.from c.args.asking.start (length (tokens_of (tree_of c.args.text.now))) f) c.in-Asks.is c.first_true.ensures.within in
-    ok_as c.open_test.result (λ l. omega (arith, fits.later, tests, items, choices, found.0, l)) (c.open_test.ensures.lighter (length c.args.context.now.switches))
+    let found = subst (λ (f : Judged). Within c.args.asking.from c.args.asking.start (length (tokens_of (tree_of c.args.text.now))) f)
+    c.in-Asks.is c.first_true.ensures.within in
+    ok_as c.open_test.result (λ l. omega (arith, fits.later, tests, items, choices, found.0, l))
+    (c.open_test.ensures.lighter (length c.args.context.now.switches))
 
 pub returns-in-Neither-clause-lighter : goal.returns-in-Neither-clause-lighter
 returns-in-Neither-clause-lighter c =

@@ -20,17 +20,22 @@ token_at-next-requires c = front_in c.args.text.now c.loop-at.at c.args.end c.lo
 
 pub tests_end-items-requires : goal.tests_end-items-requires
 tests_end-items-requires c =
-    (here c.args.text.now c.loop-at.at c.args.end c.loop-at-test.true c.token_at-next.result c.token_at-next.ensures c.loop-at.invariant.spans).within
+    (here c.args.text.now c.loop-at.at c.args.end c.loop-at-test.true c.token_at-next.result c.token_at-next.ensures
+    c.loop-at.invariant.spans).within
 
 pub returns-then-items-at-clause-does : goal.returns-then-items-at-clause-does
 returns-then-items-at-clause-does c F choices given s b =
-    subst (λ (v : Walk). Left F c.args.context.now c.args.text.now (record v { at = c.tests_end-items.result }) c.loop-at.machine given) (sym c.loop-at.invariant.walk)
-    (default_chosen F c.args.context.now c.args.text.now c.args.walk.now c.args.machine.now c.loop-at.machine c.loop-at.at c.args.end choices given b (λ levels star. c.loop-at.invariant.left F choices levels star s)
-    c.loop-at-test.true c.token_at-next.result c.token_at-next.ensures c.tests_end-items.result c.tests_end-items.ensures.tests c.tests_end-items.ensures.rest c.if-items-at.true)
+    subst (λ (v : Walk). Left F c.args.context.now c.args.text.now (record v { at = c.tests_end-items.result }) c.loop-at.machine given)
+    (sym c.loop-at.invariant.walk)
+    (default_chosen F c.args.context.now c.args.text.now c.args.walk.now c.args.machine.now c.loop-at.machine c.loop-at.at c.args.end
+    choices given b (λ levels star. c.loop-at.invariant.left F choices levels star s)
+    c.loop-at-test.true c.token_at-next.result c.token_at-next.ensures c.tests_end-items.result c.tests_end-items.ensures.tests
+    c.tests_end-items.ensures.rest c.if-items-at.true)
 
 pub first_true-requires-clause-spans : goal.first_true-requires-clause-spans
 first_true-requires-clause-spans c =
-    let h = here c.args.text.now c.loop-at.at c.args.end c.loop-at-test.true c.token_at-next.result c.token_at-next.ensures c.loop-at.invariant.spans in
+    let h = here c.args.text.now c.loop-at.at c.args.end c.loop-at-test.true c.token_at-next.result c.token_at-next.ensures
+    c.loop-at.invariant.spans in
     record { nodes = tests_in h.within.nodes; stands = c.tests_end-items.ensures.tests h.within.nodes h.within.stands }
 
 pub holds_star-own-requires : goal.holds_star-own-requires
@@ -38,70 +43,91 @@ holds_star-own-requires c = front_in c.args.text.now c.loop-at.at c.args.end c.l
 
 pub returns-in-True-clause-does : goal.returns-in-True-clause-does
 returns-in-True-clause-does c F choices given s b =
-    one_chosen F c.args.context.now c.args.text.now c.args.walk.now c.args.machine.now c.loop-at.machine c.loop-at.at c.args.end choices given b
+    one_chosen F c.args.context.now c.args.text.now c.args.walk.now c.args.machine.now c.loop-at.machine c.loop-at.at c.args.end choices
+    given b
     (λ levels star. c.loop-at.invariant.left F choices levels star s)
-    c.loop-at-test.true c.token_at-next.result c.token_at-next.ensures c.tests_end-items.result c.tests_end-items.ensures.tests c.tests_end-items.ensures.rest
+    c.loop-at-test.true c.token_at-next.result c.token_at-next.ensures c.tests_end-items.result c.tests_end-items.ensures.tests
+    c.tests_end-items.ensures.rest
     c.if-items-at.false c.loop-at.machine c.in-True.test
     (Went F c.args.context.now c.args.text.now c.enter_alternative.new.walk c.loop-at.machine given c.enter_alternative.result)
     (λ tests levels star stands.
-    subst (λ (found : Judged). Found F c.args.context.now c.args.text.now c.tests_end-items.result c.loop-at.machine c.loop-at.machine (Ok found) tests levels star) c.in-True.is
+    subst (λ (found : Judged). Found F c.args.context.now c.args.text.now c.tests_end-items.result c.loop-at.machine c.loop-at.machine
+    (Ok found) tests levels star) c.in-True.is
     (c.first_true.ensures.does F tests levels star stands))
     (λ negated asked items others owns label stands following.
     c.enter_alternative.ensures.does F negated asked items others given (c.holds_star-own.ensures ∙ owns) label stands
-    (subst (λ (v : Walk). Following F c.args.context.now c.args.text.now v c.token_at-next.result.next (λ levels star. worked F c.args.context.now (Some asked) (has_star items) (λ rest inside. items_step F c.args.context.now items inside rest) levels star others) c.loop-at.machine given)
+    (subst (λ (v : Walk). Following F c.args.context.now c.args.text.now v c.token_at-next.result.next
+    (λ levels star. worked F c.args.context.now (Some asked) (has_star items)
+    (λ rest inside. items_step F c.args.context.now items inside rest) levels star others) c.loop-at.machine given)
     (sym c.loop-at.invariant.walk) following))
 
 pub token_at-requires : goal.token_at-requires
 token_at-requires c =
-    let found = subst (λ (f : Judged). Within (c.loop-at.at + 1) c.tests_end-items.result (length (tokens_of (tree_of c.args.text.now))) f) c.in-Asks.is c.first_true.ensures.within in
+    let found = subst (λ (f : Judged). Within (c.loop-at.at + 1) c.tests_end-items.result (length (tokens_of (tree_of c.args.text.now))) f)
+    c.in-Asks.is c.first_true.ensures.within in
     found.2
 
 pub open_test-requires : goal.open_test-requires
 open_test-requires c =
-    let found = subst (λ (f : Judged). Within (c.loop-at.at + 1) c.tests_end-items.result (length (tokens_of (tree_of c.args.text.now))) f) c.in-Asks.is c.first_true.ensures.within in
+    let found = subst (λ (f : Judged). Within (c.loop-at.at + 1) c.tests_end-items.result (length (tokens_of (tree_of c.args.text.now))) f)
+    c.in-Asks.is c.first_true.ensures.within in
     found.1
 
 pub returns-in-Asks-clause-does : goal.returns-in-Asks-clause-does
 returns-in-Asks-clause-does c F choices given s b =
-    asked_chosen F c.args.context.now c.args.text.now c.args.walk.now c.args.machine.now c.loop-at.machine c.loop-at.at c.args.end choices given b
+    asked_chosen F c.args.context.now c.args.text.now c.args.walk.now c.args.machine.now c.loop-at.machine c.loop-at.at c.args.end choices
+    given b
     (λ levels star. c.loop-at.invariant.left F choices levels star s)
-    c.loop-at-test.true c.token_at-next.result c.token_at-next.ensures c.tests_end-items.result c.tests_end-items.ensures.tests c.tests_end-items.ensures.rest
-    c.if-items-at.false c.loop-at.machine c.in-Asks.test c.token_at.result c.token_at.ensures c.holds_star-own.result c.holds_star-own.ensures
+    c.loop-at-test.true c.token_at-next.result c.token_at-next.ensures c.tests_end-items.result c.tests_end-items.ensures.tests
+    c.tests_end-items.ensures.rest
+    c.if-items-at.false c.loop-at.machine c.in-Asks.test c.token_at.result c.token_at.ensures c.holds_star-own.result
+    c.holds_star-own.ensures
     (Went F c.args.context.now c.args.text.now c.open_test.new.walk c.open_test.new.machine given c.open_test.result)
     (λ tests levels star stands.
-    subst (λ (found : Judged). Found F c.args.context.now c.args.text.now c.tests_end-items.result c.loop-at.machine c.loop-at.machine (Ok found) tests levels star) c.in-Asks.is
+    subst (λ (found : Judged). Found F c.args.context.now c.args.text.now c.tests_end-items.result c.loop-at.machine c.loop-at.machine
+    (Ok found) tests levels star) c.in-Asks.is
     (c.first_true.ensures.does F tests levels star stands))
     (λ items arguments kept fits stands following.
     c.open_test.ensures.does F c.args.context.now c.args.text.now items arguments kept given fits stands
     (subst (λ (v : Walk). Following F c.args.context.now c.args.text.now v c.args.end
-    (λ levels star. arguments_of F c.args.context.now arguments kept.name levels star >>= judged F c.args.context.now kept.negated kept.asked kept.tests levels star >>= found_step F c.args.context.now items kept.choices levels star)
+    (λ levels star. arguments_of F c.args.context.now arguments kept.name levels star
+    >>= judged F c.args.context.now kept.negated kept.asked kept.tests levels star
+    >>= found_step F c.args.context.now items kept.choices levels star)
     c.loop-at.machine given) (sym c.loop-at.invariant.walk) following))
 
 pub loop-at-smaller : goal.loop-at-smaller
-loop-at-smaller c = nearer c.args.text.now c.loop-at.at c.args.end c.loop-at-test.true c.token_at-next.result c.token_at-next.ensures c.loop-at.invariant.spans
+loop-at-smaller c = nearer c.args.text.now c.loop-at.at c.args.end c.loop-at-test.true c.token_at-next.result c.token_at-next.ensures
+    c.loop-at.invariant.spans
 
 pub loop-at-preserved : goal.loop-at-preserved
 loop-at-preserved c =
-    let h = here c.args.text.now c.loop-at.at c.args.end c.loop-at-test.true c.token_at-next.result c.token_at-next.ensures c.loop-at.invariant.spans in record {
+    let h = here c.args.text.now c.loop-at.at c.args.end c.loop-at-test.true c.token_at-next.result c.token_at-next.ensures
+    c.loop-at.invariant.spans in record {
       low = omega (arith, c.loop-at.invariant.low, h.later);
       walk = c.loop-at.invariant.walk;
-      spans = (here c.args.text.now c.loop-at.at c.args.end c.loop-at-test.true c.token_at-next.result c.token_at-next.ensures c.loop-at.invariant.spans).following;
+      spans = (here c.args.text.now c.loop-at.at c.args.end c.loop-at-test.true c.token_at-next.result c.token_at-next.ensures
+          c.loop-at.invariant.spans).following;
       sized = c.loop-at.invariant.sized;
       uncounted = c.loop-at.invariant.uncounted;
       same_text = c.loop-at.invariant.same_text;
       left = λ F choices levels star s.
-          none_true F c.args.context.now c.args.text.now c.args.machine.now c.loop-at.machine c.loop-at.at c.args.end c.loop-at-test.true choices levels star
-          (c.loop-at.invariant.left F choices levels star s) c.token_at-next.result c.token_at-next.ensures c.tests_end-items.result c.tests_end-items.ensures.tests c.tests_end-items.ensures.rest
+          none_true F c.args.context.now c.args.text.now c.args.machine.now c.loop-at.machine c.loop-at.at c.args.end c.loop-at-test.true
+          choices levels star
+          (c.loop-at.invariant.left F choices levels star s) c.token_at-next.result c.token_at-next.ensures c.tests_end-items.result
+          c.tests_end-items.ensures.tests c.tests_end-items.ensures.rest
           c.if-items-at.false c.loop-at.machine
           (λ tests stands.
-          subst (λ (found : Judged). Found F c.args.context.now c.args.text.now c.tests_end-items.result c.loop-at.machine c.loop-at.machine (Ok found) tests levels star) c.in-Neither.is
+          subst (λ (found : Judged). Found F c.args.context.now c.args.text.now c.tests_end-items.result c.loop-at.machine c.loop-at.machine
+          (Ok found) tests levels star) c.in-Neither.is
           (c.first_true.ensures.does F tests levels star stands));
     }
 
 pub returns-clause-does : goal.returns-clause-does
 returns-clause-does c F choices given s b =
-    subst (λ (v : Walk). Left F c.args.context.now c.args.text.now (record v { at = c.args.end }) c.loop-at.machine given) (sym c.loop-at.invariant.walk)
-    (none_chosen F c.args.context.now c.args.text.now c.args.walk.now c.args.machine.now c.loop-at.machine c.loop-at.at c.args.end choices given b (λ levels star. c.loop-at.invariant.left F choices levels star s)
+    subst (λ (v : Walk). Left F c.args.context.now c.args.text.now (record v { at = c.args.end }) c.loop-at.machine given)
+    (sym c.loop-at.invariant.walk)
+    (none_chosen F c.args.context.now c.args.text.now c.args.walk.now c.args.machine.now c.loop-at.machine c.loop-at.at c.args.end choices
+    given b (λ levels star. c.loop-at.invariant.left F choices levels star s)
     (omega (arith, c.loop-at-test.false)))
 
 pub returns-then-items-at-clause-lighter : goal.returns-then-items-at-clause-lighter
@@ -117,8 +143,10 @@ returns-in-True-clause-lighter c =
 pub returns-in-Asks-clause-lighter : goal.returns-in-Asks-clause-lighter
 returns-in-Asks-clause-lighter c =
     let same = ap (λ (v : Walk). weight (length c.args.context.now.switches) v.frames) c.loop-at.invariant.walk in
-    let found = subst (λ (f : Judged). Within (c.loop-at.at + 1) c.tests_end-items.result (length (tokens_of (tree_of c.args.text.now))) f) c.in-Asks.is c.first_true.ensures.within in
-    ok_as c.open_test.result (λ l. omega (arith, same, found.0, c.loop-at.invariant.low, c.loop-at-test.true, l)) (c.open_test.ensures.lighter (length c.args.context.now.switches))
+    let found = subst (λ (f : Judged). Within (c.loop-at.at + 1) c.tests_end-items.result (length (tokens_of (tree_of c.args.text.now))) f)
+    c.in-Asks.is c.first_true.ensures.within in
+    ok_as c.open_test.result (λ l. omega (arith, same, found.0, c.loop-at.invariant.low, c.loop-at-test.true, l))
+    (c.open_test.ensures.lighter (length c.args.context.now.switches))
 
 pub returns-clause-lighter : goal.returns-clause-lighter
 returns-clause-lighter c =

@@ -4,10 +4,12 @@ use Rattle.drv_machine.specs.Code.Walking.{Went}
 
 pub returns-then-is_for_each-clause-does : goal.returns-then-is_for_each-clause-does
 returns-then-is_for_each-clause-does c F negated asked items others given owns label stands b =
-    each_entered F c.args.context.now c.args.text.now c.args.walk.now c.args.machine.now c.args.each.test c.args.each.start c.args.each.end negated asked items others given label stands b c.args.own owns c.is_for_each.result c.is_for_each.ensures c.if-is_for_each.true
+    each_entered F c.args.context.now c.args.text.now c.args.walk.now c.args.machine.now c.args.each.test c.args.each.start c.args.each.end
+    negated asked items others given label stands b c.args.own owns c.is_for_each.result c.is_for_each.ensures c.if-is_for_each.true
     (Went F c.args.context.now c.args.text.now c.enter_next.new.walk c.args.machine.now given c.enter_next.result)
     (λ p is following. c.enter_next.ensures.does F p items given is stands following)
 
 pub returns-clause-does : goal.returns-clause-does
 returns-clause-does c F negated asked items others given owns label stands b =
-    once_entered F c.args.context.now c.args.text.now c.args.walk.now c.args.machine.now c.args.each.test c.args.each.start c.args.each.end negated asked items others given label stands b c.args.own owns c.is_for_each.result c.is_for_each.ensures c.if-is_for_each.false
+    once_entered F c.args.context.now c.args.text.now c.args.walk.now c.args.machine.now c.args.each.test c.args.each.start c.args.each.end
+    negated asked items others given label stands b c.args.own owns c.is_for_each.result c.is_for_each.ensures c.if-is_for_each.false

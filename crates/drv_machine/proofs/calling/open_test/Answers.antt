@@ -11,20 +11,33 @@ use Rattle.std.proofs.Common.{ap, arith, refl, rules, subst, sym, ◌+◌, ◌-�
 
 pub returns-in_err-push-clause-does : goal.returns-in_err-push-clause-does
 returns-in_err-push-clause-does c F C text items arguments kept given fits stands b =
-    let failed = too_deep F C text c.args.walk.now c.args.machine.now given c.args.asking.end _ b refl (opening_lifted c.in_err-push.field-0.0) c.in_err-push.ensures.err in
+    let failed = too_deep F C text c.args.walk.now c.args.machine.now given c.args.asking.end _ b refl
+    (opening_lifted c.in_err-push.field-0.0) c.in_err-push.ensures.err in
     let f = c.from_residual-in_err-push.ensures in
     search rules
 
 pub returns-clause-does : goal.returns-clause-does
 returns-clause-does c F C text items arguments kept given fits stands b =
     let outer = c.in_ok-outer.ensures.ok ∙ c.put_aside.ensures.aside in
-    subst (λ (m : Machine). Left F C text (record c.args.walk.now { at = c.args.asking.test + 1; end = c.args.asking.from; frames = c.push.new.self }) m given) (sym c.put_aside.ensures.begun)
-    (ask_opened F C text c.args.walk.now c.args.machine.now c.args.asking.end items arguments kept given b (Asks c.in_ok-places.places c.in_ok-outer.outer) (subst (λ (a : Asking). AskFits text a items kept) (sym c.in_ok-places.ensures.ok) fits) refl (ap (λ (a : Asking). a.end) c.in_ok-places.ensures.ok)
-    (λ r. ap (λ (cut : Cut). after_arguments F C cut (asked_on F C items kept (levels_in F C b.arounds) (star_of C c.args.walk.now.star)) r) outer)
-    c.in_ok-push.ensures.room (c.args.asking.test + 1) c.args.asking.from stands (record c.args.walk.now { at = c.args.asking.test + 1; end = c.args.asking.from; frames = c.push.new.self }) refl refl refl c.in_ok-push.ensures.ok)
+    subst (λ (m : Machine). Left F C text (record c.args.walk.now
+    { at = c.args.asking.test + 1; end = c.args.asking.from; frames = c.push.new.self }) m given) (sym c.put_aside.ensures.begun)
+    (ask_opened F C text c.args.walk.now c.args.machine.now c.args.asking.end items arguments kept given b
+    (Asks c.in_ok-places.places c.in_ok-outer.outer) (subst (λ (a : Asking). AskFits text a items kept)
+    (sym c.in_ok-places.ensures.ok) fits) refl (ap (λ (a : Asking). a.end) c.in_ok-places.ensures.ok)
+    (λ r. ap (λ (cut : Cut). after_arguments F C cut (asked_on F C items kept (levels_in F C b.arounds) (star_of C c.args.walk.now.star)) r)
+    outer)
+    c.in_ok-push.ensures.room (c.args.asking.test + 1) c.args.asking.from stands
+    (record c.args.walk.now { at = c.args.asking.test + 1; end = c.args.asking.from; frames = c.push.new.self }) refl refl refl
+    c.in_ok-push.ensures.ok)
 
 pub returns-clause-lighter : goal.returns-clause-lighter
 returns-clause-lighter c n =
     let e = ap (weight n) c.in_ok-push.ensures.ok in
     let tests = ap (λ (a : Asking). a.end - a.test) c.in_ok-places.ensures.ok in
-    omega (arith, e, tests, weight_one n c.args.walk.now.frames (record { opened = Asks c.in_ok-places.places c.in_ok-outer.outer; end = c.args.walk.now.end; star = c.args.walk.now.star }))
+    omega (
+      arith,
+      e,
+      tests,
+      weight_one n c.args.walk.now.frames
+          (record { opened = Asks c.in_ok-places.places c.in_ok-outer.outer; end = c.args.walk.now.end; star = c.args.walk.now.star }),
+    )

@@ -7,11 +7,15 @@ use Rattle.drv_system.specs.Gives.{GivesKnown}
 use Rattle.std.proofs.Common.{ap, subst, ◌∙◌}
 
 pub put_all-requires : goal.put_all-requires
-put_all-requires g c = all_in_line c.args.context.now c.switches.result.now c.in_ok-places.places c.as_slice-2.result.now c.in_ok-places.ensures.within c.as_slice-2.ensures c.switches.ensures
+put_all-requires g c = all_in_line c.args.context.now c.switches.result.now c.in_ok-places.places c.as_slice-2.result.now
+    c.in_ok-places.ensures.within c.as_slice-2.ensures c.switches.ensures
 
 pub returns-clause-does : goal.returns-clause-does
 returns-clause-does g c F e patterns s =
     let same =
-    emitted_found F c.args.context.now patterns c.args.machine.now.world.hidden c.hidden-hidden.result.now c.switches.result.now c.as_slice.result.now c.in_ok-places.places c.as_slice-2.result.now
-    c.as_slice-2.ensures c.in_ok-places.ensures.places c.switches.ensures c.hidden-hidden.ensures (c.as_slice.ensures ∙ c.in_ok-patterns.ensures patterns s) in
-    subst (λ given. GivesKnown Memory (λ u. (tt, c.put_all.new.machine)) c.put_all.result given) (ap (λ list. run F c.args.context.now c.args.machine.now (puts list)) same) (c.put_all.ensures.does F e)
+    emitted_found F c.args.context.now patterns c.args.machine.now.world.hidden c.hidden-hidden.result.now c.switches.result.now
+    c.as_slice.result.now c.in_ok-places.places c.as_slice-2.result.now
+    c.as_slice-2.ensures c.in_ok-places.ensures.places c.switches.ensures c.hidden-hidden.ensures
+    (c.as_slice.ensures ∙ c.in_ok-patterns.ensures patterns s) in
+    subst (λ given. GivesKnown Memory (λ u. (tt, c.put_all.new.machine)) c.put_all.result given)
+    (ap (λ list. run F c.args.context.now c.args.machine.now (puts list)) same) (c.put_all.ensures.does F e)

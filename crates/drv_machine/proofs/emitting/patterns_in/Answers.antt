@@ -10,15 +10,19 @@ pub token_at-at-requires : goal.token_at-at-requires
 token_at-at-requires c = front_in c.args.text.now c.loop-at.at c.args.end c.loop-at-test.true c.loop-at.invariant.spans
 
 pub loop-at-smaller : goal.loop-at-smaller
-loop-at-smaller c = nearer c.args.text.now c.loop-at.at c.args.end c.loop-at-test.true c.token_at-at.result c.token_at-at.ensures c.loop-at.invariant.spans
+loop-at-smaller c = nearer c.args.text.now c.loop-at.at c.args.end c.loop-at-test.true c.token_at-at.result c.token_at-at.ensures
+    c.loop-at.invariant.spans
 
 pub loop-at-preserved : goal.loop-at-preserved
 loop-at-preserved c = record {
-  spans = (here c.args.text.now c.loop-at.at c.args.end c.loop-at-test.true c.token_at-at.result c.token_at-at.ensures c.loop-at.invariant.spans).following;
+  spans = (here c.args.text.now c.loop-at.at c.args.end c.loop-at-test.true c.token_at-at.result c.token_at-at.ensures
+      c.loop-at.invariant.spans).following;
   left = λ patterns s.
-      patterns_step c.args.text.now c.loop-at.at c.args.end c.loop-at-test.true c.token_at-at.result c.token_at-at.ensures c.loop-at.patterns c.push.new.self c.pattern_at.result
+      patterns_step c.args.text.now c.loop-at.at c.args.end c.loop-at-test.true c.token_at-at.result c.token_at-at.ensures
+      c.loop-at.patterns c.push.new.self c.pattern_at.result
       c.pattern_at.ensures c.in_ok-push.ensures.ok patterns (c.loop-at.invariant.left patterns s);
 }
 
 pub returns : goal.returns
-returns c patterns s = patterns_end c.args.text.now c.loop-at.at c.args.end (omega (arith, c.loop-at-test.false)) c.loop-at.patterns patterns (c.loop-at.invariant.left patterns s)
+returns c patterns s = patterns_end c.args.text.now c.loop-at.at c.args.end
+    (omega (arith, c.loop-at-test.false)) c.loop-at.patterns patterns (c.loop-at.invariant.left patterns s)

@@ -8,7 +8,8 @@ use Rattle.std.proofs.Common.{List, ◌-◌}
 abbrev pub invariant-loop-at : goal.invariant-loop-at
 invariant-loop-at l = record {
   spans : Spans l.text l.at l.end;
-  left : (patterns : List (Span × Pattern)) → Stands l.text l.start (pattern_nodes patterns) l.end → PatternsLeft l.text l.at l.end l.patterns patterns;
+  left : (patterns : List (Span × Pattern)) → Stands l.text l.start (pattern_nodes patterns) l.end
+      → PatternsLeft l.text l.at l.end l.patterns patterns;
 }
 
 abbrev pub decreases-loop-at : goal.decreases-loop-at

@@ -11,5 +11,7 @@ abbrev pub invariant-loop-place : goal.invariant-loop-place
 invariant-loop-place g l = record {
   asks : Asked g.S.System.events l.fn.outside l.outside;
   world : l.machine.world ≡ l.fn.machine.world;
-  left : (F : Facts) → Extends l.outside.facts.now F → run F l.context l.machine (puts (put_at F l.context (drop l.place-index l.places))) ≡ run F l.context l.fn.machine (puts (put_at F l.context l.places));
+  left : (F : Facts) → Extends l.outside.facts.now F
+      → run F l.context l.machine (puts (put_at F l.context (drop l.place-index l.places)))
+      ≡ run F l.context l.fn.machine (puts (put_at F l.context l.places));
 }

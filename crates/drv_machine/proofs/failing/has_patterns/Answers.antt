@@ -10,7 +10,9 @@ pub token_at-requires : goal.token_at-requires
 token_at-requires c = front_in c.args.text.now c.args.start c.args.end (omega (arith, c.if-start-end.false)) c.requires
 
 pub returns-in-Pattern-clause-patterns : goal.returns-in-Pattern-clause-patterns
-returns-in-Pattern-clause-patterns c t brace s = are_patterns c.args.text.now c.args.start c.args.end (omega (arith, c.if-start-end.false)) c.token_at.result c.token_at.ensures c.in-Pattern.is brace s
+returns-in-Pattern-clause-patterns c t brace s = are_patterns c.args.text.now c.args.start c.args.end
+    (omega (arith, c.if-start-end.false)) c.token_at.result c.token_at.ensures c.in-Pattern.is brace s
 
 pub returns-in_default-clause-choices : goal.returns-in_default-clause-choices
-returns-in_default-clause-choices c t brace s = are_choices c.args.text.now c.args.start c.args.end (omega (arith, c.if-start-end.false)) c.token_at.result c.token_at.ensures c.in_default.not-Pattern brace s
+returns-in_default-clause-choices c t brace s = are_choices c.args.text.now c.args.start c.args.end
+    (omega (arith, c.if-start-end.false)) c.token_at.result c.token_at.ensures c.in_default.not-Pattern brace s

@@ -6,11 +6,13 @@ use Rattle.std.proofs.Common.{refl, rules}
 
 pub returns-in_err-push-clause-does : goal.returns-in_err-push-clause-does
 returns-in_err-push-clause-does c F C text brace given b =
-    let failed = too_deep F C text c.args.walk.now c.args.machine.now given c.args.end _ b refl (opening_lifted c.in_err-push.field-0.0) c.in_err-push.ensures.err in
+    let failed = too_deep F C text c.args.walk.now c.args.machine.now given c.args.end _ b refl
+    (opening_lifted c.in_err-push.field-0.0) c.in_err-push.ensures.err in
     let f = c.from_residual.ensures in
     search rules
 
 pub returns-clause-does : goal.returns-clause-does
 returns-clause-does c F C text brace given b =
-    from_begun F C text c.args.walk.now c.args.machine.now c.args.end brace given b c.in_ok-push.ensures.room c.begin_failure.result c.begin_failure.new.self (c.begin_failure.ensures.does F C)
+    from_begun F C text c.args.walk.now c.args.machine.now c.args.end brace given b c.in_ok-push.ensures.room c.begin_failure.result
+    c.begin_failure.new.self (c.begin_failure.ensures.does F C)
     _ refl refl c.in_ok-push.ensures.ok

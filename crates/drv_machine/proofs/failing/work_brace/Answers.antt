@@ -12,15 +12,20 @@ use Rattle.std.proofs.Common.{ap, subst, sym}
 pub returns-then-has_patterns-clause-does : goal.returns-then-has_patterns-clause-does
 returns-then-has_patterns-clause-does g c F e brace given s b =
     let p = c.has_patterns.ensures.patterns c.if-has_patterns.true brace s in
-    leaf F c.args.context.now c.args.text.now c.args.walk.now c.args.machine.now given c.args.end (λ levels star. brace_step F c.args.context.now brace levels star) b c.emit.result c.emit.new.machine
+    leaf F c.args.context.now c.args.text.now c.args.walk.now c.args.machine.now given c.args.end
+    (λ levels star. brace_step F c.args.context.now brace levels star) b c.emit.result c.emit.new.machine
     (gives_as c.emit.new.machine c.emit.result _ _
-    (ap (λ (x : Brace). run F c.args.context.now c.args.machine.now (brace_step F c.args.context.now x (levels_in F c.args.context.now b.arounds) (star_of c.args.context.now c.args.walk.now.star))) (sym p.1))
+    (ap (λ (x : Brace). run F c.args.context.now c.args.machine.now
+    (brace_step F c.args.context.now x (levels_in F c.args.context.now b.arounds) (star_of c.args.context.now c.args.walk.now.star)))
+    (sym p.1))
     (c.emit.ensures.does F e p.0 (subst (λ (x : Brace). Stands c.args.text.now c.args.start (brace_nodes x) c.args.end) p.1 s)))
 
 pub returns-clause-does : goal.returns-clause-does
 returns-clause-does g c F e brace given s b =
     let ch = c.has_patterns.ensures.choices c.if-has_patterns.false brace s in
     c.choose.ensures.does F ch.choices given ch.stands
-    (same_step F c.args.context.now c.args.text.now c.args.walk.now c.args.machine.now given c.args.end (λ levels star. brace_step F c.args.context.now brace levels star) b
+    (same_step F c.args.context.now c.args.text.now c.args.walk.now c.args.machine.now given c.args.end
+    (λ levels star. brace_step F c.args.context.now brace levels star) b
     (λ levels star. choices_step F c.args.context.now ch.choices levels star) c.args.machine.now
-    (ch.same F c.args.context.now c.args.machine.now (levels_in F c.args.context.now b.arounds) (star_of c.args.context.now c.args.walk.now.star)))
+    (ch.same F c.args.context.now c.args.machine.now (levels_in F c.args.context.now b.arounds)
+    (star_of c.args.context.now c.args.walk.now.star)))

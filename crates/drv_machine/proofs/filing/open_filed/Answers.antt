@@ -6,17 +6,21 @@ use Rattle.std.proofs.Common.{ap, refl, rules}
 
 pub returns-then-not-starts_file-clause-does : goal.returns-then-not-starts_file-clause-does
 returns-then-not-starts_file-clause-does g c F e text brace given b =
-    inside_reached F c.args.context.now text c.args.walk.now c.args.machine.now c.args.end brace given b c.starts_file.result (c.starts_file.ensures F) c.if-not-starts_file.true
+    inside_reached F c.args.context.now text c.args.walk.now c.args.machine.now c.args.end brace given b c.starts_file.result
+    (c.starts_file.ensures F) c.if-not-starts_file.true
     c.open_part.result c.open_part.new.walk c.open_part.ensures.ok c.open_part.ensures.room c.open_part.ensures.err
 
 pub returns-in_err-open_part-clause-does : goal.returns-in_err-open_part-clause-does
 returns-in_err-open_part-clause-does g c F e text brace given b =
-    let failed = too_deep F c.args.context.now text c.args.walk.now c.args.machine.now given c.args.end _ b refl c.in_err-open_part.field-0.0 c.in_err-open_part.ensures.err in
+    let failed = too_deep F c.args.context.now text c.args.walk.now c.args.machine.now given c.args.end _ b refl
+    c.in_err-open_part.field-0.0 c.in_err-open_part.ensures.err in
     let f = c.from_residual.ensures in
     search rules
 
 pub returns-clause-does : goal.returns-clause-does
 returns-clause-does g c F e text brace given b =
-    file_reached F c.args.context.now text c.args.walk.now c.args.machine.now c.args.end brace given b c.starts_file.result (c.starts_file.ensures F) c.if-not-starts_file.false
+    file_reached F c.args.context.now text c.args.walk.now c.args.machine.now c.args.end brace given b c.starts_file.result
+    (c.starts_file.ensures F) c.if-not-starts_file.false
     c.in_ok-open_part.ensures.room c.begin_file.result c.begin_file.new.self (c.begin_file.ensures.does F e) c.open_part-2.new.walk
-    (ap (λ (x : Walk). x.end) c.in_ok-open_part.ensures.ok) (ap (λ (x : Walk). x.star) c.in_ok-open_part.ensures.ok) (ap (λ (x : Walk). x.frames) c.in_ok-open_part.ensures.ok)
+    (ap (λ (x : Walk). x.end) c.in_ok-open_part.ensures.ok) (ap (λ (x : Walk). x.star) c.in_ok-open_part.ensures.ok)
+    (ap (λ (x : Walk). x.frames) c.in_ok-open_part.ensures.ok)

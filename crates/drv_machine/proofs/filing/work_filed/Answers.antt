@@ -10,7 +10,8 @@ returns-in_err-open_filed-clause-does g c F e brace given s b =
 
 pub returns-clause-does : goal.returns-clause-does
 returns-clause-does g c F e brace given s b =
-    c.work_brace.ensures.does F e brace given s (c.in_ok-open_filed.ensures.does F (extends_before c.work_brace.ensures.asks e) c.args.text.now brace given b)
+    c.work_brace.ensures.does F e brace given s (c.in_ok-open_filed.ensures.does F
+    (extends_before c.work_brace.ensures.asks e) c.args.text.now brace given b)
 
 pub returns-in_err-open_filed-clause-asks : goal.returns-in_err-open_filed-clause-asks
 returns-in_err-open_filed-clause-asks g c = c.open_filed.ensures.asks

@@ -9,8 +9,11 @@ use Rattle.std.proofs.Common.{Err, rules, ◌+◌, ◌∷◌}
 pub returns-in_err-put_argument-clause-does : goal.returns-in_err-put_argument-clause-does
 returns-in_err-put_argument-clause-does g c F e p items given fits b =
     let failed =
-    leaf F c.args.context.now c.args.text.now c.args.walk.now c.args.machine.now given c.args.each.end (λ levels star. hit_end F c.args.context.now p items levels c.args.switch) b (Err c.in_err-put_argument.field-0.0) c.put_argument.new.self
-    (then_fails F c.args.context.now c.args.machine.now (puts (Break ∷ word_of (argument c.args.context.now c.args.switch))) (λ u. each_from F c.args.context.now p items (levels_in F c.args.context.now b.arounds) (c.args.switch + 1))
+    leaf F c.args.context.now c.args.text.now c.args.walk.now c.args.machine.now given c.args.each.end
+    (λ levels star. hit_end F c.args.context.now p items levels c.args.switch) b
+    (Err c.in_err-put_argument.field-0.0) c.put_argument.new.self
+    (then_fails F c.args.context.now c.args.machine.now (puts (Break ∷ word_of (argument c.args.context.now c.args.switch)))
+    (λ u. each_from F c.args.context.now p items (levels_in F c.args.context.now b.arounds) (c.args.switch + 1))
     c.in_err-put_argument.field-0.0 (c.in_err-put_argument.ensures.does F e)) in
     let f = c.from_residual.ensures in
     search rules
@@ -18,7 +21,9 @@ returns-in_err-put_argument-clause-does g c F e p items given fits b =
 pub returns-clause-does : goal.returns-clause-does
 returns-clause-does g c F e p items given fits b =
     c.enter_next.ensures.does F p items given fits.label_is fits.stands
-    (same_step F c.args.context.now c.args.text.now c.args.walk.now c.args.machine.now given c.args.each.end (λ levels star. hit_end F c.args.context.now p items levels c.args.switch) b
+    (same_step F c.args.context.now c.args.text.now c.args.walk.now c.args.machine.now given c.args.each.end
+    (λ levels star. hit_end F c.args.context.now p items levels c.args.switch) b
     (λ levels star. each_from F c.args.context.now p items levels (c.args.switch + 1)) c.put_argument.new.self
-    (then_ok F c.args.context.now c.args.machine.now (puts (Break ∷ word_of (argument c.args.context.now c.args.switch))) (λ u. each_from F c.args.context.now p items (levels_in F c.args.context.now b.arounds) (c.args.switch + 1)) tt
+    (then_ok F c.args.context.now c.args.machine.now (puts (Break ∷ word_of (argument c.args.context.now c.args.switch)))
+    (λ u. each_from F c.args.context.now p items (levels_in F c.args.context.now b.arounds) (c.args.switch + 1)) tt
     c.put_argument.new.self (c.in_ok-put_argument.ensures.does F e)))

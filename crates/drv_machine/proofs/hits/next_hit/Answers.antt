@@ -2,8 +2,10 @@ use Rattle.drv_machine.proofs.ChoiceSteps.{next_finds, next_within}
 use Rattle.drv_machine.proofs.hits.next_hit.Goals as goal
 
 pub returns-clause-within : goal.returns-clause-within
-returns-clause-within c = next_within c.args.context.now c.switches.result.now c.hidden.result.now c.args.pattern.now c.args.from c.next_hit.result c.switches.ensures c.next_hit.ensures
+returns-clause-within c = next_within c.args.context.now c.switches.result.now c.hidden.result.now c.args.pattern.now c.args.from
+    c.next_hit.result c.switches.ensures c.next_hit.ensures
 
 pub returns-clause-finds : goal.returns-clause-finds
 returns-clause-finds c F p items levels is =
-    next_finds F c.args.context.now p items levels c.args.machine.now c.switches.result.now c.hidden.result.now c.args.pattern.now c.args.from c.next_hit.result c.switches.ensures c.hidden.ensures is c.next_hit.ensures
+    next_finds F c.args.context.now p items levels c.args.machine.now c.switches.result.now c.hidden.result.now c.args.pattern.now
+    c.args.from c.next_hit.result c.switches.ensures c.hidden.ensures is c.next_hit.ensures

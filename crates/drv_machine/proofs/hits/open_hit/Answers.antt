@@ -7,7 +7,8 @@ use Rattle.std.proofs.Common.{ap, arith, refl, rules}
 
 pub returns-in_err-push-clause-does : goal.returns-in_err-push-clause-does
 returns-in_err-push-clause-does c F C text p items s given fits long b =
-    let failed = too_deep F C text c.args.walk.now s given c.args.each.end _ b refl (opening_lifted c.in_err-push.field-0.0) c.in_err-push.ensures.err in
+    let failed = too_deep F C text c.args.walk.now s given c.args.each.end _ b refl
+    (opening_lifted c.in_err-push.field-0.0) c.in_err-push.ensures.err in
     let f = c.from_residual.ensures in
     search rules
 
@@ -19,4 +20,9 @@ returns-clause-does c F C text p items s given fits long b =
 pub returns-clause-lighter : goal.returns-clause-lighter
 returns-clause-lighter c n =
     let e = ap (weight n) c.in_ok-push.ensures.ok in
-    omega (arith, e, weight_one n c.args.walk.now.frames (record { opened = Hit c.args.each c.args.switch; end = c.args.walk.now.end; star = c.args.walk.now.star }))
+    omega (
+      arith,
+      e,
+      weight_one n c.args.walk.now.frames
+          (record { opened = Hit c.args.each c.args.switch; end = c.args.walk.now.end; star = c.args.walk.now.star }),
+    )

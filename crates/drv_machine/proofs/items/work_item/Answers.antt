@@ -11,23 +11,31 @@ use Rattle.drv_syntax.specs.declared.token.TokenKind.TheVariants as kinds
 use Rattle.std.proofs.Common.{[], ◌∷◌, ◌++◌, ap, arith, sym, ◌+◌, ◌∙◌}
 
 pub overflow_add-at : goal.overflow_add-at
-overflow_add-at g c = let later = stand_grows _ _ (c.args.at + 1) c.requires.spans.nodes c.args.token.next c.requires.spans.stands in grind (arith)
+overflow_add-at g c = let later = stand_grows _ _ (c.args.at + 1) c.requires.spans.nodes c.args.token.next c.requires.spans.stands in
+    grind (arith)
 
 pub returns-in-Hide-clause-does : goal.returns-in-Hide-clause-does
 returns-in-Hide-clause-does g c F e levels inner means =
-    sym (by_kind F c.args.context.now c.args.machine.now c.args.token.kind kinds.Hide c.args.text.now c.args.at (star_of c.args.context.now c.args.star) inner c.in-Hide.is) ∙ c.hide.ensures.does F
+    sym (by_kind F c.args.context.now c.args.machine.now c.args.token.kind kinds.Hide c.args.text.now c.args.at
+    (star_of c.args.context.now c.args.star) inner c.in-Hide.is) ∙ c.hide.ensures.does F
 
 pub returns-in-AddOption-clause-does : goal.returns-in-AddOption-clause-does
 returns-in-AddOption-clause-does g c F e levels inner means =
     gives_as c.add_option.new.self c.add_option.result _ _
-    (ap (λ word. run F c.args.context.now c.args.machine.now (change (λ (w : World). record w { options = added word w.options }))) c.word-in-AddOption.ensures ∙ by_kind F c.args.context.now c.args.machine.now c.args.token.kind kinds.AddOption c.args.text.now c.args.at (star_of c.args.context.now c.args.star) inner c.in-AddOption.is) (c.add_option.ensures.does F c.args.context.now)
+    (ap (λ word. run F c.args.context.now c.args.machine.now (change (λ (w : World). record w { options = added word w.options })))
+    c.word-in-AddOption.ensures ∙ by_kind F c.args.context.now c.args.machine.now c.args.token.kind kinds.AddOption c.args.text.now
+    c.args.at (star_of c.args.context.now c.args.star) inner c.in-AddOption.is) (c.add_option.ensures.does F c.args.context.now)
 
 pub returns-in-Notice-clause-does : goal.returns-in-Notice-clause-does
 returns-in-Notice-clause-does g c F e levels inner means =
     gives_as c.add_notice.new.self c.add_notice.result _ _
-    (ap (λ word. run F c.args.context.now c.args.machine.now (change (λ (w : World). record w { notices = w.notices ++ noted word ∷ [] }))) c.word-in-Notice.ensures ∙ by_kind F c.args.context.now c.args.machine.now c.args.token.kind kinds.Notice c.args.text.now c.args.at (star_of c.args.context.now c.args.star) inner c.in-Notice.is) (c.add_notice.ensures.does F c.args.context.now)
+    (ap (λ word. run F c.args.context.now c.args.machine.now (change (λ (w : World). record w { notices = w.notices ++ noted word ∷ [] })))
+    c.word-in-Notice.ensures ∙ by_kind F c.args.context.now c.args.machine.now c.args.token.kind kinds.Notice c.args.text.now c.args.at
+    (star_of c.args.context.now c.args.star) inner c.in-Notice.is) (c.add_notice.ensures.does F c.args.context.now)
 
 pub returns-in-UserError-clause-does : goal.returns-in-UserError-clause-does
 returns-in-UserError-clause-does g c F e levels inner means =
     gives_as c.args.machine.now c.user_error.result _ _
-    (ap (λ word. run F c.args.context.now {X = Unit {0}} c.args.machine.now (refuse (UserError word))) c.word-in-UserError.ensures ∙ by_kind F c.args.context.now c.args.machine.now c.args.token.kind kinds.UserError c.args.text.now c.args.at (star_of c.args.context.now c.args.star) inner c.in-UserError.is) (c.user_error.ensures F c.args.context.now c.args.machine.now)
+    (ap (λ word. run F c.args.context.now {X = Unit {0}} c.args.machine.now (refuse (UserError word))) c.word-in-UserError.ensures
+    ∙ by_kind F c.args.context.now c.args.machine.now c.args.token.kind kinds.UserError c.args.text.now c.args.at
+    (star_of c.args.context.now c.args.star) inner c.in-UserError.is) (c.user_error.ensures F c.args.context.now c.args.machine.now)

@@ -14,16 +14,22 @@ pub returns-in_err-holds-clause-does : goal.returns-in_err-holds-clause-does
 returns-in_err-holds-clause-does g c F e items kept given fits a =
     let fault = c.in_err-holds.field-0.0 in
     let failed =
-    answer_refused F c.args.context.now c.args.walk.now.text.now c.args.walk.now items kept given c.args.asking.end c.args.outer.value c.args.machine.now a fault
-    (subst (λ (name : List ℕ). (fault ≡ Memory) ⊎ (after_arguments F c.args.context.now c.args.outer.value (has_value F c.args.context.now name) c.args.machine.now ≡ Is (Err fault))) (c.word-name.ensures ∙ fits.name_is)
+    answer_refused F c.args.context.now c.args.walk.now.text.now c.args.walk.now items kept given c.args.asking.end c.args.outer.value
+    c.args.machine.now a fault
+    (subst (λ (name : List ℕ). (fault ≡ Memory) ⊎ (after_arguments F c.args.context.now c.args.outer.value
+    (has_value F c.args.context.now name) c.args.machine.now ≡ Is (Err fault))) (c.word-name.ensures ∙ fits.name_is)
     (c.in_err-holds.ensures.does F e)) in
     let f = c.from_residual.ensures in
     search rules
 
 pub returns-clause-does : goal.returns-clause-does
 returns-clause-does g c F e items kept given fits a =
-    went_in F c.args.context.now c.args.walk.now.text.now c.answer.new.walk.text.now c.answer.new.walk c.answer.new.machine given c.answer.result c.answer.ensures.same_text
+    went_in F c.args.context.now c.args.walk.now.text.now c.answer.new.walk.text.now c.answer.new.walk c.answer.new.machine given
+    c.answer.result c.answer.ensures.same_text
     (c.answer.ensures.does F items kept given fits
-    (answered F c.args.context.now c.args.walk.now.text.now c.args.walk.now items kept given c.args.asking.end c.args.outer.value c.args.machine.now a c.in_ok-holds.holds c.has_value.new.self
-    (subst (λ (name : List ℕ). after_arguments F c.args.context.now c.args.outer.value (has_value F c.args.context.now name) c.args.machine.now ≡ Is (Ok (c.in_ok-holds.holds, c.has_value.new.self))) (c.word-name.ensures ∙ fits.name_is)
+    (answered F c.args.context.now c.args.walk.now.text.now c.args.walk.now items kept given c.args.asking.end c.args.outer.value
+    c.args.machine.now a c.in_ok-holds.holds c.has_value.new.self
+    (subst (λ (name : List ℕ). after_arguments F c.args.context.now c.args.outer.value
+    (has_value F c.args.context.now name) c.args.machine.now ≡ Is (Ok (c.in_ok-holds.holds, c.has_value.new.self)))
+    (c.word-name.ensures ∙ fits.name_is)
     (c.in_ok-holds.ensures.does F e))))

@@ -19,29 +19,37 @@ pub loop-walk-init : goal.loop-walk-init
 loop-walk-init g c =
     let same = ap (λ (v : Walk). v.text.now) c.skip.ensures.same in
     let start =
-    left_in no_facts c.args.context.now c.args.walk.now.text.now c.skip.new.self.text.now c.skip.new.self c.args.machine.now (given_of no_facts c.args.context.now c.args.walk.now.text.now c.args.walk.now c.args.machine.now c.requires.lain c.requires.framed) same
-    (c.skip.ensures.does no_facts c.args.context.now c.args.machine.now (given_of no_facts c.args.context.now c.args.walk.now.text.now c.args.walk.now c.args.machine.now c.requires.lain c.requires.framed)
-    (as_left no_facts c.args.context.now c.args.walk.now.text.now c.args.walk.now c.args.machine.now c.requires.lain c.requires.framed)) in record {
+    left_in no_facts c.args.context.now c.args.walk.now.text.now c.skip.new.self.text.now c.skip.new.self c.args.machine.now
+    (given_of no_facts c.args.context.now c.args.walk.now.text.now c.args.walk.now c.args.machine.now c.requires.lain c.requires.framed)
+    same
+    (c.skip.ensures.does no_facts c.args.context.now c.args.machine.now
+    (given_of no_facts c.args.context.now c.args.walk.now.text.now c.args.walk.now c.args.machine.now c.requires.lain c.requires.framed)
+    (as_left no_facts c.args.context.now c.args.walk.now.text.now c.args.walk.now c.args.machine.now c.requires.lain c.requires.framed)) in
+    record {
       asks = asked_none c.args.outside.now;
       lain = record { rest = start.rest; lies = start.lies };
       framed = record { arounds = start.arounds; framed = start.framed };
       sized = c.requires.sized;
       uncounted = refl;
       reached = λ h. item_in c.args.walk.now.text.now c.skip.new.self.text.now c.skip.new.self same (c.skip.ensures.reached h);
-      left = λ F e given left. left_in F c.args.context.now c.args.walk.now.text.now c.skip.new.self.text.now c.skip.new.self c.args.machine.now given same (c.skip.ensures.does F c.args.context.now c.args.machine.now given left);
+      left = λ F e given left. left_in F c.args.context.now c.args.walk.now.text.now c.skip.new.self.text.now c.skip.new.self
+          c.args.machine.now given same (c.skip.ensures.does F c.args.context.now c.args.machine.now given left);
     }
 
 pub returns-in_default-clause-does : goal.returns-in_default-clause-does
 returns-in_default-clause-does g c F e given left =
-    walk_ended F c.args.context.now c.loop-walk.walk.text.now c.loop-walk.walk c.loop-walk.machine given c.loop-walk-test.true (none_popped c.pop.result (length c.loop-walk.walk.frames) c.pop.ensures.variant c.in_default.is)
+    walk_ended F c.args.context.now c.loop-walk.walk.text.now c.loop-walk.walk c.loop-walk.machine given c.loop-walk-test.true
+    (none_popped c.pop.result (length c.loop-walk.walk.frames) c.pop.ensures.variant c.in_default.is)
     (c.loop-walk.invariant.left F e given left)
 
 pub close-requires-clause-fits : goal.close-requires-clause-fits
 close-requires-clause-fits g c =
     can_close c.loop-walk.walk.text.now c.loop-walk.walk c.loop-walk-test.true c.in-Some.frame c.pop.new.self
     (c.pop.ensures.items ∙ ap (λ (o : Option Frame). c.pop.new.self ++ option_to_list o) c.in-Some.is)
-    no_facts c.args.context.now c.loop-walk.machine (given_of no_facts c.args.context.now c.loop-walk.walk.text.now c.loop-walk.walk c.loop-walk.machine c.loop-walk.invariant.lain c.loop-walk.invariant.framed)
-    (as_left no_facts c.args.context.now c.loop-walk.walk.text.now c.loop-walk.walk c.loop-walk.machine c.loop-walk.invariant.lain c.loop-walk.invariant.framed)
+    no_facts c.args.context.now c.loop-walk.machine (given_of no_facts c.args.context.now c.loop-walk.walk.text.now c.loop-walk.walk
+    c.loop-walk.machine c.loop-walk.invariant.lain c.loop-walk.invariant.framed)
+    (as_left no_facts c.args.context.now c.loop-walk.walk.text.now c.loop-walk.walk c.loop-walk.machine c.loop-walk.invariant.lain
+    c.loop-walk.invariant.framed)
 
 pub returns-in_err-close-clause-does : goal.returns-in_err-close-clause-does
 returns-in_err-close-clause-does g c F e given left =
@@ -60,17 +68,25 @@ skip-requires-in-loop-walk g c =
     let left =
     closed c.loop-walk.walk.text.now c.loop-walk.walk c.loop-walk-test.true c.in-Some.frame c.pop.new.self
     (c.pop.ensures.items ∙ ap (λ (o : Option Frame). c.pop.new.self ++ option_to_list o) c.in-Some.is)
-    c.close.new.outside.facts.now c.args.context.now c.loop-walk.machine (given_of c.close.new.outside.facts.now c.args.context.now c.loop-walk.walk.text.now c.loop-walk.walk c.loop-walk.machine c.loop-walk.invariant.lain c.loop-walk.invariant.framed)
-    (as_left c.close.new.outside.facts.now c.args.context.now c.loop-walk.walk.text.now c.loop-walk.walk c.loop-walk.machine c.loop-walk.invariant.lain c.loop-walk.invariant.framed)
+    c.close.new.outside.facts.now c.args.context.now c.loop-walk.machine
+    (given_of c.close.new.outside.facts.now c.args.context.now c.loop-walk.walk.text.now c.loop-walk.walk c.loop-walk.machine
+    c.loop-walk.invariant.lain c.loop-walk.invariant.framed)
+    (as_left c.close.new.outside.facts.now c.args.context.now c.loop-walk.walk.text.now c.loop-walk.walk c.loop-walk.machine
+    c.loop-walk.invariant.lain c.loop-walk.invariant.framed)
     (record c.loop-walk.walk { end = c.in-Some.frame.end; star = c.in-Some.frame.star; frames = c.pop.new.self }) refl refl refl
-    (Left c.close.new.outside.facts.now c.args.context.now c.close.new.walk.text.now c.close.new.walk c.close.new.machine (given_of c.close.new.outside.facts.now c.args.context.now c.loop-walk.walk.text.now c.loop-walk.walk c.loop-walk.machine c.loop-walk.invariant.lain c.loop-walk.invariant.framed))
-    (λ p items kept fits following. c.in_ok-close.ensures.does c.close.new.outside.facts.now (extends_refl c.close.new.outside.facts.now) p items kept
-    (given_of c.close.new.outside.facts.now c.args.context.now c.loop-walk.walk.text.now c.loop-walk.walk c.loop-walk.machine c.loop-walk.invariant.lain c.loop-walk.invariant.framed) fits following) in
+    (Left c.close.new.outside.facts.now c.args.context.now c.close.new.walk.text.now c.close.new.walk c.close.new.machine
+    (given_of c.close.new.outside.facts.now c.args.context.now c.loop-walk.walk.text.now c.loop-walk.walk c.loop-walk.machine
+    c.loop-walk.invariant.lain c.loop-walk.invariant.framed))
+    (λ p items kept fits following. c.in_ok-close.ensures.does c.close.new.outside.facts.now
+    (extends_refl c.close.new.outside.facts.now) p items kept
+    (given_of c.close.new.outside.facts.now c.args.context.now c.loop-walk.walk.text.now c.loop-walk.walk c.loop-walk.machine
+    c.loop-walk.invariant.lain c.loop-walk.invariant.framed) fits following) in
     record { rest = left.rest; lies = left.lies }
 
 pub loop-walk-smaller : goal.loop-walk-smaller
 loop-walk-smaller g c =
-    let eq = ap (weight (length c.args.context.now.switches)) (c.pop.ensures.items ∙ ap (λ (o : Option Frame). c.pop.new.self ++ option_to_list o) c.in-Some.is) in
+    let eq = ap (weight (length c.args.context.now.switches))
+    (c.pop.ensures.items ∙ ap (λ (o : Option Frame). c.pop.new.self ++ option_to_list o) c.in-Some.is) in
     let same = ap (λ (v : Walk). weight (length c.args.context.now.switches) v.frames) c.skip-in-loop-walk.ensures.same in
     omega (arith, eq, weight_one (length c.args.context.now.switches) c.pop.new.self c.in-Some.frame, c.in_ok-close.ensures.lighter, same)
 
@@ -78,25 +94,38 @@ pub loop-walk-preserved : goal.loop-walk-preserved
 loop-walk-preserved g c =
     let same = ap (λ (v : Walk). v.text.now) c.skip-in-loop-walk.ensures.same in
     let after =
-    left_in c.close.new.outside.facts.now c.args.context.now c.close.new.walk.text.now c.skip-in-loop-walk.new.self.text.now c.skip-in-loop-walk.new.self c.close.new.machine
-    (given_of c.close.new.outside.facts.now c.args.context.now c.loop-walk.walk.text.now c.loop-walk.walk c.loop-walk.machine c.loop-walk.invariant.lain c.loop-walk.invariant.framed) same
-    (c.skip-in-loop-walk.ensures.does c.close.new.outside.facts.now c.args.context.now c.close.new.machine (given_of c.close.new.outside.facts.now c.args.context.now c.loop-walk.walk.text.now c.loop-walk.walk c.loop-walk.machine c.loop-walk.invariant.lain c.loop-walk.invariant.framed)
+    left_in c.close.new.outside.facts.now c.args.context.now c.close.new.walk.text.now c.skip-in-loop-walk.new.self.text.now
+    c.skip-in-loop-walk.new.self c.close.new.machine
+    (given_of c.close.new.outside.facts.now c.args.context.now c.loop-walk.walk.text.now c.loop-walk.walk c.loop-walk.machine
+    c.loop-walk.invariant.lain c.loop-walk.invariant.framed) same
+    (c.skip-in-loop-walk.ensures.does c.close.new.outside.facts.now c.args.context.now c.close.new.machine
+    (given_of c.close.new.outside.facts.now c.args.context.now c.loop-walk.walk.text.now c.loop-walk.walk c.loop-walk.machine
+    c.loop-walk.invariant.lain c.loop-walk.invariant.framed)
     (closed c.loop-walk.walk.text.now c.loop-walk.walk c.loop-walk-test.true c.in-Some.frame c.pop.new.self
     (c.pop.ensures.items ∙ ap (λ (o : Option Frame). c.pop.new.self ++ option_to_list o) c.in-Some.is)
-    c.close.new.outside.facts.now c.args.context.now c.loop-walk.machine (given_of c.close.new.outside.facts.now c.args.context.now c.loop-walk.walk.text.now c.loop-walk.walk c.loop-walk.machine c.loop-walk.invariant.lain c.loop-walk.invariant.framed)
-    (as_left c.close.new.outside.facts.now c.args.context.now c.loop-walk.walk.text.now c.loop-walk.walk c.loop-walk.machine c.loop-walk.invariant.lain c.loop-walk.invariant.framed)
+    c.close.new.outside.facts.now c.args.context.now c.loop-walk.machine
+    (given_of c.close.new.outside.facts.now c.args.context.now c.loop-walk.walk.text.now c.loop-walk.walk c.loop-walk.machine
+    c.loop-walk.invariant.lain c.loop-walk.invariant.framed)
+    (as_left c.close.new.outside.facts.now c.args.context.now c.loop-walk.walk.text.now c.loop-walk.walk c.loop-walk.machine
+    c.loop-walk.invariant.lain c.loop-walk.invariant.framed)
     (record c.loop-walk.walk { end = c.in-Some.frame.end; star = c.in-Some.frame.star; frames = c.pop.new.self }) refl refl refl
-    (Left c.close.new.outside.facts.now c.args.context.now c.close.new.walk.text.now c.close.new.walk c.close.new.machine (given_of c.close.new.outside.facts.now c.args.context.now c.loop-walk.walk.text.now c.loop-walk.walk c.loop-walk.machine c.loop-walk.invariant.lain c.loop-walk.invariant.framed))
-    (λ p items kept fits following. c.in_ok-close.ensures.does c.close.new.outside.facts.now (extends_refl c.close.new.outside.facts.now) p items kept
-    (given_of c.close.new.outside.facts.now c.args.context.now c.loop-walk.walk.text.now c.loop-walk.walk c.loop-walk.machine c.loop-walk.invariant.lain c.loop-walk.invariant.framed) fits following))) in record {
+    (Left c.close.new.outside.facts.now c.args.context.now c.close.new.walk.text.now c.close.new.walk c.close.new.machine
+    (given_of c.close.new.outside.facts.now c.args.context.now c.loop-walk.walk.text.now c.loop-walk.walk c.loop-walk.machine
+    c.loop-walk.invariant.lain c.loop-walk.invariant.framed))
+    (λ p items kept fits following. c.in_ok-close.ensures.does c.close.new.outside.facts.now
+    (extends_refl c.close.new.outside.facts.now) p items kept
+    (given_of c.close.new.outside.facts.now c.args.context.now c.loop-walk.walk.text.now c.loop-walk.walk c.loop-walk.machine
+    c.loop-walk.invariant.lain c.loop-walk.invariant.framed) fits following))) in record {
       asks = asked_further c.loop-walk.invariant.asks c.close.ensures.asks;
       lain = record { rest = after.rest; lies = after.lies };
       framed = record { arounds = after.arounds; framed = after.framed };
       sized = c.close.ensures.sized ∙ c.loop-walk.invariant.sized;
       uncounted = c.in_ok-close.ensures.uncounted ∙ c.loop-walk.invariant.uncounted;
-      reached = λ h. item_in c.close.new.walk.text.now c.skip-in-loop-walk.new.self.text.now c.skip-in-loop-walk.new.self same (c.skip-in-loop-walk.ensures.reached h);
+      reached = λ h. item_in c.close.new.walk.text.now c.skip-in-loop-walk.new.self.text.now c.skip-in-loop-walk.new.self same
+          (c.skip-in-loop-walk.ensures.reached h);
       left = λ F e given left.
-          left_in F c.args.context.now c.close.new.walk.text.now c.skip-in-loop-walk.new.self.text.now c.skip-in-loop-walk.new.self c.close.new.machine given same
+          left_in F c.args.context.now c.close.new.walk.text.now c.skip-in-loop-walk.new.self.text.now c.skip-in-loop-walk.new.self
+          c.close.new.machine given same
           (c.skip-in-loop-walk.ensures.does F c.args.context.now c.close.new.machine given
           (closed c.loop-walk.walk.text.now c.loop-walk.walk c.loop-walk-test.true c.in-Some.frame c.pop.new.self
           (c.pop.ensures.items ∙ ap (λ (o : Option Frame). c.pop.new.self ++ option_to_list o) c.in-Some.is)

@@ -15,7 +15,8 @@ invariant-loop-walk g l = record {
   sized : length l.machine.world.hidden ≡ length l.context.switches;
   uncounted : l.machine.world.items ≡ l.fn.machine.world.items;
   reached : l.walk.at < l.walk.end → AtItem l.walk.text.now l.walk;
-  left : (F : Facts) → Extends l.outside.facts.now F → (given : Answer (Unit {0} × Machine)) → Left F l.context l.fn.walk.text.now l.fn.walk l.fn.machine given → Left F l.context l.walk.text.now l.walk l.machine given;
+  left : (F : Facts) → Extends l.outside.facts.now F → (given : Answer (Unit {0} × Machine))
+      → Left F l.context l.fn.walk.text.now l.fn.walk l.fn.machine given → Left F l.context l.walk.text.now l.walk l.machine given;
 }
 
 abbrev pub decreases-loop-walk : goal.decreases-loop-walk

@@ -16,7 +16,8 @@ loop-walk-init g c = record {
 
 pub returns-in_err-settle-clause-does : goal.returns-in_err-settle-clause-does
 returns-in_err-settle-clause-does g c F e given left =
-    let failed = c.in_err-settle.ensures.does F e given (c.loop-walk.invariant.left F (extends_before c.settle.ensures.asks e) given left) in
+    let failed = c.in_err-settle.ensures.does F e given
+    (c.loop-walk.invariant.left F (extends_before c.settle.ensures.asks e) given left) in
     let f = c.from_residual.ensures in
     search rules
 
@@ -26,11 +27,13 @@ returns-in_err-settle-clause-asks g c = asked_further c.loop-walk.invariant.asks
 pub turn-requires-clause-lain : goal.turn-requires-clause-lain
 turn-requires-clause-lain g c =
     let F = c.settle.new.outside.facts.now in
-    let given = given_of F c.args.context.now c.loop-walk.walk.text.now c.loop-walk.walk c.loop-walk.machine c.loop-walk.invariant.lain c.loop-walk.invariant.framed in
+    let given = given_of F c.args.context.now c.loop-walk.walk.text.now c.loop-walk.walk c.loop-walk.machine c.loop-walk.invariant.lain
+    c.loop-walk.invariant.framed in
     lain_of F c.args.context.now c.settle.new.walk.text.now c.settle.new.walk c.settle.new.machine given
     (settled_more F c.args.context.now c.settle.new.walk.text.now c.settle.new.walk c.settle.new.machine given _ c.if-branch.true
     (c.in_ok-settle.ensures.does F (extends_refl F) given
-    (as_left F c.args.context.now c.loop-walk.walk.text.now c.loop-walk.walk c.loop-walk.machine c.loop-walk.invariant.lain c.loop-walk.invariant.framed)))
+    (as_left F c.args.context.now c.loop-walk.walk.text.now c.loop-walk.walk c.loop-walk.machine c.loop-walk.invariant.lain
+    c.loop-walk.invariant.framed)))
 
 pub turn-requires-clause-at_item : goal.turn-requires-clause-at_item
 turn-requires-clause-at_item g c = c.in_ok-settle.ensures.reached c.if-branch.true
@@ -51,13 +54,15 @@ returns-in_err-turn-clause-asks g c = asked_further c.loop-walk.invariant.asks (
 pub work_plain-requires : goal.work_plain-requires
 work_plain-requires g c =
     let F = c.turn.new.outside.facts.now in
-    let given = given_of F c.args.context.now c.loop-walk.walk.text.now c.loop-walk.walk c.loop-walk.machine c.loop-walk.invariant.lain c.loop-walk.invariant.framed in
+    let given = given_of F c.args.context.now c.loop-walk.walk.text.now c.loop-walk.walk c.loop-walk.machine c.loop-walk.invariant.lain
+    c.loop-walk.invariant.framed in
     record {
       lain = lain_of F c.args.context.now c.turn.new.walk.text.now c.turn.new.walk c.turn.new.machine given
           (c.in_ok-turn.ensures.does F (extends_refl F) given
           (settled_more F c.args.context.now c.settle.new.walk.text.now c.settle.new.walk c.settle.new.machine given _ c.if-branch.true
           (c.in_ok-settle.ensures.does F (extends_before c.turn.ensures.asks (extends_refl F)) given
-          (as_left F c.args.context.now c.loop-walk.walk.text.now c.loop-walk.walk c.loop-walk.machine c.loop-walk.invariant.lain c.loop-walk.invariant.framed))));
+          (as_left F c.args.context.now c.loop-walk.walk.text.now c.loop-walk.walk c.loop-walk.machine c.loop-walk.invariant.lain
+          c.loop-walk.invariant.framed))));
     }
 
 pub returns-in_err-work_plain-clause-does : goal.returns-in_err-work_plain-clause-does
@@ -72,22 +77,31 @@ returns-in_err-work_plain-clause-does g c F e given left =
     search rules
 
 pub returns-in_err-work_plain-clause-asks : goal.returns-in_err-work_plain-clause-asks
-returns-in_err-work_plain-clause-asks g c = asked_further c.loop-walk.invariant.asks (asked_further c.settle.ensures.asks c.turn.ensures.asks)
+returns-in_err-work_plain-clause-asks g c = asked_further c.loop-walk.invariant.asks
+    (asked_further c.settle.ensures.asks c.turn.ensures.asks)
 
 pub loop-walk-smaller : goal.loop-walk-smaller
 loop-walk-smaller g c =
-    omega (arith, c.in_ok-settle.ensures.uncounted, c.in_ok-turn.ensures.counts, c.in_ok-turn.ensures.below, c.in_ok-work_plain.ensures.counts)
+    omega (
+      arith,
+      c.in_ok-settle.ensures.uncounted,
+      c.in_ok-turn.ensures.counts,
+      c.in_ok-turn.ensures.below,
+      c.in_ok-work_plain.ensures.counts,
+    )
 
 pub loop-walk-preserved : goal.loop-walk-preserved
 loop-walk-preserved g c =
     let F = c.turn.new.outside.facts.now in
-    let given = given_of F c.args.context.now c.loop-walk.walk.text.now c.loop-walk.walk c.loop-walk.machine c.loop-walk.invariant.lain c.loop-walk.invariant.framed in
+    let given = given_of F c.args.context.now c.loop-walk.walk.text.now c.loop-walk.walk c.loop-walk.machine c.loop-walk.invariant.lain
+    c.loop-walk.invariant.framed in
     let after =
     c.in_ok-work_plain.ensures.does F c.args.context.now given
     (c.in_ok-turn.ensures.does F (extends_refl F) given
     (settled_more F c.args.context.now c.settle.new.walk.text.now c.settle.new.walk c.settle.new.machine given _ c.if-branch.true
     (c.in_ok-settle.ensures.does F (extends_before c.turn.ensures.asks (extends_refl F)) given
-    (as_left F c.args.context.now c.loop-walk.walk.text.now c.loop-walk.walk c.loop-walk.machine c.loop-walk.invariant.lain c.loop-walk.invariant.framed)))) in record {
+    (as_left F c.args.context.now c.loop-walk.walk.text.now c.loop-walk.walk c.loop-walk.machine c.loop-walk.invariant.lain
+    c.loop-walk.invariant.framed)))) in record {
       asks = asked_further c.loop-walk.invariant.asks (asked_further c.settle.ensures.asks c.turn.ensures.asks);
       lain = lain_of F c.args.context.now c.work_plain.new.walk.text.now c.work_plain.new.walk c.work_plain.new.machine given after;
       framed = framed_of F c.args.context.now c.work_plain.new.walk.text.now c.work_plain.new.walk c.work_plain.new.machine given after;

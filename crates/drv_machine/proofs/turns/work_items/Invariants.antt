@@ -13,7 +13,8 @@ invariant-loop-walk g l = record {
   lain : Lain l.walk.text.now l.walk;
   framed : HasFrames l.context l.walk.text.now l.walk;
   sized : length l.machine.world.hidden ≡ length l.context.switches;
-  left : (F : Facts) → Extends l.outside.facts.now F → (given : Answer (Unit {0} × Machine)) → Left F l.context l.fn.walk.text.now l.fn.walk l.fn.machine given → Left F l.context l.walk.text.now l.walk l.machine given;
+  left : (F : Facts) → Extends l.outside.facts.now F → (given : Answer (Unit {0} × Machine))
+      → Left F l.context l.fn.walk.text.now l.fn.walk l.fn.machine given → Left F l.context l.walk.text.now l.walk l.machine given;
 }
 
 abbrev pub decreases-loop-walk : goal.decreases-loop-walk

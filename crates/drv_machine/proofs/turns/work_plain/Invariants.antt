@@ -11,7 +11,8 @@ invariant-loop-walk l = record {
   lain : Lain l.walk.text.now l.walk;
   sized : length l.machine.world.hidden ≡ length l.fn.machine.world.hidden;
   counted : l.fn.machine.world.items ≤ l.machine.world.items;
-  left : (F : Facts) (C : Context) (given : Answer (Unit {0} × Machine)) → Left F C l.fn.walk.text.now l.fn.walk l.fn.machine given → Left F C l.walk.text.now l.walk l.machine given;
+  left : (F : Facts) (C : Context) (given : Answer (Unit {0} × Machine)) → Left F C l.fn.walk.text.now l.fn.walk l.fn.machine given
+      → Left F C l.walk.text.now l.walk l.machine given;
 }
 
 abbrev pub decreases-loop-walk : goal.decreases-loop-walk

@@ -11,24 +11,36 @@ use Rattle.std.proofs.Common.{[], ap, length}
 
 pub work_items-requires-clause-lain : goal.work_items-requires-clause-lain
 work_items-requires-clause-lain g c =
-    let given = run no_facts c.args.context.now c.args.machine.now (items_step no_facts c.args.context.now (tree_of c.args.text.now) (levels_left no_facts c.args.context.now most_open) []) in
+    let given = run no_facts c.args.context.now c.args.machine.now
+    (items_step no_facts c.args.context.now (tree_of c.args.text.now) (levels_left no_facts c.args.context.now most_open) []) in
     lain_of no_facts c.args.context.now c.new-walk.result.text.now c.new-walk.result c.args.machine.now given
-    (left_in no_facts c.args.context.now c.args.text.now c.new-walk.result.text.now c.new-walk.result c.args.machine.now given c.new-walk.ensures.text
-    (started no_facts c.args.context.now c.args.text.now c.new-walk.result c.args.machine.now (tree_of c.args.text.now) (length c.tokens.result.now)
-    (whole_there c.args.text.now (length c.tokens.result.now) (ap (λ ts. length ts) c.tokens.ensures)) c.new-walk.ensures.at c.new-walk.ensures.end c.new-walk.ensures.star c.new-walk.ensures.frames))
+    (left_in no_facts c.args.context.now c.args.text.now c.new-walk.result.text.now c.new-walk.result c.args.machine.now given
+    c.new-walk.ensures.text
+    (started no_facts c.args.context.now c.args.text.now c.new-walk.result c.args.machine.now (tree_of c.args.text.now)
+    (length c.tokens.result.now)
+    (whole_there c.args.text.now (length c.tokens.result.now) (ap (λ ts. length ts) c.tokens.ensures)) c.new-walk.ensures.at
+    c.new-walk.ensures.end c.new-walk.ensures.star c.new-walk.ensures.frames))
 
 pub work_items-requires-clause-framed : goal.work_items-requires-clause-framed
 work_items-requires-clause-framed g c =
-    let given = run no_facts c.args.context.now c.args.machine.now (items_step no_facts c.args.context.now (tree_of c.args.text.now) (levels_left no_facts c.args.context.now most_open) []) in
+    let given = run no_facts c.args.context.now c.args.machine.now
+    (items_step no_facts c.args.context.now (tree_of c.args.text.now) (levels_left no_facts c.args.context.now most_open) []) in
     framed_of no_facts c.args.context.now c.new-walk.result.text.now c.new-walk.result c.args.machine.now given
-    (left_in no_facts c.args.context.now c.args.text.now c.new-walk.result.text.now c.new-walk.result c.args.machine.now given c.new-walk.ensures.text
-    (started no_facts c.args.context.now c.args.text.now c.new-walk.result c.args.machine.now (tree_of c.args.text.now) (length c.tokens.result.now)
-    (whole_there c.args.text.now (length c.tokens.result.now) (ap (λ ts. length ts) c.tokens.ensures)) c.new-walk.ensures.at c.new-walk.ensures.end c.new-walk.ensures.star c.new-walk.ensures.frames))
+    (left_in no_facts c.args.context.now c.args.text.now c.new-walk.result.text.now c.new-walk.result c.args.machine.now given
+    c.new-walk.ensures.text
+    (started no_facts c.args.context.now c.args.text.now c.new-walk.result c.args.machine.now (tree_of c.args.text.now)
+    (length c.tokens.result.now)
+    (whole_there c.args.text.now (length c.tokens.result.now) (ap (λ ts. length ts) c.tokens.ensures)) c.new-walk.ensures.at
+    c.new-walk.ensures.end c.new-walk.ensures.star c.new-walk.ensures.frames))
 
 pub returns-clause-does : goal.returns-clause-does
 returns-clause-does g c F e =
-    let given = run F c.args.context.now c.args.machine.now (items_step F c.args.context.now (tree_of c.args.text.now) (levels_left F c.args.context.now most_open) []) in
+    let given = run F c.args.context.now c.args.machine.now
+    (items_step F c.args.context.now (tree_of c.args.text.now) (levels_left F c.args.context.now most_open) []) in
     c.work_items.ensures.does F e given
-    (left_in F c.args.context.now c.args.text.now c.new-walk.result.text.now c.new-walk.result c.args.machine.now given c.new-walk.ensures.text
-    (started F c.args.context.now c.args.text.now c.new-walk.result c.args.machine.now (tree_of c.args.text.now) (length c.tokens.result.now)
-    (whole_there c.args.text.now (length c.tokens.result.now) (ap (λ ts. length ts) c.tokens.ensures)) c.new-walk.ensures.at c.new-walk.ensures.end c.new-walk.ensures.star c.new-walk.ensures.frames))
+    (left_in F c.args.context.now c.args.text.now c.new-walk.result.text.now c.new-walk.result c.args.machine.now given
+    c.new-walk.ensures.text
+    (started F c.args.context.now c.args.text.now c.new-walk.result c.args.machine.now (tree_of c.args.text.now)
+    (length c.tokens.result.now)
+    (whole_there c.args.text.now (length c.tokens.result.now) (ap (λ ts. length ts) c.tokens.ensures)) c.new-walk.ensures.at
+    c.new-walk.ensures.end c.new-walk.ensures.star c.new-walk.ensures.frames))

@@ -22,7 +22,8 @@ returns-in_err-work_whole-clause-does g c F e =
 pub returns-clause-does : goal.returns-clause-does
 returns-clause-does g c F e =
     subst (λ given. GivesKnown Memory (λ o. o) c.outcome_of.result given)
-    (sym (ap (λ (a : Answer (Unit {0} × Machine)). a >>- λ r. finished F c.args.context.now r.1.world r.1.cut) (c.in_ok-work_whole.ensures.does F (extends_before c.outcome_of.ensures.asks e))))
+    (sym (ap (λ (a : Answer (Unit {0} × Machine)). a >>- λ r. finished F c.args.context.now r.1.world r.1.cut)
+    (c.in_ok-work_whole.ensures.does F (extends_before c.outcome_of.ensures.asks e))))
     (c.outcome_of.ensures.does F e)
 
 pub returns-in_err-work_whole-clause-asks : goal.returns-in_err-work_whole-clause-asks

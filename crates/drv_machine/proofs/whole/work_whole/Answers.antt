@@ -11,7 +11,9 @@ use Rattle.std.proofs.Common.{[], rules, subst, sym, ◌∷◌}
 pub returns-in_err-work_text-clause-does : goal.returns-in_err-work_text-clause-does
 returns-in_err-work_text-clause-does g c F e =
     let failed =
-    then_fails F c.args.context.now c.args.machine.now (items_step F c.args.context.now (tree_of c.args.text.now) (levels_left F c.args.context.now most_open) []) (λ u. puts (Break ∷ End ∷ []))
+    then_fails F c.args.context.now c.args.machine.now
+    (items_step F c.args.context.now (tree_of c.args.text.now) (levels_left F c.args.context.now most_open) [])
+    (λ u. puts (Break ∷ End ∷ []))
     c.in_err-work_text.field-0.0 (c.in_err-work_text.ensures.does F e) in
     let f = c.from_residual.ensures in
     search rules
@@ -19,7 +21,8 @@ returns-in_err-work_text-clause-does g c F e =
 pub returns-clause-does : goal.returns-clause-does
 returns-clause-does g c F e =
     let went =
-    then_ok F c.args.context.now c.args.machine.now (items_step F c.args.context.now (tree_of c.args.text.now) (levels_left F c.args.context.now most_open) []) (λ u. puts (Break ∷ End ∷ [])) tt
+    then_ok F c.args.context.now c.args.machine.now (items_step F c.args.context.now (tree_of c.args.text.now)
+    (levels_left F c.args.context.now most_open) []) (λ u. puts (Break ∷ End ∷ [])) tt
     c.work_text.new.machine (c.in_ok-work_text.ensures.does F (extends_before c.end_line.ensures.asks e)) in
     subst (λ given. GivesKnown Memory (λ u. (tt, c.end_line.new.self)) c.end_line.result given) (sym went) (c.end_line.ensures.does F e)
 

@@ -18,6 +18,7 @@ finish-requires g c =
 pub returns-clause-does : goal.returns-clause-does
 returns-clause-does g c F e =
     subst (λ given. GivesKnown Memory (λ o. o) c.finish.result given)
-    (ap (λ (s : Machine). run F c.args.context.now s (whole_text F c.args.context.now (tree_of c.args.text.now)) >>- λ r. finished F c.args.context.now r.1.world r.1.cut) (c.in_ok-machine.ensures F)
+    (ap (λ (s : Machine). run F c.args.context.now s (whole_text F c.args.context.now (tree_of c.args.text.now))
+    >>- λ r. finished F c.args.context.now r.1.world r.1.cut) (c.in_ok-machine.ensures F)
     ∙ sym (outcome_runs F c.args.context.now (tree_of c.args.text.now)))
     (c.finish.ensures.does F e)

@@ -12,13 +12,21 @@ returns-then-end-eq0 c = named_none c.args.names.now c.args.order.now c.args.nam
 pub returns-then-eq : goal.returns-then-eq
 returns-then-eq c =
     let some : 0 < c.partition_point-end.result = omega arith in
-    let is = named_last c.args.names.now c.args.order.now c.args.name.now c.partition_point-end.result (get_or c.args.order.now (c.partition_point-end.result - 1) 0) c.requires c.partition_point-end.ensures.bound (IsPartitionPoint-from_clause (is_upto c.args.names.now c.args.name.now) c.args.order.now _ c.partition_point-end.ensures.partitioned (upto_parts c.args.names.now c.args.order.now c.args.name.now c.requires) (λ a r q k. search rules)) some refl in
+    let is = named_last c.args.names.now c.args.order.now c.args.name.now c.partition_point-end.result
+    (get_or c.args.order.now (c.partition_point-end.result - 1) 0) c.requires c.partition_point-end.ensures.bound
+    (IsPartitionPoint-from_clause (is_upto c.args.names.now c.args.name.now) c.args.order.now _
+    c.partition_point-end.ensures.partitioned (upto_parts c.args.names.now c.args.order.now c.args.name.now c.requires)
+    (λ a r q k. search rules)) some refl in
     chosen (pointwise nat_eq c.args.name.now) c.args.names.now (get_or c.args.order.now (c.partition_point-end.result - 1) 0) _
     (sym (c.eq.ensures ∙ ap (λ t. pointwise nat_eq t c.args.name.now) c.get.ensures) ∙ c.if-eq.true) is
 
 pub returns-else-eq : goal.returns-else-eq
 returns-else-eq c =
     let some : 0 < c.partition_point-end.result = omega arith in
-    let is = named_last c.args.names.now c.args.order.now c.args.name.now c.partition_point-end.result (get_or c.args.order.now (c.partition_point-end.result - 1) 0) c.requires c.partition_point-end.ensures.bound (IsPartitionPoint-from_clause (is_upto c.args.names.now c.args.name.now) c.args.order.now _ c.partition_point-end.ensures.partitioned (upto_parts c.args.names.now c.args.order.now c.args.name.now c.requires) (λ a r q k. search rules)) some refl in
+    let is = named_last c.args.names.now c.args.order.now c.args.name.now c.partition_point-end.result
+    (get_or c.args.order.now (c.partition_point-end.result - 1) 0) c.requires c.partition_point-end.ensures.bound
+    (IsPartitionPoint-from_clause (is_upto c.args.names.now c.args.name.now) c.args.order.now _
+    c.partition_point-end.ensures.partitioned (upto_parts c.args.names.now c.args.order.now c.args.name.now c.requires)
+    (λ a r q k. search rules)) some refl in
     passed (pointwise nat_eq c.args.name.now) c.args.names.now (get_or c.args.order.now (c.partition_point-end.result - 1) 0) _
     (sym (c.eq.ensures ∙ ap (λ t. pointwise nat_eq t c.args.name.now) c.get.ensures) ∙ c.if-eq.false) is

@@ -10,13 +10,16 @@ use Rattle.std.proofs.lemmas.Grind.{common_steps}
 
 pub index_mut-requires : goal.index_mut-requires
 index_mut-requires c =
-    let within : get_or c.args.order.now c.loop-k.k 0 < length c.args.names.now = in_range c.args.names.now c.args.order.now c.requires.in_order c.loop-k.k 0 (omega arith) in
+    let within : get_or c.args.order.now c.loop-k.k 0 < length c.args.names.now =
+    in_range c.args.names.now c.args.order.now c.requires.in_order c.loop-k.k 0 (omega arith) in
     grind (arith, common_steps)
 
 pub loop-k-preserved : goal.loop-k-preserved
 loop-k-preserved c =
-    let within : get_or c.args.order.now c.loop-k.k 0 < length c.args.names.now = in_range c.args.names.now c.args.order.now c.requires.in_order c.loop-k.k 0 (omega arith) in
-    let known : IsLast (λ later. cancels later (name_at c.args.names.now (get_or c.args.order.now c.loop-k.k 0))) c.args.names.now c.if-k-eq0.first_live = elim c.if-k-eq0.branch [
+    let within : get_or c.args.order.now c.loop-k.k 0 < length c.args.names.now =
+    in_range c.args.names.now c.args.order.now c.requires.in_order c.loop-k.k 0 (omega arith) in
+    let known : IsLast (λ later. cancels later (name_at c.args.names.now (get_or c.args.order.now c.loop-k.k 0))) c.args.names.now
+    c.if-k-eq0.first_live = elim c.if-k-eq0.branch [
       | then-k-eq0+in_ok-first_live w ↦ rw (w.first_live-is, ← c.get-name.ensures) w.in_ok-first_live.ensures
       | else-k-eq0+else-ne w ↦
           let some : 0 < c.loop-k.k = omega arith in

@@ -9,7 +9,10 @@ use Rattle.std.specs.Ordering.{is_lt}
 
 pub returns : goal.returns
 returns c =
-    let all : c.in_ok-order.order.items ≡ range_with_len 0 (length c.args.names.now) = IfOk-at_ok (λ places. places.items ≡ range_with_len 0 (length c.args.names.now)) c.in_ok-order.was (items_from_collect _ c.collect.ensures.ran (YieldsList-from_range 0 c.len.result (length c.args.names.now) refl (omega (arith, c.len.ensures)))) in
+    let all : c.in_ok-order.order.items ≡ range_with_len 0 (length c.args.names.now) =
+    IfOk-at_ok (λ places. places.items ≡ range_with_len 0 (length c.args.names.now)) c.in_ok-order.was
+    (items_from_collect _ c.collect.ensures.ran (YieldsList-from_range 0 c.len.result (length c.args.names.now) refl
+    (omega (arith, c.len.ensures)))) in
     in_order c.args.names.now _ _ all c.in_ok-sort_by.ensures.permutation
     (c.in_ok-sort_by.ensures.sorted (is_before c.args.names.now) (names_rank c.args.names.now)
     (always_returns_same _ (λ a r. is_lt r ≡ is_before c.args.names.now a.0.now a.1.0.now) _ (λ a r q k. search rules)))

@@ -8,5 +8,6 @@ use Rattle.std.specs.Slice.Iter.{iter_rest}
 pub returns-clause-is : goal.returns-clause-is
 returns-clause-is c =
     count_from_yields_List _ _ c.count.ensures.ran
-    (YieldsList-from_filter _ ends_line (YieldsList-from_slice c.args.bytes.now (ap iter_rest c.filter.ensures.source ∙ c.iter.ensures.rest))
+    (YieldsList-from_filter _ ends_line (YieldsList-from_slice c.args.bytes.now
+    (ap iter_rest c.filter.ensures.source ∙ c.iter.ensures.rest))
     c.filter.ensures.closure (λ x r q k. search (rules, tests)))

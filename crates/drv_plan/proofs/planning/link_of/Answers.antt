@@ -5,7 +5,9 @@ use Rattle.std.proofs.Common.{Some, refl}
 
 pub returns-in-Some-clause-works : goal.returns-in-Some-clause-works
 returns-in-Some-clause-works g c F e =
-    given_alike _ c.link_with.result (with_text F (Some c.in-Some.text.now) c.args.progress.now) (with_link F c.args.set.now c.args.progress.now)
-    (link_tried F c.args.set.now c.args.progress.now c.as_slice.result.now c.is_empty_link.result _ (Some c.in-Some.text.now) c.as_slice.ensures c.is_empty_link.ensures c.if-is_empty_link.false refl
+    given_alike _ c.link_with.result (with_text F (Some c.in-Some.text.now) c.args.progress.now)
+    (with_link F c.args.set.now c.args.progress.now)
+    (link_tried F c.args.set.now c.args.progress.now c.as_slice.result.now c.is_empty_link.result _
+    (Some c.in-Some.text.now) c.as_slice.ensures c.is_empty_link.ensures c.if-is_empty_link.false refl
     (lent_is _ c.tree.result c.in-Some.text _ c.tree.ensures c.in-Some.is))
     (c.link_with.ensures.works F e)

@@ -6,7 +6,8 @@ use Rattle.std.proofs.Common.{◌∙◌, sym}
 pub returns-in-Some-clause-hit : goal.returns-in-Some-clause-hit
 returns-in-Some-clause-hit g c F e =
     sym (c.loop-prefix.invariant.rest F (extends_before c.found_under.ensures.asks e))
-    ∙ prefix_hit F c.args.prefixes.now c.args.name.now c.loop-prefix.prefix-index c.prefix-item.result c.as_bytes.result.now c.in-Some.hit c.in_ok-hit.field-0
+    ∙ prefix_hit F c.args.prefixes.now c.args.name.now c.loop-prefix.prefix-index c.prefix-item.result c.as_bytes.result.now c.in-Some.hit
+    c.in_ok-hit.field-0
     c.loop-prefix-test.true c.prefix-item.is c.as_bytes.ensures (c.in_ok-hit.ensures.hit F e) c.in-Some.is
 
 pub loop-prefix-preserved : goal.loop-prefix-preserved

@@ -5,4 +5,5 @@ use Rattle.std.proofs.Common.{◌≡◌, drop, map}
 use Rattle.std.specs.List.{filter}
 
 abbrev pub invariant-loop-row : goal.invariant-loop-row
-invariant-loop-row l = all_added l.entries (filter has_no_text (map pair_shown (drop l.row-index l.rows))) ≡ all_added l.fn.entries (filter has_no_text (map pair_shown l.rows))
+invariant-loop-row l = all_added l.entries (filter has_no_text (map pair_shown (drop l.row-index l.rows)))
+    ≡ all_added l.fn.entries (filter has_no_text (map pair_shown l.rows))

@@ -6,5 +6,59 @@ pub returns : goal.returns
 unfolding builtin_named
 returns c = record {
   texts = refl;
-  trees = (record { parts = refl; words = refl }, (record { parts = refl; words = refl }, (record { parts = refl; words = refl }, (record { parts = refl; words = refl }, (record { parts = refl; words = refl }, (record { parts = refl; words = refl }, (record { parts = refl; words = refl }, (record { parts = refl; words = refl }, (record { parts = refl; words = refl }, (record { parts = refl; words = refl }, (record { parts = refl; words = refl }, (record { parts = refl; words = refl }, (record { parts = refl; words = refl }, (record { parts = refl; words = refl }, (record { parts = refl; words = refl }, (record { parts = refl; words = refl }, (record { parts = refl; words = refl }, (record { parts = refl; words = refl }, (record { parts = refl; words = refl }, tt)))))))))))))))))));
+  trees = (
+    record { parts = refl; words = refl },
+    (
+      record { parts = refl; words = refl },
+      (
+        record { parts = refl; words = refl },
+        (
+          record { parts = refl; words = refl },
+          (
+            record { parts = refl; words = refl },
+            (
+              record { parts = refl; words = refl },
+              (
+                record { parts = refl; words = refl },
+                (
+                  record { parts = refl; words = refl },
+                  (
+                    record { parts = refl; words = refl },
+                    (
+                      record { parts = refl; words = refl },
+                      (
+                        record { parts = refl; words = refl },
+                        (
+                          record { parts = refl; words = refl },
+                          (
+                            record { parts = refl; words = refl },
+                            (
+                              record { parts = refl; words = refl },
+                              (
+                                record { parts = refl; words = refl },
+                                (
+                                  record { parts = refl; words = refl },
+                                  (
+                                    record { parts = refl; words = refl },
+                                    (
+                                      record { parts = refl; words = refl },
+                                      (record { parts = refl; words = refl }, tt),
+                                    ),
+                                  ),
+                                ),
+                              ),
+                            ),
+                          ),
+                        ),
+                      ),
+                    ),
+                  ),
+                ),
+              ),
+            ),
+          ),
+        ),
+      ),
+    ),
+  );
 }

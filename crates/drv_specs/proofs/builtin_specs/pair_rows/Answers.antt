@@ -6,5 +6,89 @@ pub returns : goal.returns
 unfolding builtin_pairs
 returns c = record {
   texts = refl;
-  trees = (refl, (refl, (refl, (refl, (refl, (refl, (refl, (refl, (refl, (refl, (refl, (refl, (refl, (refl, (refl, (refl, (refl, (refl, (refl, (refl, (refl, (refl, (refl, ((refl, record { parts = refl; words = refl }), ((refl, record { parts = refl; words = refl }), ((refl, record { parts = refl; words = refl }), ((refl, record { parts = refl; words = refl }), tt)))))))))))))))))))))))))));
+  trees = (
+    refl,
+    (
+      refl,
+      (
+        refl,
+        (
+          refl,
+          (
+            refl,
+            (
+              refl,
+              (
+                refl,
+                (
+                  refl,
+                  (
+                    refl,
+                    (
+                      refl,
+                      (
+                        refl,
+                        (
+                          refl,
+                          (
+                            refl,
+                            (
+                              refl,
+                              (
+                                refl,
+                                (
+                                  refl,
+                                  (
+                                    refl,
+                                    (
+                                      refl,
+                                      (
+                                        refl,
+                                        (
+                                          refl,
+                                          (
+                                            refl,
+                                            (
+                                              refl,
+                                              (
+                                                refl,
+                                                (
+                                                  (refl, record { parts = refl; words = refl }),
+                                                  (
+                                                    (refl, record { parts = refl; words = refl }),
+                                                    (
+                                                      (refl, record { parts = refl; words = refl }),
+                                                      (
+                                                        (
+                                                          refl,
+                                                          record { parts = refl; words = refl },
+                                                        ),
+                                                        tt,
+                                                      ),
+                                                    ),
+                                                  ),
+                                                ),
+                                              ),
+                                            ),
+                                          ),
+                                        ),
+                                      ),
+                                    ),
+                                  ),
+                                ),
+                              ),
+                            ),
+                          ),
+                        ),
+                      ),
+                    ),
+                  ),
+                ),
+              ),
+            ),
+          ),
+        ),
+      ),
+    ),
+  );
 }

@@ -4,9 +4,11 @@ use Rattle.drv_specs.specs.Blanks.{is_blank}
 use Rattle.std.proofs.Common.{length, refl}
 
 pub returns-clause-bytes : goal.returns-clause-bytes
-returns-clause-bytes c = front_by is_blank c.args.text.now c.following.result.now c.first_solid.result (length c.args.text.now) c.unwrap_or-stays.result c.first_solid.ensures refl c.unwrap_or-stays.ensures c.following.ensures
+returns-clause-bytes c = front_by is_blank c.args.text.now c.following.result.now c.first_solid.result
+    (length c.args.text.now) c.unwrap_or-stays.result c.first_solid.ensures refl c.unwrap_or-stays.ensures c.following.ensures
 
 pub returns-clause-within : goal.returns-clause-within
 returns-clause-within c =
     front_within is_blank c.args.text.now c.following.result.now
-    (front_by is_blank c.args.text.now c.following.result.now c.first_solid.result (length c.args.text.now) c.unwrap_or-stays.result c.first_solid.ensures refl c.unwrap_or-stays.ensures c.following.ensures)
+    (front_by is_blank c.args.text.now c.following.result.now c.first_solid.result
+    (length c.args.text.now) c.unwrap_or-stays.result c.first_solid.ensures refl c.unwrap_or-stays.ensures c.following.ensures)

@@ -4,7 +4,11 @@ use Rattle.std.proofs.Common.{◌≡◌, ◌≤◌, length, take}
 use Rattle.drv_specs.proofs.bytes.without_end_white.Given as goal
 
 abbrev pub invariant-loop-end : goal.invariant-loop-end
-invariant-loop-end l = record { within : l.end ≤ length l.text; rest : without_end is_white (take l.end l.text) ≡ without_end is_white l.text }
+invariant-loop-end l = record {
+  within : l.end ≤ length l.text;
+  rest : without_end is_white (take l.end l.text)
+      ≡ without_end is_white l.text;
+}
 
 abbrev pub decreases-loop-end : goal.decreases-loop-end
 decreases-loop-end l = l.end

@@ -4,4 +4,5 @@ use Rattle.std.proofs.Common.{◌≡◌, ◌++◌, flat_map}
 use Rattle.drv_specs.proofs.dumping.push_texts.Given as goal
 
 abbrev pub invariant-loop-name : goal.invariant-loop-name
-invariant-loop-name l = l.dump ++ flat_map named_text (texts_left l.name-iterator) ≡ l.fn.dump ++ flat_map named_text (texts_left l.named.entries)
+invariant-loop-name l = l.dump ++ flat_map named_text (texts_left l.name-iterator) ≡ l.fn.dump
+    ++ flat_map named_text (texts_left l.named.entries)

@@ -11,11 +11,16 @@ use Rattle.std.proofs.lemmas.List.{append-nil}
 pub loop-line-preserved : goal.loop-line-preserved
 loop-line-preserved c =
     let rest = c.loop-line.invariant.rest ∙ c.in-Some.ensures.bytes in
-    let size : size_left c.loop-line.left ≡ length (newline ∷ c.in-Some.line.now) + size_left c.in-Some.following = ap length c.in-Some.ensures.bytes ∙ length-append (newline ∷ c.in-Some.line.now) (bytes_from (text_left c.in-Some.following)) in
+    let size : size_left c.loop-line.left ≡ length (newline ∷ c.in-Some.line.now) + size_left c.in-Some.following =
+    ap length c.in-Some.ensures.bytes ∙ length-append (newline ∷ c.in-Some.line.now) (bytes_from (text_left c.in-Some.following)) in
     record {
-      body = body_size (bytes_from (text_left c.args.lines)) (bytes_from (text_left c.in-Some.following)) c.in-Some.line.now c.loop-line.size (lines_left c.in-Some.following) (lines_left c.args.lines) rest c.in-Some.ensures.full
-          (ap (λ ls. take c.loop-line.size (bytes_from (text_left c.args.lines)) ++ flat_map (λ l. newline ∷ l) (body_lines ls)) (sym c.in-Some.ensures.lines) ∙ c.loop-line.invariant.body);
-      rest = body_rest (bytes_from (text_left c.args.lines)) (bytes_from (text_left c.in-Some.following)) c.in-Some.line.now c.loop-line.size rest;
+      body = body_size (bytes_from (text_left c.args.lines))
+          (bytes_from (text_left c.in-Some.following)) c.in-Some.line.now c.loop-line.size (lines_left c.in-Some.following)
+          (lines_left c.args.lines) rest c.in-Some.ensures.full
+          (ap (λ ls. take c.loop-line.size (bytes_from (text_left c.args.lines)) ++ flat_map (λ l. newline ∷ l) (body_lines ls))
+          (sym c.in-Some.ensures.lines) ∙ c.loop-line.invariant.body);
+      rest = body_rest (bytes_from (text_left c.args.lines))
+          (bytes_from (text_left c.in-Some.following)) c.in-Some.line.now c.loop-line.size rest;
       within = omega (arith, size, c.loop-line.invariant.within);
       lines =
           c.loop-line.invariant.lines ∙ ap (read_lines true c.loop-line.left.number) c.in-Some.ensures.lines
@@ -28,5 +33,6 @@ pub returns-clause-body : goal.returns-clause-body
 returns-clause-body c =
     c.first_lines.ensures
     ∙ ap (drop 1) (sym (append-nil (take c.loop-line.size (bytes_from (text_left c.args.lines))))
-    ∙ ap (λ ls. take c.loop-line.size (bytes_from (text_left c.args.lines)) ++ flat_map (λ l. newline ∷ l) ls) (sym c.in_default.ensures.none) ∙ c.loop-line.invariant.body)
+    ∙ ap (λ ls. take c.loop-line.size (bytes_from (text_left c.args.lines)) ++ flat_map (λ l. newline ∷ l) ls)
+    (sym c.in_default.ensures.none) ∙ c.loop-line.invariant.body)
     ∙ joined_lines (body_lines (lines_left c.args.lines))

@@ -7,7 +7,8 @@ use Rattle.std.proofs.Common.{◌≡◌, ◌≤◌, ◌+◌, ◌∷◌, ◌++◌
 -- the lines that were passed are first, and those that are left follow them
 abbrev pub invariant-loop-line : goal.invariant-loop-line
 invariant-loop-line l = record {
-  body : take l.size (bytes_from (text_left l.lines)) ++ flat_map (λ line. newline ∷ line) (body_lines (lines_left l.left)) ≡ flat_map (λ line. newline ∷ line) (body_lines (lines_left l.lines));
+  body : take l.size (bytes_from (text_left l.lines)) ++ flat_map (λ line. newline ∷ line) (body_lines (lines_left l.left))
+      ≡ flat_map (λ line. newline ∷ line) (body_lines (lines_left l.lines));
   rest : drop l.size (bytes_from (text_left l.lines)) ≡ bytes_from (text_left l.left);
   within : l.size + size_left l.left ≡ length (bytes_from (text_left l.lines));
   lines : read_lines true l.lines.number (lines_left l.lines) ≡ read_lines true l.left.number (lines_left l.left);

@@ -8,18 +8,24 @@ use Rattle.std.specs.Option.{option_map}
 pub returns-then-is_empty_line-clause-none : goal.returns-then-is_empty_line-clause-none
 returns-then-is_empty_line-clause-none c =
     ap (λ t. body_lines (lines_from (option_map (λ b. b.now) t))) c.in-Some.is
-    ∙ ap body_lines (lines_are c.in-Some.text.now c.cut_line.result.0.now (option_map (λ b. b.now) c.cut_line.result.1) c.cut_line.ensures.whole c.cut_line.ensures.line)
-    ∙ body_over c.cut_line.result.0.now (lines_from (option_map (λ b. b.now) c.cut_line.result.1)) (sym c.is_empty_line.ensures ∙ c.if-is_empty_line.true)
+    ∙ ap body_lines (lines_are c.in-Some.text.now c.cut_line.result.0.now
+    (option_map (λ b. b.now) c.cut_line.result.1) c.cut_line.ensures.whole c.cut_line.ensures.line)
+    ∙ body_over c.cut_line.result.0.now (lines_from (option_map (λ b. b.now) c.cut_line.result.1))
+    (sym c.is_empty_line.ensures ∙ c.if-is_empty_line.true)
 
 pub returns-then-is_empty_line-clause-outside : goal.returns-then-is_empty_line-clause-outside
 returns-then-is_empty_line-clause-outside c n =
     ap (λ t. read_lines true n (lines_from (option_map (λ b. b.now) t))) c.in-Some.is
-    ∙ ap (read_lines true n) (lines_are c.in-Some.text.now c.cut_line.result.0.now (option_map (λ b. b.now) c.cut_line.result.1) c.cut_line.ensures.whole c.cut_line.ensures.line)
-    ∙ outside_now c.cut_line.result.0.now (lines_from (option_map (λ b. b.now) c.cut_line.result.1)) (sym c.is_empty_line.ensures ∙ c.if-is_empty_line.true) n
+    ∙ ap (read_lines true n) (lines_are c.in-Some.text.now c.cut_line.result.0.now
+    (option_map (λ b. b.now) c.cut_line.result.1) c.cut_line.ensures.whole c.cut_line.ensures.line)
+    ∙ outside_now c.cut_line.result.0.now (lines_from (option_map (λ b. b.now) c.cut_line.result.1))
+    (sym c.is_empty_line.ensures ∙ c.if-is_empty_line.true) n
     ∙ sym (ap (λ t. read_lines false n (lines_from (option_map (λ b. b.now) t))) c.in-Some.is
-    ∙ ap (read_lines false n) (lines_are c.in-Some.text.now c.cut_line.result.0.now (option_map (λ b. b.now) c.cut_line.result.1) c.cut_line.ensures.whole c.cut_line.ensures.line))
+    ∙ ap (read_lines false n) (lines_are c.in-Some.text.now c.cut_line.result.0.now
+    (option_map (λ b. b.now) c.cut_line.result.1) c.cut_line.ensures.whole c.cut_line.ensures.line))
 
 pub returns-clause-lines : goal.returns-clause-lines
 returns-clause-lines c =
     ap (λ t. lines_from (option_map (λ b. b.now) t)) c.in-Some.is
-    ∙ lines_are c.in-Some.text.now c.cut_line.result.0.now (option_map (λ b. b.now) c.cut_line.result.1) c.cut_line.ensures.whole c.cut_line.ensures.line
+    ∙ lines_are c.in-Some.text.now c.cut_line.result.0.now
+    (option_map (λ b. b.now) c.cut_line.result.1) c.cut_line.ensures.whole c.cut_line.ensures.line

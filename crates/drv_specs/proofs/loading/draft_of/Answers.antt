@@ -6,5 +6,7 @@ use Rattle.std.proofs.Common.{ap}
 
 pub returns-clause-works : goal.returns-clause-works
 returns-clause-works g c F e =
-    given_alike _ c.worked_entries.result (worked F c.args.prefixes.now c.in_ok-draft.draft c.args.files (read_settled c.args.text.now)) (worked F c.args.prefixes.now c.args.entries.now c.args.files (read_settled c.args.text.now))
-    (ap (λ set. worked F c.args.prefixes.now set c.args.files (read_settled c.args.text.now)) c.in_ok-draft.ensures) (c.worked_entries.ensures.works F e)
+    given_alike _ c.worked_entries.result (worked F c.args.prefixes.now c.in_ok-draft.draft c.args.files (read_settled c.args.text.now))
+    (worked F c.args.prefixes.now c.args.entries.now c.args.files (read_settled c.args.text.now))
+    (ap (λ set. worked F c.args.prefixes.now set c.args.files (read_settled c.args.text.now)) c.in_ok-draft.ensures)
+    (c.worked_entries.ensures.works F e)

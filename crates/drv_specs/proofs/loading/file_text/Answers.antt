@@ -8,12 +8,20 @@ pub returns-in_err-path-clause-asks : goal.returns-in_err-path-clause-asks
 returns-in_err-path-clause-asks g c = record { asks = c.find_file.ensures.asks; same_sys = refl; same_facts = refl }
 
 pub returns-in_err-read-clause-asks : goal.returns-in_err-read-clause-asks
-returns-in_err-read-clause-asks g c = record { asks = asks_then c.find_file.ensures.asks c.read.ensures.asks; same_sys = refl; same_facts = refl }
+returns-in_err-read-clause-asks g c = record {
+  asks = asks_then c.find_file.ensures.asks c.read.ensures.asks;
+  same_sys = refl;
+  same_facts =
+      refl;
+}
 
 pub returns-clause-asks : goal.returns-clause-asks
 returns-clause-asks g c = record { asks = asks_then c.find_file.ensures.asks c.read.ensures.asks; same_sys = refl; same_facts = refl }
 
 pub returns-clause-text : goal.returns-clause-text
 returns-clause-text g c F e =
-    text_given _ (λ left. left.items) F c.read.new.self c.args.prefixes.now c.args.if_missing c.args.name.now c.in_ok-path.path c.read_answer-answer.result.now c.text_read.result
-    (ap (λ n. file_found F c.args.prefixes.now n) (sym c.in_ok-name.ensures) ∙ c.in_ok-path.ensures.path F (extends_then (asks_extends c.read.ensures.asks) e)) e c.read_answer-answer.ensures c.text_read.ensures
+    text_given _ (λ left. left.items) F c.read.new.self c.args.prefixes.now c.args.if_missing c.args.name.now c.in_ok-path.path
+    c.read_answer-answer.result.now c.text_read.result
+    (ap (λ n. file_found F c.args.prefixes.now n) (sym c.in_ok-name.ensures)
+    ∙ c.in_ok-path.ensures.path F (extends_then (asks_extends c.read.ensures.asks) e)) e c.read_answer-answer.ensures
+    c.text_read.ensures

@@ -6,10 +6,13 @@ use Rattle.std.proofs.Common.{refl}
 
 pub returns-in_err-carry_out-clause-works : goal.returns-in_err-carry_out-clause-works
 returns-in_err-carry_out-clause-works g c F e =
-    refusal_given c.in_err-carry_out.field-0.0 c.from_residual.result _ (worked F c.args.prefixes.now c.args.entries c.args.files (read_settled c.args.text.now)) c.from_residual.ensures.1
-    (worked_fails F c.args.prefixes.now c.args.entries c.args.entries refl c.args.files (read_settled c.args.text.now) c.in_err-carry_out.field-0.0 (c.in_err-carry_out.ensures.carried F e))
+    refusal_given c.in_err-carry_out.field-0.0 c.from_residual.result _
+    (worked F c.args.prefixes.now c.args.entries c.args.files (read_settled c.args.text.now)) c.from_residual.ensures.1
+    (worked_fails F c.args.prefixes.now c.args.entries c.args.entries refl c.args.files
+    (read_settled c.args.text.now) c.in_err-carry_out.field-0.0 (c.in_err-carry_out.ensures.carried F e))
 
 pub returns-clause-works : goal.returns-clause-works
 returns-clause-works g c F e =
-    worked_given F c.args.prefixes.now c.args.entries c.args.entries refl c.args.files (read_settled c.args.text.now) (record { set = c.carry_out.new.entries; files = c.carry_out.new.files })
+    worked_given F c.args.prefixes.now c.args.entries c.args.entries refl c.args.files (read_settled c.args.text.now)
+    (record { set = c.carry_out.new.entries; files = c.carry_out.new.files })
     (c.in_ok-carry_out.ensures.carried F e)

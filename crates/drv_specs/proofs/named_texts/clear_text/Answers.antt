@@ -5,7 +5,8 @@ use Rattle.std.proofs.Common.{◌∙◌, None, ap, sym}
 use Rattle.std.specs.Option.{option_copied_mut}
 
 pub returns-in-Some : goal.returns-in-Some
-returns-in-Some c = ap texts_left (c.get_mut.follows.holds None).0 ∙ left_without c.args.name.now c.args.kept.now.entries c.get_mut.ensures.unique
+returns-in-Some c = ap texts_left (c.get_mut.follows.holds None).0
+    ∙ left_without c.args.name.now c.args.kept.now.entries c.get_mut.ensures.unique
 
 pub returns-in-None : goal.returns-in-None
 returns-in-None c =

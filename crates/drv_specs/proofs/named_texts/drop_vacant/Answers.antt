@@ -4,4 +4,5 @@ use Rattle.indexmap.proofs.CallerLemmas.{filter-RetainsPairs}
 use Rattle.std.proofs.Common.{rules}
 
 pub returns : goal.returns
-returns c = left_kept c.args.kept.now.entries c.retain.new.self.entries (filter-RetainsPairs _ _ _ (λ k v b w g call. search rules) _ _ c.retain.ensures.filtered)
+returns c = left_kept c.args.kept.now.entries c.retain.new.self.entries
+    (filter-RetainsPairs _ _ _ (λ k v b w g call. search rules) _ _ c.retain.ensures.filtered)

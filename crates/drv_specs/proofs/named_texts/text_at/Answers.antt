@@ -5,15 +5,18 @@ use Rattle.std.specs.Map.Iter.{deref_pair}
 use Rattle.std.specs.Option.{option_flatten, option_map}
 
 pub returns-in_default : goal.returns-in_default
-returns-in_default c = sym (unlisted c.args.name.now c.args.kept.now.entries (none_of _ (sym c.get_index_of.ensures.found ∙ ap is_some c.in_default.is)))
+returns-in_default c = sym (unlisted c.args.name.now c.args.kept.now.entries
+    (none_of _ (sym c.get_index_of.ensures.found ∙ ap is_some c.in_default.is)))
 
 pub returns-in_default-get_index : goal.returns-in_default-get_index
 returns-in_default-get_index c =
-    sym (text_found c.args.name.now c.args.kept.now.entries c.in-Some.place _ c.in-Some.ensures.unique c.in-Some.ensures.value c.get_index.ensures.entry
+    sym (text_found c.args.name.now c.args.kept.now.entries c.in-Some.place _ c.in-Some.ensures.unique c.in-Some.ensures.value
+    c.get_index.ensures.entry
     ∙ ap (λ found. option_flatten (option_map (λ e. e.1) (option_map deref_pair found))) c.in_default-get_index.is)
 
 pub returns : goal.returns
 returns c =
     c.as_ref.ensures.value
-    ∙ sym (text_found c.args.name.now c.args.kept.now.entries c.in-Some.place _ c.in-Some.ensures.unique c.in-Some.ensures.value c.get_index.ensures.entry
+    ∙ sym (text_found c.args.name.now c.args.kept.now.entries c.in-Some.place _ c.in-Some.ensures.unique c.in-Some.ensures.value
+    c.get_index.ensures.entry
     ∙ ap (λ found. option_flatten (option_map (λ e. e.1) (option_map deref_pair found))) c.in-Some-get_index.is)

@@ -10,21 +10,29 @@ number_is : (n : ℕ) → n + 1 - 1 ≡ n
 number_is n = omega arith
 
 pub with_colon-requires-clause-start : goal.with_colon-requires-clause-start
-with_colon-requires-clause-start c = blanks_before c.cut_line.result.0.now c.without_blanks-start.result.now c.without_blanks-start.ensures.bytes
+with_colon-requires-clause-start c = blanks_before c.cut_line.result.0.now c.without_blanks-start.result.now
+    c.without_blanks-start.ensures.bytes
 
 pub returns-then-is_passed-clause-directives : goal.returns-then-is_passed-clause-directives
 returns-then-is_passed-clause-directives c =
-    begins_none c.args.number c.args.text.now c.cut_line.result.0.now c.without_blanks-start.result.now (option_map (λ b. b.now) c.cut_line.result.1) c.cut_line.ensures.whole c.cut_line.ensures.line c.without_blanks-start.ensures.bytes
+    begins_none c.args.number c.args.text.now c.cut_line.result.0.now c.without_blanks-start.result.now
+    (option_map (λ b. b.now) c.cut_line.result.1) c.cut_line.ensures.whole c.cut_line.ensures.line c.without_blanks-start.ensures.bytes
     (sym c.is_passed.ensures ∙ c.if-is_passed.true)
 
 pub returns-then-is_keyword-clause-directives : goal.returns-then-is_keyword-clause-directives
 returns-then-is_keyword-clause-directives c =
-    begins_keyword c.args.number c.args.text.now c.cut_line.result.0.now c.without_blanks-start.result.now (option_map (λ b. b.now) c.cut_line.result.1) c.cut_line.ensures.whole c.cut_line.ensures.line c.without_blanks-start.ensures.bytes
-    (shown c.by_keyword.result) (sym c.is_passed.ensures ∙ c.if-is_passed.false) (sym c.is_keyword.ensures ∙ c.if-is_keyword.true) c.by_keyword.ensures
+    begins_keyword c.args.number c.args.text.now c.cut_line.result.0.now c.without_blanks-start.result.now
+    (option_map (λ b. b.now) c.cut_line.result.1) c.cut_line.ensures.whole c.cut_line.ensures.line c.without_blanks-start.ensures.bytes
+    (shown c.by_keyword.result) (sym c.is_passed.ensures ∙ c.if-is_passed.false)
+    (sym c.is_keyword.ensures ∙ c.if-is_keyword.true) c.by_keyword.ensures
 
 pub returns-clause-directives : goal.returns-clause-directives
 returns-clause-directives c =
-    begins_body c.args.number c.args.text.now c.cut_line.result.0.now c.without_blanks-start.result.now (option_map (λ b. b.now) c.cut_line.result.1) c.cut_line.ensures.whole c.cut_line.ensures.line c.without_blanks-start.ensures.bytes
-    (found c.with_colon.result.directive) (directives_left c.with_colon.result.left) (sym c.is_passed.ensures ∙ c.if-is_passed.false) (sym c.is_keyword.ensures ∙ c.if-is_keyword.false)
-    (c.with_colon.ensures.directive ∙ ap (λ n. by_colon n c.without_blanks-start.result.now (lines_from (option_map (λ b. b.now) c.cut_line.result.1)) (position is_colon c.without_blanks-start.result.now) ∷ []) (number_is c.args.number))
+    begins_body c.args.number c.args.text.now c.cut_line.result.0.now c.without_blanks-start.result.now
+    (option_map (λ b. b.now) c.cut_line.result.1) c.cut_line.ensures.whole c.cut_line.ensures.line c.without_blanks-start.ensures.bytes
+    (found c.with_colon.result.directive) (directives_left c.with_colon.result.left) (sym c.is_passed.ensures ∙ c.if-is_passed.false)
+    (sym c.is_keyword.ensures ∙ c.if-is_keyword.false)
+    (c.with_colon.ensures.directive ∙ ap (λ n. by_colon n c.without_blanks-start.result.now
+    (lines_from (option_map (λ b. b.now) c.cut_line.result.1)) (position is_colon c.without_blanks-start.result.now) ∷ [])
+    (number_is c.args.number))
     c.with_colon.ensures.left

@@ -6,15 +6,22 @@ use Rattle.std.proofs.Common.{◌∙◌, sym}
 
 pub returns-clause-body : goal.returns-clause-body
 returns-clause-body c =
-    let ends = ends_then c.args.line.now c.args.value.now c.without_blanks-rest.result.now c.requires.value (blanks_before c.args.value.now c.without_blanks-rest.result.now c.without_blanks-rest.ensures.bytes) in
-    first_some c.args.value.now c.without_blanks-rest.result.now (lines_left c.args.lines) (lines_of c.following.result.now) c.without_blanks-rest.ensures.bytes (sym c.has_byte.ensures ∙ c.if-not-has_byte.false)
+    let ends = ends_then c.args.line.now c.args.value.now c.without_blanks-rest.result.now c.requires.value
+    (blanks_before c.args.value.now c.without_blanks-rest.result.now c.without_blanks-rest.ensures.bytes) in
+    first_some c.args.value.now c.without_blanks-rest.result.now (lines_left c.args.lines)
+    (lines_of c.following.result.now) c.without_blanks-rest.ensures.bytes (sym c.has_byte.ensures ∙ c.if-not-has_byte.false)
     (tail_lines c.following.result.now c.args.line.now c.without_blanks-rest.result.now (text_left c.args.lines)
-    (c.following.ensures ∙ tail_is c.args.text.now c.args.line.now c.without_blanks-rest.result.now (bytes_from (text_left c.args.lines)) c.requires.whole ends) c.requires.line ends)
+    (c.following.ensures ∙ tail_is c.args.text.now c.args.line.now c.without_blanks-rest.result.now
+    (bytes_from (text_left c.args.lines)) c.requires.whole ends) c.requires.line ends)
 
 pub returns-clause-left : goal.returns-clause-left
 returns-clause-left c =
-    let ends = ends_then c.args.line.now c.args.value.now c.without_blanks-rest.result.now c.requires.value (blanks_before c.args.value.now c.without_blanks-rest.result.now c.without_blanks-rest.ensures.bytes) in
-    inside_some c.args.value.now c.without_blanks-rest.result.now (lines_left c.args.lines) (lines_of c.following.result.now) c.args.lines.number c.without_blanks-rest.ensures.bytes (sym c.has_byte.ensures ∙ c.if-not-has_byte.false)
+    let ends = ends_then c.args.line.now c.args.value.now c.without_blanks-rest.result.now c.requires.value
+    (blanks_before c.args.value.now c.without_blanks-rest.result.now c.without_blanks-rest.ensures.bytes) in
+    inside_some c.args.value.now c.without_blanks-rest.result.now (lines_left c.args.lines)
+    (lines_of c.following.result.now) c.args.lines.number c.without_blanks-rest.ensures.bytes
+    (sym c.has_byte.ensures ∙ c.if-not-has_byte.false)
     (tail_lines c.following.result.now c.args.line.now c.without_blanks-rest.result.now (text_left c.args.lines)
-    (c.following.ensures ∙ tail_is c.args.text.now c.args.line.now c.without_blanks-rest.result.now (bytes_from (text_left c.args.lines)) c.requires.whole ends) c.requires.line ends)
+    (c.following.ensures ∙ tail_is c.args.text.now c.args.line.now c.without_blanks-rest.result.now
+    (bytes_from (text_left c.args.lines)) c.requires.whole ends) c.requires.line ends)
     c.requires.number

@@ -7,9 +7,12 @@ use Rattle.std.specs.Prelude.{slice_index}
 pub loop-at-preserved : goal.loop-at-preserved
 loop-at-preserved c =
     ap (λ t. fold joined_onto c.settle_onto.new.text.items (filter is_kept t)) c.following-rest.ensures
-    ∙ line_settled c.loop-at.rest.now c.loop-at.left.items c.extend_from_slice.new.self.items c.settle_onto.new.text.items (settled c.args.text.now) c.find_byteset.result c.in-Some.at (slice_index c.loop-at.rest.now c.in-Some.at)
+    ∙ line_settled c.loop-at.rest.now c.loop-at.left.items c.extend_from_slice.new.self.items c.settle_onto.new.text.items
+    (settled c.args.text.now) c.find_byteset.result c.in-Some.at (slice_index c.loop-at.rest.now c.in-Some.at)
     c.find_byteset.ensures c.in-Some.is refl c.in_ok-extend_from_slice.ensures.items c.in_ok-settle_onto.ensures c.loop-at.invariant
 
 pub returns : goal.returns
 returns c =
-    rest_settled c.loop-at.rest.now c.loop-at.left.items c.extend_from_slice-2.new.self.items (settled c.args.text.now) c.find_byteset.result c.find_byteset.ensures c.in_default.is c.in_ok-extend_from_slice-2.ensures.items c.loop-at.invariant
+    rest_settled c.loop-at.rest.now c.loop-at.left.items c.extend_from_slice-2.new.self.items
+    (settled c.args.text.now) c.find_byteset.result c.find_byteset.ensures c.in_default.is c.in_ok-extend_from_slice-2.ensures.items
+    c.loop-at.invariant

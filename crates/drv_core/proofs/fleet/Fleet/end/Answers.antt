@@ -5,5 +5,6 @@ use Rattle.std.specs.List.{filter}
 
 pub returns : goal.returns
 returns c =
-    let kept : c.retain.new.self.items ≡ filter (λ k. not (nat_eq k c.args.self.now.current)) c.args.self.now.begun.items = filter_same _ (λ k. not (nat_eq k c.args.self.now.current)) _ (λ x b f' k. search rules) _ _ c.retain.ensures.filtered in
+    let kept : c.retain.new.self.items ≡ filter (λ k. not (nat_eq k c.args.self.now.current)) c.args.self.now.begun.items =
+    filter_same _ (λ k. not (nat_eq k c.args.self.now.current)) _ (λ x b f' k. search rules) _ _ c.retain.ensures.filtered in
     rw (kept, c.retain.ensures.capacity, c.saturating_sub-self.ensures) refl

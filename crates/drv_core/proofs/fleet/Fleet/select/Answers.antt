@@ -4,4 +4,5 @@ use Rattle.drv_core.specs.Code.FleetView.{fleet_of}
 use Rattle.std.proofs.Common.{◌∙◌, ap}
 
 pub returns : goal.returns
-returns c = ap (λ n. record (fleet_of c.args.self.now) { current = n }) (c.nth_going-self.ensures ∙ able_at c.args.jobs.now (fleet_of c.args.self.now) c.args.choice)
+returns c = ap (λ n. record (fleet_of c.args.self.now) { current = n })
+    (c.nth_going-self.ensures ∙ able_at c.args.jobs.now (fleet_of c.args.self.now) c.args.choice)

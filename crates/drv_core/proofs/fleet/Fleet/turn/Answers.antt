@@ -4,4 +4,5 @@ use Rattle.drv_core.specs.Code.FleetView.{fleet_of}
 use Rattle.std.proofs.Common.{ap, ◌∙◌}
 
 pub returns : goal.returns
-returns c = ap (λ n. record (fleet_of c.close.new.self) { current = n }) c.nth_going-self.ensures ∙ ap chosen (c.close.ensures ∙ ap closed c.«open».ensures)
+returns c = ap (λ n. record (fleet_of c.close.new.self) { current = n }) c.nth_going-self.ensures
+    ∙ ap chosen (c.close.ensures ∙ ap closed c.«open».ensures)

@@ -5,4 +5,6 @@ use Rattle.drv_core.specs.Code.Leftovers.{sought}
 use Rattle.std.proofs.Common.{◌∙◌, ap}
 
 pub returns : goal.returns
-returns c = ap (λ n. record (leftovers_of c.args.self.now) { at = n }) (c.sought-self.ensures ∙ ap (λ l. sought (leftovers_of c.args.self.now) c.args.from l) (drop_lefts c.args.from c.args.self.now.files.items))
+returns c = ap (λ n. record (leftovers_of c.args.self.now) { at = n })
+    (c.sought-self.ensures ∙ ap (λ l. sought (leftovers_of c.args.self.now) c.args.from l)
+    (drop_lefts c.args.from c.args.self.now.files.items))

@@ -6,7 +6,8 @@ use Rattle.std.proofs.Common.{◌≡◌, ◌++◌, ◌∙◌, OnOk, ap, append_a
 
 pub returns-in-Some : goal.returns-in-Some
 returns-in-Some c before h =
-    let all : (before ++ files_from 0 c.as_slice.result.now) ++ job_files c.len.result c.in-Some.link ≡ before ++ all_files c.args.plan.now =
+    let all : (before ++ files_from 0 c.as_slice.result.now) ++ job_files c.len.result c.in-Some.link ≡ before
+    ++ all_files c.args.plan.now =
     append_assoc before (files_from 0 c.as_slice.result.now) (job_files c.len.result c.in-Some.link)
     ∙ ap (λ jobs. before ++ (files_from 0 jobs ++ job_files c.len.result c.in-Some.link)) c.as_slice.ensures
     ∙ ap (λ n. before ++ (files_from 0 c.args.plan.now.jobs ++ job_files n c.in-Some.link)) c.len.ensures
@@ -16,4 +17,5 @@ returns-in-Some c before h =
 
 pub returns-in-None : goal.returns-in-None
 returns-in-None c before h =
-    subst (λ files. IsNoted (before ++ files) c.add_sources.new.self) (ap (λ jobs. files_from 0 jobs) c.as_slice.ensures ∙ all_none c.args.plan.now c.in-None.is) (c.in_ok-add_sources.ensures before h)
+    subst (λ files. IsNoted (before ++ files) c.add_sources.new.self)
+    (ap (λ jobs. files_from 0 jobs) c.as_slice.ensures ∙ all_none c.args.plan.now c.in-None.is) (c.in_ok-add_sources.ensures before h)

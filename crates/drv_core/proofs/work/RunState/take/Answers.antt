@@ -5,4 +5,6 @@ use Rattle.drv_core.specs.Code.RunStateView.{phase_of, run_state_of}
 use Rattle.std.proofs.Common.{ap}
 
 pub returns-in-Sources : goal.returns-in-Sources
-returns-in-Sources c = in_part c.args.plan.now (run_state_of c.args.self.now) (run_state_of c.keep.new.self) (run_state_of c.take_source.new.self) c.args.step c.args.answer Sources c.keep.ensures (ap phase_of c.in-Sources.is) c.take_source.ensures
+returns-in-Sources c = in_part c.args.plan.now (run_state_of c.args.self.now) (run_state_of c.keep.new.self)
+    (run_state_of c.take_source.new.self) c.args.step c.args.answer Sources c.keep.ensures
+    (ap phase_of c.in-Sources.is) c.take_source.ensures

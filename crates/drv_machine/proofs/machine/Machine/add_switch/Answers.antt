@@ -12,8 +12,10 @@ pub returns-in_default-clause-does : goal.returns-in_default-clause-does
 returns-in_default-clause-does c F =
     let C = c.args.context.now in
     let named = c.name.ensures ∙ ap (λ ns. name_at ns c.args.i) c.switches.ensures in
-    let is = c.in_ok-extend_from_slice.ensures.ok ∙ ap (λ word. word ++ c.name.result.now) (c.in_ok-push.ensures.ok ∙ ap (λ before. before ++ hyphen ∷ []) c.empty-word.ensures) in
-    switch_alone F C c.args.self.now c.args.i c.name.result.now c.extend_from_slice.new.self c.requires.between named is (sym c.argument.ensures ∙ c.in_default.is)
+    let is = c.in_ok-extend_from_slice.ensures.ok ∙ ap (λ word. word ++ c.name.result.now)
+    (c.in_ok-push.ensures.ok ∙ ap (λ before. before ++ hyphen ∷ []) c.empty-word.ensures) in
+    switch_alone F C c.args.self.now c.args.i c.name.result.now c.extend_from_slice.new.self c.requires.between named is
+    (sym c.argument.ensures ∙ c.in_default.is)
     ∙ ap (λ (m : Machine). Is (Ok (tt, m))) (sym c.in_ok-add_word.ensures.ok)
 
 pub returns-clause-does : goal.returns-clause-does
@@ -22,7 +24,8 @@ returns-clause-does c F =
     let s = c.args.self.now in
     let named = c.name.ensures ∙ ap (λ ns. name_at ns c.args.i) c.switches.ensures in
     let word = c.extend_from_slice.new.self in
-    let is = c.in_ok-extend_from_slice.ensures.ok ∙ ap (λ before. before ++ c.name.result.now) (c.in_ok-push.ensures.ok ∙ ap (λ before. before ++ hyphen ∷ []) c.empty-word.ensures) in
+    let is = c.in_ok-extend_from_slice.ensures.ok ∙ ap (λ before. before ++ c.name.result.now)
+    (c.in_ok-push.ensures.ok ∙ ap (λ before. before ++ hyphen ∷ []) c.empty-word.ensures) in
     let both =
     switch_with F C s c.args.i c.name.result.now word c.in-Some.argument c.requires.between named is (sym c.argument.ensures ∙ c.in-Some.is)
     ∙ whole_added F C (word_added s word) c.in-Some.argument (between_again s word)

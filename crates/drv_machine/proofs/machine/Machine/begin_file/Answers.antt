@@ -8,4 +8,5 @@ returns-in_err-end_word-clause-does g c F e =
     let handed = c.from_residual.ensures in search rules
 
 pub returns-clause-does : goal.returns-clause-does
-returns-clause-does g c F e = file_begins F c.args.context.now c.args.self.now c.end_word.new.self c.enter_file.new.self (c.in_ok-end_word.ensures.does F e) c.enter_file.ensures
+returns-clause-does g c F e = file_begins F c.args.context.now c.args.self.now c.end_word.new.self c.enter_file.new.self
+    (c.in_ok-end_word.ensures.does F e) c.enter_file.ensures

@@ -10,15 +10,21 @@ use Rattle.std.proofs.Common.{ap, rules, subst, ◌≡◌, ◌∙◌}
 
 pub returns-in_err-end_word-clause-does : goal.returns-in_err-end_word-clause-does
 returns-in_err-end_word-clause-does g c F e =
-    let failed = after_fails F c.args.context.now c.args.outer.value (call_step F c.args.context.now c.args.name.now) c.args.self.now c.in_err-end_word.field-0.0 (c.in_err-end_word.ensures.does F e) in
+    let failed = after_fails F c.args.context.now c.args.outer.value
+    (call_step F c.args.context.now c.args.name.now) c.args.self.now c.in_err-end_word.field-0.0
+    (c.in_err-end_word.ensures.does F e) in
     let handed = c.from_residual.ensures in search rules
 
 pub returns-clause-does : goal.returns-clause-does
 returns-clause-does g c F e =
     let C = c.args.context.now in
     subst (λ x. GivesKnown Memory (λ given. (given, c.call.new.self)) c.call.result x)
-    (ap (λ args. run F C c.take_back-args.new.self (call_step F C c.args.name.now args)) (c.as_slice.ensures ∙ c.take_back-args.ensures.words)
-    ∙ after_is F C c.args.outer.value (call_step F C c.args.name.now) c.args.self.now c.end_word.new.self c.take_back-args.new.self (c.in_ok-end_word.ensures.does F (extends_before c.call.ensures.asks e)) (c.take_back-args.ensures.back ∙ ap (λ (cut : Cut). record c.end_word.new.self { cut = cut }) (let same : c.into_inner.result ≡ c.args.outer.value = search rules in same)))
+    (ap (λ args. run F C c.take_back-args.new.self (call_step F C c.args.name.now args))
+    (c.as_slice.ensures ∙ c.take_back-args.ensures.words)
+    ∙ after_is F C c.args.outer.value (call_step F C c.args.name.now) c.args.self.now c.end_word.new.self c.take_back-args.new.self
+    (c.in_ok-end_word.ensures.does F (extends_before c.call.ensures.asks e))
+    (c.take_back-args.ensures.back ∙ ap (λ (cut : Cut). record c.end_word.new.self { cut = cut })
+    (let same : c.into_inner.result ≡ c.args.outer.value = search rules in same)))
     (c.call.ensures.does F e)
 
 pub returns-in_err-end_word-clause-asks : goal.returns-in_err-end_word-clause-asks

@@ -4,8 +4,10 @@ use Rattle.drv_machine.specs.contracts.machine.Machine.{the_view}
 
 pub returns-in_default-clause-does : goal.returns-in_default-clause-does
 returns-in_default-clause-does c F C =
-    rw (← c.self.view_is) (closed_none F C (the_view c.self.inside) c.close.new.self c.in_ok-word.field-0 c.in_ok-word.ensures c.in_default.is)
+    rw (← c.self.view_is) (closed_none F C (the_view c.self.inside) c.close.new.self c.in_ok-word.field-0 c.in_ok-word.ensures
+    c.in_default.is)
 
 pub returns-clause-does : goal.returns-clause-does
 returns-clause-does c F C =
-    rw (← c.self.view_is) (closed_some F C (the_view c.self.inside) c.close.new.self c.in_ok-word.field-0 c.in_ok-word.ensures c.in-Some.word c.in-Some.is c.push.new.self c.in_ok-push.ensures.ok)
+    rw (← c.self.view_is) (closed_some F C (the_view c.self.inside) c.close.new.self c.in_ok-word.field-0 c.in_ok-word.ensures
+    c.in-Some.word c.in-Some.is c.push.new.self c.in_ok-push.ensures.ok)

@@ -12,7 +12,8 @@ returns-in_err-end_word-clause-does g c F e =
 pub returns-clause-does : goal.returns-clause-does
 returns-clause-does g c F e =
     gives_as c.put_file.new.self c.put_file.result _ _
-    (file_ends F c.args.context.now c.args.self.now c.end_word.new.self c.leave_file-words.new.self c.as_slice.result.now (c.in_ok-end_word.ensures.does F (extends_before c.put_file.ensures.asks e))
+    (file_ends F c.args.context.now c.args.self.now c.end_word.new.self c.leave_file-words.new.self c.as_slice.result.now
+    (c.in_ok-end_word.ensures.does F (extends_before c.put_file.ensures.asks e))
     (c.as_slice.ensures ∙ c.leave_file-words.ensures.words) c.leave_file-words.ensures.left)
     (c.put_file.ensures.does F e)
 

@@ -4,9 +4,11 @@ use Rattle.std.proofs.Common.{rules, sym}
 
 pub returns-in_err-given-clause-does : goal.returns-in_err-given-clause-does
 returns-in_err-given-clause-does g c F e =
-    let failed = holds_failed F c.args.context.now c.args.outer.value c.args.name.now c.args.self.now c.in_err-given.field-0.0 (c.in_err-given.ensures.does F e) in
+    let failed = holds_failed F c.args.context.now c.args.outer.value c.args.name.now c.args.self.now c.in_err-given.field-0.0
+    (c.in_err-given.ensures.does F e) in
     let handed = c.from_residual.ensures in search rules
 
 pub returns-clause-does : goal.returns-clause-does
 returns-clause-does g c F e =
-    holds_as F c.args.context.now c.args.outer.value c.args.name.now c.args.self.now c.call_after.new.self c.in_ok-given.given _ (sym c.is_some.ensures) (c.in_ok-given.ensures.does F e)
+    holds_as F c.args.context.now c.args.outer.value c.args.name.now c.args.self.now c.call_after.new.self c.in_ok-given.given _
+    (sym c.is_some.ensures) (c.in_ok-given.ensures.does F e)

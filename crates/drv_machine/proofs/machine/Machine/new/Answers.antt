@@ -4,6 +4,19 @@ use Rattle.std.proofs.Common.{◌∙◌}
 
 pub returns : goal.returns
 returns c F =
-    rw (c.new-2.ensures, c.new-3.ensures, c.none.ensures, c.new-4.ensures, c.new-5.ensures, c.new-6.ensures, c.new-9.ensures, c.new-10.ensures, c.new-11.ensures, c.new-12.ensures)
-    (begun_with F c.args.context.now c.in_ok-new.field-0 c.switches.result.now c.in_ok-copied_words.field-0 c.in_ok-copied_words-2.field-0 c.number.result
-    c.switches.ensures c.in_ok-new.ensures (c.in_ok-copied_words.ensures ∙ c.options.ensures) c.number.ensures (c.in_ok-copied_words-2.ensures ∙ c.outputs.ensures))
+    rw (
+      c.new-2.ensures,
+      c.new-3.ensures,
+      c.none.ensures,
+      c.new-4.ensures,
+      c.new-5.ensures,
+      c.new-6.ensures,
+      c.new-9.ensures,
+      c.new-10.ensures,
+      c.new-11.ensures,
+      c.new-12.ensures,
+    )
+    (begun_with F c.args.context.now c.in_ok-new.field-0 c.switches.result.now c.in_ok-copy_words.field-0 c.in_ok-copy_words-2.field-0
+    c.number.result
+    c.switches.ensures c.in_ok-new.ensures (c.in_ok-copy_words.ensures ∙ c.options.ensures) c.number.ensures
+    (c.in_ok-copy_words-2.ensures ∙ c.outputs.ensures))

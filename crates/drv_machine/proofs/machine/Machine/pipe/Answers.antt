@@ -8,4 +8,5 @@ returns-in_err-end_word-clause-does g c F e =
     let handed = c.from_residual.ensures in search rules
 
 pub returns-clause-does : goal.returns-clause-does
-returns-clause-does g c F e = pipe_put F c.args.context.now c.args.self.now c.end_word.new.self c.close_with_pipe.new.self (c.in_ok-end_word.ensures.does F e) c.close_with_pipe.ensures
+returns-clause-does g c F e = pipe_put F c.args.context.now c.args.self.now c.end_word.new.self c.close_with_pipe.new.self
+    (c.in_ok-end_word.ensures.does F e) c.close_with_pipe.ensures

@@ -14,14 +14,18 @@ loop-word-preserved g c = record {
   sized = c.put_broken.ensures.sized ∙ c.loop-word.invariant.sized;
   uncounted = c.in_ok-put_broken.ensures.uncounted ∙ c.loop-word.invariant.uncounted;
   left = λ F e.
-      next_put F c.args.context.now broken_word c.loop-word.self c.put_broken.new.self c.args.list.now c.loop-word.word-index c.word-item.result c.as_bytes.result.now (omega arith) c.word-item.is c.as_bytes.ensures (c.in_ok-put_broken.ensures.does F e)
+      next_put F c.args.context.now broken_word c.loop-word.self c.put_broken.new.self c.args.list.now c.loop-word.word-index
+      c.word-item.result c.as_bytes.result.now (omega arith) c.word-item.is c.as_bytes.ensures (c.in_ok-put_broken.ensures.does F e)
       ∙ c.loop-word.invariant.left F (extends_before c.put_broken.ensures.asks e);
 }
 
 pub returns-in_err-put_broken-clause-does : goal.returns-in_err-put_broken-clause-does
 returns-in_err-put_broken-clause-does g c F e =
-    let failed = next_failed F c.args.context.now broken_word c.loop-word.self c.put_broken.new.self c.args.list.now c.loop-word.word-index c.word-item.result c.as_bytes.result.now (omega arith) c.word-item.is c.as_bytes.ensures c.in_err-put_broken.field-0.0 (c.in_err-put_broken.ensures.does F e) in
-    let whole = fails_as _ (run F c.args.context.now c.args.self.now (puts (flat_map broken_word c.args.list.now))) failed (λ x. sym (c.loop-word.invariant.left F (extends_before c.put_broken.ensures.asks e)) ∙ x) in
+    let failed = next_failed F c.args.context.now broken_word c.loop-word.self c.put_broken.new.self c.args.list.now c.loop-word.word-index
+    c.word-item.result c.as_bytes.result.now (omega arith) c.word-item.is c.as_bytes.ensures c.in_err-put_broken.field-0.0
+    (c.in_err-put_broken.ensures.does F e) in
+    let whole = fails_as _ (run F c.args.context.now c.args.self.now (puts (flat_map broken_word c.args.list.now))) failed
+    (λ x. sym (c.loop-word.invariant.left F (extends_before c.put_broken.ensures.asks e)) ∙ x) in
     let f = c.from_residual.ensures in
     search rules
 

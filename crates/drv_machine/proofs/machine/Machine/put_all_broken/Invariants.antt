@@ -12,5 +12,7 @@ invariant-loop-word g l = record {
   asks : Asked g.S.System.events l.fn.outside l.outside;
   sized : length l.self.world.hidden ≡ length l.fn.self.world.hidden;
   uncounted : l.self.world.items ≡ l.fn.self.world.items;
-  left : (F : Facts) → Extends l.outside.facts.now F → run F l.context l.self (puts (flat_map broken_word (drop l.word-index l.list))) ≡ run F l.context l.fn.self (puts (flat_map broken_word l.list));
+  left : (F : Facts) → Extends l.outside.facts.now F
+      → run F l.context l.self (puts (flat_map broken_word (drop l.word-index l.list)))
+      ≡ run F l.context l.fn.self (puts (flat_map broken_word l.list));
 }

@@ -5,7 +5,9 @@ use Rattle.drv_system.proofs.AskedCalls.{asked_further, extends_before}
 use Rattle.std.proofs.Common.{[], ◌∷◌}
 
 pub returns-clause-does : goal.returns-clause-does
-returns-clause-does g c F e = put_last F c.args.context.now c.args.self.now c.end_word.new.self c.put_words.new.self (Break ∷ []) (words c.args.list.now) c.put_words.result (c.in_ok-end_word.ensures.does F (extends_before c.put_words.ensures.asks e)) (c.put_words.ensures.does F e)
+returns-clause-does g c F e = put_last F c.args.context.now c.args.self.now c.end_word.new.self c.put_words.new.self (Break ∷ [])
+    (words c.args.list.now) c.put_words.result (c.in_ok-end_word.ensures.does F (extends_before c.put_words.ensures.asks e))
+    (c.put_words.ensures.does F e)
 
 pub returns-clause-asks : goal.returns-clause-asks
 returns-clause-asks g c = asked_further c.end_word.ensures.asks c.put_words.ensures.asks

@@ -5,4 +5,5 @@ use Rattle.std.proofs.Common.{◌∙◌, ◌++◌, ◌∷◌, [], ap, refl, sym}
 
 pub returns-clause-does : goal.returns-clause-does
 returns-clause-does c F C = rw (← c.self.view_is)
-    (bytes_put F C (the_view c.self.inside) (c.args.byte ∷ []) c.push.new.self.items refl (c.in_ok-push.ensures.ok ∙ ap (λ word. word ++ c.args.byte ∷ []) (sym c.self.invariant)))
+    (bytes_put F C (the_view c.self.inside) (c.args.byte ∷ []) c.push.new.self.items refl
+    (c.in_ok-push.ensures.ok ∙ ap (λ word. word ++ c.args.byte ∷ []) (sym c.self.invariant)))

@@ -4,4 +4,5 @@ use Rattle.std.proofs.Common.{◌∙◌, ◌++◌, ap, sym}
 
 pub returns-clause-does : goal.returns-clause-does
 returns-clause-does c F C = rw (← c.self.view_is)
-    (bytes_put F C _ c.args.bytes.now c.extend_from_slice.new.self.items c.if-is_empty.ensures (c.in_ok-extend_from_slice.ensures.ok ∙ ap (λ word. word ++ c.args.bytes.now) (sym c.self.invariant)))
+    (bytes_put F C _ c.args.bytes.now c.extend_from_slice.new.self.items c.if-is_empty.ensures
+    (c.in_ok-extend_from_slice.ensures.ok ∙ ap (λ word. word ++ c.args.bytes.now) (sym c.self.invariant)))

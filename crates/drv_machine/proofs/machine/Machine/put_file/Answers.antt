@@ -7,24 +7,36 @@ use Rattle.drv_words.specs.Bytes.{at_sign}
 use Rattle.std.proofs.Common.{[], map, refl, rules, sym, ◌++◌, ◌∙◌, ◌∷◌}
 
 pub returns-then-is_empty-clause-does : goal.returns-then-is_empty-clause-does
-returns-then-is_empty-clause-does g c F e = none_filed F c.args.context.now c.args.self.now c.args.words.now (sym c.if-is_empty.true ∙ c.is_empty.ensures)
+returns-then-is_empty-clause-does g c F e = none_filed F c.args.context.now c.args.self.now c.args.words.now
+    (sym c.if-is_empty.true ∙ c.is_empty.ensures)
 
 pub returns-in_err-path-clause-does : goal.returns-in_err-path-clause-does
 returns-in_err-path-clause-does g c F e =
-    let failed = not_drawn F c.args.context.now c.args.self.now c.args.words.now (sym c.if-is_empty.false ∙ c.is_empty.ensures) c.in_ok-contents.contents c.in_ok-contents.ensures.text c.in_err-path.field-0.0 (c.in_err-path.ensures.does F e) in
+    let failed = not_drawn F c.args.context.now c.args.self.now c.args.words.now
+    (sym c.if-is_empty.false ∙ c.is_empty.ensures) c.in_ok-contents.contents c.in_ok-contents.ensures.text c.in_err-path.field-0.0
+    (c.in_err-path.ensures.does F e) in
     let handed = c.from_residual-in_err-path.ensures in search rules
 
 pub returns-in_err-put-clause-does : goal.returns-in_err-put-clause-does
 returns-in_err-put-clause-does g c F e =
-    let whole = file_drawn F c.args.context.now c.args.self.now c.args.words.now (sym c.if-is_empty.false ∙ c.is_empty.ensures) c.in_ok-contents.contents c.in_ok-contents.ensures.text c.in_ok-path.path c.in_ok-path.path c.draw_with.new.self refl (c.in_ok-path.ensures.does F e) in
-    let failed = whole_failed F c.args.context.now c.in_err-put.field-0.0 whole (put_failed F c.args.context.now c.draw_with.new.self (Put at_sign ∷ []) (map Put c.in_ok-path.path ++ Break ∷ []) c.in_err-put.field-0.0 (c.in_err-put.ensures.does F c.args.context.now)) in
+    let whole = file_drawn F c.args.context.now c.args.self.now c.args.words.now
+    (sym c.if-is_empty.false ∙ c.is_empty.ensures) c.in_ok-contents.contents c.in_ok-contents.ensures.text c.in_ok-path.path
+    c.in_ok-path.path c.draw_with.new.self refl (c.in_ok-path.ensures.does F e) in
+    let failed = whole_failed F c.args.context.now c.in_err-put.field-0.0 whole
+    (put_failed F c.args.context.now c.draw_with.new.self (Put at_sign ∷ [])
+    (map Put c.in_ok-path.path ++ Break ∷ []) c.in_err-put.field-0.0 (c.in_err-put.ensures.does F c.args.context.now)) in
     let handed = c.from_residual-in_err-put.ensures in search rules
 
 pub returns-clause-does : goal.returns-clause-does
 returns-clause-does g c F e =
-    let whole = file_drawn F c.args.context.now c.args.self.now c.args.words.now (sym c.if-is_empty.false ∙ c.is_empty.ensures) c.in_ok-contents.contents c.in_ok-contents.ensures.text c.in_ok-path.path c.as_bytes.result.now c.draw_with.new.self c.as_bytes.ensures (c.in_ok-path.ensures.does F (extends_before c.put_broken.ensures.asks e)) in
+    let whole = file_drawn F c.args.context.now c.args.self.now c.args.words.now
+    (sym c.if-is_empty.false ∙ c.is_empty.ensures) c.in_ok-contents.contents c.in_ok-contents.ensures.text c.in_ok-path.path
+    c.as_bytes.result.now c.draw_with.new.self c.as_bytes.ensures
+    (c.in_ok-path.ensures.does F (extends_before c.put_broken.ensures.asks e)) in
     whole_last F c.args.context.now c.put_broken.new.self c.put_broken.result whole
-    (put_last F c.args.context.now c.draw_with.new.self c.put.new.self c.put_broken.new.self (Put at_sign ∷ []) (map Put c.as_bytes.result.now ++ Break ∷ []) c.put_broken.result (c.in_ok-put.ensures.does F c.args.context.now) (c.put_broken.ensures.does F e))
+    (put_last F c.args.context.now c.draw_with.new.self c.put.new.self c.put_broken.new.self (Put at_sign ∷ [])
+    (map Put c.as_bytes.result.now ++ Break ∷ []) c.put_broken.result (c.in_ok-put.ensures.does F c.args.context.now)
+    (c.put_broken.ensures.does F e))
 
 pub returns-in_err-put-clause-asks : goal.returns-in_err-put-clause-asks
 returns-in_err-put-clause-asks g c = c.draw_with.ensures.asks

@@ -16,5 +16,6 @@ returns-clause-does g c F e =
     let options = c.in_ok-options.options in
     gives_as c.put_all_broken.new.self c.put_all_broken.result _ _
     (ap (λ list. run F C s (puts (flat_map broken_word list))) c.as_slice.ensures
-    ∙ sym (then_ok F C s (needs (known (folder_options F C.prefixes))) (λ list. puts (flat_map broken_word list)) options s (folders_known F C s options (c.in_ok-options.ensures.options F (extends_before c.put_all_broken.ensures.asks e)))))
+    ∙ sym (then_ok F C s (needs (known (folder_options F C.prefixes))) (λ list. puts (flat_map broken_word list)) options s
+    (folders_known F C s options (c.in_ok-options.ensures.options F (extends_before c.put_all_broken.ensures.asks e)))))
     (c.put_all_broken.ensures.does F e)

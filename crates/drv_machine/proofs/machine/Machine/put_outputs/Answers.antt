@@ -6,5 +6,7 @@ use Rattle.std.proofs.Common.{sym, ◌∙◌}
 pub returns-clause-does : goal.returns-clause-does
 returns-clause-does g c F e =
     let none = no_input c.input.result.now c.is_some.result c.is_some.ensures c.if-is_some.false in
-    outputs_put F c.args.context.now c.args.self.now c.take_outputs.new.self c.put_apart-put.new.self c.give_back.new.self c.in_ok-outputs.outputs c.as_slice.result.now c.put_apart-put.result
-    (sym c.input.ensures ∙ none) c.in_ok-outputs.ensures.taken c.as_slice.ensures c.in_ok-outputs.ensures.left c.give_back.ensures (c.put_apart-put.ensures.does F e)
+    outputs_put F c.args.context.now c.args.self.now c.take_outputs.new.self c.put_apart-put.new.self c.give_back.new.self
+    c.in_ok-outputs.outputs c.as_slice.result.now c.put_apart-put.result
+    (sym c.input.ensures ∙ none) c.in_ok-outputs.ensures.taken c.as_slice.ensures c.in_ok-outputs.ensures.left c.give_back.ensures
+    (c.put_apart-put.ensures.does F e)

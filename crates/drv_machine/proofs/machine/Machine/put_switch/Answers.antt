@@ -11,21 +11,30 @@ use Rattle.std.proofs.Common.{◌++◌, ◌∙◌, [], ◌∷◌, ap, map, refl,
 pub returns-in_err-put-clause-does : goal.returns-in_err-put-clause-does
 returns-in_err-put-clause-does g c F e =
     let C = c.args.context.now in
-    let failed = put_failed F C c.args.self.now (Put hyphen ∷ []) (map Put (name_at (names C) c.args.i) ++ Break ∷ word_of (argument C c.args.i)) c.in_err-put.field-0.0 (c.in_err-put.ensures.does F C) in
+    let failed = put_failed F C c.args.self.now (Put hyphen ∷ [])
+    (map Put (name_at (names C) c.args.i) ++ Break ∷ word_of (argument C c.args.i)) c.in_err-put.field-0.0
+    (c.in_err-put.ensures.does F C) in
     let handed = c.from_residual-in_err-put.ensures in search rules
 
 pub returns-in_err-put-2-clause-does : goal.returns-in_err-put-2-clause-does
 returns-in_err-put-2-clause-does g c F e =
     let C = c.args.context.now in
-    let is = switch_is F C c.name.result.now (argument C c.args.i) c.args.i (c.name.ensures ∙ ap (λ ns. name_at ns c.args.i) c.switches.ensures) refl in
-    let whole = put_then F C c.args.self.now c.put.new.self (Put hyphen ∷ []) (map Put c.name.result.now ++ Break ∷ word_of (argument C c.args.i)) (c.in_ok-put.ensures.does F C) in
-    let failed = whole_failed F C c.in_err-put-2.field-0.0 (sym whole ∙ ap (λ list. run F C c.args.self.now (puts list)) is) (put_failed F C c.put.new.self (map Put c.name.result.now) (Break ∷ word_of (argument C c.args.i)) c.in_err-put-2.field-0.0 (c.in_err-put-2.ensures.does F C)) in
+    let is = switch_is F C c.name.result.now (argument C c.args.i) c.args.i
+    (c.name.ensures ∙ ap (λ ns. name_at ns c.args.i) c.switches.ensures) refl in
+    let whole = put_then F C c.args.self.now c.put.new.self (Put hyphen ∷ [])
+    (map Put c.name.result.now ++ Break ∷ word_of (argument C c.args.i)) (c.in_ok-put.ensures.does F C) in
+    let failed = whole_failed F C c.in_err-put-2.field-0.0 (sym whole ∙ ap (λ list. run F C c.args.self.now (puts list)) is)
+    (put_failed F C c.put.new.self (map Put c.name.result.now) (Break ∷ word_of (argument C c.args.i)) c.in_err-put-2.field-0.0
+    (c.in_err-put-2.ensures.does F C)) in
     let handed = c.from_residual-in_err-put-2.ensures in search rules
 
 pub returns-clause-does : goal.returns-clause-does
 returns-clause-does g c F e =
     let C = c.args.context.now in
-    let is = switch_is F C c.name.result.now (argument C c.args.i) c.args.i (c.name.ensures ∙ ap (λ ns. name_at ns c.args.i) c.switches.ensures) refl in
+    let is = switch_is F C c.name.result.now (argument C c.args.i) c.args.i
+    (c.name.ensures ∙ ap (λ ns. name_at ns c.args.i) c.switches.ensures) refl in
     whole_last F C c.put_argument.new.self c.put_argument.result (ap (λ list. run F C c.args.self.now (puts list)) is)
-    (put_last F C c.args.self.now c.put.new.self c.put_argument.new.self (Put hyphen ∷ []) (map Put c.name.result.now ++ Break ∷ word_of (argument C c.args.i)) c.put_argument.result (c.in_ok-put.ensures.does F C)
-    (put_last F C c.put.new.self c.put-2.new.self c.put_argument.new.self (map Put c.name.result.now) (Break ∷ word_of (argument C c.args.i)) c.put_argument.result (c.in_ok-put-2.ensures.does F C) (c.put_argument.ensures.does F e)))
+    (put_last F C c.args.self.now c.put.new.self c.put_argument.new.self (Put hyphen ∷ [])
+    (map Put c.name.result.now ++ Break ∷ word_of (argument C c.args.i)) c.put_argument.result (c.in_ok-put.ensures.does F C)
+    (put_last F C c.put.new.self c.put-2.new.self c.put_argument.new.self (map Put c.name.result.now)
+    (Break ∷ word_of (argument C c.args.i)) c.put_argument.result (c.in_ok-put-2.ensures.does F C) (c.put_argument.ensures.does F e)))

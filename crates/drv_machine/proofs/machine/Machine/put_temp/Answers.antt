@@ -5,4 +5,5 @@ use Rattle.std.proofs.Common.{sym, ◌∙◌}
 
 pub returns-in-PipedOut-clause-does : goal.returns-in-PipedOut-clause-does
 returns-in-PipedOut-clause-does g c F e =
-    gives_as c.put.new.self c.put.result _ _ (piped_out F c.args.context.now c.args.self.now c.args.kind c.args.suffix.now c.in-PipedOut.is (sym c.is_piping.ensures ∙ c.if-is_piping.true)) (c.put.ensures.does F c.args.context.now)
+    gives_as c.put.new.self c.put.result _ _ (piped_out F c.args.context.now c.args.self.now c.args.kind c.args.suffix.now c.in-PipedOut.is
+    (sym c.is_piping.ensures ∙ c.if-is_piping.true)) (c.put.ensures.does F c.args.context.now)

@@ -4,14 +4,17 @@ use Rattle.std.proofs.Common.{rules}
 
 pub returns-in_err-word-clause-does : goal.returns-in_err-word-clause-does
 returns-in_err-word-clause-does g c F e =
-    let failed = value_failed F c.args.context.now c.args.outer.value c.args.name.now c.args.self.now c.in_err-word.field-0.0 (c.in_err-word.ensures.does F e) in
+    let failed = value_failed F c.args.context.now c.args.outer.value c.args.name.now c.args.self.now c.in_err-word.field-0.0
+    (c.in_err-word.ensures.does F e) in
     let handed = c.from_residual.ensures in search rules
 
 pub returns-in_default-clause-does : goal.returns-in_default-clause-does
 returns-in_default-clause-does g c F e =
-    value_none F c.args.context.now c.args.outer.value c.args.name.now c.args.self.now c.call_after.new.self c.in_ok-word.field-0 c.in_default.is (c.in_ok-word.ensures.does F e)
+    value_none F c.args.context.now c.args.outer.value c.args.name.now c.args.self.now c.call_after.new.self c.in_ok-word.field-0
+    c.in_default.is (c.in_ok-word.ensures.does F e)
 
 pub returns-clause-does : goal.returns-clause-does
 returns-clause-does g c F e =
-    value_put F c.args.context.now c.args.outer.value c.args.name.now c.args.self.now c.call_after.new.self c.put.new.self c.in_ok-word.field-0 c.in-Some.word c.in-Some.is (c.in_ok-word.ensures.does F e)
+    value_put F c.args.context.now c.args.outer.value c.args.name.now c.args.self.now c.call_after.new.self c.put.new.self
+    c.in_ok-word.field-0 c.in-Some.word c.in-Some.is (c.in_ok-word.ensures.does F e)
     c.put.result c.as_bytes.result.now c.as_bytes.ensures (c.put.ensures.does F c.args.context.now)

@@ -6,4 +6,5 @@ use Rattle.std.proofs.Common.{[], ◌∷◌}
 
 pub returns-clause-does : goal.returns-clause-does
 returns-clause-does g c F e =
-    put_last F c.args.context.now c.args.self.now c.open.new.self c.put_broken.new.self (Open ∷ []) (broken_word c.args.word.now) c.put_broken.result (c.open.ensures.does F c.args.context.now) (c.put_broken.ensures.does F e)
+    put_last F c.args.context.now c.args.self.now c.open.new.self c.put_broken.new.self (Open ∷ [])
+    (broken_word c.args.word.now) c.put_broken.result (c.open.ensures.does F c.args.context.now) (c.put_broken.ensures.does F e)

@@ -3,4 +3,5 @@ use Rattle.drv_machine.proofs.machine.drawn_names.note_path.Goals as goal
 
 pub returns : goal.returns
 returns c =
-    path_noted c.args.paths.now c.insert.new.self c.args.name.now c.in_ok-clone.field-0 c.in_ok-clone-2.field-0 c.in_ok-clone.ensures.cases c.in_ok-clone-2.ensures.cases c.in_ok-insert.ensures.updates.0
+    path_noted c.args.paths.now c.insert.new.self c.args.name.now c.in_ok-clone.field-0 c.in_ok-clone-2.field-0 c.in_ok-clone.ensures.cases
+    c.in_ok-clone-2.ensures.cases c.in_ok-insert.ensures.updates.0

@@ -7,11 +7,14 @@ use Rattle.std.specs.Global.{Vec}
 
 pub returns-then-is_joined-clause-added : goal.returns-then-is_joined-clause-added
 returns-then-is_joined-clause-added g c F e lines =
-    one_joined F c.args.context.now c.args.ended.now c.args.begun.now.items c.push.new.self.items c.args.line c.in_ok-command_of.field-0 lines (sym c.is_joined-is_joined.ensures ∙ c.if-is_joined.true)
+    one_joined F c.args.context.now c.args.ended.now c.args.begun.now.items c.push.new.self.items c.args.line c.in_ok-command_of.field-0
+    lines (sym c.is_joined-is_joined.ensures ∙ c.if-is_joined.true)
     (c.in_ok-command_of.ensures.made F e) c.in_ok-push.ensures.items
 
 pub returns-clause-added : goal.returns-clause-added
 returns-clause-added g c F e lines =
-    one_ended F c.args.context.now c.args.ended.now c.push_group.new.groups c.args.begun.now.items c.push.new.self.items c.replace.new.dest.items c.args.line c.in_ok-command_of.field-0 lines (sym c.is_joined-is_joined.ensures ∙ c.if-is_joined.false)
+    one_ended F c.args.context.now c.args.ended.now c.push_group.new.groups c.args.begun.now.items c.push.new.self.items
+    c.replace.new.dest.items c.args.line c.in_ok-command_of.field-0 lines (sym c.is_joined-is_joined.ensures ∙ c.if-is_joined.false)
     (c.in_ok-command_of.ensures.made F e) c.in_ok-push.ensures.items
-    (c.in_ok-push_group.ensures ∙ ap (λ (begun : Vec Command). c.args.ended.now ++ made begun.items) c.replace.ensures.value) (ap (λ (begun : Vec Command). begun.items) c.replace.ensures.after ∙ c.new.ensures.items)
+    (c.in_ok-push_group.ensures ∙ ap (λ (begun : Vec Command). c.args.ended.now ++ made begun.items) c.replace.ensures.value)
+    (ap (λ (begun : Vec Command). begun.items) c.replace.ensures.after ∙ c.new.ensures.items)

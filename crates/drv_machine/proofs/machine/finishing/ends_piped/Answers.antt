@@ -3,4 +3,5 @@ use Rattle.drv_machine.proofs.machine.finishing.ends_piped.Goals as goal
 use Rattle.std.proofs.Common.{◌∙◌, ap}
 
 pub returns-in-len1-up : goal.returns-in-len1-up
-returns-in-len1-up c = ap (λ line. line.piped) c.last.view_is ∙ ends_piped_last c.args.lines.now c.last-item.result c.in-len1-up.len_at_least c.last-item.is
+returns-in-len1-up c = ap (λ line. line.piped) c.last.view_is
+    ∙ ends_piped_last c.args.lines.now c.last-item.result c.in-len1-up.len_at_least c.last-item.is

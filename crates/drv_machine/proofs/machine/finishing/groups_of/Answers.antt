@@ -8,7 +8,12 @@ use Rattle.std.proofs.lemmas.Iterator.Consumers.{YieldsList-end}
 use Rattle.std.proofs.lemmas.List.{map-id}
 
 pub loop-line-init : goal.loop-line-init
-loop-line-init g c = record { asks = asked_none c.args.outside.now; made = λ F e rest. grouped_none c.new-groups.result c.new-begun.result.items (groups F c.args.context.now rest) c.new-groups.ensures (search rules) }
+loop-line-init g c = record {
+  asks = asked_none c.args.outside.now;
+  made =
+      λ F e rest. grouped_none c.new-groups.result c.new-begun.result.items (groups F c.args.context.now rest) c.new-groups.ensures
+      (search rules);
+}
 
 pub loop-line-preserved : goal.loop-line-preserved
 loop-line-preserved g c = record {
@@ -23,7 +28,9 @@ pub returns-clause-made : goal.returns-clause-made
 returns-clause-made g c F e =
     let given = c.into_iter-line-iterator.ensures.into_iter_gives in
     let ended =
-    YieldsList-end (YieldsList-from_vec {s = c.into_iter-line-iterator.result} c.into_vec-line-items.result.items given.0 (omega (arith, given.1, c.into_vec-line-items.result.ok.0))) c.loop-line.yielded c.loop-line.line-iterator c.loop-line.yielded_by c.next.result c.next.new.self c.in-None.is c.next.ensures.steps in
+    YieldsList-end (YieldsList-from_vec {s = c.into_iter-line-iterator.result} c.into_vec-line-items.result.items given.0
+    (omega (arith, given.1, c.into_vec-line-items.result.ok.0))) c.loop-line.yielded c.loop-line.line-iterator c.loop-line.yielded_by
+    c.next.result c.next.new.self c.in-None.is c.next.ensures.steps in
     let all : c.loop-line.yielded ≡ c.args.lines = sym (map-id c.loop-line.yielded) ∙ ended.0 ∙ c.into_vec-line-items.ensures in
     ap (groups F c.args.context.now) (sym all ∙ sym (append-nil c.loop-line.yielded)) ∙ c.loop-line.invariant.made F e []
     ∙ all_grouped F c.args.context.now c.loop-line.groups c.push_group.new.groups c.loop-line.begun.items c.in_ok-push_group.ensures

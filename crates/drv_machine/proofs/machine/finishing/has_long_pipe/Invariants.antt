@@ -5,4 +5,5 @@ use Rattle.std.specs.List.{list_any}
 use Rattle.std.specs.Prelude.{nat_lt}
 
 abbrev pub invariant-loop-group : goal.invariant-loop-group
-invariant-loop-group l = list_any (λ group. nat_lt most_piped (length group)) (drop l.group-index l.groups) ≡ list_any (λ group. nat_lt most_piped (length group)) l.groups
+invariant-loop-group l = list_any (λ group. nat_lt most_piped (length group)) (drop l.group-index l.groups)
+    ≡ list_any (λ group. nat_lt most_piped (length group)) l.groups

@@ -18,6 +18,9 @@ pub returns : goal.returns
 returns c =
     let given = c.into_iter-file-iterator.ensures.into_iter_gives in
     let ended =
-    YieldsList-end (YieldsList-from_vec {s = c.into_iter-file-iterator.result} c.into_vec-file-items.result.items given.0 (omega (arith, given.1, c.into_vec-file-items.result.ok.0))) c.loop-file.yielded c.loop-file.file-iterator c.loop-file.yielded_by c.next.result c.next.new.self c.in-None.is c.next.ensures.steps in
+    YieldsList-end (YieldsList-from_vec {s = c.into_iter-file-iterator.result} c.into_vec-file-items.result.items given.0
+    (omega (arith, given.1, c.into_vec-file-items.result.ok.0))) c.loop-file.yielded c.loop-file.file-iterator c.loop-file.yielded_by
+    c.next.result c.next.new.self c.in-None.is c.next.ensures.steps in
     let all : c.loop-file.yielded ≡ c.args.files = sym (map-id c.loop-file.yielded) ∙ ended.0 ∙ c.into_vec-file-items.ensures in
-    c.into_listing.ensures ∙ sym (ap once (sym all ∙ sym (append-nil c.loop-file.yielded)) ∙ c.loop-file.invariant [] ∙ all_once c.loop-file.kept)
+    c.into_listing.ensures ∙ sym (ap once (sym all ∙ sym (append-nil c.loop-file.yielded)) ∙ c.loop-file.invariant []
+    ∙ all_once c.loop-file.kept)

@@ -4,4 +4,5 @@ use Rattle.std.proofs.Common.{arith}
 
 pub loop-word-preserved : goal.loop-word-preserved
 loop-word-preserved c other =
-    next_indexed c.loop-word.index c.insert.new.self c.args.words.now c.loop-word.word-index c.word-item.result c.in_ok-clone.field-0 (omega arith) c.word-item.is c.in_ok-clone.ensures.cases c.in_ok-insert.ensures.updates.0 other (c.loop-word.invariant other)
+    next_indexed c.loop-word.index c.insert.new.self c.args.words.now c.loop-word.word-index c.word-item.result c.in_ok-clone.field-0
+    (omega arith) c.word-item.is c.in_ok-clone.ensures.cases c.in_ok-insert.ensures.updates.0 other (c.loop-word.invariant other)

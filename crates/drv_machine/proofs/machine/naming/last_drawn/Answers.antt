@@ -4,4 +4,6 @@ use Rattle.std.proofs.Common.{arith, sym, ◌-◌, ◌∙◌}
 
 pub returns-then-is_drawn : goal.returns-then-is_drawn
 returns-then-is_drawn c =
-    drawn_at c.args.drawing c.args.suffix.now c.args.drawn.now (c.loop-i.i - 1) c.loop-i.i c.index-drawn-i.result c.as_bytes.result.now (omega arith) (omega arith) c.index-drawn-i.is c.loop-i.invariant.none (sym c.is_drawn.ensures ∙ c.if-is_drawn.true) c.as_bytes.ensures
+    drawn_at c.args.drawing c.args.suffix.now c.args.drawn.now (c.loop-i.i - 1) c.loop-i.i c.index-drawn-i.result c.as_bytes.result.now
+    (omega arith) (omega arith) c.index-drawn-i.is c.loop-i.invariant.none
+    (sym c.is_drawn.ensures ∙ c.if-is_drawn.true) c.as_bytes.ensures

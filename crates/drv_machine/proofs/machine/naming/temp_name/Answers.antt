@@ -7,8 +7,12 @@ use Rattle.std.specs.Option.{option_copied}
 pub returns-clause-name : goal.returns-clause-name
 returns-clause-name g c F e =
     let dir = option_copied c.variable_answer.result in
-    temp_named F dir c.args.seed c.args.number c.args.suffix.now c.empty-path.result c.push_folder.new.path c.extend_from_slice.new.self c.extend_from_slice-2.new.self c.push.new.self
+    temp_named F dir c.args.seed c.args.number c.args.suffix.now c.empty-path.result c.push_folder.new.path c.extend_from_slice.new.self
+    c.extend_from_slice-2.new.self c.push.new.self
     c.extend_from_slice-3.new.self c.extend_from_slice-4.new.self
     (e.variables (codes "TMPDIR") dir (ap (variable_of c.variable.new.self) (sym c.in_ok-variable.ensures) ∙ c.variable_answer.ensures))
-    c.empty-path.ensures c.in_ok-push_folder.ensures c.in_ok-extend_from_slice.ensures.ok (c.in_ok-extend_from_slice-2.ensures.ok ∙ ap (λ digits. c.extend_from_slice.new.self ++ digits) c.hex.ensures)
-    c.in_ok-push.ensures.ok (c.in_ok-extend_from_slice-3.ensures.ok ∙ ap (λ digits. c.push.new.self ++ digits) (c.as_bytes.ensures.value ∙ c.format.ensures.text)) c.in_ok-extend_from_slice-4.ensures.ok
+    c.empty-path.ensures c.in_ok-push_folder.ensures c.in_ok-extend_from_slice.ensures.ok
+    (c.in_ok-extend_from_slice-2.ensures.ok ∙ ap (λ digits. c.extend_from_slice.new.self ++ digits) c.hex.ensures)
+    c.in_ok-push.ensures.ok (c.in_ok-extend_from_slice-3.ensures.ok
+    ∙ ap (λ digits. c.push.new.self ++ digits) (c.as_bytes.ensures.value ∙ c.format.ensures.text))
+    c.in_ok-extend_from_slice-4.ensures.ok

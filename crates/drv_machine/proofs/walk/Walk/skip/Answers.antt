@@ -14,7 +14,8 @@ token_at-token-requires c =
 pub loop-self-smaller : goal.loop-self-smaller
 loop-self-smaller c =
     let later =
-    past_later c.args.text.now c.loop-self.self.at c.token_at-token.result c.token_at-token.ensures c.in-Alternative.is c.requires.rest c.args.self.now.end
+    past_later c.args.text.now c.loop-self.self.at c.token_at-token.result c.token_at-token.ensures c.in-Alternative.is c.requires.rest
+    c.args.self.now.end
     (subst (λ (k : ℕ). c.loop-self.self.at < k) (ap (λ (v : Walk). v.end) c.loop-self.invariant.same) c.loop-self-test.true)
     (c.loop-self.invariant.lies c.requires.rest c.requires.lies) in
     omega (arith, later, c.loop-self-test.true)
@@ -22,18 +23,23 @@ loop-self-smaller c =
 pub loop-self-preserved : goal.loop-self-preserved
 loop-self-preserved c = record {
   lies = λ rest l.
-      lies_past c.args.text.now c.loop-self.self.at c.token_at-token.result c.token_at-token.ensures c.in-Alternative.is rest c.args.self.now.end
-      (subst (λ (k : ℕ). c.loop-self.self.at < k) (ap (λ (v : Walk). v.end) c.loop-self.invariant.same) c.loop-self-test.true) (c.loop-self.invariant.lies rest l);
+      lies_past c.args.text.now c.loop-self.self.at c.token_at-token.result c.token_at-token.ensures c.in-Alternative.is rest
+      c.args.self.now.end
+      (subst (λ (k : ℕ). c.loop-self.self.at < k) (ap (λ (v : Walk). v.end) c.loop-self.invariant.same) c.loop-self-test.true)
+      (c.loop-self.invariant.lies rest l);
   same = ap (λ (v : Walk). record v { at = c.token_at-token.result.next }) c.loop-self.invariant.same;
 }
 
 pub returns-in_default-clause-does : goal.returns-in_default-clause-does
 returns-in_default-clause-does c F C s given left =
-    subst (λ (v : Walk). Left F C c.args.text.now v s given) (sym c.loop-self.invariant.same) (left_at F C c.args.text.now c.args.self.now c.loop-self.self.at s given c.loop-self.invariant.lies left)
+    subst (λ (v : Walk). Left F C c.args.text.now v s given) (sym c.loop-self.invariant.same)
+    (left_at F C c.args.text.now c.args.self.now c.loop-self.self.at s given c.loop-self.invariant.lies left)
 
 pub returns-in_default-clause-reached : goal.returns-in_default-clause-reached
-returns-in_default-clause-reached c h = at_item c.args.text.now c.loop-self.self c.token_at-token.result h c.token_at-token.ensures c.in_default.not-Alternative
+returns-in_default-clause-reached c h = at_item c.args.text.now c.loop-self.self c.token_at-token.result h c.token_at-token.ensures
+    c.in_default.not-Alternative
 
 pub returns-clause-does : goal.returns-clause-does
 returns-clause-does c F C s given left =
-    subst (λ (v : Walk). Left F C c.args.text.now v s given) (sym c.loop-self.invariant.same) (left_at F C c.args.text.now c.args.self.now c.loop-self.self.at s given c.loop-self.invariant.lies left)
+    subst (λ (v : Walk). Left F C c.args.text.now v s given) (sym c.loop-self.invariant.same)
+    (left_at F C c.args.text.now c.args.self.now c.loop-self.self.at s given c.loop-self.invariant.lies left)

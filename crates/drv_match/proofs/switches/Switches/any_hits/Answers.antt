@@ -29,7 +29,8 @@ returns-then-not-is_empty-clause-places c =
     (front_same c.args.self.now c.args.hidden.now c.from_first_hit.result.now c.args.patterns.now c.first-item.result
     c.from_first_hit-others.result.now (take (length c.from_first_hit.result.now - 1) (drop 1 c.from_first_hit.result.now))
     c.from_first_hit.ensures
-    (front_is c.from_first_hit.result.now c.first-item.result c.in-len1-up.len_at_least c.first-item.is) c.from_first_hit-others.ensures)) c.merged_hits.ensures
+    (front_is c.from_first_hit.result.now c.first-item.result c.in-len1-up.len_at_least c.first-item.is) c.from_first_hit-others.ensures))
+    c.merged_hits.ensures
 
 pub returns-clause-within : goal.returns-clause-within
 returns-clause-within c =

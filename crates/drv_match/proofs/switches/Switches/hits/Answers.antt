@@ -5,7 +5,8 @@ use Rattle.std.proofs.Common.{◌∙◌, arith}
 use Rattle.std.proofs.lemmas.List.Sorted.{IsNonDecreasingBy-from_sort}
 
 pub counts-requires-clause-in_range : goal.counts-requires-clause-in_range
-counts-requires-clause-in_range c = named_within c.args.self.now c.args.pattern.now c.named_places-named.result.now c.named_places-named.ensures
+counts-requires-clause-in_range c = named_within c.args.self.now c.args.pattern.now c.named_places-named.result.now
+    c.named_places-named.ensures
     c.loop-place.place-index (omega arith)
 
 pub returns : goal.returns

@@ -4,16 +4,19 @@ use Rattle.drv_match.proofs.switches.Switches.mark_hits.Goals as goal
 use Rattle.std.proofs.Common.{arith}
 
 pub counts-requires-clause-in_range : goal.counts-requires-clause-in_range
-counts-requires-clause-in_range c = named_within c.args.self.now c.args.pattern.now c.named_places-named.result.now c.named_places-named.ensures
+counts-requires-clause-in_range c = named_within c.args.self.now c.args.pattern.now c.named_places-named.result.now
+    c.named_places-named.ensures
     c.loop-place.place-index (omega arith)
 
 pub index_mut-requires : goal.index_mut-requires
 index_mut-requires c =
-    let within = named_within c.args.self.now c.args.pattern.now c.named_places-named.result.now c.named_places-named.ensures c.loop-place.place-index (omega arith) in
+    let within = named_within c.args.self.now c.args.pattern.now c.named_places-named.result.now c.named_places-named.ensures
+    c.loop-place.place-index (omega arith) in
     omega (arith, c.loop-place.flags.ok.0, c.loop-place.invariant.as_many, within)
 
 pub returns-clause-marked : goal.returns-clause-marked
 returns-clause-marked c = λ i within.
-    mark_done c.args.self.now c.args.hidden.now c.args.pattern.now c.loop-place.flags.items c.args.flags.now.items c.named_places-named.result.now
+    mark_done c.args.self.now c.args.hidden.now c.args.pattern.now c.loop-place.flags.items c.args.flags.now.items
+    c.named_places-named.result.now
     c.loop-place.place-index i c.named_places-named.ensures c.requires.as_many (omega arith)
     c.loop-place.invariant.done within

@@ -11,14 +11,16 @@ loop-place-init c =
 
 pub loop-place-preserved-then-not-index : goal.loop-place-preserved-then-not-index
 loop-place-preserved-then-not-index c =
-    let within : c.loop-place.place < length c.args.self.now = omega (arith, c.loop-place-test.true, c.loop-pattern.flags.ok.0, c.len-place-end.ensures, c.loop-pattern.invariant.as_many) in
+    let within : c.loop-place.place < length c.args.self.now =
+    omega (arith, c.loop-place-test.true, c.loop-pattern.flags.ok.0, c.len-place-end.ensures, c.loop-pattern.invariant.as_many) in
     place_passed c.args.self.now c.args.hidden.now c.loop-pattern.flags.items c.loop-place.places.items _ c.loop-place.place within
     (sym (get_or_read c.loop-pattern.flags.items _ _ (omega (arith, within, c.loop-pattern.invariant.as_many)) c.index.ensures false)
     ∙ c.if-not-index.true) c.loop-place.invariant
 
 pub loop-place-preserved : goal.loop-place-preserved
 loop-place-preserved c =
-    let within : c.loop-place.place < length c.args.self.now = omega (arith, c.loop-place-test.true, c.loop-pattern.flags.ok.0, c.len-place-end.ensures, c.loop-pattern.invariant.as_many) in
+    let within : c.loop-place.place < length c.args.self.now =
+    omega (arith, c.loop-place-test.true, c.loop-pattern.flags.ok.0, c.len-place-end.ensures, c.loop-pattern.invariant.as_many) in
     place_kept c.args.self.now c.args.hidden.now c.loop-pattern.flags.items c.loop-place.places.items c.push.new.self.items _
     c.loop-place.place within
     (sym (get_or_read c.loop-pattern.flags.items _ _ (omega (arith, within, c.loop-pattern.invariant.as_many)) c.index.ensures false)

@@ -5,7 +5,9 @@ use Rattle.std.proofs.Common.{ap}
 
 pub returns-clause-works : goal.returns-clause-works
 returns-clause-works g c F e =
-    given_alike _ c.work.result (worked F c.args.text.now (record c.args.self.now { context = c.set_outputs.new.self; outputs = c.replace-outputs.new.dest })) (worked F c.args.text.now (for_link c.args.self.now))
+    given_alike _ c.work.result (worked F c.args.text.now
+    (record c.args.self.now { context = c.set_outputs.new.self; outputs = c.replace-outputs.new.dest }))
+    (worked F c.args.text.now (for_link c.args.self.now))
     (ap (worked F c.args.text.now) (link_set c.args.self.now c.set_input.new.self c.set_outputs.new.self c.replace-outputs.result
     c.replace-outputs.new.dest c.new.result c.set_input.ensures c.set_outputs.ensures
     c.replace-outputs.ensures.value c.replace-outputs.ensures.after c.new.ensures))

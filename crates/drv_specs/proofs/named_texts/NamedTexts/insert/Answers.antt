@@ -6,34 +6,43 @@ use Rattle.std.specs.Option.{option_flatten}
 pub returns-in-None-clause-old : goal.returns-in-None-clause-old
 returns-in-None-clause-old c =
     rw (← c.self.view_is) (ap option_flatten (sym c.in-None.is ∙ c.in_ok-insert.ensures.old)
-    ∙ sym (text_before c.in_ok-key.key c.args.name.now c.args.text c.self.inside.kept.entries c.insert.new.self.entries (c.in_ok-key.ensures.items_if_clones_equal (λ x y e. e)) c.in_ok-insert.ensures.entries
+    ∙ sym (text_before c.in_ok-key.key c.args.name.now c.args.text c.self.inside.kept.entries c.insert.new.self.entries
+    (c.in_ok-key.ensures.items_if_clones_equal (λ x y e. e)) c.in_ok-insert.ensures.entries
     c.in_ok-insert.ensures.unique))
 
 pub returns-in-None-clause-put : goal.returns-in-None-clause-put
 returns-in-None-clause-put c =
-    rw (← c.self.view_is) (put_there c.in_ok-key.key c.args.name.now c.args.text _ c.self.inside.kept.entries c.insert.new.self.entries (c.in_ok-key.ensures.items_if_clones_equal (λ x y e. e))
+    rw (← c.self.view_is) (put_there c.in_ok-key.key c.args.name.now c.args.text _ c.self.inside.kept.entries c.insert.new.self.entries
+    (c.in_ok-key.ensures.items_if_clones_equal (λ x y e. e))
     (sym c.in-None.is ∙ c.in_ok-insert.ensures.old) tt c.in_ok-insert.ensures.entries)
 
 pub returns-in-Some-Some-clause-old : goal.returns-in-Some-Some-clause-old
 returns-in-Some-Some-clause-old c =
     rw (← c.self.view_is) (ap option_flatten (sym (c.in-Some-Some.is ∙ ap Some c.in-Some-Some.field-0-is) ∙ c.in_ok-insert.ensures.old)
-    ∙ sym (text_before c.in_ok-key.key c.args.name.now c.args.text c.self.inside.kept.entries c.insert.new.self.entries (c.in_ok-key.ensures.items_if_clones_equal (λ x y e. e)) c.in_ok-insert.ensures.entries
+    ∙ sym (text_before c.in_ok-key.key c.args.name.now c.args.text c.self.inside.kept.entries c.insert.new.self.entries
+    (c.in_ok-key.ensures.items_if_clones_equal (λ x y e. e)) c.in_ok-insert.ensures.entries
     c.in_ok-insert.ensures.unique))
 
 pub returns-in-Some-Some-clause-put : goal.returns-in-Some-Some-clause-put
 returns-in-Some-Some-clause-put c =
-    rw (← c.self.view_is) (put_there c.in_ok-key.key c.args.name.now c.args.text _ c.self.inside.kept.entries c.insert.new.self.entries (c.in_ok-key.ensures.items_if_clones_equal (λ x y e. e))
+    rw (← c.self.view_is) (put_there c.in_ok-key.key c.args.name.now c.args.text _ c.self.inside.kept.entries c.insert.new.self.entries
+    (c.in_ok-key.ensures.items_if_clones_equal (λ x y e. e))
     (sym (c.in-Some-Some.is ∙ ap Some c.in-Some-Some.field-0-is) ∙ c.in_ok-insert.ensures.old) tt c.in_ok-insert.ensures.entries)
 
 pub returns-in_ok-insert-in-Some-None-clause-old : goal.returns-in_ok-insert-in-Some-None-clause-old
 returns-in_ok-insert-in-Some-None-clause-old c =
     rw (← c.self.view_is) (ap option_flatten (sym (c.in-Some-None.is ∙ ap Some c.in-Some-None.field-0-is) ∙ c.in_ok-insert.ensures.old)
-    ∙ sym (text_before c.in_ok-key.key c.args.name.now c.args.text c.self.inside.kept.entries c.insert.new.self.entries (c.in_ok-key.ensures.items_if_clones_equal (λ x y e. e)) c.in_ok-insert.ensures.entries
+    ∙ sym (text_before c.in_ok-key.key c.args.name.now c.args.text c.self.inside.kept.entries c.insert.new.self.entries
+    (c.in_ok-key.ensures.items_if_clones_equal (λ x y e. e)) c.in_ok-insert.ensures.entries
     c.in_ok-insert.ensures.unique))
 
 pub returns-in_ok-insert-in-Some-None-clause-put : goal.returns-in_ok-insert-in-Some-None-clause-put
 returns-in_ok-insert-in-Some-None-clause-put c =
-    rw (← c.self.view_is) (moved c.in_ok-key.key c.in_ok-key-in-Some-None.key c.args.name.now c.args.text c.in-Some.text c.self.inside.kept.entries c.insert.new.self.entries c.shift_remove.new.self.entries
-    c.insert-in-Some-None.new.self.entries (c.in_ok-key.ensures.items_if_clones_equal (λ x y e. e)) (c.in_ok-key-in-Some-None.ensures.items_if_clones_equal (λ x y e. e))
-    (sym c.in_ok-insert.ensures.old ∙ c.in-Some-None.is ∙ ap Some c.in-Some-None.field-0-is) c.in_ok-insert.ensures.entries c.in_ok-insert.ensures.unique c.in_ok-insert.ensures.updates.1
-    (sym c.in-Some.is ∙ c.shift_remove.ensures.value) c.shift_remove.ensures.entries c.shift_remove.ensures.updates.1 c.in_ok-insert-in-Some-None.ensures.entries)
+    rw (← c.self.view_is) (moved c.in_ok-key.key c.in_ok-key-in-Some-None.key c.args.name.now c.args.text c.in-Some.text
+    c.self.inside.kept.entries c.insert.new.self.entries c.shift_remove.new.self.entries
+    c.insert-in-Some-None.new.self.entries (c.in_ok-key.ensures.items_if_clones_equal (λ x y e. e))
+    (c.in_ok-key-in-Some-None.ensures.items_if_clones_equal (λ x y e. e))
+    (sym c.in_ok-insert.ensures.old ∙ c.in-Some-None.is ∙ ap Some c.in-Some-None.field-0-is) c.in_ok-insert.ensures.entries
+    c.in_ok-insert.ensures.unique c.in_ok-insert.ensures.updates.1
+    (sym c.in-Some.is ∙ c.shift_remove.ensures.value) c.shift_remove.ensures.entries c.shift_remove.ensures.updates.1
+    c.in_ok-insert-in-Some-None.ensures.entries)

@@ -6,11 +6,13 @@ use Rattle.std.specs.Map.{lookup}
 use Rattle.std.specs.Option.{option_copied}
 
 pub returns-in_default : goal.returns-in_default
-returns-in_default c = unnamed c.args.old.now c.args.new.now c.args.self.now (ap (lookup (pointwise nat_eq c.args.old.now)) (sym c.self.view_is) ∙ sym c.text_at.ensures ∙ ap option_copied c.in_default.is)
+returns-in_default c = unnamed c.args.old.now c.args.new.now c.args.self.now
+    (ap (lookup (pointwise nat_eq c.args.old.now)) (sym c.self.view_is) ∙ sym c.text_at.ensures ∙ ap option_copied c.in_default.is)
 
 pub returns : goal.returns
 returns c =
-    rw (← c.self.view_is) (left_renamed c.args.old.now c.args.new.now c.in_ok-text.text c.in_ok-key.key c.self.inside.kept.entries c.shift_remove.new.self.entries c.insert.new.self.entries c.swap_remove.new.self.entries
+    rw (← c.self.view_is) (left_renamed c.args.old.now c.args.new.now c.in_ok-text.text c.in_ok-key.key c.self.inside.kept.entries
+    c.shift_remove.new.self.entries c.insert.new.self.entries c.swap_remove.new.self.entries
     (c.in_ok-key.ensures.items_if_clones_equal (λ x y e. e))
     (sym c.text_at.ensures ∙ ap option_copied c.in-Some.is ∙ ap Some (sym c.in_ok-text.ensures.cases))
     (ap (lookup (pointwise nat_eq c.args.new.now)) c.self.view_is ∙ c.requires)

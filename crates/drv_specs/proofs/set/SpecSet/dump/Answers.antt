@@ -9,4 +9,5 @@ use Rattle.std.proofs.Common.{◌≡◌, IfOk, Ok, subst, sym}
 pub returns-clause-reloads : goal.returns-clause-reloads
 returns-clause-reloads c plain F prefixes =
     subst (λ (set : Set). IfOk c.dump_of.result (λ text. loaded F prefixes no_specs text ≡ Is (Ok set))) c.self.view_is
-    (dump_given c.dump_of.result c.self.inside.entries c.dump_of.ensures c.self.invariant (subst Plain (sym c.self.view_is) plain) F prefixes)
+    (dump_given c.dump_of.result c.self.inside.entries c.dump_of.ensures c.self.invariant
+    (subst Plain (sym c.self.view_is) plain) F prefixes)

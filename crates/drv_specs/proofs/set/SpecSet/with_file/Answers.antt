@@ -19,19 +19,25 @@ returns-clause-asks g c = let asks = (asked_further c.file_text.ensures.asks c.w
 pub returns-in_err-text-clause-loads : goal.returns-in_err-text-clause-loads
 returns-in_err-text-clause-loads g c F e =
     let known : Extends c.file_text.new.outside.facts.now F = search rules in
-    refusal_given c.in_err-text.field-0.0 c.from_residual.result _ (file_loaded F c.args.prefixes.now c.args.self c.args.name.now) c.from_residual.ensures.1
-    (subst (λ n. (c.in_err-text.field-0.0 ≡ Memory) ⊎ (file_loaded F c.args.prefixes.now c.args.self n ≡ Is (Err c.in_err-text.field-0.0))) c.as_bytes.ensures
+    refusal_given c.in_err-text.field-0.0 c.from_residual.result _
+    (file_loaded F c.args.prefixes.now c.args.self c.args.name.now) c.from_residual.ensures.1
+    (subst (λ n. (c.in_err-text.field-0.0 ≡ Memory) ⊎ (file_loaded F c.args.prefixes.now c.args.self n ≡ Is (Err c.in_err-text.field-0.0)))
+    c.as_bytes.ensures
     (file_unread F c.args.prefixes.now c.args.self c.as_bytes.result.now c.in_err-text.field-0.0 (c.in_err-text.ensures.text F known)))
 
 pub returns-clause-loads : goal.returns-clause-loads
 returns-clause-loads g c F e =
     let known : Extends c.worked.new.outside.facts.now F = search rules in
-    given_alike _ c.worked.result (worked F c.args.prefixes.now c.args.self 1999 (read_settled c.as_slice.result.now)) (file_loaded F c.args.prefixes.now c.args.self c.args.name.now)
-    (file_read F c.args.prefixes.now c.args.self c.as_bytes.result.now c.in_ok-text.text.items c.as_slice.result.now (c.in_ok-text.ensures.text F (extends_before c.worked.ensures.asks known)) c.as_slice.ensures.value
+    given_alike _ c.worked.result (worked F c.args.prefixes.now c.args.self 1999 (read_settled c.as_slice.result.now))
+    (file_loaded F c.args.prefixes.now c.args.self c.args.name.now)
+    (file_read F c.args.prefixes.now c.args.self c.as_bytes.result.now c.in_ok-text.text.items c.as_slice.result.now
+    (c.in_ok-text.ensures.text F (extends_before c.worked.ensures.asks known)) c.as_slice.ensures.value
     ∙ ap (file_loaded F c.args.prefixes.now c.args.self) c.as_bytes.ensures)
     (c.worked.ensures.works F known)
 
 pub worked-requires : goal.worked-requires
 worked-requires g c =
-    let file = read_file (file_text c.file_text.new.outside.facts.now c.args.prefixes.now Refuse c.as_bytes.result.now) c.in_ok-text.text.items (c.in_ok-text.ensures.text c.file_text.new.outside.facts.now (extends_refl c.file_text.new.outside.facts.now)) in
+    let file = read_file (file_text c.file_text.new.outside.facts.now c.args.prefixes.now Refuse c.as_bytes.result.now)
+    c.in_ok-text.text.items (c.in_ok-text.ensures.text c.file_text.new.outside.facts.now
+    (extends_refl c.file_text.new.outside.facts.now)) in
     (file.0, c.as_slice.ensures.value ∙ file.1.1)

@@ -4,5 +4,7 @@ use Rattle.drv_specs.proofs.set.SpecSet.work.Goals as goal
 
 pub invariant_of-self : goal.invariant_of-self
 invariant_of-self g c =
-    settled_keeps c.draft_of.new.outside.facts.now c.args.prefixes.now c.self.inside.entries c.in_ok-draft.draft c.args.files c.args.text.now
-    c.requires c.self.invariant (c.in_ok-draft.ensures.works c.draft_of.new.outside.facts.now (extends_refl c.draft_of.new.outside.facts.now))
+    settled_keeps c.draft_of.new.outside.facts.now c.args.prefixes.now c.self.inside.entries c.in_ok-draft.draft c.args.files
+    c.args.text.now
+    c.requires c.self.invariant (c.in_ok-draft.ensures.works c.draft_of.new.outside.facts.now
+    (extends_refl c.draft_of.new.outside.facts.now))

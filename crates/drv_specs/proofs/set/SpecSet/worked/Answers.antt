@@ -4,5 +4,7 @@ use Rattle.drv_system.proofs.Asking.{extends_refl}
 
 pub invariant_of-result : goal.invariant_of-result
 invariant_of-result g c =
-    settled_keeps c.worked_entries.new.outside.facts.now c.args.prefixes.now c.into_entries-entries.result c.in_ok-entries.entries c.args.files c.args.text.now
-    c.requires c.into_entries-entries.ensures.kept (c.in_ok-entries.ensures.works c.worked_entries.new.outside.facts.now (extends_refl c.worked_entries.new.outside.facts.now))
+    settled_keeps c.worked_entries.new.outside.facts.now c.args.prefixes.now c.into_entries-entries.result c.in_ok-entries.entries
+    c.args.files c.args.text.now
+    c.requires c.into_entries-entries.ensures.kept (c.in_ok-entries.ensures.works c.worked_entries.new.outside.facts.now
+    (extends_refl c.worked_entries.new.outside.facts.now))

@@ -6,18 +6,21 @@ pub fill_place-requires : goal.fill_place-requires
 fill_place-requires g c = place_made _ _ _ _ c.in_ok-make_place.ensures.ok
 
 pub returns-in-Ok-clause-known : goal.returns-in-Ok-clause-known
-returns-in-Ok-clause-known g c = place_known _ _ _ _ (absent _ _ c.has.ensures c.if-has.false) c.in_ok-make_place.ensures.ok _ _ c.fill_place.ensures
+returns-in-Ok-clause-known g c = place_known _ _ _ _
+    (absent _ _ c.has.ensures c.if-has.false) c.in_ok-make_place.ensures.ok _ _ c.fill_place.ensures
 
 pub returns-in-Ok-clause-consults : goal.returns-in-Ok-clause-consults
 returns-in-Ok-clause-consults g c = rw (← c.self.view_is) (consulted _ _ _ _ _ _ _ (absent _ _ c.has.ensures c.if-has.false) _ _ _
-    (place_answers _ _ _ _ (absent _ _ c.has.ensures c.if-has.false) c.in_ok-make_place.ensures.ok _ _ c.fill_place.ensures) c.in-Ok.ensures.event
+    (place_answers _ _ _ _ (absent _ _ c.has.ensures c.if-has.false) c.in_ok-make_place.ensures.ok _ _ c.fill_place.ensures)
+    c.in-Ok.ensures.event
     (let kept = place_filled c.self.inside.reads _ c.args.path.now _ (absent _ _ c.has.ensures c.if-has.false) c.in_ok-make_place.ensures.ok _ _ c.fill_place.ensures in cc))
 
 pub returns-in-Ok-clause-asks : goal.returns-in-Ok-clause-asks
 returns-in-Ok-clause-asks g c = consults_asks _ _ _ _ _ _ _ _ (λ answer new. new) (returns-in-Ok-clause-consults g c)
 
 pub returns-in-Err-clause-consults : goal.returns-in-Err-clause-consults
-returns-in-Err-clause-consults g c = rw (← c.self.view_is) (not_consulted _ _ _ _ _ _ _ (absent _ _ c.has.ensures c.if-has.false) _ _ c.in-Err.ensures.memory
+returns-in-Err-clause-consults g c = rw (← c.self.view_is)
+    (not_consulted _ _ _ _ _ _ _ (absent _ _ c.has.ensures c.if-has.false) _ _ c.in-Err.ensures.memory
     (let left = place_cleared c.self.inside.reads _ c.args.path.now _ (absent _ _ c.has.ensures c.if-has.false) c.in_ok-make_place.ensures.ok _ c.clear_place.ensures in cc))
 
 pub returns-in-Err-clause-asks : goal.returns-in-Err-clause-asks

@@ -10,8 +10,14 @@ invariant_of-self c = holds_step _ _ c.self.invariant c.push_reserved.ensures.it
 
 pub invariant_of-self-in-Ok : goal.invariant_of-self-in-Ok
 invariant_of-self-in-Ok c =
-    let out : is_pipe c.if-to_pipe.output ≡ c.args.to_pipe = elim c.if-to_pipe.branch [ then-to_pipe w ↦ ap is_pipe w.output-is ∙ sym w.if-to_pipe.true | else-to_pipe w ↦ ap is_pipe w.output-is ∙ sym w.if-to_pipe.false ] in
-    holds_started _ c.self.invariant c.push_reserved-in-Ok-2.ensures.items c.push_reserved-in-Ok.ensures.len c.len.ensures (c.in-Ok.ensures ∙ out)
+    let out : is_pipe c.if-to_pipe.output ≡ c.args.to_pipe =
+    elim c.if-to_pipe.branch [
+      | then-to_pipe w ↦ ap is_pipe w.output-is
+          ∙ sym w.if-to_pipe.true
+      | else-to_pipe w ↦ ap is_pipe w.output-is ∙ sym w.if-to_pipe.false
+    ] in
+    holds_started _ c.self.invariant c.push_reserved-in-Ok-2.ensures.items c.push_reserved-in-Ok.ensures.len c.len.ensures
+    (c.in-Ok.ensures ∙ out)
 
 pub invariant_of-self-in-Err : goal.invariant_of-self-in-Err
 invariant_of-self-in-Err c = holds_step _ _ c.self.invariant c.push_reserved-in-Err.ensures.items refl tt refl

@@ -4,7 +4,8 @@ use Rattle.std.proofs.lemmas.Grind.{common_steps}
 use Rattle.drv_system.proofs.reading.OpenFile.read_within.Goals as goal
 
 pub returns-in-Ok-eq0-clause-read : goal.returns-in-Ok-eq0-clause-read
-returns-in-Ok-eq0-clause-read g c = whole _ _ _ _ _ (take c.in-Ok-eq0.field-0 c.read.new.buffer) c.loop.invariant.left c.in-Ok-eq0.ensures.bytes.0
+returns-in-Ok-eq0-clause-read g c = whole _ _ _ _ _
+    (take c.in-Ok-eq0.field-0 c.read.new.buffer) c.loop.invariant.left c.in-Ok-eq0.ensures.bytes.0
     (ap (λ n. take n c.read.new.buffer) c.in-Ok-eq0.field-0-test) (c.in-Ok-eq0.ensures.end c.in-Ok-eq0.field-0-test) c.from_vec.ensures
 
 pub returns-then-count-len-clause-read : goal.returns-then-count-len-clause-read

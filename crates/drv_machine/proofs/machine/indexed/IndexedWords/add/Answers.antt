@@ -6,4 +6,5 @@ use Rattle.std.proofs.Common.{ap, sym, ◌∙◌}
 pub invariant_of-self-2 : goal.invariant_of-self-2
 invariant_of-self-2 c =
     indexed_more c.in_ok-index.index c.insert.new.self c.self-2.inside.words c.push.new.self c.args.word c.in_ok-clone.field-0
-    (λ other. c.in_ok-index.ensures.index other ∙ ap (λ words. is_among words other) (sym c.take_index.ensures.same ∙ sym c.self-2.view_is)) c.in_ok-clone.ensures.cases c.in_ok-insert.ensures.updates.0 c.in_ok-push.ensures.ok
+    (λ other. c.in_ok-index.ensures.index other ∙ ap (λ words. is_among words other) (sym c.take_index.ensures.same ∙ sym c.self-2.view_is))
+    c.in_ok-clone.ensures.cases c.in_ok-insert.ensures.updates.0 c.in_ok-push.ensures.ok

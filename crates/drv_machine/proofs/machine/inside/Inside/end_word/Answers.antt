@@ -5,4 +5,5 @@ use Rattle.std.proofs.Common.{ap, ◌∙◌}
 
 pub returns : goal.returns
 returns c = rw (← c.self.view_is)
-    (ap (λ word. ended_in word c.self.inside.count 0) c.in_ok-self-inside.ensures.cases ∙ all_ended c.self.inside.last c.args.word.now c.self.inside.count c.self.inside.fresh c.self.invariant)
+    (ap (λ word. ended_in word c.self.inside.count 0) c.in_ok-self-inside.ensures.cases
+    ∙ all_ended c.self.inside.last c.args.word.now c.self.inside.count c.self.inside.fresh c.self.invariant)

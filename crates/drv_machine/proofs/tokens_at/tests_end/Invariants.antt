@@ -2,7 +2,7 @@ use Rattle.drv_machine.proofs.Standing.{Passed}
 use Rattle.drv_machine.specs.Code.Standing.{Spans, Stands}
 use Rattle.drv_syntax.specs.Labels.{Nodes}
 use Rattle.std.proofs.Common.{◌-◌}
-use Rattle.drv_machine.proofs.places.tests_end.Given as goal
+use Rattle.drv_machine.proofs.tokens_at.tests_end.Given as goal
 
 abbrev pub invariant-loop-at : goal.invariant-loop-at
 invariant-loop-at l = record {

@@ -1,0 +1,40 @@
+use Rattle.drv_machine.proofs.Standing.{front_in, here, nearer, not_test, passed_end, passed_step, passed_stop}
+use Rattle.drv_machine.specs.Code.Standing.{Stands, is_test}
+use Rattle.drv_machine.proofs.tokens_at.tests_end.Goals as goal
+use Rattle.drv_syntax.specs.Labels.{Nodes}
+use Rattle.std.proofs.Common.{ap, arith}
+
+pub token_at-token-requires : goal.token_at-token-requires
+token_at-token-requires c = front_in c.args.tree.now c.loop-at.at c.args.end c.loop-at-test.true c.loop-at.invariant.spans
+
+pub loop-at-smaller : goal.loop-at-smaller
+loop-at-smaller c = nearer c.args.tree.now c.loop-at.at c.args.end c.loop-at-test.true c.token_at-token.result c.token_at-token.ensures
+    c.loop-at.invariant.spans
+
+pub loop-at-preserved : goal.loop-at-preserved
+loop-at-preserved c = record {
+  spans = (here c.args.tree.now c.loop-at.at c.args.end c.loop-at-test.true c.token_at-token.result c.token_at-token.ensures
+      c.loop-at.invariant.spans).following;
+  passed = λ nodes s.
+      passed_step c.args.tree.now c.loop-at.at c.args.end c.loop-at-test.true c.token_at-token.result c.token_at-token.ensures c.args.start
+      nodes (c.loop-at.invariant.passed nodes s)
+      (ap is_test c.in-Test.is);
+}
+
+pub returns-in_default : goal.returns-in_default
+returns-in_default c =
+    let stop = λ (nodes : Nodes) (s : Stands c.args.tree.now c.args.start nodes c.args.end).
+    passed_stop c.args.tree.now c.loop-at.at c.args.end c.loop-at-test.true c.token_at-token.result c.token_at-token.ensures c.args.start
+    nodes (c.loop-at.invariant.passed nodes s)
+    (not_test c.token_at-token.result.kind c.in_default.not-Test) in record {
+      tests = λ nodes s. (stop nodes s).0;
+      rest = λ nodes s. (stop nodes s).1;
+    }
+
+pub returns-clause-tests : goal.returns-clause-tests
+returns-clause-tests c nodes s = (passed_end c.args.tree.now c.args.start c.loop-at.at nodes c.args.end
+    (omega (arith, c.loop-at-test.false)) (c.loop-at.invariant.passed nodes s)).0
+
+pub returns-clause-rest : goal.returns-clause-rest
+returns-clause-rest c nodes s = (passed_end c.args.tree.now c.args.start c.loop-at.at nodes c.args.end (omega (arith, c.loop-at-test.false))
+    (c.loop-at.invariant.passed nodes s)).1
