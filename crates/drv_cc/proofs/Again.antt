@@ -1,6 +1,8 @@
 use Rattle.drv_cc.proofs.LongNames.{no_rename}
 use Rattle.drv_cc.specs.Code.Known.{again, by_names, is_unknown}
-use Rattle.drv_cc.specs.Items.{Start, Wants, Whole, accepts, begins, beyond, by_row, first_row, head_of, is_among, is_file, is_known, is_longer, is_number, is_open, item, items_of, judges, known_item, paired, plain, renamed, renamed_by, start_of, start_option, start_renamed, takes_value, turns_off, value_of, with_rest, with_start}
+use Rattle.drv_cc.specs.Items.{Start, Wants, Whole, accepts, begins, beyond, by_row, first_row, head_of, is_among, is_file, is_known}
+use Rattle.drv_cc.specs.Items.{is_longer, is_number, is_open, item, items_of, judges, known_item, paired, plain, renamed, renamed_by}
+use Rattle.drv_cc.specs.Items.{start_of, start_option, start_renamed, takes_value, turns_off, value_of, with_rest, with_start}
 use Rattle.drv_cc.specs.Table.{OptionRow, ignored, renames, sections, table, texts}
 use Rattle.drv_cc.specs.declared.item.Item.{Item}
 use Rattle.drv_cc.specs.declared.table.Part.TheVariants.{Question, Switch, Unknown}
@@ -8,7 +10,8 @@ use Rattle.drv_cc.specs.declared.table.Spelling.TheVariants.{Nowhere}
 use Rattle.drv_cc.specs.declared.table.Takes.TheVariants.{Attached, Either, Next, Nothing, Rest}
 use Rattle.drv_cc.specs.declared.table.Takes.{Takes}
 use Rattle.drv_words.specs.Bytes.{equals}
-use Rattle.std.proofs.Common.{Err, IfOk, Ok, Result, ◌≡◌, ◌==◌, ◌&&◌, ◌||◌, ◌∙◌, ◌<◌, ◌++◌, Bool, List, [], ◌∷◌, None, Option, Some, ap, arith, codes, cond, drop, false, find, length, map, nat_eq, nat_lt, not, refl, sym, true, ℕ}
+use Rattle.std.proofs.Common.{Err, IfOk, Ok, Result, ◌≡◌, ◌==◌, ◌&&◌, ◌||◌, ◌∙◌, ◌<◌, ◌++◌, Bool, List, [], ◌∷◌, None, Option, Some, ap}
+use Rattle.std.proofs.Common.{arith, codes, cond, drop, false, find, length, map, nat_eq, nat_lt, not, refl, sym, true, ℕ}
 use Rattle.std.proofs.lemmas.Bool.{eqb-true}
 use Rattle.std.proofs.lemmas.Bool.Decides.{nat_tests}
 use Rattle.std.proofs.lemmas.List.{append-nil, length-drop}
@@ -26,9 +29,11 @@ both_false true b e = absurd cc
 both_false false b e = (refl, e)
 
 -- what is found in a list passes the test, and is one that none of the list is
-found_passes : {A : Type 0} (p q : A → Bool) (rows : List A) (r : A) → find p rows ≡ Some r → list_any q rows ≡ false → (p r ≡ true) × (q r ≡ false)
+found_passes : {A : Type 0} (p q : A → Bool) (rows : List A) (r : A) → find p rows ≡ Some r → list_any q rows ≡ false
+    → (p r ≡ true) × (q r ≡ false)
 found_passes p q [] r e missed = absurd cc
-found_passes p q (x ∷ rows) r e missed = by (p x) refl e (both_false (q x) (list_any q rows) missed) (λ found none. found_passes p q rows r found none)
+found_passes p q (x ∷ rows) r e missed = by (p x) refl e (both_false (q x) (list_any q rows) missed)
+    (λ found none. found_passes p q rows r found none)
   where
     by : (t : Bool) → p x ≡ t → cond t (Some x) (find p rows) ≡ Some r → (q x ≡ false) × (list_any q rows ≡ false)
         → (find p rows ≡ Some r → list_any q rows ≡ false → (p r ≡ true) × (q r ≡ false)) → (p r ≡ true) × (q r ≡ false)
@@ -38,7 +43,8 @@ found_passes p q (x ∷ rows) r e missed = by (p x) refl e (both_false (q x) (li
 row_known : (word : List ℕ) (r : OptionRow) → first_row word ≡ Some r → is_unknown r.part ≡ false
 row_known word r e = (found_passes _ (λ r. is_unknown r.part) table r e no_row).1
 
-row_again : (known : List ℕ) (r : OptionRow) (argument : List ℕ) → is_unknown r.part ≡ false → again known (by_row r argument) ≡ by_row r argument
+row_again : (known : List ℕ) (r : OptionRow) (argument : List ℕ) → is_unknown r.part ≡ false
+    → again known (by_row r argument) ≡ by_row r argument
 row_again known r argument e = rw e refl
 
 abbrev start_again : List ℕ → Start → Start
@@ -80,7 +86,8 @@ no_value b name =
     ap (is_known []) (sym (append-nil (head_of (b ∷ name)))) ∙ unknown_some (head_of (b ∷ name) ++ []) (some_head b name []) in
     rw (head, by (is_number (value_of (b ∷ name))) head) refl
   where
-    by : (t : Bool) → is_known [] (head_of (b ∷ name)) ≡ false → is_known [] (cond t (head_of (b ∷ name) ++ codes "#") (head_of (b ∷ name))) ≡ false
+    by : (t : Bool) → is_known [] (head_of (b ∷ name)) ≡ false
+        → is_known [] (cond t (head_of (b ∷ name) ++ codes "#") (head_of (b ∷ name))) ≡ false
     by true head = unknown_some (head_of (b ∷ name) ++ codes "#") (some_head b name (codes "#"))
     by false head = head
 
@@ -93,7 +100,10 @@ none_accepted b name = by (is_open (b ∷ name))
 
 none_judged : (b : ℕ) (name : List ℕ) → judges [] (b ∷ name) ≡ false
 none_judged b name =
-    rw (unknown_some (head_of (b ∷ name) ++ codes "?") (some_head b name (codes "?")), unknown_some (head_of (b ∷ name) ++ codes "#") (some_head b name (codes "#"))) refl
+    rw (
+      unknown_some (head_of (b ∷ name) ++ codes "?") (some_head b name (codes "?")),
+      unknown_some (head_of (b ∷ name) ++ codes "#") (some_head b name (codes "#")),
+    ) refl
 
 pub no_names_accept : (known name : List ℕ) → (length known == 0) ≡ true → (length name == 0) ≡ false → false ≡ accepts known name
 no_names_accept known [] none some = absurd cc
@@ -115,7 +125,8 @@ other_begins (a ∷ []) e = by (45 == a)
     by false = refl
 other_begins (a ∷ b ∷ name) e = by (45 == a) (109 == b) (87 == b) refl refl e
   where
-    by : (t u v : Bool) → (109 == b) ≡ u → (87 == b) ≡ v → (t && (v && begins (codes "no-") name)) ≡ true → (t && (u && begins (codes "cpu=") name)) ≡ false
+    by : (t u v : Bool) → (109 == b) ≡ u → (87 == b) ≡ v → (t && (v && begins (codes "no-") name)) ≡ true
+        → (t && (u && begins (codes "cpu=") name)) ≡ false
     by false u v m w e = refl
     by true false v m w e = refl
     by true u false m w e = absurd cc
@@ -159,8 +170,10 @@ unknown_first : (word : List ℕ) (b : ℕ) (name : List ℕ) → is_among (text
     → beyond [] word (b ∷ name) ≡ plain Unknown word
 unknown_first word b name e off =
     ap (λ t. cond t (item (b ∷ name) [] Nowhere Switch) (by_names [] word (b ∷ name))) e
-    ∙ ap (λ t. chosen t (accepts [] (b ∷ name)) (judges [] (b ∷ name)) (known_item [] (b ∷ name)) (plain Question word) (plain Unknown word)) off
-    ∙ ap (λ t. chosen false t (judges [] (b ∷ name)) (known_item [] (b ∷ name)) (plain Question word) (plain Unknown word)) (none_accepted b name)
+    ∙ ap (λ t. chosen t (accepts [] (b ∷ name)) (judges [] (b ∷ name)) (known_item [] (b ∷ name)) (plain Question word)
+    (plain Unknown word)) off
+    ∙ ap (λ t. chosen false t (judges [] (b ∷ name)) (known_item [] (b ∷ name)) (plain Question word) (plain Unknown word))
+    (none_accepted b name)
     ∙ ap (λ t. chosen false false t (known_item [] (b ∷ name)) (plain Question word) (plain Unknown word)) (none_judged b name)
 
 named_then : (known word : List ℕ) (b : ℕ) (name : List ℕ) → is_among (texts ignored) (paired (b ∷ name)) ≡ false
@@ -168,7 +181,8 @@ named_then : (known word : List ℕ) (b : ℕ) (name : List ℕ) → is_among (t
 named_then known word b name e = sym (ap (λ t. cond t (item (b ∷ name) [] Nowhere Switch) (by_names known word (b ∷ name))) e)
 
 -- a word that no row fits
-beyond_again : (known word : List ℕ) (b : ℕ) (name : List ℕ) → renamed word ≡ b ∷ name → again known (beyond [] word (b ∷ name)) ≡ beyond known word (b ∷ name)
+beyond_again : (known word : List ℕ) (b : ℕ) (name : List ℕ) → renamed word ≡ b ∷ name
+    → again known (beyond [] word (b ∷ name)) ≡ beyond known word (b ∷ name)
 beyond_again known word b name is = by (is_among (texts ignored) (paired (b ∷ name))) (turns_off [] word) refl refl
   where
     by : (t u : Bool) → is_among (texts ignored) (paired (b ∷ name)) ≡ t → turns_off [] word ≡ u
@@ -215,14 +229,17 @@ renamed_begun : (known word : List ℕ) (b : ℕ) (name : List ℕ) → renamed 
     → Begun known (start_renamed [] word (b ∷ name) (first_row (b ∷ name))) (start_renamed known word (b ∷ name) (first_row (b ∷ name)))
 renamed_begun known word b name is = by (first_row (b ∷ name)) refl
   where
-    by : (found : Option OptionRow) → first_row (b ∷ name) ≡ found → Begun known (start_renamed [] word (b ∷ name) found) (start_renamed known word (b ∷ name) found)
+    by : (found : Option OptionRow) → first_row (b ∷ name) ≡ found
+        → Begun known (start_renamed [] word (b ∷ name) found) (start_renamed known word (b ∷ name) found)
     by None e = (ap Whole (beyond_again known word b name is), tt)
     by (Some r) e = rest_begun known r.takes r (drop (length r.option) (b ∷ name)) (row_known (b ∷ name) r e)
 
-option_begun : (known : List ℕ) (b : ℕ) (word : List ℕ) → Begun known (start_option [] (b ∷ word) (first_row (b ∷ word))) (start_option known (b ∷ word) (first_row (b ∷ word)))
+option_begun : (known : List ℕ) (b : ℕ) (word : List ℕ)
+    → Begun known (start_option [] (b ∷ word) (first_row (b ∷ word))) (start_option known (b ∷ word) (first_row (b ∷ word)))
 option_begun known b word = by (first_row (b ∷ word)) refl
   where
-    by : (found : Option OptionRow) → first_row (b ∷ word) ≡ found → Begun known (start_option [] (b ∷ word) found) (start_option known (b ∷ word) found)
+    by : (found : Option OptionRow) → first_row (b ∷ word) ≡ found
+        → Begun known (start_option [] (b ∷ word) found) (start_option known (b ∷ word) found)
     by None e =
         let (c, name, is) = some_named b word in
         rw is (renamed_begun known (b ∷ word) c name is)
@@ -245,14 +262,18 @@ items_again : (known : List ℕ) (wanting : Option OptionRow) (words : List (Lis
 items_again known None [] fit = refl
 items_again known (Some r) [] fit = refl
 items_again known (Some r) (word ∷ words) fit = rw (row_again known r word fit, items_again known None words tt) refl
-items_again known None (word ∷ words) fit = by (start_of [] word) (start_of known word) (begun known word) (λ w h. items_again known w words h)
+items_again known None (word ∷ words) fit = by (start_of [] word) (start_of known word) (begun known word)
+    (λ w h. items_again known w words h)
   where
-    by : (before after : Start) → Begun known before after → ((w : Option OptionRow) → IsFitting w → map (again known) (items_of [] w words) ≡ items_of known w words)
-        → map (again known) (with_start before (λ wanting. items_of [] wanting words)) ≡ with_start after (λ wanting. items_of known wanting words)
+    by : (before after : Start) → Begun known before after
+        → ((w : Option OptionRow) → IsFitting w → map (again known) (items_of [] w words) ≡ items_of known w words)
+        → map (again known) (with_start before (λ wanting. items_of [] wanting words))
+        ≡ with_start after (λ wanting. items_of known wanting words)
     by (Whole i) after (is, fit) ih = rw (sym is, ih None tt) refl
     by (Wants r) after (is, fit) ih = rw (sym is, ih (Some r) fit) refl
 
-pub all_again : (known : List ℕ) (args : List (List ℕ)) (before after : List Item) → before ≡ items_of [] None args → after ≡ map (again known) before
+pub all_again : (known : List ℕ) (args : List (List ℕ)) (before after : List Item) → before ≡ items_of [] None args
+    → after ≡ map (again known) before
     → after ≡ items_of known None args
 all_again known args before after is are = are ∙ ap (map (again known)) is ∙ items_again known None args tt
 
@@ -266,7 +287,8 @@ pub renamed_named : {E : Type 0} (known word name : List ℕ) (result : Result I
 renamed_named known word name (Ok found) same is = is ∙ ap (by_names known word) same
 renamed_named known word name (Err e) same is = tt
 
-pub asked_again : {E : Type 0} (known : List ℕ) (i : Item) (word : List ℕ) (result : Result Item E) → is_unknown i.part ≡ true → word ≡ i.name
+pub asked_again : {E : Type 0} (known : List ℕ) (i : Item) (word : List ℕ) (result : Result Item E) → is_unknown i.part ≡ true
+    → word ≡ i.name
     → IfOk result (λ found. found ≡ by_names known word (renamed word)) → IfOk result (λ found. found ≡ again known i)
 asked_again known i word (Ok found) unknown word_is is = is ∙ ap (λ w. by_names known w (renamed w)) word_is ∙ sym (rw unknown refl)
 asked_again known i word (Err e) unknown word_is is = tt

@@ -1,4 +1,5 @@
-use Rattle.drv_cc.specs.Code.Building.{Many, Single, Zero, all_counted, all_noted, count_of, counted_only, is_counted, is_many, suffixes_words}
+use Rattle.drv_cc.specs.Code.Building.{Many, Single, Zero, all_counted, all_noted, count_of, counted_only, is_counted, is_many}
+use Rattle.drv_cc.specs.Code.Building.{suffixes_words}
 use Rattle.drv_cc.specs.Items.{same}
 use Rattle.drv_cc.specs.SideFiles.{are_several, is_some, only, suffix_words}
 use Rattle.std.proofs.Common.{◌≡◌, Bool, List, [], ◌∷◌, ap, false, if◌then◌else◌, refl, true, ℕ}
@@ -30,7 +31,8 @@ many_noted [] = refl
 many_noted (name ∷ names) = many_noted names
 
 -- with one noted, it stays the only one where all are the same
-one_noted : (end : List ℕ) (others : List (List ℕ)) → all_noted (Single end) others ≡ (if list_all (same end) others then Single end else Many)
+one_noted : (end : List ℕ) (others : List (List ℕ))
+    → all_noted (Single end) others ≡ (if list_all (same end) others then Single end else Many)
 one_noted end [] = refl
 one_noted end (other ∷ others) = by (same end other) refl (one_noted end others)
   where

@@ -1,6 +1,7 @@
 use Rattle.drv_cc.specs.Items.{head_of}
 use Rattle.drv_words.specs.Bytes.{equals}
-use Rattle.std.proofs.Common.{arith, ◌≡◌, ◌==◌, ◌+◌, ◌≤◌, ◌∙◌, Bool, List, [], ◌∷◌, None, Some, ap, cond, false, if◌then◌else◌, length, nat_lt, not, refl, suc, sym, take, true, ℕ}
+use Rattle.std.proofs.Common.{arith, ◌≡◌, ◌==◌, ◌+◌, ◌≤◌, ◌∙◌, Bool, List, [], ◌∷◌, None, Some, ap, cond, false, if◌then◌else◌, length}
+use Rattle.std.proofs.Common.{nat_lt, not, refl, suc, sym, take, true, ℕ}
 use Rattle.std.proofs.lemmas.Bool.Decides.{nat_tests}
 use Rattle.std.proofs.lemmas.List.{take_all}
 use Rattle.std.specs.List.{position, position_or_len}
@@ -24,7 +25,8 @@ place_is mark text i is = by (nat_lt (before mark text) (length text)) is
 no_place : (mark : ℕ) (text : List ℕ) → position (is_mark mark) text ≡ None → length text ≤ before mark text
 no_place mark text none = by (nat_lt (before mark text) (length text)) refl none
   where
-    by : (below : Bool) → nat_lt (before mark text) (length text) ≡ below → cond below (Some (before mark text)) None ≡ None → length text ≤ before mark text
+    by : (below : Bool) → nat_lt (before mark text) (length text) ≡ below → cond below (Some (before mark text)) None ≡ None
+        → length text ≤ before mark text
     by true is e = absurd cc
     by false is e = grind (arith, nat_tests, is)
 
@@ -38,7 +40,8 @@ head_is (b ∷ text) = by (b == equals) (head_is text)
     n : ℕ
     n = before equals text
 
-    by : (here : Bool) → take (n + 1) text ≡ head_of text → take (cond (not here) (1 + n) 0 + 1) (b ∷ text) ≡ (if here then b ∷ [] else b ∷ head_of text)
+    by : (here : Bool) → take (n + 1) text ≡ head_of text
+        → take (cond (not here) (1 + n) 0 + 1) (b ∷ text) ≡ (if here then b ∷ [] else b ∷ head_of text)
     by true rest = refl
     by false rest = ap (λ m. take m (b ∷ text)) (one_more n) ∙ ap (λ l. b ∷ l) rest
 

@@ -11,10 +11,12 @@ pub no_folder : (f : List ℕ → List (List ℕ)) (words : List (List ℕ)) →
 no_folder f words = sym (append-nil words)
 
 pub next_folder : (f : List ℕ → List (List ℕ)) (old words words' done after : List (List ℕ)) (folder : List ℕ)
-    → words ≡ old ++ flat_map f (map named_folder done) → words' ≡ words ++ f (named_folder folder) → after ≡ done ++ folder ∷ [] → words' ≡ old ++ flat_map f (map named_folder after)
+    → words ≡ old ++ flat_map f (map named_folder done) → words' ≡ words ++ f (named_folder folder) → after ≡ done ++ folder ∷ []
+    → words' ≡ old ++ flat_map f (map named_folder after)
 next_folder f old words words' done after folder so_far added more =
     added ∙ ap (λ w. w ++ f (named_folder folder)) so_far ∙ flat_map_more f old (map named_folder done) (named_folder folder)
-    ∙ ap (λ names. old ++ flat_map f names) (sym (map-append named_folder done (folder ∷ []))) ∙ ap (λ names. old ++ flat_map f (map named_folder names)) (sym more)
+    ∙ ap (λ names. old ++ flat_map f names) (sym (map-append named_folder done (folder ∷ [])))
+    ∙ ap (λ names. old ++ flat_map f (map named_folder names)) (sym more)
 
 -- folders that are words
 words_themselves : (words : List (List ℕ)) → flat_map (words_for Any) words ≡ words

@@ -3,7 +3,8 @@ use Rattle.drv_cc.specs.Items.{begins, first_row, fits, option_fits, same, takes
 use Rattle.drv_cc.specs.Table.{OptionRow, sections, table}
 use Rattle.drv_cc.specs.declared.table.Takes.TheVariants.{Attached, Either, Next, Nothing, Rest}
 use Rattle.drv_cc.specs.declared.table.Takes.{Takes}
-use Rattle.std.proofs.Common.{arith, ◌≡◌, ◌==◌, ◌&&◌, ◌||◌, ◌∙◌, ◌++◌, ◌<◌, ◌%◌, Bool, List, [], ◌∷◌, None, Option, Some, ap, cond, false, find, length, nat_lt, not, refl, sym, true, ℕ}
+use Rattle.std.proofs.Common.{arith, ◌≡◌, ◌==◌, ◌&&◌, ◌||◌, ◌∙◌, ◌++◌, ◌<◌, ◌%◌, Bool, List, [], ◌∷◌, None, Option, Some, ap, cond, false}
+use Rattle.std.proofs.Common.{find, length, nat_lt, not, refl, sym, true, ℕ}
 use Rattle.std.proofs.lemmas.Bool.{eq-eqb, eqb-true}
 use Rattle.std.proofs.lemmas.List.Folds.{find-append}
 use Rattle.std.specs.List.{filter}
@@ -35,7 +36,8 @@ same_is (x ∷ a) (y ∷ b) e = by (x == y) refl (same_is a b) e
     by false ex rest e = absurd cc
 
 -- an option that is the word has its key
-whole_alike : (takes : Takes) (option word : List ℕ) → option_fits takes word option ≡ true → not (takes_rest takes) ≡ true → (whole_key option == whole_key word) ≡ true
+whole_alike : (takes : Takes) (option word : List ℕ) → option_fits takes word option ≡ true → not (takes_rest takes) ≡ true
+    → (whole_key option == whole_key word) ≡ true
 whole_alike Nothing option word e w = eq-eqb (whole_key option) (whole_key word) (ap whole_key (same_is option word e))
 whole_alike Next option word e w = eq-eqb (whole_key option) (whole_key word) (ap whole_key (same_is option word e))
 whole_alike Attached option word e w = absurd cc
@@ -56,7 +58,8 @@ or_true true b e = refl
 or_true false b e = e
 
 -- an option that the word begins with has its second byte, or has none
-begins_alike : (option word : List ℕ) → begins option word ≡ true → (nat_lt (length option) 2 || (begun_key option == begun_key word)) ≡ true
+begins_alike : (option word : List ℕ) → begins option word ≡ true
+    → (nat_lt (length option) 2 || (begun_key option == begun_key word)) ≡ true
 begins_alike [] word e = refl
 begins_alike (a ∷ []) word e = refl
 begins_alike (a ∷ b ∷ option) [] e = absurd cc
@@ -84,7 +87,8 @@ among_whole word =
 
 among_begun : (word : List ℕ) → find (fits word) (begun_at (begun_key word)) ≡ find (fits word) (filter is_begun table)
 among_begun word =
-    find_both (fits word) is_begun (λ r. nat_lt (length r.option) 2 || (begun_key r.option == begun_key word)) (λ r. begun_alike r.takes r.option word) table
+    find_both (fits word) is_begun (λ r. nat_lt (length r.option) 2 || (begun_key r.option == begun_key word))
+    (λ r. begun_alike r.takes r.option word) table
 
 found_by : (word : List ℕ) (whole begun : Option OptionRow) → whole ≡ find (fits word) (whole_at (whole_key word))
     → begun ≡ find (fits word) (begun_at (begun_key word)) → option_or whole begun ≡ first_row word
@@ -92,13 +96,17 @@ found_by word whole begun w b =
     ap (λ f. option_or f begun) (w ∙ among_whole word) ∙ ap (option_or (find (fits word) (filter is_whole table))) (b ∙ among_begun word)
     ∙ sym (find-append (fits word) (filter is_whole table) (filter is_begun table)) ∙ ap (find (fits word)) in_two
 
-pub found_whole : (word : List ℕ) (rows : List OptionRow) (row : OptionRow) → rows ≡ whole_at (whole_key word) → Some row ≡ find (fits word) rows
+pub found_whole : (word : List ℕ) (rows : List OptionRow) (row : OptionRow) → rows ≡ whole_at (whole_key word)
+    → Some row ≡ find (fits word) rows
     → Some row ≡ first_row word
-found_whole word rows row is found = found_by word (Some row) (find (fits word) (begun_at (begun_key word))) (found ∙ ap (find (fits word)) is) refl
+found_whole word rows row is found = found_by word (Some row) (find (fits word) (begun_at (begun_key word)))
+    (found ∙ ap (find (fits word)) is) refl
 
-pub found_begun : (word : List ℕ) (rows begun : List OptionRow) (found : Option OptionRow) → rows ≡ whole_at (whole_key word) → None ≡ find (fits word) rows
+pub found_begun : (word : List ℕ) (rows begun : List OptionRow) (found : Option OptionRow) → rows ≡ whole_at (whole_key word)
+    → None ≡ find (fits word) rows
     → begun ≡ begun_at (begun_key word) → found ≡ find (fits word) begun → found ≡ first_row word
-found_begun word rows begun found is none are sought = found_by word None found (none ∙ ap (find (fits word)) is) (sought ∙ ap (find (fits word)) are)
+found_begun word rows begun found is none are sought =
+    found_by word None found (none ∙ ap (find (fits word)) is) (sought ∙ ap (find (fits word)) are)
 
 and_false : (t : Bool) → (t && false) ≡ false
 and_false true = refl
@@ -127,7 +135,8 @@ pub third_differs : (option word : List ℕ) (own other : ℕ) (differs : Bool) 
     → differs ≡ not (own == other) → differs ≡ true → begins option word ≡ false
 third_differs [] word own other differs is are some so here = absurd (let clash : true ≡ false = sym (eq-eqb own 0 is) ∙ some in cc)
 third_differs (a ∷ []) word own other differs is are some so here = absurd (let clash : true ≡ false = sym (eq-eqb own 0 is) ∙ some in cc)
-third_differs (a ∷ b ∷ []) word own other differs is are some so here = absurd (let clash : true ≡ false = sym (eq-eqb own 0 is) ∙ some in cc)
+third_differs (a ∷ b ∷ []) word own other differs is are some so here =
+    absurd (let clash : true ≡ false = sym (eq-eqb own 0 is) ∙ some in cc)
 third_differs (a ∷ b ∷ c ∷ option) [] own other differs is are some so here = refl
 third_differs (a ∷ b ∷ c ∷ option) (x ∷ []) own other differs is are some so here = and_false (a == x)
 third_differs (a ∷ b ∷ c ∷ option) (x ∷ y ∷ []) own other differs is are some so here = by (a == x) (b == y)

@@ -15,4 +15,5 @@ live_more i tail left = by (is_left (written i) left) refl
 -- one item more
 pub one_more : (i : Item) (tail stay : List Item) (left : List (List ℕ))
     → (stay ++ live_item i left) ++ live tail (left_after i left) ≡ stay ++ live (i ∷ tail) left
-one_more i tail stay left = append_assoc stay (live_item i left) (live tail (left_after i left)) ∙ ap (λ l. stay ++ l) (sym (live_more i tail left))
+one_more i tail stay left = append_assoc stay (live_item i left) (live tail (left_after i left))
+    ∙ ap (λ l. stay ++ l) (sym (live_more i tail left))

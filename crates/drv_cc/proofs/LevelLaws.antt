@@ -76,19 +76,22 @@ no_toggle d (i ∷ items) e = by (toggle_named i.name) refl e (no_toggle (debugg
 pub last_level : (before after : List Item) (i : Item) (level : ℕ) → level_named i.name ≡ Some level → NoneNames level_named after
     → (debugged no_debugging (before ++ i ∷ after)).level ≡ level_after after level
 last_level before after i level names none =
-    ap (λ d. d.level) (append_debugged no_debugging before (i ∷ after)) ∙ no_level (debugged_by (debugged no_debugging before) i.name) after none
+    ap (λ d. d.level) (append_debugged no_debugging before (i ∷ after))
+    ∙ no_level (debugged_by (debugged no_debugging before) i.name) after none
     ∙ ap (level_after after) (step_level (debugged no_debugging before) i.name (Some level) names)
 
 pub last_version : (before after : List Item) (i : Item) (version : ℕ) → version_named i.name ≡ Some version → NoneNames version_named after
     → (debugged no_debugging (before ++ i ∷ after)).version ≡ version
 last_version before after i version names none =
-    ap (λ d. d.version) (append_debugged no_debugging before (i ∷ after)) ∙ no_version (debugged_by (debugged no_debugging before) i.name) after none
+    ap (λ d. d.version) (append_debugged no_debugging before (i ∷ after))
+    ∙ no_version (debugged_by (debugged no_debugging before) i.name) after none
     ∙ step_version (debugged no_debugging before) i.name (Some version) names
 
 pub last_toggle : (before after : List Item) (i : Item) (toggle : Bool) → toggle_named i.name ≡ Some toggle → NoneNames toggle_named after
     → (debugged no_debugging (before ++ i ∷ after)).toggled ≡ toggle
 last_toggle before after i toggle names none =
-    ap (λ d. d.toggled) (append_debugged no_debugging before (i ∷ after)) ∙ no_toggle (debugged_by (debugged no_debugging before) i.name) after none
+    ap (λ d. d.toggled) (append_debugged no_debugging before (i ∷ after))
+    ∙ no_toggle (debugged_by (debugged no_debugging before) i.name) after none
     ∙ step_toggle (debugged no_debugging before) i.name (Some toggle) names
 
 pub first_level : (items : List Item) → NoneNames level_named items

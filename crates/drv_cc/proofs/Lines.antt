@@ -1,7 +1,8 @@
 use Rattle.drv_cc.specs.Code.Known.{is_ended}
 use Rattle.drv_cc.specs.Items.{is_known, same}
 use Rattle.drv_words.specs.Bytes.{newline}
-use Rattle.std.proofs.Common.{arith, ◌≡◌, ◌==◌, ◌∙◌, ◌||◌, ◌&&◌, ◌<◌, ◌≤◌, ◌-◌, Bool, List, [], ◌∷◌, ◌++◌, ap, drop, false, length, nat_eq, not, refl, sym, take, true, ℕ}
+use Rattle.std.proofs.Common.{arith, ◌≡◌, ◌==◌, ◌∙◌, ◌||◌, ◌&&◌, ◌<◌, ◌≤◌, ◌-◌, Bool, List, [], ◌∷◌, ◌++◌, ap, drop, false, length, nat_eq}
+use Rattle.std.proofs.Common.{not, refl, sym, take, true, ℕ}
 use Rattle.std.proofs.lemmas.Bool.{eqb-true}
 use Rattle.std.proofs.lemmas.Cmp.{nat_list_eq_equiv}
 use Rattle.std.proofs.lemmas.List.{append-nil, take-append-drop, take_all}
@@ -35,7 +36,8 @@ cut (b ∷ before) after = by (ends b) refl (cut before after)
     by : (here : Bool) → ends b ≡ here → lines (before ++ newline ∷ after) ≡ lines before ++ lines after
         → lines (b ∷ before ++ newline ∷ after) ≡ lines (b ∷ before) ++ lines after
     by true is rest =
-        slice_split-cons_yes ends b (before ++ newline ∷ after) is ∙ ap (λ l. [] ∷ l) rest ∙ ap (λ l. l ++ lines after) (sym (slice_split-cons_yes ends b before is))
+        slice_split-cons_yes ends b (before ++ newline ∷ after) is ∙ ap (λ l. [] ∷ l) rest
+        ∙ ap (λ l. l ++ lines after) (sym (slice_split-cons_yes ends b before is))
     by false is rest =
         slice_split-cons_no ends b (before ++ newline ∷ after) is ∙ ap (onto_first b) rest
         ∙ onto_more b (lines before) (lines after) (omega (arith, length-slice_split ends before))
@@ -56,7 +58,8 @@ both_false false b e = (refl, e)
 -- a text without the end of a line is one line
 alone : (line : List ℕ) → list_any ends line ≡ false → lines line ≡ line ∷ []
 alone [] e = refl
-alone (b ∷ line) e = let none = both_false (ends b) (list_any ends line) e in slice_split-cons_no ends b line none.0 ∙ ap (onto_first b) (alone line none.1)
+alone (b ∷ line) e = let none = both_false (ends b) (list_any ends line) e in slice_split-cons_no ends b line none.0
+    ∙ ap (onto_first b) (alone line none.1)
 
 is_first : (line : List ℕ) (others : List (List ℕ)) → list_any (same line) (line ∷ others) ≡ true
 is_first line others = ap (λ b. b || list_any (same line) others) (nat_list_eq_equiv.refl line)
@@ -70,11 +73,13 @@ begun_before line more whole =
 
 begun_ended : (line rest : List ℕ) → is_ended rest ≡ true → list_any ends line ≡ false → is_known (line ++ rest) line ≡ true
 begun_ended line [] ended whole = begun_alone line whole
-begun_ended line (b ∷ rest) ended whole = ap (λ c. is_known (line ++ c ∷ rest) line) (eqb-true b newline ended) ∙ begun_before line rest whole
+begun_ended line (b ∷ rest) ended whole = ap (λ c. is_known (line ++ c ∷ rest) line) (eqb-true b newline ended)
+    ∙ begun_before line rest whole
 
 text_is : (text line rest : List ℕ) → starts_with nat_eq text line ≡ true → rest ≡ drop (length line) text → text ≡ line ++ rest
 text_is text line rest begins is =
-    sym (take-append-drop (length line) text) ∙ ap (λ l. l ++ drop (length line) text) (sym (same_text line (take (length line) text) (sym begins))) ∙ ap (λ l. line ++ l) (sym is)
+    sym (take-append-drop (length line) text) ∙ ap (λ l. l ++ drop (length line) text)
+    (sym (same_text line (take (length line) text) (sym begins))) ∙ ap (λ l. line ++ l) (sym is)
 
 both_true : (a b : Bool) → (a && b) ≡ true → (a ≡ true) × (b ≡ true)
 both_true true b e = (refl, e)
@@ -103,4 +108,5 @@ pub further : (n : ℕ) (text left line : List ℕ) (begins : Bool) → left ≡
 further n text [] line begins left_is some known all = absurd (omega (arith, some))
 further n text (b ∷ rest) line begins left_is some known all =
     let both = both_true (b == newline) begins all in
-    after_end n text rest line (sym left_is ∙ ap (λ c. c ∷ rest) (eqb-true b newline both.0)) (ap (λ l. is_known l line) (sym (all_left b rest)) ∙ known both.1)
+    after_end n text rest line (sym left_is ∙ ap (λ c. c ∷ rest) (eqb-true b newline both.0))
+    (ap (λ l. is_known l line) (sym (all_left b rest)) ∙ known both.1)

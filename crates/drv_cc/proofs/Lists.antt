@@ -2,7 +2,8 @@ use Rattle.drv_cc.proofs.Groups.{same_is}
 use Rattle.drv_cc.specs.Code.Groups.{ignored_at, is_at, list_key, ringed_at, ringed_by, unpaired_at}
 use Rattle.drv_cc.specs.Items.{is_among, same}
 use Rattle.drv_cc.specs.Table.{ignored, rings, texts, unpaired}
-use Rattle.std.proofs.Common.{◌≡◌, ◌∙◌, ◌||◌, Bool, List, [], ◌∷◌, Option, Some, ap, cond, false, find, if◌then◌else◌, map, refl, sym, true, ℕ}
+use Rattle.std.proofs.Common.{◌≡◌, ◌∙◌, ◌||◌, Bool, List, [], ◌∷◌, Option, Some, ap, cond, false, find, if◌then◌else◌, map, refl, sym, true}
+use Rattle.std.proofs.Common.{ℕ}
 use Rattle.std.proofs.lemmas.Bool.{eq-eqb}
 use Rattle.std.proofs.lemmas.List.Folds.{find-append}
 use Rattle.std.specs.List.{filter, flat_map}

@@ -1,7 +1,8 @@
 use Rattle.drv_cc.proofs.Groups.{same_is}
 use Rattle.drv_cc.specs.Items.{same}
 use Rattle.drv_cc.specs.Kept.{has}
-use Rattle.drv_cc.specs.Levels.{check_words, checked_by, checked_from, is_checked, library_word, needs_leak_library, needs_undefined_library, speaks_of, ubsan_checks}
+use Rattle.drv_cc.specs.Levels.{check_words, checked_by, checked_from, is_checked, library_word, needs_leak_library}
+use Rattle.drv_cc.specs.Levels.{needs_undefined_library, speaks_of, ubsan_checks}
 use Rattle.drv_cc.specs.Table.{texts}
 use Rattle.drv_cc.specs.declared.item.Item.{Item}
 use Rattle.std.proofs.Common.{◌≡◌, ◌∙◌, ◌&&◌, ◌||◌, ◌++◌, Bool, List, [], ◌∷◌, ap, codes, false, if◌then◌else◌, refl, sym, true, ℕ}
@@ -32,7 +33,8 @@ off : (check : List ℕ) (items : List Item) → has turns_on items ≡ false �
 off check [] e = refl
 off check (i ∷ items) e = by (same turns_on i.name) refl e (off check items)
   where
-    by : (b : Bool) → same turns_on i.name ≡ b → (b || has turns_on items) ≡ false → (has turns_on items ≡ false → checked_from false check items ≡ false)
+    by : (b : Bool) → same turns_on i.name ≡ b → (b || has turns_on items) ≡ false
+        → (has turns_on items ≡ false → checked_from false check items ≡ false)
         → checked_from false check (i ∷ items) ≡ false
     by true is e rest = absurd cc
     by false is e rest = ap (λ on. checked_from on check items) (stays_off check i (differs i.name is)) ∙ rest e
@@ -54,6 +56,8 @@ none_needed words items e = sym (ap (λ more. words ++ more) none ∙ append-nil
   where
     none : check_words items ≡ []
     none =
-        no_library (is_checked items (codes "address")) (is_checked items (codes "hwaddress")) (is_checked items (codes "thread")) (needs_leak_library items)
+        no_library (is_checked items (codes "address")) (is_checked items (codes "hwaddress")) (is_checked items (codes "thread"))
+        (needs_leak_library items)
         (needs_undefined_library items) (off (codes "address") items e) (off (codes "hwaddress") items e) (off (codes "thread") items e)
-        (first_off (is_checked items (codes "leak")) _ (off (codes "leak") items e)) (first_off (list_any (is_checked items) (texts ubsan_checks)) _ (all_off items (texts ubsan_checks) e))
+        (first_off (is_checked items (codes "leak")) _ (off (codes "leak") items e))
+        (first_off (list_any (is_checked items) (texts ubsan_checks)) _ (all_off items (texts ubsan_checks) e))

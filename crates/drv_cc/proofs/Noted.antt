@@ -9,7 +9,8 @@ pub wanted_noted : (known : List ℕ) (items : List Item) (word : List ℕ) (r :
     → (items ++ by_row r word ∷ []) ++ items_of known None rest ≡ items ++ items_of known (Some r) (word ∷ rest)
 wanted_noted known items word r rest = append_assoc items (by_row r word ∷ []) (items_of known None rest)
 
-pub wants_noted : (known : List ℕ) (items : List Item) (word : List ℕ) (r : OptionRow) (rest : List (List ℕ)) → Wants r ≡ start_of known word
+pub wants_noted : (known : List ℕ) (items : List Item) (word : List ℕ) (r : OptionRow) (rest : List (List ℕ))
+    → Wants r ≡ start_of known word
     → items ++ items_of known (Some r) rest ≡ items ++ items_of known None (word ∷ rest)
 wants_noted known items word r rest is = ap (λ s. items ++ with_start s (λ wanting. items_of known wanting rest)) is
 

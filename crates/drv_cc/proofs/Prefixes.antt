@@ -5,7 +5,8 @@ use Rattle.std.proofs.Common.{◌≡◌, ◌∙◌, List, ◌++◌, ap, append_a
 
 -- For the folders that the front adds as -B: those of COMPILER_PATH, then gcc's own.
 
-pub all_added : (around : Surroundings) (old first second : List LineItem) (named own : List (List ℕ)) → named ≡ folders around.compiler_path → own ≡ around.folders
+pub all_added : (around : Surroundings) (old first second : List LineItem) (named own : List (List ℕ))
+    → named ≡ folders around.compiler_path → own ≡ around.folders
     → first ≡ old ++ map program_prefix named → second ≡ first ++ map prefix own → second ≡ old ++ prefixes around
 all_added around old first second named own named_is own_is first_is second_is =
     second_is ∙ ap (λ items. items ++ map prefix own) (first_is ∙ ap (λ names. old ++ map program_prefix names) named_is)

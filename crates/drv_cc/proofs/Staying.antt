@@ -2,7 +2,8 @@ use Rattle.drv_cc.specs.Code.Staying.{Keeping, Notes, kept_before, stays_before}
 use Rattle.drv_cc.specs.Items.{same}
 use Rattle.drv_cc.specs.Kept.{goes, kept}
 use Rattle.drv_cc.specs.declared.item.Item.{Item}
-use Rattle.std.proofs.Common.{◌≡◌, ◌<◌, ◌≤◌, ◌+◌, ◌-◌, ◌∙◌, ◌&&◌, ◌||◌, Bool, List, [], ◌∷◌, ◌++◌, ap, append-nil, append_assoc, arith, cond, false, get_or, if◌then◌else◌, length, nat_lt, not, refl, sym, take, true, ℕ}
+use Rattle.std.proofs.Common.{◌≡◌, ◌<◌, ◌≤◌, ◌+◌, ◌-◌, ◌∙◌, ◌&&◌, ◌||◌, Bool, List, [], ◌∷◌, ◌++◌, ap, append-nil, append_assoc, arith}
+use Rattle.std.proofs.Common.{cond, false, get_or, if◌then◌else◌, length, nat_lt, not, refl, sym, take, true, ℕ}
 use Rattle.std.proofs.Math.Seq.{take-length}
 use Rattle.std.proofs.lemmas.Cmp.{nat_list_eq_equiv}
 use Rattle.std.proofs.lemmas.List.{reverse-append, take_more}
@@ -12,7 +13,8 @@ use Rattle.std.specs.Prelude.{reverse}
 -- For the items that stay: of each class the last one, found from the end of the line.
 
 -- nothing was seen yet
-pub keeping_starts : (items stay : List Item) (seen : List ℕ → Bool) → stay ≡ [] → ((p : List ℕ) → seen p ≡ false) → Keeping items items stay seen
+pub keeping_starts : (items stay : List Item) (seen : List ℕ → Bool) → stay ≡ [] → ((p : List ℕ) → seen p ≡ false)
+    → Keeping items items stay seen
 keeping_starts items stay seen nothing none = record {
   following = [];
   parts = append-nil items;
@@ -21,18 +23,22 @@ keeping_starts items stay seen nothing none = record {
 }
 
 -- whether an item goes, by what was seen of those after it
-goes_by : (i : Item) (following : List Item) (seen : List ℕ → Bool) → ((p : List ℕ) → 0 < length p → seen p ≡ list_any (λ j. same p j.class) following)
+goes_by : (i : Item) (following : List Item) (seen : List ℕ → Bool)
+    → ((p : List ℕ) → 0 < length p → seen p ≡ list_any (λ j. same p j.class) following)
     → goes i following ≡ (nat_lt 0 (length i.class) && seen i.class)
 goes_by i following seen are = by i.class refl
   where
-    by : (class : List ℕ) → class ≡ i.class → (nat_lt 0 (length class) && list_any (λ j. same class j.class) following) ≡ (nat_lt 0 (length class) && seen class)
+    by : (class : List ℕ) → class ≡ i.class → (nat_lt 0 (length class) && list_any (λ j. same class j.class) following)
+        ≡ (nat_lt 0 (length class) && seen class)
     by [] is = refl
     by (b ∷ class) is = ap (λ t. nat_lt 0 (length (b ∷ class)) && t) (sym (are (b ∷ class) (omega arith)))
 
-kept_on : (i : Item) (following : List Item) (stays : Bool) → stays ≡ not (goes i following) → kept (i ∷ following) ≡ (if stays then i ∷ kept following else kept following)
+kept_on : (i : Item) (following : List Item) (stays : Bool) → stays ≡ not (goes i following)
+    → kept (i ∷ following) ≡ (if stays then i ∷ kept following else kept following)
 kept_on i following stays is = by (goes i following) refl
   where
-    by : (t : Bool) → goes i following ≡ t → (if t then kept following else i ∷ kept following) ≡ (if stays then i ∷ kept following else kept following)
+    by : (t : Bool) → goes i following ≡ t → (if t then kept following else i ∷ kept following)
+        ≡ (if stays then i ∷ kept following else kept following)
     by true e = ap (λ b. if b then i ∷ kept following else kept following) (sym (is ∙ ap not e))
     by false e = ap (λ b. if b then i ∷ kept following else kept following) (sym (is ∙ ap not e))
 
@@ -53,19 +59,23 @@ pub not_noted : (p class : List ℕ) (old : Bool) → 0 < length p → class ≡
 not_noted p class old some none = ap (λ b. b || old) (sym (ap (same p) none ∙ not_same p some))
 
 -- the last part of a list
-pub last_part : {X : Type 0} (xs : List X) (x : X) → 1 ≤ length xs → x ≡ get_or xs (length xs - 1) x → xs ≡ take (length xs - 1) xs ++ x ∷ []
+pub last_part : {X : Type 0} (xs : List X) (x : X) → 1 ≤ length xs → x ≡ get_or xs (length xs - 1) x
+    → xs ≡ take (length xs - 1) xs ++ x ∷ []
 last_part xs x some at =
     let same : length xs ≡ length xs - 1 + 1 = omega (arith, some) in
     let less : length xs - 1 < length xs = omega (arith, some) in
-    sym (take-length xs) ∙ ap (λ n. take n xs) same ∙ take_more xs (length xs - 1) x less ∙ ap (λ y. take (length xs - 1) xs ++ y ∷ []) (sym at)
+    sym (take-length xs) ∙ ap (λ n. take n xs) same ∙ take_more xs (length xs - 1) x less
+    ∙ ap (λ y. take (length xs - 1) xs ++ y ∷ []) (sym at)
 
 -- one item more
 pub keeping_more : (items left before stay now : List Item) (i : Item) (seen new : List ℕ → Bool)
-    → Keeping items left stay seen → left ≡ before ++ i ∷ [] → now ≡ kept_before i seen stay → Notes i.class seen new → Keeping items before now new
+    → Keeping items left stay seen → left ≡ before ++ i ∷ [] → now ≡ kept_before i seen stay → Notes i.class seen new
+    → Keeping items before now new
 keeping_more items left before stay now i seen new h parts is notes = record {
   following = i ∷ h.following;
   parts = sym (append_assoc before (i ∷ []) h.following) ∙ ap (λ l. l ++ h.following) (sym parts) ∙ h.parts;
-  stays = ap reverse is ∙ by (stays_before i.class seen) ∙ sym (kept_on i h.following (stays_before i.class seen) (ap not (sym (goes_by i h.following seen h.seen_are))));
+  stays = ap reverse is ∙ by (stays_before i.class seen)
+      ∙ sym (kept_on i h.following (stays_before i.class seen) (ap not (sym (goes_by i h.following seen h.seen_are))));
   seen_are = λ p some. notes p some ∙ ap (λ b. same p i.class || b) (h.seen_are p some);
 }
   where
@@ -74,5 +84,6 @@ keeping_more items left before stay now i seen new h parts is notes = record {
     by false = h.stays
 
 -- none is left
-pub keeping_ends : (items left stay : List Item) (seen : List ℕ → Bool) → Keeping items left stay seen → left ≡ [] → reverse stay ≡ kept items
+pub keeping_ends : (items left stay : List Item) (seen : List ℕ → Bool) → Keeping items left stay seen → left ≡ []
+    → reverse stay ≡ kept items
 keeping_ends items left stay seen h none = h.stays ∙ ap kept (ap (λ l. l ++ h.following) (sym none) ∙ h.parts)

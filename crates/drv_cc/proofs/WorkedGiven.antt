@@ -17,7 +17,8 @@ given args left words = front_with known [] nowhere (texts args) (record { left 
 abbrev given_line : List ℕ → List ℕ → List ℕ → Option (List (List ℕ))
 given_line args left words = words_given (given args left words)
 
-takes_none_away : given_line (codes "-fPIC -pie a.o") (codes "-fPIC -pie") (codes "-fno-PIE -no-pie") ≡ gives (codes "-fPIC -pie a.o -fno-PIE -no-pie")
+takes_none_away : given_line (codes "-fPIC -pie a.o") (codes "-fPIC -pie") (codes "-fno-PIE -no-pie")
+    ≡ gives (codes "-fPIC -pie a.o -fno-PIE -no-pie")
 unfolding sections ignored unpaired debugged_by
 takes_none_away = refl
 
@@ -29,7 +30,8 @@ pruned_among_themselves : given_line (codes "-fpic a.o") (codes "-fpic") (codes 
 unfolding sections ignored unpaired debugged_by
 pruned_among_themselves = refl
 
-level_goes_on : given_line (codes "-g3 -gtoggle a.o") (codes "-g3 -gtoggle") (codes "-g") ≡ gives (codes "-g3 -gtoggle a.o -g --gdrv-level=2 --gdrv-dwarf=5")
+level_goes_on : given_line (codes "-g3 -gtoggle a.o") (codes "-g3 -gtoggle") (codes "-g")
+    ≡ gives (codes "-g3 -gtoggle a.o -g --gdrv-level=2 --gdrv-dwarf=5")
 unfolding sections ignored unpaired debugged_by
 level_goes_on = refl
 
@@ -45,6 +47,7 @@ late_ones_go : given_line (codes "a.o -s") (codes "-s") (codes "-specs=v -x c -l
 unfolding sections ignored unpaired debugged_by
 late_ones_go = refl
 
-file_is_refused : given (codes "a.o -s") (codes "-s") (codes "b.o --version") ≡ Refuse (GivenFile (codes "b.o") ∷ NotTaken (codes "--version") ∷ [])
+file_is_refused : given (codes "a.o -s") (codes "-s") (codes "b.o --version")
+    ≡ Refuse (GivenFile (codes "b.o") ∷ NotTaken (codes "--version") ∷ [])
 unfolding sections ignored unpaired debugged_by
 file_is_refused = refl

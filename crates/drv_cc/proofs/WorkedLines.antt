@@ -99,7 +99,8 @@ dependencies_in_a_file : line (codes "-c a.c -MD -MF d") ≡ gives (codes "-c a.
 unfolding sections ignored unpaired debugged_by
 dependencies_in_a_file = refl
 
-dump_printed : line (codes "-c a.c -fdump-tree-optimized=stdout") ≡ gives (codes "-c a.c -fdump-tree-optimized=stdout --gdrv-base=a.c --gdrv-ext=.c")
+dump_printed : line (codes "-c a.c -fdump-tree-optimized=stdout")
+    ≡ gives (codes "-c a.c -fdump-tree-optimized=stdout --gdrv-base=a.c --gdrv-ext=.c")
 unfolding sections ignored unpaired debugged_by
 dump_printed = refl
 
@@ -119,7 +120,8 @@ two_dependencies : line (codes "a.c b.c -o d/foo -MD") ≡ gives (codes "a.c b.c
 unfolding sections ignored unpaired debugged_by
 two_dependencies = refl
 
-dependencies : line (codes "-c a.c -MD -o d/x.y.o") ≡ gives (codes "-c a.c -MD -o d/x.y.o --gdrv-dir=d/ --gdrv-base=x.y.c --gdrv-ext=.c --gdrv-dep=d/x.y.d -pipe")
+dependencies : line (codes "-c a.c -MD -o d/x.y.o")
+    ≡ gives (codes "-c a.c -MD -o d/x.y.o --gdrv-dir=d/ --gdrv-base=x.y.c --gdrv-ext=.c --gdrv-dep=d/x.y.d -pipe")
 unfolding sections ignored unpaired debugged_by
 dependencies = refl
 
@@ -131,11 +133,13 @@ dump_folder : line (codes "a.c -dumpdir p- -o foo") ≡ gives (codes "a.c -o foo
 unfolding sections ignored unpaired debugged_by
 dump_folder = refl
 
-saved : line (codes "-c a.c -save-temps=cwd -o d/x.o") ≡ gives (codes "-c a.c -save-temps=cwd -o d/x.o --gdrv-base=x.c --gdrv-ext=.c --gdrv-aux=x")
+saved : line (codes "-c a.c -save-temps=cwd -o d/x.o")
+    ≡ gives (codes "-c a.c -save-temps=cwd -o d/x.o --gdrv-base=x.c --gdrv-ext=.c --gdrv-aux=x")
 unfolding sections ignored unpaired debugged_by
 saved = refl
 
-long_names : line (codes "--compile a.c --output=x.o --define-macro A=1 --include-directory d") ≡ gives (codes "-c a.c -o x.o -D A=1 -I d --gdrv-base=x.c --gdrv-ext=.c -pipe")
+long_names : line (codes "--compile a.c --output=x.o --define-macro A=1 --include-directory d")
+    ≡ gives (codes "-c a.c -o x.o -D A=1 -I d --gdrv-base=x.c --gdrv-ext=.c -pipe")
 unfolding sections ignored unpaired debugged_by
 long_names = refl
 
@@ -147,11 +151,13 @@ static_link : line (codes "--static --library-directory=d o.o -l m") ≡ gives (
 unfolding sections ignored unpaired debugged_by
 static_link = refl
 
-renamed_options : line (codes "-c a.c --std=c99 --warn-no-unused --no-inline --machine-sse3") ≡ gives (codes "-c a.c -std=c99 -Wno-unused -fno-inline -msse3 --gdrv-base=a.c --gdrv-ext=.c -pipe")
+renamed_options : line (codes "-c a.c --std=c99 --warn-no-unused --no-inline --machine-sse3")
+    ≡ gives (codes "-c a.c -std=c99 -Wno-unused -fno-inline -msse3 --gdrv-base=a.c --gdrv-ext=.c -pipe")
 unfolding sections ignored unpaired debugged_by
 renamed_options = refl
 
-parameter : line (codes "-c --param ssp-buffer-size=4 a.c") ≡ gives (codes "-c --param=ssp-buffer-size=4 a.c --gdrv-base=a.c --gdrv-ext=.c -pipe")
+parameter : line (codes "-c --param ssp-buffer-size=4 a.c")
+    ≡ gives (codes "-c --param=ssp-buffer-size=4 a.c --gdrv-base=a.c --gdrv-ext=.c -pipe")
 unfolding sections ignored unpaired debugged_by
 parameter = refl
 
@@ -167,11 +173,13 @@ old_standard : line (codes "-c a.c -pedantic -std=c9x") ≡ gives (codes "-c a.c
 unfolding sections ignored unpaired debugged_by
 old_standard = refl
 
-tuned : line_by (codes "-mcpu=\n-mcpu=>-mtune=") (codes "-c a.c -mtune=nocona -mcpu=k8") ≡ gives (codes "-c a.c -mtune=k8 --gdrv-base=a.c --gdrv-ext=.c -pipe")
+tuned : line_by (codes "-mcpu=\n-mcpu=>-mtune=") (codes "-c a.c -mtune=nocona -mcpu=k8")
+    ≡ gives (codes "-c a.c -mtune=k8 --gdrv-base=a.c --gdrv-ext=.c -pipe")
 unfolding sections ignored unpaired debugged_by
 tuned = refl
 
-own_machine : line_by (codes "-mcpu=") (codes "-c a.c -mcpu=a53 -mtune=a72") ≡ gives (codes "-c a.c -mcpu=a53 -mtune=a72 --gdrv-base=a.c --gdrv-ext=.c -pipe")
+own_machine : line_by (codes "-mcpu=") (codes "-c a.c -mcpu=a53 -mtune=a72")
+    ≡ gives (codes "-c a.c -mcpu=a53 -mtune=a72 --gdrv-base=a.c --gdrv-ext=.c -pipe")
 unfolding sections ignored unpaired debugged_by
 own_machine = refl
 
@@ -215,7 +223,8 @@ debug_again : line (codes "-c a.c -g0 -g") ≡ gives (codes "-c a.c -g0 -g --gdr
 unfolding sections ignored unpaired debugged_by
 debug_again = refl
 
-assembler_versions : line (codes "-c s.s -gdwarf-2 -gdwarf-5") ≡ gives (codes "-c s.s -gdwarf-2 -gdwarf-5 --gdrv-level=2 --gdrv-dwarf=5 -pipe")
+assembler_versions : line (codes "-c s.s -gdwarf-2 -gdwarf-5")
+    ≡ gives (codes "-c s.s -gdwarf-2 -gdwarf-5 --gdrv-level=2 --gdrv-dwarf=5 -pipe")
 unfolding sections ignored unpaired debugged_by
 assembler_versions = refl
 
@@ -231,11 +240,13 @@ toggled_off : line (codes "-c a.c -g -gtoggle") ≡ gives (codes "-c a.c -g -gto
 unfolding sections ignored unpaired debugged_by
 toggled_off = refl
 
-checks_taken_back : line (codes "a.c -fsanitize=address,undefined -fno-sanitize=address") ≡ gives (codes "a.c -fsanitize=address,undefined -fno-sanitize=address --gdrv-base=a.c --gdrv-ext=.c --gdrv-san=ubsan -pipe")
+checks_taken_back : line (codes "a.c -fsanitize=address,undefined -fno-sanitize=address")
+    ≡ gives (codes "a.c -fsanitize=address,undefined -fno-sanitize=address --gdrv-base=a.c --gdrv-ext=.c --gdrv-san=ubsan -pipe")
 unfolding sections ignored unpaired debugged_by
 checks_taken_back = refl
 
-leaks_and_threads : line (codes "a.c -fsanitize=leak -fsanitize=thread") ≡ gives (codes "a.c -fsanitize=leak -fsanitize=thread --gdrv-base=a.c --gdrv-ext=.c --gdrv-san=tsan -pipe")
+leaks_and_threads : line (codes "a.c -fsanitize=leak -fsanitize=thread")
+    ≡ gives (codes "a.c -fsanitize=leak -fsanitize=thread --gdrv-base=a.c --gdrv-ext=.c --gdrv-san=tsan -pipe")
 unfolding sections ignored unpaired debugged_by
 leaks_and_threads = refl
 
@@ -243,7 +254,8 @@ no_check : line (codes "o.o -fsanitize=shift -fno-sanitize=all") ≡ gives (code
 unfolding sections ignored unpaired debugged_by
 no_check = refl
 
-trapping : line (codes "o.o -fsanitize=undefined -fsanitize-undefined-trap-on-error") ≡ gives (codes "o.o -fsanitize=undefined -fsanitize-undefined-trap-on-error")
+trapping : line (codes "o.o -fsanitize=undefined -fsanitize-undefined-trap-on-error")
+    ≡ gives (codes "o.o -fsanitize=undefined -fsanitize-undefined-trap-on-error")
 unfolding sections ignored unpaired debugged_by
 trapping = refl
 
@@ -279,15 +291,18 @@ parameter_of_a_source : line (codes "-c a.c --param x=1") ≡ gives (codes "-c a
 unfolding sections ignored unpaired debugged_by
 parameter_of_a_source = refl
 
-parallel_loops : line (codes "a.c -ftree-parallelize-loops=4") ≡ gives (codes "a.c -ftree-parallelize-loops=4 -pthread --gdrv-base=a.c --gdrv-ext=.c -pipe")
+parallel_loops : line (codes "a.c -ftree-parallelize-loops=4")
+    ≡ gives (codes "a.c -ftree-parallelize-loops=4 -pthread --gdrv-base=a.c --gdrv-ext=.c -pipe")
 unfolding sections ignored unpaired debugged_by
 parallel_loops = refl
 
-colours : line (codes "-c a.c -fdiagnostics-color=always -Wall -fno-diagnostics-color") ≡ gives (codes "-c a.c -Wall -fdiagnostics-color=never --gdrv-base=a.c --gdrv-ext=.c -pipe")
+colours : line (codes "-c a.c -fdiagnostics-color=always -Wall -fno-diagnostics-color")
+    ≡ gives (codes "-c a.c -Wall -fdiagnostics-color=never --gdrv-base=a.c --gdrv-ext=.c -pipe")
 unfolding sections ignored unpaired debugged_by
 colours = refl
 
-visibilities : line (codes "-c a.c -fvisibility=hidden -fvisibility=default") ≡ gives (codes "-c a.c -fvisibility=hidden -fvisibility=default --gdrv-base=a.c --gdrv-ext=.c -pipe")
+visibilities : line (codes "-c a.c -fvisibility=hidden -fvisibility=default")
+    ≡ gives (codes "-c a.c -fvisibility=hidden -fvisibility=default --gdrv-base=a.c --gdrv-ext=.c -pipe")
 unfolding sections ignored unpaired debugged_by
 visibilities = refl
 
@@ -299,7 +314,8 @@ syntax_only : line (codes "-fsyntax-only a.c") ≡ gives (codes "-fsyntax-only a
 unfolding sections ignored unpaired debugged_by
 syntax_only = refl
 
-unknown_warning : line (codes "-c a.c -Wno-such-thing -fstack-usage -o x.o") ≡ gives (codes "-c a.c -Wno-such-thing -fstack-usage -o x.o --gdrv-base=x.c --gdrv-ext=.c -pipe")
+unknown_warning : line (codes "-c a.c -Wno-such-thing -fstack-usage -o x.o")
+    ≡ gives (codes "-c a.c -Wno-such-thing -fstack-usage -o x.o --gdrv-base=x.c --gdrv-ext=.c -pipe")
 unfolding sections ignored unpaired debugged_by
 unknown_warning = refl
 
@@ -311,15 +327,18 @@ ignored_names : line (codes "-c a.c -fforce-addr -fno-zee -R d") ≡ gives (code
 unfolding sections ignored unpaired debugged_by
 ignored_names = refl
 
-vendors : words_given (front_of known (codes "mfoo" ∷ []) nowhere (texts (codes "-c a.c -specs=v.specs -mfoo"))) ≡ gives (codes "-c a.c -specs=v.specs -mfoo -B /g/ --gdrv-dirs --gdrv-base=a.c --gdrv-ext=.c -pipe")
+vendors : words_given (front_of known (codes "mfoo" ∷ []) nowhere (texts (codes "-c a.c -specs=v.specs -mfoo")))
+    ≡ gives (codes "-c a.c -specs=v.specs -mfoo -B /g/ --gdrv-dirs --gdrv-base=a.c --gdrv-ext=.c -pipe")
 unfolding sections ignored unpaired debugged_by
 vendors = refl
 
-split : line (codes "-c a.c -gsplit-dwarf -g -o d/x.o") ≡ gives (codes "-c a.c -gsplit-dwarf -g -o d/x.o --gdrv-dir=d/ --gdrv-base=x.c --gdrv-ext=.c --gdrv-aux=d/x --gdrv-level=2 --gdrv-dwarf=5 -pipe")
+split : line (codes "-c a.c -gsplit-dwarf -g -o d/x.o")
+    ≡ gives (codes "-c a.c -gsplit-dwarf -g -o d/x.o --gdrv-dir=d/ --gdrv-base=x.c --gdrv-ext=.c --gdrv-aux=d/x --gdrv-level=2 --gdrv-dwarf=5 -pipe")
 unfolding sections ignored unpaired debugged_by
 split = refl
 
-spelled_wrong : front (codes "-c a.c -fvisibilty=hidden -foo") ≡ Refuse (UnknownOption (codes "-fvisibilty=hidden") ∷ UnknownOption (codes "-foo") ∷ [])
+spelled_wrong : front (codes "-c a.c -fvisibilty=hidden -foo")
+    ≡ Refuse (UnknownOption (codes "-fvisibilty=hidden") ∷ UnknownOption (codes "-foo") ∷ [])
 unfolding sections ignored unpaired debugged_by
 spelled_wrong = refl
 
@@ -331,7 +350,8 @@ no_number : front_by (codes "-fmax-errors=#") (codes "o.o -fmax-errors=x -foo") 
 unfolding sections ignored unpaired debugged_by
 no_number = refl
 
-listed : line_by (codes "-ftls-model=?\n-ftls-model=local-exec") (codes "o.o -ftls-model=local-exec") ≡ gives (codes "o.o -ftls-model=local-exec")
+listed : line_by (codes "-ftls-model=?\n-ftls-model=local-exec") (codes "o.o -ftls-model=local-exec")
+    ≡ gives (codes "o.o -ftls-model=local-exec")
 unfolding sections ignored unpaired debugged_by
 listed = refl
 
@@ -375,7 +395,8 @@ linkers : front (codes "-fuse-ld=foo o.o") ≡ Refuse (UnknownOption (codes "-fu
 unfolding sections ignored unpaired debugged_by
 linkers = refl
 
-own_words : front_of known named nowhere (texts (codes "a.c -specs=v --gdrv-dir=x -q -rs -q2 -r2")) ≡ Refuse (UnknownOption (codes "--gdrv-dir=x") ∷ UnknownOption (codes "-q2") ∷ [])
+own_words : front_of known named nowhere (texts (codes "a.c -specs=v --gdrv-dir=x -q -rs -q2 -r2"))
+    ≡ Refuse (UnknownOption (codes "--gdrv-dir=x") ∷ UnknownOption (codes "-q2") ∷ [])
 unfolding sections ignored unpaired debugged_by
 own_words = refl
 
@@ -405,7 +426,13 @@ verbose_run = refl
 
 -- folders of the environment
 abbrev found : Option (List (List ℕ))
-found = words_given (front_of known named (record { compiler = codes "gcc"; folders = codes "/g/" ∷ codes "/h" ∷ []; compiler_path = Some (codes "/p:"); library_path = Some (codes "/l") }) (texts (codes "o.o -B q")))
+found = words_given (front_of known named (record {
+  compiler = codes "gcc";
+  folders = codes "/g/" ∷ codes "/h" ∷ [];
+  compiler_path =
+      Some (codes "/p:");
+  library_path = Some (codes "/l");
+}) (texts (codes "o.o -B q")))
 
 found_folders : found ≡ gives (codes "o.o -B q --gdrv-path= /p --gdrv-path= ./ -B /g/ -B /h --gdrv-dirs --gdrv-lib=/l")
 unfolding sections ignored unpaired debugged_by
@@ -424,7 +451,8 @@ base_with_end : line (codes "-S a.c -dumpbase n.c -dumpbase-ext .c") ≡ gives (
 unfolding sections ignored unpaired debugged_by
 base_with_end = refl
 
-base_leads : line (codes "a.c -dumpbase n.c -dumpbase-ext .c -dumpbase-ext c") ≡ gives (codes "a.c --gdrv-dir=n.- --gdrv-base=a.c --gdrv-ext=.c -pipe")
+base_leads : line (codes "a.c -dumpbase n.c -dumpbase-ext .c -dumpbase-ext c")
+    ≡ gives (codes "a.c --gdrv-dir=n.- --gdrv-base=a.c --gdrv-ext=.c -pipe")
 unfolding sections ignored unpaired debugged_by
 base_leads = refl
 
@@ -436,15 +464,18 @@ base_with_a_folder : line (codes "a.c -dumpdir p- -dumpbase e/n.c -MD") ≡ give
 unfolding sections ignored unpaired debugged_by
 base_with_a_folder = refl
 
-base_of_nothing : line (codes "-c a.c -dumpbase  -o d/q.o") ≡ gives (codes "-c a.c -o d/q.o --gdrv-dir=d/ --gdrv-base=a.c --gdrv-ext=.c -pipe")
+base_of_nothing : line (codes "-c a.c -dumpbase  -o d/q.o")
+    ≡ gives (codes "-c a.c -o d/q.o --gdrv-dir=d/ --gdrv-base=a.c --gdrv-ext=.c -pipe")
 unfolding sections ignored unpaired debugged_by
 base_of_nothing = refl
 
-end_of_the_program : line (codes "a.c --dumpbase-ext .q -o d/x.q") ≡ gives (codes "a.c -o d/x.q --gdrv-dir=d/x- --gdrv-base=a.c --gdrv-ext=.c -pipe")
+end_of_the_program : line (codes "a.c --dumpbase-ext .q -o d/x.q")
+    ≡ gives (codes "a.c -o d/x.q --gdrv-dir=d/x- --gdrv-base=a.c --gdrv-ext=.c -pipe")
 unfolding sections ignored unpaired debugged_by
 end_of_the_program = refl
 
-no_place_of_no_file : line (codes "a.c -dumpdir p- -save-temps=obj -o /dev/null") ≡ gives (codes "a.c -save-temps=obj -o /dev/null --gdrv-dir=p- --gdrv-base=a.c --gdrv-ext=.c --gdrv-aux=p-a")
+no_place_of_no_file : line (codes "a.c -dumpdir p- -save-temps=obj -o /dev/null")
+    ≡ gives (codes "a.c -save-temps=obj -o /dev/null --gdrv-dir=p- --gdrv-base=a.c --gdrv-ext=.c --gdrv-aux=p-a")
 unfolding sections ignored unpaired debugged_by
 no_place_of_no_file = refl
 
@@ -455,7 +486,8 @@ unfolding sections ignored unpaired debugged_by
 link_with_a_base = refl
 
 -- words before each command: a pipe would hide the second of two
-wrapped : line (codes "-c a.c -wrapper x -wrapper a,,b") ≡ gives (codes "-c a.c --gdrv-wrapper=a --gdrv-wrapper=b --gdrv-base=a.c --gdrv-ext=.c")
+wrapped : line (codes "-c a.c -wrapper x -wrapper a,,b")
+    ≡ gives (codes "-c a.c --gdrv-wrapper=a --gdrv-wrapper=b --gdrv-base=a.c --gdrv-ext=.c")
 unfolding sections ignored unpaired debugged_by
 wrapped = refl
 
@@ -479,7 +511,8 @@ no_children = refl
 
 options_of_a_link : children_given (front (codes "a.c -B x -Lfoo -l m -x c -fopenmp -o d/foo"))
     ≡ record { name = codes "COLLECT_GCC"; value = codes "/usr/bin/gcc" }
-    ∷ record { name = codes "COLLECT_GCC_OPTIONS"; value = codes "'-B' 'x' '-Lfoo' '-fopenmp' '-o' 'd/foo' '-pthread' '-dumpdir' 'd/foo.'" } ∷ []
+    ∷ record { name = codes "COLLECT_GCC_OPTIONS"; value = codes "'-B' 'x' '-Lfoo' '-fopenmp' '-o' 'd/foo' '-pthread' '-dumpdir' 'd/foo.'" }
+    ∷ []
 unfolding sections ignored unpaired debugged_by
 options_of_a_link = refl
 

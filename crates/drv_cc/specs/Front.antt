@@ -20,7 +20,8 @@ use Rattle.drv_cc.specs.declared.table.Part.TheVariants as part
 use Rattle.drv_cc.specs.declared.table.Part.{Part}
 use Rattle.drv_words.specs.Bytes.{colon, comma, single_quote, space}
 use Rattle.std.specs.List.{ends_with, filter, filter_map, flat_map, list_any, slice_split}
-use Rattle.std.specs.Prelude.{◌==◌, ◌&&◌, ◌||◌, Bool, List, [], ◌∷◌, ◌++◌, None, Option, Some, codes, drop, false, if◌then◌else◌, length, map, nat_eq, nat_lt, not, true, ℕ}
+use Rattle.std.specs.Prelude.{◌==◌, ◌&&◌, ◌||◌, Bool, List, [], ◌∷◌, ◌++◌, None, Option, Some, codes, drop, false, if◌then◌else◌, length}
+use Rattle.std.specs.Prelude.{map, nat_eq, nat_lt, not, true, ℕ}
 
 -- A line of gcc as a line of the driver: a question for the compiler, refusals, or the items of what stays of the line and of what gcc's
 -- driver adds to it (GCC manual, "Invoking GCC"). No words are made of them: an empty argument is one, and what is added is a switch of its

@@ -9,7 +9,8 @@ use Rattle.drv_cc.specs.declared.table.Takes.{Takes}
 use Rattle.drv_words.specs.Bytes.{equals, hyphen, newline}
 use Rattle.std.specs.Cmp.Lexicographic.{pointwise}
 use Rattle.std.specs.List.{ends_with, list_all, list_any, slice_split, starts_with}
-use Rattle.std.specs.Prelude.{◌==◌, ◌&&◌, ◌||◌, Bool, List, [], ◌∷◌, ◌++◌, None, Option, Some, codes, drop, false, find, if◌then◌else◌, length, nat_eq, nat_lt, not, true, ℕ}
+use Rattle.std.specs.Prelude.{◌==◌, ◌&&◌, ◌||◌, Bool, List, [], ◌∷◌, ◌++◌, None, Option, Some, codes, drop, false, find, if◌then◌else◌}
+use Rattle.std.specs.Prelude.{length, nat_eq, nat_lt, not, true, ℕ}
 
 -- A line of gcc as a list of items (GCC manual, "Invoking GCC"; "Option Summary").
 
@@ -56,7 +57,14 @@ class_of spelling name = ring_or (class_by spelling name) (find (λ ring. is_amo
 -- Items.
 
 abbrev pub item : List ℕ → List ℕ → Spelling → Part → Item
-item name argument spelling part = record { name = name; argument = argument; spelling = spelling; part = part; class = class_of spelling name }
+item name argument spelling part = record {
+  name = name;
+  argument = argument;
+  spelling = spelling;
+  part = part;
+  class =
+      class_of spelling name;
+}
 
 -- a word that is no option
 abbrev pub plain : Part → List ℕ → Item
@@ -147,7 +155,8 @@ abbrev pub is_open : List ℕ → Bool
 is_open name = list_any (ends_with nat_eq name) (texts (codes "= - ? #"))
 
 abbrev pub accepts : List ℕ → List ℕ → Bool
-accepts known name = if is_open name then not (is_known known name) && takes_value known name else is_known known name || takes_value known name
+accepts known name = if is_open name then not (is_known known name) && takes_value known name
+    else is_known known name || takes_value known name
 
 -- gcc's driver judges the argument of an option ("opts-common.cc", decode_cmdline_option): one that is missing, a number, and one of those
 -- that are listed, whose mark is another

@@ -6,7 +6,8 @@ use Rattle.drv_cc.specs.declared.table.Part.TheVariants as part
 use Rattle.drv_cc.specs.declared.table.Part.{Part}
 use Rattle.std.specs.Cmp.Lexicographic.{pointwise}
 use Rattle.std.specs.List.{flat_map, list_any}
-use Rattle.std.specs.Prelude.{◌&&◌, ◌-◌, Bool, List, [], ◌∷◌, ◌++◌, None, Option, Some, codes, drop, false, if◌then◌else◌, length, nat_eq, nat_lt, not, take, true, ℕ}
+use Rattle.std.specs.Prelude.{◌&&◌, ◌-◌, Bool, List, [], ◌∷◌, ◌++◌, None, Option, Some, codes, drop, false, if◌then◌else◌, length, nat_eq}
+use Rattle.std.specs.Prelude.{nat_lt, not, take, true, ℕ}
 
 -- What is refused, and which items stay (GCC manual, "Overall Options", "Developer Options"; GCC Internals, "Option
 -- Properties", Negative).

@@ -7,7 +7,8 @@ use Rattle.drv_cc.specs.declared.levels.Debugging.{Debugging}
 use Rattle.drv_words.specs.Bytes.{comma}
 use Rattle.std.specs.List.{list_any, slice_split}
 use Rattle.std.specs.Option.{unwrap_or}
-use Rattle.std.specs.Prelude.{◌==◌, ◌&&◌, ◌||◌, Bool, List, [], ◌∷◌, ◌++◌, None, Option, Some, codes, false, if◌then◌else◌, nat_lt, not, true, ℕ}
+use Rattle.std.specs.Prelude.{◌==◌, ◌&&◌, ◌||◌, Bool, List, [], ◌∷◌, ◌++◌, None, Option, Some, codes, false, if◌then◌else◌, nat_lt, not}
+use Rattle.std.specs.Prelude.{true, ℕ}
 
 -- The level of debugging information and its version (GCC manual, "Debugging Options"), as digits; and the libraries of checks
 -- ("Instrumentation Options", -fsanitize=). Each is a fold over the items.
@@ -97,10 +98,12 @@ is_checked items check = checked_from false check items
 
 abbrev pub needs_leak_library : List Item → Bool
 needs_leak_library items =
-    is_checked items (codes "leak") && not (is_checked items (codes "address") || is_checked items (codes "kernel-address") || is_checked items (codes "thread"))
+    is_checked items (codes "leak") && not (is_checked items (codes "address") || is_checked items (codes "kernel-address")
+    || is_checked items (codes "thread"))
 
 abbrev pub needs_undefined_library : List Item → Bool
-needs_undefined_library items = list_any (is_checked items) (texts ubsan_checks) && not (has (codes "-fsanitize-undefined-trap-on-error") items)
+needs_undefined_library items = list_any (is_checked items) (texts ubsan_checks)
+    && not (has (codes "-fsanitize-undefined-trap-on-error") items)
 
 abbrev pub library_word : Bool → List ℕ → List (List ℕ)
 library_word true library = (codes "--gdrv-san=" ++ library) ∷ []

@@ -2,7 +2,8 @@ use Rattle.drv_args.specs.declared.items.Item.{Item as LineItem}
 use Rattle.drv_args.specs.declared.option_table.Effect.TheVariants as effect
 use Rattle.drv_args.specs.declared.option_table.Effect.{Effect}
 use Rattle.drv_args.specs.declared.option_table.Setting.TheVariants as setting
-use Rattle.drv_cc.specs.Front.{added_pipe, assembler_variables, dump_words, first_words, program_items, switch_words, thread_words, variables_by}
+use Rattle.drv_cc.specs.Front.{added_pipe, assembler_variables, dump_words, first_words, program_items, switch_words, thread_words}
+use Rattle.drv_cc.specs.Front.{variables_by}
 use Rattle.drv_cc.specs.Items.{is_among, item, items_of, same}
 use Rattle.drv_cc.specs.Kept.{has, kept, last_argument, refused_part}
 use Rattle.drv_cc.specs.Levels.{check_words, debug_words_of, debugged, no_debugging, toggled}
@@ -23,7 +24,8 @@ use Rattle.drv_cc.specs.declared.table.Part.TheVariants as part
 use Rattle.drv_cc.specs.declared.table.Part.{Part}
 use Rattle.drv_cc.specs.declared.table.Spelling.TheVariants.{Alone}
 use Rattle.std.specs.List.{filter, filter_map, flat_map, starts_with}
-use Rattle.std.specs.Prelude.{◌||◌, Bool, List, [], ◌∷◌, ◌++◌, None, Option, Some, codes, drop, false, if◌then◌else◌, length, map, nat_eq, nat_lt, not, true, ℕ}
+use Rattle.std.specs.Prelude.{◌||◌, Bool, List, [], ◌∷◌, ◌++◌, None, Option, Some, codes, drop, false, if◌then◌else◌, length, map, nat_eq}
+use Rattle.std.specs.Prelude.{nat_lt, not, true, ℕ}
 
 -- A line whose spec files give it options: their text `self_spec` is run once, with the switches of the line and no input, and its words
 -- are options of the line (GCC, "gcc.cc", set_up_specs, do_self_spec, read_cmdline_option; GCC manual, "Spec Files").
@@ -101,7 +103,8 @@ levels_with d = debug_words_of d.level d.version
 -- The items: the switches that were left and those that are given, and what is added to the line as it was read. `all` are the items of the
 -- line and those that are given.
 abbrev pub switches_with : Surroundings → List Item → List Item → List Item → List (List ℕ)
-switches_with around items given all = first_words around all ++ side_words items ++ levels_with (debugged_with items given) ++ check_words all
+switches_with around items given all = first_words around all ++ side_words items ++ levels_with (debugged_with items given)
+    ++ check_words all
 
 abbrev pub added_with : Surroundings → List Item → List Item → List Item → List LineItem
 added_with around items given all =

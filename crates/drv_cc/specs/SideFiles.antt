@@ -5,7 +5,8 @@ use Rattle.drv_cc.specs.declared.item.Item.{Item}
 use Rattle.drv_words.specs.Bytes.{period}
 use Rattle.drv_words.specs.FileNames.{base, parted, stem}
 use Rattle.std.specs.List.{ends_with, filter, list_all}
-use Rattle.std.specs.Prelude.{◌==◌, ◌&&◌, ◌||◌, Bool, List, [], ◌∷◌, ◌++◌, ◌-◌, None, Option, Some, codes, drop, false, if◌then◌else◌, length, map, nat_eq, nat_lt, not, take, true, ℕ}
+use Rattle.std.specs.Prelude.{◌==◌, ◌&&◌, ◌||◌, Bool, List, [], ◌∷◌, ◌++◌, ◌-◌, None, Option, Some, codes, drop, false, if◌then◌else◌}
+use Rattle.std.specs.Prelude.{length, map, nat_eq, nat_lt, not, take, true, ℕ}
 
 -- The names of side files (GCC manual, "Overall Options", -dumpdir, -dumpbase, -dumpbase-ext; "Preprocessor Options", -MD; "Developer
 -- Options", -save-temps; "gcc.cc", process_command, where these options are folded into the folder and the name).
@@ -54,7 +55,8 @@ worked = (codes ".c .i .h .s .S .sx", codes "c c-header cpp-output assembler ass
 
 -- a file is one by its language, which -x gives, or by its suffix
 abbrev pub is_source : List ℕ × List ℕ → List ℕ → List ℕ → Bool
-is_source kinds language name = if nat_lt 0 (length language) then is_among (texts kinds.1) language else is_among (texts kinds.0) (suffix name)
+is_source kinds language name = if nat_lt 0 (length language) then is_among (texts kinds.1) language
+    else is_among (texts kinds.0) (suffix name)
 
 abbrev pub language_by : List ℕ → Item → List ℕ
 language_by language i = if same i.name (codes "-x") then (if same i.argument (codes "none") then [] else i.argument) else language
@@ -120,7 +122,8 @@ is_no_file (Some output) = same output (codes "-") || same output (codes "/dev/n
 
 abbrev pub given_folder : List Item → Option (List ℕ)
 given_folder items =
-    if is_no_file (last_argument (codes "-o") items) then last_argument (codes "-dumpdir") items else given_from (own_folder items) None items
+    if is_no_file (last_argument (codes "-o") items) then last_argument (codes "-dumpdir") items
+    else given_from (own_folder items) None items
 
 abbrev pub given_or : List ℕ → Option (List ℕ) → List ℕ
 given_or own None = own
@@ -282,7 +285,8 @@ end_words given None = []
 end_words given (Some end) = if is_end given end then with_value (codes "--gdrv-ext=") end else []
 
 abbrev pub base_words_of : List Item → List ℕ → Option (List ℕ) → List (List ℕ)
-base_words_of items name None = (codes "--gdrv-base=" ++ (unnamed_stem items name ++ suffix name)) ∷ with_value (codes "--gdrv-ext=") (suffix name)
+base_words_of items name None = (codes "--gdrv-base=" ++ (unnamed_stem items name ++ suffix name))
+    ∷ with_value (codes "--gdrv-ext=") (suffix name)
 base_words_of items name (Some given) = (codes "--gdrv-base=" ++ given) ∷ end_words given (given_end items)
 
 abbrev pub base_words : List Item → List (List ℕ) → Option (List ℕ) → List (List ℕ)
@@ -292,7 +296,8 @@ base_words items names (Some name) = base_words_of items name (source_base items
 -- the file of dependencies is named by the output, or by the name that is given
 abbrev pub given_dependencies : List Item → Option (List ℕ) → List (List ℕ)
 given_dependencies items None = []
-given_dependencies items (Some given) = (codes "--gdrv-dep=" ++ (side_folder items ++ without_end given (given_end items) ++ codes ".d")) ∷ []
+given_dependencies items (Some given) = (codes "--gdrv-dep=" ++ (side_folder items ++ without_end given (given_end items) ++ codes ".d"))
+    ∷ []
 
 abbrev pub dependency_words : List Item → Option (List ℕ) → List (List ℕ)
 dependency_words items None = given_dependencies items (source_base items)
@@ -307,7 +312,8 @@ saves items =
     has (codes "-save-temps") items || has (codes "-save-temps=cwd") items || has (codes "-save-temps=obj") items
 
 abbrev pub dependencies_asked : List Item → List (List ℕ)
-dependencies_asked items = if has (codes "-MD") items || has (codes "-MMD") items then dependency_words items (last_argument (codes "-o") items) else []
+dependencies_asked items = if has (codes "-MD") items || has (codes "-MMD") items
+    then dependency_words items (last_argument (codes "-o") items) else []
 
 abbrev pub aux_asked : List Item → List (List ℕ)
 aux_asked items = if saves items || has (codes "-gsplit-dwarf") items then aux_words items (only (sources worked items)) else []
@@ -318,7 +324,9 @@ is_some (name ∷ names) = true
 
 abbrev pub named_words : List Item → List (List ℕ)
 named_words items =
-    with_value (codes "--gdrv-dir=") (beginning items) ++ base_words items (sources (named items) items) (only (sources (named items) items)) ++ dependencies_asked items ++ aux_asked items
+    with_value (codes "--gdrv-dir=") (beginning items)
+    ++ base_words items (sources (named items) items) (only (sources (named items) items)) ++ dependencies_asked items
+    ++ aux_asked items
 
 abbrev pub side_words : List Item → List (List ℕ)
 side_words items = if is_some (sources worked items) then named_words items else []

@@ -46,7 +46,14 @@ or_itself [] entry = entry
 or_itself (b ∷ name) entry = b ∷ name
 
 abbrev pub row_of : Section → List ℕ → OptionRow
-row_of s entry = record { option = option_of entry; takes = s.takes; name = or_itself (name_after entry) entry; spelling = s.spelling; part = s.part }
+row_of s entry = record {
+  option = option_of entry;
+  takes = s.takes;
+  name = or_itself (name_after entry) entry;
+  spelling =
+      s.spelling;
+  part = s.part;
+}
 
 abbrev pub section_rows : Section → List OptionRow
 section_rows s = map (row_of s) (texts s.entries)
@@ -258,10 +265,12 @@ ignored =
 -- of each ring the last option of the line counts (GCC Internals, "Option Properties", Negative)
 abbrev pub rings : List (List ℕ)
 rings =
-    codes "-pie -no-pie -static-pie -shared" ∷ codes "-fpic -fPIC -fpie -fPIE -fno-pic -fno-PIC -fno-pie -fno-PIE" ∷ codes "-m32 -m64 -mx32 -m16"
+    codes "-pie -no-pie -static-pie -shared" ∷ codes "-fpic -fPIC -fpie -fPIE -fno-pic -fno-PIC -fno-pie -fno-PIE"
+    ∷ codes "-m32 -m64 -mx32 -m16"
     ∷ codes "--sysroot=" ∷ codes "-march=" ∷ codes "-mtune=" ∷ codes "-mlong-double-64 -mlong-double-80 -mlong-double-128"
     ∷ codes "-mbionic -mglibc -muclibc -mmusl"
-    ∷ codes "-fuse-ld=bfd -fuse-ld=gold -fuse-ld=lld -fuse-ld=mold" ∷ codes "-gpubnames -ggnu-pubnames -gno-pubnames" ∷ codes "-Qy -Qn" ∷ codes "-fdiagnostics-color=always -fdiagnostics-color=never -fdiagnostics-color=auto" ∷ []
+    ∷ codes "-fuse-ld=bfd -fuse-ld=gold -fuse-ld=lld -fuse-ld=mold" ∷ codes "-gpubnames -ggnu-pubnames -gno-pubnames" ∷ codes "-Qy -Qn"
+    ∷ codes "-fdiagnostics-color=always -fdiagnostics-color=never -fdiagnostics-color=auto" ∷ []
 
 -- options that no other sign of theirs takes back (GCC Internals, "Option Properties", RejectNegative)
 unfoldable pub unpaired : List ℕ

@@ -1,11 +1,13 @@
-use Rattle.drv_compile.specs.Inputs.{Noted, Overwrites, Reaches, absent_by, absent_of, is_at, new_output, no_output, objection, objection_by, old_output, to_another, to_it, to_none}
+use Rattle.drv_compile.specs.Inputs.{Noted, Overwrites, Reaches, absent_by, absent_of, is_at, new_output, no_output, objection}
+use Rattle.drv_compile.specs.Inputs.{objection_by, old_output, to_another, to_it, to_none}
 use Rattle.drv_compile.specs.Texts.{variable_text}
 use Rattle.drv_compile.specs.declared.host.HostEvent.TheVariants.{Resolved}
 use Rattle.drv_compile.specs.declared.host.HostEvent.{HostEvent}
 use Rattle.drv_system.specs.Facts.{Facts, kind_of, variable_of}
 use Rattle.drv_system.specs.Known.{◌>>=◌, Is, Known, Unasked, asked}
 use Rattle.drv_system.specs.declared.event.PathKind.{PathKind}
-use Rattle.std.proofs.Common.{◌≡◌, ◌<◌, ◌≤◌, ◌+◌, ◌∙◌, ◌∷◌, ◌++◌, [], Bool, Err, IfOk, List, None, Ok, Option, Result, Some, ap, append_assoc, codes, drop, false, length, refl, subst, sym, true, ℕ}
+use Rattle.std.proofs.Common.{◌≡◌, ◌<◌, ◌≤◌, ◌+◌, ◌∙◌, ◌∷◌, ◌++◌, [], Bool, Err, IfOk, List, None, Ok, Option, Result, Some, ap}
+use Rattle.std.proofs.Common.{append_assoc, codes, drop, false, length, refl, subst, sym, true, ℕ}
 use Rattle.std.proofs.lemmas.Bool.{false≢true}
 use Rattle.std.proofs.lemmas.List.{append-nil, drop_all, drop_more}
 use Rattle.std.specs.Prelude.{get_or, is_some}
@@ -20,7 +22,8 @@ pub text_begins : (others : Known (List ℕ)) → after_text [] others ≡ other
 text_begins Unasked = refl
 text_begins (Is lines) = refl
 
-text_further : (done after line : List ℕ) (others : Known (List ℕ)) → after ≡ done ++ line → after_text after others ≡ after_text done (others >>= λ lines. Is (line ++ lines))
+text_further : (done after line : List ℕ) (others : Known (List ℕ)) → after ≡ done ++ line
+    → after_text after others ≡ after_text done (others >>= λ lines. Is (line ++ lines))
 text_further done after line Unasked is = refl
 text_further done after line (Is lines) is = rw (is, append_assoc) refl
 
@@ -33,7 +36,8 @@ absent_more F name inputs i input kind done after below here known grown so_far 
     text_further done after (absent_by name input kind) (absent_of F name (drop (i + 1) inputs)) grown
     ∙ ap (after_text done) (sym (
     ap (absent_of F name) (drop_more inputs i input below ∙ ap (λ f. f ∷ drop (i + 1) inputs) (sym here))
-    ∙ ap (λ k. (asked k >>= λ kind'. Is (absent_by name input kind')) >>= λ line. absent_of F name (drop (i + 1) inputs) >>= λ lines. Is (line ++ lines)) known))
+    ∙ ap (λ k. (asked k >>= λ kind'. Is (absent_by name input kind')) >>= λ line. absent_of F name (drop (i + 1) inputs)
+    >>= λ lines. Is (line ++ lines)) known))
     ∙ so_far
 
 -- a variable that is set, and one that is not
@@ -45,44 +49,53 @@ set_objects F name inputs None (Ok text) known some is = absurd (false≢true so
 set_objects F name inputs (Some set) (Ok text) known some is = ap (λ v. v >>= λ w. objection_by F name inputs w) known ∙ ap Is (sym is)
 
 pub unset_objects : {E : Type 0} (F : Facts) (name : List ℕ) (inputs : List (List ℕ)) (value : Option (List ℕ)) (result : Result (List ℕ) E)
-    → asked (variable_of F (codes "GCC_EXEC_PREFIX")) ≡ Is value → is_some value ≡ false → IfOk result (λ text. absent_of F name inputs ≡ Is text)
+    → asked (variable_of F (codes "GCC_EXEC_PREFIX")) ≡ Is value → is_some value ≡ false
+    → IfOk result (λ text. absent_of F name inputs ≡ Is text)
     → IfOk result (λ text. objection F name inputs ≡ Is text)
 unset_objects F name inputs value (Err e) known none is = tt
 unset_objects F name inputs (Some set) (Ok text) known none is = absurd (false≢true (sym none))
 unset_objects F name inputs None (Ok text) known none is = ap (λ v. v >>= λ w. objection_by F name inputs w) known ∙ is
 
 -- one input more that leads elsewhere
-pub reaches_more : (path : List ℕ) (inputs : List (List ℕ)) (i : ℕ) (input : List ℕ) (answer : Option (List ℕ)) (before so after : List HostEvent)
+pub reaches_more : (path : List ℕ) (inputs : List (List ℕ)) (i : ℕ) (input : List ℕ) (answer : Option (List ℕ))
+    (before so after : List HostEvent)
     → i < length inputs → input ≡ get_or inputs i input → is_at path answer ≡ false
     → after ≡ so ++ Resolved input answer ∷ []
-    → Noted before so (λ events. (more : List HostEvent) (found : Bool) → Reaches path (drop i inputs) more found → Reaches path inputs (events ++ more) found)
-    → Noted before after (λ events. (more : List HostEvent) (found : Bool) → Reaches path (drop (i + 1) inputs) more found → Reaches path inputs (events ++ more) found)
+    → Noted before so (λ events. (more : List HostEvent) (found : Bool) → Reaches path (drop i inputs) more found
+    → Reaches path inputs (events ++ more) found)
+    → Noted before after (λ events. (more : List HostEvent) (found : Bool) → Reaches path (drop (i + 1) inputs) more found
+    → Reaches path inputs (events ++ more) found)
 reaches_more path inputs i input answer before so after below here differs grown (events, is, so_far) = (
   events ++ Resolved input answer ∷ [],
   grown ∙ ap (λ e. e ++ Resolved input answer ∷ []) is ∙ append_assoc before events (Resolved input answer ∷ []),
   λ more found reaches.
       subst (λ e. Reaches path inputs e found) (sym (append_assoc events (Resolved input answer ∷ []) more))
       (so_far (Resolved input answer ∷ more) found
-      (subst (λ xs. Reaches path xs (Resolved input answer ∷ more) found) (sym (drop_more inputs i input below ∙ ap (λ x. x ∷ drop (i + 1) inputs) (sym here)))
+      (subst (λ xs. Reaches path xs (Resolved input answer ∷ more) found)
+      (sym (drop_more inputs i input below ∙ ap (λ x. x ∷ drop (i + 1) inputs) (sym here)))
       (to_another differs reaches))),
 )
 
 -- one that leads there
-pub reaches_it : (path : List ℕ) (inputs : List (List ℕ)) (i : ℕ) (input : List ℕ) (answer : Option (List ℕ)) (before so after : List HostEvent)
+pub reaches_it : (path : List ℕ) (inputs : List (List ℕ)) (i : ℕ) (input : List ℕ) (answer : Option (List ℕ))
+    (before so after : List HostEvent)
     → i < length inputs → input ≡ get_or inputs i input → is_at path answer ≡ true
     → after ≡ so ++ Resolved input answer ∷ []
-    → Noted before so (λ events. (more : List HostEvent) (found : Bool) → Reaches path (drop i inputs) more found → Reaches path inputs (events ++ more) found)
+    → Noted before so (λ events. (more : List HostEvent) (found : Bool) → Reaches path (drop i inputs) more found
+    → Reaches path inputs (events ++ more) found)
     → Noted before after (λ events. Reaches path inputs events true)
 reaches_it path inputs i input answer before so after below here same grown (events, is, so_far) = (
   events ++ Resolved input answer ∷ [],
   grown ∙ ap (λ e. e ++ Resolved input answer ∷ []) is ∙ append_assoc before events (Resolved input answer ∷ []),
   so_far (Resolved input answer ∷ []) true
-      (subst (λ xs. Reaches path xs (Resolved input answer ∷ []) true) (sym (drop_more inputs i input below ∙ ap (λ x. x ∷ drop (i + 1) inputs) (sym here))) (to_it same)),
+      (subst (λ xs. Reaches path xs (Resolved input answer ∷ []) true)
+      (sym (drop_more inputs i input below ∙ ap (λ x. x ∷ drop (i + 1) inputs) (sym here))) (to_it same)),
 )
 
 -- none does
 pub reaches_none : (path : List ℕ) (inputs : List (List ℕ)) (i : ℕ) (before so : List HostEvent) → length inputs ≤ i
-    → Noted before so (λ events. (more : List HostEvent) (found : Bool) → Reaches path (drop i inputs) more found → Reaches path inputs (events ++ more) found)
+    → Noted before so (λ events. (more : List HostEvent) (found : Bool) → Reaches path (drop i inputs) more found
+    → Reaches path inputs (events ++ more) found)
     → Noted before so (λ events. Reaches path inputs events false)
 reaches_none path inputs i before so past (events, is, so_far) = (
   events,
@@ -93,10 +106,12 @@ reaches_none path inputs i before so past (events, is, so_far) = (
 
 -- an output
 
-pub none_written : (inputs : List (List ℕ)) (given : Option (List ℕ)) (notes : List HostEvent) → given ≡ None → Noted notes notes (λ events. Overwrites inputs given events false)
+pub none_written : (inputs : List (List ℕ)) (given : Option (List ℕ)) (notes : List HostEvent) → given ≡ None
+    → Noted notes notes (λ events. Overwrites inputs given events false)
 none_written inputs given notes none = ([], sym (append-nil notes), subst (λ o. Overwrites inputs o [] false) (sym none) no_output)
 
-pub new_written : (inputs : List (List ℕ)) (given : Option (List ℕ)) (output : List ℕ) (found : Option (List ℕ)) (before after : List HostEvent) → given ≡ Some output → found ≡ None
+pub new_written : (inputs : List (List ℕ)) (given : Option (List ℕ)) (output : List ℕ) (found : Option (List ℕ))
+    (before after : List HostEvent) → given ≡ Some output → found ≡ None
     → after ≡ before ++ Resolved output found ∷ [] → Noted before after (λ events. Overwrites inputs given events false)
 new_written inputs given output found before after some none grown = (
   Resolved output None ∷ [],
@@ -104,16 +119,20 @@ new_written inputs given output found before after some none grown = (
   subst (λ o. Overwrites inputs o (Resolved output None ∷ []) false) (sym some) new_output,
 )
 
-pub old_written : {E : Type 0} (inputs : List (List ℕ)) (given : Option (List ℕ)) (output path : List ℕ) (found : Option (List ℕ)) (before mid after : List HostEvent) (result : Result Bool E)
-    → given ≡ Some output → found ≡ Some path → mid ≡ before ++ Resolved output found ∷ [] → Noted mid after (λ events. IfOk result (λ so. Reaches path inputs events so))
+pub old_written : {E : Type 0} (inputs : List (List ℕ)) (given : Option (List ℕ)) (output path : List ℕ) (found : Option (List ℕ))
+    (before mid after : List HostEvent) (result : Result Bool E)
+    → given ≡ Some output → found ≡ Some path → mid ≡ before ++ Resolved output found ∷ []
+    → Noted mid after (λ events. IfOk result (λ so. Reaches path inputs events so))
     → Noted before after (λ events. IfOk result (λ so. Overwrites inputs given events so))
 old_written inputs given output path found before mid after (Err e) some is grown (events, after_grown, reaches) = (
   Resolved output (Some path) ∷ events,
-  after_grown ∙ ap (λ m. m ++ events) (grown ∙ ap (λ f. before ++ Resolved output f ∷ []) is) ∙ append_assoc before (Resolved output (Some path) ∷ []) events,
+  after_grown ∙ ap (λ m. m ++ events) (grown ∙ ap (λ f. before ++ Resolved output f ∷ []) is)
+      ∙ append_assoc before (Resolved output (Some path) ∷ []) events,
   tt,
 )
 old_written inputs given output path found before mid after (Ok so) some is grown (events, after_grown, reaches) = (
   Resolved output (Some path) ∷ events,
-  after_grown ∙ ap (λ m. m ++ events) (grown ∙ ap (λ f. before ++ Resolved output f ∷ []) is) ∙ append_assoc before (Resolved output (Some path) ∷ []) events,
+  after_grown ∙ ap (λ m. m ++ events) (grown ∙ ap (λ f. before ++ Resolved output f ∷ []) is)
+      ∙ append_assoc before (Resolved output (Some path) ∷ []) events,
   subst (λ o. Overwrites inputs o (Resolved output (Some path) ∷ events) so) (sym some) (old_output reaches),
 )

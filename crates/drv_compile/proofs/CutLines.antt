@@ -2,7 +2,8 @@ use Rattle.bstr.specs.Find.{IsFirstByte, is_byte}
 use Rattle.drv_compile.specs.Compilers.{lines}
 use Rattle.drv_specs.proofs.Found.{clean_all, found_below, line_clean, line_found}
 use Rattle.drv_words.specs.Bytes.{newline}
-use Rattle.std.proofs.Common.{◌≡◌, ◌<◌, ◌+◌, ◌-◌, ◌∙◌, ◌==◌, ◌&&◌, Bool, List, [], ◌∷◌, ◌++◌, ap, arith, drop, false, length, not, refl, sym, take, true, ℕ}
+use Rattle.std.proofs.Common.{◌≡◌, ◌<◌, ◌+◌, ◌-◌, ◌∙◌, ◌==◌, ◌&&◌, Bool, List, [], ◌∷◌, ◌++◌, ap, arith, drop, false, length, not, refl}
+use Rattle.std.proofs.Common.{sym, take, true, ℕ}
 use Rattle.std.proofs.lemmas.List.{length-drop, take_all}
 use Rattle.std.proofs.lemmas.List.Splits.{slice_split-cons_no, slice_split-cons_yes}
 use Rattle.std.specs.List.{list_all, onto_first}
@@ -28,14 +29,16 @@ only_line (b ∷ line) clean =
 
 pub line_cut : (text : List ℕ) (found : Option ℕ) (at : ℕ) → IsFirstByte (is_byte newline) text found → found ≡ Some at
     → lines text ≡ take at text ∷ lines (drop (at + 1) text)
-line_cut text found at h is = ap lines (line_found text found at h is) ∙ first_line (take at text) (drop (at + 1) text) (line_clean text found at h is)
+line_cut text found at h is = ap lines (line_found text found at h is)
+    ∙ first_line (take at text) (drop (at + 1) text) (line_clean text found at h is)
 
 -- as the code cuts it off
 pub line_cut_off : (text : List ℕ) (found : Option ℕ) (at : ℕ) → IsFirstByte (is_byte newline) text found → found ≡ Some at
     → lines text ≡ take at text ∷ lines (take (length text - (at + 1)) (drop (at + 1) text))
 line_cut_off text found at h is =
     line_cut text found at h is
-    ∙ ap (λ rest. take at text ∷ lines rest) (sym (take_all (length text - (at + 1)) (drop (at + 1) text) (omega (arith, length-drop (at + 1) text))))
+    ∙ ap (λ rest. take at text ∷ lines rest) (sym (take_all (length text - (at + 1)) (drop (at + 1) text)
+    (omega (arith, length-drop (at + 1) text))))
 
 pub line_alone : (text : List ℕ) (found : Option ℕ) → IsFirstByte (is_byte newline) text found → found ≡ None → lines text ≡ text ∷ []
 line_alone text found h is = only_line text (clean_all (is_byte newline) text found h is)

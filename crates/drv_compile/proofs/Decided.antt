@@ -1,7 +1,7 @@
 use Rattle.drv_args.specs.declared.items.Item.{Item}
 use Rattle.drv_cc.specs.declared.answer.Stages.{Stages}
 use Rattle.drv_cc.specs.declared.answer.Surroundings.{Surroundings}
-use Rattle.drv_compile.specs.Beside.{given_by, named_file, spec_file, written_beside}
+use Rattle.drv_compile.specs.Beside.{given_by, file_of_variable, spec_file, written_beside}
 use Rattle.drv_compile.specs.Compilers.{values}
 use Rattle.drv_compile.specs.Decides.{decided, decided_around, decided_by, decided_over, decided_with, of_reading, surroundings}
 use Rattle.drv_compile.specs.Parts.{texts_at, texts_of}
@@ -18,11 +18,14 @@ use Rattle.std.proofs.Common.{◌≡◌, ◌∙◌, Err, IfOk, List, Ok, Option,
 -- For `decided`: what was asked, one thing after another, gives the decision.
 
 pub named_by_variable : {E : Type 0} (F : Facts) (name : List ℕ) (value : Option (List ℕ)) (result : Result (Option (List ℕ)) E)
-    → name ≡ codes "GDRV_CC_SPECS" → variable_of F name ≡ Some value → IfOk result (λ path. path ≡ given_by value) → IfOk result (λ path. named_file F ≡ Is path)
+    → name ≡ codes "GDRV_CC_SPECS" → variable_of F name ≡ Some value → IfOk result (λ path. path ≡ given_by value)
+    → IfOk result (λ path. file_of_variable F ≡ Is path)
 named_by_variable F name value (Err e) named known is = tt
-named_by_variable F name value (Ok path) named known is = ap (λ v. asked v >>= λ w. Is (given_by w)) (ap (variable_of F) (sym named) ∙ known) ∙ ap Is (sym is)
+named_by_variable F name value (Ok path) named known is =
+    ap (λ v. asked v >>= λ w. Is (given_by w)) (ap (variable_of F) (sym named) ∙ known) ∙ ap Is (sym is)
 
-pub texts_found : {E : Type 0} (F : Facts) (specs : List ℕ) (items : List Item) (stages : Stages) (part path : List ℕ) (kind : PathKind) (result : Result Texts E)
+pub texts_found : {E : Type 0} (F : Facts) (specs : List ℕ) (items : List Item) (stages : Stages) (part path : List ℕ) (kind : PathKind)
+    (result : Result Texts E)
     → part ≡ texts_for specs items stages → kind_of F part ≡ Some kind → path ≡ texts_or specs part kind
     → IfOk result (λ texts. texts_at F path ≡ Is texts) → IfOk result (λ texts. texts_of F specs items stages ≡ Is texts)
 texts_found F specs items stages part path kind (Err e) part_is known path_is is = tt
@@ -31,37 +34,45 @@ texts_found F specs items stages part path kind (Ok texts) part_is known path_is
     ∙ ap (λ k. asked k >>= λ k'. texts_at F (texts_or specs part k')) known
     ∙ ap (texts_at F) (sym path_is) ∙ is
 
-pub around_read : {E : Type 0} (F : Facts) (specs slice : List ℕ) (words : List (List ℕ)) (around : Surroundings) (reading : Option Reading) (result : Result Decision E)
+pub around_read : {E : Type 0} (F : Facts) (specs slice : List ℕ) (words : List (List ℕ)) (around : Surroundings) (reading : Option Reading)
+    (result : Result Decision E)
     → slice ≡ specs → line_read F slice around words ≡ Is reading → IfOk result (λ decision. decision ≡ of_reading specs around reading)
     → IfOk result (λ decision. decided_around F specs words around ≡ Is decision)
 around_read F specs slice words around reading (Err e) same read is = tt
 around_read F specs slice words around reading (Ok decision) same read is =
     ap (λ k. k >>= λ r. Is (of_reading specs around r)) (ap (λ s. line_read F s around words) (sym same) ∙ read) ∙ ap Is (sym is)
 
-pub compiler_given : {E : Type 0} (F : Facts) (specs : List ℕ) (words : List (List ℕ)) (text : List ℕ) (given : Option (List ℕ)) (compiler : List ℕ) (folders : List (List ℕ))
+pub compiler_given : {E : Type 0} (F : Facts) (specs : List ℕ) (words : List (List ℕ)) (text : List ℕ) (given : Option (List ℕ))
+    (compiler : List ℕ) (folders : List (List ℕ))
     (programs libraries : Option (List ℕ)) (result : Result Decision E)
-    → given ≡ Some compiler → folders ≡ values (codes "folder ") text → asked (variable_of F (codes "COMPILER_PATH")) ≡ Is programs → asked (variable_of F (codes "LIBRARY_PATH")) ≡ Is libraries
+    → given ≡ Some compiler → folders ≡ values (codes "folder ") text → asked (variable_of F (codes "COMPILER_PATH")) ≡ Is programs
+    → asked (variable_of F (codes "LIBRARY_PATH")) ≡ Is libraries
     → IfOk result (λ decision. decided_around F specs words (surroundings compiler folders programs libraries) ≡ Is decision)
     → IfOk result (λ decision. decided_by F specs words text given ≡ Is decision)
 compiler_given F specs words text given compiler folders programs libraries (Err e) some folders_are first second is = tt
 compiler_given F specs words text given compiler folders programs libraries (Ok decision) some folders_are first second is =
     ap (decided_by F specs words text) some
-    ∙ ap (λ k. k >>= λ p. asked (variable_of F (codes "LIBRARY_PATH")) >>= λ l. decided_around F specs words (surroundings compiler (values (codes "folder ") text) p l)) first
+    ∙ ap (λ k. k >>= λ p. asked (variable_of F (codes "LIBRARY_PATH"))
+    >>= λ l. decided_around F specs words (surroundings compiler (values (codes "folder ") text) p l)) first
     ∙ ap (λ k. k >>= λ l. decided_around F specs words (surroundings compiler (values (codes "folder ") text) programs l)) second
     ∙ ap (λ f. decided_around F specs words (surroundings compiler f programs libraries)) (sym folders_are)
     ∙ is
 
-pub specs_given : {E : Type 0} (F : Facts) (own : Option (List ℕ)) (words : List (List ℕ)) (found : Option (List ℕ)) (specs slice : List ℕ) (text : Option (List ℕ)) (result : Result Decision E)
+pub specs_given : {E : Type 0} (F : Facts) (own : Option (List ℕ)) (words : List (List ℕ)) (found : Option (List ℕ)) (specs slice : List ℕ)
+    (text : Option (List ℕ)) (result : Result Decision E)
     → found ≡ Some specs → slice ≡ specs → written_beside F slice (codes ".gcc") ≡ Is text
-    → IfOk result (λ decision. decided_over F specs words text ≡ Is decision) → IfOk result (λ decision. decided_with F own words found ≡ Is decision)
+    → IfOk result (λ decision. decided_over F specs words text ≡ Is decision)
+    → IfOk result (λ decision. decided_with F own words found ≡ Is decision)
 specs_given F own words found specs slice text (Err e) some same written is = tt
 specs_given F own words found specs slice text (Ok decision) some same written is =
     ap (decided_with F own words) some
     ∙ ap (λ k. k >>= λ t. decided_over F specs words t) (ap (λ s. written_beside F s (codes ".gcc")) (sym same) ∙ written) ∙ is
 
-pub decided_so : {E : Type 0} (F : Facts) (own : Option (List ℕ)) (words : List (List ℕ)) (place found again : Option (List ℕ)) (result : Result Decision E)
+pub decided_so : {E : Type 0} (F : Facts) (own : Option (List ℕ)) (words : List (List ℕ)) (place found again : Option (List ℕ))
+    (result : Result Decision E)
     → place ≡ own → spec_file F place ≡ Is found → again ≡ own
     → IfOk result (λ decision. decided_with F again words found ≡ Is decision) → IfOk result (λ decision. decided F own words ≡ Is decision)
 decided_so F own words place found again (Err e) place_is known again_is is = tt
 decided_so F own words place found again (Ok decision) place_is known again_is is =
-    ap (λ k. k >>= λ s. decided_with F own words s) (ap (spec_file F) (sym place_is) ∙ known) ∙ ap (λ o. decided_with F o words found) (sym again_is) ∙ is
+    ap (λ k. k >>= λ s. decided_with F own words s) (ap (spec_file F) (sym place_is) ∙ known)
+    ∙ ap (λ o. decided_with F o words found) (sym again_is) ∙ is

@@ -3,7 +3,8 @@ use Rattle.drv_compile.proofs.Joined.{joined}
 use Rattle.drv_compile.proofs.Settled.{goes_by, tried_goes}
 use Rattle.drv_compile.specs.Code.Compiling.{Carried, DoesNoted, IsClosed, IsOpened, Noting, OpensWork, Spoken, TellsStop, Worked}
 use Rattle.drv_compile.specs.Code.Settling.{BeginsToGo, Going}
-use Rattle.drv_compile.specs.Compiles.{Closes, Comes, Compiled, Ends, Opens, Refuses, closed, closing, cut_short, lacks_program, noted, refused, settings, silent, spoken, unnoted, worked}
+use Rattle.drv_compile.specs.Compiles.{Closes, Comes, Compiled, Ends, Opens, Refuses, closed, closing, cut_short, lacks_program, noted}
+use Rattle.drv_compile.specs.Compiles.{refused, settings, silent, spoken, unnoted, worked}
 use Rattle.drv_compile.specs.Inputs.{Noted}
 use Rattle.drv_compile.specs.Tasks.{IfTold}
 use Rattle.drv_compile.specs.declared.calling.Calling.{Calling}
@@ -24,7 +25,8 @@ use Rattle.drv_system.specs.declared.event.Event.TheVariants.{Say}
 use Rattle.drv_system.specs.declared.event.Event.{Event}
 use Rattle.drv_system.specs.declared.event.TellAnswer.{TellAnswer}
 use Rattle.drv_words.specs.Stepping.{pipe_pending}
-use Rattle.std.proofs.Common.{◌≡◌, ◌<◌, ◌≤◌, ◌+◌, ◌-◌, ◌∙◌, ◌∷◌, ◌++◌, [], Bool, Err, IsErrAnd, List, Ok, OnOk, Option, Result, ap, append_assoc, arith, drop, false, length, refl, subst, sym, take, true, ℕ}
+use Rattle.std.proofs.Common.{◌≡◌, ◌<◌, ◌≤◌, ◌+◌, ◌-◌, ◌∙◌, ◌∷◌, ◌++◌, [], Bool, Err, IsErrAnd, List, Ok, OnOk, Option, Result, ap}
+use Rattle.std.proofs.Common.{append_assoc, arith, drop, false, length, refl, subst, sym, take, true, ℕ}
 use Rattle.std.proofs.Math.Bool.{false≢true}
 use Rattle.std.proofs.Math.Logic.{◌↔◌}
 use Rattle.std.proofs.Math.Seq.{drop-append_seam, take-length}
@@ -41,8 +43,10 @@ pub record Setting (at : ℕ) (children : List Variable) (i : ℕ) (before so : 
   pub grown : so ≡ before ++ events
   pub rest : events ++ settings at (drop i children) ≡ settings at children
 
-pub set_more : (at : ℕ) (children : List Variable) (i : ℕ) (variable : Variable) (at' : ℕ) (before so after : List HostEvent) → i < length children
-    → variable ≡ get_or children i variable → at' ≡ at → after ≡ so ++ Set at' variable ∷ [] → Setting at children i before so → Setting at children (i + 1) before after
+pub set_more : (at : ℕ) (children : List Variable) (i : ℕ) (variable : Variable) (at' : ℕ) (before so after : List HostEvent)
+    → i < length children
+    → variable ≡ get_or children i variable → at' ≡ at → after ≡ so ++ Set at' variable ∷ [] → Setting at children i before so
+    → Setting at children (i + 1) before after
 set_more at children i variable at' before so after below here same grown setting = record {
   events = setting.events ++ Set at variable ∷ [];
   grown =
@@ -50,13 +54,15 @@ set_more at children i variable at' before so after below here same grown settin
       ∙ append_assoc before setting.events (Set at variable ∷ []);
   rest =
       append_assoc setting.events (Set at variable ∷ []) (settings at (drop (i + 1) children))
-      ∙ ap (λ xs. setting.events ++ settings at xs) (sym (drop_more children i variable below ∙ ap (λ v. v ∷ drop (i + 1) children) (sym here))) ∙ setting.rest;
+      ∙ ap (λ xs. setting.events ++ settings at xs) (sym
+      (drop_more children i variable below ∙ ap (λ v. v ∷ drop (i + 1) children) (sym here))) ∙ setting.rest;
 }
 
 pub none_set : (at : ℕ) (children : List Variable) (before : List HostEvent) → Setting at children 0 before before
 none_set at children before = record { events = []; grown = sym (append-nil before); rest = refl }
 
-pub all_set : (at : ℕ) (children : List Variable) (i : ℕ) (before so : List HostEvent) → length children ≤ i → Setting at children i before so
+pub all_set : (at : ℕ) (children : List Variable) (i : ℕ) (before so : List HostEvent) → length children ≤ i
+    → Setting at children i before so
     → Noted before so (λ events. events ≡ settings at children)
 all_set at children i before so past setting = (
   setting.events,
@@ -64,14 +70,17 @@ all_set at children i before so past setting = (
   sym (append-nil setting.events) ∙ ap (λ xs. setting.events ++ settings at xs) (sym (drop_all i children past)) ∙ setting.rest,
 )
 
-pub some_set : {X E : Type 0} (at : ℕ) (children : List Variable) (i : ℕ) (before so after : List HostEvent) (result : Result X E) (what : E → Type 0)
-    → Setting at children i before so → after ≡ so → IsErrAnd result what → Noted before after (λ events. OnOk result (events ≡ settings at children))
+pub some_set : {X E : Type 0} (at : ℕ) (children : List Variable) (i : ℕ) (before so after : List HostEvent) (result : Result X E)
+    (what : E → Type 0)
+    → Setting at children i before so → after ≡ so → IsErrAnd result what
+    → Noted before after (λ events. OnOk result (events ≡ settings at children))
 some_set at children i before so after (Ok x) what setting same is = absurd is
 some_set at children i before so after (Err e) what setting same is = (setting.events, same ∙ setting.grown, tt)
 
 -- a text after a work
 
-pub nothing_closed : (journal : List Event) (text : List ℕ) (status : ℕ) → length text ≤ 0 → IsClosed journal journal text status (Done status)
+pub nothing_closed : (journal : List Event) (text : List ℕ) (status : ℕ) → length text ≤ 0
+    → IsClosed journal journal text status (Done status)
 nothing_closed journal [] status none = ([], sym (append-nil journal), closed)
 nothing_closed journal (b ∷ text) status none = absurd (omega (arith, none))
 
@@ -86,7 +95,8 @@ text_unclosed journal journal' [] status some same = absurd (omega (arith, some)
 text_unclosed journal journal' (b ∷ text) status some same = ([], same ∙ sym (append-nil journal), unnoted)
 
 -- the hint or the remark
-pub closing_noted : (journal journal' : List Event) (before : ℕ) (prepared : Prepared) (lacks : Bool) (text : List ℕ) (status : ℕ) (outcome : Outcome)
+pub closing_noted : (journal journal' : List Event) (before : ℕ) (prepared : Prepared) (lacks : Bool) (text : List ℕ) (status : ℕ)
+    (outcome : Outcome)
     → lacks_program prepared (drop before journal) ≡ lacks → text ≡ closing prepared lacks → IsClosed journal journal' text status outcome
     → Noting journal journal' before prepared status outcome
 closing_noted journal journal' before prepared lacks text status outcome finds is closes =
@@ -97,7 +107,8 @@ pub after_all : (prepared : Prepared) (shown journal : List Event) (before : ℕ
     → lacks_program prepared (drop before journal) ≡ lacks_program prepared (take (length shown - before) (drop before shown))
 after_all prepared shown journal before same =
     ap (λ j. lacks_program prepared (drop before j)) (sym same)
-    ∙ ap (lacks_program prepared) (sym (ap (λ n. take n (drop before shown)) (sym (length-drop before shown)) ∙ take-length (drop before shown)))
+    ∙ ap (lacks_program prepared) (sym (ap (λ n. take n (drop before shown)) (sym (length-drop before shown))
+    ∙ take-length (drop before shown)))
 
 -- no pipe is pending after a text
 
@@ -105,7 +116,8 @@ pub no_pipe_after_text : (journal journal' : List Event) (text : List ℕ) (told
     → pipe_pending (run_of journal) ≡ false → pipe_pending (run_of journal') ≡ false
 no_pipe_after_text journal journal' text told says before = no_pipe_after_texts journal journal' (Say text told ∷ [], says, tt) before
 
-pub no_pipe_in_same : (journal journal' : List Event) → journal' ≡ journal → pipe_pending (run_of journal) ≡ false → pipe_pending (run_of journal') ≡ false
+pub no_pipe_in_same : (journal journal' : List Event) → journal' ≡ journal → pipe_pending (run_of journal) ≡ false
+    → pipe_pending (run_of journal') ≡ false
 no_pipe_in_same journal journal' same before = ap (λ j. pipe_pending (run_of j)) same ∙ before
 
 -- a work, and the hint or the remark after it
@@ -115,7 +127,8 @@ pub longer_than : (shown journal journal' : List Event) (name : List ℕ) (prepa
 longer_than shown journal journal' name prepared status same does =
     let first = ap length same in let grown = ap length does.1 ∙ length-append journal does.0 in omega (arith, first, grown)
 
-by_note : (name : List ℕ) (journal journal' journal'' : List Event) (prepared : Prepared) (status : ℕ) (outcome : Outcome) → DoesWork name journal journal' prepared.work status
+by_note : (name : List ℕ) (journal journal' journal'' : List Event) (prepared : Prepared) (status : ℕ) (outcome : Outcome)
+    → DoesWork name journal journal' prepared.work status
     → Noting journal' journal'' (length journal) prepared status outcome → DoesNoted name journal journal'' prepared outcome
 by_note name journal journal' journal'' prepared status outcome does notes = record {
   did = does.0;
@@ -138,13 +151,17 @@ is_end closed = tt
 is_end noted = tt
 is_end unnoted = tt
 
-pub work_noted : (name : List ℕ) (journal journal' journal'' : List Event) (prepared : Prepared) (status before : ℕ) (outcome : Outcome) → before ≡ length journal
-    → DoesWork name journal journal' prepared.work status → Noting journal' journal'' before prepared status outcome → Worked name journal journal'' prepared outcome
+pub work_noted : (name : List ℕ) (journal journal' journal'' : List Event) (prepared : Prepared) (status before : ℕ) (outcome : Outcome)
+    → before ≡ length journal
+    → DoesWork name journal journal' prepared.work status → Noting journal' journal'' before prepared status outcome
+    → Worked name journal journal'' prepared outcome
 work_noted name journal journal' journal'' prepared status before OutOfMemory same does notes = absurd (is_end notes.2)
 work_noted name journal journal' journal'' prepared status before (Done code) same does notes =
-    by_note name journal journal' journal'' prepared status (Done code) does (subst (λ n. Noting journal' journal'' n prepared status (Done code)) same notes)
+    by_note name journal journal' journal'' prepared status (Done code) does
+    (subst (λ n. Noting journal' journal'' n prepared status (Done code)) same notes)
 work_noted name journal journal' journal'' prepared status before (Unnoted code) same does notes =
-    by_note name journal journal' journal'' prepared status (Unnoted code) does (subst (λ n. Noting journal' journal'' n prepared status (Unnoted code)) same notes)
+    by_note name journal journal' journal'' prepared status (Unnoted code) does
+    (subst (λ n. Noting journal' journal'' n prepared status (Unnoted code)) same notes)
 
 -- after a text
 
@@ -159,18 +176,23 @@ pub nothing_opened : (journal : List Event) (said : List ℕ) → length said �
 nothing_opened journal [] none = ([], silent, sym (append-nil journal))
 nothing_opened journal (b ∷ said) none = absurd (omega (arith, none))
 
-pub text_opened : (journal journal' : List Event) (said : List ℕ) (answer : TellAnswer) → 0 < length said → journal' ≡ journal ++ Say said answer ∷ []
+pub text_opened : (journal journal' : List Event) (said : List ℕ) (answer : TellAnswer) → 0 < length said
+    → journal' ≡ journal ++ Say said answer ∷ []
     → IsOpened journal journal' said
 text_opened journal journal' [] answer some says = absurd (omega (arith, some))
 text_opened journal journal' (b ∷ said) answer some says = (Say (b ∷ said) answer ∷ [], spoken, says)
 
-only_says_more : {said : List ℕ} {opened : List Event} → Opens said opened → (journal journal' : List Event) → OnlySays (journal ++ opened) journal' → OnlySays journal journal'
+only_says_more : {said : List ℕ} {opened : List Event} → Opens said opened → (journal journal' : List Event)
+    → OnlySays (journal ++ opened) journal' → OnlySays journal journal'
 only_says_more silent journal journal' only = subst (λ j. OnlySays j journal') (append-nil journal) only
-only_says_more (spoken {b} {text} {told}) journal journal' (said, grown, are) = (Say (b ∷ text) told ∷ said, grown ∙ append_assoc journal (Say (b ∷ text) told ∷ []) said, are)
+only_says_more (spoken {b} {text} {told}) journal journal' (said, grown, are) =
+    (Say (b ∷ text) told ∷ said, grown ∙ append_assoc journal (Say (b ∷ text) told ∷ []) said, are)
 
-pub work_spoken : (name : List ℕ) (journal journal' journal'' : List Event) (prepared : Prepared) (said : List ℕ) (outcome : Outcome) → said ≡ prepared.said
+pub work_spoken : (name : List ℕ) (journal journal' journal'' : List Event) (prepared : Prepared) (said : List ℕ) (outcome : Outcome)
+    → said ≡ prepared.said
     → IsOpened journal journal' said → Worked name journal' journal'' prepared outcome → Spoken name journal journal'' prepared outcome
-work_spoken name journal journal' journal'' prepared said OutOfMemory same (opened, opens, grown) only = only_says_more opens journal journal'' (subst (λ j. OnlySays j journal'') grown only)
+work_spoken name journal journal' journal'' prepared said OutOfMemory same (opened, opens, grown) only =
+    only_says_more opens journal journal'' (subst (λ j. OnlySays j journal'') grown only)
 work_spoken name journal journal' journal'' prepared said (Done status) same (opened, opens, grown) does =
     (opened, subst (λ t. Opens t opened) same opens, subst (λ j. DoesNoted name j journal'' prepared (Done status)) grown does)
 work_spoken name journal journal' journal'' prepared said (Unnoted status) same (opened, opens, grown) does =
@@ -178,8 +200,10 @@ work_spoken name journal journal' journal'' prepared said (Unnoted status) same 
 
 -- after its variables were set
 
-pub carried : (name : List ℕ) (journal journal' journal'' : List Event) (prepared : Prepared) (children : List Variable) (before after : List HostEvent) (outcome : Outcome)
-    → children ≡ prepared.children → Noted before after (λ events. events ≡ settings (length journal) children) → journal' ≡ journal → Spoken name journal' journal'' prepared outcome
+pub carried : (name : List ℕ) (journal journal' journal'' : List Event) (prepared : Prepared) (children : List Variable)
+    (before after : List HostEvent) (outcome : Outcome)
+    → children ≡ prepared.children → Noted before after (λ events. events ≡ settings (length journal) children) → journal' ≡ journal
+    → Spoken name journal' journal'' prepared outcome
     → Noted before after (λ events. Carried name journal journal'' prepared events outcome)
 carried name journal journal' journal'' prepared children before after OutOfMemory are (events, grown, set) same only =
     (events, grown, subst (λ j. OnlySays j journal'') same only)
@@ -189,42 +213,54 @@ carried name journal journal' journal'' prepared children before after (Unnoted 
     (events, grown, (set ∙ ap (settings (length journal)) are, subst (λ j. OpensWork name j journal'' prepared (Unnoted status)) same does))
 
 pub nothing_carried : (name : List ℕ) (journal journal' : List Event) (prepared : Prepared) (before after : List HostEvent)
-    → Noted before after (λ events. ⊤) → journal' ≡ journal → Noted before after (λ events. Carried name journal journal' prepared events OutOfMemory)
-nothing_carried name journal journal' prepared before after (events, grown, set) same = (events, grown, ([], same ∙ sym (append-nil journal), tt))
+    → Noted before after (λ events. ⊤) → journal' ≡ journal
+    → Noted before after (λ events. Carried name journal journal' prepared events OutOfMemory)
+nothing_carried name journal journal' prepared before after (events, grown, set) same =
+    (events, grown, ([], same ∙ sym (append-nil journal), tt))
 
 -- the whole call
 
 abbrev pub Prepares : Facts → Calling → Option (List ℕ) → List (List ℕ) → ℕ → Prepared → List HostEvent → Type 0
 Prepares F' calling own args seed prepared events = (G : Facts) → Extends F' G → Comes G calling own args seed events prepared
 
-with_notes : {journal mid journal'' : List Event} {F' : Facts} {first notes notes' notes'' : List HostEvent} (calling : Calling) (own : Option (List ℕ)) (args : List (List ℕ)) (seed : ℕ)
-    (prepared : Prepared) (outcome : Outcome) → Going journal mid first notes F' → Noted notes notes' (Prepares F' calling own args seed prepared)
-    → Noted notes' notes'' (λ events. (events ≡ settings (length mid) prepared.children) × OpensWork calling.name mid journal'' prepared outcome)
+with_notes : {journal mid journal'' : List Event} {F' : Facts} {first notes notes' notes'' : List HostEvent} (calling : Calling)
+    (own : Option (List ℕ)) (args : List (List ℕ)) (seed : ℕ)
+    (prepared : Prepared) (outcome : Outcome) → Going journal mid first notes F'
+    → Noted notes notes' (Prepares F' calling own args seed prepared)
+    → Noted notes' notes'' (λ events. (events ≡ settings (length mid) prepared.children)
+    × OpensWork calling.name mid journal'' prepared outcome)
     → Compiled journal journal'' first notes'' calling own args seed outcome
-with_notes {journal} {F' = F'} calling own args seed prepared outcome before (resolved, grown, comes) (set, set_after, (set_is, (opened, opens, does))) = record {
-  asked = before.asked;
-  tried = before.tried;
-  said = opened ++ does.did ++ does.noted;
-  resolved = resolved;
-  set = set;
-  facts = F';
-  questions = before.questions;
-  journal_grows =
-      does.journal_grows ∙ ap (λ j. j ++ opened ++ does.did ++ does.noted) before.journal_grows ∙ joined (journal ++ before.asked) opened does.did does.noted;
-  notes_grow = set_after ∙ ap (λ n. n ++ set) grown ∙ ap (λ n. n ++ resolved ++ set) before.notes_grow;
-  goes_by = goes_by outcome before;
-  ends =
-      subst (λ events. Ends F' (length (journal ++ before.asked)) calling own args seed outcome resolved events (opened ++ does.did ++ does.noted))
-      (sym (set_is ∙ ap (λ j. settings (length j) prepared.children) before.journal_grows))
-      (worked opened does.did (comes F' (extends_refl F')) opens does.does does.told);
-}
+with_notes {journal} {F' = F'} calling own args seed prepared outcome before (resolved, grown, comes)
+    (set, set_after, (set_is, (opened, opens, does))) = record {
+      asked = before.asked;
+      tried = before.tried;
+      said = opened ++ does.did ++ does.noted;
+      resolved = resolved;
+      set = set;
+      facts = F';
+      questions = before.questions;
+      journal_grows =
+          does.journal_grows ∙ ap (λ j. j ++ opened ++ does.did ++ does.noted) before.journal_grows
+          ∙ joined (journal ++ before.asked) opened does.did does.noted;
+      notes_grow = set_after ∙ ap (λ n. n ++ set) grown ∙ ap (λ n. n ++ resolved ++ set) before.notes_grow;
+      goes_by = goes_by outcome before;
+      ends =
+          subst (λ events. Ends F' (length (journal ++ before.asked)) calling own args seed outcome resolved events
+          (opened ++ does.did ++ does.noted))
+          (sym (set_is ∙ ap (λ j. settings (length j) prepared.children) before.journal_grows))
+          (worked opened does.did (comes F' (extends_refl F')) opens does.does does.told);
+    }
 
-compiled_by : {journal mid journal'' : List Event} {F' : Facts} {first notes notes' notes'' : List HostEvent} (calling : Calling) (own : Option (List ℕ)) (args : List (List ℕ)) (seed : ℕ)
-    (prepared : Prepared) (outcome : Outcome) → Going journal mid first notes F' → Noted notes notes' (Prepares F' calling own args seed prepared)
+compiled_by : {journal mid journal'' : List Event} {F' : Facts} {first notes notes' notes'' : List HostEvent} (calling : Calling)
+    (own : Option (List ℕ)) (args : List (List ℕ)) (seed : ℕ)
+    (prepared : Prepared) (outcome : Outcome) → Going journal mid first notes F'
+    → Noted notes notes' (Prepares F' calling own args seed prepared)
     → Noted notes' notes'' (λ events. Carried calling.name mid journal'' prepared events outcome)
     → Compiled journal journal'' first notes'' calling own args seed outcome
-compiled_by calling own args seed prepared (Done status) before prepares carries = with_notes calling own args seed prepared (Done status) before prepares carries
-compiled_by calling own args seed prepared (Unnoted status) before prepares carries = with_notes calling own args seed prepared (Unnoted status) before prepares carries
+compiled_by calling own args seed prepared (Done status) before prepares carries =
+    with_notes calling own args seed prepared (Done status) before prepares carries
+compiled_by calling own args seed prepared (Unnoted status) before prepares carries =
+    with_notes calling own args seed prepared (Unnoted status) before prepares carries
 compiled_by {F' = F'} calling own args seed prepared OutOfMemory before (resolved, grown, comes) (set, set_after, only) = record {
   asked = before.asked;
   tried = before.tried;
@@ -239,59 +275,68 @@ compiled_by {F' = F'} calling own args seed prepared OutOfMemory before (resolve
   ends = cut_short only.2;
 }
 
-pub compiled_done : {journal mid journal'' : List Event} {F' : Facts} {first notes notes' notes'' : List HostEvent} (calling : Calling) (own : Option (List ℕ)) (args : List (List ℕ)) (seed : ℕ)
+pub compiled_done : {journal mid journal'' : List Event} {F' : Facts} {first notes notes' notes'' : List HostEvent} (calling : Calling)
+    (own : Option (List ℕ)) (args : List (List ℕ)) (seed : ℕ)
     (prepared : Prepared) (name : List ℕ) (outcome : Outcome) → name ≡ calling.name → Going journal mid first notes F'
-    → Noted notes notes' (Prepares F' calling own args seed prepared) → Noted notes' notes'' (λ events. Carried name mid journal'' prepared events outcome)
+    → Noted notes notes' (Prepares F' calling own args seed prepared)
+    → Noted notes' notes'' (λ events. Carried name mid journal'' prepared events outcome)
     → Compiled journal journal'' first notes'' calling own args seed outcome
-compiled_done {mid = mid} {journal'' = journal''} {notes' = notes'} {notes'' = notes''} calling own args seed prepared name outcome named before prepares carries =
+compiled_done {mid = mid} {journal'' = journal''} {notes' = notes'}
+    {notes'' = notes''} calling own args seed prepared name outcome named before prepares carries =
     compiled_by calling own args seed prepared outcome before prepares
     (subst (λ n. Noted notes' notes'' (λ events. Carried n mid journal'' prepared events outcome)) named carries)
 
 abbrev pub Declined : Facts → Calling → Option (List ℕ) → List (List ℕ) → ℕ → Stop → List HostEvent → Type 0
 Declined F' calling own args seed stop events = (G : Facts) → Extends F' G → IfTold stop (Refuses G calling own args seed events)
 
-refusal_said : {journal mid journal'' : List Event} {F' : Facts} {first notes notes' : List HostEvent} (calling : Calling) (own : Option (List ℕ)) (args : List (List ℕ)) (seed : ℕ)
+refusal_said : {journal mid journal'' : List Event} {F' : Facts} {first notes notes' : List HostEvent} (calling : Calling)
+    (own : Option (List ℕ)) (args : List (List ℕ)) (seed : ℕ)
     (text : List ℕ) (status : ℕ) → Going journal mid first notes F' → Noted notes notes' (Declined F' calling own args seed (Told text))
     → TellsStop mid journal'' (Told text) (Done status) → Compiled journal journal'' first notes' calling own args seed (Done status)
-refusal_said {journal} {F' = F'} {first = first} calling own args seed text status before (resolved, grown, refuses) (told, one, says) = record {
-  asked = before.asked;
-  tried = before.tried;
-  said = Say text told ∷ [];
-  resolved = resolved;
-  set = [];
-  facts = F';
-  questions = before.questions;
-  journal_grows = says ∙ ap (λ j. j ++ Say text told ∷ []) before.journal_grows;
-  notes_grow = grown ∙ ap (λ n. n ++ resolved) before.notes_grow ∙ sym (append-nil (first ++ before.tried ++ resolved));
-  goes_by = goes_by (Done status) before;
-  ends =
-      subst (λ s. Ends F' (length (journal ++ before.asked)) calling own args seed (Done s) resolved [] (Say text told ∷ [])) (sym one)
-      (refused (refuses F' (extends_refl F')));
-}
+refusal_said {journal} {F' = F'} {first = first} calling own args seed text status before (resolved, grown, refuses) (told, one, says) =
+    record {
+      asked = before.asked;
+      tried = before.tried;
+      said = Say text told ∷ [];
+      resolved = resolved;
+      set = [];
+      facts = F';
+      questions = before.questions;
+      journal_grows = says ∙ ap (λ j. j ++ Say text told ∷ []) before.journal_grows;
+      notes_grow = grown ∙ ap (λ n. n ++ resolved) before.notes_grow ∙ sym (append-nil (first ++ before.tried ++ resolved));
+      goes_by = goes_by (Done status) before;
+      ends =
+          subst (λ s. Ends F' (length (journal ++ before.asked)) calling own args seed (Done s) resolved [] (Say text told ∷ [])) (sym one)
+          (refused (refuses F' (extends_refl F')));
+    }
 
-pub compiled_stopped : {journal mid journal'' : List Event} {F' : Facts} {first notes notes' : List HostEvent} (calling : Calling) (own : Option (List ℕ)) (args : List (List ℕ)) (seed : ℕ)
+pub compiled_stopped : {journal mid journal'' : List Event} {F' : Facts} {first notes notes' : List HostEvent} (calling : Calling)
+    (own : Option (List ℕ)) (args : List (List ℕ)) (seed : ℕ)
     (stop : Stop) (outcome : Outcome) → Going journal mid first notes F' → Noted notes notes' (Declined F' calling own args seed stop)
     → TellsStop mid journal'' stop outcome → Compiled journal journal'' first notes' calling own args seed outcome
-compiled_stopped calling own args seed (Told text) (Done status) before declined tells = refusal_said calling own args seed text status before declined tells
+compiled_stopped calling own args seed (Told text) (Done status) before declined tells =
+    refusal_said calling own args seed text status before declined tells
 compiled_stopped calling own args seed Memory (Done status) before declined tells = absurd tells
 compiled_stopped calling own args seed stop (Unnoted status) before declined tells = absurd tells
-compiled_stopped {journal} {F' = F'} {first = first} calling own args seed stop OutOfMemory before (resolved, grown, refuses) same = record {
-  asked = before.asked;
-  tried = before.tried;
-  said = [];
-  resolved = resolved;
-  set = [];
-  facts = F';
-  questions = before.questions;
-  journal_grows = same ∙ before.journal_grows ∙ sym (append-nil (journal ++ before.asked));
-  notes_grow = grown ∙ ap (λ n. n ++ resolved) before.notes_grow ∙ sym (append-nil (first ++ before.tried ++ resolved));
-  goes_by = goes_by OutOfMemory before;
-  ends = cut_short tt;
-}
+compiled_stopped {journal} {F' = F'} {first = first} calling own args seed stop OutOfMemory before (resolved, grown, refuses) same =
+    record {
+      asked = before.asked;
+      tried = before.tried;
+      said = [];
+      resolved = resolved;
+      set = [];
+      facts = F';
+      questions = before.questions;
+      journal_grows = same ∙ before.journal_grows ∙ sym (append-nil (journal ++ before.asked));
+      notes_grow = grown ∙ ap (λ n. n ++ resolved) before.notes_grow ∙ sym (append-nil (first ++ before.tried ++ resolved));
+      goes_by = goes_by OutOfMemory before;
+      ends = cut_short tt;
+    }
 
 -- memory lacked before
 
-pub compiled_by_none : {journal mid : List Event} {notes notes' : List HostEvent} (calling : Calling) (own : Option (List ℕ)) (args : List (List ℕ)) (seed : ℕ)
+pub compiled_by_none : {journal mid : List Event} {notes notes' : List HostEvent} (calling : Calling) (own : Option (List ℕ))
+    (args : List (List ℕ)) (seed : ℕ)
     → BeginsToGo journal mid notes notes' → Compiled journal mid notes notes' calling own args seed OutOfMemory
 compiled_by_none {journal} {notes = notes} calling own args seed before = record {
   asked = before.asked;

@@ -5,7 +5,8 @@ use Rattle.drv_cc.specs.declared.answer.Call.{Call}
 use Rattle.drv_cc.specs.declared.refusal.Refusal.{Refusal}
 use Rattle.drv_compile.proofs.Worded.{stop_stays, told_as}
 use Rattle.drv_compile.specs.Compilers.{values}
-use Rattle.drv_compile.specs.Driven.{Drives, IsAnswered, IsCalled, IsDamaged, IsDenied, IsUnanswered, Undriven, answer_of, asks, damaged_after, damaged_texts, denied, not_answered, refuses, runs, stays}
+use Rattle.drv_compile.specs.Driven.{Drives, IsAnswered, IsCalled, IsDamaged, IsDenied, IsUnanswered, Undriven, answer_of, asks}
+use Rattle.drv_compile.specs.Driven.{damaged_after, damaged_texts, denied, not_answered, refuses, runs, stays}
 use Rattle.drv_compile.specs.Near.{AreTold}
 use Rattle.drv_compile.specs.SelfSpecs.{answer_given}
 use Rattle.drv_compile.specs.Tasks.{IfTold}
@@ -25,73 +26,101 @@ use Rattle.std.specs.Prelude.{MatchResult}
 
 -- what its spec files give
 
-pub answer_by_slices : (F : Facts) (chain : Toolchain) (given : Expanded) (first : Driven) (specs known : List ℕ) (words : List (List ℕ)) → specs ≡ chain.specs → known ≡ chain.known
+pub answer_by_slices : (F : Facts) (chain : Toolchain) (given : Expanded) (first : Driven) (specs known : List ℕ) (words : List (List ℕ))
+    → specs ≡ chain.specs → known ≡ chain.known
     → words ≡ given.words → answer_given F specs chain.around known words first.line ≡ answer_of F chain given first
 answer_by_slices F chain given first specs known words same_specs same_known same_words =
-    ap (λ s. answer_given F s chain.around known words first.line) same_specs ∙ ap (λ k. answer_given F chain.specs chain.around k words first.line) same_known
+    ap (λ s. answer_given F s chain.around known words first.line) same_specs
+    ∙ ap (λ k. answer_given F chain.specs chain.around k words first.line) same_known
     ∙ ap (λ w. answer_given F chain.specs chain.around chain.known w first.line) same_words
 
-pub answer_told : (F : Facts) (name : List ℕ) (chain : Toolchain) (given : Expanded) (first : Driven) (ending : Ending) (stop : Stop) → stop ≡ stop_of name ending
+pub answer_told : (F : Facts) (name : List ℕ) (chain : Toolchain) (given : Expanded) (first : Driven) (ending : Ending) (stop : Stop)
+    → stop ≡ stop_of name ending
     → (ending ≡ OutOfMemory) ⊎ (answer_of F chain given first ≡ Is (Err ending)) → IfTold stop (IsUnanswered F name chain given first)
-answer_told F name chain given first ending stop is stops = subst (λ s. IfTold s (IsUnanswered F name chain given first)) (sym is) (by ending stops)
+answer_told F name chain given first ending stop is stops =
+    subst (λ s. IfTold s (IsUnanswered F name chain given first)) (sym is) (by ending stops)
   where
-    ended : (ending : Ending) → answer_of F chain given first ≡ Is (Err ending) → IfTold (stop_of name ending) (IsUnanswered F name chain given first)
+    ended : (ending : Ending) → answer_of F chain given first ≡ Is (Err ending)
+        → IfTold (stop_of name ending) (IsUnanswered F name chain given first)
     ended (Refused refusal) gives = (refusal, gives, refl)
     ended (Done status) gives = tt
     ended OutOfMemory gives = tt
 
-    by : (ending : Ending) → (ending ≡ OutOfMemory) ⊎ (answer_of F chain given first ≡ Is (Err ending)) → IfTold (stop_of name ending) (IsUnanswered F name chain given first)
+    by : (ending : Ending) → (ending ≡ OutOfMemory) ⊎ (answer_of F chain given first ≡ Is (Err ending))
+        → IfTold (stop_of name ending) (IsUnanswered F name chain given first)
     by ending (inl memory) = subst (λ e. IfTold (stop_of name e) (IsUnanswered F name chain given first)) (sym memory) tt
     by ending (inr gives) = ended ending gives
 
 -- a line in its place
 
-pub answered_run : (F : Facts) (calling : Calling) (chain : Toolchain) (answer : Option Answer) (given : Expanded) (first : Driven) (call : Call) (specs : List ℕ) (result : Result Driven Stop)
+pub answered_run : (F : Facts) (calling : Calling) (chain : Toolchain) (answer : Option Answer) (given : Expanded) (first : Driven)
+    (call : Call) (specs : List ℕ) (result : Result Driven Stop)
     → answer ≡ Some (Run call) → specs ≡ chain.specs
     → MatchResult result (λ driven. IsCalled F specs call given driven) (λ stop. IfTold stop (IsDamaged F calling specs call))
-    → MatchResult result (λ driven. IsAnswered F chain.specs given first answer driven) (λ stop. IfTold stop (IsDenied F calling chain answer))
+    → MatchResult result (λ driven. IsAnswered F chain.specs given first answer driven)
+    (λ stop. IfTold stop (IsDenied F calling chain answer))
 answered_run F calling chain answer given first call specs (Ok driven) is same calls =
     subst (λ a. IsAnswered F chain.specs given first a driven) (sym is) (runs (subst (λ s. IsCalled F s call given driven) same calls))
 answered_run F calling chain answer given first call specs (Err stop) is same tells =
     subst (λ a. IfTold stop (IsDenied F calling chain a)) (sym is)
-    (told_as stop (IsDamaged F calling specs call) (IsDenied F calling chain (Some (Run call))) (λ text un. damaged_after (subst (λ s. IsDamaged F calling s call text) same un)) tells)
+    (told_as stop (IsDamaged F calling specs call) (IsDenied F calling chain (Some (Run call)))
+    (λ text un. damaged_after (subst (λ s. IsDamaged F calling s call text) same un)) tells)
 
-pub answered_refusal : (F : Facts) (calling : Calling) (chain : Toolchain) (answer : Option Answer) (refusals slice : List Refusal) (name known text : List ℕ)
-    → answer ≡ Some (Refuse refusals) → name ≡ calling.name → known ≡ chain.known → slice ≡ refusals → AreTold name (values [] known) slice text
+pub answered_refusal : (F : Facts) (calling : Calling) (chain : Toolchain) (answer : Option Answer) (refusals slice : List Refusal)
+    (name known text : List ℕ)
+    → answer ≡ Some (Refuse refusals) → name ≡ calling.name → known ≡ chain.known → slice ≡ refusals
+    → AreTold name (values [] known) slice text
     → IsDenied F calling chain answer text
 answered_refusal F calling chain answer refusals slice name known text is named same are told =
     subst (λ a. IsDenied F calling chain a text) (sym is)
     (refuses (subst (λ n. AreTold n (values [] chain.known) refusals text) named
     (subst (λ k. AreTold name (values [] k) refusals text) same (subst (λ rs. AreTold name (values [] known) rs text) are told))))
 
-pub answered_ask : (F : Facts) (specs : List ℕ) (given : Expanded) (first : Driven) (answer : Option Answer) → answer ≡ Some Ask → IsAnswered F specs given first answer first
+pub answered_ask : (F : Facts) (specs : List ℕ) (given : Expanded) (first : Driven) (answer : Option Answer) → answer ≡ Some Ask
+    → IsAnswered F specs given first answer first
 answered_ask F specs given first answer is = subst (λ a. IsAnswered F specs given first a first) (sym is) asks
 
-pub answered_none : (F : Facts) (specs : List ℕ) (given : Expanded) (first : Driven) (answer : Option Answer) → answer ≡ None → IsAnswered F specs given first answer first
+pub answered_none : (F : Facts) (specs : List ℕ) (given : Expanded) (first : Driven) (answer : Option Answer) → answer ≡ None
+    → IsAnswered F specs given first answer first
 answered_none F specs given first answer is = subst (λ a. IsAnswered F specs given first a first) (sym is) stays
 
 -- the steps of a line
 
-pub undriven_texts : (F : Facts) (calling : Calling) (chain : Toolchain) (call : Call) (given : Expanded) (specs : List ℕ) (stop : Stop) (result : Result Driven Stop) → specs ≡ chain.specs
+pub undriven_texts : (F : Facts) (calling : Calling) (chain : Toolchain) (call : Call) (given : Expanded) (specs : List ℕ) (stop : Stop)
+    (result : Result Driven Stop) → specs ≡ chain.specs
     → IsErrAnd result (λ s. s ≡ stop) → IfTold stop (IsDamaged F calling specs call)
     → MatchResult result (λ driven. Drives F chain call given driven) (λ s. IfTold s (Undriven F calling chain call given))
 undriven_texts F calling chain call given specs stop result same is tells =
     stop_stays result stop (λ driven. Drives F chain call given driven) (Undriven F calling chain call given) is
-    (told_as stop (IsDamaged F calling specs call) (Undriven F calling chain call given) (λ text un. damaged_texts (subst (λ s. IsDamaged F calling s call text) same un)) tells)
+    (told_as stop (IsDamaged F calling specs call) (Undriven F calling chain call given)
+    (λ text un. damaged_texts (subst (λ s. IsDamaged F calling s call text) same un)) tells)
 
-pub undriven_answer : (F : Facts) (calling : Calling) (chain : Toolchain) (call : Call) (given : Expanded) (specs name : List ℕ) (first : Driven) (stop : Stop) (result : Result Driven Stop)
-    → specs ≡ chain.specs → name ≡ calling.name → IsCalled F specs call given first → IsErrAnd result (λ s. s ≡ stop) → IfTold stop (IsUnanswered F name chain given first)
+pub undriven_answer : (F : Facts) (calling : Calling) (chain : Toolchain) (call : Call) (given : Expanded) (specs name : List ℕ)
+    (first : Driven) (stop : Stop) (result : Result Driven Stop)
+    → specs ≡ chain.specs → name ≡ calling.name → IsCalled F specs call given first → IsErrAnd result (λ s. s ≡ stop)
+    → IfTold stop (IsUnanswered F name chain given first)
     → MatchResult result (λ driven. Drives F chain call given driven) (λ s. IfTold s (Undriven F calling chain call given))
 undriven_answer F calling chain call given specs name first stop result same named called is tells =
     stop_stays result stop (λ driven. Drives F chain call given driven) (Undriven F calling chain call given) is
     (told_as stop (IsUnanswered F name chain given first) (Undriven F calling chain call given)
-    (λ text un. not_answered (subst (λ s. IsCalled F s call given first) same called) (subst (λ n. IsUnanswered F n chain given first text) named un)) tells)
+    (λ text un. not_answered (subst (λ s. IsCalled F s call given first) same called)
+    (subst (λ n. IsUnanswered F n chain given first text) named un)) tells)
 
-pub drives_by : (F : Facts) (calling : Calling) (chain : Toolchain) (call : Call) (given : Expanded) (specs : List ℕ) (first : Driven) (answer : Option Answer) (result : Result Driven Stop)
+pub drives_by : (F : Facts) (calling : Calling) (chain : Toolchain) (call : Call) (given : Expanded) (specs : List ℕ) (first : Driven)
+    (answer : Option Answer) (result : Result Driven Stop)
     → specs ≡ chain.specs → IsCalled F specs call given first → answer_of F chain given first ≡ Is (Ok answer)
-    → MatchResult result (λ driven. IsAnswered F chain.specs given first answer driven) (λ stop. IfTold stop (IsDenied F calling chain answer))
+    → MatchResult result (λ driven. IsAnswered F chain.specs given first answer driven)
+    (λ stop. IfTold stop (IsDenied F calling chain answer))
     → MatchResult result (λ driven. Drives F chain call given driven) (λ s. IfTold s (Undriven F calling chain call given))
 drives_by F calling chain call given specs first answer (Ok driven) same called gives answered =
-    record { first = first; answer = answer; called = subst (λ s. IsCalled F s call given first) same called; answers = gives; answered = answered }
+    record {
+      first = first;
+      answer = answer;
+      called = subst (λ s. IsCalled F s call given first) same called;
+      answers = gives;
+      answered =
+          answered;
+    }
 drives_by F calling chain call given specs first answer (Err stop) same called gives tells =
-    told_as stop (IsDenied F calling chain answer) (Undriven F calling chain call given) (λ text un. denied (subst (λ s. IsCalled F s call given first) same called) gives un) tells
+    told_as stop (IsDenied F calling chain answer) (Undriven F calling chain call given)
+    (λ text un. denied (subst (λ s. IsCalled F s call given first) same called) gives un) tells

@@ -1,4 +1,4 @@
-use Rattle.drv_compile.specs.Beside.{bytes_read, if_plain, is_written, named_file, or_own, plain_at, spec_file, written}
+use Rattle.drv_compile.specs.Beside.{bytes_read, if_plain, is_written, file_of_variable, or_own, plain_at, spec_file, written}
 use Rattle.drv_compile.specs.Written.{whole_lines}
 use Rattle.drv_search.specs.Search.{is_plain}
 use Rattle.drv_system.specs.Facts.{Facts, kind_of, read_of}
@@ -26,7 +26,7 @@ pub whole_read : (F : Facts) (path : List ℕ) (kind : PathKind) (answer : ReadA
 whole_read F path kind answer plain known read = rw (known, plain, read) refl
 
 pub file_found_so : {E : Type 0} (F : Facts) (own named place : Option (List ℕ)) (result : Result (Option (List ℕ)) E)
-    → named_file F ≡ Is named → place ≡ or_own own named → IfOk result (λ path. plain_at F place ≡ Is path)
+    → file_of_variable F ≡ Is named → place ≡ or_own own named → IfOk result (λ path. plain_at F place ≡ Is path)
     → IfOk result (λ path. spec_file F own ≡ Is path)
 file_found_so F own named place (Ok path) known so is = rw (known, sym so) is
 file_found_so F own named place (Err e) known so is = tt

@@ -10,7 +10,8 @@ use Rattle.drv_cc.specs.declared.giving.Given.{Given}
 use Rattle.drv_compile.specs.Beside.{known_names}
 use Rattle.drv_compile.specs.Reading.{items_names}
 use Rattle.drv_compile.specs.Runs.{specs_of}
-use Rattle.drv_compile.specs.SelfSpecs.{Ended, answer_after, answer_by, of_job, of_outcome, self_worked, worked_along, worked_by, worked_for, worked_of}
+use Rattle.drv_compile.specs.SelfSpecs.{Ended, answer_after, answer_by, of_job, of_outcome, self_worked, worked_along, worked_by}
+use Rattle.drv_compile.specs.SelfSpecs.{worked_for, worked_of}
 use Rattle.drv_compile.specs.SelfSpecs.{worked_over}
 use Rattle.drv_compile.specs.declared.running.DriverLine.{DriverLine}
 use Rattle.drv_compile.specs.declared.self_specs.Worked.TheVariants.{Gives, Nothing}
@@ -33,7 +34,8 @@ use Rattle.drv_syntax.specs.Parsed.{tree_of}
 use Rattle.drv_system.specs.Facts.{Facts}
 use Rattle.drv_system.specs.Gives.{GivesKnown}
 use Rattle.drv_system.specs.Known.{◌>>=◌, Is, Known}
-use Rattle.std.proofs.Common.{◌≡◌, ◌⊎◌, ◌∙◌, Err, IfOk, IsErrAnd, List, None, Ok, Option, Result, Some, ap, codes, inl, inr, refl, subst, sym, ℕ}
+use Rattle.std.proofs.Common.{◌≡◌, ◌⊎◌, ◌∙◌, Err, IfOk, IsErrAnd, List, None, Ok, Option, Result, Some, ap, codes, inl, inr, refl, subst}
+use Rattle.std.proofs.Common.{sym, ℕ}
 use Rattle.std.specs.Option.{option_map, unwrap_or}
 
 -- For the options that spec files give: the text of the self specs is run step by step.
@@ -55,17 +57,20 @@ pub text_worked : (found : Known (Result Outcome PlanFault)) (done : Outcome) (w
     → found ≡ Is (Ok done) → worked ≡ of_job done.job → of_outcome found ≡ Is (Ok worked)
 text_worked found done worked is job = ap of_outcome is ∙ ap (λ w. Is (Ok w)) (sym job)
 
-pub context_made : (F : Facts) (set : Set) (text : List ℕ) (line : Line) (prefixes : Prefixes) (context : Context) → context ≡ context_of line set prefixes 0
+pub context_made : (F : Facts) (set : Set) (text : List ℕ) (line : Line) (prefixes : Prefixes) (context : Context)
+    → context ≡ context_of line set prefixes 0
     → worked_along F set text line prefixes ≡ of_outcome (of_text (outcome F context (tree_of text)))
 context_made F set text line prefixes context made = ap (λ c. of_outcome (of_text (outcome F c (tree_of text)))) (sym made)
 
 pub prefixes_made : (F : Facts) (settings : Settings) (set : Set) (text : List ℕ) (line : Line) (dirs : List (List ℕ)) (prefixes : Prefixes)
-    → dirs ≡ settings.prefixes → prefixes_of F dirs ≡ Is prefixes → worked_for F settings set text (Ok line) ≡ worked_along F set text line prefixes
+    → dirs ≡ settings.prefixes → prefixes_of F dirs ≡ Is prefixes
+    → worked_for F settings set text (Ok line) ≡ worked_along F set text line prefixes
 prefixes_made F settings set text line dirs prefixes same known =
     ap (λ d. prefixes_of F d >>= worked_along F set text line) (sym same) ∙ ap (λ k. k >>= worked_along F set text line) known
 
 by_plan : (fault : PlanFault) (found : Known (Result Outcome PlanFault)) (defined : Ended Worked) → defined ≡ of_outcome found
-    → (fault ≡ plan_fault.Memory) ⊎ (found ≡ Is (Err fault)) → (stopped_by_plan fault ≡ OutOfMemory) ⊎ (defined ≡ Is (Err (stopped_by_plan fault)))
+    → (fault ≡ plan_fault.Memory) ⊎ (found ≡ Is (Err fault))
+    → (stopped_by_plan fault ≡ OutOfMemory) ⊎ (defined ≡ Is (Err (stopped_by_plan fault)))
 by_plan fault found defined same (inl memory) = inl (ap stopped_by_plan memory)
 by_plan fault found defined same (inr refused) = inr (same ∙ ap of_outcome refused)
 
@@ -76,38 +81,47 @@ text_refused found fault result is given =
     ends_as (stopped_by_plan fault) result (λ worked. worked) (of_outcome found) is (by_plan fault found (of_outcome found) refl given)
 
 -- the line of the switches
-by_args : (fault : ArgsFault) (read : Result Line ArgsFault) (next : Result Line ArgsFault → Ended Worked) → next (Err fault) ≡ Is (Err (stopped_by_args fault))
-    → (fault ≡ args_fault.Memory) ⊎ (read ≡ Err fault) → (stopped_by_args fault ≡ OutOfMemory) ⊎ (next read ≡ Is (Err (stopped_by_args fault)))
+by_args : (fault : ArgsFault) (read : Result Line ArgsFault) (next : Result Line ArgsFault → Ended Worked)
+    → next (Err fault) ≡ Is (Err (stopped_by_args fault))
+    → (fault ≡ args_fault.Memory) ⊎ (read ≡ Err fault)
+    → (stopped_by_args fault ≡ OutOfMemory) ⊎ (next read ≡ Is (Err (stopped_by_args fault)))
 by_args fault read next stops (inl memory) = inl (ap stopped_by_args memory)
 by_args fault read next stops (inr refused) = inr (ap next refused ∙ stops)
 
-pub line_refused : (fault : ArgsFault) (read : Result Line ArgsFault) (next : Result Line ArgsFault → Ended Worked) (result : Result Worked Ending) → next (Err fault) ≡ Is (Err (stopped_by_args fault))
-    → IsErrAnd result (λ e. e ≡ stopped_by_args fault) → (fault ≡ args_fault.Memory) ⊎ (read ≡ Err fault) → GivesKnown OutOfMemory (λ worked. worked) result (next read)
+pub line_refused : (fault : ArgsFault) (read : Result Line ArgsFault) (next : Result Line ArgsFault → Ended Worked)
+    (result : Result Worked Ending) → next (Err fault) ≡ Is (Err (stopped_by_args fault))
+    → IsErrAnd result (λ e. e ≡ stopped_by_args fault) → (fault ≡ args_fault.Memory) ⊎ (read ≡ Err fault)
+    → GivesKnown OutOfMemory (λ worked. worked) result (next read)
 line_refused fault read next result stops is given =
     ends_as (stopped_by_args fault) result (λ worked. worked) (next read) is (by_args fault read next stops given)
 
 -- the specs that are loaded
 by_specs : (fault : SpecsFault) (F : Facts) (own : Line) (judged read : Result Line ArgsFault) → read ≡ Ok own
-    → (fault ≡ specs_fault.Memory) ⊎ (specs_of F own.settings ≡ Is (Err fault)) → (stopped_by_specs fault ≡ OutOfMemory) ⊎ (worked_of F judged read ≡ Is (Err (stopped_by_specs fault)))
+    → (fault ≡ specs_fault.Memory) ⊎ (specs_of F own.settings ≡ Is (Err fault))
+    → (stopped_by_specs fault ≡ OutOfMemory) ⊎ (worked_of F judged read ≡ Is (Err (stopped_by_specs fault)))
 by_specs fault F own judged read reads (inl memory) = inl (ap stopped_by_specs memory)
 by_specs fault F own judged read reads (inr refused) = inr (ap (worked_of F judged) reads ∙ ap (worked_over F own.settings judged) refused)
 
-pub specs_refused : (fault : SpecsFault) (F : Facts) (own : Line) (judged read : Result Line ArgsFault) (result : Result Worked Ending) → read ≡ Ok own
+pub specs_refused : (fault : SpecsFault) (F : Facts) (own : Line) (judged read : Result Line ArgsFault) (result : Result Worked Ending)
+    → read ≡ Ok own
     → IsErrAnd result (λ e. e ≡ stopped_by_specs fault) → (fault ≡ specs_fault.Memory) ⊎ (specs_of F own.settings ≡ Is (Err fault))
     → GivesKnown OutOfMemory (λ worked. worked) result (worked_of F judged read)
 specs_refused fault F own judged read result reads is given =
     ends_as (stopped_by_specs fault) result (λ worked. worked) (worked_of F judged read) is (by_specs fault F own judged read reads given)
 
-pub specs_go : (F : Facts) (own : Line) (set : Set) (judged read : Result Line ArgsFault) → read ≡ Ok own → specs_of F own.settings ≡ Is (Ok set)
+pub specs_go : (F : Facts) (own : Line) (set : Set) (judged read : Result Line ArgsFault) → read ≡ Ok own
+    → specs_of F own.settings ≡ Is (Ok set)
     → worked_of F judged read ≡ worked_by F own.settings set judged (text_of set (codes "gdrv_self"))
 specs_go F own set judged read reads loads = ap (worked_of F judged) reads ∙ ap (worked_over F own.settings judged) loads
 
 -- the text, if there is one
-pub text_there : {T : Type 0} (now : T → List ℕ) (lent : Option T) (text : T) (F : Facts) (settings : Settings) (set : Set) (line : Result Line ArgsFault) (found : Option (List ℕ))
+pub text_there : {T : Type 0} (now : T → List ℕ) (lent : Option T) (text : T) (F : Facts) (settings : Settings) (set : Set)
+    (line : Result Line ArgsFault) (found : Option (List ℕ))
     → option_map now lent ≡ found → lent ≡ Some text → worked_by F settings set line found ≡ worked_for F settings set (now text) line
 text_there now lent text F settings set line found shows is = ap (worked_by F settings set line) (sym shows ∙ ap (option_map now) is)
 
-pub no_text : {T : Type 0} (now : T → List ℕ) (lent : Option T) (F : Facts) (settings : Settings) (set : Set) (line : Result Line ArgsFault) (found : Option (List ℕ))
+pub no_text : {T : Type 0} (now : T → List ℕ) (lent : Option T) (F : Facts) (settings : Settings) (set : Set) (line : Result Line ArgsFault)
+    (found : Option (List ℕ))
     → option_map now lent ≡ found → lent ≡ None → worked_by F settings set line found ≡ Is (Ok Nothing)
 no_text now lent F settings set line found shows is = ap (worked_by F settings set line) (sym shows ∙ ap (option_map now) is)
 
@@ -115,10 +129,13 @@ no_text now lent F settings set line found shows is = ap (worked_by F settings s
 abbrev with_names : Surroundings → List ℕ → List (List ℕ) → Given → Option (List ℕ) → List (List ℕ) → Ended (Option Answer)
 with_names around known args given options named = Is (Ok (Some (front_with (unwrap_or options known) named around args given)))
 
-pub options_given : {E : Type 0} (F : Facts) (specs : List ℕ) (around : Surroundings) (known : List ℕ) (args : List (List ℕ)) (first : DriverLine) (given : Given)
-    (options : Option (List ℕ)) (all : List Item) (named : List (List ℕ)) (names : List ℕ) (slice : List (List ℕ)) (result : Result Answer E)
+pub options_given : {E : Type 0} (F : Facts) (specs : List ℕ) (around : Surroundings) (known : List ℕ) (args : List (List ℕ))
+    (first : DriverLine) (given : Given)
+    (options : Option (List ℕ)) (all : List Item) (named : List (List ℕ)) (names : List ℕ) (slice : List (List ℕ))
+    (result : Result Answer E)
     → known_names F specs ≡ Is options → all ≡ first.items → items_names F all ≡ Is named → names ≡ unwrap_or options known → slice ≡ named
-    → IfOk result (λ answer. answer ≡ front_with names slice around args given) → IfOk result (λ answer. answer_by F specs around known args first (Gives given) ≡ Is (Ok (Some answer)))
+    → IfOk result (λ answer. answer ≡ front_with names slice around args given)
+    → IfOk result (λ answer. answer_by F specs around known args first (Gives given) ≡ Is (Ok (Some answer)))
 options_given F specs around known args first given options all named names slice (Err e) asked same found names_are slice_is is = tt
 options_given F specs around known args first given options all named names slice (Ok answer) asked same found names_are slice_is is =
     ap (λ k. k >>= λ o. items_names F first.items >>= λ n. with_names around known args given o n) asked
@@ -132,21 +149,27 @@ options_given F specs around known args first given options all named names slic
 abbrev after_work : Facts → List ℕ → Surroundings → List ℕ → List (List ℕ) → DriverLine → List Item → Ended (Option Answer)
 after_work F specs around known args first items = answer_after F specs around known args first (self_worked F first items)
 
-by_work : (F : Facts) (specs : List ℕ) (around : Surroundings) (known : List ℕ) (args : List (List ℕ)) (first : DriverLine) (items : List Item) (ending : Ending)
+by_work : (F : Facts) (specs : List ℕ) (around : Surroundings) (known : List ℕ) (args : List (List ℕ)) (first : DriverLine)
+    (items : List Item) (ending : Ending)
     → items ≡ seen_items known args → (ending ≡ OutOfMemory) ⊎ (self_worked F first items ≡ Is (Err ending))
     → (ending ≡ OutOfMemory) ⊎ (after_work F specs around known args first (seen_items known args) ≡ Is (Err ending))
 by_work F specs around known args first items ending are (inl memory) = inl memory
 by_work F specs around known args first items ending are (inr ends) =
     inr (ap (after_work F specs around known args first) (sym are) ∙ ap (answer_after F specs around known args first) ends)
 
-pub work_ends : (F : Facts) (specs : List ℕ) (around : Surroundings) (known : List ℕ) (args : List (List ℕ)) (first : DriverLine) (items : List Item) (ending : Ending) (result : Result (Option Answer) Ending)
-    → items ≡ seen_items known args → IsErrAnd result (λ e. e ≡ ending) → (ending ≡ OutOfMemory) ⊎ (self_worked F first items ≡ Is (Err ending))
+pub work_ends : (F : Facts) (specs : List ℕ) (around : Surroundings) (known : List ℕ) (args : List (List ℕ)) (first : DriverLine)
+    (items : List Item) (ending : Ending) (result : Result (Option Answer) Ending)
+    → items ≡ seen_items known args → IsErrAnd result (λ e. e ≡ ending)
+    → (ending ≡ OutOfMemory) ⊎ (self_worked F first items ≡ Is (Err ending))
     → GivesKnown OutOfMemory (λ answer. answer) result (after_work F specs around known args first (seen_items known args))
 work_ends F specs around known args first items ending result are is given =
-    ends_as ending result (λ answer. answer) (after_work F specs around known args first (seen_items known args)) is (by_work F specs around known args first items ending are given)
+    ends_as ending result (λ answer. answer) (after_work F specs around known args first (seen_items known args)) is
+    (by_work F specs around known args first items ending are given)
 
-pub work_answers : (F : Facts) (specs : List ℕ) (around : Surroundings) (known : List ℕ) (args : List (List ℕ)) (first : DriverLine) (items : List Item) (worked : Worked) (answer : Option Answer)
-    → items ≡ seen_items known args → self_worked F first items ≡ Is (Ok worked) → answer_by F specs around known args first worked ≡ Is (Ok answer)
+pub work_answers : (F : Facts) (specs : List ℕ) (around : Surroundings) (known : List ℕ) (args : List (List ℕ)) (first : DriverLine)
+    (items : List Item) (worked : Worked) (answer : Option Answer)
+    → items ≡ seen_items known args → self_worked F first items ≡ Is (Ok worked)
+    → answer_by F specs around known args first worked ≡ Is (Ok answer)
     → after_work F specs around known args first (seen_items known args) ≡ Is (Ok answer)
 work_answers F specs around known args first items worked answer are done is =
     ap (after_work F specs around known args first) (sym are) ∙ ap (answer_after F specs around known args first) done ∙ is

@@ -15,17 +15,22 @@ use Rattle.std.proofs.Common.{◌≡◌, ◌∙◌, Err, IfOk, List, [], None, O
 
 -- For the functions of `tasks`: what a call does by the answer to its line.
 
-pub answer_asks : (specs : List ℕ) (around : Surroundings) (reading : Reading) → reading.answer ≡ Ask → Leads (Read specs around reading) (Question specs around.compiler)
-answer_asks specs around reading is = subst (λ a. Leads (Read specs around (record { known = reading.known; answer = a })) (Question specs around.compiler)) (sym is) asks
+pub answer_asks : (specs : List ℕ) (around : Surroundings) (reading : Reading) → reading.answer ≡ Ask
+    → Leads (Read specs around reading) (Question specs around.compiler)
+answer_asks specs around reading is = subst (λ a. Leads (Read specs around (record { known = reading.known; answer = a }))
+    (Question specs around.compiler)) (sym is) asks
 
 pub answer_runs : (specs : List ℕ) (around : Surroundings) (reading : Reading) (call : Call) → reading.answer ≡ Run call
     → Leads (Read specs around reading) (Compilation (record { specs = specs; around = around; known = reading.known }) call)
 answer_runs specs around reading call is =
-    subst (λ a. Leads (Read specs around (record { known = reading.known; answer = a })) (Compilation (record { specs = specs; around = around; known = reading.known }) call))
+    subst (λ a. Leads (Read specs around (record { known = reading.known; answer = a }))
+    (Compilation (record { specs = specs; around = around; known = reading.known }) call))
     (sym is) runs
 
-pub answer_refused : (calling : Calling) (specs : List ℕ) (around : Surroundings) (reading : Reading) (refusals slice : List Refusal) (name known text : List ℕ)
-    → reading.answer ≡ Refuse refusals → name ≡ calling.name → known ≡ reading.known → slice ≡ refusals → AreTold name (values [] known) slice text
+pub answer_refused : (calling : Calling) (specs : List ℕ) (around : Surroundings) (reading : Reading) (refusals slice : List Refusal)
+    (name known text : List ℕ)
+    → reading.answer ≡ Refuse refusals → name ≡ calling.name → known ≡ reading.known → slice ≡ refusals
+    → AreTold name (values [] known) slice text
     → Declines calling (Read specs around reading) text
 answer_refused calling specs around reading refusals slice name known text is named same are told =
     subst (λ a. Declines calling (Read specs around (record { known = reading.known; answer = a })) text) (sym is)
@@ -34,16 +39,19 @@ answer_refused calling specs around reading refusals slice name known text is na
 
 -- the text where there is no spec file
 
-pub specs_declined : {E : Type 0} (calling : Calling) (given : Option (List ℕ)) (path name place machine : List ℕ) (result : Result (List ℕ) E) → given ≡ Some path
+pub specs_declined : {E : Type 0} (calling : Calling) (given : Option (List ℕ)) (path name place machine : List ℕ)
+    (result : Result (List ℕ) E) → given ≡ Some path
     → name ≡ calling.name → place ≡ path → machine ≡ calling.machine → IfOk result (λ text. text ≡ no_specs_text name place machine)
     → IfOk result (λ text. Declines calling (NoSpecs given) text)
 specs_declined calling given path name place machine (Err e) some named placed built is = tt
 specs_declined calling given path name place machine (Ok text) some named placed built is =
     subst (λ g. Declines calling (NoSpecs g) text) (sym some)
     (subst (λ t. Declines calling (NoSpecs (Some path)) t)
-    (sym (is ∙ ap (λ n. no_specs_text n place machine) named ∙ ap (λ p. no_specs_text calling.name p machine) placed ∙ ap (no_specs_text calling.name path) built)) no_specs)
+    (sym (is ∙ ap (λ n. no_specs_text n place machine) named ∙ ap (λ p. no_specs_text calling.name p machine) placed
+    ∙ ap (no_specs_text calling.name path) built)) no_specs)
 
-pub place_declined : {E : Type 0} (calling : Calling) (given : Option (List ℕ)) (name : List ℕ) (result : Result (List ℕ) E) → given ≡ None → name ≡ calling.name
+pub place_declined : {E : Type 0} (calling : Calling) (given : Option (List ℕ)) (name : List ℕ) (result : Result (List ℕ) E) → given ≡ None
+    → name ≡ calling.name
     → IfOk result (λ text. text ≡ no_place_text name) → IfOk result (λ text. Declines calling (NoSpecs given) text)
 place_declined calling given name (Err e) none named is = tt
 place_declined calling given name (Ok text) none named is =
@@ -52,15 +60,19 @@ place_declined calling given name (Ok text) none named is =
 
 -- and for lack of a compiler or of a whole file
 
-pub compiler_declined : (calling : Calling) (decision : Decision) (specs name slice machine text : List ℕ) → decision ≡ NoCompiler specs → name ≡ calling.name → slice ≡ specs
+pub compiler_declined : (calling : Calling) (decision : Decision) (specs name slice machine text : List ℕ) → decision ≡ NoCompiler specs
+    → name ≡ calling.name → slice ≡ specs
     → machine ≡ calling.machine → text ≡ no_compiler_text name slice machine → Declines calling decision text
 compiler_declined calling decision specs name slice machine text decided named same built is =
     subst (λ d. Declines calling d text) (sym decided)
     (subst (λ t. Declines calling (NoCompiler specs) t)
-    (sym (is ∙ ap (λ n. no_compiler_text n slice machine) named ∙ ap (λ s. no_compiler_text calling.name s machine) same ∙ ap (no_compiler_text calling.name specs) built)) no_compiler)
+    (sym (is ∙ ap (λ n. no_compiler_text n slice machine) named ∙ ap (λ s. no_compiler_text calling.name s machine) same
+    ∙ ap (no_compiler_text calling.name specs) built)) no_compiler)
 
-pub damaged_declined : (calling : Calling) (decision : Decision) (specs path name slice place machine text : List ℕ) → decision ≡ Damaged specs path → name ≡ calling.name
-    → slice ≡ specs → place ≡ path → machine ≡ calling.machine → text ≡ damaged_text name place slice machine → Declines calling decision text
+pub damaged_declined : (calling : Calling) (decision : Decision) (specs path name slice place machine text : List ℕ)
+    → decision ≡ Damaged specs path → name ≡ calling.name
+    → slice ≡ specs → place ≡ path → machine ≡ calling.machine → text ≡ damaged_text name place slice machine
+    → Declines calling decision text
 damaged_declined calling decision specs path name slice place machine text decided named same placed built is =
     subst (λ d. Declines calling d text) (sym decided)
     (subst (λ t. Declines calling (Damaged specs path) t)

@@ -9,7 +9,9 @@ use Rattle.drv_cc.specs.declared.refusal.Refusal.{Refusal}
 use Rattle.drv_compile.specs.Beside.{bytes_read, known_names}
 use Rattle.drv_compile.specs.Code.Naming.{items_at, items_beside, items_named}
 use Rattle.drv_compile.specs.Places.{companion}
-use Rattle.drv_compile.specs.Reading.{answer_names, file_names, files_names, folders_given, has_unknown, items_names, kept, known_answer, line_read, names_read, or_by_files, read_beside, read_by, reads_again, refused_answer, specs_given, unknown_switches}
+use Rattle.drv_compile.specs.Reading.{answer_names, file_names, files_names, folders_given, has_unknown, items_names, kept, known_answer}
+use Rattle.drv_compile.specs.Reading.{line_read, names_read, or_by_files, read_beside, read_by, reads_again, refused_answer, specs_given}
+use Rattle.drv_compile.specs.Reading.{unknown_switches}
 use Rattle.drv_compile.specs.Written.{whole_lines}
 use Rattle.drv_compile.specs.declared.reading.Reading.{Reading}
 use Rattle.drv_search.specs.Search.{Adds, file_found, is_plain, prefixes_of}
@@ -19,7 +21,8 @@ use Rattle.drv_system.specs.Known.{◌>>=◌, Is, Known, Unasked}
 use Rattle.drv_system.specs.declared.event.PathKind.{PathKind}
 use Rattle.drv_system.specs.declared.event.ReadAnswer.TheVariants as read_answer
 use Rattle.drv_system.specs.declared.event.ReadAnswer.{ReadAnswer}
-use Rattle.std.proofs.Common.{◌≡◌, ◌<◌, ◌+◌, ◌∙◌, ◌∷◌, ◌++◌, [], Bool, Err, IfOk, List, None, Ok, OnOk, Option, Result, Some, ap, append_assoc, codes, drop, false, length, refl, sym, true, ℕ}
+use Rattle.std.proofs.Common.{◌≡◌, ◌<◌, ◌+◌, ◌∙◌, ◌∷◌, ◌++◌, [], Bool, Err, IfOk, List, None, Ok, OnOk, Option, Result, Some, ap}
+use Rattle.std.proofs.Common.{append_assoc, codes, drop, false, length, refl, sym, true, ℕ}
 use Rattle.std.proofs.lemmas.Bool.{false≢true}
 use Rattle.std.proofs.lemmas.List.{drop_more}
 use Rattle.std.specs.Option.{option_and_then, unwrap_or}
@@ -53,14 +56,16 @@ file_more F prefixes files i file done after below here (names, is, grown) so_fa
     ∙ so_far
 
 -- the names of one file, which was found and read
-pub file_read : {X E : Type 0} (F : Facts) (prefixes : Prefixes) (file path : List ℕ) (answer : ReadAnswer) (before after : List (List ℕ)) (result : Result X E)
+pub file_read : {X E : Type 0} (F : Facts) (prefixes : Prefixes) (file path : List ℕ) (answer : ReadAnswer) (before after : List (List ℕ))
+    (result : Result X E)
     → file_found F prefixes file ≡ Is path → read_of F path ≡ Some answer → OnOk result (after ≡ before ++ names_read answer)
     → OnOk result (Adds (file_names F prefixes file) before after)
 file_read F prefixes file path answer before after (Ok x) found read grown = (names_read answer, rw (found, read) refl, grown)
 file_read F prefixes file path answer before after (Err e) found read grown = tt
 
 -- those of items of the driver's line
-pub items_read : {E : Type 0} (F : Facts) (items : List Item) (dirs files : List (List ℕ)) (prefixes : Prefixes) (result : Result (List (List ℕ)) E)
+pub items_read : {E : Type 0} (F : Facts) (items : List Item) (dirs files : List (List ℕ)) (prefixes : Prefixes)
+    (result : Result (List (List ℕ)) E)
     → dirs ≡ folders_given items → files ≡ specs_given items → prefixes_of F dirs ≡ Is prefixes
     → IfOk result (λ names. files_names F prefixes files ≡ Is names) → IfOk result (λ names. items_names F items ≡ Is names)
 items_read F items dirs files prefixes (Err e) dirs_are files_are made is = tt
@@ -70,10 +75,12 @@ items_read F items dirs files prefixes (Ok names) dirs_are files_are made is = r
 pub refused_read : {E : Type 0} (F : Facts) (known : List ℕ) (around : Surroundings) (words : List (List ℕ)) (refusals : List Refusal)
     (switches : List (List ℕ)) (taken : Answer) (named slice : List (List ℕ)) (result : Result Answer E)
     → switches ≡ unknown_switches refusals → taken ≡ front_of known switches around words → answer_names F taken ≡ Is named → slice ≡ named
-    → IfOk result (λ answer. answer ≡ front_of known slice around words) → IfOk result (λ answer. refused_answer F known around words refusals ≡ Is answer)
+    → IfOk result (λ answer. answer ≡ front_of known slice around words)
+    → IfOk result (λ answer. refused_answer F known around words refusals ≡ Is answer)
 refused_read F known around words refusals switches taken named slice (Err e) switches_are taken_is names same is = tt
 refused_read F known around words refusals switches taken named slice (Ok answer) switches_are taken_is names same is =
-    ap (λ a. answer_names F a >>= λ n. Is (front_of known n around words)) (ap (λ s. front_of known s around words) (sym switches_are) ∙ sym taken_is)
+    ap (λ a. answer_names F a >>= λ n. Is (front_of known n around words))
+    (ap (λ s. front_of known s around words) (sym switches_are) ∙ sym taken_is)
     ∙ ap (λ k. k >>= λ n. Is (front_of known n around words)) names
     ∙ ap (λ n. Is (front_of known n around words)) (sym same)
     ∙ ap Is (sym is)
@@ -84,9 +91,12 @@ pub refused_again : {E : Type 0} (F : Facts) (known : List ℕ) (around : Surrou
     → items ≡ items_of known None words → switches ≡ unknown_switches refusals → taken ≡ answer_of switches around items
     → answer_names F taken ≡ Is named → slice ≡ named → IfOk result (λ answer. answer ≡ answer_of slice around items)
     → IfOk result (λ answer. refused_answer F known around words refusals ≡ Is answer)
-refused_again {E = E} F known around words refusals items switches taken named slice (Err e) items_are switches_are taken_is names same is = tt
-refused_again {E = E} F known around words refusals items switches taken named slice (Ok answer) items_are switches_are taken_is names same is =
-    refused_read {E = E} F known around words refusals switches taken named slice (Ok answer) switches_are (taken_is ∙ ap (answer_of switches around) items_are) names same
+refused_again {E = E} F known around words refusals items switches taken named slice (Err e) items_are switches_are taken_is names same is =
+    tt
+refused_again {E = E} F known around words refusals items switches taken named slice
+    (Ok answer) items_are switches_are taken_is names same is =
+    refused_read {E = E} F known around words refusals switches taken named slice (Ok answer) switches_are
+    (taken_is ∙ ap (answer_of switches around) items_are) names same
     (is ∙ ap (answer_of slice around) items_are)
 
 -- the answer to a line that is not refused, and to one that is
@@ -100,9 +110,11 @@ pub known_ended : (F : Facts) (known : List ℕ) (around : Surroundings) (words 
     → items ≡ items_of known None words → answer ≡ answer_of [] around items → ((refusals : List Refusal) → answer ≡ Refuse refusals → ⊥)
     → known_answer F known around words ≡ Is answer
 known_ended F known around words items answer items_are is not_refused =
-    ap (or_by_files F known around words) (ap (answer_of [] around) (sym items_are) ∙ sym is) ∙ ended F known around words answer not_refused
+    ap (or_by_files F known around words) (ap (answer_of [] around) (sym items_are) ∙ sym is)
+    ∙ ended F known around words answer not_refused
 
-pub known_refused : {E : Type 0} (F : Facts) (known : List ℕ) (around : Surroundings) (words : List (List ℕ)) (items : List Read) (answer : Answer)
+pub known_refused : {E : Type 0} (F : Facts) (known : List ℕ) (around : Surroundings) (words : List (List ℕ)) (items : List Read)
+    (answer : Answer)
     (refusals slice : List Refusal) (result : Result Answer E) → items ≡ items_of known None words → answer ≡ answer_of [] around items
     → answer ≡ Refuse refusals → slice ≡ refusals → IfOk result (λ a. refused_answer F known around words slice ≡ Is a)
     → IfOk result (λ a. known_answer F known around words ≡ Is a)
@@ -127,25 +139,30 @@ or_nothing Unasked = []
 or_nothing (Is None) = []
 or_nothing (Is (Some xs)) = xs
 
-pub whole_named : (words : List (List ℕ)) (answer : ReadAnswer) (text slice : List ℕ) (found : Option (List ℕ)) (names : List ℕ) (named : List Read)
+pub whole_named : (words : List (List ℕ)) (answer : ReadAnswer) (text slice : List ℕ) (found : Option (List ℕ)) (names : List ℕ)
+    (named : List Read)
     → answer ≡ read_answer.Read text → slice ≡ text → found ≡ whole_lines slice → found ≡ Some names → named ≡ items_of names None words
     → Some named ≡ items_named words (option_and_then whole_lines (bytes_read answer))
 whole_named words answer text slice found names named is same seen some named_is =
     ap Some named_is ∙ ap (items_named words) (sym some ∙ seen ∙ ap whole_lines same)
     ∙ ap (λ a. items_named words (option_and_then whole_lines (bytes_read a))) (sym is)
 
-pub items_read_at : {E : Type 0} (F : Facts) (path : List ℕ) (words : List (List ℕ)) (kind : PathKind) (answer : ReadAnswer) (result : Result (Option (List Read)) E)
+pub items_read_at : {E : Type 0} (F : Facts) (path : List ℕ) (words : List (List ℕ)) (kind : PathKind) (answer : ReadAnswer)
+    (result : Result (Option (List Read)) E)
     → is_plain kind ≡ true → kind_of F path ≡ Some kind → read_of F path ≡ Some answer
-    → IfOk result (λ named. named ≡ items_named words (option_and_then whole_lines (bytes_read answer))) → IfOk result (λ named. items_at F path words ≡ Is named)
+    → IfOk result (λ named. named ≡ items_named words (option_and_then whole_lines (bytes_read answer)))
+    → IfOk result (λ named. items_at F path words ≡ Is named)
 items_read_at F path words kind answer (Ok named) plain known read is = rw (known, plain, read, is) refl
 items_read_at F path words kind answer (Err e) plain known read is = tt
 
-pub items_known : {E : Type 0} (F : Facts) (specs path : List ℕ) (words : List (List ℕ)) (result : Result (Option (List Read)) E) → path ≡ companion specs (codes ".options")
+pub items_known : {E : Type 0} (F : Facts) (specs path : List ℕ) (words : List (List ℕ)) (result : Result (Option (List Read)) E)
+    → path ≡ companion specs (codes ".options")
     → IfOk result (λ named. items_at F path words ≡ Is named) → IfOk result (λ named. items_beside F specs words ≡ Is named)
 items_known F specs path words (Ok named) is read = ap (λ p. items_at F p words) (sym is) ∙ read
 items_known F specs path words (Err e) is read = tt
 
-pub kept_so : (F : Facts) (specs : List ℕ) (answer : Answer) (known : List ℕ) (found : Option (List ℕ)) (names : List ℕ) → reads_again answer ≡ true
+pub kept_so : (F : Facts) (specs : List ℕ) (answer : Answer) (known : List ℕ) (found : Option (List ℕ)) (names : List ℕ)
+    → reads_again answer ≡ true
     → known_names F specs ≡ Is (Some known) → known_names F specs ≡ Is found → names ≡ unwrap_or found [] → names ≡ kept answer known
 kept_so F specs answer known found names reads some is names_are = rw reads (names_are ∙ from_found found ∙ ap or_nothing (sym is ∙ some))
   where
@@ -153,7 +170,8 @@ kept_so F specs answer known found names reads some is names_are = rw reads (nam
     from_found None = refl
     from_found (Some xs) = refl
 
-pub read_named : (F : Facts) (specs : List ℕ) (around : Surroundings) (words : List (List ℕ)) (named : Option (List Read)) (items : List Read) (answer : Answer) (names : List ℕ)
+pub read_named : (F : Facts) (specs : List ℕ) (around : Surroundings) (words : List (List ℕ)) (named : Option (List Read))
+    (items : List Read) (answer : Answer) (names : List ℕ)
     → items_beside F specs words ≡ Is named → named ≡ Some items
     → ((known : List ℕ) → items ≡ items_of known None words → known_answer F known around words ≡ Is answer)
     → ((known : List ℕ) → known_names F specs ≡ Is (Some known) → names ≡ kept answer known)
@@ -165,28 +183,34 @@ read_named F specs around words named items answer names asked some answers keep
     by Unasked is none = absurd (false≢true (ap is_there (none ∙ ap Is some)))
     by (Is None) is none = absurd (false≢true (ap is_there (none ∙ ap Is some)))
     by (Is (Some known)) is there =
-        ap (λ k. k >>= λ a. Is (Some (record { known = kept a known; answer = a }))) (answers known (sym (ap or_nothing (there ∙ ap Is some))))
+        ap (λ k. k >>= λ a. Is (Some (record { known = kept a known; answer = a })))
+        (answers known (sym (ap or_nothing (there ∙ ap Is some))))
         ∙ ap (λ n. Is (Some (record { known = n; answer = answer }))) (sym (keeps known is))
 
 pub read_unnamed : (F : Facts) (specs : List ℕ) (around : Surroundings) (words : List (List ℕ)) (named : Option (List Read))
     → items_beside F specs words ≡ Is named → named ≡ None → read_beside F specs around words ≡ Is None
 read_unnamed F specs around words named asked none = by (known_names F specs) asked
   where
-    by : (found : Known (Option (List ℕ))) → (found >>= λ known. Is (items_named words known)) ≡ Is named → (found >>= λ known. read_by F around words known) ≡ Is None
+    by : (found : Known (Option (List ℕ))) → (found >>= λ known. Is (items_named words known)) ≡ Is named
+        → (found >>= λ known. read_by F around words known) ≡ Is None
     by Unasked is = absurd (false≢true (ap is_asked is))
     by (Is None) is = refl
     by (Is (Some known)) is = absurd (false≢true (sym (ap is_there (is ∙ ap Is none))))
 
 -- a line with an unknown word
-pub line_unknown : {E : Type 0} (F : Facts) (specs : List ℕ) (around : Surroundings) (words : List (List ℕ)) (answer : Answer) (result : Result (Option Reading) E)
+pub line_unknown : {E : Type 0} (F : Facts) (specs : List ℕ) (around : Surroundings) (words : List (List ℕ)) (answer : Answer)
+    (result : Result (Option Reading) E)
     → answer ≡ front_of [] [] around words → has_unknown answer ≡ true
-    → IfOk result (λ reading. read_beside F specs around words ≡ Is reading) → IfOk result (λ reading. line_read F specs around words ≡ Is reading)
+    → IfOk result (λ reading. read_beside F specs around words ≡ Is reading)
+    → IfOk result (λ reading. line_read F specs around words ≡ Is reading)
 line_unknown F specs around words answer (Err e) is unknown reading_is = tt
 line_unknown F specs around words answer (Ok reading) is unknown reading_is = rw (ap has_unknown (sym is) ∙ unknown) reading_is
 
 -- a line without one
 pub line_known : (F : Facts) (specs : List ℕ) (around : Surroundings) (words : List (List ℕ)) (answer : Answer) (known : List ℕ)
-    → answer ≡ front_of [] [] around words → has_unknown answer ≡ false → known ≡ [] → line_read F specs around words ≡ Is (Some (record { known = known; answer = answer }))
+    → answer ≡ front_of [] [] around words → has_unknown answer ≡ false → known ≡ []
+    → line_read F specs around words ≡ Is (Some (record { known = known; answer = answer }))
 line_known F specs around words answer known is none empty =
     rw (ap has_unknown (sym is) ∙ none)
-    (ap (λ a. Is (Some (record { known = []; answer = a }))) (sym is) ∙ ap (λ k. Is (Some (record { known = k; answer = answer }))) (sym empty))
+    (ap (λ a. Is (Some (record { known = []; answer = a }))) (sym is)
+    ∙ ap (λ k. Is (Some (record { known = k; answer = answer }))) (sym empty))

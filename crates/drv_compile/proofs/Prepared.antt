@@ -4,7 +4,8 @@ use Rattle.drv_cc.specs.declared.answer.Call.{Call}
 use Rattle.drv_cc.specs.declared.answer.Variable.{Variable}
 use Rattle.drv_compile.proofs.Worded.{memory_stops, stop_stays, told_as}
 use Rattle.drv_compile.specs.Code.Preparing.{IsFailure, IsOverwriting, IsPlanned, IsQuestion, IsTaskDone, IsTaskRefused, IsUnplanned}
-use Rattle.drv_compile.specs.Compiles.{Comes, Fails, Performs, Refuses, asks, declines, fails, no_words, objected, overwriting, performs, stopped, undriven}
+use Rattle.drv_compile.specs.Compiles.{Comes, Fails, Performs, Refuses, asks, declines, fails, no_words, objected, overwriting, performs}
+use Rattle.drv_compile.specs.Compiles.{stopped, undriven}
 use Rattle.drv_compile.specs.Decides.{decided}
 use Rattle.drv_compile.specs.Driven.{Drives, Undriven}
 use Rattle.drv_compile.specs.Inputs.{Noted, Overwrites, new_output, no_output, objection, old_output}
@@ -27,7 +28,8 @@ use Rattle.drv_compile.specs.declared.tasks.Toolchain.{Toolchain}
 use Rattle.drv_run.specs.declared.work.Work.{Work}
 use Rattle.drv_system.specs.Facts.{Facts}
 use Rattle.drv_system.specs.Known.{Is}
-use Rattle.std.proofs.Common.{◌≡◌, ◌↔◌, ◌∙◌, ◌∷◌, [], Bool, Err, IsErrAnd, IsTrue, List, None, Ok, Option, Result, Some, ap, false, inl, inr, refl, subst, sym, true, ℕ}
+use Rattle.std.proofs.Common.{◌≡◌, ◌↔◌, ◌∙◌, ◌∷◌, [], Bool, Err, IsErrAnd, IsTrue, List, None, Ok, Option, Result, Some, ap, false, inl}
+use Rattle.std.proofs.Common.{inr, refl, subst, sym, true, ℕ}
 use Rattle.std.proofs.lemmas.Bool.{false≢true}
 use Rattle.std.proofs.lemmas.List.{append-nil}
 use Rattle.std.specs.Prelude.{MatchResult, is_some}
@@ -38,19 +40,23 @@ use Rattle.std.specs.Prelude.{MatchResult, is_some}
 pub none_noted : (notes : List HostEvent) (what : List HostEvent → Type 0) → what [] → Noted notes notes what
 none_noted notes what is = ([], sym (append-nil notes), is)
 
-pub noted_as : (before after : List HostEvent) (what what' : List HostEvent → Type 0) → ((events : List HostEvent) → what events → what' events) → Noted before after what → Noted before after what'
+pub noted_as : (before after : List HostEvent) (what what' : List HostEvent → Type 0)
+    → ((events : List HostEvent) → what events → what' events) → Noted before after what → Noted before after what'
 noted_as before after what what' turns (events, grown, is) = (events, grown, turns events is)
 
 -- lack of memory
 
-pub memory_noted : {X : Type 0} (before after : List HostEvent) (what : List HostEvent → Type 0) (result : Result X Stop) (done : List HostEvent → X → Type 0)
+pub memory_noted : {X : Type 0} (before after : List HostEvent) (what : List HostEvent → Type 0) (result : Result X Stop)
+    (done : List HostEvent → X → Type 0)
     (told : List HostEvent → List ℕ → Type 0) → Noted before after what → IsErrAnd result (λ s. s ≡ Memory)
     → Noted before after (λ events. MatchResult result (done events) (λ s. IfTold s (told events)))
-memory_noted before after what result done told (events, grown, is) memory = (events, grown, memory_stops result (done events) (told events) memory)
+memory_noted before after what result done told (events, grown, is) memory =
+    (events, grown, memory_stops result (done events) (told events) memory)
 
 -- an output that is an input, or none
 
-none_overwrites : {inputs : List (List ℕ)} {given : Option (List ℕ)} {events : List HostEvent} {found : Bool} → Overwrites inputs given events found → given ≡ None → found ≡ false
+none_overwrites : {inputs : List (List ℕ)} {given : Option (List ℕ)} {events : List HostEvent} {found : Bool}
+    → Overwrites inputs given events found → given ≡ None → found ≡ false
 none_overwrites no_output none = refl
 none_overwrites new_output none = refl
 none_overwrites (old_output reaches) none = absurd (some_is_none none)
@@ -58,18 +64,28 @@ none_overwrites (old_output reaches) none = absurd (some_is_none none)
     some_is_none : {path : List ℕ} → Some path ≡ None → ⊥
     some_is_none is = absurd (false≢true (sym (ap is_some is)))
 
-pub no_overwriting : (slice inputs : List (List ℕ)) (given : Option (List ℕ)) (found : Bool) (before after : List HostEvent) → slice ≡ inputs → given ≡ None
-    → Noted before after (λ events. Overwrites slice given events found) → Noted before after (λ events. Overwrites inputs given events false)
-no_overwriting slice inputs given found before after same none (events, grown, overwrites) =
-    (events, grown, subst (λ xs. Overwrites xs given events false) same (subst (λ f. Overwrites slice given events f) (none_overwrites overwrites none) overwrites))
+pub no_overwriting : (slice inputs : List (List ℕ)) (given : Option (List ℕ)) (found : Bool) (before after : List HostEvent)
+    → slice ≡ inputs → given ≡ None
+    → Noted before after (λ events. Overwrites slice given events found)
+    → Noted before after (λ events. Overwrites inputs given events false)
+no_overwriting slice inputs given found before after same none (events, grown, overwrites) = (
+  events,
+  grown,
+  subst (λ xs. Overwrites xs given events false) same
+      (subst (λ f. Overwrites slice given events f) (none_overwrites overwrites none) overwrites),
+)
 
-pub not_overwriting : (slice inputs : List (List ℕ)) (given : Option (List ℕ)) (found : Bool) (before after : List HostEvent) → slice ≡ inputs → found ≡ false
-    → Noted before after (λ events. Overwrites slice given events found) → Noted before after (λ events. Overwrites inputs given events false)
+pub not_overwriting : (slice inputs : List (List ℕ)) (given : Option (List ℕ)) (found : Bool) (before after : List HostEvent)
+    → slice ≡ inputs → found ≡ false
+    → Noted before after (λ events. Overwrites slice given events found)
+    → Noted before after (λ events. Overwrites inputs given events false)
 not_overwriting slice inputs given found before after same is (events, grown, overwrites) =
     (events, grown, subst (λ xs. Overwrites xs given events false) same (subst (λ f. Overwrites slice given events f) is overwrites))
 
-pub overwriting_told : (name text output slice : List ℕ) (call : Call) (inputs : List (List ℕ)) (found : Bool) (before after : List HostEvent) → call.output ≡ Some output
-    → slice ≡ output → inputs ≡ call.inputs → found ≡ true → Noted before after (λ events. Overwrites inputs call.output events found) → text ≡ overwritten_text name slice
+pub overwriting_told : (name text output slice : List ℕ) (call : Call) (inputs : List (List ℕ)) (found : Bool)
+    (before after : List HostEvent) → call.output ≡ Some output
+    → slice ≡ output → inputs ≡ call.inputs → found ≡ true → Noted before after (λ events. Overwrites inputs call.output events found)
+    → text ≡ overwritten_text name slice
     → Noted before after (λ events. IsOverwriting name call events text)
 overwriting_told name text output slice call inputs found before after some same are true_is (events, grown, overwrites) is = (
   events,
@@ -84,10 +100,13 @@ overwriting_told name text output slice call inputs found before after some same
 
 -- the steps of a line
 
-pub fails_planned : (F : Facts) (calling : Calling) (chain : Toolchain) (call : Call) (given : Expanded) (seed : ℕ) (events : List HostEvent) (result : Result Prepared Stop)
+pub fails_planned : (F : Facts) (calling : Calling) (chain : Toolchain) (call : Call) (given : Expanded) (seed : ℕ)
+    (events : List HostEvent) (result : Result Prepared Stop)
     → objection F calling.name call.inputs ≡ Is [] → Overwrites call.inputs call.output events false
-    → MatchResult result (λ prepared. IsPlanned F calling chain call given seed prepared) (λ stop. IfTold stop (IsUnplanned F calling chain call given seed))
-    → MatchResult result (λ prepared. Performs F calling chain call given seed events prepared) (λ stop. IfTold stop (Fails F calling chain call given seed events))
+    → MatchResult result (λ prepared. IsPlanned F calling chain call given seed prepared)
+    (λ stop. IfTold stop (IsUnplanned F calling chain call given seed))
+    → MatchResult result (λ prepared. Performs F calling chain call given seed events prepared)
+    (λ stop. IfTold stop (Fails F calling chain call given seed events))
 fails_planned F calling chain call given seed events (Ok prepared) free apart planned =
     record {
       driven = planned.driven;
@@ -101,74 +120,108 @@ fails_planned F calling chain call given seed events (Ok prepared) free apart pl
       hint = planned.hint;
       remark = planned.remark;
     }
-fails_planned F calling chain call given seed events (Err stop) free apart unplanned = told_as stop (IsUnplanned F calling chain call given seed) (Fails F calling chain call given seed events) by unplanned
+fails_planned F calling chain call given seed events (Err stop) free apart unplanned =
+    told_as stop (IsUnplanned F calling chain call given seed) (Fails F calling chain call given seed events) by unplanned
   where
     by : (text : List ℕ) → IsUnplanned F calling chain call given seed text → Fails F calling chain call given seed events text
     by text (inl un) = undriven free apart un
-    by text (inr (driven, drives, (refusal, stops, is))) = subst (λ t. Fails F calling chain call given seed events t) (sym is) (stopped free apart drives stops)
+    by text (inr (driven, drives, (refusal, stops, is))) =
+        subst (λ t. Fails F calling chain call given seed events t) (sym is) (stopped free apart drives stops)
 
-pub objected_as : (F : Facts) (calling : Calling) (chain : Toolchain) (call : Call) (given : Expanded) (seed : ℕ) (name text : List ℕ) (inputs : List (List ℕ)) (found : Bool)
-    → name ≡ calling.name → inputs ≡ call.inputs → objection F name inputs ≡ Is text → IsTrue found ↔ (text ≡ []) → found ≡ false → Fails F calling chain call given seed [] text
+pub objected_as : (F : Facts) (calling : Calling) (chain : Toolchain) (call : Call) (given : Expanded) (seed : ℕ) (name text : List ℕ)
+    (inputs : List (List ℕ)) (found : Bool)
+    → name ≡ calling.name → inputs ≡ call.inputs → objection F name inputs ≡ Is text → IsTrue found ↔ (text ≡ []) → found ≡ false
+    → Fails F calling chain call given seed [] text
 objected_as F calling chain call given seed name [] inputs found named are is empty not = absurd (false≢true (sym not ∙ empty.1 refl))
 objected_as F calling chain call given seed name (b ∷ text) inputs found named are is empty not =
     objected (ap (objection F calling.name) (sym are) ∙ ap (λ n. objection F n inputs) (sym named) ∙ is)
 
 pub free_as : (F : Facts) (calling : Calling) (call : Call) (name text : List ℕ) (inputs : List (List ℕ)) (found : Bool)
-    → name ≡ calling.name → inputs ≡ call.inputs → objection F name inputs ≡ Is text → IsTrue found ↔ (text ≡ []) → found ≡ true → objection F calling.name call.inputs ≡ Is []
+    → name ≡ calling.name → inputs ≡ call.inputs → objection F name inputs ≡ Is text → IsTrue found ↔ (text ≡ []) → found ≡ true
+    → objection F calling.name call.inputs ≡ Is []
 free_as F calling call name text inputs found named are is empty so =
     ap (objection F calling.name) (sym are) ∙ ap (λ n. objection F n inputs) (sym named) ∙ is ∙ ap Is (empty.0 so)
 
-pub overwriting_fails : (calling : Calling) (chain : Toolchain) (name : List ℕ) (call : Call) (given : Expanded) (seed : ℕ) (stop : Stop) (before after : List HostEvent) (result : Result Prepared Stop)
-    (knows : Facts → Type 0) → name ≡ calling.name → IsErrAnd result (λ s. s ≡ stop) → ((F : Facts) → knows F → objection F calling.name call.inputs ≡ Is [])
+pub overwriting_fails : (calling : Calling) (chain : Toolchain) (name : List ℕ) (call : Call) (given : Expanded) (seed : ℕ) (stop : Stop)
+    (before after : List HostEvent) (result : Result Prepared Stop)
+    (knows : Facts → Type 0) → name ≡ calling.name → IsErrAnd result (λ s. s ≡ stop)
+    → ((F : Facts) → knows F → objection F calling.name call.inputs ≡ Is [])
     → Noted before after (λ events. IfTold stop (IsOverwriting name call events))
-    → Noted before after (λ events. (F : Facts) → knows F → MatchResult result (λ prepared. Performs F calling chain call given seed events prepared) (λ s. IfTold s (Fails F calling chain call given seed events)))
+    → Noted before after (λ events. (F : Facts) → knows F
+    → MatchResult result (λ prepared. Performs F calling chain call given seed events prepared)
+    (λ s. IfTold s (Fails F calling chain call given seed events)))
 overwriting_fails calling chain name call given seed stop before after result knows named is free (events, grown, tells) = (
   events,
   grown,
   λ F k.
-      stop_stays result stop (λ prepared. Performs F calling chain call given seed events prepared) (Fails F calling chain call given seed events) is
+      stop_stays result stop (λ prepared. Performs F calling chain call given seed events prepared)
+      (Fails F calling chain call given seed events) is
       (told_as stop (IsOverwriting name call events) (Fails F calling chain call given seed events) (by F k) tells),
 )
   where
     by : (F : Facts) → knows F → (text : List ℕ) → IsOverwriting name call events text → Fails F calling chain call given seed events text
     by F k text (output, some, overwrites, same_text) =
-        subst (λ t. Fails F calling chain call given seed events t) (sym (same_text ∙ ap (λ n. overwritten_text n output) named)) (overwriting (free F k) some overwrites)
+        subst (λ t. Fails F calling chain call given seed events t) (sym (same_text ∙ ap (λ n. overwritten_text n output) named))
+        (overwriting (free F k) some overwrites)
 
-pub performs_noted : (calling : Calling) (chain : Toolchain) (call : Call) (given : Expanded) (seed : ℕ) (before after : List HostEvent) (result : Result Prepared Stop) (knows : Facts → Type 0)
-    → ((F : Facts) → knows F → objection F calling.name call.inputs ≡ Is []) → Noted before after (λ events. Overwrites call.inputs call.output events false)
-    → ((F : Facts) → knows F → MatchResult result (λ prepared. IsPlanned F calling chain call given seed prepared) (λ stop. IfTold stop (IsUnplanned F calling chain call given seed)))
-    → Noted before after (λ events. (F : Facts) → knows F → MatchResult result (λ prepared. Performs F calling chain call given seed events prepared) (λ s. IfTold s (Fails F calling chain call given seed events)))
+pub performs_noted : (calling : Calling) (chain : Toolchain) (call : Call) (given : Expanded) (seed : ℕ) (before after : List HostEvent)
+    (result : Result Prepared Stop) (knows : Facts → Type 0)
+    → ((F : Facts) → knows F → objection F calling.name call.inputs ≡ Is [])
+    → Noted before after (λ events. Overwrites call.inputs call.output events false)
+    → ((F : Facts) → knows F → MatchResult result (λ prepared. IsPlanned F calling chain call given seed prepared)
+    (λ stop. IfTold stop (IsUnplanned F calling chain call given seed)))
+    → Noted before after (λ events. (F : Facts) → knows F
+    → MatchResult result (λ prepared. Performs F calling chain call given seed events prepared)
+    (λ s. IfTold s (Fails F calling chain call given seed events)))
 performs_noted calling chain call given seed before after result knows free (events, grown, apart) plans =
     (events, grown, λ F k. fails_planned F calling chain call given seed events result (free F k) apart (plans F k))
 
 -- the work of a line
 
-pub planned_so : (F : Facts) (calling : Calling) (chain : Toolchain) (call : Call) (given : Expanded) (seed : ℕ) (driven : Driven) (specs wrapper said hint remark : List ℕ) (items : List Item)
-    (children : List Variable) (work : Work) → specs ≡ chain.specs → items ≡ driven.line.items → children ≡ driven.children → Drives F chain call given driven
-    → wrapper ≡ wrapper_of items → opening F specs items children ≡ Is said → Works F driven.line seed work → hint ≡ gone_text calling.name chain.specs calling.machine → remark ≡ []
-    → IsPlanned F calling chain call given seed (record { work = work; children = driven.children; wrapper = wrapper; said = said; hint = hint; remark = remark })
-planned_so F calling chain call given seed driven specs wrapper said hint remark items children work same are set drives wraps opens works hints none = record {
-  driven = driven;
-  drives = drives;
-  opens =
-      sym (ap (λ s. opening F s items children) same ∙ ap (λ w. opening F chain.specs w children) are ∙ ap (opening F chain.specs driven.line.items) set) ∙ opens;
-  works = works;
-  children = refl;
-  wrapper = wraps ∙ ap wrapper_of are;
-  hint = hints;
-  remark = none;
-}
+pub planned_so : (F : Facts) (calling : Calling) (chain : Toolchain) (call : Call) (given : Expanded) (seed : ℕ) (driven : Driven)
+    (specs wrapper said hint remark : List ℕ) (items : List Item)
+    (children : List Variable) (work : Work) → specs ≡ chain.specs → items ≡ driven.line.items → children ≡ driven.children
+    → Drives F chain call given driven
+    → wrapper ≡ wrapper_of items → opening F specs items children ≡ Is said → Works F driven.line seed work
+    → hint ≡ gone_text calling.name chain.specs calling.machine → remark ≡ []
+    → IsPlanned F calling chain call given seed (record {
+      work = work;
+      children = driven.children;
+      wrapper = wrapper;
+      said = said;
+      hint =
+          hint;
+      remark = remark;
+    })
+planned_so F calling chain call given seed driven specs wrapper said hint remark items children work same are set drives wraps opens works
+    hints none = record {
+      driven = driven;
+      drives = drives;
+      opens =
+          sym (ap (λ s. opening F s items children) same ∙ ap (λ w. opening F chain.specs w children) are
+          ∙ ap (opening F chain.specs driven.line.items) set) ∙ opens;
+      works = works;
+      children = refl;
+      wrapper = wraps ∙ ap wrapper_of are;
+      hint = hints;
+      remark = none;
+    }
 
-pub undriven_plan : (F : Facts) (calling : Calling) (chain : Toolchain) (call : Call) (given : Expanded) (seed : ℕ) (stop : Stop) (result : Result Prepared Stop)
+pub undriven_plan : (F : Facts) (calling : Calling) (chain : Toolchain) (call : Call) (given : Expanded) (seed : ℕ) (stop : Stop)
+    (result : Result Prepared Stop)
     → IsErrAnd result (λ s. s ≡ stop) → IfTold stop (Undriven F calling chain call given)
-    → MatchResult result (λ prepared. IsPlanned F calling chain call given seed prepared) (λ s. IfTold s (IsUnplanned F calling chain call given seed))
+    → MatchResult result (λ prepared. IsPlanned F calling chain call given seed prepared)
+    (λ s. IfTold s (IsUnplanned F calling chain call given seed))
 undriven_plan F calling chain call given seed stop result is tells =
     stop_stays result stop (λ prepared. IsPlanned F calling chain call given seed prepared) (IsUnplanned F calling chain call given seed) is
     (told_as stop (Undriven F calling chain call given) (IsUnplanned F calling chain call given seed) (λ text un. inl un) tells)
 
-pub failed_plan : (F : Facts) (calling : Calling) (chain : Toolchain) (call : Call) (given : Expanded) (seed : ℕ) (driven : Driven) (name : List ℕ) (stop : Stop) (result : Result Prepared Stop)
-    → name ≡ calling.name → Drives F chain call given driven → IsErrAnd result (λ s. s ≡ stop) → IfTold stop (IsFailure F name driven.line seed)
-    → MatchResult result (λ prepared. IsPlanned F calling chain call given seed prepared) (λ s. IfTold s (IsUnplanned F calling chain call given seed))
+pub failed_plan : (F : Facts) (calling : Calling) (chain : Toolchain) (call : Call) (given : Expanded) (seed : ℕ) (driven : Driven)
+    (name : List ℕ) (stop : Stop) (result : Result Prepared Stop)
+    → name ≡ calling.name → Drives F chain call given driven → IsErrAnd result (λ s. s ≡ stop)
+    → IfTold stop (IsFailure F name driven.line seed)
+    → MatchResult result (λ prepared. IsPlanned F calling chain call given seed prepared)
+    (λ s. IfTold s (IsUnplanned F calling chain call given seed))
 failed_plan F calling chain call given seed driven name stop result named drives is tells =
     stop_stays result stop (λ prepared. IsPlanned F calling chain call given seed prepared) (IsUnplanned F calling chain call given seed) is
     (told_as stop (IsFailure F name driven.line seed) (IsUnplanned F calling chain call given seed)
@@ -176,68 +229,94 @@ failed_plan F calling chain call given seed driven name stop result named drives
 
 -- a task
 
-pub question_done : (F : Facts) (calling : Calling) (args : List (List ℕ)) (given : Expanded) (seed : ℕ) (task : Task) (specs slice compiler : List ℕ) (prepared : Prepared)
-    → task ≡ Question specs compiler → slice ≡ specs → IsQuestion calling slice compiler args prepared → IsTaskDone F calling args given seed task [] prepared
+pub question_done : (F : Facts) (calling : Calling) (args : List (List ℕ)) (given : Expanded) (seed : ℕ) (task : Task)
+    (specs slice compiler : List ℕ) (prepared : Prepared)
+    → task ≡ Question specs compiler → slice ≡ specs → IsQuestion calling slice compiler args prepared
+    → IsTaskDone F calling args given seed task [] prepared
 question_done F calling args given seed task specs slice compiler prepared is same asked =
-    subst (λ t. IsTaskDone F calling args given seed t [] prepared) (sym is) (refl, subst (λ s. IsQuestion calling s compiler args prepared) same asked)
+    subst (λ t. IsTaskDone F calling args given seed t [] prepared) (sym is)
+    (refl, subst (λ s. IsQuestion calling s compiler args prepared) same asked)
 
-pub compilation_done : (calling : Calling) (args : List (List ℕ)) (given : Expanded) (seed : ℕ) (task : Task) (chain : Toolchain) (call : Call) (before after : List HostEvent)
+pub compilation_done : (calling : Calling) (args : List (List ℕ)) (given : Expanded) (seed : ℕ) (task : Task) (chain : Toolchain)
+    (call : Call) (before after : List HostEvent)
     (result : Result Prepared Stop) (knows : Facts → Type 0) → task ≡ Compilation chain call
-    → Noted before after (λ events. (F : Facts) → knows F → MatchResult result (λ prepared. Performs F calling chain call given seed events prepared) (λ s. IfTold s (Fails F calling chain call given seed events)))
-    → Noted before after (λ events. (F : Facts) → knows F → MatchResult result (λ prepared. IsTaskDone F calling args given seed task events prepared)
+    → Noted before after (λ events. (F : Facts) → knows F
+    → MatchResult result (λ prepared. Performs F calling chain call given seed events prepared)
+    (λ s. IfTold s (Fails F calling chain call given seed events)))
+    → Noted before after (λ events. (F : Facts) → knows F
+    → MatchResult result (λ prepared. IsTaskDone F calling args given seed task events prepared)
     (λ s. IfTold s (IsTaskRefused F calling given seed task events)))
 compilation_done calling args given seed task chain call before after result knows is (events, grown, does) = (
   events,
   grown,
   λ F k.
-      subst (λ t. MatchResult result (λ prepared. IsTaskDone F calling args given seed t events prepared) (λ s. IfTold s (IsTaskRefused F calling given seed t events))) (sym is)
+      subst (λ t. MatchResult result (λ prepared. IsTaskDone F calling args given seed t events prepared)
+      (λ s. IfTold s (IsTaskRefused F calling given seed t events))) (sym is)
       (does F k),
 )
 
 -- the whole
 
-pub task_comes : (F : Facts) (calling : Calling) (own : Option (List ℕ)) (args : List (List ℕ)) (seed : ℕ) (words : Expanded) (decision : Decision) (task : Task)
-    (events : List HostEvent) (result : Result Prepared Stop) → Words F calling args words → decided F own words.words ≡ Is decision → Leads decision task
-    → MatchResult result (λ prepared. IsTaskDone F calling args words seed task events prepared) (λ stop. IfTold stop (IsTaskRefused F calling words seed task events))
-    → MatchResult result (λ prepared. Comes F calling own args seed events prepared) (λ stop. IfTold stop (Refuses F calling own args seed events))
+pub task_comes : (F : Facts) (calling : Calling) (own : Option (List ℕ)) (args : List (List ℕ)) (seed : ℕ) (words : Expanded)
+    (decision : Decision) (task : Task)
+    (events : List HostEvent) (result : Result Prepared Stop) → Words F calling args words → decided F own words.words ≡ Is decision
+    → Leads decision task
+    → MatchResult result (λ prepared. IsTaskDone F calling args words seed task events prepared)
+    (λ stop. IfTold stop (IsTaskRefused F calling words seed task events))
+    → MatchResult result (λ prepared. Comes F calling own args seed events prepared)
+    (λ stop. IfTold stop (Refuses F calling own args seed events))
 task_comes F calling own args seed words decision (Question specs compiler) events (Ok prepared) gives decides leads (none, is) =
-    subst (λ e. Comes F calling own args seed e prepared) (sym none) (subst (λ p. Comes F calling own args seed [] p) (sym is) (asks gives decides leads))
-task_comes F calling own args seed words decision (Compilation chain call) events (Ok prepared) gives decides leads done = performs gives decides leads done
+    subst (λ e. Comes F calling own args seed e prepared) (sym none)
+    (subst (λ p. Comes F calling own args seed [] p) (sym is) (asks gives decides leads))
+task_comes F calling own args seed words decision (Compilation chain call) events (Ok prepared) gives decides leads done =
+    performs gives decides leads done
 task_comes F calling own args seed words decision (Question specs compiler) events (Err stop) gives decides leads tells =
     told_as stop (λ text. ⊥) (Refuses F calling own args seed events) (λ text no. absurd no) tells
 task_comes F calling own args seed words decision (Compilation chain call) events (Err stop) gives decides leads tells =
-    told_as stop (Fails F calling chain call words seed events) (Refuses F calling own args seed events) (λ text is. fails gives decides leads is) tells
+    told_as stop (Fails F calling chain call words seed events) (Refuses F calling own args seed events)
+    (λ text is. fails gives decides leads is) tells
 
 pub words_refused : (F : Facts) (calling : Calling) (own : Option (List ℕ)) (args : List (List ℕ)) (seed : ℕ) (stop : Stop)
     → IfTold stop (RefusesWords F calling args) → IfTold stop (Refuses F calling own args seed [])
-words_refused F calling own args seed stop tells = told_as stop (RefusesWords F calling args) (Refuses F calling own args seed []) (λ text is. no_words is) tells
+words_refused F calling own args seed stop tells =
+    told_as stop (RefusesWords F calling args) (Refuses F calling own args seed []) (λ text is. no_words is) tells
 
-pub decision_declined : (F : Facts) (calling : Calling) (own : Option (List ℕ)) (args : List (List ℕ)) (seed : ℕ) (words : Expanded) (decision : Decision) (stop : Stop)
-    → Words F calling args words → decided F own words.words ≡ Is decision → IfTold stop (Declines calling decision) → IfTold stop (Refuses F calling own args seed [])
+pub decision_declined : (F : Facts) (calling : Calling) (own : Option (List ℕ)) (args : List (List ℕ)) (seed : ℕ) (words : Expanded)
+    (decision : Decision) (stop : Stop)
+    → Words F calling args words → decided F own words.words ≡ Is decision → IfTold stop (Declines calling decision)
+    → IfTold stop (Refuses F calling own args seed [])
 decision_declined F calling own args seed words decision stop gives decides tells =
     told_as stop (Declines calling decision) (Refuses F calling own args seed []) (λ text is. declines gives decides is) tells
 
-pub prepares : (calling : Calling) (own : Option (List ℕ)) (args : List (List ℕ)) (seed : ℕ) (words : Expanded) (slice : List (List ℕ)) (decision : Decision) (task : Task)
-    (before after : List HostEvent) (result : Result Prepared Stop) (knows : Facts → Type 0) → slice ≡ words.words → ((F : Facts) → knows F → Words F calling args words)
+pub prepares : (calling : Calling) (own : Option (List ℕ)) (args : List (List ℕ)) (seed : ℕ) (words : Expanded) (slice : List (List ℕ))
+    (decision : Decision) (task : Task)
+    (before after : List HostEvent) (result : Result Prepared Stop) (knows : Facts → Type 0) → slice ≡ words.words
+    → ((F : Facts) → knows F → Words F calling args words)
     → ((F : Facts) → knows F → decided F own slice ≡ Is decision) → Leads decision task
-    → Noted before after (λ events. (F : Facts) → knows F → MatchResult result (λ prepared. IsTaskDone F calling args words seed task events prepared)
+    → Noted before after (λ events. (F : Facts) → knows F
+    → MatchResult result (λ prepared. IsTaskDone F calling args words seed task events prepared)
     (λ s. IfTold s (IsTaskRefused F calling words seed task events)))
     → Noted before after (λ events. (F : Facts) → knows F → MatchResult result (λ prepared. Comes F calling own args seed events prepared)
     (λ s. IfTold s (Refuses F calling own args seed events)))
 prepares calling own args seed words slice decision task before after result knows same gives decides leads (events, grown, done) = (
   events,
   grown,
-  λ F k. task_comes F calling own args seed words decision task events result (gives F k) (ap (decided F own) (sym same) ∙ decides F k) leads (done F k),
+  λ F k. task_comes F calling own args seed words decision task events result (gives F k)
+      (ap (decided F own) (sym same) ∙ decides F k) leads (done F k),
 )
 
-pub words_stop : (F : Facts) (calling : Calling) (own : Option (List ℕ)) (args : List (List ℕ)) (seed : ℕ) (stop : Stop) (result : Result Prepared Stop) → IsErrAnd result (λ s. s ≡ stop)
+pub words_stop : (F : Facts) (calling : Calling) (own : Option (List ℕ)) (args : List (List ℕ)) (seed : ℕ) (stop : Stop)
+    (result : Result Prepared Stop) → IsErrAnd result (λ s. s ≡ stop)
     → IfTold stop (RefusesWords F calling args)
     → MatchResult result (λ prepared. Comes F calling own args seed [] prepared) (λ s. IfTold s (Refuses F calling own args seed []))
 words_stop F calling own args seed stop result is tells =
-    stop_stays result stop (λ prepared. Comes F calling own args seed [] prepared) (Refuses F calling own args seed []) is (words_refused F calling own args seed stop tells)
+    stop_stays result stop (λ prepared. Comes F calling own args seed [] prepared) (Refuses F calling own args seed []) is
+    (words_refused F calling own args seed stop tells)
 
-pub decision_stops : (F : Facts) (calling : Calling) (own : Option (List ℕ)) (args : List (List ℕ)) (seed : ℕ) (words : Expanded) (slice : List (List ℕ)) (decision : Decision) (stop : Stop)
-    (result : Result Prepared Stop) → slice ≡ words.words → Words F calling args words → decided F own slice ≡ Is decision → IsErrAnd result (λ s. s ≡ stop) → IfTold stop (Declines calling decision)
+pub decision_stops : (F : Facts) (calling : Calling) (own : Option (List ℕ)) (args : List (List ℕ)) (seed : ℕ) (words : Expanded)
+    (slice : List (List ℕ)) (decision : Decision) (stop : Stop)
+    (result : Result Prepared Stop) → slice ≡ words.words → Words F calling args words → decided F own slice ≡ Is decision
+    → IsErrAnd result (λ s. s ≡ stop) → IfTold stop (Declines calling decision)
     → MatchResult result (λ prepared. Comes F calling own args seed [] prepared) (λ s. IfTold s (Refuses F calling own args seed []))
 decision_stops F calling own args seed words slice decision stop result same gives decides is tells =
     stop_stays result stop (λ prepared. Comes F calling own args seed [] prepared) (Refuses F calling own args seed []) is

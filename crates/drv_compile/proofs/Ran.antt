@@ -3,7 +3,8 @@ use Rattle.drv_args.specs.declared.fault.ArgsFault.{ArgsFault}
 use Rattle.drv_args.specs.declared.line.Line.{Line}
 use Rattle.drv_args.specs.declared.line.Settings.{Settings}
 use Rattle.drv_compile.specs.Code.Working.{IsUnworked, IsWorked, no_room, of_many, of_plan}
-use Rattle.drv_compile.specs.Runs.{Stops, Works, has_several, lacks_memory, line_given, not_loaded, not_planned, not_read, several, specs_of}
+use Rattle.drv_compile.specs.Runs.{Stops, Works, has_several, lacks_memory, line_given, not_loaded, not_planned, not_read, several}
+use Rattle.drv_compile.specs.Runs.{specs_of}
 use Rattle.drv_compile.specs.declared.running.DriverLine.{DriverLine}
 use Rattle.drv_plan.specs.declared.fault.PlanFault.TheVariants as plan_fault
 use Rattle.drv_plan.specs.declared.fault.PlanFault.{PlanFault}
@@ -30,15 +31,18 @@ Worked F line set seed result = MatchResult result (λ work. IsWorked F line set
 abbrev pub Comes : Facts → DriverLine → ℕ → Result Work Ending → Type 0
 Comes F own seed result = MatchResult result (λ work. Works F own seed work) (λ ending. Stops F own seed ending)
 
-ended_as : (F : Facts) (own : DriverLine) (seed : ℕ) (ending : Ending) (result : Result Work Ending) → IsErrAnd result (λ e. e ≡ ending) → Stops F own seed ending → Comes F own seed result
+ended_as : (F : Facts) (own : DriverLine) (seed : ℕ) (ending : Ending) (result : Result Work Ending) → IsErrAnd result (λ e. e ≡ ending)
+    → Stops F own seed ending → Comes F own seed result
 ended_as F own seed ending (Ok work) is stops = absurd is
 ended_as F own seed ending (Err e) is stops = subst (λ e'. Stops F own seed e') (sym is) stops
 
-args_stop : (F : Facts) (own : DriverLine) (seed : ℕ) (fault : ArgsFault) → (fault ≡ args_fault.Memory) ⊎ (line_given own ≡ Err fault) → Stops F own seed (stopped_by_args fault)
+args_stop : (F : Facts) (own : DriverLine) (seed : ℕ) (fault : ArgsFault) → (fault ≡ args_fault.Memory) ⊎ (line_given own ≡ Err fault)
+    → Stops F own seed (stopped_by_args fault)
 args_stop F own seed fault (inl memory) = subst (λ f. Stops F own seed (stopped_by_args f)) (sym memory) lacks_memory
 args_stop F own seed fault (inr is) = not_read is
 
-pub reading_ends : (F : Facts) (own : DriverLine) (seed : ℕ) (fault : ArgsFault) (result : Result Work Ending) → IsErrAnd result (λ e. e ≡ stopped_by_args fault)
+pub reading_ends : (F : Facts) (own : DriverLine) (seed : ℕ) (fault : ArgsFault) (result : Result Work Ending)
+    → IsErrAnd result (λ e. e ≡ stopped_by_args fault)
     → (fault ≡ args_fault.Memory) ⊎ (line_given own ≡ Err fault) → Comes F own seed result
 reading_ends F own seed fault result is given = ended_as F own seed (stopped_by_args fault) result is (args_stop F own seed fault given)
 
@@ -47,38 +51,49 @@ specs_stop : (F : Facts) (own : DriverLine) (seed : ℕ) (line : Line) (fault : 
 specs_stop F own seed line fault reads (inl memory) = subst (λ f. Stops F own seed (stopped_by_specs f)) (sym memory) lacks_memory
 specs_stop F own seed line fault reads (inr is) = not_loaded reads is
 
-pub loading_ends : (F : Facts) (own : DriverLine) (seed : ℕ) (line : Line) (fault : SpecsFault) (result : Result Work Ending) → IsErrAnd result (λ e. e ≡ stopped_by_specs fault)
+pub loading_ends : (F : Facts) (own : DriverLine) (seed : ℕ) (line : Line) (fault : SpecsFault) (result : Result Work Ending)
+    → IsErrAnd result (λ e. e ≡ stopped_by_specs fault)
     → line_given own ≡ Ok line → (fault ≡ specs_fault.Memory) ⊎ (specs_of F line.settings ≡ Is (Err fault)) → Comes F own seed result
-loading_ends F own seed line fault result is reads given = ended_as F own seed (stopped_by_specs fault) result is (specs_stop F own seed line fault reads given)
+loading_ends F own seed line fault result is reads given =
+    ended_as F own seed (stopped_by_specs fault) result is (specs_stop F own seed line fault reads given)
 
 -- several sources with one output, and the plan
 
-unworked_as : (F : Facts) (line : Line) (set : Set) (seed : ℕ) (ending : Ending) (result : Result Work Ending) → IsErrAnd result (λ e. e ≡ ending) → IsUnworked F line set seed ending
+unworked_as : (F : Facts) (line : Line) (set : Set) (seed : ℕ) (ending : Ending) (result : Result Work Ending)
+    → IsErrAnd result (λ e. e ≡ ending) → IsUnworked F line set seed ending
     → Worked F line set seed result
 unworked_as F line set seed ending (Ok work) is unworked = absurd is
 unworked_as F line set seed ending (Err e) is unworked = subst (λ e'. IsUnworked F line set seed e') (sym is) unworked
 
-many_unworked : (F : Facts) (line : Line) (set : Set) (seed : ℕ) (fault : ArgsFault) → (fault ≡ args_fault.Memory) ⊎ ((fault ≡ args_fault.OutputWithMany) × (has_several set line ≡ true))
+many_unworked : (F : Facts) (line : Line) (set : Set) (seed : ℕ) (fault : ArgsFault)
+    → (fault ≡ args_fault.Memory) ⊎ ((fault ≡ args_fault.OutputWithMany) × (has_several set line ≡ true))
     → IsUnworked F line set seed (stopped_by_args fault)
 many_unworked F line set seed fault (inl memory) = subst (λ f. IsUnworked F line set seed (stopped_by_args f)) (sym memory) no_room
 many_unworked F line set seed fault (inr (is, two)) = subst (λ f. IsUnworked F line set seed (stopped_by_args f)) (sym is) (of_many two)
 
-pub many_end : (F : Facts) (line : Line) (set : Set) (seed : ℕ) (fault : ArgsFault) (result : Result Work Ending) → IsErrAnd result (λ e. e ≡ stopped_by_args fault)
+pub many_end : (F : Facts) (line : Line) (set : Set) (seed : ℕ) (fault : ArgsFault) (result : Result Work Ending)
+    → IsErrAnd result (λ e. e ≡ stopped_by_args fault)
     → (fault ≡ args_fault.Memory) ⊎ ((fault ≡ args_fault.OutputWithMany) × (has_several set line ≡ true)) → Worked F line set seed result
-many_end F line set seed fault result is given = unworked_as F line set seed (stopped_by_args fault) result is (many_unworked F line set seed fault given)
+many_end F line set seed fault result is given = unworked_as F line set seed (stopped_by_args fault) result is
+    (many_unworked F line set seed fault given)
 
 plan_unworked : (F : Facts) (line : Line) (set : Set) (seed : ℕ) (fault : PlanFault) → has_several set line ≡ false
     → (fault ≡ plan_fault.Memory) ⊎ (work_of F line set seed ≡ Is (Err fault)) → IsUnworked F line set seed (stopped_by_plan fault)
 plan_unworked F line set seed fault single (inl memory) = subst (λ f. IsUnworked F line set seed (stopped_by_plan f)) (sym memory) no_room
 plan_unworked F line set seed fault single (inr is) = of_plan single is
 
-pub planning_ends : (F : Facts) (line : Line) (set : Set) (seed : ℕ) (fault : PlanFault) (result : Result Work Ending) → IsErrAnd result (λ e. e ≡ stopped_by_plan fault)
-    → has_several set line ≡ false → (fault ≡ plan_fault.Memory) ⊎ (work_of F line set seed ≡ Is (Err fault)) → Worked F line set seed result
-planning_ends F line set seed fault result is single given = unworked_as F line set seed (stopped_by_plan fault) result is (plan_unworked F line set seed fault single given)
+pub planning_ends : (F : Facts) (line : Line) (set : Set) (seed : ℕ) (fault : PlanFault) (result : Result Work Ending)
+    → IsErrAnd result (λ e. e ≡ stopped_by_plan fault)
+    → has_several set line ≡ false → (fault ≡ plan_fault.Memory) ⊎ (work_of F line set seed ≡ Is (Err fault))
+    → Worked F line set seed result
+planning_ends F line set seed fault result is single given =
+    unworked_as F line set seed (stopped_by_plan fault) result is (plan_unworked F line set seed fault single given)
 
-pub working_comes : (F : Facts) (own : DriverLine) (seed : ℕ) (line : Line) (set : Set) (result : Result Work Ending) → line_given own ≡ Ok line → specs_of F line.settings ≡ Is (Ok set)
+pub working_comes : (F : Facts) (own : DriverLine) (seed : ℕ) (line : Line) (set : Set) (result : Result Work Ending)
+    → line_given own ≡ Ok line → specs_of F line.settings ≡ Is (Ok set)
     → Worked F line set seed result → Comes F own seed result
-working_comes F own seed line set (Ok work) reads loads worked = record { line = line; set = set; reads = reads; loads = loads; single = worked.0; works = worked.1 }
+working_comes F own seed line set (Ok work) reads loads worked =
+    record { line = line; set = set; reads = reads; loads = loads; single = worked.0; works = worked.1 }
 working_comes F own seed line set (Err ending) reads loads unworked = by ending unworked
   where
     by : (e : Ending) → IsUnworked F line set seed e → Stops F own seed e
@@ -88,5 +103,7 @@ working_comes F own seed line set (Err ending) reads loads unworked = by ending 
 
 -- the suffixes, and files over them
 pub suffixes_given : (F : Facts) (settings : Settings) (set : Set) (result : Result Set SpecsFault) → set ≡ suffixes
-    → GivesKnown specs_fault.Memory (λ loaded. loaded) result (specs_over F set settings) → GivesKnown specs_fault.Memory (λ loaded. loaded) result (specs_of F settings)
-suffixes_given F settings set result is gives = subst (λ s. GivesKnown specs_fault.Memory (λ loaded. loaded) result (specs_over F s settings)) is gives
+    → GivesKnown specs_fault.Memory (λ loaded. loaded) result (specs_over F set settings)
+    → GivesKnown specs_fault.Memory (λ loaded. loaded) result (specs_of F settings)
+suffixes_given F settings set result is gives = subst
+    (λ s. GivesKnown specs_fault.Memory (λ loaded. loaded) result (specs_over F s settings)) is gives

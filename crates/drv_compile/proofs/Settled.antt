@@ -1,7 +1,8 @@
 use Rattle.drv_compile.specs.Code.Settling.{BeginsToGo, Going, IsFolder, IsTried}
 use Rattle.drv_compile.specs.Compiles.{GoesBy, settled, unnamed, unsettled}
 use Rattle.drv_compile.specs.Inputs.{Noted}
-use Rattle.drv_compile.specs.TempFolder.{Chooses, IsSettled, Tries, folder_names, folders_of_all, if_set, named_by, own, tries_last, tries_next, tries_none, unusable, usable}
+use Rattle.drv_compile.specs.TempFolder.{Chooses, IsSettled, Tries, folder_names, folders_of_all, if_set, named_by, own, tries_last}
+use Rattle.drv_compile.specs.TempFolder.{tries_next, tries_none, unusable, usable}
 use Rattle.drv_compile.specs.declared.compiling.Outcome.TheVariants.{OutOfMemory}
 use Rattle.drv_compile.specs.declared.compiling.Outcome.{Outcome}
 use Rattle.drv_compile.specs.declared.host.HostEvent.TheVariants.{Tried}
@@ -17,7 +18,8 @@ use Rattle.drv_system.specs.Running.{run_of}
 use Rattle.drv_system.specs.declared.event.Event.TheVariants.{Kind, Put, Read, Run, Say, Variable}
 use Rattle.drv_system.specs.declared.event.Event.{Event}
 use Rattle.drv_words.specs.Stepping.{pipe_pending}
-use Rattle.std.proofs.Common.{◌≡◌, ◌<◌, ◌≤◌, ◌+◌, ◌∙◌, ◌∷◌, ◌++◌, [], Bool, Err, IfOk, IsErrAnd, List, None, Ok, OnOk, Option, Result, Some, ap, append_assoc, codes, drop, false, inl, inr, length, refl, subst, sym, true, ℕ}
+use Rattle.std.proofs.Common.{◌≡◌, ◌<◌, ◌≤◌, ◌+◌, ◌∙◌, ◌∷◌, ◌++◌, [], Bool, Err, IfOk, IsErrAnd, List, None, Ok, OnOk, Option, Result, Some}
+use Rattle.std.proofs.Common.{ap, append_assoc, codes, drop, false, inl, inr, length, refl, subst, sym, true, ℕ}
 use Rattle.std.proofs.lemmas.Bool.{false≢true}
 use Rattle.std.proofs.lemmas.List.{append-nil, drop_all, drop_more}
 use Rattle.std.proofs.lemmas.Map.Lookups.{exact_bytes}
@@ -32,13 +34,16 @@ use Rattle.std.specs.Prelude.{◌≢◌, get_or, if◌then◌else◌, is_some}
 
 -- the names
 
-pub name_pushed : {X E : Type 0} (F : Facts) (variable : List ℕ) (value : Option (List ℕ)) (before after : List (List ℕ)) (result : Result X E)
-    → asked (variable_of F variable) ≡ Is value → OnOk result (after ≡ before ++ if_set value) → OnOk result (Adds (named_by F variable) before after)
+pub name_pushed : {X E : Type 0} (F : Facts) (variable : List ℕ) (value : Option (List ℕ)) (before after : List (List ℕ))
+    (result : Result X E)
+    → asked (variable_of F variable) ≡ Is value → OnOk result (after ≡ before ++ if_set value)
+    → OnOk result (Adds (named_by F variable) before after)
 name_pushed F variable value before after (Err e) is grown = tt
 name_pushed F variable value before after (Ok x) is grown = (if_set value, ap (λ k. k >>= λ v. Is (if_set v)) is, grown)
 
 pub names_pushed : {X E : Type 0} (F : Facts) (none first second third all : List (List ℕ)) (result : Result X E)
-    → Adds (named_by F (codes "TMPDIR")) none first → Adds (named_by F (codes "TMP")) first second → Adds (named_by F (codes "TEMP")) second third
+    → Adds (named_by F (codes "TMPDIR")) none first → Adds (named_by F (codes "TMP")) first second
+    → Adds (named_by F (codes "TEMP")) second third
     → OnOk result (all ≡ third ++ folders_of_all) → OnOk result (Adds (folder_names F) none all)
 names_pushed F none first second third all (Err e) (tmpdir, is1, grown1) (tmp, is2, grown2) (temp, is3, grown3) ends = tt
 names_pushed F none first second third all (Ok x) (tmpdir, is1, grown1) (tmp, is2, grown2) (temp, is3, grown3) ends = (
@@ -60,37 +65,47 @@ names_known F none all empty (names, is, grown) = is ∙ ap Is (sym (grown ∙ a
 
 abbrev pub Choosing : List (List ℕ) → ℕ → List HostEvent → List HostEvent → Type 0
 Choosing names i before so =
-    Noted before so (λ events. (more : List HostEvent) (folder : List ℕ) → Chooses (drop i names) more folder → Chooses names (events ++ more) folder)
+    Noted before so (λ events. (more : List HostEvent) (folder : List ℕ) → Chooses (drop i names) more folder
+    → Chooses names (events ++ more) folder)
 
-pub chooses_later : (names : List (List ℕ)) (i : ℕ) (name : List ℕ) (answer : Bool) (before so after : List HostEvent) → i < length names → name ≡ get_or names i name
+pub chooses_later : (names : List (List ℕ)) (i : ℕ) (name : List ℕ) (answer : Bool) (before so after : List HostEvent) → i < length names
+    → name ≡ get_or names i name
     → answer ≡ false → after ≡ so ++ Tried name answer ∷ [] → Choosing names i before so → Choosing names (i + 1) before after
 chooses_later names i name answer before so after below here says grown (events, is, so_far) = (
   events ++ Tried name false ∷ [],
-  grown ∙ ap (λ b. so ++ Tried name b ∷ []) says ∙ ap (λ e. e ++ Tried name false ∷ []) is ∙ append_assoc before events (Tried name false ∷ []),
+  grown ∙ ap (λ b. so ++ Tried name b ∷ []) says ∙ ap (λ e. e ++ Tried name false ∷ []) is
+      ∙ append_assoc before events (Tried name false ∷ []),
   λ more folder chooses.
       subst (λ e. Chooses names e folder) (sym (append_assoc events (Tried name false ∷ []) more))
       (so_far (Tried name false ∷ more) folder
-      (subst (λ xs. Chooses xs (Tried name false ∷ more) folder) (sym (drop_more names i name below ∙ ap (λ x. x ∷ drop (i + 1) names) (sym here)))
+      (subst (λ xs. Chooses xs (Tried name false ∷ more) folder)
+      (sym (drop_more names i name below ∙ ap (λ x. x ∷ drop (i + 1) names) (sym here)))
       (unusable chooses))),
 )
 
-pub chooses_it : {E : Type 0} (names : List (List ℕ)) (i : ℕ) (name : List ℕ) (answer : Bool) (before so after : List HostEvent) (result : Result (List ℕ) E) → i < length names
-    → name ≡ get_or names i name → answer ≡ true → after ≡ so ++ Tried name answer ∷ [] → Choosing names i before so → IfOk result (λ folder. folder ≡ name)
+pub chooses_it : {E : Type 0} (names : List (List ℕ)) (i : ℕ) (name : List ℕ) (answer : Bool) (before so after : List HostEvent)
+    (result : Result (List ℕ) E) → i < length names
+    → name ≡ get_or names i name → answer ≡ true → after ≡ so ++ Tried name answer ∷ [] → Choosing names i before so
+    → IfOk result (λ folder. folder ≡ name)
     → Noted before after (λ events. IfOk result (λ folder. Chooses names events folder))
 chooses_it names i name answer before so after (Err e) below here says grown (events, is, so_far) same = (
   events ++ Tried name true ∷ [],
-  grown ∙ ap (λ b. so ++ Tried name b ∷ []) says ∙ ap (λ e. e ++ Tried name true ∷ []) is ∙ append_assoc before events (Tried name true ∷ []),
+  grown ∙ ap (λ b. so ++ Tried name b ∷ []) says ∙ ap (λ e. e ++ Tried name true ∷ []) is
+      ∙ append_assoc before events (Tried name true ∷ []),
   tt,
 )
 chooses_it names i name answer before so after (Ok folder) below here says grown (events, is, so_far) same = (
   events ++ Tried name true ∷ [],
-  grown ∙ ap (λ b. so ++ Tried name b ∷ []) says ∙ ap (λ e. e ++ Tried name true ∷ []) is ∙ append_assoc before events (Tried name true ∷ []),
+  grown ∙ ap (λ b. so ++ Tried name b ∷ []) says ∙ ap (λ e. e ++ Tried name true ∷ []) is
+      ∙ append_assoc before events (Tried name true ∷ []),
   subst (λ f. Chooses names (events ++ Tried name true ∷ []) f) (sym same)
       (so_far (Tried name true ∷ []) name
-      (subst (λ xs. Chooses xs (Tried name true ∷ []) name) (sym (drop_more names i name below ∙ ap (λ x. x ∷ drop (i + 1) names) (sym here))) usable)),
+      (subst (λ xs. Chooses xs (Tried name true ∷ []) name)
+      (sym (drop_more names i name below ∙ ap (λ x. x ∷ drop (i + 1) names) (sym here))) usable)),
 )
 
-pub chooses_own : {E : Type 0} (names : List (List ℕ)) (i : ℕ) (before so : List HostEvent) (result : Result (List ℕ) E) → length names ≤ i → Choosing names i before so
+pub chooses_own : {E : Type 0} (names : List (List ℕ)) (i : ℕ) (before so : List HostEvent) (result : Result (List ℕ) E) → length names ≤ i
+    → Choosing names i before so
     → IfOk result (λ folder. folder ≡ codes ".") → Noted before so (λ events. IfOk result (λ folder. Chooses names events folder))
 chooses_own names i before so (Err e) past (events, is, so_far) same = (events, is, tt)
 chooses_own names i before so (Ok folder) past (events, is, so_far) same = (
@@ -109,11 +124,13 @@ Trying names i before so = Noted before so (λ events. (more : List HostEvent) �
 pub tries_none_yet : (names : List (List ℕ)) (before : List HostEvent) → Trying names 0 before before
 tries_none_yet names before = ([], sym (append-nil before), λ more tries. tries)
 
-pub tries_later : (names : List (List ℕ)) (i : ℕ) (name : List ℕ) (answer : Bool) (before so after : List HostEvent) → i < length names → name ≡ get_or names i name
+pub tries_later : (names : List (List ℕ)) (i : ℕ) (name : List ℕ) (answer : Bool) (before so after : List HostEvent) → i < length names
+    → name ≡ get_or names i name
     → answer ≡ false → after ≡ so ++ Tried name answer ∷ [] → Trying names i before so → Trying names (i + 1) before after
 tries_later names i name answer before so after below here says grown (events, is, so_far) = (
   events ++ Tried name false ∷ [],
-  grown ∙ ap (λ b. so ++ Tried name b ∷ []) says ∙ ap (λ e. e ++ Tried name false ∷ []) is ∙ append_assoc before events (Tried name false ∷ []),
+  grown ∙ ap (λ b. so ++ Tried name b ∷ []) says ∙ ap (λ e. e ++ Tried name false ∷ []) is
+      ∙ append_assoc before events (Tried name false ∷ []),
   λ more tries.
       subst (λ e. Tries names e) (sym (append_assoc events (Tried name false ∷ []) more))
       (so_far (Tried name false ∷ more)
@@ -121,28 +138,35 @@ tries_later names i name answer before so after below here says grown (events, i
       (tries_next tries))),
 )
 
-pub tries_it : (names : List (List ℕ)) (i : ℕ) (name : List ℕ) (answer : Bool) (before so after : List HostEvent) → i < length names → name ≡ get_or names i name
+pub tries_it : (names : List (List ℕ)) (i : ℕ) (name : List ℕ) (answer : Bool) (before so after : List HostEvent) → i < length names
+    → name ≡ get_or names i name
     → after ≡ so ++ Tried name answer ∷ [] → Trying names i before so → Noted before after (Tries names)
 tries_it names i name answer before so after below here grown (events, is, so_far) = (
   events ++ Tried name answer ∷ [],
   grown ∙ ap (λ e. e ++ Tried name answer ∷ []) is ∙ append_assoc before events (Tried name answer ∷ []),
   so_far (Tried name answer ∷ [])
-      (subst (λ xs. Tries xs (Tried name answer ∷ [])) (sym (drop_more names i name below ∙ ap (λ x. x ∷ drop (i + 1) names) (sym here))) tries_last),
+      (subst (λ xs. Tries xs (Tried name answer ∷ [])) (sym (drop_more names i name below ∙ ap (λ x. x ∷ drop (i + 1) names) (sym here)))
+      tries_last),
 )
 
-pub tries_no_more : (names : List (List ℕ)) (i : ℕ) (before so after : List HostEvent) → after ≡ so → Trying names i before so → Noted before after (Tries names)
-tries_no_more names i before so after same (events, is, so_far) = (events, same ∙ is, subst (λ e. Tries names e) (append-nil events) (so_far [] tries_none))
+pub tries_no_more : (names : List (List ℕ)) (i : ℕ) (before so after : List HostEvent) → after ≡ so → Trying names i before so
+    → Noted before after (Tries names)
+tries_no_more names i before so after same (events, is, so_far) =
+    (events, same ∙ is, subst (λ e. Tries names e) (append-nil events) (so_far [] tries_none))
 
 -- no choice for lack of memory
-pub chooses_none : {X E : Type 0} (names : List (List ℕ)) (i : ℕ) (before so after : List HostEvent) (result : Result X E) (what : E → Type 0) (chosen : List HostEvent → X → Type 0)
+pub chooses_none : {X E : Type 0} (names : List (List ℕ)) (i : ℕ) (before so after : List HostEvent) (result : Result X E)
+    (what : E → Type 0) (chosen : List HostEvent → X → Type 0)
     → Choosing names i before so → after ≡ so → IsErrAnd result what → Noted before after (λ events. IfOk result (chosen events))
 chooses_none names i before so after (Ok x) what chosen choosing same is = absurd is
 chooses_none names i before so after (Err e) what chosen (events, grown, so_far) same is = (events, same ∙ grown, tt)
 
 -- the folder by its names
 
-pub folder_chosen : {E : Type 0} (known : Facts) (names slice : List (List ℕ)) (before after : List HostEvent) (result : Result (List ℕ) E) → slice ≡ names
-    → ((F : Facts) → Extends known F → folder_names F ≡ Is names) → Noted before after (λ events. IfOk result (λ folder. Chooses slice events folder))
+pub folder_chosen : {E : Type 0} (known : Facts) (names slice : List (List ℕ)) (before after : List HostEvent) (result : Result (List ℕ) E)
+    → slice ≡ names
+    → ((F : Facts) → Extends known F → folder_names F ≡ Is names)
+    → Noted before after (λ events. IfOk result (λ folder. Chooses slice events folder))
     → Noted before after (λ events. (F : Facts) → Extends known F → IfOk result (λ folder. IsFolder F events folder))
 folder_chosen known names slice before after (Err e) same told (events, grown, chooses) = (events, grown, λ F e. tt)
 folder_chosen known names slice before after (Ok folder) same told (events, grown, chooses) =
@@ -154,12 +178,14 @@ pub folder_tried : (known : Facts) (names slice : List (List ℕ)) (before after
 folder_tried known names slice before after same told (events, grown, tries) =
     (events, grown, λ F e. inr (names, told F e, subst (λ xs. Tries xs events) same tries))
 
-pub nothing_tried : (known : Facts) (notes : List HostEvent) → Noted notes notes (λ events. (F : Facts) → Extends known F → IsTried F events)
+pub nothing_tried : (known : Facts) (notes : List HostEvent)
+    → Noted notes notes (λ events. (F : Facts) → Extends known F → IsTried F events)
 nothing_tried known notes = ([], sym (append-nil notes), λ F e. inl refl)
 
 -- a table with the folder
 
-apart_at : (name key : List ℕ) (same : Bool) → is_at (slice_cmp nat_cmp name) key ≡ same → name ≢ key → is_at (slice_cmp nat_cmp name) key ≡ false
+apart_at : (name key : List ℕ) (same : Bool) → is_at (slice_cmp nat_cmp name) key ≡ same → name ≢ key
+    → is_at (slice_cmp nat_cmp name) key ≡ false
 apart_at name key true is apart = absurd (apart (exact_bytes name key ((Equal-is (slice_cmp nat_cmp name key)).0 is)))
 apart_at name key false is apart = is
 
@@ -167,7 +193,8 @@ pub settled_with : (F : Facts) (folder : List ℕ) → IsSettled F folder (with_
 settled_with F folder = record {
   reads = λ path. refl;
   kinds = λ path. refl;
-  variables = λ name apart. pair_elsewhere F.variables (codes "TMPDIR") name (Some folder) (apart_at name (codes "TMPDIR") (is_at (slice_cmp nat_cmp name) (codes "TMPDIR")) refl apart);
+  variables = λ name apart. pair_elsewhere F.variables (codes "TMPDIR") name (Some folder)
+      (apart_at name (codes "TMPDIR") (is_at (slice_cmp nat_cmp name) (codes "TMPDIR")) refl apart);
   folder_is = pair_here F.variables (codes "TMPDIR") (Some folder);
 }
 
@@ -183,7 +210,8 @@ answers_alike gs fs key other answer same =
 not_new : {X : Type 0} {x : X} {known : Option X} → known ≡ Some x → known ≡ None → ⊥
 not_new had new = absurd (false≢true (sym (ap is_some new) ∙ ap is_some had))
 
-settled_learnt : (F G : Facts) (folder : List ℕ) (event : Event) → IsSettled F folder G → IsNew G event → IsNew F event × IsSettled (learnt F event) folder (learnt G event)
+settled_learnt : (F G : Facts) (folder : List ℕ) (event : Event) → IsSettled F folder G → IsNew G event
+    → IsNew F event × IsSettled (learnt F event) folder (learnt G event)
 settled_learnt F G folder (Read path answer) is new = (
   sym (is.reads path) ∙ new,
   record {
@@ -225,7 +253,15 @@ settled_learn F G folder (event ∷ events) is new =
 -- what a call goes by
 
 pub nothing_begun : (journal : List Event) (notes : List HostEvent) → BeginsToGo journal journal notes notes
-nothing_begun journal notes = record { asked = []; tried = []; questions = tt; journal_grows = sym (append-nil journal); notes_grow = sym (append-nil notes); is_tried = inl refl }
+nothing_begun journal notes = record {
+  asked = [];
+  tried = [];
+  questions = tt;
+  journal_grows = sym (append-nil journal);
+  notes_grow =
+      sym (append-nil notes);
+  is_tried = inl refl;
+}
 
 pub begun : {journal journal' : List Event} {F known : Facts} {notes notes' : List HostEvent} → F ≡ no_facts → Asks journal journal' F known
     → Noted notes notes' (λ events. (G : Facts) → Extends known G → IsTried G events) → BeginsToGo journal journal' notes notes'
@@ -239,11 +275,13 @@ begun {known = known} empty asks (tried, grown, is_tried) =
       is_tried = subst (λ G. IsTried G tried) known_is (is_tried known (extends_refl known));
     }
 
-pub tried_goes : {asked : List Event} {tried : List HostEvent} → IsTried (learn no_facts asked) tried → GoesBy asked tried OutOfMemory no_facts
+pub tried_goes : {asked : List Event} {tried : List HostEvent} → IsTried (learn no_facts asked) tried
+    → GoesBy asked tried OutOfMemory no_facts
 tried_goes {asked} (inl none) = subst (λ t. GoesBy asked t OutOfMemory no_facts) (sym none) unnamed
 tried_goes (inr (names, known, tries)) = unsettled known tries
 
-pub going : {journal journal' : List Event} {F known : Facts} {notes notes' : List HostEvent} (folder : List ℕ) (table : Facts) → F ≡ no_facts
+pub going : {journal journal' : List Event} {F known : Facts} {notes notes' : List HostEvent} (folder : List ℕ) (table : Facts)
+    → F ≡ no_facts
     → Asks journal journal' F known → Noted notes notes' (λ events. (G : Facts) → Extends known G → IsFolder G events folder)
     → table ≡ with_value known (codes "TMPDIR") (Some folder) → Going journal journal' notes notes' table
 going {known = known} folder table empty asks (tried, grown, is_folder) put =
@@ -255,18 +293,23 @@ going {known = known} folder table empty asks (tried, grown, is_folder) put =
       journal_grows = asks.journal_grows;
       notes_grow = grown;
       is_folder = λ G e. is_folder G (subst (λ K. Extends K G) (sym known_is) e);
-      settles = subst (λ K. IsSettled K folder table) known_is (subst (λ T. IsSettled known folder T) (sym put) (settled_with known folder));
+      settles = subst (λ K. IsSettled K folder table) known_is
+          (subst (λ T. IsSettled known folder T) (sym put) (settled_with known folder));
     }
 
-pub table_settled : {X E : Type 0} {journal journal' : List Event} {F known : Facts} (notes notes' : List HostEvent) (result : Result X E) (folder name : List ℕ)
+pub table_settled : {X E : Type 0} {journal journal' : List Event} {F known : Facts} (notes notes' : List HostEvent) (result : Result X E)
+    (folder name : List ℕ)
     (before table : Facts) → name ≡ codes "TMPDIR" → before ≡ known → F ≡ no_facts → Asks journal journal' F known
-    → Noted notes notes' (λ events. (G : Facts) → Extends known G → IsFolder G events folder) → OnOk result (table ≡ with_value before name (Some folder))
+    → Noted notes notes' (λ events. (G : Facts) → Extends known G → IsFolder G events folder)
+    → OnOk result (table ≡ with_value before name (Some folder))
     → OnOk result (Going journal journal' notes notes' table)
 table_settled notes notes' (Err e) folder name before table named same empty asks chosen put = tt
 table_settled notes notes' (Ok x) folder name before table named same empty asks chosen put =
-    going folder table empty asks chosen (put ∙ ap (λ n. with_value before n (Some folder)) named ∙ ap (λ K. with_value K (codes "TMPDIR") (Some folder)) same)
+    going folder table empty asks chosen (put ∙ ap (λ n. with_value before n (Some folder)) named
+    ∙ ap (λ K. with_value K (codes "TMPDIR") (Some folder)) same)
 
-pub going_further : {journal mid journal' : List Event} {notes notes' : List HostEvent} {G G' : Facts} → Going journal mid notes notes' G → Asks mid journal' G G'
+pub going_further : {journal mid journal' : List Event} {notes notes' : List HostEvent} {G G' : Facts} → Going journal mid notes notes' G
+    → Asks mid journal' G G'
     → Going journal journal' notes notes' G'
 going_further {journal} {G = G} {G' = G'} before asks =
     let both = settled_learn (learn no_facts before.asked) G before.folder asks.asked before.settles asks.questions in
@@ -277,23 +320,28 @@ going_further {journal} {G = G} {G' = G'} before asks =
       questions = new_append no_facts before.asked asks.asked before.questions both.0;
       journal_grows = asks.journal_grows ∙ ap (λ j. j ++ asks.asked) before.journal_grows ∙ append_assoc journal before.asked asks.asked;
       notes_grow = before.notes_grow;
-      is_folder = λ F e. before.is_folder F (extends_then (subst (λ K. Extends (learn no_facts before.asked) K) (sym grown) (learn_extends (learn no_facts before.asked) asks.asked)) e);
+      is_folder = λ F e. before.is_folder F (extends_then
+          (subst (λ K. Extends (learn no_facts before.asked) K) (sym grown) (learn_extends (learn no_facts before.asked) asks.asked)) e);
       settles =
           subst (λ K. IsSettled K before.folder G') (sym grown)
           (subst (λ T. IsSettled (learn (learn no_facts before.asked) asks.asked) before.folder T) (sym asks.facts_grow) both.1);
     }
 
-by_folder : {asked : List Event} {tried : List HostEvent} {folder : List ℕ} {G : Facts} {outcome : Outcome} → IsFolder (learn no_facts asked) tried folder
+by_folder : {asked : List Event} {tried : List HostEvent} {folder : List ℕ} {G : Facts} {outcome : Outcome}
+    → IsFolder (learn no_facts asked) tried folder
     → IsSettled (learn no_facts asked) folder G → GoesBy asked tried outcome G
 by_folder (names, known, chooses) settles = settled known chooses settles
 
-pub goes_by : {journal journal' : List Event} {notes notes' : List HostEvent} {G : Facts} (outcome : Outcome) (all : Going journal journal' notes notes' G)
+pub goes_by : {journal journal' : List Event} {notes notes' : List HostEvent} {G : Facts} (outcome : Outcome)
+    (all : Going journal journal' notes notes' G)
     → GoesBy all.asked all.tried outcome G
 goes_by outcome all = by_folder (all.is_folder (learn no_facts all.asked) (extends_refl (learn no_facts all.asked))) all.settles
 
-pub no_pipe_begun : {journal journal' : List Event} {notes notes' : List HostEvent} → BeginsToGo journal journal' notes notes' → pipe_pending (run_of journal) ≡ false
+pub no_pipe_begun : {journal journal' : List Event} {notes notes' : List HostEvent} → BeginsToGo journal journal' notes notes'
+    → pipe_pending (run_of journal) ≡ false
     → pipe_pending (run_of journal') ≡ false
 no_pipe_begun {journal} {journal'} before none = no_pipe_after_questions (asks_of before) none
   where
-    asks_of : {notes notes' : List HostEvent} (b : BeginsToGo journal journal' notes notes') → Asks journal journal' no_facts (learn no_facts b.asked)
+    asks_of : {notes notes' : List HostEvent} (b : BeginsToGo journal journal' notes notes')
+        → Asks journal journal' no_facts (learn no_facts b.asked)
     asks_of b = record { asked = b.asked; questions = b.questions; journal_grows = b.journal_grows; facts_grow = refl }

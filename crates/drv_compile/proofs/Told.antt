@@ -14,10 +14,13 @@ pub told_more : (name : List ℕ) (known : List (List ℕ)) (refusals : List Ref
 told_more name known refusals i refusal text after below here (line, told, grown) so_far rest more =
     subst (λ t. AreTold name known refusals t) (sym (ap (λ t. t ++ rest) grown ∙ append_assoc text line rest))
     (so_far (line ++ rest)
-    (subst (λ rs. AreTold name known rs (line ++ rest)) (sym (drop_more refusals i refusal below ∙ ap (λ r. r ∷ drop (i + 1) refusals) (sym here)))
+    (subst (λ rs. AreTold name known rs (line ++ rest))
+    (sym (drop_more refusals i refusal below ∙ ap (λ r. r ∷ drop (i + 1) refusals) (sym here)))
     (line, rest, told, more, refl)))
 
 pub told_all : (name : List ℕ) (known : List (List ℕ)) (refusals : List Refusal) (i : ℕ) (text : List ℕ) → length refusals ≤ i
-    → ((rest : List ℕ) → AreTold name known (drop i refusals) rest → AreTold name known refusals (text ++ rest)) → AreTold name known refusals text
+    → ((rest : List ℕ) → AreTold name known (drop i refusals) rest → AreTold name known refusals (text ++ rest))
+    → AreTold name known refusals text
 told_all name known refusals i text past so_far =
-    subst (λ t. AreTold name known refusals t) (append-nil text) (so_far [] (subst (λ rs. AreTold name known rs []) (sym (drop_all i refusals past)) refl))
+    subst (λ t. AreTold name known refusals t) (append-nil text)
+    (so_far [] (subst (λ rs. AreTold name known rs []) (sym (drop_all i refusals past)) refl))

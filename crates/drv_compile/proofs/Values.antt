@@ -13,15 +13,18 @@ first_value key (line ∷ all) = by (starts_with nat_eq line key) refl (first_va
   where
     by : (t : Bool) → starts_with nat_eq line key ≡ t
         → first_of (flat_map (value_in key) all) ≡ option_map (drop (length key)) (find (λ other. starts_with nat_eq other key) all)
-        → first_of (flat_map (value_in key) (line ∷ all)) ≡ option_map (drop (length key)) (find (λ other. starts_with nat_eq other key) (line ∷ all))
+        → first_of (flat_map (value_in key) (line ∷ all)) ≡ option_map (drop (length key))
+        (find (λ other. starts_with nat_eq other key) (line ∷ all))
     by true is rest = rw is refl
     by false is rest = rw is rest
 
-pub value_none : (key : List ℕ) (all : List (List ℕ)) (seen : Option (List ℕ)) → seen ≡ None → seen ≡ find (λ line. starts_with nat_eq line key) all
+pub value_none : (key : List ℕ) (all : List (List ℕ)) (seen : Option (List ℕ)) → seen ≡ None
+    → seen ≡ find (λ line. starts_with nat_eq line key) all
     → None ≡ first_of (flat_map (value_in key) all)
 value_none key all seen is found = sym (first_value key all ∙ ap (option_map (drop (length key))) (sym found ∙ is))
 
 pub value_some : (key : List ℕ) (all : List (List ℕ)) (seen : Option (List ℕ)) (line word : List ℕ) → seen ≡ Some line
-    → seen ≡ find (λ line. starts_with nat_eq line key) all → word ≡ drop (length key) line → Some word ≡ first_of (flat_map (value_in key) all)
+    → seen ≡ find (λ line. starts_with nat_eq line key) all → word ≡ drop (length key) line
+    → Some word ≡ first_of (flat_map (value_in key) all)
 value_some key all seen line word is found word_is =
     ap Some word_is ∙ sym (first_value key all ∙ ap (option_map (drop (length key))) (sym found ∙ is))

@@ -7,7 +7,8 @@ use Rattle.drv_c99.specs.declared.fault.C99Fault.{C99Fault}
 use Rattle.drv_compile.specs.Code.Preparing.{IsFailure}
 use Rattle.drv_compile.specs.Runs.{Stops}
 use Rattle.drv_compile.specs.Tasks.{IfTold}
-use Rattle.drv_compile.specs.Words.{IsUnexpanded, IsUnfronted, IsUnread, RefusesWords, Words, first_unread, fronted, if_unread, not_expanded, not_fronted, not_readable, or_later, stop_of, unread_at}
+use Rattle.drv_compile.specs.Words.{IsUnexpanded, IsUnfronted, IsUnread, RefusesWords, Words, first_unread, fronted, if_unread}
+use Rattle.drv_compile.specs.Words.{not_expanded, not_fronted, not_readable, or_later, stop_of, unread_at, within_limit}
 use Rattle.drv_compile.specs.declared.calling.Calling.{Calling}
 use Rattle.drv_compile.specs.declared.running.DriverLine.{DriverLine}
 use Rattle.drv_compile.specs.declared.stop.Stop.TheVariants.{Memory, Told}
@@ -18,7 +19,8 @@ use Rattle.drv_run.specs.declared.ending.Ending.{Ending}
 use Rattle.drv_system.specs.Facts.{Facts, read_of}
 use Rattle.drv_system.specs.Known.{◌>>=◌, Is, asked}
 use Rattle.drv_system.specs.declared.event.ReadAnswer.{ReadAnswer}
-use Rattle.std.proofs.Common.{◌≡◌, ◌⊎◌, ◌<◌, ◌≤◌, ◌+◌, ◌∙◌, ◌∷◌, Err, IsErrAnd, List, None, Ok, Option, Result, Some, ap, drop, false, inl, inr, length, refl, subst, sym, true, ℕ}
+use Rattle.std.proofs.Common.{◌≡◌, ◌⊎◌, ◌<◌, ◌≤◌, ◌+◌, ◌∙◌, ◌∷◌, Err, IsErrAnd, List, None, Ok, Option, Result, Some, ap, drop, false, inl}
+use Rattle.std.proofs.Common.{inr, length, refl, subst, sym, true, ℕ}
 use Rattle.std.proofs.lemmas.Bool.{false≢true}
 use Rattle.std.proofs.lemmas.List.{drop_all, drop_more}
 use Rattle.std.specs.Prelude.{MatchResult, get_or, is_some}
@@ -26,18 +28,21 @@ use Rattle.std.specs.Prelude.{MatchResult, get_or, is_some}
 -- For the words of a call: they are those of its response files, or it is refused.
 
 -- lack of memory says nothing
-pub memory_stops : {X : Type 0} (result : Result X Stop) (done : X → Type 0) (told : List ℕ → Type 0) → IsErrAnd result (λ stop. stop ≡ Memory)
+pub memory_stops : {X : Type 0} (result : Result X Stop) (done : X → Type 0) (told : List ℕ → Type 0)
+    → IsErrAnd result (λ stop. stop ≡ Memory)
     → MatchResult result done (λ stop. IfTold stop told)
 memory_stops (Ok x) done told is = absurd is
 memory_stops (Err stop) done told is = subst (λ s. IfTold s told) (sym is) tt
 
 -- a stop that is handed on
-pub stop_stays : {X : Type 0} (result : Result X Stop) (stop : Stop) (done : X → Type 0) (told : List ℕ → Type 0) → IsErrAnd result (λ s. s ≡ stop)
+pub stop_stays : {X : Type 0} (result : Result X Stop) (stop : Stop) (done : X → Type 0) (told : List ℕ → Type 0)
+    → IsErrAnd result (λ s. s ≡ stop)
     → IfTold stop told → MatchResult result done (λ s. IfTold s told)
 stop_stays (Ok x) stop done told is tells = absurd is
 stop_stays (Err s) stop done told is tells = subst (λ s'. IfTold s' told) (sym is) tells
 
-pub told_as : (stop : Stop) (told told' : List ℕ → Type 0) → ((text : List ℕ) → told text → told' text) → IfTold stop told → IfTold stop told'
+pub told_as : (stop : Stop) (told told' : List ℕ → Type 0) → ((text : List ℕ) → told text → told' text) → IfTold stop told
+    → IfTold stop told'
 told_as (Told text) told told' turns tells = turns text tells
 told_as Memory told told' turns tells = tt
 
@@ -48,13 +53,16 @@ unread_asked F given path named answer found some same known is =
     ap (unread_at F) (some ∙ ap Some (sym same)) ∙ ap (λ k. asked k >>= λ a. Is (if_unread named a)) known ∙ ap Is (sym is)
 
 pub unread_more : (F : Facts) (words : List (List ℕ)) (i : ℕ) (word : List ℕ) → i < length words → word ≡ get_or words i word
-    → unread_at F (file_named word) ≡ Is None → first_unread F (drop i words) ≡ first_unread F words → first_unread F (drop (i + 1) words) ≡ first_unread F words
+    → unread_at F (file_named word) ≡ Is None → first_unread F (drop i words) ≡ first_unread F words
+    → first_unread F (drop (i + 1) words) ≡ first_unread F words
 unread_more F words i word below here none so_far =
     sym (ap (first_unread F) (drop_more words i word below ∙ ap (λ w. w ∷ drop (i + 1) words) (sym here))
     ∙ ap (λ k. k >>= λ path. or_later path (first_unread F (drop (i + 1) words))) none) ∙ so_far
 
-pub unread_here : (F : Facts) (words : List (List ℕ)) (i : ℕ) (word : List ℕ) (found : Option (List ℕ)) → i < length words → word ≡ get_or words i word
-    → unread_at F (file_named word) ≡ Is found → is_some found ≡ true → first_unread F (drop i words) ≡ first_unread F words → first_unread F words ≡ Is found
+pub unread_here : (F : Facts) (words : List (List ℕ)) (i : ℕ) (word : List ℕ) (found : Option (List ℕ)) → i < length words
+    → word ≡ get_or words i word
+    → unread_at F (file_named word) ≡ Is found → is_some found ≡ true → first_unread F (drop i words) ≡ first_unread F words
+    → first_unread F words ≡ Is found
 unread_here F words i word found below here is some so_far =
     sym so_far ∙ ap (first_unread F) (drop_more words i word below ∙ ap (λ w. w ∷ drop (i + 1) words) (sym here))
     ∙ ap (λ k. k >>= λ p. or_later p (first_unread F (drop (i + 1) words))) is ∙ by found some
@@ -67,16 +75,19 @@ pub not_some : {X : Type 0} (o : Option X) → is_some o ≡ false → o ≡ Non
 not_some None is = refl
 not_some (Some x) is = absurd (false≢true (sym is))
 
-pub unread_nowhere : (F : Facts) (words : List (List ℕ)) (i : ℕ) → length words ≤ i → first_unread F (drop i words) ≡ first_unread F words → first_unread F words ≡ Is None
+pub unread_nowhere : (F : Facts) (words : List (List ℕ)) (i : ℕ) → length words ≤ i → first_unread F (drop i words) ≡ first_unread F words
+    → first_unread F words ≡ Is None
 unread_nowhere F words i past so_far = sym so_far ∙ ap (first_unread F) (drop_all i words past)
 
 -- faults as texts
 
-pub args_told : (F : Facts) (name : List ℕ) (args : List (List ℕ)) (fault : ArgsFault) (stop : Stop) → stop ≡ stop_of name (stopped_by_args fault)
-    → Expands F 2000 args (Err fault) → IfTold stop (IsUnexpanded F name args)
+pub args_told : (F : Facts) (name : List ℕ) (args : List (List ℕ)) (fault : ArgsFault) (stop : Stop)
+    → stop ≡ stop_of name (stopped_by_args fault)
+    → Expands (within_limit F) 2000 args (Err fault) → IfTold stop (IsUnexpanded F name args)
 args_told F name args fault stop is given = subst (λ s. IfTold s (IsUnexpanded F name args)) (sym is) (by fault given)
   where
-    refused : (fault : ArgsFault) → RefusesExpansion F 2000 args fault → IfTold (stop_of name (stopped_by_args fault)) (IsUnexpanded F name args)
+    refused : (fault : ArgsFault) → RefusesExpansion (within_limit F) 2000 args fault
+        → IfTold (stop_of name (stopped_by_args fault)) (IsUnexpanded F name args)
     refused args_fault.Memory refuses = tt
     refused args_fault.TooManyFiles refuses = (args_fault.TooManyFiles, refuses, refl)
     refused (args_fault.ResponseTooLarge path) refuses = (args_fault.ResponseTooLarge path, refuses, refl)
@@ -88,22 +99,26 @@ args_told F name args fault stop is given = subst (λ s. IfTold s (IsUnexpanded 
     refused args_fault.OutputWithMany refuses = (args_fault.OutputWithMany, refuses, refl)
     refused (args_fault.OutputIsInput input) refuses = (args_fault.OutputIsInput input, refuses, refl)
 
-    by : (fault : ArgsFault) → Expands F 2000 args (Err fault) → IfTold (stop_of name (stopped_by_args fault)) (IsUnexpanded F name args)
+    by : (fault : ArgsFault) → Expands (within_limit F) 2000 args (Err fault)
+        → IfTold (stop_of name (stopped_by_args fault)) (IsUnexpanded F name args)
     by fault (inl memory) = subst (λ f. IfTold (stop_of name (stopped_by_args f)) (IsUnexpanded F name args)) (sym memory) tt
     by fault (inr refuses) = refused fault refuses
 
-pub c99_told : (calling : Calling) (expanded : Expanded) (fault : C99Fault) (stop : Stop) → stop ≡ stop_of calling.name (stopped_by_c99 fault)
+pub c99_told : (calling : Calling) (expanded : Expanded) (fault : C99Fault) (stop : Stop)
+    → stop ≡ stop_of calling.name (stopped_by_c99 fault)
     → (fault ≡ c99_fault.Memory) ⊎ (fronted calling.front expanded ≡ Err fault) → IfTold stop (IsUnfronted calling expanded)
 c99_told calling expanded fault stop is given = subst (λ s. IfTold s (IsUnfronted calling expanded)) (sym is) (by fault given)
   where
-    refused : (fault : C99Fault) → fronted calling.front expanded ≡ Err fault → IfTold (stop_of calling.name (stopped_by_c99 fault)) (IsUnfronted calling expanded)
+    refused : (fault : C99Fault) → fronted calling.front expanded ≡ Err fault
+        → IfTold (stop_of calling.name (stopped_by_c99 fault)) (IsUnfronted calling expanded)
     refused c99_fault.Memory refuses = tt
     refused (c99_fault.UnknownOption word) refuses = (c99_fault.UnknownOption word, refuses, refl)
     refused (c99_fault.MissingArgument option) refuses = (c99_fault.MissingArgument option, refuses, refl)
     refused c99_fault.NoOperand refuses = (c99_fault.NoOperand, refuses, refl)
     refused (c99_fault.BadLevel argument) refuses = (c99_fault.BadLevel argument, refuses, refl)
 
-    by : (fault : C99Fault) → (fault ≡ c99_fault.Memory) ⊎ (fronted calling.front expanded ≡ Err fault) → IfTold (stop_of calling.name (stopped_by_c99 fault)) (IsUnfronted calling expanded)
+    by : (fault : C99Fault) → (fault ≡ c99_fault.Memory) ⊎ (fronted calling.front expanded ≡ Err fault)
+        → IfTold (stop_of calling.name (stopped_by_c99 fault)) (IsUnfronted calling expanded)
     by fault (inl memory) = subst (λ f. IfTold (stop_of calling.name (stopped_by_c99 f)) (IsUnfronted calling expanded)) (sym memory) tt
     by fault (inr refuses) = refused fault refuses
 
@@ -118,26 +133,33 @@ driver_told F name own seed ending stop is stops = subst (λ s. IfTold s (IsFail
 
 -- the words from step to step
 
-pub unexpanded : (F : Facts) (calling : Calling) (name : List ℕ) (args : List (List ℕ)) (stop : Stop) (result : Result Expanded Stop) → name ≡ calling.name
-    → IsErrAnd result (λ s. s ≡ stop) → IfTold stop (IsUnexpanded F name args) → MatchResult result (λ words. Words F calling args words) (λ s. IfTold s (RefusesWords F calling args))
+pub unexpanded : (F : Facts) (calling : Calling) (name : List ℕ) (args : List (List ℕ)) (stop : Stop) (result : Result Expanded Stop)
+    → name ≡ calling.name
+    → IsErrAnd result (λ s. s ≡ stop) → IfTold stop (IsUnexpanded F name args)
+    → MatchResult result (λ words. Words F calling args words) (λ s. IfTold s (RefusesWords F calling args))
 unexpanded F calling name args stop result named is tells =
     stop_stays result stop (λ words. Words F calling args words) (RefusesWords F calling args) is
     (told_as stop (IsUnexpanded F name args) (RefusesWords F calling args)
     (λ text un. not_expanded (subst (λ n. IsUnexpanded F n args text) named un)) tells)
 
-pub unreadable : (F : Facts) (calling : Calling) (name : List ℕ) (args words : List (List ℕ)) (expanded : Expanded) (stop : Stop) (result : Result Expanded Stop) → name ≡ calling.name
-    → words ≡ expanded.words → Expands F 2000 args (Ok expanded) → IsErrAnd result (λ s. s ≡ stop) → IfTold stop (IsUnread F name words)
+pub unreadable : (F : Facts) (calling : Calling) (name : List ℕ) (args words : List (List ℕ)) (expanded : Expanded) (stop : Stop)
+    (result : Result Expanded Stop) → name ≡ calling.name
+    → words ≡ expanded.words → Expands (within_limit F) 2000 args (Ok expanded)
+    → IsErrAnd result (λ s. s ≡ stop) → IfTold stop (IsUnread F name words)
     → MatchResult result (λ given. Words F calling args given) (λ s. IfTold s (RefusesWords F calling args))
 unreadable F calling name args words expanded stop result named are expands is tells =
     stop_stays result stop (λ given. Words F calling args given) (RefusesWords F calling args) is
     (told_as stop (IsUnread F name words) (RefusesWords F calling args)
-    (λ text un. not_readable expands (subst (λ n. IsUnread F n expanded.words text) named (subst (λ w. IsUnread F name w text) are un))) tells)
+    (λ text un. not_readable expands (subst (λ n. IsUnread F n expanded.words text) named (subst (λ w. IsUnread F name w text) are un)))
+    tells)
 
-pub words_given : (F : Facts) (calling : Calling) (args words : List (List ℕ)) (expanded : Expanded) (result : Result Expanded Stop) → words ≡ expanded.words
-    → Expands F 2000 args (Ok expanded) → first_unread F words ≡ Is None
+pub words_given : (F : Facts) (calling : Calling) (args words : List (List ℕ)) (expanded : Expanded) (result : Result Expanded Stop)
+    → words ≡ expanded.words
+    → Expands (within_limit F) 2000 args (Ok expanded) → first_unread F words ≡ Is None
     → MatchResult result (λ given. fronted calling.front expanded ≡ Ok given) (λ s. IfTold s (IsUnfronted calling expanded))
     → MatchResult result (λ given. Words F calling args given) (λ s. IfTold s (RefusesWords F calling args))
 words_given F calling args words expanded (Ok given) are expands readable fronts =
     record { expanded = expanded; expands = expands; readable = ap (first_unread F) (sym are) ∙ readable; fronts = fronts }
 words_given F calling args words expanded (Err stop) are expands readable tells =
-    told_as stop (IsUnfronted calling expanded) (RefusesWords F calling args) (λ text un. not_fronted expands (ap (first_unread F) (sym are) ∙ readable) un) tells
+    told_as stop (IsUnfronted calling expanded) (RefusesWords F calling args)
+    (λ text un. not_fronted expands (ap (first_unread F) (sym are) ∙ readable) un) tells

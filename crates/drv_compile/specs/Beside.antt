@@ -19,7 +19,8 @@ bytes_read Failed = None
 bytes_read TooLarge = None
 
 abbrev pub plain_text : Facts → List ℕ → Known (Option (List ℕ))
-plain_text F path = asked (kind_of F path) >>= λ kind. if is_plain kind then (asked (read_of F path) >>= λ answer. Is (bytes_read answer)) else Is None
+plain_text F path = asked (kind_of F path) >>= λ kind. if is_plain kind then (asked (read_of F path) >>= λ answer. Is (bytes_read answer))
+    else Is None
 
 -- the lines before the mark of a file, where it is a plain one and whole
 abbrev pub written : Facts → List ℕ → Known (Option (List ℕ))
@@ -50,8 +51,8 @@ given_by None = None
 given_by (Some []) = None
 given_by (Some (b ∷ path)) = Some (given (b ∷ path))
 
-abbrev pub named_file : Facts → Known (Option (List ℕ))
-named_file F = asked (variable_of F (codes "GDRV_CC_SPECS")) >>= λ value. Is (given_by value)
+abbrev pub file_of_variable : Facts → Known (Option (List ℕ))
+file_of_variable F = asked (variable_of F (codes "GDRV_CC_SPECS")) >>= λ value. Is (given_by value)
 
 -- the place where a spec file should be
 abbrev pub or_own : Option (List ℕ) → Option (List ℕ) → Option (List ℕ)
@@ -59,4 +60,4 @@ or_own own None = own
 or_own own (Some path) = Some path
 
 abbrev pub spec_file : Facts → Option (List ℕ) → Known (Option (List ℕ))
-spec_file F own = named_file F >>= λ named. plain_at F (or_own own named)
+spec_file F own = file_of_variable F >>= λ named. plain_at F (or_own own named)

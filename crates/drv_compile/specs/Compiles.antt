@@ -48,7 +48,8 @@ use Rattle.drv_words.specs.declared.steps.Step.{Step}
 use Rattle.std.specs.Cmp.Lexicographic.{pointwise}
 use Rattle.std.specs.List.{list_any}
 use Rattle.std.specs.Option.{option_map}
-use Rattle.std.specs.Prelude.{◌≡◌, ◌&&◌, Bool, List, [], ◌∷◌, ◌++◌, None, Option, Some, false, get_or, length, map, nat_eq, not, slice_get, true, ℕ}
+use Rattle.std.specs.Prelude.{◌≡◌, ◌&&◌, Bool, List, [], ◌∷◌, ◌++◌, None, Option, Some, false, get_or, length, map, nat_eq, not, slice_get}
+use Rattle.std.specs.Prelude.{true, ℕ}
 
 -- A call of gdrv-cc (GCC manual, "Invoking GCC"): what its words ask for, and what the journal has after it.
 
@@ -61,10 +62,12 @@ one_command command = record {
 }
 
 abbrev pub question : List ℕ → List (List ℕ) → Work
-question compiler args = CarryOut (one_command (record { program = compiler; words = args })) (record { telling = Notices; pass_codes = GreatestCode; window = 1 })
+question compiler args = CarryOut (one_command (record { program = compiler; words = args }))
+    (record { telling = Notices; pass_codes = GreatestCode; window = 1 })
 
 -- A line that is carried out: nothing speaks against it, its output is no input, and the items that the driver is called with denote work.
-pub record Performs (F : Facts) (calling : Calling) (chain : Toolchain) (call : Call) (given : Expanded) (seed : ℕ) (events : List HostEvent) (prepared : Prepared) : Type 0 where
+pub record Performs (F : Facts) (calling : Calling) (chain : Toolchain) (call : Call) (given : Expanded) (seed : ℕ)
+    (events : List HostEvent) (prepared : Prepared) : Type 0 where
   pub driven : Driven
   pub free : objection F calling.name call.inputs ≡ Is []
   pub apart : Overwrites call.inputs call.output events false
@@ -77,19 +80,26 @@ pub record Performs (F : Facts) (calling : Calling) (chain : Toolchain) (call : 
   pub remark : prepared.remark ≡ []
 
 -- or the text of its refusal
-pub data Fails (F : Facts) (calling : Calling) (chain : Toolchain) (call : Call) (given : Expanded) (seed : ℕ) : List HostEvent → List ℕ → Type 0 where
-  objected : {b : ℕ} {text : List ℕ} → objection F calling.name call.inputs ≡ Is (b ∷ text) → Fails F calling chain call given seed [] (b ∷ text)
+pub data Fails (F : Facts) (calling : Calling) (chain : Toolchain) (call : Call) (given : Expanded) (seed : ℕ) : List HostEvent → List ℕ
+    → Type 0 where
+  objected : {b : ℕ} {text : List ℕ} → objection F calling.name call.inputs ≡ Is (b ∷ text)
+      → Fails F calling chain call given seed [] (b ∷ text)
   overwriting : {events : List HostEvent} {output : List ℕ} → objection F calling.name call.inputs ≡ Is [] → call.output ≡ Some output
       → Overwrites call.inputs call.output events true → Fails F calling chain call given seed events (overwritten_text calling.name output)
-  undriven : {events : List HostEvent} {text : List ℕ} → objection F calling.name call.inputs ≡ Is [] → Overwrites call.inputs call.output events false
+  undriven : {events : List HostEvent} {text : List ℕ} → objection F calling.name call.inputs ≡ Is []
+      → Overwrites call.inputs call.output events false
       → Undriven F calling chain call given text → Fails F calling chain call given seed events text
-  stopped : {events : List HostEvent} {driven : Driven} {refusal : Refusal} → objection F calling.name call.inputs ≡ Is [] → Overwrites call.inputs call.output events false
-      → Drives F chain call given driven → Stops F driven.line seed (Refused refusal) → Fails F calling chain call given seed events (told_refusal calling.name refusal)
+  stopped : {events : List HostEvent} {driven : Driven} {refusal : Refusal} → objection F calling.name call.inputs ≡ Is []
+      → Overwrites call.inputs call.output events false
+      → Drives F chain call given driven → Stops F driven.line seed (Refused refusal)
+      → Fails F calling chain call given seed events (told_refusal calling.name refusal)
 
 -- What arguments ask for, with what the host was asked: a question to the compiler, a line that is carried out, or a refusal. `own` is where
 -- the spec file of this program lies, if that is known.
-pub data Comes (F : Facts) (calling : Calling) (own : Option (List ℕ)) (args : List (List ℕ)) (seed : ℕ) : List HostEvent → Prepared → Type 0 where
-  asks : {words : Expanded} {decision : Decision} {specs compiler : List ℕ} → Words F calling args words → decided F own words.words ≡ Is decision
+pub data Comes (F : Facts) (calling : Calling) (own : Option (List ℕ)) (args : List (List ℕ)) (seed : ℕ) : List HostEvent → Prepared
+    → Type 0 where
+  asks : {words : Expanded} {decision : Decision} {specs compiler : List ℕ} → Words F calling args words
+      → decided F own words.words ≡ Is decision
       → Leads decision (Question specs compiler)
       → Comes F calling own args seed [] (record {
         work = question compiler args;
@@ -99,15 +109,18 @@ pub data Comes (F : Facts) (calling : Calling) (own : Option (List ℕ)) (args :
         hint = gone_text calling.name specs calling.machine;
         remark = version_text calling.name compiler args;
       })
-  performs : {words : Expanded} {decision : Decision} {chain : Toolchain} {call : Call} {events : List HostEvent} {prepared : Prepared} → Words F calling args words
+  performs : {words : Expanded} {decision : Decision} {chain : Toolchain} {call : Call} {events : List HostEvent} {prepared : Prepared}
+      → Words F calling args words
       → decided F own words.words ≡ Is decision → Leads decision (Compilation chain call)
       → Performs F calling chain call words seed events prepared → Comes F calling own args seed events prepared
 
-pub data Refuses (F : Facts) (calling : Calling) (own : Option (List ℕ)) (args : List (List ℕ)) (seed : ℕ) : List HostEvent → List ℕ → Type 0 where
+pub data Refuses (F : Facts) (calling : Calling) (own : Option (List ℕ)) (args : List (List ℕ)) (seed : ℕ) : List HostEvent → List ℕ
+    → Type 0 where
   no_words : {text : List ℕ} → RefusesWords F calling args text → Refuses F calling own args seed [] text
   declines : {words : Expanded} {decision : Decision} {text : List ℕ} → Words F calling args words → decided F own words.words ≡ Is decision
       → Declines calling decision text → Refuses F calling own args seed [] text
-  fails : {words : Expanded} {decision : Decision} {chain : Toolchain} {text : List ℕ} {call : Call} {events : List HostEvent} → Words F calling args words
+  fails : {words : Expanded} {decision : Decision} {chain : Toolchain} {text : List ℕ} {call : Call} {events : List HostEvent}
+      → Words F calling args words
       → decided F own words.words ≡ Is decision → Leads decision (Compilation chain call)
       → Fails F calling chain call words seed events text → Refuses F calling own args seed events text
 
@@ -177,13 +190,15 @@ pub data Ends (F : Facts) (at : ℕ) (calling : Calling) (own : Option (List ℕ
 -- that, it goes by nothing: the host was asked for none of the names, as they were not known, or for some of them.
 pub data GoesBy : List Event → List HostEvent → Outcome → Facts → Type 0 where
   settled : {asked : List Event} {names : List (List ℕ)} {tried : List HostEvent} {folder : List ℕ} {G : Facts} {outcome : Outcome}
-      → folder_names (learn no_facts asked) ≡ Is names → Chooses names tried folder → IsSettled (learn no_facts asked) folder G → GoesBy asked tried outcome G
+      → folder_names (learn no_facts asked) ≡ Is names → Chooses names tried folder → IsSettled (learn no_facts asked) folder G
+      → GoesBy asked tried outcome G
   unnamed : {asked : List Event} → GoesBy asked [] OutOfMemory no_facts
   unsettled : {asked : List Event} {names : List (List ℕ)} {tried : List HostEvent}
       → folder_names (learn no_facts asked) ≡ Is names → Tries names tried → GoesBy asked tried OutOfMemory no_facts
 
 -- A call: it asked what it did not know, each thing once, and ends as the answers say.
-pub record Compiled (journal journal' : List Event) (notes notes' : List HostEvent) (calling : Calling) (own : Option (List ℕ)) (args : List (List ℕ)) (seed : ℕ) (outcome : Outcome) : Type 0 where
+pub record Compiled (journal journal' : List Event) (notes notes' : List HostEvent) (calling : Calling) (own : Option (List ℕ))
+    (args : List (List ℕ)) (seed : ℕ) (outcome : Outcome) : Type 0 where
   pub asked : List Event
   pub said : List Event
   pub tried : List HostEvent

@@ -1,5 +1,5 @@
 use Rattle.drv_cc.specs.declared.answer.Surroundings.{Surroundings}
-use Rattle.drv_compile.specs.Beside.{named_file, or_own, spec_file, written_beside}
+use Rattle.drv_compile.specs.Beside.{file_of_variable, or_own, spec_file, written_beside}
 use Rattle.drv_compile.specs.Compilers.{values}
 use Rattle.drv_compile.specs.Places.{companion}
 use Rattle.drv_compile.specs.Reading.{line_read}
@@ -42,7 +42,7 @@ decided_over F specs words (Some text) = decided_by F specs words text (first_of
 
 -- the spec file, or where it should be
 abbrev pub decided_with : Facts → Option (List ℕ) → List (List ℕ) → Option (List ℕ) → Known Decision
-decided_with F own words None = named_file F >>= λ named. Is (NoSpecs (or_own own named))
+decided_with F own words None = file_of_variable F >>= λ named. Is (NoSpecs (or_own own named))
 decided_with F own words (Some specs) = written_beside F specs (codes ".gcc") >>= λ text. decided_over F specs words text
 
 -- The decision: `own` is where the spec file of this program lies, if that is known.

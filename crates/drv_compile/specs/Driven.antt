@@ -41,7 +41,8 @@ IsCalled F specs call given driven =
 
 abbrev pub IsDamaged : Facts → Calling → List ℕ → Call → List ℕ → Type 0
 IsDamaged F calling specs call text =
-    (path : List ℕ) × (texts_of F specs call.items call.stages ≡ Is (Damaged path)) × (text ≡ damaged_text calling.name path specs calling.machine)
+    (path : List ℕ) × (texts_of F specs call.items call.stages ≡ Is (Damaged path))
+    × (text ≡ damaged_text calling.name path specs calling.machine)
 
 -- what its spec files give it: the line stays as it is, or another line takes its place
 pub data IsAnswered (F : Facts) (specs : List ℕ) (given : Expanded) (first : Driven) : Option Answer → Driven → Type 0 where
@@ -53,7 +54,8 @@ pub data IsAnswered (F : Facts) (specs : List ℕ) (given : Expanded) (first : D
 pub data IsDenied (F : Facts) (calling : Calling) (chain : Toolchain) : Option Answer → List ℕ → Type 0 where
   refuses : {refusals : List Refusal} {text : List ℕ} → AreTold calling.name (values [] chain.known) refusals text
       → IsDenied F calling chain (Some (Refuse refusals)) text
-  damaged_after : {call : Call} {text : List ℕ} → IsDamaged F calling chain.specs call text → IsDenied F calling chain (Some (Run call)) text
+  damaged_after : {call : Call} {text : List ℕ} → IsDamaged F calling chain.specs call text
+      → IsDenied F calling chain (Some (Run call)) text
 
 abbrev pub answer_of : Facts → Toolchain → Expanded → Driven → Ended (Option Answer)
 answer_of F chain given first = answer_given F chain.specs chain.around chain.known given.words first.line
@@ -75,5 +77,6 @@ pub data Undriven (F : Facts) (calling : Calling) (chain : Toolchain) (call : Ca
   damaged_texts : IsDamaged F calling chain.specs call text → Undriven F calling chain call given text
   not_answered : {first : Driven} → IsCalled F chain.specs call given first → IsUnanswered F calling.name chain given first text
       → Undriven F calling chain call given text
-  denied : {first : Driven} {answer : Option Answer} → IsCalled F chain.specs call given first → answer_of F chain given first ≡ Is (Ok answer)
+  denied : {first : Driven} {answer : Option Answer} → IsCalled F chain.specs call given first
+      → answer_of F chain given first ≡ Is (Ok answer)
       → IsDenied F calling chain answer text → Undriven F calling chain call given text

@@ -41,8 +41,10 @@ is_at path (Some found) = pointwise nat_eq found path
 
 pub data Reaches (path : List ℕ) : List (List ℕ) → List HostEvent → Bool → Type 0 where
   to_none : Reaches path [] [] false
-  to_it : {input : List ℕ} {inputs : List (List ℕ)} {answer : Option (List ℕ)} → is_at path answer ≡ true → Reaches path (input ∷ inputs) (Resolved input answer ∷ []) true
-  to_another : {input : List ℕ} {inputs : List (List ℕ)} {answer : Option (List ℕ)} {events : List HostEvent} {found : Bool} → is_at path answer ≡ false
+  to_it : {input : List ℕ} {inputs : List (List ℕ)} {answer : Option (List ℕ)} → is_at path answer ≡ true
+      → Reaches path (input ∷ inputs) (Resolved input answer ∷ []) true
+  to_another : {input : List ℕ} {inputs : List (List ℕ)} {answer : Option (List ℕ)} {events : List HostEvent} {found : Bool}
+      → is_at path answer ≡ false
       → Reaches path inputs events found → Reaches path (input ∷ inputs) (Resolved input answer ∷ events) found
 
 pub data Overwrites (inputs : List (List ℕ)) : Option (List ℕ) → List HostEvent → Bool → Type 0 where

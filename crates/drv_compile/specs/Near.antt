@@ -1,9 +1,11 @@
-use Rattle.drv_cc.specs.declared.refusal.Refusal.TheVariants.{EmptyOutput, GivenFile, GivenMore, NoArgument, NoInput, NotTaken, UnknownOption}
+use Rattle.drv_cc.specs.declared.refusal.Refusal.TheVariants.{EmptyOutput, GivenFile, GivenMore, NoArgument, NoInput, NotTaken}
+use Rattle.drv_cc.specs.declared.refusal.Refusal.TheVariants.{UnknownOption}
 use Rattle.drv_cc.specs.declared.refusal.Refusal.{Refusal}
 use Rattle.drv_compile.specs.Texts.{refusal_text}
 use Rattle.drv_words.specs.Bytes.{equals}
 use Rattle.std.specs.List.{ends_with}
-use Rattle.std.specs.Prelude.{◌≡◌, ◌<◌, ◌==◌, ◌-◌, ◌||◌, Bool, List, [], ◌∷◌, ◌++◌, None, Option, Some, codes, get_or, if◌then◌else◌, length, nat_eq}
+use Rattle.std.specs.Prelude.{◌≡◌, ◌<◌, ◌==◌, ◌-◌, ◌||◌, Bool, List, [], ◌∷◌, ◌++◌, None, Option, Some, codes, get_or, if◌then◌else◌}
+use Rattle.std.specs.Prelude.{length, nat_eq}
 use Rattle.std.specs.Prelude.{take, ℕ, ⊤}
 
 -- The text of the refusals of a line, each with the option that an unknown word was meant to be (GCC, "opts-common.cc",

@@ -17,4 +17,5 @@ abbrev pub texts_at : Facts → List ℕ → Known Texts
 texts_at F path = is_written F path >>= λ is_whole. Is (texts_if path is_whole)
 
 abbrev pub texts_of : Facts → List ℕ → List Item → Stages → Known Texts
-texts_of F specs items stages = asked (kind_of F (texts_for specs items stages)) >>= λ kind. texts_at F (texts_or specs (texts_for specs items stages) kind)
+texts_of F specs items stages = asked (kind_of F (texts_for specs items stages))
+    >>= λ kind. texts_at F (texts_or specs (texts_for specs items stages) kind)

@@ -8,7 +8,8 @@ use Rattle.drv_system.specs.declared.event.PathKind.{PathKind}
 use Rattle.drv_words.specs.Bytes.{slash}
 use Rattle.drv_compile.specs.Calling.{before_ending, folder}
 use Rattle.std.specs.List.{list_any, starts_with}
-use Rattle.std.specs.Prelude.{◌==◌, ◌&&◌, ◌||◌, ◌-◌, ◌∷◌, [], Bool, List, ◌++◌, None, Option, Some, codes, false, if◌then◌else◌, length, nat_eq}
+use Rattle.std.specs.Prelude.{◌==◌, ◌&&◌, ◌||◌, ◌-◌, ◌∷◌, [], Bool, List, ◌++◌, None, Option, Some, codes, false, if◌then◌else◌, length}
+use Rattle.std.specs.Prelude.{nat_eq}
 use Rattle.std.specs.Prelude.{take, true, ℕ}
 
 -- The place of the spec file, and of the files beside it (this project's profile).

@@ -4,7 +4,8 @@ use Rattle.drv_cc.specs.Front.{front_of}
 use Rattle.drv_cc.specs.declared.answer.Answer.TheVariants.{Ask, Refuse, Run}
 use Rattle.drv_cc.specs.declared.answer.Answer.{Answer}
 use Rattle.drv_cc.specs.declared.answer.Surroundings.{Surroundings}
-use Rattle.drv_cc.specs.declared.refusal.Refusal.TheVariants.{EmptyOutput, GivenFile, GivenMore, NoArgument, NoInput, NotTaken, UnknownOption}
+use Rattle.drv_cc.specs.declared.refusal.Refusal.TheVariants.{EmptyOutput, GivenFile, GivenMore, NoArgument, NoInput, NotTaken}
+use Rattle.drv_cc.specs.declared.refusal.Refusal.TheVariants.{UnknownOption}
 use Rattle.drv_cc.specs.declared.refusal.Refusal.{Refusal}
 use Rattle.drv_compile.specs.Beside.{known_names}
 use Rattle.drv_compile.specs.Compilers.{names_in}
@@ -73,7 +74,8 @@ file_names F prefixes name = file_found F prefixes name >>= λ path. asked (read
 
 abbrev pub files_names : Facts → Prefixes → List (List ℕ) → Known (List (List ℕ))
 files_names F prefixes [] = Is []
-files_names F prefixes (file ∷ files) = file_names F prefixes file >>= λ names. files_names F prefixes files >>= λ others. Is (names ++ others)
+files_names F prefixes (file ∷ files) = file_names F prefixes file >>= λ names. files_names F prefixes files
+    >>= λ others. Is (names ++ others)
 
 abbrev pub items_names : Facts → List Item → Known (List (List ℕ))
 items_names F items = prefixes_of F (folders_given items) >>= λ prefixes. files_names F prefixes (specs_given items)
@@ -112,7 +114,8 @@ kept answer known = if reads_again answer then known else []
 -- the answer to a line, with the names of options that it took and that are read again; none where the file that has them is not whole
 abbrev pub read_by : Facts → Surroundings → List (List ℕ) → Option (List ℕ) → Known (Option Reading)
 read_by F around words None = Is None
-read_by F around words (Some known) = known_answer F known around words >>= λ answer. Is (Some (record { known = kept answer known; answer = answer }))
+read_by F around words (Some known) = known_answer F known around words
+    >>= λ answer. Is (Some (record { known = kept answer known; answer = answer }))
 
 abbrev pub read_beside : Facts → List ℕ → Surroundings → List (List ℕ) → Known (Option Reading)
 read_beside F specs around words = known_names F specs >>= λ known. read_by F around words known

@@ -55,8 +55,10 @@ pub record Works (F : Facts) (given : DriverLine) (seed : ℕ) (work : Work) : T
 pub data Stops (F : Facts) (given : DriverLine) (seed : ℕ) : Ending → Type 0 where
   lacks_memory : Stops F given seed OutOfMemory
   not_read : {fault : ArgsFault} → line_given given ≡ Err fault → Stops F given seed (stopped_by_args fault)
-  not_loaded : {line : Line} {fault : SpecsFault} → line_given given ≡ Ok line → specs_of F line.settings ≡ Is (Err fault) → Stops F given seed (stopped_by_specs fault)
+  not_loaded : {line : Line} {fault : SpecsFault} → line_given given ≡ Ok line → specs_of F line.settings ≡ Is (Err fault)
+      → Stops F given seed (stopped_by_specs fault)
   several : {line : Line} {set : Set} → line_given given ≡ Ok line → specs_of F line.settings ≡ Is (Ok set) → has_several set line ≡ true
       → Stops F given seed (stopped_by_args OutputWithMany)
-  not_planned : {line : Line} {set : Set} {fault : PlanFault} → line_given given ≡ Ok line → specs_of F line.settings ≡ Is (Ok set) → has_several set line ≡ false
+  not_planned : {line : Line} {set : Set} {fault : PlanFault} → line_given given ≡ Ok line → specs_of F line.settings ≡ Is (Ok set)
+      → has_several set line ≡ false
       → work_of F line set seed ≡ Is (Err fault) → Stops F given seed (stopped_by_plan fault)

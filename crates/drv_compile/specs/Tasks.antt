@@ -28,7 +28,8 @@ pub data Declines (calling : Calling) : Decision → List ℕ → Type 0 where
   no_specs : {path : List ℕ} → Declines calling (NoSpecs (Some path)) (no_specs_text calling.name path calling.machine)
   no_compiler : {specs : List ℕ} → Declines calling (NoCompiler specs) (no_compiler_text calling.name specs calling.machine)
   damaged : {specs path : List ℕ} → Declines calling (Damaged specs path) (damaged_text calling.name path specs calling.machine)
-  refused : {specs text : List ℕ} {around : Surroundings} {known : List ℕ} {refusals : List Refusal} → AreTold calling.name (values [] known) refusals text
+  refused : {specs text : List ℕ} {around : Surroundings} {known : List ℕ} {refusals : List Refusal}
+      → AreTold calling.name (values [] known) refusals text
       → Declines calling (Read specs around (record { known = known; answer = Refuse refusals })) text
 
 -- why a call ends before its work, unless that is lack of memory

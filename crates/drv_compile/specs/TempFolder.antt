@@ -33,7 +33,8 @@ pub data Chooses : List (List ℕ) → List HostEvent → List ℕ → Type 0 wh
 pub data Tries : List (List ℕ) → List HostEvent → Type 0 where
   tries_none : {names : List (List ℕ)} → Tries names []
   tries_last : {name : List ℕ} {names : List (List ℕ)} {answer : Bool} → Tries (name ∷ names) (Tried name answer ∷ [])
-  tries_next : {name : List ℕ} {names : List (List ℕ)} {events : List HostEvent} → Tries names events → Tries (name ∷ names) (Tried name false ∷ events)
+  tries_next : {name : List ℕ} {names : List (List ℕ)} {events : List HostEvent} → Tries names events
+      → Tries (name ∷ names) (Tried name false ∷ events)
 
 -- Facts that answer as others do, but for the value of TMPDIR, which is a folder.
 pub record IsSettled (F : Facts) (folder : List ℕ) (G : Facts) : Type 0 where

@@ -1,5 +1,6 @@
 use Rattle.drv_cc.specs.declared.answer.Variable.{Variable}
-use Rattle.drv_cc.specs.declared.refusal.Refusal.TheVariants.{EmptyOutput, GivenFile, GivenMore, NoArgument, NoInput, NotTaken, UnknownOption}
+use Rattle.drv_cc.specs.declared.refusal.Refusal.TheVariants.{EmptyOutput, GivenFile, GivenMore, NoArgument, NoInput, NotTaken}
+use Rattle.drv_cc.specs.declared.refusal.Refusal.TheVariants.{UnknownOption}
 use Rattle.drv_cc.specs.declared.refusal.Refusal.{Refusal}
 use Rattle.drv_compile.specs.Places.{companion}
 use Rattle.drv_words.specs.Bytes.{at_sign}
@@ -57,7 +58,8 @@ unknown_text word near = codes "unrecognized command-line option '" ++ word ++ m
 -- what the specs of a line give and is no option (GCC, "gcc.cc", do_self_spec)
 abbrev pub given_text : List ℕ → List ℕ
 given_text word =
-    if is word (codes "-") then codes "spec-generated switch is just '-'" else quoted (codes "switch '") word (codes "' does not start with '-'")
+    if is word (codes "-") then codes "spec-generated switch is just '-'"
+    else quoted (codes "switch '") word (codes "' does not start with '-'")
 
 abbrev pub fatal_line : List ℕ → List ℕ → List ℕ
 fatal_line name text = name ++ codes ": fatal error: " ++ text ++ codes "\ncompilation terminated.\n"
@@ -68,7 +70,8 @@ refusal_text name (UnknownOption word) near = error_line name (unknown_text word
 refusal_text name (NoArgument option) near = error_line name (lacking option ++ option ++ codes "'")
 refusal_text name (NotTaken option) near = error_line name (quoted (codes "option '") option (codes "' is not supported"))
 refusal_text name (GivenFile word) near = fatal_line name (given_text word)
-refusal_text name GivenMore near = error_line name (quoted (codes "the spec files of the line give more than options: 'self_spec' is not one command") [] [])
+refusal_text name GivenMore near = error_line name
+    (quoted (codes "the spec files of the line give more than options: 'self_spec' is not one command") [] [])
 refusal_text name EmptyOutput near = name ++ codes ": fatal error: output filename may not be empty\ncompilation terminated.\n"
 refusal_text name NoInput near = name ++ codes ": fatal error: no input files\ncompilation terminated.\n"
 
@@ -105,7 +108,8 @@ unwritten_text name before path specs machine = error_line name (quoted before p
 
 -- after a run that did not find a program
 abbrev pub gone_text : List ℕ → List ℕ → List ℕ → List ℕ
-gone_text name specs machine = name ++ codes ": note: the spec file may be for a gcc that is gone: " ++ writing specs machine ++ codes " again\n"
+gone_text name specs machine = name ++ codes ": note: the spec file may be for a gcc that is gone: " ++ writing specs machine
+    ++ codes " again\n"
 
 -- Where the only word of a line is --help or --version, the compiler's answer gets a line in the name of this program: before it, or after it
 -- (GCC manual, "Overall Options").

@@ -1,4 +1,4 @@
-use Rattle.drv_args.specs.Expansion.{Expands, Refuses as RefusesExpansion, file_named}
+use Rattle.drv_args.specs.Expansion.{Expands, Refuses as RefusesExpansion, file_named, limited}
 use Rattle.drv_args.specs.declared.fault.ArgsFault.{ArgsFault}
 use Rattle.drv_args.specs.declared.line.Expanded.{Expanded}
 use Rattle.drv_c99.specs.Front.{front_of}
@@ -52,9 +52,13 @@ abbrev pub fronted : Front → Expanded → Result Expanded C99Fault
 fronted Gcc expanded = Ok expanded
 fronted C99 expanded = with_words expanded.from_file (front_of expanded.words)
 
+-- the facts in which a response file of more than 262,144 words is too large (gcc has no such limit; this project's profile)
+abbrev pub within_limit : Facts → Facts
+within_limit F = limited (Some 262144) F
+
 pub record Words (F : Facts) (calling : Calling) (args : List (List ℕ)) (words : Expanded) : Type 0 where
   pub expanded : Expanded
-  pub expands : Expands F 2000 args (Ok expanded)
+  pub expands : Expands (within_limit F) 2000 args (Ok expanded)
   pub readable : first_unread F expanded.words ≡ Is None
   pub fronts : fronted calling.front expanded ≡ Ok words
 
@@ -64,7 +68,8 @@ abbrev pub told_refusal : List ℕ → Refusal → List ℕ
 told_refusal name (refusal.C99 fault) = refusal_text (refusal.C99 fault) ++ codes "\n"
 told_refusal name (refusal.Args fault) = error_line name (refusal_text (refusal.Args fault))
 told_refusal name (refusal.Specs fault) = error_line name (refusal_text (refusal.Specs fault))
-told_refusal name (refusal.Plan (plan_fault.NotInstalled language)) = error_line name (language ++ codes " is not supported: gdrv-cc compiles C and assembler")
+told_refusal name (refusal.Plan (plan_fault.NotInstalled language)) =
+    error_line name (language ++ codes " is not supported: gdrv-cc compiles C and assembler")
 told_refusal name (refusal.Plan fault) = error_line name (refusal_text (refusal.Plan fault))
 
 -- how a call ends before its work that the driver would end so
@@ -75,7 +80,8 @@ stop_of name OutOfMemory = Memory
 
 -- The text of the refusal in their place: that response files aren't expanded, that one can't be read, or that c99 refuses the words.
 abbrev pub IsUnexpanded : Facts → List ℕ → List (List ℕ) → List ℕ → Type 0
-IsUnexpanded F name args text = (fault : ArgsFault) × RefusesExpansion F 2000 args fault × (text ≡ told_refusal name (refusal.Args fault))
+IsUnexpanded F name args text =
+    (fault : ArgsFault) × RefusesExpansion (within_limit F) 2000 args fault × (text ≡ told_refusal name (refusal.Args fault))
 
 abbrev pub IsUnread : Facts → List ℕ → List (List ℕ) → List ℕ → Type 0
 IsUnread F name words text = (path : List ℕ) × (first_unread F words ≡ Is (Some path)) × (text ≡ unread_text name path)
@@ -86,6 +92,8 @@ IsUnfronted calling expanded text =
 
 pub data RefusesWords (F : Facts) (calling : Calling) (args : List (List ℕ)) (text : List ℕ) : Type 0 where
   not_expanded : IsUnexpanded F calling.name args text → RefusesWords F calling args text
-  not_readable : {expanded : Expanded} → Expands F 2000 args (Ok expanded) → IsUnread F calling.name expanded.words text → RefusesWords F calling args text
-  not_fronted : {expanded : Expanded} → Expands F 2000 args (Ok expanded) → first_unread F expanded.words ≡ Is None → IsUnfronted calling expanded text
+  not_readable : {expanded : Expanded} → Expands (within_limit F) 2000 args (Ok expanded) → IsUnread F calling.name expanded.words text
+      → RefusesWords F calling args text
+  not_fronted : {expanded : Expanded} → Expands (within_limit F) 2000 args (Ok expanded) → first_unread F expanded.words ≡ Is None
+      → IsUnfronted calling expanded text
       → RefusesWords F calling args text

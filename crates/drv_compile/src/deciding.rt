@@ -10,12 +10,12 @@ ghost use Rattle.drv_system.specs.Known.{asked};
 ghost use Rattle.std.specs.Prelude.{◌≡◌, IfOk};
 
 use crate::compilers::{first_value, values};
-use crate::finding::{named_file, or_own, spec_file, written_beside};
+use crate::finding::{file_of_variable, or_own, spec_file, written_beside};
 use crate::places::companion;
 use crate::reading::{Reading, read_line};
 use drv_cc::Surroundings;
 use drv_system::{Outside, System};
-use drv_words::{Listing, Word};
+use drv_words::{Word, copy_word};
 use std::alloc::{AllocError, Global};
 
 /// What the words of a line ask for.
@@ -158,21 +158,11 @@ fn decided_with<S: System>(
     ensures decision { Tells outside.new result (λ F. decided_with F own words.now found) }
 {
     let Some(specs) = found else {
-        let named = named_file(alloc, outside)?;
+        let named = file_of_variable(alloc, outside)?;
         return Ok(Decision::NoSpecs(or_own(own, named)));
     };
     let text = written_beside(alloc, specs.as_bytes(), b".gcc", outside)?;
     decided_over(alloc, specs, words, text, outside)
-}
-
-/// A copy of a path, if there is one.
-fn copied(path: &Option<Word>) -> Result<Option<Word>, AllocError>
-    ensures { IfOk result (λ copy. copy ≡ path.now) }
-{
-    match path {
-        Some(path) => Ok(Some(path.clone()?)),
-        None => Ok(None),
-    }
 }
 
 /// What the words of a line ask for, response files expanded and those of c99 turned into gcc's,
@@ -190,8 +180,8 @@ pub(crate) fn decided<S: System>(
     ensures asks { Asked S.events outside.old outside.new }
     ensures decision { Tells outside.new result (λ F. decided F own.now words.now) }
 {
-    let place = copied(own)?;
+    let place = copy_word(own)?;
     let found = spec_file(alloc, place, outside)?;
-    let place = copied(own)?;
+    let place = copy_word(own)?;
     decided_with(alloc, place, words, found, outside)
 }

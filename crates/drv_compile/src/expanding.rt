@@ -5,7 +5,7 @@ ghost use Rattle.drv_c99.specs.declared.fault.C99Fault.TheVariants as c99_fault;
 ghost use Rattle.drv_compile.specs.Tasks.{IfTold};
 ghost use Rattle.drv_compile.specs.Words.{IsUnexpanded, IsUnfronted, IsUnread, RefusesWords};
 ghost use Rattle.drv_compile.specs.Words.{Words, first_unread, fronted, if_unread, stop_of};
-ghost use Rattle.drv_compile.specs.Words.{unread_at};
+ghost use Rattle.drv_compile.specs.Words.{unread_at, within_limit};
 ghost use Rattle.drv_search.specs.Code.Telling.{Tells};
 ghost use Rattle.drv_system.specs.Asking.{Extends};
 ghost use Rattle.drv_system.specs.Code.Asked.{Asked};
@@ -18,12 +18,15 @@ ghost use Rattle.std.specs.Prelude.{◌≡◌, IfOk, MatchResult, None, Ok};
 use crate::calling::{Calling, Front};
 use crate::stop::Stop;
 use crate::wording::{told_refusal, unread_text};
-use drv_args::{Expanded, expand};
+use drv_args::{Expanded, expand_within};
 use drv_c99::C99Fault;
 use drv_run::Ending;
 use drv_system::{Outside, ReadAnswer, System};
 use drv_words::{Listing, Word};
 use std::alloc::{AllocError, Global};
+
+/// The most words of one response file.
+const MOST_WORDS: usize = 262_144;
 
 /// The path of the response file that a word names.
 fn file_named(word: &[u8]) -> Option<&[u8]>
@@ -118,11 +121,12 @@ fn expansion<S: System>(
 ) -> Result<Expanded, Stop>
     ensures asks { Asked S.events outside.old outside.new }
     ensures gives { (F : Facts) → Extends outside.new.facts.now F
-        → MatchResult result (λ expanded. Expands F 2000 args.now (Ok expanded))
+        → MatchResult result
+        (λ expanded. Expands (within_limit F) 2000 args.now (Ok expanded))
         (λ stop. IfTold stop (IsUnexpanded F name.now args.now)) }
 {
     let args = args.clone()?;
-    match expand(alloc, args, outside.sys, outside.facts) {
+    match expand_within(alloc, args, MOST_WORDS, outside.sys, outside.facts) {
         Ok(expanded) => Ok(expanded),
         Err(fault) => {
             let stop = stop_of(alloc, name, &Ending::from(fault))?;

@@ -1,7 +1,7 @@
 //! The spec file of a call, and the files beside it.
 
 ghost use Rattle.drv_compile.specs.Beside.{bytes_read, given_by, if_plain, is_written, known_names};
-ghost use Rattle.drv_compile.specs.Beside.{named_file, or_own, plain_at, spec_file, written, written_beside};
+ghost use Rattle.drv_compile.specs.Beside.{file_of_variable, or_own, plain_at, spec_file, written, written_beside};
 ghost use Rattle.drv_compile.specs.Written.{whole_lines};
 ghost use Rattle.drv_search.specs.Code.Telling.{Tells};
 ghost use Rattle.drv_search.specs.Search.{is_plain};
@@ -137,12 +137,12 @@ fn given_by(alloc: Global, value: Option<&Word>) -> Result<Option<Word>, AllocEr
 }
 
 /// The path of the spec file that a variable names, if it names one.
-pub(crate) fn named_file<S: System>(
+pub(crate) fn file_of_variable<S: System>(
     alloc: Global,
     outside: &mut Outside<'_, S>,
 ) -> Result<Option<Word>, AllocError>
     ensures asks { Asked S.events outside.old outside.new }
-    ensures path { Tells outside.new result (λ F. named_file F) }
+    ensures path { Tells outside.new result (λ F. file_of_variable F) }
 {
     let name = Word::from_bytes(alloc, b"GDRV_CC_SPECS")?;
     outside.facts.variable(outside.sys, &name)?;
@@ -170,6 +170,6 @@ pub(crate) fn spec_file<S: System>(
     ensures asks { Asked S.events outside.old outside.new }
     ensures path { Tells outside.new result (λ F. spec_file F own) }
 {
-    let named = named_file(alloc, outside)?;
+    let named = file_of_variable(alloc, outside)?;
     plain_at(or_own(own, named), outside)
 }

@@ -107,7 +107,7 @@ fn wants_whole(item: &Item) -> bool
 }
 
 /// Whether some item asks for the whole spec file.
-fn want_whole(items: &[Item]) -> bool
+fn any_wants_whole(items: &[Item]) -> bool
     ensures { result ≡ list_any wants_whole items.now }
 {
     items.iter().any(wants_whole)
@@ -157,7 +157,7 @@ pub(crate) fn texts_for(
 ) -> Result<Word, AllocError>
     ensures { IfOk result (λ path. path ≡ texts_for specs.now items.now stages) }
 {
-    if want_whole(items) || (may_link(stages) && are_rooted(items)) {
+    if any_wants_whole(items) || (may_link(stages) && are_rooted(items)) {
         return Word::from_bytes(alloc, specs);
     }
     texts_by(alloc, specs, stages)

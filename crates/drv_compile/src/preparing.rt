@@ -100,7 +100,7 @@ fn question(alloc: Global, compiler: Word, args: &Listing<Word>) -> Result<Work,
 ///
 /// # Errors
 /// The text of their refusal.
-fn work_of<S: System>(
+fn work_or_stop<S: System>(
     alloc: Global,
     name: &[u8],
     line: &DriverLine,
@@ -153,7 +153,7 @@ fn refuse_overwriting<S: System, H: Host<S>>(
 /// # Errors
 /// The text of its refusal.
 #[tactic(auto, using(drv_system::proofs::AskedCalls::asked_further))]
-fn planned<S: System>(
+fn prepared_plan<S: System>(
     alloc: Global,
     calling: &Calling,
     chain: &Toolchain,
@@ -176,7 +176,7 @@ fn planned<S: System>(
     let items = driven.line.items.as_slice();
     let wrapper = Word::from_bytes(alloc, wrapper_of(items))?;
     let said = opening(alloc, specs, items, driven.children.as_slice(), outside)?;
-    let work = work_of(alloc, name, &driven.line, seed, outside)?;
+    let work = work_or_stop(alloc, name, &driven.line, seed, outside)?;
     Ok(Prepared {
         work,
         children: driven.children,
@@ -216,7 +216,7 @@ fn compilation<S: System, H: Host<S>>(
         return Err(Stop::Told(text));
     }
     refuse_overwriting(alloc, name, &call, host)?;
-    planned(alloc, calling, chain, call, given, seed, outside)
+    prepared_plan(alloc, calling, chain, call, given, seed, outside)
 }
 
 /// What a call does whose line is a question to a compiler.

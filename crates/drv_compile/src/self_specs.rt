@@ -35,7 +35,7 @@ use drv_search::Prefixes;
 use drv_specs::SpecSet;
 use drv_syntax::SpecTree;
 use drv_system::{Outside, System};
-use drv_words::{Command, Group, Job, Listing, Word};
+use drv_words::{Command, Group, Job, Listing, Word, copy_words};
 use std::alloc::{AllocError, Global};
 
 /// What the text of the self specs gives.
@@ -49,25 +49,14 @@ pub(crate) enum Worked {
     Gives(Given),
 }
 
-/// A copy of words.
-fn copied(alloc: Global, words: &[Word]) -> Result<Listing<Word>, AllocError>
-    ensures { IfOk result (λ copy. copy ≡ words.now) }
-{
-    let mut copy = Listing::new(alloc);
-    for word in words {
-        copy.push(word.clone()?)?;
-    }
-    Ok(copy)
-}
-
 /// What two groups give, if each is one command.
 fn of_pair(alloc: Global, given: &[Command], left: &[Command]) -> Result<Worked, AllocError>
     ensures { IfOk result (λ made. made ≡ of_groups (given.now ∷ left.now ∷ [])) }
 {
     match (given, left) {
         ([given], [left]) => Ok(Worked::Gives(Given {
-            left: copied(alloc, left.words.as_slice())?,
-            words: copied(alloc, given.words.as_slice())?,
+            left: copy_words(alloc, left.words.as_slice())?,
+            words: copy_words(alloc, given.words.as_slice())?,
         })),
         _ => Ok(Worked::More),
     }

@@ -1,11 +1,11 @@
 //! The host that a process has.
 
-ghost use Rattle.std.specs.Prelude.{◌≡◌, [], IfOk};
+ghost use Rattle.std.specs.Prelude.{◌≡◌, []};
 
 use drv_cc::Variable;
 use drv_compile::{Host, HostEvent};
 use drv_system::{HostSystem, System};
-use drv_words::Word;
+use drv_words::{Word, copy_word};
 use std::alloc::AllocError;
 use std::fs::Metadata;
 use std::io::ErrorKind;
@@ -56,7 +56,7 @@ impl Host<HostSystem> for Process {
     fn resolved(&mut self, name: &Word) -> Result<Option<Word>, AllocError> {
         let asked = name.clone()?;
         let path = path_of(&self.rt, name)?;
-        let noted = copied(&path)?;
+        let noted = copy_word(&path)?;
         self.notes.push(HostEvent::Resolved(asked, noted))?;
         Ok(path)
     }
@@ -87,16 +87,6 @@ impl Host<HostSystem> for Process {
         sys.set_for_children(variable.name.clone()?, variable.value.clone()?)?;
         self.notes.push_reserved(HostEvent::Set(at, set));
         Ok(())
-    }
-}
-
-/// A copy of a path, if there is one.
-fn copied(path: &Option<Word>) -> Result<Option<Word>, AllocError>
-    ensures { IfOk result (λ copy. copy ≡ path.now) }
-{
-    match path {
-        Some(path) => Ok(Some(path.clone()?)),
-        None => Ok(None),
     }
 }
 

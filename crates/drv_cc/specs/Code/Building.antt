@@ -31,7 +31,8 @@ pair_shown r = (r.from.now, r.to.now)
 
 -- a word is noted: what is there and what the rest of the line gives is what it would have been
 abbrev pub Notes : List ℕ → List Item → List Item → Option OptionRow → List ℕ → Option Row → Type 0
-Notes known old new wanting word next = (rest : List (List ℕ)) → new ++ items_of known (row_shown next) rest ≡ old ++ items_of known wanting (word ∷ rest)
+Notes known old new wanting word next = (rest : List (List ℕ))
+    → new ++ items_of known (row_shown next) rest ≡ old ++ items_of known wanting (word ∷ rest)
 
 abbrev pub kinds_shown : Kinds → List ℕ × List ℕ
 kinds_shown kinds.Compiled = compiled

@@ -34,7 +34,8 @@ IsOverwriting name call events text =
     (output : List ℕ) × (call.output ≡ Some output) × Overwrites call.inputs call.output events true × (text ≡ overwritten_text name output)
 
 -- what the driver is called with, and its work
-pub record IsPlanned (F : Facts) (calling : Calling) (chain : Toolchain) (call : Call) (given : Expanded) (seed : ℕ) (prepared : Prepared) : Type 0 where
+pub record IsPlanned (F : Facts) (calling : Calling) (chain : Toolchain) (call : Call) (given : Expanded) (seed : ℕ)
+    (prepared : Prepared) : Type 0 where
   pub driven : Driven
   pub drives : Drives F chain call given driven
   pub opens : opening F chain.specs driven.line.items driven.children ≡ Is prepared.said

@@ -25,4 +25,5 @@ IsWorked F line set seed work = (has_several set line ≡ false) × (work_of F l
 pub data IsUnworked (F : Facts) (line : Line) (set : Set) (seed : ℕ) : Ending → Type 0 where
   no_room : IsUnworked F line set seed OutOfMemory
   of_many : has_several set line ≡ true → IsUnworked F line set seed (stopped_by_args args_fault.OutputWithMany)
-  of_plan : {fault : PlanFault} → has_several set line ≡ false → work_of F line set seed ≡ Is (Err fault) → IsUnworked F line set seed (stopped_by_plan fault)
+  of_plan : {fault : PlanFault} → has_several set line ≡ false → work_of F line set seed ≡ Is (Err fault)
+      → IsUnworked F line set seed (stopped_by_plan fault)

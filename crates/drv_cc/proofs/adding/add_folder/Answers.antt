@@ -5,5 +5,7 @@ use Rattle.std.proofs.Common.{◌≡◌, ◌++◌, ◌∙◌, ap, sym}
 
 pub returns-in_ok-add_joined-in-Libraries : goal.returns-in_ok-add_joined-in-Libraries
 returns-in_ok-add_joined-in-Libraries c =
-    let same : words_for c.args.looked_for (named_folder c.args.folder.now) ≡ library_words (named_folder c.args.folder.now) = ap (λ l. words_for l (named_folder c.args.folder.now)) c.in-Libraries.is in
-    c.in_ok-add_joined-in-Libraries.ensures ∙ ap (λ folder. c.args.words.now ++ library_words folder) c.named_folder.ensures ∙ ap (λ w. c.args.words.now ++ w) (sym same)
+    let same : words_for c.args.looked_for (named_folder c.args.folder.now) ≡ library_words (named_folder c.args.folder.now) =
+    ap (λ l. words_for l (named_folder c.args.folder.now)) c.in-Libraries.is in
+    c.in_ok-add_joined-in-Libraries.ensures ∙ ap (λ folder. c.args.words.now ++ library_words folder) c.named_folder.ensures
+    ∙ ap (λ w. c.args.words.now ++ w) (sym same)

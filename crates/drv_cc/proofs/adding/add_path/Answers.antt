@@ -15,14 +15,18 @@ loop-folder-init c = no_folder (words_for c.args.looked_for) c.args.words.now
 
 pub loop-folder-preserved : goal.loop-folder-preserved
 loop-folder-preserved c =
-    next_folder (words_for c.args.looked_for) c.args.words.now c.loop-folder.words c.add_folder.new.words (map (λ folder. folder.now) c.loop-folder.yielded) _ c.in-Some-folder.folder.now
-    c.loop-folder.invariant c.in_ok-add_folder.ensures (map-append (λ folder. folder.now) c.loop-folder.yielded (c.in-Some-folder.folder ∷ []))
+    next_folder (words_for c.args.looked_for) c.args.words.now c.loop-folder.words c.add_folder.new.words
+    (map (λ folder. folder.now) c.loop-folder.yielded) _ c.in-Some-folder.folder.now
+    c.loop-folder.invariant c.in_ok-add_folder.ensures
+    (map-append (λ folder. folder.now) c.loop-folder.yielded (c.in-Some-folder.folder ∷ []))
 
 pub returns : goal.returns
 returns c =
     let made = c.split-folder-items.ensures in
     let given = c.into_iter-folder-iterator.ensures in
-    let all = YieldsList-end (YieldsList-from_slice_split _ (λ b. b == colon) c.as_bytes.result.now (ap split_rest given.into_iter_gives ∙ made.rest) (ap split_done given.into_iter_gives ∙ made.done) (ap split_callee given.into_iter_gives ∙ made.closure) (λ x b q k. search (rules, tests)))
+    let all = YieldsList-end (YieldsList-from_slice_split _ (λ b. b == colon) c.as_bytes.result.now
+    (ap split_rest given.into_iter_gives ∙ made.rest) (ap split_done given.into_iter_gives ∙ made.done)
+    (ap split_callee given.into_iter_gives ∙ made.closure) (λ x b q k. search (rules, tests)))
     c.loop-folder.yielded _ c.loop-folder.yielded_by _ _ c.in-None.is c.next.ensures.steps in
     let given_path : Some c.as_bytes.result.now ≡ c.args.path.now = search rules in
     c.loop-folder.invariant ∙ ap (λ folders. c.args.words.now ++ flat_map (words_for c.args.looked_for) (map named_folder folders)) all.0

@@ -5,4 +5,5 @@ use Rattle.std.specs.List.{flat_map}
 use Rattle.drv_cc.proofs.adding.add_path.Given as goal
 
 abbrev pub invariant-loop-folder : goal.invariant-loop-folder
-invariant-loop-folder l = l.words ≡ l.fn.words ++ flat_map (words_for l.looked_for) (map named_folder (map (λ folder. folder.now) l.yielded))
+invariant-loop-folder l = l.words ≡ l.fn.words ++ flat_map (words_for l.looked_for)
+    (map named_folder (map (λ folder. folder.now) l.yielded))

@@ -9,4 +9,5 @@ pub returns : goal.returns
 returns c =
     let made = c.split.ensures in
     any_from_yields_List (stands_for c.args.check.now) _ _ _ c.any.ensures.ran
-    (YieldsList-from_slice_split _ (λ b. b == comma) c.args.names.now made.rest made.done made.closure (λ x b q k. search (rules, tests))) (λ x b q k. search (rules, tests))
+    (YieldsList-from_slice_split _ (λ b. b == comma) c.args.names.now made.rest made.done made.closure (λ x b q k. search (rules, tests)))
+    (λ x b q k. search (rules, tests))

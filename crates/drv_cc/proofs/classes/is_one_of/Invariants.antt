@@ -3,4 +3,5 @@ use Rattle.drv_cc.specs.Items.{is_among}
 use Rattle.std.proofs.Common.{◌≡◌, drop, map}
 
 abbrev pub invariant-loop-other : goal.invariant-loop-other
-invariant-loop-other l = is_among (map (λ other. other.now) (drop l.other-index l.names)) l.name ≡ is_among (map (λ other. other.now) l.names) l.name
+invariant-loop-other l = is_among (map (λ other. other.now) (drop l.other-index l.names)) l.name
+    ≡ is_among (map (λ other. other.now) l.names) l.name

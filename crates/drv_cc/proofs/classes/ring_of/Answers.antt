@@ -6,5 +6,6 @@ use Rattle.std.specs.Option.{option_map}
 
 pub returns : goal.returns
 returns c =
-    ring_found c.args.name.now c.list_key.result (map ringed_shown c.ringed_group.result.now) (option_map (λ ring. ring.now) c.ring_among.result)
+    ring_found c.args.name.now c.list_key.result (map ringed_shown c.ringed_group.result.now)
+    (option_map (λ ring. ring.now) c.ring_among.result)
     c.list_key.ensures.key c.ringed_group.ensures c.ring_among.ensures

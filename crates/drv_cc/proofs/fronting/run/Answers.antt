@@ -4,4 +4,5 @@ use Rattle.std.proofs.Common.{◌≡◌, ◌∙◌, IfOk}
 use Rattle.std.proofs.Math.Path.{subst}
 
 pub returns : goal.returns
-returns c = subst (λ items. IfOk c.call_of.result (λ answer. answer ≡ run_of c.args.around.now items)) (c.as_slice.ensures ∙ c.in_ok-kept.ensures) c.call_of.ensures
+returns c = subst (λ items. IfOk c.call_of.result (λ answer. answer ≡ run_of c.args.around.now items))
+    (c.as_slice.ensures ∙ c.in_ok-kept.ensures) c.call_of.ensures

@@ -5,10 +5,14 @@ use Rattle.std.proofs.Math.Path.{subst}
 
 pub returns : goal.returns
 returns c =
-    subst (λ items. IfOk c.answer_with.result (λ answer. answer ≡ answer_with c.args.named.now c.args.around.now items c.args.given.now.left (given_items c.args.known.now c.args.given.now.words)))
+    subst (λ items. IfOk c.answer_with.result (λ answer. answer
+    ≡ answer_with c.args.named.now c.args.around.now items c.args.given.now.left (given_items c.args.known.now c.args.given.now.words)))
     (c.as_slice-2.ensures ∙ c.in_ok-items.ensures)
-    (subst (λ left. IfOk c.answer_with.result (λ answer. answer ≡ answer_with c.args.named.now c.args.around.now c.as_slice-2.result.now left (given_items c.args.known.now c.args.given.now.words)))
+    (subst (λ left. IfOk c.answer_with.result (λ answer. answer
+    ≡ answer_with c.args.named.now c.args.around.now c.as_slice-2.result.now left
+    (given_items c.args.known.now c.args.given.now.words)))
     c.as_slice-3.ensures
-    (subst (λ given. IfOk c.answer_with.result (λ answer. answer ≡ answer_with c.args.named.now c.args.around.now c.as_slice-2.result.now c.as_slice-3.result.now given))
+    (subst (λ given. IfOk c.answer_with.result (λ answer. answer
+    ≡ answer_with c.args.named.now c.args.around.now c.as_slice-2.result.now c.as_slice-3.result.now given))
     (c.as_slice-4.ensures ∙ c.in_ok-more.ensures ∙ ap (given_items c.args.known.now) c.as_slice.ensures)
     c.answer_with.ensures))

@@ -7,6 +7,7 @@ pub returns : goal.returns
 returns c =
     on_ok_weaker c.add_prefixes-2.result
     (λ second_is.
-    all_added c.args.around.now c.args.given.now c.add_prefixes.new.given c.add_prefixes-2.new.given c.as_slice.result.now c.as_slice-2.result.now
+    all_added c.args.around.now c.args.given.now c.add_prefixes.new.given c.add_prefixes-2.new.given c.as_slice.result.now
+    c.as_slice-2.result.now
     (c.as_slice.ensures ∙ c.in_ok-named.ensures) c.as_slice-2.ensures c.in_ok-add_prefixes.ensures second_is)
     c.add_prefixes-2.ensures

@@ -7,6 +7,7 @@ pub returns : goal.returns
 returns c =
     on_ok_weaker c.add_parts.result
     (λ is.
-    is ∙ ap (λ front. c.args.words.now ++ (codes "--gdrv-aux=" ++ front ++ c.stem_of.result.now) ∷ []) (c.as_bytes.ensures ∙ c.in_ok-beginning.ensures)
+    is ∙ ap (λ front. c.args.words.now ++ (codes "--gdrv-aux=" ++ front ++ c.stem_of.result.now) ∷ [])
+    (c.as_bytes.ensures ∙ c.in_ok-beginning.ensures)
     ∙ ap (λ name. c.args.words.now ++ (codes "--gdrv-aux=" ++ beginning c.args.items.now ++ name) ∷ []) c.stem_of.ensures)
     c.add_parts.ensures

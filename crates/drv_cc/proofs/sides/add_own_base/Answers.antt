@@ -9,7 +9,8 @@ returns c =
     (λ is.
     is ∙ ap (λ end. c.add_parts.new.words ++ with_value (codes "--gdrv-ext=") end) c.suffix-2.ensures
     ∙ ap (λ words. words ++ with_value (codes "--gdrv-ext=") (suffix c.args.name.now))
-    (c.in_ok-add_parts.ensures ∙ ap (λ name. c.args.words.now ++ (codes "--gdrv-base=" ++ name ++ c.suffix.result.now) ∷ []) c.unnamed_stem.ensures
+    (c.in_ok-add_parts.ensures ∙ ap (λ name. c.args.words.now ++ (codes "--gdrv-base=" ++ name ++ c.suffix.result.now) ∷ [])
+    c.unnamed_stem.ensures
     ∙ ap (λ end. c.args.words.now ++ (codes "--gdrv-base=" ++ unnamed_stem c.args.items.now c.args.name.now ++ end) ∷ []) c.suffix.ensures)
     ∙ append_assoc c.args.words.now _ _)
     c.add_value.ensures

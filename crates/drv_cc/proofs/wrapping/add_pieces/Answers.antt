@@ -14,7 +14,8 @@ loop-piece-init c = sym (append-nil c.args.words.now)
 pub loop-piece-preserved : goal.loop-piece-preserved
 loop-piece-preserved c =
     c.in_ok-add_value.ensures ∙ ap (λ words. words ++ with_value (codes "--gdrv-wrapper=") c.in-Some.piece.now) c.loop-piece.invariant
-    ∙ flat_map_more (with_value (codes "--gdrv-wrapper=")) c.args.words.now (map (λ piece. piece.now) c.loop-piece.yielded) c.in-Some.piece.now
+    ∙ flat_map_more (with_value (codes "--gdrv-wrapper=")) c.args.words.now
+    (map (λ piece. piece.now) c.loop-piece.yielded) c.in-Some.piece.now
     ∙ ap (λ all. c.args.words.now ++ flat_map (with_value (codes "--gdrv-wrapper=")) all)
     (sym (map-append (λ piece. piece.now) c.loop-piece.yielded (c.in-Some.piece ∷ [])))
 
@@ -22,6 +23,8 @@ pub returns : goal.returns
 returns c =
     let made = c.split-piece-items.ensures in
     let given = c.into_iter-piece-iterator.ensures in
-    let all = YieldsList-end (YieldsList-from_slice_split _ (λ b. b == comma) c.args.argument.now (ap split_rest given.into_iter_gives ∙ made.rest) (ap split_done given.into_iter_gives ∙ made.done) (ap split_callee given.into_iter_gives ∙ made.closure) (λ x b q k. search (rules, tests)))
+    let all = YieldsList-end (YieldsList-from_slice_split _ (λ b. b == comma) c.args.argument.now
+    (ap split_rest given.into_iter_gives ∙ made.rest) (ap split_done given.into_iter_gives ∙ made.done)
+    (ap split_callee given.into_iter_gives ∙ made.closure) (λ x b q k. search (rules, tests)))
     c.loop-piece.yielded _ c.loop-piece.yielded_by _ _ c.in-None.is c.next.ensures.steps in
     c.loop-piece.invariant ∙ ap (λ words. c.args.words.now ++ flat_map (with_value (codes "--gdrv-wrapper=")) words) all.0

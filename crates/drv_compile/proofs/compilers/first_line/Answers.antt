@@ -9,4 +9,5 @@ pub returns : goal.returns
 returns c =
     let made = c.split.ensures in
     find_from_yields_List (λ line. starts_with nat_eq line c.args.key.now) _ _ _ c.find.ensures.ran
-    (YieldsList-from_slice_split _ (λ b. b == newline) c.args.text.now made.rest made.done made.closure (λ x b q k. search (rules, tests))) (λ x b q k. search (rules, tests))
+    (YieldsList-from_slice_split _ (λ b. b == newline) c.args.text.now made.rest made.done made.closure (λ x b q k. search (rules, tests)))
+    (λ x b q k. search (rules, tests))

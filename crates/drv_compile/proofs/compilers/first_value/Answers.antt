@@ -10,5 +10,6 @@ returns-in-None c =
 
 pub returns-in_ok-from_bytes-in-Some : goal.returns-in_ok-from_bytes-in-Some
 returns-in_ok-from_bytes-in-Some c =
-    value_some c.args.key.now (lines c.args.text.now) _ c.in-Some.line.now _ (ap (option_map (λ line. line.now)) c.in-Some.is) c.first_line.ensures
+    value_some c.args.key.now (lines c.args.text.now) _ c.in-Some.line.now _
+    (ap (option_map (λ line. line.now)) c.in-Some.is) c.first_line.ensures
     (c.in_ok-from_bytes-in-Some.ensures ∙ c.rest_of.ensures)

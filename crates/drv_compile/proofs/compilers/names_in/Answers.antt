@@ -9,6 +9,8 @@ pub returns : goal.returns
 returns c =
     let made = c.split-name-items.ensures in
     let given = c.into_iter-name-iterator.ensures in
-    let all = YieldsList-end (YieldsList-from_slice_split _ is_between c.args.text.now (ap split_rest given.into_iter_gives ∙ made.rest) (ap split_done given.into_iter_gives ∙ made.done) (ap split_callee given.into_iter_gives ∙ made.closure) (λ x b q k. search (rules, tests)))
+    let all = YieldsList-end (YieldsList-from_slice_split _ is_between c.args.text.now (ap split_rest given.into_iter_gives ∙ made.rest)
+    (ap split_done given.into_iter_gives ∙ made.done) (ap split_callee given.into_iter_gives ∙ made.closure)
+    (λ x b q k. search (rules, tests)))
     c.loop-name.yielded _ c.loop-name.yielded_by _ _ c.in-None.is c.next.ensures.steps in
     c.loop-name.invariant ∙ all.0

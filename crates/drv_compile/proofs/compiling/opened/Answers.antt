@@ -3,7 +3,8 @@ use Rattle.drv_compile.proofs.compiling.opened.Goals as goal
 
 pub returns-in_ok-say-clause-opens : goal.returns-in_ok-say-clause-opens
 returns-in_ok-say-clause-opens g c =
-    text_opened (g.S.System.events c.args.sys.now) _ c.args.said.now _ (some_bytes _ _ c.is_empty.ensures c.if-not-is_empty.true) c.in_ok-say.ensures.event
+    text_opened (g.S.System.events c.args.sys.now) _ c.args.said.now _
+    (some_bytes _ _ c.is_empty.ensures c.if-not-is_empty.true) c.in_ok-say.ensures.event
 
 pub returns-in_ok-say-clause-pipe : goal.returns-in_ok-say-clause-pipe
 returns-in_ok-say-clause-pipe g c = no_pipe_after_text (g.S.System.events c.args.sys.now) _ _ _ c.in_ok-say.ensures.event c.requires.pipe

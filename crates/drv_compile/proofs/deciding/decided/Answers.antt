@@ -5,4 +5,5 @@ use Rattle.drv_system.proofs.AskedCalls.{extends_before}
 pub returns-clause-decision : goal.returns-clause-decision
 returns-clause-decision g c F e =
     decided_so F c.args.own.now c.args.words.now c.in_ok-place.place c.in_ok-found.found c.in_ok-place-2.place c.decided_with.result
-    c.in_ok-place.ensures (c.in_ok-found.ensures.path F (extends_before c.decided_with.ensures.asks e)) c.in_ok-place-2.ensures (c.decided_with.ensures.decision F e)
+    c.in_ok-place.ensures (c.in_ok-found.ensures.path F (extends_before c.decided_with.ensures.asks e)) c.in_ok-place-2.ensures
+    (c.decided_with.ensures.decision F e)

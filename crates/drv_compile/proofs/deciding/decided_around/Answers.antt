@@ -3,4 +3,5 @@ use Rattle.drv_compile.proofs.deciding.decided_around.Goals as goal
 
 pub returns-clause-decision : goal.returns-clause-decision
 returns-clause-decision g c F e =
-    around_read F c.args.specs c.as_bytes.result.now c.args.words.now c.args.around c.in_ok-reading.reading c.of_reading.result c.as_bytes.ensures (c.in_ok-reading.ensures.reading F e) c.of_reading.ensures
+    around_read F c.args.specs c.as_bytes.result.now c.args.words.now c.args.around c.in_ok-reading.reading c.of_reading.result
+    c.as_bytes.ensures (c.in_ok-reading.ensures.reading F e) c.of_reading.ensures

@@ -5,4 +5,5 @@ use Rattle.drv_system.proofs.AskedCalls.{extends_before}
 pub returns-clause-decision : goal.returns-clause-decision
 returns-clause-decision g c F e =
     specs_given F c.args.own c.args.words.now c.args.found c.in-Some.specs c.as_bytes.result.now c.in_ok-text.text c.decided_over.result
-    c.in-Some.is c.as_bytes.ensures (c.in_ok-text.ensures.lines F (extends_before c.decided_over.ensures.asks e)) (c.decided_over.ensures.decision F e)
+    c.in-Some.is c.as_bytes.ensures (c.in_ok-text.ensures.lines F (extends_before c.decided_over.ensures.asks e))
+    (c.decided_over.ensures.decision F e)

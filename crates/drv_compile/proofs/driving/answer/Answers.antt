@@ -8,6 +8,8 @@ use Rattle.std.proofs.Common.{◌≡◌, ◌⊎◌, Err, Option, subst}
 
 pub returns-in_ok-stop-in-Err-clause-answers : goal.returns-in_ok-stop-in-Err-clause-answers
 returns-in_ok-stop-in-Err-clause-answers g c F e =
-    answer_told F c.args.name.now c.args.chain.now c.args.given.now c.args.first.now c.in-Err.ending c.in_ok-stop-in-Err.stop c.in_ok-stop-in-Err.ensures
+    answer_told F c.args.name.now c.args.chain.now c.args.given.now c.args.first.now c.in-Err.ending c.in_ok-stop-in-Err.stop
+    c.in_ok-stop-in-Err.ensures
     (subst (λ (k : Ended (Option Answer)). (c.in-Err.ending ≡ OutOfMemory) ⊎ (k ≡ Is (Err c.in-Err.ending)))
-    (answer_by_slices F c.args.chain.now c.args.given.now c.args.first.now _ _ _ c.as_bytes.ensures c.as_bytes-2.ensures c.as_slice.ensures) (c.in-Err.ensures.answer F e))
+    (answer_by_slices F c.args.chain.now c.args.given.now c.args.first.now _ _ _ c.as_bytes.ensures c.as_bytes-2.ensures c.as_slice.ensures)
+    (c.in-Err.ensures.answer F e))

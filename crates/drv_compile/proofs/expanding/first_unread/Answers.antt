@@ -23,4 +23,5 @@ returns-then-is_some-clause-path g c F e =
     (sym c.is_some.ensures ∙ c.if-is_some.true) (c.loop-word.invariant.rest F (extends_before c.unread_at.ensures.asks e))
 
 pub returns-clause-path : goal.returns-clause-path
-returns-clause-path g c F e = unread_nowhere F c.args.words.now c.loop-word.word-index (omega (arith, c.loop-word-test.false)) (c.loop-word.invariant.rest F e)
+returns-clause-path g c F e = unread_nowhere F c.args.words.now c.loop-word.word-index (omega (arith, c.loop-word-test.false))
+    (c.loop-word.invariant.rest F e)

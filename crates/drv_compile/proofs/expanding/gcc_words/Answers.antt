@@ -6,4 +6,5 @@ use Rattle.std.proofs.Common.{◌∙◌, ap}
 pub returns-in_ok-stop-in-Err : goal.returns-in_ok-stop-in-Err
 returns-in_ok-stop-in-Err c =
     c99_told c.args.calling.now c.args.expanded c.in-Err.fault c.in_ok-stop-in-Err.stop
-    (c.in_ok-stop-in-Err.ensures ∙ ap (λ n. stop_of n c.from.result) c.as_bytes.ensures ∙ ap (stop_of c.args.calling.now.name) c.from.ensures) c.in-Err.ensures
+    (c.in_ok-stop-in-Err.ensures ∙ ap (λ n. stop_of n c.from.result) c.as_bytes.ensures
+    ∙ ap (stop_of c.args.calling.now.name) c.from.ensures) c.in-Err.ensures

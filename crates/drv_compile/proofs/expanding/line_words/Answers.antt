@@ -5,14 +5,18 @@ use Rattle.std.proofs.Common.{rules}
 
 pub returns-in_err-expanded-clause-gives : goal.returns-in_err-expanded-clause-gives
 returns-in_err-expanded-clause-gives g c F e =
-    unexpanded F c.args.calling.now _ c.args.args.now _ c.from_residual.result (search rules) c.from_residual.ensures.1 (c.in_err-expanded.ensures.gives F e)
+    unexpanded F c.args.calling.now _ c.args.args.now _ c.from_residual.result (search rules) c.from_residual.ensures.1
+    (c.in_err-expanded.ensures.gives F e)
 
 pub returns-in_err-refuse_unread-clause-gives : goal.returns-in_err-refuse_unread-clause-gives
 returns-in_err-refuse_unread-clause-gives g c F e =
-    unreadable F c.args.calling.now _ c.args.args.now c.as_slice.result.now c.in_ok-expanded.expanded _ c.from_residual-in_err-refuse_unread.result c.as_bytes-name.ensures c.as_slice.ensures
-    (c.in_ok-expanded.ensures.gives F (extends_before c.refuse_unread.ensures.asks e)) c.from_residual-in_err-refuse_unread.ensures.1 (c.in_err-refuse_unread.ensures.gives F e)
+    unreadable F c.args.calling.now _ c.args.args.now c.as_slice.result.now c.in_ok-expanded.expanded _
+    c.from_residual-in_err-refuse_unread.result c.as_bytes-name.ensures c.as_slice.ensures
+    (c.in_ok-expanded.ensures.gives F (extends_before c.refuse_unread.ensures.asks e)) c.from_residual-in_err-refuse_unread.ensures.1
+    (c.in_err-refuse_unread.ensures.gives F e)
 
 pub returns-clause-gives : goal.returns-clause-gives
 returns-clause-gives g c F e =
     words_given F c.args.calling.now c.args.args.now c.as_slice.result.now c.in_ok-expanded.expanded c.gcc_words.result c.as_slice.ensures
-    (c.in_ok-expanded.ensures.gives F (extends_before c.refuse_unread.ensures.asks e)) (c.in_ok-refuse_unread.ensures.gives F e) c.gcc_words.ensures
+    (c.in_ok-expanded.ensures.gives F (extends_before c.refuse_unread.ensures.asks e))
+    (c.in_ok-refuse_unread.ensures.gives F e) c.gcc_words.ensures

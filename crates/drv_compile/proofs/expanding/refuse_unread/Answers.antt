@@ -4,5 +4,9 @@ use Rattle.drv_system.specs.Known.{Is}
 use Rattle.std.proofs.Common.{◌∙◌, ap}
 
 pub returns-clause-gives : goal.returns-clause-gives
-returns-clause-gives g c F e =
-    (c.in-Some.path, c.in_ok-unread.ensures.path F e ∙ ap Is c.in-Some.is, c.in_ok-text.ensures ∙ ap (unread_text c.args.name.now) c.as_bytes.ensures)
+returns-clause-gives g c F e = (
+  c.in-Some.path,
+  c.in_ok-unread.ensures.path F e ∙ ap Is c.in-Some.is,
+  c.in_ok-text.ensures
+      ∙ ap (unread_text c.args.name.now) c.as_bytes.ensures,
+)

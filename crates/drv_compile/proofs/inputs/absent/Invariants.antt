@@ -9,5 +9,6 @@ use Rattle.std.proofs.Common.{◌≡◌, drop}
 abbrev pub invariant-loop-input : goal.invariant-loop-input
 invariant-loop-input g l = record {
   asks : Asked g.S.System.events l.fn.outside l.outside;
-  rest : (F : Facts) → Extends l.outside.facts.now F → after_text l.text (absent_of F l.name (drop l.input-index l.inputs)) ≡ absent_of F l.name l.inputs;
+  rest : (F : Facts) → Extends l.outside.facts.now F
+      → after_text l.text (absent_of F l.name (drop l.input-index l.inputs)) ≡ absent_of F l.name l.inputs;
 }

@@ -5,10 +5,12 @@ use Rattle.std.proofs.Common.{◌∙◌, sym}
 
 pub returns-then-is_some-clause-text : goal.returns-then-is_some-clause-text
 returns-then-is_some-clause-text g c F e =
-    set_objects F c.args.name.now c.args.inputs.now c.in_ok-value.value c.variable_text.result (c.in_ok-value.ensures.value F e) (sym c.is_some.ensures ∙ c.if-is_some.true)
+    set_objects F c.args.name.now c.args.inputs.now c.in_ok-value.value c.variable_text.result (c.in_ok-value.ensures.value F e)
+    (sym c.is_some.ensures ∙ c.if-is_some.true)
     c.variable_text.ensures
 
 pub returns-clause-text : goal.returns-clause-text
 returns-clause-text g c F e =
-    unset_objects F c.args.name.now c.args.inputs.now c.in_ok-value.value c.absent.result (c.in_ok-value.ensures.value F (extends_before c.absent.ensures.asks e))
+    unset_objects F c.args.name.now c.args.inputs.now c.in_ok-value.value c.absent.result
+    (c.in_ok-value.ensures.value F (extends_before c.absent.ensures.asks e))
     (sym c.is_some.ensures ∙ c.if-is_some.false) (c.absent.ensures.text F e)

@@ -10,4 +10,5 @@ returns-in_default-found g c =
 
 pub returns : goal.returns
 returns g c =
-    old_written c.args.inputs.now c.args.output.now _ _ c.in_ok-found.found _ _ _ c.reaches.result c.in-Some.is c.in-Some-found.is c.in_ok-found.ensures.event c.reaches.ensures
+    old_written c.args.inputs.now c.args.output.now _ _ c.in_ok-found.found _ _ _ c.reaches.result c.in-Some.is c.in-Some-found.is
+    c.in_ok-found.ensures.event c.reaches.ensures

@@ -4,13 +4,16 @@ use Rattle.std.proofs.Common.{◌∙◌, arith, sym}
 
 pub returns-then-is_at : goal.returns-then-is_at
 returns-then-is_at g c =
-    reaches_it c.args.path.now c.args.inputs.now c.loop-input.input-index c.input-item.result c.in_ok-found.found _ _ _ c.loop-input-test.true c.input-item.is
+    reaches_it c.args.path.now c.args.inputs.now c.loop-input.input-index c.input-item.result c.in_ok-found.found _ _ _
+    c.loop-input-test.true c.input-item.is
     (sym c.is_at.ensures ∙ c.if-is_at.true) c.in_ok-found.ensures.event c.loop-input.invariant
 
 pub loop-input-preserved : goal.loop-input-preserved
 loop-input-preserved g c =
-    reaches_more c.args.path.now c.args.inputs.now c.loop-input.input-index c.input-item.result c.in_ok-found.found _ _ _ c.loop-input-test.true c.input-item.is
+    reaches_more c.args.path.now c.args.inputs.now c.loop-input.input-index c.input-item.result c.in_ok-found.found _ _ _
+    c.loop-input-test.true c.input-item.is
     (sym c.is_at.ensures ∙ c.if-is_at.false) c.in_ok-found.ensures.event c.loop-input.invariant
 
 pub returns : goal.returns
-returns g c = reaches_none c.args.path.now c.args.inputs.now c.loop-input.input-index _ _ (omega (arith, c.loop-input-test.false)) c.loop-input.invariant
+returns g c = reaches_none c.args.path.now c.args.inputs.now c.loop-input.input-index _ _
+    (omega (arith, c.loop-input-test.false)) c.loop-input.invariant

@@ -6,4 +6,5 @@ use Rattle.std.proofs.Common.{Bool, List, ◌++◌, drop}
 abbrev pub invariant-loop-input : goal.invariant-loop-input
 invariant-loop-input g l =
     Noted (g.H.Host.notes l.fn.host) (g.H.Host.notes l.host)
-    (λ events. (more : List HostEvent) (found : Bool) → Reaches l.path (drop l.input-index l.inputs) more found → Reaches l.path l.inputs (events ++ more) found)
+    (λ events. (more : List HostEvent) (found : Bool) → Reaches l.path (drop l.input-index l.inputs) more found
+    → Reaches l.path l.inputs (events ++ more) found)

@@ -4,5 +4,6 @@ use Rattle.std.proofs.Common.{◌∙◌, sym}
 
 pub returns-clause-names : goal.returns-clause-names
 returns-clause-names g c F e known some =
-    kept_so F c.args.specs.now c.args.answer.now known c.in_ok-names.names c.or_none.result (sym c.reads_again.ensures ∙ c.if-not-reads_again.false) some
+    kept_so F c.args.specs.now c.args.answer.now known c.in_ok-names.names c.or_none.result
+    (sym c.reads_again.ensures ∙ c.if-not-reads_again.false) some
     (c.in_ok-names.ensures.names F e) c.or_none.ensures

@@ -8,4 +8,5 @@ pub returns-clause-texts : goal.returns-clause-texts
 returns-clause-texts g c F e =
     texts_found F c.args.specs.now c.args.items.now c.args.stages c.in_ok-part.part c.in_ok-path.path c.in_ok-kind.kind c.texts_at.result
     c.in_ok-part.ensures ((extends_before c.texts_at.ensures.asks e).kinds c.in_ok-part.part c.in_ok-kind.kind c.in_ok-kind.ensures.known)
-    (c.in_ok-path.ensures ∙ c.texts_or.ensures ∙ ap (λ p. texts_or c.args.specs.now p c.in_ok-kind.kind) c.as_bytes.ensures) (c.texts_at.ensures.texts F e)
+    (c.in_ok-path.ensures ∙ c.texts_or.ensures ∙ ap (λ p. texts_or c.args.specs.now p c.in_ok-kind.kind) c.as_bytes.ensures)
+    (c.texts_at.ensures.texts F e)

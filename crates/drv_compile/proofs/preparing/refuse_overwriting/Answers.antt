@@ -6,14 +6,18 @@ pub returns-in_err-found : goal.returns-in_err-found
 returns-in_err-found g c = memory_noted _ _ _ c.from_residual.result _ _ c.in_err-found.ensures c.from_residual.ensures.1
 
 pub returns-in_default : goal.returns-in_default
-returns-in_default g c = no_overwriting _ c.args.call.now.inputs c.args.call.now.output c.in_ok-found.found _ _ c.as_slice.ensures c.in_default.is c.in_ok-found.ensures
+returns-in_default g c = no_overwriting _ c.args.call.now.inputs c.args.call.now.output c.in_ok-found.found _ _ c.as_slice.ensures
+    c.in_default.is c.in_ok-found.ensures
 
 pub returns-then-not-found : goal.returns-then-not-found
-returns-then-not-found g c = not_overwriting _ c.args.call.now.inputs c.args.call.now.output c.in_ok-found.found _ _ c.as_slice.ensures c.if-not-found.true c.in_ok-found.ensures
+returns-then-not-found g c = not_overwriting _ c.args.call.now.inputs c.args.call.now.output c.in_ok-found.found _ _ c.as_slice.ensures
+    c.if-not-found.true c.in_ok-found.ensures
 
 pub returns-in_err-text : goal.returns-in_err-text
-returns-in_err-text g c = memory_noted _ _ _ c.from_residual-in_err-text.result _ _ c.in_ok-found.ensures c.from_residual-in_err-text.ensures.1
+returns-in_err-text g c = memory_noted _ _ _ c.from_residual-in_err-text.result _ _ c.in_ok-found.ensures
+    c.from_residual-in_err-text.ensures.1
 
 pub returns : goal.returns
 returns g c =
-    overwriting_told c.args.name.now c.in_ok-text.text _ _ c.args.call.now _ c.in_ok-found.found _ _ c.in-Some.is (search rules) c.as_slice.ensures c.if-not-found.false c.in_ok-found.ensures c.in_ok-text.ensures
+    overwriting_told c.args.name.now c.in_ok-text.text _ _ c.args.call.now _ c.in_ok-found.found _ _ c.in-Some.is
+    (search rules) c.as_slice.ensures c.if-not-found.false c.in_ok-found.ensures c.in_ok-text.ensures

@@ -8,5 +8,7 @@ returns-clause-asks g c = record { asks = asks_then c.find_file.ensures.asks c.r
 
 pub returns-clause-names : goal.returns-clause-names
 returns-clause-names g c F e =
-    file_read F c.args.prefixes.now c.args.file.now c.in_ok-path.path c.read_answer.result.now c.args.named.now c.add_names.new.named c.add_names.result
-    (c.in_ok-path.ensures.path F (extends_then (asks_extends c.read.ensures.asks) e)) (e.reads c.in_ok-path.path c.read_answer.result.now c.read_answer.ensures) c.add_names.ensures
+    file_read F c.args.prefixes.now c.args.file.now c.in_ok-path.path c.read_answer.result.now c.args.named.now c.add_names.new.named
+    c.add_names.result
+    (c.in_ok-path.ensures.path F (extends_then (asks_extends c.read.ensures.asks) e))
+    (e.reads c.in_ok-path.path c.read_answer.result.now c.read_answer.ensures) c.add_names.ensures

@@ -9,5 +9,6 @@ use Rattle.std.proofs.Common.{◌≡◌, drop}
 abbrev pub invariant-loop-file : goal.invariant-loop-file
 invariant-loop-file g l = record {
   asks : Asked g.S.System.events l.fn.outside l.outside;
-  rest : (F : Facts) → Extends l.outside.facts.now F → after_names l.named (files_names F l.prefixes (drop l.file-index l.files)) ≡ files_names F l.prefixes l.files;
+  rest : (F : Facts) → Extends l.outside.facts.now F
+      → after_names l.named (files_names F l.prefixes (drop l.file-index l.files)) ≡ files_names F l.prefixes l.files;
 }

@@ -4,7 +4,8 @@ use Rattle.drv_system.proofs.AskedCalls.{asked_further, extends_before}
 use Rattle.std.proofs.Common.{◌∙◌, refl}
 
 pub returns-clause-asks : goal.returns-clause-asks
-returns-clause-asks g c = asked_further (record { asks = c.new.ensures.asks; same_sys = refl; same_facts = refl }) c.files_names.ensures.asks
+returns-clause-asks g c = asked_further (record { asks = c.new.ensures.asks; same_sys = refl; same_facts = refl })
+    c.files_names.ensures.asks
 
 pub returns-clause-names : goal.returns-clause-names
 returns-clause-names g c F e =

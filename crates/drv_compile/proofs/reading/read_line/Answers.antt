@@ -12,4 +12,5 @@ returns-then-has_unknown-clause-reading g c F e =
 pub returns-clause-reading : goal.returns-clause-reading
 returns-clause-reading g c F e =
     line_known F c.args.specs.now c.args.around.now c.args.words.now c.in_ok-answer.answer c.empty-known.result
-    (c.in_ok-answer.ensures ∙ ap (answer_of [] c.args.around.now) c.in_ok-items.ensures) (sym c.has_unknown.ensures ∙ c.if-has_unknown.false) c.empty-known.ensures
+    (c.in_ok-answer.ensures ∙ ap (answer_of [] c.args.around.now) c.in_ok-items.ensures)
+    (sym c.has_unknown.ensures ∙ c.if-has_unknown.false) c.empty-known.ensures

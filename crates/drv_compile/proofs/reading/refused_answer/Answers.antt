@@ -4,5 +4,7 @@ use Rattle.std.proofs.Common.{◌∙◌}
 
 pub returns-clause-answer : goal.returns-clause-answer
 returns-clause-answer g c known words is F e =
-    refused_again F known c.args.around.now words c.args.refusals.now c.args.items.now c.as_slice.result.now c.in_ok-taken.taken c.in_ok-named.named c.as_slice-2.result.now c.answer-2.result is
-    (c.as_slice.ensures ∙ c.in_ok-switches.ensures) c.in_ok-taken.ensures (c.in_ok-named.ensures.names F e) c.as_slice-2.ensures c.answer-2.ensures
+    refused_again F known c.args.around.now words c.args.refusals.now c.args.items.now c.as_slice.result.now c.in_ok-taken.taken
+    c.in_ok-named.named c.as_slice-2.result.now c.answer-2.result is
+    (c.as_slice.ensures ∙ c.in_ok-switches.ensures) c.in_ok-taken.ensures
+    (c.in_ok-named.ensures.names F e) c.as_slice-2.ensures c.answer-2.ensures

@@ -4,11 +4,13 @@ use Rattle.std.proofs.Common.{refl}
 
 pub returns-in_err-refuse_several-clause-works : goal.returns-in_err-refuse_several-clause-works
 returns-in_err-refuse_several-clause-works g c F e =
-    many_end F c.args.line.now c.args.set.now c.args.seed c.in_err-refuse_several.field-0.0 c.from_residual.result c.from_residual.ensures.1 c.in_err-refuse_several.ensures
+    many_end F c.args.line.now c.args.set.now c.args.seed c.in_err-refuse_several.field-0.0 c.from_residual.result c.from_residual.ensures.1
+    c.in_err-refuse_several.ensures
 
 pub returns-in_err-work-clause-works : goal.returns-in_err-work-clause-works
 returns-in_err-work-clause-works g c F e =
-    planning_ends F c.args.line.now c.args.set.now c.args.seed c.in_err-work.field-0.0 c.from_residual-in_err-work.result c.from_residual-in_err-work.ensures.1
+    planning_ends F c.args.line.now c.args.set.now c.args.seed c.in_err-work.field-0.0 c.from_residual-in_err-work.result
+    c.from_residual-in_err-work.ensures.1
     c.in_ok-refuse_several.ensures (c.in_err-work.ensures.works F e)
 
 pub returns-clause-works : goal.returns-clause-works

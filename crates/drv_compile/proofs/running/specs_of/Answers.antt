@@ -3,7 +3,8 @@ use Rattle.drv_compile.proofs.Ran.{suffixes_given}
 use Rattle.std.proofs.Common.{refl}
 
 pub returns-clause-loads : goal.returns-clause-loads
-returns-clause-loads g c F e = suffixes_given F c.args.settings.now c.in_ok-set.set c.load_specs.result c.in_ok-set.ensures (c.load_specs.ensures.loads F e)
+returns-clause-loads g c F e = suffixes_given F c.args.settings.now c.in_ok-set.set c.load_specs.result c.in_ok-set.ensures
+    (c.load_specs.ensures.loads F e)
 
 pub returns-clause-asks : goal.returns-clause-asks
 returns-clause-asks g c = record { asks = c.load_specs.ensures.asks; same_sys = refl; same_facts = refl }

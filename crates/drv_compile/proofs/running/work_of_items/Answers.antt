@@ -4,11 +4,13 @@ use Rattle.drv_system.proofs.AskedCalls.{extends_before}
 
 pub returns-in_err-line-clause-comes : goal.returns-in_err-line-clause-comes
 returns-in_err-line-clause-comes g c F e =
-    reading_ends F c.args.given.now c.args.seed c.in_err-line.field-0.0 c.from_residual.result c.from_residual.ensures.1 c.in_err-line.ensures.line
+    reading_ends F c.args.given.now c.args.seed c.in_err-line.field-0.0 c.from_residual.result c.from_residual.ensures.1
+    c.in_err-line.ensures.line
 
 pub returns-in_err-set-clause-comes : goal.returns-in_err-set-clause-comes
 returns-in_err-set-clause-comes g c F e =
-    loading_ends F c.args.given.now c.args.seed c.in_ok-line.line c.in_err-set.field-0.0 c.from_residual-in_err-set.result c.from_residual-in_err-set.ensures.1
+    loading_ends F c.args.given.now c.args.seed c.in_ok-line.line c.in_err-set.field-0.0 c.from_residual-in_err-set.result
+    c.from_residual-in_err-set.ensures.1
     c.in_ok-line.ensures.line (c.in_err-set.ensures.loads F e)
 
 pub returns-clause-comes : goal.returns-clause-comes

@@ -9,19 +9,23 @@ use Rattle.std.proofs.Common.{codes, refl}
 
 pub returns-in_err-own-clause-works : goal.returns-in_err-own-clause-works
 returns-in_err-own-clause-works g c F e =
-    line_refused c.in_err-own.field-0.0 (line_given c.args.first.now) (worked_of F (line_judged c.args.first.now.from_file c.args.items.now)) c.from_residual.result refl
+    line_refused c.in_err-own.field-0.0 (line_given c.args.first.now)
+    (worked_of F (line_judged c.args.first.now.from_file c.args.items.now)) c.from_residual.result refl
     c.from_residual.ensures.1 c.in_err-own.ensures.line
 
 pub returns-in_err-set-clause-works : goal.returns-in_err-set-clause-works
 returns-in_err-set-clause-works g c F e =
-    specs_refused c.in_err-set.field-0.0 F c.in_ok-own.own (line_judged c.args.first.now.from_file c.args.items.now) (line_given c.args.first.now) c.from_residual-in_err-set.result
+    specs_refused c.in_err-set.field-0.0 F c.in_ok-own.own (line_judged c.args.first.now.from_file c.args.items.now)
+    (line_given c.args.first.now) c.from_residual-in_err-set.result
     c.in_ok-own.ensures.line c.from_residual-in_err-set.ensures.1 (c.in_err-set.ensures.loads F e)
 
 pub returns-clause-works : goal.returns-clause-works
 returns-clause-works g c F e =
     alike _ c.worked_by.result
-    (worked_by F c.in_ok-own.own.settings c.in_ok-set.set (line_judged c.args.first.now.from_file c.args.items.now) (text_of c.in_ok-set.set (codes "gdrv_self")))
+    (worked_by F c.in_ok-own.own.settings c.in_ok-set.set (line_judged c.args.first.now.from_file c.args.items.now)
+    (text_of c.in_ok-set.set (codes "gdrv_self")))
     (worked_of F (line_judged c.args.first.now.from_file c.args.items.now) (line_given c.args.first.now))
-    (specs_go F c.in_ok-own.own c.in_ok-set.set (line_judged c.args.first.now.from_file c.args.items.now) (line_given c.args.first.now) c.in_ok-own.ensures.line
+    (specs_go F c.in_ok-own.own c.in_ok-set.set (line_judged c.args.first.now.from_file c.args.items.now)
+    (line_given c.args.first.now) c.in_ok-own.ensures.line
     (c.in_ok-set.ensures.loads F (extends_before c.worked_by.ensures.asks e)))
     (c.worked_by.ensures.works F e)

@@ -6,7 +6,8 @@ use Rattle.std.proofs.Common.{Ok, ap, refl}
 
 pub returns-in_err-line-clause-works : goal.returns-in_err-line-clause-works
 returns-in_err-line-clause-works g c F e =
-    line_refused c.in_err-line.field-0.0 (line_judged c.args.from_file c.args.items.now) (worked_for F c.args.settings.now c.args.set.now c.args.text.now) c.from_residual.result refl
+    line_refused c.in_err-line.field-0.0 (line_judged c.args.from_file c.args.items.now)
+    (worked_for F c.args.settings.now c.args.set.now c.args.text.now) c.from_residual.result refl
     c.from_residual.ensures.1 c.in_err-line.ensures.line
 
 pub returns-clause-works : goal.returns-clause-works

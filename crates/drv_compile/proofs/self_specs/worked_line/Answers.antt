@@ -8,9 +8,11 @@ pub returns-clause-works : goal.returns-clause-works
 returns-clause-works g c F e =
     alike _ c.worked_along.result (worked_along F c.args.set.now c.args.text.now c.args.line.now c.in_ok-prefixes.prefixes)
     (worked_for F c.args.settings.now c.args.set.now c.args.text.now (Ok c.args.line.now))
-    (prefixes_made F c.args.settings.now c.args.set.now c.args.text.now c.args.line.now c.as_slice-folders.result.now c.in_ok-prefixes.prefixes
+    (prefixes_made F c.args.settings.now c.args.set.now c.args.text.now c.args.line.now c.as_slice-folders.result.now
+    c.in_ok-prefixes.prefixes
     c.as_slice-folders.ensures (c.in_ok-prefixes.ensures.prefixes F (extends_before c.worked_along.ensures.asks e)))
     (c.worked_along.ensures.works F e)
 
 pub returns-clause-asks : goal.returns-clause-asks
-returns-clause-asks g c = asked_further (record { asks = c.new.ensures.asks; same_sys = refl; same_facts = refl }) c.worked_along.ensures.asks
+returns-clause-asks g c = asked_further (record { asks = c.new.ensures.asks; same_sys = refl; same_facts = refl })
+    c.worked_along.ensures.asks

@@ -4,4 +4,5 @@ use Rattle.std.proofs.Common.{◌≡◌, ◌++◌, drop}
 use Rattle.std.specs.List.{flat_map}
 
 abbrev pub invariant-loop-variable : goal.invariant-loop-variable
-invariant-loop-variable l = l.text ++ flat_map switches_line (drop l.variable-index l.children) ≡ l.fn.text ++ flat_map switches_line l.children
+invariant-loop-variable l = l.text ++ flat_map switches_line (drop l.variable-index l.children) ≡ l.fn.text
+    ++ flat_map switches_line l.children

@@ -9,5 +9,6 @@ returns-in-Run c = answer_runs c.args.specs c.args.around c.args.reading c.in-Ru
 
 pub returns-in_ok-text-in-Refuse : goal.returns-in_ok-text-in-Refuse
 returns-in_ok-text-in-Refuse c =
-    answer_refused c.args.calling.now c.args.specs c.args.around c.args.reading c.in-Refuse.refusals _ _ _ c.in_ok-text-in-Refuse.text c.in-Refuse.is c.as_bytes-name.ensures c.as_bytes.ensures
+    answer_refused c.args.calling.now c.args.specs c.args.around c.args.reading c.in-Refuse.refusals _ _ _ c.in_ok-text-in-Refuse.text
+    c.in-Refuse.is c.as_bytes-name.ensures c.as_bytes.ensures
     c.as_slice.ensures c.in_ok-text-in-Refuse.ensures

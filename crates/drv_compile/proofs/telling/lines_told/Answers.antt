@@ -4,9 +4,11 @@ use Rattle.std.proofs.Common.{arith}
 
 pub loop-refusal-preserved : goal.loop-refusal-preserved
 loop-refusal-preserved c =
-    told_more c.args.name.now c.args.known.now c.args.refusals.now c.loop-refusal.refusal-index c.refusal-item.result c.loop-refusal.text c.add_told.new.text
+    told_more c.args.name.now c.args.known.now c.args.refusals.now c.loop-refusal.refusal-index c.refusal-item.result c.loop-refusal.text
+    c.add_told.new.text
     c.loop-refusal-test.true c.refusal-item.is c.in_ok-add_told.ensures c.loop-refusal.invariant
 
 pub returns : goal.returns
 returns c =
-    told_all c.args.name.now c.args.known.now c.args.refusals.now c.loop-refusal.refusal-index c.loop-refusal.text (omega (arith, c.loop-refusal-test.false)) c.loop-refusal.invariant
+    told_all c.args.name.now c.args.known.now c.args.refusals.now c.loop-refusal.refusal-index c.loop-refusal.text
+    (omega (arith, c.loop-refusal-test.false)) c.loop-refusal.invariant

@@ -6,7 +6,8 @@ pub returns-in_err-name-clause-asks : goal.returns-in_err-name-clause-asks
 returns-in_err-name-clause-asks g c = nothing_begun _ _
 
 pub returns-in_err-folder-clause-asks : goal.returns-in_err-folder-clause-asks
-returns-in_err-folder-clause-asks g c = let asks = c.folder_asked.ensures.asks.asks in begun c.requires (search rules) c.folder_asked.ensures.tries
+returns-in_err-folder-clause-asks g c = let asks = c.folder_asked.ensures.asks.asks in
+    begun c.requires (search rules) c.folder_asked.ensures.tries
 
 pub returns-clause-asks : goal.returns-clause-asks
 returns-clause-asks g c = let asks = c.folder_asked.ensures.asks.asks in begun c.requires (search rules) c.folder_asked.ensures.tries
@@ -14,5 +15,6 @@ returns-clause-asks g c = let asks = c.folder_asked.ensures.asks.asks in begun c
 pub returns-clause-settles : goal.returns-clause-settles
 returns-clause-settles g c =
     let asks = c.folder_asked.ensures.asks.asks in
-    table_settled _ _ c.put_variable.result c.in_ok-folder.folder c.in_ok-name.name _ _ c.in_ok-name.ensures (search rules) c.requires (search rules)
+    table_settled _ _ c.put_variable.result c.in_ok-folder.folder c.in_ok-name.name _ _ c.in_ok-name.ensures (search rules) c.requires
+    (search rules)
     c.in_ok-folder.ensures.folder c.put_variable.ensures.ok

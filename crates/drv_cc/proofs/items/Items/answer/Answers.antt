@@ -4,4 +4,5 @@ use Rattle.std.proofs.Common.{◌≡◌, ◌∙◌, IfOk}
 use Rattle.std.proofs.Math.Path.{subst}
 
 pub returns : goal.returns
-returns c = subst (λ items. IfOk c.answer_of.result (λ answer. answer ≡ answer_of c.args.named.now c.args.around.now items)) (c.as_slice.ensures ∙ c.self.view_is) c.answer_of.ensures
+returns c = subst (λ items. IfOk c.answer_of.result (λ answer. answer ≡ answer_of c.args.named.now c.args.around.now items))
+    (c.as_slice.ensures ∙ c.self.view_is) c.answer_of.ensures

@@ -1,5 +1,5 @@
 use Rattle.drv_compile.proofs.Decided.{named_by_variable}
-use Rattle.drv_compile.proofs.finding.named_file.Goals as goal
+use Rattle.drv_compile.proofs.finding.file_of_variable.Goals as goal
 use Rattle.std.specs.Option.{option_copied}
 
 pub returns-clause-path : goal.returns-clause-path

@@ -1,0 +1,7 @@
+use Rattle.drv_compile.proofs.Worded.{driver_told}
+use Rattle.drv_compile.proofs.preparing.work_or_stop.Goals as goal
+
+pub returns-in_ok-stop-in-Err-clause-works : goal.returns-in_ok-stop-in-Err-clause-works
+returns-in_ok-stop-in-Err-clause-works g c F e =
+    driver_told F c.args.name.now c.args.line.now c.args.seed c.in-Err.ending c.in_ok-stop-in-Err.stop c.in_ok-stop-in-Err.ensures
+    (c.in-Err.ensures.comes F e)
