@@ -1,5 +1,6 @@
 use Rattle.drv_dump.proofs.Kept.{same_value, text_law}
-use Rattle.drv_dump.specs.Dumps.{after_newline, all_texts, and_texts, at_end, ended, entries_from, entries_of, entry_at, entry_step, named_pieces, nothing_read, text_of_entry, texts_of, then_read, with_entries, written_entry, written_texts}
+use Rattle.drv_dump.specs.Dumps.{after_newline, all_texts, and_texts, at_end, ended, entries_from, entries_of, entry_at, entry_step}
+use Rattle.drv_dump.specs.Dumps.{named_pieces, nothing_read, text_of_entry, texts_of, then_read, with_entries, written_entry, written_texts}
 use Rattle.drv_dump.specs.Texts.{pieces_of, written}
 use Rattle.drv_dump.specs.declared.dump.DumpReader.{DumpReader}
 use Rattle.drv_dump.specs.declared.dump.DumpedText.{DumpedText}
@@ -12,7 +13,8 @@ use Rattle.drv_dump.specs.declared.fault.TextFault.TheVariants as text_fault
 use Rattle.drv_dump.specs.declared.fault.TextFault.{TextFault}
 use Rattle.drv_dump.specs.declared.piece.Piece.{Piece}
 use Rattle.drv_words.specs.Bytes as byte
-use Rattle.std.proofs.Common.{◌≡◌, ◌+◌, ◌==◌, ◌∙◌, Bool, Err, List, [], ◌∷◌, ◌++◌, Ok, Result, ap, append-nil, append_assoc, false, if◌then◌else◌, refl, subst, sym, true, ℕ}
+use Rattle.std.proofs.Common.{◌≡◌, ◌+◌, ◌==◌, ◌∙◌, Bool, Err, List, [], ◌∷◌, ◌++◌, Ok, Result, ap, append-nil, append_assoc, false}
+use Rattle.std.proofs.Common.{if◌then◌else◌, refl, subst, sym, true, ℕ}
 use Rattle.std.proofs.lemmas.Bool.{eqb-true}
 use Rattle.std.proofs.lemmas.Grind.{flat_map-append}
 use Rattle.std.specs.List.{flat_map}
@@ -49,20 +51,27 @@ Longer line r next b = (read_so_far next.line next ≡ read_so_far line r ++ (b 
 put_after : (front mine more all : List ℕ) → all ≡ mine ++ more → front ++ all ≡ (front ++ mine) ++ more
 put_after front mine more all is = ap (λ l. front ++ l) is ∙ sym (append_assoc front mine more)
 
-longer_between : (r next : DumpReader) (at b : ℕ) → (r.name ≡ []) × (r.text ≡ []) → entry_step Between r at b ≡ Ok next → Longer Between r next b
+longer_between : (r next : DumpReader) (at b : ℕ) → (r.name ≡ []) × (r.text ≡ []) → entry_step Between r at b ≡ Ok next
+    → Longer Between r next b
 longer_between r next at b none is = by (b == byte.asterisk) refl is
   where
-    by : (t : Bool) → (b == byte.asterisk) ≡ t → (if t then Ok (record r { line = Name }) else Err (Misplaced at)) ≡ Ok next → Longer Between r next b
-    by true e is = subst (λ n. Longer Between r n b) (same_value (record r { line = Name }) next (Ok (record r { line = Name })) refl is)
-        (put_after (written_all r.done) [] (b ∷ []) (byte.asterisk ∷ r.name) (ap (λ l. byte.asterisk ∷ l) none.0 ∙ ap (λ x. x ∷ []) (sym (eqb-true b byte.asterisk e))), none.1)
+    by : (t : Bool) → (b == byte.asterisk) ≡ t → (if t then Ok (record r { line = Name }) else Err (Misplaced at)) ≡ Ok next
+        → Longer Between r next b
+    by true e is = subst (λ n. Longer Between r n b) (same_value (record r { line = Name }) next (Ok (record r { line = Name })) refl is) (
+      put_after (written_all r.done) [] (b ∷ []) (byte.asterisk ∷ r.name)
+          (ap (λ l. byte.asterisk ∷ l) none.0 ∙ ap (λ x. x ∷ []) (sym (eqb-true b byte.asterisk e))),
+      none.1,
+    )
     by false e is = absurd cc
 
 longer_named : (r next : DumpReader) (at b : ℕ) → r.text ≡ [] → entry_step Named r at b ≡ Ok next → Longer Named r next b
 longer_named r next at b none is = by (b == byte.newline) refl is
   where
-    by : (t : Bool) → (b == byte.newline) ≡ t → (if t then Ok (record r { line = Text }) else Err (Misplaced at)) ≡ Ok next → Longer Named r next b
+    by : (t : Bool) → (b == byte.newline) ≡ t → (if t then Ok (record r { line = Text }) else Err (Misplaced at)) ≡ Ok next
+        → Longer Named r next b
     by true e is = subst (λ n. Longer Named r n b) (same_value (record r { line = Text }) next (Ok (record r { line = Text })) refl is) (
-      put_after (written_all r.done) (byte.asterisk ∷ (r.name ++ (byte.colon ∷ []))) (b ∷ []) (byte.asterisk ∷ (r.name ++ (byte.colon ∷ byte.newline ∷ r.text)))
+      put_after (written_all r.done) (byte.asterisk ∷ (r.name ++ (byte.colon ∷ []))) (b ∷ [])
+          (byte.asterisk ∷ (r.name ++ (byte.colon ∷ byte.newline ∷ r.text)))
           (ap (λ t. byte.asterisk ∷ (r.name ++ (byte.colon ∷ byte.newline ∷ t))) none
           ∙ ap (λ x. byte.asterisk ∷ (r.name ++ (byte.colon ∷ x ∷ []))) (sym (eqb-true b byte.newline e))
           ∙ ap (λ l. byte.asterisk ∷ l) (sym (append_assoc r.name (byte.colon ∷ []) (b ∷ [])))),
@@ -74,7 +83,8 @@ longer_name : (r next : DumpReader) (at b : ℕ) → r.line ≡ Name → r.text 
 longer_name r next at b here none is = by (b == byte.colon) (b == byte.newline) refl is
   where
     by : (t u : Bool) → (b == byte.colon) ≡ t
-        → (if t then Ok (record r { line = Named }) else if u then Err (Misplaced at) else Ok (record r { name = r.name ++ b ∷ [] })) ≡ Ok next → Longer Name r next b
+        → (if t then Ok (record r { line = Named }) else if u then Err (Misplaced at) else Ok (record r { name = r.name ++ b ∷ [] }))
+        ≡ Ok next → Longer Name r next b
     by true u e is = subst (λ n. Longer Name r n b) (same_value (record r { line = Named }) next (Ok (record r { line = Named })) refl is) (
       put_after (written_all r.done) (byte.asterisk ∷ r.name) (b ∷ []) (byte.asterisk ∷ (r.name ++ (byte.colon ∷ [])))
           (ap (λ x. byte.asterisk ∷ (r.name ++ (x ∷ []))) (sym (eqb-true b byte.colon e))),
@@ -82,7 +92,8 @@ longer_name r next at b here none is = by (b == byte.colon) (b == byte.newline) 
     )
     by false true e is = absurd cc
     by false false e is =
-        subst (λ n. Longer Name r n b) (same_value (record r { name = r.name ++ b ∷ [] }) next (Ok (record r { name = r.name ++ b ∷ [] })) refl is)
+        subst (λ n. Longer Name r n b) (same_value (record r { name = r.name ++ b ∷ [] }) next
+        (Ok (record r { name = r.name ++ b ∷ [] })) refl is)
         (rw here (put_after (written_all r.done) (byte.asterisk ∷ r.name) (b ∷ []) (byte.asterisk ∷ (r.name ++ (b ∷ []))) refl, none))
 
 abbrev text_step : Bool → DumpReader → ℕ → Result DumpReader DumpFault
@@ -99,20 +110,30 @@ longer_text r next at b here is = by (b == byte.newline) refl is
 
     by : (t : Bool) → (b == byte.newline) ≡ t → text_step t r b ≡ Ok next → Longer Text r next b
     by true e is =
-        subst (λ n. Longer Text r n b) (same_value (record r { line = NewLine }) next (text_step true r b) refl is)
-        (put_after (written_all r.done) (byte.asterisk ∷ (r.name ++ (byte.colon ∷ byte.newline ∷ r.text))) (b ∷ []) _ (whole byte.newline (sym (eqb-true b byte.newline e))), tt)
+        subst (λ n. Longer Text r n b) (same_value (record r { line = NewLine }) next (text_step true r b) refl is) (
+          put_after (written_all r.done) (byte.asterisk ∷ (r.name ++ (byte.colon ∷ byte.newline ∷ r.text))) (b ∷ []) _
+              (whole byte.newline (sym (eqb-true b byte.newline e))),
+          tt,
+        )
     by false e is =
         subst (λ n. Longer Text r n b) (same_value (record r { text = r.text ++ b ∷ [] }) next (text_step false r b) refl is)
-        (rw here (put_after (written_all r.done) (byte.asterisk ∷ (r.name ++ (byte.colon ∷ byte.newline ∷ r.text))) (b ∷ []) _ (whole b refl), tt))
+        (rw here (
+          put_after (written_all r.done) (byte.asterisk ∷ (r.name ++ (byte.colon ∷ byte.newline ∷ r.text))) (b ∷ []) _
+              (whole b refl),
+          tt,
+        ))
 
 longer_ended : (r : DumpReader) → Longer NewLine r (ended r) byte.newline
 longer_ended r = (
   append-nil (written_all (ended r).done)
       ∙ flat_map-append (λ (entry : Entry). written_entry entry.name entry.text) r.done (record { name = r.name; text = r.text } ∷ [])
       ∙ ap (λ l. written_all r.done ++ l) (append-nil (written_entry r.name r.text))
-      ∙ put_after (written_all r.done) (byte.asterisk ∷ (r.name ++ (byte.colon ∷ byte.newline ∷ (r.text ++ (byte.newline ∷ []))))) (byte.newline ∷ []) (written_entry r.name r.text)
-      (ap (λ l. byte.asterisk ∷ (r.name ++ (byte.colon ∷ byte.newline ∷ l))) (sym (append_assoc r.text (byte.newline ∷ []) (byte.newline ∷ [])))
-      ∙ ap (λ l. byte.asterisk ∷ l) (sym (append_assoc r.name (byte.colon ∷ byte.newline ∷ (r.text ++ (byte.newline ∷ []))) (byte.newline ∷ [])))),
+      ∙ put_after (written_all r.done) (byte.asterisk ∷ (r.name ++ (byte.colon ∷ byte.newline ∷ (r.text ++ (byte.newline ∷ [])))))
+      (byte.newline ∷ []) (written_entry r.name r.text)
+      (ap (λ l. byte.asterisk ∷ (r.name ++ (byte.colon ∷ byte.newline ∷ l)))
+      (sym (append_assoc r.text (byte.newline ∷ []) (byte.newline ∷ [])))
+      ∙ ap (λ l. byte.asterisk ∷ l) (sym (append_assoc r.name (byte.colon ∷ byte.newline ∷ (r.text ++ (byte.newline ∷ [])))
+      (byte.newline ∷ [])))),
   (refl, refl),
 )
 
@@ -120,7 +141,13 @@ longer_new_line : (r : DumpReader) (b : ℕ) → Longer NewLine r (after_newline
 longer_new_line r b = by (b == byte.newline) refl
   where
     by : (t : Bool) → (b == byte.newline) ≡ t
-        → Longer NewLine r (if t then ended r else record { done = r.done; name = r.name; text = (r.text ++ byte.newline ∷ []) ++ b ∷ []; line = Text }) b
+        → Longer NewLine r (if t then ended r else record {
+          done = r.done;
+          name = r.name;
+          text =
+              (r.text ++ byte.newline ∷ []) ++ b ∷ [];
+          line = Text;
+        }) b
     by true e = rw (eqb-true b byte.newline e) (longer_ended r)
     by false e = (
       put_after (written_all r.done) (byte.asterisk ∷ (r.name ++ (byte.colon ∷ byte.newline ∷ (r.text ++ (byte.newline ∷ []))))) (b ∷ []) _
@@ -128,7 +155,8 @@ longer_new_line r b = by (b == byte.newline) refl
       tt,
     )
 
-longer : (line : Line) (r next : DumpReader) (at b : ℕ) → r.line ≡ line → Unbegun line r.name r.text → entry_step line r at b ≡ Ok next → Longer line r next b
+longer : (line : Line) (r next : DumpReader) (at b : ℕ) → r.line ≡ line → Unbegun line r.name r.text → entry_step line r at b ≡ Ok next
+    → Longer line r next b
 longer Between r next at b here none is = longer_between r next at b none is
 longer Name r next at b here none is = longer_name r next at b here none is
 longer Named r next at b here none is = longer_named r next at b none is
@@ -136,13 +164,16 @@ longer Text r next at b here none is = longer_text r next at b here is
 longer NewLine r next at b here none is =
     subst (λ n. Longer NewLine r n b) (same_value (after_newline r b) next (entry_step NewLine r at b) refl is) (longer_new_line r b)
 
-kept_entries : (dump : List ℕ) (r : DumpReader) (at : ℕ) (entries : List Entry) → Unbegun r.line r.name r.text → entries_from r at dump ≡ Ok entries
+kept_entries : (dump : List ℕ) (r : DumpReader) (at : ℕ) (entries : List Entry) → Unbegun r.line r.name r.text
+    → entries_from r at dump ≡ Ok entries
     → written_all entries ≡ read_so_far r.line r ++ dump
 kept_entries [] r at entries none is = by r.line is
   where
-    by : (line : Line) → at_end line r.done at ≡ Ok entries → written_all entries ≡ (written_all r.done ++ begun_entry line r.name r.text) ++ []
+    by : (line : Line) → at_end line r.done at ≡ Ok entries
+        → written_all entries ≡ (written_all r.done ++ begun_entry line r.name r.text) ++ []
     by Between is =
-        ap written_all (sym (same_value r.done entries (at_end Between r.done at) refl is)) ∙ sym (append-nil (written_all r.done ++ []) ∙ append-nil (written_all r.done))
+        ap written_all (sym (same_value r.done entries (at_end Between r.done at) refl is))
+        ∙ sym (append-nil (written_all r.done ++ []) ∙ append-nil (written_all r.done))
     by Name is = absurd cc
     by Named is = absurd cc
     by Text is = absurd cc
@@ -150,7 +181,8 @@ kept_entries [] r at entries none is = by r.line is
 kept_entries (b ∷ dump) r at entries none is = by (entry_at r at b) refl (λ next. kept_entries dump next (at + 1) entries) is
   where
     by : (step : Result DumpReader DumpFault) → entry_at r at b ≡ step
-        → ((next : DumpReader) → Unbegun next.line next.name next.text → entries_from next (at + 1) dump ≡ Ok entries → written_all entries ≡ read_so_far next.line next ++ dump)
+        → ((next : DumpReader) → Unbegun next.line next.name next.text → entries_from next (at + 1) dump ≡ Ok entries
+        → written_all entries ≡ read_so_far next.line next ++ dump)
         → then_read (λ next. entries_from next (at + 1) dump) step ≡ Ok entries → written_all entries ≡ read_so_far r.line r ++ (b ∷ dump)
     by (Ok next) goes rest is =
         let both : Longer r.line r next b = longer r.line r next at b refl none goes in
@@ -158,7 +190,8 @@ kept_entries (b ∷ dump) r at entries none is = by (entry_at r at b) refl (λ n
     by (Err fault) goes rest is = absurd cc
 
 -- a text that was read is written as it was
-kept_entry : (entry : Entry) (text : DumpedText) → text_of_entry entry ≡ Ok text → written_entry text.name (written text.pieces) ≡ written_entry entry.name entry.text
+kept_entry : (entry : Entry) (text : DumpedText) → text_of_entry entry ≡ Ok text
+    → written_entry text.name (written text.pieces) ≡ written_entry entry.name entry.text
 kept_entry entry text is = by (pieces_of entry.text) refl is
   where
     by : (read : Result (List Piece) TextFault) → pieces_of entry.text ≡ read → named_pieces entry.name read ≡ Ok text
@@ -178,7 +211,9 @@ kept_texts (entry ∷ entries) texts is = by (text_of_entry entry) (all_texts en
         → ((more : List DumpedText) → others ≡ Ok more → written_texts more ≡ written_all entries)
         → and_texts first others ≡ Ok texts → written_texts texts ≡ written_entry entry.name entry.text ++ written_all entries
     by (Ok text) (Ok more) e rest is =
-        ap written_texts (sym (same_value (text ∷ more) texts (and_texts (Ok text) (Ok more)) refl is)) ∙ ap (λ l. l ++ written_texts more) (kept_entry entry text e) ∙ ap (λ l. written_entry entry.name entry.text ++ l) (rest more refl)
+        ap written_texts (sym (same_value (text ∷ more) texts (and_texts (Ok text) (Ok more)) refl is))
+        ∙ ap (λ l. l ++ written_texts more) (kept_entry entry text e)
+        ∙ ap (λ l. written_entry entry.name entry.text ++ l) (rest more refl)
     by (Ok text) (Err fault) e rest is = absurd cc
     by (Err fault) others e rest is = absurd cc
 

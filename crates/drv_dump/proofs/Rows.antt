@@ -16,14 +16,16 @@ spread (Err fault) = Err fault
 
 in_one_another :
     spread (pieces_of (codes "%{m32|!x:;:-a %{b*}}"))
-    ≡ Ok (codes "%{" ∷ codes "m32" ∷ codes "|" ∷ codes "!" ∷ codes "x" ∷ codes ":" ∷ codes ";" ∷ codes ":" ∷ codes "-a " ∷ codes "%{" ∷ codes "b*" ∷ codes "}" ∷ codes "}" ∷ [])
+    ≡ Ok (codes "%{" ∷ codes "m32" ∷ codes "|" ∷ codes "!" ∷ codes "x" ∷ codes ":" ∷ codes ";" ∷ codes ":" ∷ codes "-a " ∷ codes "%{"
+    ∷ codes "b*" ∷ codes "}" ∷ codes "}" ∷ [])
 in_one_another = refl
 
 arguments_to_their_end : spread (pieces_of (codes "%:f(a(b)%{c:d})e")) ≡ Ok (codes "%:f(a(b)%{c:d})" ∷ codes "e" ∷ [])
 arguments_to_their_end = refl
 
 message_to_its_end :
-    spread (pieces_of (codes "%{a:%eno %i;:b}%n{x}")) ≡ Ok (codes "%{" ∷ codes "a" ∷ codes ":" ∷ codes "%eno %i" ∷ codes ";" ∷ codes ":" ∷ codes "b" ∷ codes "}" ∷ codes "%n{x}" ∷ [])
+    spread (pieces_of (codes "%{a:%eno %i;:b}%n{x}")) ≡ Ok
+    (codes "%{" ∷ codes "a" ∷ codes ":" ∷ codes "%eno %i" ∷ codes ";" ∷ codes ":" ∷ codes "b" ∷ codes "}" ∷ codes "%n{x}" ∷ [])
 message_to_its_end = refl
 
 no_brace_is_open : pieces_of (codes "a}") ≡ Err (Unreadable BareBrace 1)

@@ -13,7 +13,8 @@ use Rattle.std.proofs.lemmas.List.{at_drop_more}
 -- For `read_text` and `read_dump`: one more byte of the loops.
 
 -- a refusal is handed on
-pub handed_on : {X Y E : Type 0} (none fault : E) (result : Result X E) (view : X → Y) (defined : Result Y E) → IsErrAnd result (λ e. e ≡ fault)
+pub handed_on : {X Y E : Type 0} (none fault : E) (result : Result X E) (view : X → Y) (defined : Result Y E)
+    → IsErrAnd result (λ e. e ≡ fault)
     → (fault ≡ none) ⊎ (defined ≡ Err fault) → Gives none view result defined
 handed_on none fault (Ok x) view defined is refused = absurd is
 handed_on none fault (Err e) view defined is (inl is_none) = inl (is ∙ is_none)
@@ -23,14 +24,17 @@ handed_on none fault (Err e) view defined is (inr refused) = inr (refused ∙ ap
 next_byte : (text : List ℕ) (at b d : ℕ) (r : Reader) → at < length text → b ≡ get_or text at d
     → read_from r at (drop at text) ≡ then_read (λ next. read_from next (at + 1) (drop (at + 1) text)) (read_at r at b)
 next_byte text at b d r below is =
-    at_drop_more (read_from r at) text at d below ∙ ap (λ x. then_read (λ next. read_from next (at + 1) (drop (at + 1) text)) (read_at r at x)) (sym is)
+    at_drop_more (read_from r at) text at d below ∙ ap
+    (λ x. then_read (λ next. read_from next (at + 1) (drop (at + 1) text)) (read_at r at x)) (sym is)
 
-pub byte_taken : (text : List ℕ) (at b d : ℕ) (r next : Reader) (whole : Result (List Piece) TextFault) → at < length text → b ≡ get_or text at d
+pub byte_taken : (text : List ℕ) (at b d : ℕ) (r next : Reader) (whole : Result (List Piece) TextFault) → at < length text
+    → b ≡ get_or text at d
     → read_at r at b ≡ Ok next → read_from r at (drop at text) ≡ whole → read_from next (at + 1) (drop (at + 1) text) ≡ whole
 byte_taken text at b d r next whole below is goes left =
     sym (next_byte text at b d r below is ∙ ap (then_read (λ n. read_from n (at + 1) (drop (at + 1) text))) goes) ∙ left
 
-pub byte_refused : (text : List ℕ) (at b d : ℕ) (r : Reader) (none fault : TextFault) (whole : Result (List Piece) TextFault) → at < length text → b ≡ get_or text at d
+pub byte_refused : (text : List ℕ) (at b d : ℕ) (r : Reader) (none fault : TextFault) (whole : Result (List Piece) TextFault)
+    → at < length text → b ≡ get_or text at d
     → (fault ≡ none) ⊎ (read_at r at b ≡ Err fault) → read_from r at (drop at text) ≡ whole → (fault ≡ none) ⊎ (whole ≡ Err fault)
 byte_refused text at b d r none fault whole below is (inl is_none) left = inl is_none
 byte_refused text at b d r none fault whole below is (inr refused) left =
@@ -38,18 +42,24 @@ byte_refused text at b d r none fault whole below is (inr refused) left =
 
 -- the next byte of a dump
 next_of_dump : (dump : List ℕ) (at b d : ℕ) (r : DumpReader) → at < length dump → b ≡ get_or dump at d
-    → dumps.entries_from r at (drop at dump) ≡ dumps.then_read (λ next. dumps.entries_from next (at + 1) (drop (at + 1) dump)) (dumps.entry_at r at b)
+    → dumps.entries_from r at (drop at dump) ≡ dumps.then_read (λ next. dumps.entries_from next (at + 1) (drop (at + 1) dump))
+    (dumps.entry_at r at b)
 next_of_dump dump at b d r below is =
     at_drop_more (dumps.entries_from r at) dump at d below
     ∙ ap (λ x. dumps.then_read (λ next. dumps.entries_from next (at + 1) (drop (at + 1) dump)) (dumps.entry_at r at x)) (sym is)
 
-pub dump_taken : (dump : List ℕ) (at b d : ℕ) (r next : DumpReader) (whole : Result (List Entry) DumpFault) → at < length dump → b ≡ get_or dump at d
-    → dumps.entry_at r at b ≡ Ok next → dumps.entries_from r at (drop at dump) ≡ whole → dumps.entries_from next (at + 1) (drop (at + 1) dump) ≡ whole
+pub dump_taken : (dump : List ℕ) (at b d : ℕ) (r next : DumpReader) (whole : Result (List Entry) DumpFault) → at < length dump
+    → b ≡ get_or dump at d
+    → dumps.entry_at r at b ≡ Ok next → dumps.entries_from r at (drop at dump) ≡ whole
+    → dumps.entries_from next (at + 1) (drop (at + 1) dump) ≡ whole
 dump_taken dump at b d r next whole below is goes left =
     sym (next_of_dump dump at b d r below is ∙ ap (dumps.then_read (λ n. dumps.entries_from n (at + 1) (drop (at + 1) dump))) goes) ∙ left
 
-pub dump_refused : (dump : List ℕ) (at b d : ℕ) (r : DumpReader) (none fault : DumpFault) (whole : Result (List Entry) DumpFault) → at < length dump → b ≡ get_or dump at d
-    → (fault ≡ none) ⊎ (dumps.entry_at r at b ≡ Err fault) → dumps.entries_from r at (drop at dump) ≡ whole → (fault ≡ none) ⊎ (whole ≡ Err fault)
+pub dump_refused : (dump : List ℕ) (at b d : ℕ) (r : DumpReader) (none fault : DumpFault) (whole : Result (List Entry) DumpFault)
+    → at < length dump → b ≡ get_or dump at d
+    → (fault ≡ none) ⊎ (dumps.entry_at r at b ≡ Err fault) → dumps.entries_from r at (drop at dump) ≡ whole
+    → (fault ≡ none) ⊎ (whole ≡ Err fault)
 dump_refused dump at b d r none fault whole below is (inl is_none) left = inl is_none
 dump_refused dump at b d r none fault whole below is (inr refused) left =
-    inr (sym left ∙ next_of_dump dump at b d r below is ∙ ap (dumps.then_read (λ n. dumps.entries_from n (at + 1) (drop (at + 1) dump))) refused)
+    inr (sym left ∙ next_of_dump dump at b d r below is
+    ∙ ap (dumps.then_read (λ n. dumps.entries_from n (at + 1) (drop (at + 1) dump))) refused)

@@ -10,7 +10,8 @@ use Rattle.drv_dump.specs.declared.piece.Piece.{Piece}
 use Rattle.std.specs.Char.{is_ascii_alphanumeric}
 use Rattle.std.specs.Cmp.Lexicographic.{pointwise}
 use Rattle.std.specs.List.{list_any}
-use Rattle.std.specs.Prelude.{◌&&◌, ◌||◌, Bool, List, [], ◌∷◌, ◌++◌, codes, false, if◌then◌else◌, length, nat_eq, nat_lt, not, suc, true, zero, ℕ}
+use Rattle.std.specs.Prelude.{◌&&◌, ◌||◌, Bool, List, [], ◌∷◌, ◌++◌, codes, false, if◌then◌else◌, length, nat_eq, nat_lt, not, suc, true}
+use Rattle.std.specs.Prelude.{zero, ℕ}
 
 -- The files that a text of gcc looks for by their names: NAME%s and NAME%O%s (GCC manual, "Spec Files", %s). Where gcc finds one depends on
 -- how gcc was built and on the machine of the line, so each becomes a named text.
@@ -21,7 +22,8 @@ is_name_byte b = is_ascii_alphanumeric b || is_of (codes "_.+-") b
 -- a text up to its last word, and that word
 abbrev pub split_from : List ℕ → List ℕ → List ℕ → LastWord
 split_from front word [] = record { front = front; word = word }
-split_from front word (b ∷ text) = if is_white b then split_from ((front ++ word) ++ b ∷ []) [] text else split_from front (word ++ b ∷ []) text
+split_from front word (b ∷ text) = if is_white b then split_from ((front ++ word) ++ b ∷ []) [] text
+    else split_from front (word ++ b ∷ []) text
 
 -- what follows a text
 abbrev pub second_ending : List Piece → Ending

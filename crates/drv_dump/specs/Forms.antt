@@ -46,7 +46,8 @@ others form = length (of_gcc form) - 1
 abbrev pub whole_forms : List WholeForm
 whole_forms =
     form.Object ∷ form.OlderObject ∷ form.SplitObject ∷ form.OlderSplitObject ∷ form.Dependencies ∷ form.OlderDwoName ∷ form.DwoName
-    ∷ form.Preprocessor ∷ form.ExtractDwo ∷ form.StripDwo ∷ form.LinkTimeOptions ∷ form.LinkerChoice ∷ form.LinkOutput ∷ form.MachineOptions ∷ []
+    ∷ form.Preprocessor ∷ form.ExtractDwo ∷ form.StripDwo ∷ form.LinkTimeOptions ∷ form.LinkerChoice ∷ form.LinkOutput ∷ form.MachineOptions
+    ∷ []
 
 -- the first of these forms that a text begins with
 abbrev pub first_at : List WholeForm → List ℕ → Option WholeForm
@@ -72,7 +73,8 @@ abbrev pub calls : List (List ℕ × List ℕ)
 calls =
     (codes "%:dumps()", codes "%(dump_words)") ∷ (codes "%:find-plugindir()", codes "%(plugin_folder)")
     ∷ (codes "%:pass-through-libs(%(link_gcc_c_sequence))", codes "%(lto_pass_through)") ∷ (codes "%:print-asm-header()", [])
-    ∷ (codes "%:compare-debug-dump-opt()", []) ∷ (codes "%:compare-debug-self-opt()", []) ∷ (codes "%:compare-debug-auxbase-opt(%b)", []) ∷ []
+    ∷ (codes "%:compare-debug-dump-opt()", []) ∷ (codes "%:compare-debug-self-opt()", []) ∷ (codes "%:compare-debug-auxbase-opt(%b)", [])
+    ∷ []
 
 -- functions that are tests: the front tells the level of debug information, its version, and the checks that are linked
 abbrev pub other_checks : List (List ℕ × List ℕ)

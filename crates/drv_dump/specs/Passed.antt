@@ -87,7 +87,8 @@ or_refusal name (Err fault) = codes "%etext " ++ name ++ codes " is not in this 
 
 abbrev pub passed_entry : Entry → List ℕ
 passed_entry entry =
-    if has_libraries entry.name then written_entry (codes "pass_" ++ entry.name) (codes "%{-gdrv-none:}" ++ or_refusal entry.name (passed_of entry.text)) else []
+    if has_libraries entry.name then written_entry (codes "pass_" ++ entry.name)
+    (codes "%{-gdrv-none:}" ++ or_refusal entry.name (passed_of entry.text)) else []
 
 abbrev pub passed_entries : List Entry → List ℕ
 passed_entries [] = []

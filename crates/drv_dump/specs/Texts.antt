@@ -32,8 +32,20 @@ closed r = with_piece r.done r.last.kind r.last.bytes
 
 -- a byte begins a piece, or is part of the last one
 abbrev pub with_byte : Reader → InPiece → Kind → Place → ℕ → ℕ → Reader
-with_byte r First kind place depth b = record { done = closed r; last = record { kind = kind; bytes = b ∷ [] }; place = place; depth = depth }
-with_byte r Later kind place depth b = record { done = r.done; last = record { kind = kind; bytes = r.last.bytes ++ b ∷ [] }; place = place; depth = depth }
+with_byte r First kind place depth b = record {
+  done = closed r;
+  last = record { kind = kind; bytes = b ∷ [] };
+  place = place;
+  depth =
+      depth;
+}
+with_byte r Later kind place depth b = record {
+  done = r.done;
+  last = record { kind = kind; bytes = r.last.bytes ++ b ∷ [] };
+  place =
+      place;
+  depth = depth;
+}
 
 -- what is read with the byte at this place of the text
 abbrev pub taken : Turn → Reader → ℕ → ℕ → Result Reader TextFault

@@ -1,5 +1,6 @@
 use Rattle.drv_gcc.specs.Replacing.{put_other, replaced}
-use Rattle.std.proofs.Common.{◌≡◌, ◌-◌, ◌<◌, ◌≤◌, ◌∙◌, List, [], ◌∷◌, ◌++◌, ap, append_assoc, arith, drop, false, get_or, length, nat_eq, suc, sym, take, true, zero, ℕ}
+use Rattle.std.proofs.Common.{◌≡◌, ◌-◌, ◌<◌, ◌≤◌, ◌∙◌, List, [], ◌∷◌, ◌++◌, ap, append_assoc, arith, drop, false, get_or, length, nat_eq}
+use Rattle.std.proofs.Common.{suc, sym, take, true, zero, ℕ}
 use Rattle.std.proofs.lemmas.List.{take_all}
 use Rattle.std.specs.List.{starts_with}
 
@@ -9,7 +10,8 @@ after_first : (b : ℕ) (text : List ℕ) → take (length (b ∷ text) - 1) tex
 after_first b text = take_all (length (b ∷ text) - 1) text (omega arith)
 
 -- the next byte is part of the form
-pub skipped_next : (left form other word whole : List ℕ) (skip : ℕ) → 1 ≤ length left → 0 < skip → word ++ replaced form other skip left ≡ whole
+pub skipped_next : (left form other word whole : List ℕ) (skip : ℕ) → 1 ≤ length left → 0 < skip
+    → word ++ replaced form other skip left ≡ whole
     → word ++ replaced form other (skip - 1) (take (length left - 1) (drop 1 left)) ≡ whole
 skipped_next [] form other word whole skip some more before = absurd (omega (arith, some))
 skipped_next (b ∷ text) form other word whole zero some more before = absurd (omega (arith, more))
@@ -18,7 +20,8 @@ skipped_next (b ∷ text) form other word whole (suc k) some more before =
     rw e (ap (λ l. word ++ replaced form other k l) (after_first b text) ∙ before)
 
 -- the text begins with the form, or not
-pub form_next : (left form other word after whole : List ℕ) (skip next : ℕ) → 1 ≤ length left → skip ≡ 0 → starts_with nat_eq left form ≡ true
+pub form_next : (left form other word after whole : List ℕ) (skip next : ℕ) → 1 ≤ length left → skip ≡ 0
+    → starts_with nat_eq left form ≡ true
     → after ≡ word ++ other → next ≡ length form - 1 → word ++ replaced form other skip left ≡ whole
     → after ++ replaced form other next (take (length left - 1) (drop 1 left)) ≡ whole
 form_next [] form other word after whole skip next some none is put so before = absurd (omega (arith, some))

@@ -14,7 +14,8 @@ all_found_of_one refuses word is = by (refuses word) refl
     by true is_refused = rw is_refused refl
     by false is_taken = absurd (let both : false ≡ true = ap (λ b. b || false) (sym is_taken) ∙ is in cc)
 
-pub all_found : (refuses : List ℕ → Bool) (words : List (List ℕ)) → list_any refuses words ≡ true → alone words ++ flat_map (filter refuses) (halves words) ≡ filter refuses words
+pub all_found : (refuses : List ℕ → Bool) (words : List (List ℕ)) → list_any refuses words ≡ true
+    → alone words ++ flat_map (filter refuses) (halves words) ≡ filter refuses words
 all_found refuses [] is = refl
 all_found refuses (word ∷ []) is = all_found_of_one refuses word is
 all_found refuses (one ∷ other ∷ words) is =

@@ -1,6 +1,7 @@
 use Rattle.drv_gcc.specs.Answers.{first_word, head, name_before, names_from, with_named}
 use Rattle.drv_words.specs.Bytes as byte
-use Rattle.std.proofs.Common.{◌≡◌, ◌-◌, ◌==◌, ◌≤◌, ◌∙◌, List, [], ◌∷◌, ◌++◌, ap, append_assoc, arith, drop, false, get_or, if◌then◌else◌, length, sym, take, true, ℕ}
+use Rattle.std.proofs.Common.{◌≡◌, ◌-◌, ◌==◌, ◌≤◌, ◌∙◌, List, [], ◌∷◌, ◌++◌, ap, append_assoc, arith, drop, false, get_or, if◌then◌else◌}
+use Rattle.std.proofs.Common.{length, sym, take, true, ℕ}
 use Rattle.std.proofs.lemmas.List.{take_all}
 
 -- For `named_texts`, `values` and `options`: the steps of the loops that look for names.
@@ -15,7 +16,8 @@ next_byte (b ∷ text) beginning names after whole some is before =
     ap (names_from beginning after) (after_first b text) ∙ ap (λ n. names_from beginning n text) is ∙ before
 
 -- a byte before the parenthesis; before the blank; before the equals sign, and that
-pub name_next : (left word whole : List ℕ) (b d : ℕ) → 1 ≤ length left → b ≡ get_or left 0 d → (b == byte.closing_parenthesis) ≡ false → word ++ name_before left ≡ whole
+pub name_next : (left word whole : List ℕ) (b d : ℕ) → 1 ≤ length left → b ≡ get_or left 0 d → (b == byte.closing_parenthesis) ≡ false
+    → word ++ name_before left ≡ whole
     → (word ++ (b ∷ [])) ++ name_before (take (length left - 1) (drop 1 left)) ≡ whole
 name_next [] word whole b d some first goes before = absurd (omega (arith, some))
 name_next (c ∷ text) word whole b d some first goes before =
@@ -25,7 +27,8 @@ name_next (c ∷ text) word whole b d some first goes before =
     ∙ ap (λ t. word ++ (if t then [] else c ∷ name_before text)) (sym goes ∙ ap (λ x. x == byte.closing_parenthesis) first)
     ∙ before
 
-pub word_next : (left word whole : List ℕ) (b d : ℕ) → 1 ≤ length left → b ≡ get_or left 0 d → (b == byte.space) ≡ false → word ++ first_word left ≡ whole
+pub word_next : (left word whole : List ℕ) (b d : ℕ) → 1 ≤ length left → b ≡ get_or left 0 d → (b == byte.space) ≡ false
+    → word ++ first_word left ≡ whole
     → (word ++ (b ∷ [])) ++ first_word (take (length left - 1) (drop 1 left)) ≡ whole
 word_next [] word whole b d some first goes before = absurd (omega (arith, some))
 word_next (c ∷ text) word whole b d some first goes before =
@@ -35,7 +38,8 @@ word_next (c ∷ text) word whole b d some first goes before =
     ∙ ap (λ t. word ++ (if t then [] else c ∷ first_word text)) (sym goes ∙ ap (λ x. x == byte.space) first)
     ∙ before
 
-pub head_next : (left word after whole : List ℕ) (b d : ℕ) → 1 ≤ length left → b ≡ get_or left 0 d → (b == byte.equals) ≡ false → after ≡ word ++ (b ∷ [])
+pub head_next : (left word after whole : List ℕ) (b d : ℕ) → 1 ≤ length left → b ≡ get_or left 0 d → (b == byte.equals) ≡ false
+    → after ≡ word ++ (b ∷ [])
     → word ++ head left ≡ whole → after ++ head (take (length left - 1) (drop 1 left)) ≡ whole
 head_next [] word after whole b d some first goes put before = absurd (omega (arith, some))
 head_next (c ∷ text) word after whole b d some first goes put before =
@@ -46,7 +50,8 @@ head_next (c ∷ text) word after whole b d some first goes put before =
     ∙ ap (λ t. word ++ (if t then c ∷ [] else c ∷ head text)) (sym goes ∙ ap (λ x. x == byte.equals) first)
     ∙ before
 
-pub head_here : (left word after whole : List ℕ) (b d : ℕ) → 1 ≤ length left → b ≡ get_or left 0 d → (b == byte.equals) ≡ true → after ≡ word ++ (b ∷ [])
+pub head_here : (left word after whole : List ℕ) (b d : ℕ) → 1 ≤ length left → b ≡ get_or left 0 d → (b == byte.equals) ≡ true
+    → after ≡ word ++ (b ∷ [])
     → word ++ head left ≡ whole → after ≡ whole
 head_here [] word after whole b d some first is put before = absurd (omega (arith, some))
 head_here (c ∷ text) word after whole b d some first is put before =

@@ -71,4 +71,5 @@ abbrev pub line_of : List ℕ → List ℕ → List ℕ
 line_of key value = key ++ value ++ byte.newline ∷ []
 
 abbrev pub gcc_file : List ℕ → List (List ℕ) → List (List ℕ) → List ℕ
-gcc_file path folders said = line_of (codes "compiler ") path ++ flat_map (line_of (codes "folder ")) folders ++ flat_map (line_of (codes "said ")) said
+gcc_file path folders said = line_of (codes "compiler ") path ++ flat_map (line_of (codes "folder ")) folders
+    ++ flat_map (line_of (codes "said ")) said

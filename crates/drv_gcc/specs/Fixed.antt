@@ -6,14 +6,17 @@ use Rattle.std.specs.Prelude.{List, ◌++◌, codes, ℕ}
 
 -- texts that a dump may replace
 unfoldable pub first_texts : List ℕ
-first_texts = written_entry (codes "distro_defaults") (codes "%{-gdrv-none:}") ++ written_entry (codes "asm_debug_option") (codes "%{-gdrv-none:}")
+first_texts = written_entry (codes "distro_defaults") (codes "%{-gdrv-none:}")
+    ++ written_entry (codes "asm_debug_option") (codes "%{-gdrv-none:}")
 
 -- what a line is refused for: the front sees what no pattern can
 unfoldable pub guards : List ℕ
 guards =
-    written_entry (codes "several_suffixes") (codes "%{fstack-usage|fcallgraph-info*|coverage|ftest-coverage|fprofile-*|fdump-final-insns*|gsplit-dwarf:"
+    written_entry (codes "several_suffixes")
+    (codes "%{fstack-usage|fcallgraph-info*|coverage|ftest-coverage|fprofile-*|fdump-final-insns*|gsplit-dwarf:"
     ++ codes "%enames of side files of sources with several suffixes of other languages are not in this spec file}")
-    ++ written_entry (codes "refused_here") (codes "%(refused_root)%{mmusl*|muclibc*|mbionic*|mandroid*:%eanother C library is not in this spec file}"
+    ++ written_entry (codes "refused_here")
+    (codes "%(refused_root)%{mmusl*|muclibc*|mbionic*|mandroid*:%eanother C library is not in this spec file}"
     ++ codes "%{-gdrv-wrapper=:%e-wrapper with an empty word is not in this spec file}"
     ++ codes "%{-gdrv-suffixes:%(several_suffixes)} %(refused_options)%{!-gdrv-front:%(without_front)}")
     ++ written_entry (codes "gdrv_self") (codes "/ %(self_spec)\n/ %{*}") ++ written_entry (codes "self_spec") (codes "%{-gdrv-none:}")
@@ -46,8 +49,10 @@ side_files =
     ++ codes "%{-gdrv-ext=*:-dumpbase-ext %*;-gdrv-base=*:;.c:-dumpbase-ext .c;.i:-dumpbase-ext .i;.h:-dumpbase-ext .h;"
     ++ codes ".S:-dumpbase-ext .S;.sx:-dumpbase-ext .sx;-gdrv-suffix=*:-dumpbase-ext %*}")
     ++ written_entry (codes "dependencies") (codes "%{-gdrv-dep=*:%*;-gdrv-dir=*:%*%b.d;:%b.d}")
-    ++ written_entry (codes "object") (codes "%{c:%W{o*}%{!o*:-o %w%b%O};save-temps*:-o %w%{-gdrv-aux=*:%*%O;-gdrv-dir=*:%*%b%O;:%b%O};:-o %w%u%O}")
-    ++ written_entry (codes "split_object") (codes "%{c:%{o*:%*}%{!o*:%b%O};save-temps*:%{-gdrv-aux=*:%*%O;-gdrv-dir=*:%*%b%O;:%b%O};:%U%O}")
+    ++ written_entry (codes "object")
+    (codes "%{c:%W{o*}%{!o*:-o %w%b%O};save-temps*:-o %w%{-gdrv-aux=*:%*%O;-gdrv-dir=*:%*%b%O;:%b%O};:-o %w%u%O}")
+    ++ written_entry (codes "split_object")
+    (codes "%{c:%{o*:%*}%{!o*:%b%O};save-temps*:%{-gdrv-aux=*:%*%O;-gdrv-dir=*:%*%b%O;:%b%O};:%U%O}")
     ++ written_entry (codes "preprocessed") (codes "%{save-temps*:%{-gdrv-aux=*:%*.i;-gdrv-dir=*:%*%b.i;:%b.i};:%g.i}")
     ++ written_entry (codes "checked") (codes "%{save-temps*:%{-gdrv-aux=*:%*;-gdrv-dir=*:%*%b;:%b};:/dev/null}")
     ++ written_entry (codes "assembly") (codes "%{-gdrv-aux=*:%*.s;-gdrv-dir=*:%*%b.s;:%b.s}")
@@ -56,7 +61,8 @@ side_files =
 -- The words of -wrapper precede each command, of a pipe the first alone (GCC, "execute").
 unfoldable pub wrappers : List ℕ
 wrappers =
-    written_entry (codes "wrapper") (codes "%{-gdrv-wrapper=*:%* }") ++ written_entry (codes "later_wrapper") (codes "%{pipe:;-gdrv-wrapper=*:%* }")
+    written_entry (codes "wrapper") (codes "%{-gdrv-wrapper=*:%* }")
+    ++ written_entry (codes "later_wrapper") (codes "%{pipe:;-gdrv-wrapper=*:%* }")
     ++ written_entry (codes "wrapped") (codes "%{-gdrv-wrapper=*:%s}")
 
 unfoldable pub commands : List ℕ
@@ -85,7 +91,8 @@ languages =
     ++ codes ":-o %|.s |\n %(later_wrapper)%(as_cmd) %(asm_debug) %(asm_options) %m.s %A} %(refused_here)")
     ++ language (codes "@assembler") (codes "%{E|S|M|MM:;:%(wrapper)%(as_cmd) %(asm_debug) %(asm_options) %i %A} %(refused_here)")
     ++ language (codes ".h") (codes "@c-header")
-    ++ language (codes "@c-header") (codes "%(driver_alone) %{E|M|MM:%(trad_capable_cpp) %(cpp_options) %(cpp_debug_options) %V;:%(compile) "
+    ++ language (codes "@c-header")
+    (codes "%(driver_alone) %{E|M|MM:%(trad_capable_cpp) %(cpp_options) %(cpp_debug_options) %V;:%(compile) "
     ++ codes "%{!fsyntax-only:%{!S:-o %{save-temps*:%(assembly);:%g.s}} "
     ++ codes "%{!fdump-ada-spec*:%W{o*:--output-pch=%*}%{!o*:--output-pch=%i.gch}} %V}} %(refused_here)")
 

@@ -11,7 +11,8 @@ temporary = codes "temporary"
 
 abbrev pub is_temporary : List ℕ → Bool
 is_temporary word =
-    starts_with nat_eq word (codes "-plugin-opt=-fresolution=") || (starts_with nat_eq word (codes "/") && starts_with nat_eq (base word) (codes "cc"))
+    starts_with nat_eq word (codes "-plugin-opt=-fresolution=")
+    || (starts_with nat_eq word (codes "/") && starts_with nat_eq (base word) (codes "cc"))
 
 abbrev pub plain_word : List ℕ → List ℕ
 plain_word word = if is_temporary word then temporary else word

@@ -132,11 +132,13 @@ wrapped_text text name it = entry text (codes "%(wrapper)" ++ program_body name 
 
 -- a linker of -fuse-ld=
 unfoldable pub own_linker : Linker → List ℕ
-own_linker it = codes "fuse-ld=" ++ it.name ++ codes ":%{-gdrv-dirs|-gdrv-path=*:ld." ++ it.name ++ codes ";:" ++ spec_word it.path ++ codes "};"
+own_linker it = codes "fuse-ld=" ++ it.name ++ codes ":%{-gdrv-dirs|-gdrv-path=*:ld." ++ it.name ++ codes ";:" ++ spec_word it.path
+    ++ codes "};"
 
 unfoldable pub linker_body : List Linker → Program → List ℕ
 linker_body linkers linker =
-    codes "%(wrapper)%{" ++ flat_map own_linker linkers ++ codes "fuse-ld=*:ld.%*;" ++ program_choice (codes "ld") linker ++ codes "}%(wrapped)"
+    codes "%(wrapper)%{" ++ flat_map own_linker linkers ++ codes "fuse-ld=*:ld.%*;" ++ program_choice (codes "ld") linker
+    ++ codes "}%(wrapped)"
 
 unfoldable pub linker_text : Programs → List ℕ
 linker_text programs = entry (codes "linker") (linker_body programs.linkers programs.linker)
@@ -211,7 +213,8 @@ refused_option option = codes "%{" ++ test_word (drop 1 option) ++ codes ":%e" +
 -- words that are found out about the machine of the call come from texts of the compiler
 unfoldable pub native_words : Choice → Choice → List ℕ
 native_words native tuned =
-    codes "%{march=native:%<march=native %<mtune=native %{m*}" ++ chosen native ++ codes ";:%<mtune=native %{m*}" ++ chosen tuned ++ codes "}"
+    codes "%{march=native:%<march=native %<mtune=native %{m*}" ++ chosen native ++ codes ";:%<mtune=native %{m*}" ++ chosen tuned
+    ++ codes "}"
 
 unfoldable pub usual_words : Choice → List ℕ
 usual_words usual = codes "%{m*}" ++ chosen usual
@@ -228,7 +231,8 @@ options_text it = entry (codes "machine_options") (options_body it)
 
 -- a text for each machine is for one of them at a time
 unfoldable pub clash : List ℕ → List (List ℕ) → List ℕ
-clash test tests = codes "%{" ++ test ++ codes ":%{" ++ one_of tests ++ codes ":%etwo options that choose a machine are not in this spec file together}}"
+clash test tests = codes "%{" ++ test ++ codes ":%{" ++ one_of tests
+    ++ codes ":%etwo options that choose a machine are not in this spec file together}}"
 
 abbrev pub clashes : List (List ℕ) → List ℕ
 clashes [] = []
@@ -244,4 +248,5 @@ unfoldable pub spec_file : Toolchain → List ℕ
 spec_file gcc =
     first_texts ++ gcc.texts ++ root_text gcc.is_rooted gcc.sysroot ++ gcc.passed ++ flat_map named_text gcc.named ++ hiding_text gcc.named
     ++ flat_map included_text gcc.included
-    ++ folder_texts gcc ++ program_texts gcc.programs ++ machine_texts gcc.machine gcc.refused gcc.tests ++ root_guard gcc.is_rooted ++ last_texts
+    ++ folder_texts gcc ++ program_texts gcc.programs ++ machine_texts gcc.machine gcc.refused gcc.tests ++ root_guard gcc.is_rooted
+    ++ last_texts

@@ -2,21 +2,10 @@
 
 ghost use Rattle.drv_gcc.specs.Halving.{alone, halves};
 ghost use Rattle.std.specs.List.{filter, flat_map, list_any};
-ghost use Rattle.std.specs.Prelude.{◌≡◌, ◌++◌, Bool, IfOk, List, OnOk, true, ℕ};
+ghost use Rattle.std.specs.Prelude.{◌≡◌, ◌++◌, Bool, List, OnOk, true, ℕ};
 
-use drv_words::{Listing, Word};
+use drv_words::{Listing, Word, copy_words};
 use std::alloc::{AllocError, Global};
-
-/// A copy of these words.
-fn copied(alloc: Global, words: &[Word]) -> Result<Listing<Word>, AllocError>
-    ensures { IfOk result (λ copy. copy ≡ words.now) }
-{
-    let mut copy = Listing::new(alloc);
-    for word in words {
-        copy.push(word.clone()?)?;
-    }
-    Ok(copy)
-}
 
 /// Adds a word that is alone.
 fn add_alone(words: &[Word], found: &mut Listing<Word>) -> Result<(), AllocError>
@@ -38,8 +27,8 @@ fn add_halves(
 {
     if let [_, _, ..] = words {
         let (one, other) = words.split_at(words.len() / 2);
-        waiting.push(copied(alloc, one)?)?;
-        waiting.push(copied(alloc, other)?)?;
+        waiting.push(copy_words(alloc, one)?)?;
+        waiting.push(copy_words(alloc, other)?)?;
     }
     Ok(())
 }

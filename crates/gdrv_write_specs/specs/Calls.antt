@@ -26,9 +26,11 @@ order_of manner [] = Err Misused
 
 abbrev pub question_of : List ℕ → Result Call CallFault
 question_of word =
-    if pointwise nat_eq word (codes "--help") then Ok Help else if pointwise nat_eq word (codes "--version") then Ok Version else Err Misused
+    if pointwise nat_eq word (codes "--help") then Ok Help else if pointwise nat_eq word (codes "--version") then Ok Version
+    else Err Misused
 
 abbrev pub call_of : List (List ℕ) → Result Call CallFault
 call_of [] = Err Misused
 call_of (word ∷ []) = question_of word
-call_of (word ∷ next ∷ words) = if pointwise nat_eq word (codes "--force") then order_of Forced (next ∷ words) else order_of Compared (word ∷ next ∷ words)
+call_of (word ∷ next ∷ words) = if pointwise nat_eq word (codes "--force") then order_of Forced (next ∷ words)
+    else order_of Compared (word ∷ next ∷ words)

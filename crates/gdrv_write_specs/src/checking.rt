@@ -147,21 +147,32 @@ impl<'a> Pair<'a> {
         })
     }
 
+    /// Adds a line if its plans differ, or one driver refuses it.
+    fn add_unlike(self, line: &[u8], lines: &mut Listing<Word>) -> Result<(), Fault> {
+        match self.verdict(line, b"")? {
+            Verdict::Same => Ok(()),
+            Verdict::Refused | Verdict::Other => {
+                Ok(lines.push(Word::from_bytes(self.rt.alloc(), line)?)?)
+            }
+        }
+    }
+
+    /// Adds a line if its plans differ.
+    fn add_other(self, line: &[u8], lines: &mut Listing<Word>) -> Result<(), Fault> {
+        match self.verdict(line, b"")? {
+            Verdict::Same | Verdict::Refused => Ok(()),
+            Verdict::Other => Ok(lines.push(Word::from_bytes(self.rt.alloc(), line)?)?),
+        }
+    }
+
     /// The lines whose plans differ.
     pub fn differing(self) -> Result<Listing<Word>, Fault> {
         let mut lines = Listing::new(self.rt.alloc());
         for line in LINES {
-            match self.verdict(line, b"")? {
-                Verdict::Same => {}
-                Verdict::Refused | Verdict::Other => {
-                    lines.push(Word::from_bytes(self.rt.alloc(), line)?)?;
-                }
-            }
+            self.add_unlike(line, &mut lines)?;
         }
         for line in FOLDER_LINES {
-            if let Verdict::Other = self.verdict(line, b"")? {
-                lines.push(Word::from_bytes(self.rt.alloc(), line)?)?;
-            }
+            self.add_other(line, &mut lines)?;
         }
         Ok(lines)
     }

@@ -395,24 +395,57 @@ fn add_negatives(alloc: Global, said: &[u8], known: &mut Listing<Word>) -> Resul
     Ok(())
 }
 
-/// All options that a gcc knows, by their names, a line each.
-pub fn names_of(rt: &HostRuntime, room: &Room, gcc: &Word) -> Result<Word, Fault> {
-    let alloc = rt.alloc();
-    let said = ask(rt, &room.lines, gcc, b"--completion=-")?;
-    let mut known = options(alloc, said.out.as_bytes())?;
-    if known.is_empty() {
-        return Err(Fault::NoOptions(gcc.clone()?));
-    }
-    let judged = sorted_out(rt, room, gcc, known.as_slice())?;
-    add_negatives(alloc, said.out.as_bytes(), &mut known)?;
-    let mut names = Listing::new(alloc);
-    add_taken(known.as_slice(), &judged, &mut names)?;
-    for name in judged.names.as_slice() {
-        names.push(name.clone()?)?;
-    }
-    let mut lines = option_lines(alloc, names.as_slice())?;
+/// Adds the name by which a gcc calls `-mcpu=`, if it is another one.
+fn add_tune(rt: &HostRuntime, room: &Room, gcc: &Word, lines: &mut Word) -> Result<(), Fault> {
     if calls_cpu_tune(rt, room, gcc)? {
         lines.extend_from_slice(b"-mcpu=>-mtune=\n")?;
     }
-    sorted(alloc, &lines)
+    Ok(())
+}
+
+/// The sorted lines of these names.
+fn sorted_lines(rt: &HostRuntime, room: &Room, gcc: &Word, names: &[Word]) -> Result<Word, Fault> {
+    let mut lines = option_lines(rt.alloc(), names)?;
+    add_tune(rt, room, gcc, &mut lines)?;
+    sorted(rt.alloc(), &lines)
+}
+
+/// Adds the options that a gcc takes and those that were judged.
+fn add_known(known: &[Word], judged: &OptionNames, names: &mut Listing<Word>) -> Result<(), Fault> {
+    add_taken(known, judged, names)?;
+    for name in judged.names.as_slice() {
+        names.push(name.clone()?)?;
+    }
+    Ok(())
+}
+
+/// The names of the options that a gcc lists, with what it says of them.
+fn names_among(
+    rt: &HostRuntime,
+    room: &Room,
+    gcc: &Word,
+    said: &[u8],
+    known: &mut Listing<Word>,
+) -> Result<Listing<Word>, Fault> {
+    let judged = sorted_out(rt, room, gcc, known.as_slice())?;
+    add_negatives(rt.alloc(), said, known)?;
+    let mut names = Listing::new(rt.alloc());
+    add_known(known.as_slice(), &judged, &mut names)?;
+    Ok(names)
+}
+
+/// The lines of the options in what a gcc says of itself.
+fn lines_in(rt: &HostRuntime, room: &Room, gcc: &Word, said: &[u8]) -> Result<Word, Fault> {
+    let mut known = options(rt.alloc(), said)?;
+    if known.is_empty() {
+        return Err(Fault::NoOptions(gcc.clone()?));
+    }
+    let names = names_among(rt, room, gcc, said, &mut known)?;
+    sorted_lines(rt, room, gcc, names.as_slice())
+}
+
+/// All options that a gcc knows, by their names, a line each.
+pub fn names_of(rt: &HostRuntime, room: &Room, gcc: &Word) -> Result<Word, Fault> {
+    let said = ask(rt, &room.lines, gcc, b"--completion=-")?;
+    lines_in(rt, room, gcc, said.out.as_bytes())
 }

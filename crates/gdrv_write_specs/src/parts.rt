@@ -176,29 +176,58 @@ fn name_of(line: &[u8]) -> Option<&[u8]> {
     }
 }
 
+/// Adds a line to a body.
+fn add_body_line(body: &mut Word, line: &[u8]) -> Result<(), Fault> {
+    if !body.is_empty() {
+        body.push(b'\n')?;
+    }
+    Ok(body.extend_from_slice(line)?)
+}
+
+/// Renames as a line outside of a text says.
+fn rename_by(alloc: Global, entries: &mut [Entry], line: &[u8]) -> Result<(), Fault> {
+    let words = split(alloc, line)?;
+    rename(entries, words.as_slice())
+}
+
+/// The name and the empty body of the text that a line begins.
+fn begun_by(alloc: Global, line: &[u8]) -> Result<Option<(Word, Word)>, Fault> {
+    match name_of(line) {
+        Some(name) => Ok(Some((Word::from_bytes(alloc, name)?, Word::empty(alloc)))),
+        None => Ok(None),
+    }
+}
+
+/// Reads a line of a spec file: of the open text, if there is one.
+fn read_line(
+    alloc: Global,
+    entries: &mut Vec<Entry>,
+    open: Option<(Word, Word)>,
+    line: &[u8],
+) -> Result<Option<(Word, Word)>, Fault> {
+    match open {
+        Some((name, body)) if line.is_empty() => {
+            set(entries, name, body)?;
+            Ok(None)
+        }
+        Some((name, mut body)) => {
+            add_body_line(&mut body, line)?;
+            Ok(Some((name, body)))
+        }
+        None if line.starts_with(b"%rename ") => {
+            rename_by(alloc, entries.as_mut_slice(), line)?;
+            Ok(None)
+        }
+        None => begun_by(alloc, line),
+    }
+}
+
 /// The texts of a spec file.
 fn entries_of(alloc: Global, file: &[u8]) -> Result<Vec<Entry>, Fault> {
     let mut entries = Vec::new(alloc);
     let mut open: Option<(Word, Word)> = None;
     for line in file.split(|byte| *byte == b'\n') {
-        match open.take() {
-            Some((name, body)) if line.is_empty() => set(&mut entries, name, body)?,
-            Some((name, mut body)) => {
-                if !body.is_empty() {
-                    body.push(b'\n')?;
-                }
-                body.extend_from_slice(line)?;
-                open = Some((name, body));
-            }
-            None => {
-                if line.starts_with(b"%rename ") {
-                    let words = split(alloc, line)?;
-                    rename(entries.as_mut_slice(), words.as_slice())?;
-                } else if let Some(name) = name_of(line) {
-                    open = Some((Word::from_bytes(alloc, name)?, Word::empty(alloc)));
-                }
-            }
-        }
+        open = read_line(alloc, &mut entries, open.take(), line)?;
     }
     Ok(entries)
 }
@@ -489,28 +518,54 @@ pub fn whole_of(alloc: Global, file: &Word) -> Result<Option<Word>, Fault> {
     printed_whole(alloc, entries.as_slice())
 }
 
+/// Puts an empty link command.
+fn put_no_link(alloc: Global, entries: &mut Vec<Entry>) -> Result<(), Fault> {
+    let name = Word::from_bytes(alloc, b"link_command")?;
+    set(entries, name, Word::from_bytes(alloc, b"%{-gdrv-none:}")?)
+}
+
+/// Marks the texts of this name as reached.
+fn mark_reached(entries: &mut [Entry], name: &[u8]) {
+    for it in entries.iter_mut() {
+        if it.name.as_bytes() == name {
+            it.is_reached = true;
+        }
+    }
+}
+
+/// Marks the roots of a part and all that they reach; whether each of these texts can be read.
+fn reach_from(
+    alloc: Global,
+    entries: &mut [Entry],
+    part: &Part,
+    roots: &[Word],
+) -> Result<bool, Fault> {
+    for root in roots {
+        mark_reached(entries, root.as_bytes());
+    }
+    reach(alloc, &known_of(alloc, part)?, entries)
+}
+
+/// A part of these texts.
+fn part_among(
+    alloc: Global,
+    entries: &mut [Entry],
+    part: &Part,
+    roots: &[Word],
+) -> Result<Option<Word>, Fault> {
+    if !reach_from(alloc, entries, part, roots)? {
+        return Ok(None);
+    }
+    grow(alloc, entries)?;
+    printed(alloc, entries, roots)
+}
+
 /// A part of a spec file; none if it has a text that can't be read, or that names itself.
 pub fn part_of(alloc: Global, file: &Word, part: &Part) -> Result<Option<Word>, Fault> {
     let mut entries = entries_of(alloc, file.as_bytes())?;
-    let roots = split(alloc, part.roots)?;
     if !part.has_link {
-        let nothing = Word::from_bytes(alloc, b"%{-gdrv-none:}")?;
-        set(
-            &mut entries,
-            Word::from_bytes(alloc, b"link_command")?,
-            nothing,
-        )?;
+        put_no_link(alloc, &mut entries)?;
     }
-    for root in roots.as_slice() {
-        for it in entries.iter_mut() {
-            if it.name.as_bytes() == root.as_bytes() {
-                it.is_reached = true;
-            }
-        }
-    }
-    if !reach(alloc, &known_of(alloc, part)?, entries.as_mut_slice())? {
-        return Ok(None);
-    }
-    grow(alloc, entries.as_mut_slice())?;
-    printed(alloc, entries.as_slice(), roots.as_slice())
+    let roots = split(alloc, part.roots)?;
+    part_among(alloc, entries.as_mut_slice(), part, roots.as_slice())
 }

@@ -12,6 +12,7 @@ use crate::room::{Room, absolute, joined};
 use drv_gcc::{gcc_file, spec_file, values};
 use drv_system::complain;
 use drv_words::{Listing, Word, parted};
+use std::alloc::Global;
 use std::env::current_exe;
 
 /// The path of a gcc: of this name or at this path, of `gcc` for `host`, or of TARGET-gcc for the
@@ -40,22 +41,58 @@ fn driver_at(rt: &HostRuntime) -> Result<Word, Fault> {
     program_at(rt, &name)?.ok_or(Fault::NoDriver)
 }
 
-/// What a gcc says of itself where commands are shown.
-fn said(rt: &HostRuntime, room: &Room, gcc: &Word) -> Result<Listing<Word>, Fault> {
-    let alloc = rt.alloc();
-    let version = ask(rt, &room.lines, gcc, b"-v")?;
-    let mut lines = Listing::new(alloc);
-    for line in version.err.as_bytes().split(|byte| *byte == b'\n') {
+/// Adds the lines of a text that aren't empty.
+fn add_lines(alloc: Global, text: &[u8], lines: &mut Listing<Word>) -> Result<(), Fault> {
+    for line in text.split(|byte| *byte == b'\n') {
         if !line.is_empty() {
             lines.push(Word::from_bytes(alloc, line)?)?;
         }
     }
-    let shown = ask(rt, &room.lines, gcc, b"-### -c -x c /dev/null")?;
-    for key in [b"COMPILER_PATH=".as_slice(), b"LIBRARY_PATH="] {
-        for value in values(alloc, key, shown.err.as_bytes())?.as_slice() {
-            lines.push(named(alloc, key, value.as_bytes())?)?;
-        }
+    Ok(())
+}
+
+/// Adds the values that a key has in a text, each with the key.
+fn add_values(
+    alloc: Global,
+    key: &[u8],
+    text: &[u8],
+    lines: &mut Listing<Word>,
+) -> Result<(), Fault> {
+    let values = values(alloc, key, text)?;
+    for value in values.as_slice() {
+        lines.push(named(alloc, key, value.as_bytes())?)?;
     }
+    Ok(())
+}
+
+/// Adds what a gcc says of its version.
+fn add_version(
+    rt: &HostRuntime,
+    room: &Room,
+    gcc: &Word,
+    lines: &mut Listing<Word>,
+) -> Result<(), Fault> {
+    let version = ask(rt, &room.lines, gcc, b"-v")?;
+    add_lines(rt.alloc(), version.err.as_bytes(), lines)
+}
+
+/// Adds the folders that a gcc searches.
+fn add_folders(
+    rt: &HostRuntime,
+    room: &Room,
+    gcc: &Word,
+    lines: &mut Listing<Word>,
+) -> Result<(), Fault> {
+    let shown = ask(rt, &room.lines, gcc, b"-### -c -x c /dev/null")?;
+    add_values(rt.alloc(), b"COMPILER_PATH=", shown.err.as_bytes(), lines)?;
+    add_values(rt.alloc(), b"LIBRARY_PATH=", shown.err.as_bytes(), lines)
+}
+
+/// What a gcc says of itself where commands are shown.
+fn said(rt: &HostRuntime, room: &Room, gcc: &Word) -> Result<Listing<Word>, Fault> {
+    let mut lines = Listing::new(rt.alloc());
+    add_version(rt, room, gcc, &mut lines)?;
+    add_folders(rt, room, gcc, &mut lines)?;
     Ok(lines)
 }
 

@@ -257,18 +257,16 @@ fn merged(alloc: Global, text: &[u8]) -> Result<Option<Word>, Fault> {
     Ok(Some(whole))
 }
 
-/// What is left of braces that end.
-fn closed(alloc: Global, known: &Known, mut it: Braces) -> Result<Word, Fault> {
-    if it.body.is_none() && it.given.is_empty() && !it.is_decided {
-        return match tests_left(alloc, known, &it)? {
-            Left::Never => Ok(Word::empty(alloc)),
-            _ => braced(&it.opening, it.tests.as_bytes()),
-        };
+/// What is left of braces that end after tests alone.
+fn tests_alone(alloc: Global, known: &Known, it: &Braces) -> Result<Word, Fault> {
+    match tests_left(alloc, known, it)? {
+        Left::Never => Ok(Word::empty(alloc)),
+        _ => braced(&it.opening, it.tests.as_bytes()),
     }
-    end_alternative(alloc, known, &mut it)?;
-    if let Some(body) = it.alone.take() {
-        return Ok(body);
-    }
+}
+
+/// Braces with their alternatives; nothing where none of these gives something.
+fn alternatives(alloc: Global, it: &Braces) -> Result<Word, Fault> {
     if !it.has_words {
         return Ok(Word::empty(alloc));
     }
@@ -277,6 +275,18 @@ fn closed(alloc: Global, known: &Known, mut it: Braces) -> Result<Word, Fault> {
         Some(shorter) => shorter,
         None => whole,
     })
+}
+
+/// What is left of braces that end.
+fn closed(alloc: Global, known: &Known, it: &mut Braces) -> Result<Word, Fault> {
+    if it.body.is_none() && it.given.is_empty() && !it.is_decided {
+        return tests_alone(alloc, known, it);
+    }
+    end_alternative(alloc, known, it)?;
+    match it.alone.take() {
+        Some(body) => Ok(body),
+        None => alternatives(alloc, it),
+    }
 }
 
 /// The text that a directive of one letter works.
@@ -353,10 +363,10 @@ impl Cutting {
 
     /// Ends braces.
     fn close(&mut self, alloc: Global, known: &Known) -> Result<(), Fault> {
-        let Some(it) = self.open.pop() else {
+        let Some(mut it) = self.open.pop() else {
             return Ok(());
         };
-        let left = closed(alloc, known, it)?;
+        let left = closed(alloc, known, &mut it)?;
         self.put(left.as_bytes())
     }
 

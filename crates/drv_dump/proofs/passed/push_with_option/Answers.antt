@@ -3,5 +3,6 @@ use Rattle.drv_dump.proofs.Passing.{option_put}
 
 pub returns : goal.returns
 returns c =
-    option_put c.args.copy.now c.extend_from_slice.new.self c.extend_from_slice-2.new.self c.args.word.now c.in_ok-extend_from_slice.ensures.ok
+    option_put c.args.copy.now c.extend_from_slice.new.self c.extend_from_slice-2.new.self c.args.word.now
+    c.in_ok-extend_from_slice.ensures.ok
     c.in_ok-extend_from_slice-2.ensures.ok

@@ -6,7 +6,12 @@ use Rattle.std.proofs.Common.{◌++◌, codes}
 pub returns : goal.returns
 unfolding clash
 returns c =
-    joined c.args.body.now c.push_one_of.new.body c.extend_from_slice-4.new.self (codes "%{" ++ c.args.test.now ++ codes ":%{" ++ one_of c.args.tests.now) (codes ":%etwo options that choose a machine are not in this spec file together}}") (
-    joined c.args.body.now c.extend_from_slice-3.new.self c.push_one_of.new.body (codes "%{" ++ c.args.test.now ++ codes ":%{") (one_of c.args.tests.now) (
+    joined c.args.body.now c.push_one_of.new.body c.extend_from_slice-4.new.self
+    (codes "%{" ++ c.args.test.now ++ codes ":%{" ++ one_of c.args.tests.now)
+    (codes ":%etwo options that choose a machine are not in this spec file together}}") (
+    joined c.args.body.now c.extend_from_slice-3.new.self c.push_one_of.new.body (codes "%{" ++ c.args.test.now ++ codes ":%{")
+    (one_of c.args.tests.now) (
     joined c.args.body.now c.extend_from_slice-2.new.self c.extend_from_slice-3.new.self (codes "%{" ++ c.args.test.now) (codes ":%{") (
-    joined c.args.body.now c.extend_from_slice.new.self c.extend_from_slice-2.new.self (codes "%{") (c.args.test.now) c.in_ok-extend_from_slice.ensures.ok c.in_ok-extend_from_slice-2.ensures.ok) c.in_ok-extend_from_slice-3.ensures.ok) c.in_ok-push_one_of.ensures) c.in_ok-extend_from_slice-4.ensures.ok
+    joined c.args.body.now c.extend_from_slice.new.self c.extend_from_slice-2.new.self (codes "%{")
+    (c.args.test.now) c.in_ok-extend_from_slice.ensures.ok c.in_ok-extend_from_slice-2.ensures.ok)
+    c.in_ok-extend_from_slice-3.ensures.ok) c.in_ok-push_one_of.ensures) c.in_ok-extend_from_slice-4.ensures.ok

@@ -6,5 +6,7 @@ use Rattle.std.proofs.Common.{◌++◌, codes}
 pub returns : goal.returns
 unfolding line_root
 returns c =
-    joined c.args.body.now c.push_word.new.text c.extend_from_slice-2.new.self (codes "%{-sysroot=*:--sysroot=%*;:" ++ spec_word c.args.own.now) (codes "}") (
-    joined c.args.body.now c.extend_from_slice.new.self c.push_word.new.text (codes "%{-sysroot=*:--sysroot=%*;:") (spec_word c.args.own.now) c.in_ok-extend_from_slice.ensures.ok c.in_ok-push_word.ensures) c.in_ok-extend_from_slice-2.ensures.ok
+    joined c.args.body.now c.push_word.new.text c.extend_from_slice-2.new.self
+    (codes "%{-sysroot=*:--sysroot=%*;:" ++ spec_word c.args.own.now) (codes "}") (
+    joined c.args.body.now c.extend_from_slice.new.self c.push_word.new.text (codes "%{-sysroot=*:--sysroot=%*;:")
+    (spec_word c.args.own.now) c.in_ok-extend_from_slice.ensures.ok c.in_ok-push_word.ensures) c.in_ok-extend_from_slice-2.ensures.ok

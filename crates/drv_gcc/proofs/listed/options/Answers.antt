@@ -11,6 +11,8 @@ pub returns : goal.returns
 returns c =
     let made = c.split-line-items.ensures in
     let given = c.into_iter-line-iterator.ensures in
-    let all = YieldsList-end (YieldsList-from_slice_split _ (λ b. b == newline) c.args.text.now (ap split_rest given.into_iter_gives ∙ made.rest) (ap split_done given.into_iter_gives ∙ made.done) (ap split_callee given.into_iter_gives ∙ made.closure) (λ x b q k. search (rules, tests)))
+    let all = YieldsList-end (YieldsList-from_slice_split _ (λ b. b == newline) c.args.text.now
+    (ap split_rest given.into_iter_gives ∙ made.rest) (ap split_done given.into_iter_gives ∙ made.done)
+    (ap split_callee given.into_iter_gives ∙ made.closure) (λ x b q k. search (rules, tests)))
     c.loop-line.yielded _ c.loop-line.yielded_by _ _ c.in-None.is c.next.ensures.steps in
     c.loop-line.invariant ∙ ap (flat_map option_in) all.0

@@ -6,6 +6,9 @@ use Rattle.std.proofs.Common.{◌++◌, codes}
 pub returns : goal.returns
 unfolding plugin_texts
 returns c =
-    joined c.args.text.now c.push_one-2.new.text c.push_plugins.new.text (entry (codes "linker_plugin_file") (or_nothing c.args.plugin.now) ++ entry (codes "lto_wrapper") (or_nothing c.args.wrapper.now)) (folder_of_plugins c.args.folder.now)
-    (joined c.args.text.now c.push_one.new.text c.push_one-2.new.text (entry (codes "linker_plugin_file") (or_nothing c.args.plugin.now)) (entry (codes "lto_wrapper") (or_nothing c.args.wrapper.now))
+    joined c.args.text.now c.push_one-2.new.text c.push_plugins.new.text
+    (entry (codes "linker_plugin_file") (or_nothing c.args.plugin.now) ++ entry (codes "lto_wrapper") (or_nothing c.args.wrapper.now))
+    (folder_of_plugins c.args.folder.now)
+    (joined c.args.text.now c.push_one.new.text c.push_one-2.new.text (entry (codes "linker_plugin_file") (or_nothing c.args.plugin.now))
+    (entry (codes "lto_wrapper") (or_nothing c.args.wrapper.now))
     c.in_ok-push_one.ensures c.in_ok-push_one-2.ensures) c.in_ok-push_plugins.ensures
