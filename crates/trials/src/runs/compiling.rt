@@ -11,7 +11,7 @@ use crate::runs::showing::add_line;
 use crate::script::{read_lines, system};
 use crate::transcript::Transcript;
 use drv_cc::Variable;
-use drv_compile::{Host, HostEvent, Outcome, beside, calling_of, compile};
+use drv_compile::{Calling, Host, HostEvent, Outcome, beside, calling_of, compile};
 use drv_system::{Event, ScriptSystem, System};
 use drv_words::{Listing, Word};
 use std::alloc::{AllocError, Global};
@@ -33,6 +33,51 @@ impl Model for ScriptHost {
     ghost Value = { List HostEvent };
 
     ghost view = { λ host. host.notes.items };
+}
+
+impl ScriptHost {
+    /// A host that knows nothing.
+    fn new(alloc: Global) -> ScriptHost {
+        ScriptHost {
+            paths: Listing::new(alloc),
+            folders: Listing::new(alloc),
+            notes: Vec::new(alloc),
+        }
+    }
+
+    /// Adds the path that a name leads to.
+    fn add_path(&mut self, name: &Word, path: &Word) -> Result<(), AllocError> {
+        Ok(self.paths.push((name.clone()?, path.clone()?))?)
+    }
+
+    /// Adds a folder in which files can be made.
+    fn add_folder(&mut self, name: &Word) -> Result<(), AllocError> {
+        Ok(self.folders.push(name.clone()?)?)
+    }
+
+    /// Adds what a line says. A line of the script adds nothing.
+    fn add(&mut self, line: &[Word]) -> Result<(), AllocError> {
+        match line {
+            [what, name, path] if what.as_bytes() == b"leads".as_slice() => {
+                self.add_path(name, path)
+            }
+            [what, name] if what.as_bytes() == b"usable".as_slice() => self.add_folder(name),
+            _ => Ok(()),
+        }
+    }
+
+    /// Adds what lines say.
+    fn add_all(&mut self, lines: &[Listing<Word>]) -> Result<(), AllocError> {
+        for line in lines {
+            self.add(line.as_slice())?;
+        }
+        Ok(())
+    }
+
+    /// Adds the folder in which files can always be made.
+    fn add_usable(&mut self, alloc: Global) -> Result<(), AllocError> {
+        Ok(self.folders.push(Word::from_bytes(alloc, b"/tmp")?)?)
+    }
 }
 
 /// The path that a name has in a list, if it has one.
@@ -90,25 +135,10 @@ impl Host<ScriptSystem> for ScriptHost {
 
 /// The host that lines say.
 fn host(alloc: Global, lines: &[Listing<Word>]) -> Result<ScriptHost, AllocError> {
-    let mut paths = Listing::new(alloc);
-    let mut folders = Listing::new(alloc);
-    for line in lines {
-        match line.as_slice() {
-            [what, name, path] if what.as_bytes() == b"leads".as_slice() => {
-                paths.push((name.clone()?, path.clone()?))?;
-            }
-            [what, name] if what.as_bytes() == b"usable".as_slice() => {
-                folders.push(name.clone()?)?;
-            }
-            _ => {}
-        }
-    }
-    folders.push(Word::from_bytes(alloc, b"/tmp")?)?;
-    Ok(ScriptHost {
-        paths,
-        folders,
-        notes: Vec::new(alloc),
-    })
+    let mut host = ScriptHost::new(alloc);
+    host.add_all(lines)?;
+    host.add_usable(alloc)?;
+    Ok(host)
 }
 
 /// Adds what the host was asked, or what it set.
@@ -179,6 +209,37 @@ fn add_call(
     }
 }
 
+/// Makes a call of `gdrv-cc` as its name says, with the files beside the program at `/bin/`.
+fn compile_as(
+    alloc: Global,
+    calling: &Calling,
+    args: &Listing<Word>,
+    sys: &mut ScriptSystem,
+    host: &mut ScriptHost,
+    out: &mut Transcript,
+) -> Result<(), AllocError>
+    requires { sys.old.journal ≡ [] }
+{
+    let own = Some(beside(alloc, b"/bin/gdrv-cc", calling.machine.as_bytes())?);
+    let outcome = compile(alloc, calling, &own, args, SEED, sys, host);
+    add_call(sys, host, &outcome, out)
+}
+
+/// Makes a call of `gdrv-cc` by a name on this system and host.
+fn compile_on(
+    alloc: Global,
+    name: &Word,
+    args: &Listing<Word>,
+    sys: &mut ScriptSystem,
+    host: &mut ScriptHost,
+    out: &mut Transcript,
+) -> Result<(), AllocError>
+    requires { sys.old.journal ≡ [] }
+{
+    let calling = calling_of(alloc, name.as_bytes())?;
+    compile_as(alloc, &calling, args, sys, host, out)
+}
+
 /// Makes a call of `gdrv-cc` by a name over what lines say.
 fn compile_over(
     alloc: Global,
@@ -189,10 +250,7 @@ fn compile_over(
 ) -> Result<(), AllocError> {
     let mut sys = system(alloc, lines)?;
     let mut host = host(alloc, lines)?;
-    let calling = calling_of(alloc, name.as_bytes())?;
-    let own = Some(beside(alloc, b"/bin/gdrv-cc", calling.machine.as_bytes())?);
-    let outcome = compile(alloc, &calling, &own, args, SEED, &mut sys, &mut host);
-    add_call(&sys, &host, &outcome, out)
+    compile_on(alloc, name, args, &mut sys, &mut host, out)
 }
 
 /// Makes a call of `gdrv-cc` by a name with these arguments.

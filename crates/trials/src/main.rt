@@ -9,6 +9,7 @@
 //! choose WINDOW [pass]    the run of such a plan with chosen sources
 //! drive WORD..            a whole call of the driver with these arguments and the seed 42, over a script
 //! compile NAME WORD..     a whole call of gdrv-cc by that name, as `compiling` says
+//! measure JOB COUNT ..    a job that `bench/run` measures, see `measuring`
 //! ```
 //!
 //! Standard input holds the script, see `script`.
@@ -17,6 +18,7 @@
 mod answers;
 mod calls;
 mod lists;
+mod measuring;
 mod names;
 mod runs;
 mod script;
@@ -27,6 +29,7 @@ use calls::try_call;
 use drv_core::FailureStatus;
 use drv_system::arguments;
 use drv_words::Word;
+use measuring::try_measured;
 use names::look_up;
 use runs::{Manner, try_compile, try_drive, try_plan};
 use std::io::{self, Write};
@@ -34,7 +37,7 @@ use steps::try_file;
 use transcript::Transcript;
 
 const USAGE: &[u8] =
-    b"usage: drv_trials call [host] CALL ARG.. | steps FILE | plan WINDOW [pass] | choose WINDOW [pass] | drive WORD.. | compile NAME WORD..\n";
+    b"usage: trials call [host] CALL ARG.. | steps FILE | plan WINDOW [pass] | choose WINDOW [pass] | drive WORD.. | compile NAME WORD.. | measure JOB COUNT [LENGTH]\n";
 
 /// A part that can be tried.
 #[derive(Clone, Copy)]
@@ -44,16 +47,18 @@ enum Part {
     Plan(Manner),
     Drive,
     Compile,
+    Measure,
 }
 
 /// The names of parts.
-const PARTS: [(&[u8], Part); 6] = [
+const PARTS: [(&[u8], Part); 7] = [
     (b"call", Part::Call),
     (b"steps", Part::Steps),
     (b"plan", Part::Plan(Manner::CarriedOut)),
     (b"choose", Part::Plan(Manner::Chosen)),
     (b"drive", Part::Drive),
     (b"compile", Part::Compile),
+    (b"measure", Part::Measure),
 ];
 
 /// Tries a part.
@@ -67,8 +72,17 @@ fn try_part(rt: &HostRuntime, part: Part, words: &[Word], out: &mut Transcript) 
         }
         (Part::Drive, args) => try_drive(rt, args, out),
         (Part::Compile, [name, args @ ..]) => try_compile(rt, name, args, out),
+        (Part::Measure, job) => try_measure(rt, job, out),
         _ => Ok(out.add(USAGE)?),
     }
+}
+
+/// Does a job that is measured.
+fn try_measure(rt: &HostRuntime, job: &[Word], out: &mut Transcript) -> io::Result<()> {
+    if !try_measured(rt.alloc(), job, out)? {
+        out.add(USAGE)?;
+    }
+    Ok(())
 }
 
 /// Tries the part that these words name.

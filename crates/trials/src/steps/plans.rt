@@ -1,6 +1,6 @@
 //! Plans of one job with one command, one temporary file and one marked file.
 
-ghost use Rattle.drv_trials.specs.Sites.{HasSites};
+ghost use Rattle.trials.specs.Sites.{HasSites};
 ghost use Rattle.std.specs.Prelude.{◌≡◌, ◌∷◌, [], IfOk, None};
 
 use crate::lists::{copies_of, only};

@@ -1,6 +1,6 @@
 //! Makes a step if its conditions hold.
 
-ghost use Rattle.drv_trials.specs.Sites.{HasSites};
+ghost use Rattle.trials.specs.Sites.{HasSites};
 ghost use Rattle.drv_words.specs.Places.{is_note};
 ghost use Rattle.drv_words.specs.declared.plan.Plan.{Plan};
 ghost use Rattle.std.specs.Prelude.{◌≡◌, IfSome, true};

@@ -1,7 +1,9 @@
-//! The jobs.
+//! What the benchmarks measure: one job of the library on made input.
 
 ghost use Rattle.std.specs.Prelude.{◌≡◌, IfOk, replicate};
 
+use crate::names::look_up;
+use crate::transcript::Transcript;
 use drv_args::{ArgsFault, Expanded, Line, expand, read};
 use drv_machine::{Context, MachineFault, Outcome};
 use drv_search::Prefixes;
@@ -10,6 +12,7 @@ use drv_syntax::{SpecTree, parse};
 use drv_system::{FactTable, ScriptSystem, System};
 use drv_words::{Command, Group, Job, Listing, Plan, Word, plan_lines, render, split};
 use std::alloc::{AllocError, Global};
+use std::str::from_utf8;
 
 /// A word of `length` letters.
 fn letters(alloc: Global, length: usize) -> Result<Word, AllocError>
@@ -373,21 +376,71 @@ fn built_in(alloc: Global, count: usize) -> Result<usize, AllocError> {
     Ok(pairs)
 }
 
-/// Does a job and returns the size of its result. `None` if there is no such job, or if memory ran
-/// out.
-pub fn run(alloc: Global, job: &str, count: &str, length: &str) -> Option<usize> {
-    let count = count.parse::<usize>().ok()?;
-    let length = length.parse::<usize>().ok()?;
+/// A job that is measured.
+#[derive(Clone, Copy)]
+enum Measured {
+    Render,
+    Split,
+    Arguments,
+    Parse,
+    Texts,
+    Work,
+    Specs,
+    Builtin,
+    Facts,
+}
+
+/// The names of jobs.
+const MEASURED: [(&[u8], Measured); 9] = [
+    (b"render", Measured::Render),
+    (b"split", Measured::Split),
+    (b"arguments", Measured::Arguments),
+    (b"parse", Measured::Parse),
+    (b"texts", Measured::Texts),
+    (b"work", Measured::Work),
+    (b"specs", Measured::Specs),
+    (b"builtin", Measured::Builtin),
+    (b"facts", Measured::Facts),
+];
+
+/// The size of what a job gives. `None` if memory ran out.
+fn size_of(alloc: Global, job: Measured, count: u32, length: usize) -> Option<usize> {
+    let times = count as usize;
     match job {
-        "render" => rendered_length(alloc, count).ok(),
-        "split" => split_words(alloc, count, length).ok(),
-        "arguments" => switches(alloc, count, length).ok(),
-        "parse" => item_count(alloc, count).ok(),
-        "texts" => text_bytes(alloc, count).ok(),
-        "work" => cost_of_bytes(alloc, count).ok(),
-        "specs" => loaded_length(alloc, count).ok(),
-        "builtin" => built_in(alloc, count).ok(),
-        "facts" => question_count(alloc, u32::try_from(count).ok()?).ok(),
-        _ => None,
+        Measured::Render => rendered_length(alloc, times).ok(),
+        Measured::Split => split_words(alloc, times, length).ok(),
+        Measured::Arguments => switches(alloc, times, length).ok(),
+        Measured::Parse => item_count(alloc, times).ok(),
+        Measured::Texts => text_bytes(alloc, times).ok(),
+        Measured::Work => cost_of_bytes(alloc, times).ok(),
+        Measured::Specs => loaded_length(alloc, times).ok(),
+        Measured::Builtin => built_in(alloc, times).ok(),
+        Measured::Facts => question_count(alloc, count).ok(),
     }
+}
+
+/// A number in decimal; 0 for any other word.
+fn number(word: &Word) -> u32 {
+    from_utf8(word.as_bytes()).map_or(0, |text| text.parse::<u32>().unwrap_or(0))
+}
+
+/// Does a job, and writes the size of its result. A job that lacks memory writes nothing.
+pub fn try_measured(
+    alloc: Global,
+    words: &[Word],
+    out: &mut Transcript,
+) -> Result<bool, AllocError> {
+    let (name, count, length) = match words {
+        [name, count] => (name, number(count), 0),
+        [name, count, length] => (name, number(count), number(length) as usize),
+        _ => return Ok(false),
+    };
+    let Some(job) = look_up(&MEASURED, name.as_bytes()) else {
+        return Ok(false);
+    };
+    if let Some(size) = size_of(alloc, job, count, length) {
+        out.add_count(size)?;
+        out.add(b"\n")?;
+    }
+    Ok(true)
 }
