@@ -28,8 +28,8 @@ MOST_JOBS = 4
 UNKNOWN_COST = 60
 SECONDS_TO_END = 5
 TEXTS = ("src", "specs", "proofs")
-# Programs whose names begin so are no part of the product: benchmarks and tests.
-INNER = "drv_"
+# The names of libraries begin so. The program of the tests and benchmarks is no part of the product.
+INNER, TRIALS = "drv_", "trials"
 
 
 class Crates:
@@ -58,9 +58,9 @@ class Crates:
         return f"{self.folder(name)}/out/rlib"
 
     def was_built(self, name, since):
-        """Whether a crate's library was built since a time. (rt ci leaves no stamp, and puts an older library back in the place of its own.)"""
-        library = f"{self.built(name)}/{name}.rlib"
-        return os.path.isdir(library) and os.stat(library).st_mtime >= since
+        """Whether a crate was proved and built since a time. (rt ci leaves no stamp, and puts an older library back in the place of its own.)"""
+        made = f"{self.folder(name)}/out/{name}" if self.is_program(name) else f"{self.built(name)}/{name}.rlib"
+        return os.path.exists(made) and os.stat(made).st_mtime >= since
 
     def is_program(self, name):
         return os.path.isfile(f"{self.folder(name)}/src/main.rt")
@@ -77,7 +77,7 @@ class Crates:
 
     def programs(self):
         """The programs of the product."""
-        return [it for it in self.names if self.is_program(it) and not it.startswith(INNER)]
+        return [it for it in self.names if self.is_program(it) and it != TRIALS]
 
     def program(self, name):
         """The name of a crate's program, which has hyphens where the crate's, which may have none, has underscores."""

@@ -262,23 +262,3 @@ def at_places(folder, texts, places):
 def lost_in(said, functions):
     """The goals of these functions that a check says are lost."""
     return [it for it in lost_goals(said) if any(it.is_of(other) for other in functions)]
-
-
-def call_cycles(texts):
-    """Which names of functions can call each other, directly or not: each with those that it reaches and that reach it."""
-    calls = {}
-    for text in texts:
-        lines = text.split("\n")
-        for it in functions_of("", text):
-            calls.setdefault(it.name, set()).update(re.findall(r"\b(\w+)\(", "\n".join(lines[it.opens - 1 : it.closes])))
-    names = calls.keys()
-    calls = {it: calls[it] & names for it in names}
-    reached = {}
-    for name in names:
-        left, found = [name], set()
-        while left:
-            fresh = calls[left.pop()] - found
-            found |= fresh
-            left += fresh
-        reached[name] = found
-    return {it: {other for other in reached[it] if it in reached[other]} for it in names}

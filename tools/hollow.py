@@ -3,6 +3,15 @@
 A proof of a function cites the contracts of what it calls, and nothing of their bodies and proofs. So all other functions have an empty
 body here, and a hole in place of a proof; a check takes seconds, however large the crate. The prover says of a function that its proof is
 accepted but for the holes that it rests on, or that a goal of its own is not proved.
+
+Why a refusal is due to the edit alone: the crate as it is was proved just before, whole, from the same texts and over the same libraries
+(`rt ci` in the gate, otherwise as ./build does). The room has all of these texts but the bodies of other functions and their Answers,
+Invariants and Proof files. What of these a judged proof could see, `unlike` finds in the texts: a judged function with other lines,
+or a file of proofs/ that names what a hole took away. The prover itself keeps the code and the proof of a function from all others'
+proofs. So without the edit a judged function has the same code, the same clauses and the same proof over the same clauses, and the prover
+would accept it here as it did there. Two tries keep this argument honest. Each check of edits also judges a witness, a function that no
+edit changes, and counts only if that is accepted. And `tests/try_edits --control` first has the prover judge all the functions
+as they are in this room, at the cost of a further proof of each; run it once after a change of these tools or of the kit.
 """
 
 import os
@@ -11,25 +20,44 @@ import shutil
 import tempfile
 
 from crates import TEXTS, link_or_copy, run_in
-from edits import at_place, at_places, functions_in, functions_of, text_of
+from edits import at_place, at_places, files_below, functions_in, functions_of, text_of
 
+# The hole of all functions, of whatever type: one for each function has its goal printed, which takes a second.
+THE_HOLE = "TheHole"
+HOLE_OF_ALL = """-- A proof of anything.
+pub hole {ℓ} : {A : Type ℓ} → A
+hole = ?
+"""
 HOLE = """-- A hole, so that a check takes this function by its contract.
-use Rattle.{module}.Statement.{{statement}}
+use Rattle.{crate}.proofs.{module}.Statement.{{statement}}
+use Rattle.{crate}.proofs.{file}.{{hole}}
 
 pub {name}_spec : {{M : Type 1}} → statement M
-{name}_spec = ?
+{name}_spec = hole
 """
 
 
 # What the prover says of a function, or of what goes with a type, that it accepts; and how it begins what it says of one.
 ACCEPTED = re.compile(r"(no holes|depends on a hole in|assumed)\b")
+# And what it says of one whose own goals it accepts, but not what that calls, as the function that an edit changes.
+CALLS = re.compile(r"no proof: it calls [^;]*, which (is|are) not proved$")
 SAID = re.compile(r"(?:fn|struct|enum|impl) (?:[^:]|::)+: (.*)")
+# What is written of a function's proof. Of what the prover makes beside it, these two modules rest on the contract alone.
+WRITTEN = ("Answers", "Invariants", "Proof")
+OF_CONTRACT = ("Met", "Statement")
 
 
-def is_in_cycle(function, text):
-    """Whether a function is marked as one of several that have one proof."""
+def cycle_of(function, text):
+    """The mark of a function that is one of several that have one proof; none of any other."""
     before = "\n".join(text.split("\n")[: function.head - 1])
-    return bool(re.search(r"#\[cycle\(\w+\)\]\n?(?: *(?:#\[|///).*\n?)*$", before))
+    marked = re.search(r"#\[cycle\((\w+)\)\]\n?(?: *(?:#\[|///).*\n?)*$", before)
+    return marked and marked[1]
+
+
+def worth_as_witness(function):
+    """What the witness has the least of: it is the shortest public function with a contract and a body, if there is one. (A law has no body.)"""
+    has_contract, has_body = function.head + 1 < function.opens, function.opens + 1 < function.closes
+    return not (has_contract and has_body), not function.is_pub, function.closes - function.head, at_place(function)
 
 
 class HollowRoom:
@@ -38,7 +66,7 @@ class HollowRoom:
 
     def __init__(self, crates, name, places):
         self.crates, self.name, self.of, self.seconds = crates, name, crates.folder(name), 0
-        self.places, self.changed, self.holes = places, set(), set()
+        self.places, self.changed, self.holes, self.witness = places, set(), {}, None
 
     def __enter__(self):
         os.makedirs(self.crates.rooms, exist_ok=True)
@@ -48,7 +76,10 @@ class HollowRoom:
                 shutil.copytree(f"{self.of}/{part}", f"{self.room}/{part}", copy_function=link_or_copy)
         os.mkdir(f"{self.room}/kept")
         others = self.others()
-        self.holes = {at_place(it) for it in others}
+        self.witness = min((it for it in others if not it.trait), key=worth_as_witness, default=None)
+        others = [it for it in others if it != self.witness]
+        self.holes = {at_place(it): it for it in others}
+        self.put_hole_of_all()
         for it in others:
             self.put_hole(it)
         for file in {it.file for it in others}:
@@ -63,15 +94,23 @@ class HollowRoom:
         this file doesn't know: each `drop`, and the methods of a trait with arguments."""
         known = {it.proof() for it in at_places(self.of, {}, self.places)}
         known_here = [it for it in functions_in(self.of, {}) if it.name != "drop" and not it.has_arguments]
-        return [it for it in known_here if it.proof() not in known and not is_in_cycle(it, text_of(f"{self.of}/{it.file}"))]
+        return [it for it in known_here if it.proof() not in known and not cycle_of(it, text_of(f"{self.of}/{it.file}"))]
 
     def put_hole(self, function):
         """Puts a hole in the place of a function's proof, which has a + before its name if the function calls itself."""
         above, _, name = function.proof().rpartition("/")
-        for it in (name, f"+{name}"):
-            shutil.rmtree(f"{self.room}/proofs/{above}/{it}", ignore_errors=True)
-        module = f"{self.name}.proofs.{function.proof().replace('/', '.')}"
-        self.write(f"proofs/{function.proof()}/Proof.antt", HOLE.format(module=module, name=name))
+        for folder in (f"{self.room}/proofs/{above}/{it}" for it in (name, f"+{name}")):
+            for path in (f"{folder}/{it}.antt" for it in WRITTEN):
+                if os.path.isfile(path):
+                    os.remove(path)
+        module = function.proof().replace("/", ".")
+        self.write(f"proofs/{function.proof()}/Proof.antt", HOLE.format(crate=self.name, module=module, file=THE_HOLE, name=name))
+
+    def put_hole_of_all(self):
+        """Puts the hole that all others cite beside the crate's own files of proofs/."""
+        root = f"{self.of}/proofs/Lib.antt"
+        self.write("proofs/Lib.antt", f"{text_of(root) if os.path.isfile(root) else ''}\nmod {THE_HOLE}\n")
+        self.write(f"proofs/{THE_HOLE}.antt", HOLE_OF_ALL)
 
     def put(self, file, text):
         """Writes a text, with the bodies of all functions with holes emptied. Each line keeps its number."""
@@ -82,6 +121,21 @@ class HollowRoom:
                 lines[first : it.closes - 1] = ["loop {}"] + [""] * (it.closes - first - 2)
         self.write(file, "\n".join(lines))
 
+    def unlike(self):
+        """What a proof of a judged function could see here that is not as it is in the crate; nothing if there is no such thing."""
+        for it in at_places(self.of, {}, self.places):
+            here, there = (text_of(f"{folder}/{it.file}").split("\n")[it.head - 1 : it.closes] for folder in (self.room, self.of))
+            if here != there:
+                return f"the room has other lines of {it.proof()}"
+        holes = {it.proof().replace("/", "."): f"{self.room}/proofs/{it.proof()}" for it in self.holes.values()}
+        for path in files_below(f"{self.room}/proofs") if os.path.isdir(f"{self.room}/proofs") else []:
+            for named in re.findall(rf"\bRattle\.{self.name}\.proofs\.([\w.+]+)", text_of(path)):
+                of, _, part = named.replace("+", "").rstrip(".").rpartition(".")
+                is_there = part in OF_CONTRACT or part not in WRITTEN and os.path.isfile(f"{holes.get(of)}/{part}.antt")
+                if of in holes and not is_there:
+                    return f"{os.path.relpath(path, self.room)} names what is of the proof of {of}"
+        return ""
+
     def write(self, path, text):
         """Writes a file in the place of a link to one."""
         os.makedirs(os.path.dirname(f"{self.room}/{path}"), exist_ok=True)
@@ -91,19 +145,27 @@ class HollowRoom:
             file.write(text)
 
     def check(self, texts, places):
-        """What the prover says of the functions at these places, with these texts in place of the crate's."""
+        """What the prover says of the witness and of the functions at these places, with these texts in place of the crate's."""
         before = {path: text_of(f"{self.of}/{path}") for path in self.changed}
         for path, text in (before | texts).items():
             self.put(path, text)
         self.changed = set(texts)
-        only = (word for path in {it.path() for it in at_places(self.of, {}, places)} for word in ("--only", path))
-        _, said, seconds = run_in(self.room, [*self.words(), *only])
+        paths = {it.path() for it in at_places(self.of, {}, places)} | ({self.witness.path()} if self.witness else set())
+        _, said, seconds = run_in(self.room, [*self.words(), *(word for path in sorted(paths) for word in ("--only", path))])
         self.seconds += seconds
         return said
 
-    def unaccepted(self):
-        """Why the prover doesn't accept the judged functions as they are, each whole but for the holes; nothing where it does."""
-        said = self.check({}, self.places).strip()
+    def is_witnessed(self, said):
+        """Whether a check accepted the witness, if there is one, or all but what it calls."""
+        if not self.witness:
+            return True
+        verdicts = re.findall(rf"^fn {self.name}::{re.escape(self.witness.path())}: (.*)", said, re.M)
+        return bool(verdicts) and all(ACCEPTED.match(it) or CALLS.match(it) for it in verdicts)
+
+    def unaccepted(self, places):
+        """Why the prover doesn't accept the functions at these places and the witness as they are, each whole but for the holes; nothing where
+        it does."""
+        said = self.check({}, places).strip()
         verdicts = [(line, it[1]) for line, it in zip(said.split("\n"), map(SAID.match, said.split("\n"))) if it]
         refused = next((line for line, verdict in verdicts if not ACCEPTED.match(verdict)), "")
         return refused or ("" if re.search(r"^only=\d+ holes=\d+$", said, re.M) else said[-400:] or "the check broke off")

@@ -3,14 +3,15 @@
 import math
 import os
 from dataclasses import dataclass, replace
+from enum import Enum
 
 from calls import public_calls
 from crates import Clock, Crates, Proof, Stamps, Task, costs, in_lanes, prove
-from edits import Edit, at_places, call_cycles, files_below, is_read, lost_in, outdated_proof, text_of
-from hollow import HollowRoom
+from edits import Edit, at_place, at_places, is_read, lost_in, outdated_proof, text_of
+from hollow import HollowRoom, cycle_of
 
 # The most edits that are tried in one check.
-MOST = 40
+MOST = 44
 # The processor seconds that the edits of a crate take, and each of them, about.
 SECONDS_OF_CRATE, SECONDS_OF_ONE = 30, 4
 
@@ -23,7 +24,15 @@ class Verdict:
     text: str
 
 
-UNTRIED = Verdict(False, "NOT TRIED, since a library below is not proved, or a check broke off")
+UNTRIED = Verdict(False, "NOT TRIED, since the crate or a library below it is not proved, or a check broke off")
+UNWITNESSED = Verdict(False, "NOT TRIED, since the prover doesn't accept a function beside it that no edit changes")
+
+
+class Control(Enum):
+    """Which functions have to be accepted as they are, before an edit counts as refused: the witness of each check, or all that edits change."""
+
+    WITNESS = "witness"
+    ALL = "all"
 
 
 class Trial:
@@ -38,25 +47,32 @@ class Trial:
         self.told.update({it: Verdict(False, f"BAD EDIT: {why}") for it, why in bad.items() if why})
 
     def batches(self):
-        """The edits such that no two of a batch are in one function, in functions that can call each other, or on one text. One outside of
-        functions is alone."""
-        cycles, made = call_cycles(map(text_of, files_below(f"{self.crates.folder(self.name)}/src"))), []
-        for edit in [it for it in self.edits if it not in self.told]:
-            names = {name for _, _, name in edit.places}
-            near = names.union(*(cycles[it] for it in names))
-            place = next((it for it in made if it.takes(edit, near)), None)
+        """The edits such that no two of a batch are in one function, in functions that have one proof, or on one text. One outside of functions
+        is alone."""
+        made = []
+        for edit in sorted((it for it in self.edits if it not in self.told), key=lambda it: not it.is_inside):
+            proofs = self.proofs(edit)
+            place = next((it for it in made if it.takes(edit, proofs)), None)
             if place is None:
-                made.append(Batch(edit))
+                made.append(Batch(edit, proofs))
             else:
-                place.add(edit)
+                place.add(edit, proofs)
         return made
 
-    def attempt(self):
-        """Tries the edits, once the prover accepted their functions as they are. A batch is one check, and what it doesn't refuse is tried alone."""
+    def proofs(self, edit):
+        """What tells the proofs of the functions that an edit changes: their places, or the mark of those that have one proof."""
+        folder = self.crates.folder(self.name)
+        return {cycle_of(it, text_of(f"{folder}/{it.file}")) or at_place(it) for it in at_places(folder, {}, edit.places)}
+
+    def attempt(self, control):
+        """Tries the edits. A batch is one check, and what it doesn't refuse is tried alone. An edit of anything but bodies can change what the
+        witness rests on, so such a crate's witness is judged without any edit first. In a crate with no witness all functions are."""
         batches = self.batches()
         places = set().union(*(it.places for it in batches))
         with HollowRoom(self.crates, self.name, places) as room:
-            why = batches and room.unaccepted()
+            is_of_all = control == Control.ALL or not room.witness
+            is_first = is_of_all or any(not it.is_inside for it in batches)
+            why = room.unlike() or is_first and room.unaccepted(places if is_of_all else set())
             if why:
                 self.told.update({it: Verdict(False, f"NOT TRIED, since without it {why}") for batch in batches for it in batch.edits})
                 return Proof("", room.seconds)
@@ -70,7 +86,7 @@ class Trial:
 def beside(room, batch):
     """The verdicts on those edits of a batch that one check of all refuses."""
     said, found = room.check(batch.texts, batch.places), {}
-    for it in batch.edits if is_read(said, batch.texts) else []:
+    for it in batch.edits if is_read(said, batch.texts) and room.is_witnessed(said) else []:
         lost = [goal for goal in lost_in(said, at_places(room.of, batch.texts, it.places)) if not goal.is_safety()]
         if lost:
             found[it] = Verdict(True, f"refused beside {len(batch.edits) - 1} more: {lost[0]}")
@@ -89,6 +105,8 @@ def alone(room, edit):
     said = room.check(edit.texts, edit.places)
     if not is_read(said, edit.texts):
         return Verdict(False, "BAD EDIT: the prover cannot read the edited text")
+    if edit.is_inside and not room.is_witnessed(said):
+        return UNWITNESSED
     lost = lost_in(said, at_places(room.of, edit.texts, edit.places))
     of_clauses = [it for it in lost if not it.is_safety()]
     if of_clauses:
@@ -102,37 +120,34 @@ def alone(room, edit):
 
 
 class Batch:
-    """Edits that are tried in one check, the texts with all of them, and their places."""
+    """Edits that are tried in one check, with the texts with all of them, their places, and the proofs that judge them."""
 
-    def __init__(self, edit):
-        self.edits, self.texts, self.places = [edit], edit.texts, set(edit.places)
+    def __init__(self, edit, proofs):
+        self.edits, self.texts, self.places, self.proofs, self.is_inside = [edit], edit.texts, set(edit.places), proofs, edit.is_inside
 
-    @property
-    def names(self):
-        return {name for _, _, name in self.places}
-
-    def takes(self, edit, near):
+    def takes(self, edit, proofs):
         """Whether an edit has a place beside these. (What is outside of functions can be in each.)"""
-        is_inside = edit.is_inside and self.edits[0].is_inside
-        return is_inside and len(self.edits) < MOST and not self.names & near and not edit.applied(self.texts)[1]
+        is_inside = edit.is_inside and self.is_inside
+        return is_inside and len(self.edits) < MOST and not self.proofs & proofs and not edit.applied(self.texts)[1]
 
-    def add(self, edit):
+    def add(self, edit, proofs):
         self.edits.append(edit)
         self.texts, _ = edit.applied(self.texts)
         self.places |= edit.places
+        self.proofs |= proofs
 
 
-def try_edits(root, names, since=math.inf):
-    """Tries the edits of these crates, and gives each by its path, with whether it was refused and how. It first builds the libraries below
-    them that have changed, but for those that rt ci built since a time."""
+def try_edits(root, names, since=math.inf, control=Control.WITNESS):
+    """Tries the edits of these crates, and gives each by its path, with whether it was refused and how. It first proves these and builds the
+    libraries below them, as far as they have changed, but for those that rt ci proved and built since a time."""
     crates, clock = Crates(root), Clock()
     trials, stamps, known = [Trial(crates, it) for it in crates.names if it in names], Stamps(crates), costs(crates)
-    below = set().union(*(crates.below(it.name) for it in trials))
-    built = [it for it in crates.names if it in below and not crates.was_built(it, since) and not stamps.is_proved(it)]
+    needed = crates.with_below(it.name for it in trials)
+    built = [it for it in needed if not crates.was_built(it, since) and not stamps.is_proved(it)]
     tasks = [Task(it, set(crates.uses[it]) & set(built), known[it], lambda jobs, it=it: prove(crates, it, jobs)) for it in built]
     for trial in trials:
-        seconds, after = SECONDS_OF_CRATE + SECONDS_OF_ONE * len(trial.edits), crates.below(trial.name) & set(built)
-        tasks.append(Task(f"{trial.name}: edits", after, seconds, lambda _, trial=trial: trial.attempt(), most=1))
+        seconds, after = SECONDS_OF_CRATE + SECONDS_OF_ONE * len(trial.edits), {*crates.below(trial.name), trial.name} & set(built)
+        tasks.append(Task(f"{trial.name}: edits", after, seconds, lambda _, trial=trial: trial.attempt(control), most=1))
 
     def ended(task, given):
         clock.say(f"{task.name}: {given.seconds:.0f} processor seconds")
@@ -141,7 +156,7 @@ def try_edits(root, names, since=math.inf):
             stamps.keep(task.name)
         return not given.said
 
-    with crates.held(crates.with_below(it.name for it in trials)):
+    with crates.held(needed):
         in_lanes(tasks, lambda task: None, ended)
     told = {it: trial.told.get(it, UNTRIED) for trial in trials for it in trial.edits}
     told = {it: replace(verdict, text=f"of {', '.join(it.calls)}: {verdict.text}" if it.calls else verdict.text) for it, verdict in told.items()}
