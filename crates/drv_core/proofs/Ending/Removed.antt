@@ -94,7 +94,7 @@ temps_due claimed sources linked k i (t ∷ ts) = by (nat_lt i (get_or claimed k
         (let le : get_or claimed k 0 ≤ i = is_not_less i (get_or claimed k 0) e in let z : get_or claimed k 0 - (i + 1) ≡ 0 = omega (arith, le) in z)
         ∙ ap (λ n. take n (record { place = place.Temp k i; path = t.path } ∷ temp_files k (i + 1) ts))
         (let le : get_or claimed k 0 ≤ i = is_not_less i (get_or claimed k 0) e in let z : 0 ≡ get_or claimed k 0 - i = omega (arith, le) in
-            z)
+        z)
 
 marked_due : (claimed : List ℕ) (sources : ℕ) (linked : Bool) (k i : ℕ) (ms : List (List ℕ))
     → filter (left_file claimed sources linked) (marked_files k i ms) ≡ (if (nat_lt k sources || linked) then marked_files k i ms else [])

@@ -198,7 +198,7 @@ progress n N begun left flying waits some b k lt more = free (find n (λ j. begu
     room none f false e =
         let full : count n (λ j. begun j && left j) ≡ N =
         (let most = b.in_window in let least : N ≤ count n (λ j. begun j && left j) = is_not_less (count n (λ j. begun j && left j)) N e in
-            omega (arith, most, least)) in
+        omega (arith, most, least)) in
         waiting none (inl full) (some_begun full (find n (λ j. begun j && left j)))
 
     new : ((j : ℕ) → j < n → (begun j && (left j && not (waits j))) ≡ false) → First n (λ j. not (begun j) && left j) ⊎ ((j : ℕ) → j < n
