@@ -1,3 +1,4 @@
+use Rattle.drv_args.specs.declared.items.Item.{Item}
 use Rattle.drv_args.specs.declared.line.Expanded.{Expanded}
 use Rattle.drv_cc.specs.declared.answer.Answer.TheVariants.{Ask, Refuse, Run}
 use Rattle.drv_cc.specs.declared.answer.Answer.{Answer}
@@ -5,14 +6,18 @@ use Rattle.drv_cc.specs.declared.answer.Call.{Call}
 use Rattle.drv_cc.specs.declared.refusal.Refusal.{Refusal}
 use Rattle.drv_compile.proofs.Worded.{stop_stays, told_as}
 use Rattle.drv_compile.specs.Compilers.{values}
-use Rattle.drv_compile.specs.Driven.{Drives, IsAnswered, IsCalled, IsDamaged, IsDenied, IsUnanswered, Undriven, answer_of, asks}
-use Rattle.drv_compile.specs.Driven.{damaged_after, damaged_texts, denied, not_answered, refuses, runs, stays}
+use Rattle.drv_compile.specs.Driven.{Drives, IsAnswered, IsCalled, IsDenied, IsMachined, IsUnanswered, IsUnasked, IsUncalled, Undriven}
+use Rattle.drv_compile.specs.Driven.{answer_of}
+use Rattle.drv_compile.specs.Driven.{asks, damaged, denied, not_answered, refuses, rows_of, runs, stays, unasked, uncalled, uncalled_after}
 use Rattle.drv_compile.specs.Near.{AreTold}
+use Rattle.drv_compile.specs.Parts.{texts_of}
 use Rattle.drv_compile.specs.SelfSpecs.{answer_given}
 use Rattle.drv_compile.specs.Tasks.{IfTold}
+use Rattle.drv_compile.specs.Texts.{damaged_text}
 use Rattle.drv_compile.specs.Words.{stop_of}
 use Rattle.drv_compile.specs.declared.calling.Calling.{Calling}
 use Rattle.drv_compile.specs.declared.driving.Driven.{Driven}
+use Rattle.drv_compile.specs.declared.parts.Texts.TheVariants.{Damaged, Whole}
 use Rattle.drv_compile.specs.declared.stop.Stop.{Stop}
 use Rattle.drv_compile.specs.declared.tasks.Toolchain.{Toolchain}
 use Rattle.drv_run.specs.declared.ending.Ending.TheVariants.{Done, OutOfMemory, Refused}
@@ -51,20 +56,43 @@ answer_told F name chain given first ending stop is stops =
     by ending (inl memory) = subst (λ e. IfTold (stop_of name e) (IsUnanswered F name chain given first)) (sym memory) tt
     by ending (inr gives) = ended ending gives
 
+-- a line by itself
+
+pub called_whole : (F : Facts) (calling : Calling) (specs : List ℕ) (call : Call) (given : Expanded) (slice : List Item) (path : List ℕ)
+    (rows : Option (List ℕ))
+    (result : Result Driven Stop) → slice ≡ call.items → texts_of F specs slice call.stages ≡ Is (Whole path) → rows_of F specs ≡ Is rows
+    → MatchResult result (λ driven. IsMachined path rows call given driven) (λ stop. IfTold stop (IsUnasked calling.name specs rows call))
+    → MatchResult result (λ driven. IsCalled F specs call given driven) (λ stop. IfTold stop (IsUncalled F calling specs call))
+called_whole F calling specs call given slice path rows (Ok driven) same texts asked made =
+    (path, rows, subst (λ items. texts_of F specs items call.stages ≡ Is (Whole path)) same texts, asked, made)
+called_whole F calling specs call given slice path rows (Err stop) same texts asked tells =
+    told_as stop (IsUnasked calling.name specs rows call) (IsUncalled F calling specs call) (λ text un. unasked asked un) tells
+
+pub called_damaged : (F : Facts) (calling : Calling) (specs : List ℕ) (call : Call) (slice : List Item)
+    (path name place machine text : List ℕ)
+    → slice ≡ call.items → texts_of F specs slice call.stages ≡ Is (Damaged path) → name ≡ calling.name → place ≡ path
+    → machine ≡ calling.machine
+    → text ≡ damaged_text name place specs machine → IsUncalled F calling specs call text
+called_damaged F calling specs call slice path name place machine text same texts named placed built is =
+    subst (IsUncalled F calling specs call)
+    (sym (is ∙ ap (λ n. damaged_text n place specs machine) named ∙ ap (λ p. damaged_text calling.name p specs machine) placed
+    ∙ ap (damaged_text calling.name path specs) built))
+    (damaged (subst (λ items. texts_of F specs items call.stages ≡ Is (Damaged path)) same texts))
+
 -- a line in its place
 
 pub answered_run : (F : Facts) (calling : Calling) (chain : Toolchain) (answer : Option Answer) (given : Expanded) (first : Driven)
     (call : Call) (specs : List ℕ) (result : Result Driven Stop)
     → answer ≡ Some (Run call) → specs ≡ chain.specs
-    → MatchResult result (λ driven. IsCalled F specs call given driven) (λ stop. IfTold stop (IsDamaged F calling specs call))
+    → MatchResult result (λ driven. IsCalled F specs call given driven) (λ stop. IfTold stop (IsUncalled F calling specs call))
     → MatchResult result (λ driven. IsAnswered F chain.specs given first answer driven)
     (λ stop. IfTold stop (IsDenied F calling chain answer))
 answered_run F calling chain answer given first call specs (Ok driven) is same calls =
     subst (λ a. IsAnswered F chain.specs given first a driven) (sym is) (runs (subst (λ s. IsCalled F s call given driven) same calls))
 answered_run F calling chain answer given first call specs (Err stop) is same tells =
     subst (λ a. IfTold stop (IsDenied F calling chain a)) (sym is)
-    (told_as stop (IsDamaged F calling specs call) (IsDenied F calling chain (Some (Run call)))
-    (λ text un. damaged_after (subst (λ s. IsDamaged F calling s call text) same un)) tells)
+    (told_as stop (IsUncalled F calling specs call) (IsDenied F calling chain (Some (Run call)))
+    (λ text un. uncalled_after (subst (λ s. IsUncalled F calling s call text) same un)) tells)
 
 pub answered_refusal : (F : Facts) (calling : Calling) (chain : Toolchain) (answer : Option Answer) (refusals slice : List Refusal)
     (name known text : List ℕ)
@@ -88,12 +116,12 @@ answered_none F specs given first answer is = subst (λ a. IsAnswered F specs gi
 
 pub undriven_texts : (F : Facts) (calling : Calling) (chain : Toolchain) (call : Call) (given : Expanded) (specs : List ℕ) (stop : Stop)
     (result : Result Driven Stop) → specs ≡ chain.specs
-    → IsErrAnd result (λ s. s ≡ stop) → IfTold stop (IsDamaged F calling specs call)
+    → IsErrAnd result (λ s. s ≡ stop) → IfTold stop (IsUncalled F calling specs call)
     → MatchResult result (λ driven. Drives F chain call given driven) (λ s. IfTold s (Undriven F calling chain call given))
 undriven_texts F calling chain call given specs stop result same is tells =
     stop_stays result stop (λ driven. Drives F chain call given driven) (Undriven F calling chain call given) is
-    (told_as stop (IsDamaged F calling specs call) (Undriven F calling chain call given)
-    (λ text un. damaged_texts (subst (λ s. IsDamaged F calling s call text) same un)) tells)
+    (told_as stop (IsUncalled F calling specs call) (Undriven F calling chain call given)
+    (λ text un. uncalled (subst (λ s. IsUncalled F calling s call text) same un)) tells)
 
 pub undriven_answer : (F : Facts) (calling : Calling) (chain : Toolchain) (call : Call) (given : Expanded) (specs name : List ℕ)
     (first : Driven) (stop : Stop) (result : Result Driven Stop)

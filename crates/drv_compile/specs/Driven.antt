@@ -6,11 +6,14 @@ use Rattle.drv_cc.specs.declared.answer.Answer.TheVariants.{Ask, Refuse, Run}
 use Rattle.drv_cc.specs.declared.answer.Answer.{Answer}
 use Rattle.drv_cc.specs.declared.answer.Call.{Call}
 use Rattle.drv_cc.specs.declared.refusal.Refusal.{Refusal}
+use Rattle.drv_compile.specs.Beside.{written_beside}
 use Rattle.drv_compile.specs.Compilers.{values}
+use Rattle.drv_compile.specs.Machines.{key_of, machined_by}
 use Rattle.drv_compile.specs.Near.{AreTold}
 use Rattle.drv_compile.specs.Parts.{texts_of}
 use Rattle.drv_compile.specs.SelfSpecs.{Ended, answer_given}
-use Rattle.drv_compile.specs.Texts.{damaged_text}
+use Rattle.drv_compile.specs.Suffixes.{suffixed_by}
+use Rattle.drv_compile.specs.Texts.{damaged_text, unasked_text}
 use Rattle.drv_compile.specs.Words.{told_refusal}
 use Rattle.drv_compile.specs.declared.calling.Calling.{Calling}
 use Rattle.drv_compile.specs.declared.driving.Driven.{Driven}
@@ -20,8 +23,8 @@ use Rattle.drv_compile.specs.declared.tasks.Toolchain.{Toolchain}
 use Rattle.drv_run.specs.declared.ending.Ending.TheVariants.{Refused}
 use Rattle.drv_run.specs.declared.ending.Refusal as driver
 use Rattle.drv_system.specs.Facts.{Facts}
-use Rattle.drv_system.specs.Known.{Is}
-use Rattle.std.specs.Prelude.{◌≡◌, List, [], ◌∷◌, None, Ok, Err, Option, Some, codes, ℕ}
+use Rattle.drv_system.specs.Known.{Is, Known}
+use Rattle.std.specs.Prelude.{◌≡◌, List, [], ◌∷◌, None, Ok, Err, Option, Some, codes, drop, ℕ}
 
 -- What the driver is called with for a line, over facts: the file that has its texts and the items of the line, with the options that its
 -- spec files give it (GCC, "gcc.cc", set_up_specs, do_self_spec; GCC manual, "Overall Options", -specs=).
@@ -30,19 +33,33 @@ use Rattle.std.specs.Prelude.{◌≡◌, List, [], ◌∷◌, None, Ok, Err, Opt
 abbrev pub driver_items : List ℕ → List Item → List Item
 driver_items path items = item_of effect.Specs (codes "-specs=") path ∷ alone effect.Switch (codes "--gdrv-front") ∷ items
 
-abbrev pub driver_line : List ℕ → Call → Expanded → DriverLine
-driver_line path call given = record { items = driver_items path call.items; from_file = given.from_file }
+abbrev pub driver_line : List ℕ → List Item → Expanded → DriverLine
+driver_line path items given = record { items = driver_items path items; from_file = given.from_file }
+
+-- with the words for its machine, by the rows of the file that names the compiler, if they have it
+abbrev pub IsMachined : List ℕ → Option (List ℕ) → Call → Expanded → Driven → Type 0
+IsMachined path rows call given driven =
+    (items : List Item) × (machined_by rows call.items ≡ Some items)
+    × (driven ≡ record { line = driver_line path (suffixed_by rows items) given; children = call.children })
+
+abbrev pub IsUnasked : List ℕ → List ℕ → Option (List ℕ) → Call → List ℕ → Type 0
+IsUnasked name specs rows call text = (machined_by rows call.items ≡ None) × (text ≡ unasked_text name specs (drop 1 (key_of call.items)))
+
+abbrev pub rows_of : Facts → List ℕ → Known (Option (List ℕ))
+rows_of F specs = written_beside F specs (codes ".gcc")
 
 -- a line with the file that has its texts, if that is whole
 abbrev pub IsCalled : Facts → List ℕ → Call → Expanded → Driven → Type 0
 IsCalled F specs call given driven =
-    (path : List ℕ) × (texts_of F specs call.items call.stages ≡ Is (Whole path))
-    × (driven ≡ record { line = driver_line path call given; children = call.children })
+    (path : List ℕ) × (rows : Option (List ℕ)) × (texts_of F specs call.items call.stages ≡ Is (Whole path)) × (rows_of F specs ≡ Is rows)
+    × IsMachined path rows call given driven
 
-abbrev pub IsDamaged : Facts → Calling → List ℕ → Call → List ℕ → Type 0
-IsDamaged F calling specs call text =
-    (path : List ℕ) × (texts_of F specs call.items call.stages ≡ Is (Damaged path))
-    × (text ≡ damaged_text calling.name path specs calling.machine)
+-- or the text of its refusal
+pub data IsUncalled (F : Facts) (calling : Calling) (specs : List ℕ) (call : Call) : List ℕ → Type 0 where
+  damaged : {path : List ℕ} → texts_of F specs call.items call.stages ≡ Is (Damaged path)
+      → IsUncalled F calling specs call (damaged_text calling.name path specs calling.machine)
+  unasked : {rows : Option (List ℕ)} {text : List ℕ} → rows_of F specs ≡ Is rows → IsUnasked calling.name specs rows call text
+      → IsUncalled F calling specs call text
 
 -- what its spec files give it: the line stays as it is, or another line takes its place
 pub data IsAnswered (F : Facts) (specs : List ℕ) (given : Expanded) (first : Driven) : Option Answer → Driven → Type 0 where
@@ -54,7 +71,7 @@ pub data IsAnswered (F : Facts) (specs : List ℕ) (given : Expanded) (first : D
 pub data IsDenied (F : Facts) (calling : Calling) (chain : Toolchain) : Option Answer → List ℕ → Type 0 where
   refuses : {refusals : List Refusal} {text : List ℕ} → AreTold calling.name (values [] chain.known) refusals text
       → IsDenied F calling chain (Some (Refuse refusals)) text
-  damaged_after : {call : Call} {text : List ℕ} → IsDamaged F calling chain.specs call text
+  uncalled_after : {call : Call} {text : List ℕ} → IsUncalled F calling chain.specs call text
       → IsDenied F calling chain (Some (Run call)) text
 
 abbrev pub answer_of : Facts → Toolchain → Expanded → Driven → Ended (Option Answer)
@@ -74,7 +91,7 @@ pub record Drives (F : Facts) (chain : Toolchain) (call : Call) (given : Expande
 
 -- or the text of the refusal in its place.
 pub data Undriven (F : Facts) (calling : Calling) (chain : Toolchain) (call : Call) (given : Expanded) (text : List ℕ) : Type 0 where
-  damaged_texts : IsDamaged F calling chain.specs call text → Undriven F calling chain call given text
+  uncalled : IsUncalled F calling chain.specs call text → Undriven F calling chain call given text
   not_answered : {first : Driven} → IsCalled F chain.specs call given first → IsUnanswered F calling.name chain given first text
       → Undriven F calling chain call given text
   denied : {first : Driven} {answer : Option Answer} → IsCalled F chain.specs call given first

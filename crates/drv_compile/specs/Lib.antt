@@ -6,6 +6,7 @@ pub mod Compiles
 pub mod Decides
 pub mod Driven
 pub mod Inputs
+pub mod Machines
 pub mod Near
 pub mod Opening
 pub mod Parts
@@ -14,6 +15,7 @@ pub mod Reading
 pub mod Runs
 pub mod Said
 pub mod SelfSpecs
+pub mod Suffixes
 pub mod Tasks
 pub mod TempFolder
 pub mod Texts

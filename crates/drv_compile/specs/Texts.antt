@@ -153,3 +153,10 @@ no_compiler_text name specs machine = unwritten_text name (codes "no compiler is
 -- a file that is missing or not whole
 abbrev pub damaged_text : List ℕ → List ℕ → List ℕ → List ℕ → List ℕ
 damaged_text name path specs machine = unwritten_text name (codes "missing or damaged file '") path specs machine
+
+-- options for a machine of which no words are beside the spec file, and the command that asks the compiler for them
+abbrev pub adding : List ℕ → List ℕ → List ℕ
+adding specs key = codes "'gdrv-write-specs --add " ++ specs ++ codes " " ++ key ++ codes "' asks the compiler for them"
+
+abbrev pub unasked_text : List ℕ → List ℕ → List ℕ → List ℕ
+unasked_text name specs key = error_line name (quoted (codes "the words for '") key (codes "' are not known; ") ++ adding specs key)

@@ -1,23 +1,28 @@
 //! What the driver is called with for a line.
 
-ghost use Rattle.drv_compile.specs.Driven.{Drives, IsAnswered, IsCalled, IsDamaged, IsDenied};
-ghost use Rattle.drv_compile.specs.Driven.{IsUnanswered, Undriven, answer_of, driver_items};
+ghost use Rattle.drv_compile.specs.Driven.{Drives, IsAnswered, IsCalled, IsDenied, IsMachined};
+ghost use Rattle.drv_compile.specs.Driven.{IsUnanswered, IsUnasked, IsUncalled, Undriven};
+ghost use Rattle.drv_compile.specs.Driven.{answer_of, driver_items};
 ghost use Rattle.drv_compile.specs.Tasks.{IfTold};
 ghost use Rattle.drv_system.specs.Asking.{Extends};
 ghost use Rattle.drv_system.specs.Code.Asked.{Asked};
 ghost use Rattle.drv_system.specs.Facts.{Facts};
 ghost use Rattle.drv_system.specs.Known.{Is};
-ghost use Rattle.std.specs.Prelude.{◌≡◌, IfOk, MatchResult, Ok};
+ghost use Rattle.std.specs.Option.{option_copied};
+ghost use Rattle.std.specs.Prelude.{◌≡◌, IfOk, MatchResult, Ok, drop};
 
 use crate::calling::Calling;
 use crate::expanding::stop_of;
+use crate::finding::written_beside;
+use crate::machines::{key_of, machined_by};
 use crate::parts::{Texts, texts_asked};
 use crate::running::DriverLine;
 use crate::self_specs::answer_given;
 use crate::stop::Stop;
+use crate::suffixing::suffixed_by;
 use crate::tasks::Toolchain;
 use crate::telling::refusals_text;
-use crate::wording::damaged_text;
+use crate::wording::{damaged_text, unasked_text};
 use drv_args::{Effect, Expanded, Item};
 use drv_cc::{Answer, Call, Variable};
 use drv_system::{Outside, System};
@@ -56,10 +61,61 @@ fn driver_items(
     Ok(Listing::from_vec(all))
 }
 
+/// Options without the blank before them.
+fn without_blank(key: &[u8]) -> &[u8]
+    ensures { result.now ≡ drop 1 key.now }
+{
+    key.get(1..).unwrap_or(&[])
+}
+
+/// The bytes of a text, if there is one.
+fn slice_of(text: &Option<Word>) -> Option<&[u8]>
+    ensures { option_copied result ≡ text.now }
+{
+    match text {
+        Some(text) => Some(text.as_bytes()),
+        None => None,
+    }
+}
+
+/// What the driver is called with for a line by itself, with this file that has its texts, and by
+/// these rows for its machines.
+///
+/// # Errors
+/// The text about options of which no row has the words.
+fn machined_call(
+    alloc: Global,
+    calling: &Calling,
+    specs: &[u8],
+    path: Word,
+    rows: Option<Word>,
+    call: Call,
+    given: &Expanded,
+) -> Result<Driven, Stop>
+    ensures { MatchResult result (λ driven. IsMachined path rows call given.now driven)
+        (λ stop. IfTold stop (IsUnasked calling.now.name specs.now rows call)) }
+{
+    let key = key_of(alloc, call.items.as_slice())?;
+    let text = slice_of(&rows);
+    let Some(items) = machined_by(alloc, text, call.items)? else {
+        let options = without_blank(key.as_bytes());
+        let text = unasked_text(alloc, calling.name.as_bytes(), specs, options)?;
+        return Err(Stop::Told(text));
+    };
+    let from_file = given.from_file;
+    let items = suffixed_by(alloc, text, items)?;
+    let items = driver_items(alloc, path, items)?;
+    Ok(Driven {
+        line: DriverLine { items, from_file },
+        children: call.children,
+    })
+}
+
 /// What the driver is called with for a line by itself, with the file that has its texts.
 ///
 /// # Errors
-/// The text about a file that is missing or not whole.
+/// The text about a file that is missing or not whole, or about options of which no row has the
+/// words.
 fn called<S: System>(
     alloc: Global,
     calling: &Calling,
@@ -71,18 +127,12 @@ fn called<S: System>(
     ensures asks { Asked S.events outside.old outside.new }
     ensures calls { (F : Facts) → Extends outside.new.facts.now F
         → MatchResult result (λ driven. IsCalled F specs.now call given.now driven)
-        (λ stop. IfTold stop (IsDamaged F calling.now specs.now call)) }
+        (λ stop. IfTold stop (IsUncalled F calling.now specs.now call)) }
 {
+    let rows = written_beside(alloc, specs, b".gcc", outside)?;
     let texts = texts_asked(alloc, specs, call.items.as_slice(), call.stages, outside)?;
     match texts {
-        Texts::Whole(path) => {
-            let from_file = given.from_file;
-            let items = driver_items(alloc, path, call.items)?;
-            Ok(Driven {
-                line: DriverLine { items, from_file },
-                children: call.children,
-            })
-        }
+        Texts::Whole(path) => machined_call(alloc, calling, specs, path, rows, call, given),
         Texts::Damaged(path) => {
             let name = calling.name.as_bytes();
             let machine = calling.machine.as_bytes();

@@ -1,11 +1,11 @@
 //! What the user reads.
 
-ghost use Rattle.drv_compile.specs.Texts.{absent_text, error_line, fatal_line, file_said, given_text};
+ghost use Rattle.drv_compile.specs.Texts.{absent_text, adding, error_line, fatal_line, file_said, given_text};
 ghost use Rattle.drv_compile.specs.Texts.{gone_text, help_text, if_only, lacking, meant};
 ghost use Rattle.drv_compile.specs.Texts.{overwritten_text, quoted, version_text};
 ghost use Rattle.drv_compile.specs.Texts.{refusal_text};
 ghost use Rattle.drv_compile.specs.Texts.{takes_file, takes_goal, takes_macro, takes_path};
-ghost use Rattle.drv_compile.specs.Texts.{unknown_text, unwritten_text, writing};
+ghost use Rattle.drv_compile.specs.Texts.{unasked_text, unknown_text, unwritten_text, writing};
 ghost use Rattle.drv_compile.specs.Texts.{damaged_text, no_compiler_text, no_place_text};
 ghost use Rattle.drv_compile.specs.Texts.{no_specs_text, unread_text, variable_text};
 ghost use Rattle.drv_compile.specs.Words.{told_refusal};
@@ -452,6 +452,32 @@ pub(crate) fn damaged_text(
         specs,
         machine,
     )
+}
+
+/// Adds the command that asks the compiler for the words of options.
+fn add_adding(text: &mut Word, specs: &[u8], key: &[u8]) -> Result<(), AllocError>
+    ensures { OnOk result (text.new ≡ text.old ++ adding specs.now key.now) }
+{
+    add(text, b"'gdrv-write-specs --add ", specs, b" ")?;
+    text.extend_from_slice(key)?;
+    text.extend_from_slice(b"' asks the compiler for them")
+}
+
+/// The text about options for a machine of which no words are known.
+pub(crate) fn unasked_text(
+    alloc: Global,
+    name: &[u8],
+    specs: &[u8],
+    key: &[u8],
+) -> Result<Word, AllocError>
+    ensures { IfOk result (λ line. line ≡ unasked_text name.now specs.now key.now) }
+{
+    let mut line = Word::from_bytes(alloc, name)?;
+    line.extend_from_slice(b": error: ")?;
+    add(&mut line, b"the words for '", key, b"' are not known; ")?;
+    add_adding(&mut line, specs, key)?;
+    line.push(b'\n')?;
+    Ok(line)
 }
 
 /// The text of a refusal of the driver: that of c99 has its name in its text.

@@ -1,3 +1,4 @@
+pub mod Copies
 pub mod Kept
 pub mod KeptDumps
 pub mod Naming

@@ -14,7 +14,7 @@ use Rattle.drv_dump.specs.declared.piece.Kind.TheVariants as kind
 use Rattle.drv_dump.specs.declared.piece.Kind.{Kind}
 use Rattle.drv_dump.specs.declared.piece.Piece.{Piece}
 use Rattle.std.specs.Cmp.Lexicographic.{pointwise}
-use Rattle.std.specs.List.{ends_with, list_any, starts_with}
+use Rattle.std.specs.List.{ends_with, starts_with}
 use Rattle.std.specs.Prelude.{◌||◌, Bool, Err, List, [], ◌∷◌, ◌++◌, Ok, Option, Result, Some, codes, drop, if◌then◌else◌, nat_eq, zero, ℕ}
 
 -- The libraries of a link, as the linker's plugin gets them: the option before each word that begins with -l or ends in .a, and none of the
@@ -76,19 +76,21 @@ passed_pieces (Err (text_fault.Unreadable misfit at)) = Err (ours_fault.Unreadab
 abbrev pub passed_of : List ℕ → Result (List ℕ) OursFault
 passed_of text = passed_pieces (pieces_of text)
 
--- the texts that name libraries: what the plugin's option asks for, and the two that it is made of
-abbrev pub has_libraries : List ℕ → Bool
-has_libraries name = list_any (pointwise nat_eq name) (codes "link_gcc_c_sequence" ∷ codes "libgcc" ∷ codes "lib" ∷ [])
+-- the texts that name libraries: what the option of the plugin asks for, the two that it is made of (`lib`, `libgcc`), and those of which a
+-- machine makes the first (`lib_linux`)
+unfoldable pub has_libraries : List ℕ → Bool
+has_libraries name = pointwise nat_eq name (codes "link_gcc_c_sequence") || starts_with nat_eq name (codes "lib")
 
 -- a copy that can't be made refuses the lines that use it
 abbrev pub or_refusal : List ℕ → Result (List ℕ) OursFault → List ℕ
 or_refusal name (Ok words) = words
 or_refusal name (Err fault) = codes "%etext " ++ name ++ codes " is not in this spec file"
 
+abbrev pub copy_of : Entry → List ℕ
+copy_of entry = written_entry (codes "pass_" ++ entry.name) (codes "%{-gdrv-none:}" ++ or_refusal entry.name (passed_of entry.text))
+
 abbrev pub passed_entry : Entry → List ℕ
-passed_entry entry =
-    if has_libraries entry.name then written_entry (codes "pass_" ++ entry.name)
-    (codes "%{-gdrv-none:}" ++ or_refusal entry.name (passed_of entry.text)) else []
+passed_entry entry = if has_libraries entry.name then copy_of entry else []
 
 abbrev pub passed_entries : List Entry → List ℕ
 passed_entries [] = []

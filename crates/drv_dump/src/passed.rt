@@ -1,13 +1,14 @@
 //! The libraries of a link, as the linker's plugin gets them.
 
 ghost use Rattle.drv_dump.specs.Ours.{put_words, words_of};
-ghost use Rattle.drv_dump.specs.Passed.{has_libraries, is_library, or_refusal, pass_words, passed_dump_of};
+ghost use Rattle.drv_dump.specs.Passed.{copy_of, has_libraries, is_library, or_refusal, pass_words, passed_dump_of};
 ghost use Rattle.drv_dump.specs.Passed.{passed_entry, passed_from, passed_name, passed_of, passed_word};
 ghost use Rattle.drv_dump.specs.Passed.{passed_directive, with_option};
 ghost use Rattle.drv_dump.specs.declared.fault.DumpFault.TheVariants as dump_fault;
 ghost use Rattle.drv_dump.specs.declared.fault.OursFault.TheVariants.{Memory};
 ghost use Rattle.drv_words.specs.Gives.{Gives};
-ghost use Rattle.std.specs.Prelude.{◌≡◌, ◌++◌, [], OnOk, Ok};
+ghost use Rattle.drv_dump.specs.Dumps.{written_entry};
+ghost use Rattle.std.specs.Prelude.{◌≡◌, ◌++◌, [], IfOk, OnOk, Ok};
 
 use crate::dump::{Entry, entries};
 use crate::files::with_named_texts;
@@ -120,12 +121,11 @@ fn pass_text(alloc: Global, text: &[u8]) -> Result<Word, OursFault>
 }
 
 /// A text that names libraries.
+#[tactic(auto, unfolding(crate::specs::Passed::has_libraries))]
 fn has_libraries(name: &[u8]) -> bool
     ensures { result ≡ has_libraries name.now }
 {
-    name == b"link_gcc_c_sequence".as_slice()
-        || name == b"libgcc".as_slice()
-        || name == b"lib".as_slice()
+    name == b"link_gcc_c_sequence".as_slice() || name.starts_with(b"lib")
 }
 
 /// The copy of a text, or what refuses the lines that use it.
@@ -145,17 +145,43 @@ fn copy_or_refusal(alloc: Global, entry: &Entry) -> Result<Word, DumpFault>
     }
 }
 
+/// Adds a text of this name.
+fn push_text(texts: &mut Word, name: &[u8], words: &[u8]) -> Result<(), AllocError>
+    ensures { OnOk result (texts.new ≡ texts.old ++ written_entry name.now words.now) }
+{
+    texts.extend_from_slice(b"*")?;
+    texts.extend_from_slice(name)?;
+    texts.extend_from_slice(b":\n")?;
+    texts.extend_from_slice(words)?;
+    texts.extend_from_slice(b"\n\n")
+}
+
+/// Two texts as one.
+fn joined(alloc: Global, first: &[u8], second: &[u8]) -> Result<Word, AllocError>
+    ensures { IfOk result (λ word. word ≡ first.now ++ second.now) }
+{
+    let mut word = Word::from_bytes(alloc, first)?;
+    word.extend_from_slice(second)?;
+    Ok(word)
+}
+
+/// Adds the copy of an entry.
+fn push_copy(alloc: Global, entry: &Entry, texts: &mut Word) -> Result<(), DumpFault>
+    ensures { Gives dump_fault.Memory (λ u. texts.new) result (Ok (texts.old ++ copy_of entry.now)) }
+{
+    let words = copy_or_refusal(alloc, entry)?;
+    let name = joined(alloc, b"pass_", entry.name.as_bytes())?;
+    let body = joined(alloc, b"%{-gdrv-none:}", words.as_bytes())?;
+    push_text(texts, name.as_bytes(), body.as_bytes())?;
+    Ok(())
+}
+
 /// Adds the copy of an entry, if it names libraries.
 fn push_entry(alloc: Global, entry: &Entry, texts: &mut Word) -> Result<(), DumpFault>
     ensures { Gives dump_fault.Memory (λ u. texts.new) result (Ok (texts.old ++ passed_entry entry.now)) }
 {
     if has_libraries(entry.name.as_bytes()) {
-        let words = copy_or_refusal(alloc, entry)?;
-        texts.extend_from_slice(b"*pass_")?;
-        texts.extend_from_slice(entry.name.as_bytes())?;
-        texts.extend_from_slice(b":\n%{-gdrv-none:}")?;
-        texts.extend_from_slice(words.as_bytes())?;
-        texts.extend_from_slice(b"\n\n")?;
+        return push_copy(alloc, entry, texts);
     }
     Ok(())
 }

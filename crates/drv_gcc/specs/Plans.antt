@@ -1,10 +1,10 @@
 use Rattle.drv_words.specs.FileNames.{base}
 use Rattle.std.specs.Cmp.Lexicographic.{pointwise}
-use Rattle.std.specs.List.{starts_with}
+use Rattle.std.specs.List.{ends_with, starts_with}
 use Rattle.std.specs.Prelude.{◌&&◌, ◌||◌, Bool, List, [], ◌∷◌, codes, false, if◌then◌else◌, nat_eq, true, ℕ}
 
 -- Two drivers plan the same: the same programs, each with the same words in the same order (GCC manual, "Overall Options", -###). A
--- temporary file has another name in each call. collect2 runs the linker, which this driver starts itself.
+-- temporary file has another name in each call. collect2 runs the linker, which this driver starts itself; that of a target may have its name.
 
 abbrev pub temporary : List ℕ
 temporary = codes "temporary"
@@ -17,8 +17,11 @@ is_temporary word =
 abbrev pub plain_word : List ℕ → List ℕ
 plain_word word = if is_temporary word then temporary else word
 
+abbrev pub is_linker : List ℕ → Bool
+is_linker name = pointwise nat_eq name (codes "collect2") || ends_with nat_eq name (codes "-ld")
+
 abbrev pub plain_program : List ℕ → List ℕ
-plain_program path = if pointwise nat_eq (base path) (codes "collect2") then codes "ld" else base path
+plain_program path = if is_linker (base path) then codes "ld" else base path
 
 abbrev pub same_words : List (List ℕ) → List (List ℕ) → Bool
 same_words [] [] = true

@@ -1,6 +1,8 @@
 use Rattle.drv_dump.specs.Dumps.{written_entry}
 use Rattle.drv_gcc.specs.Fixed.{first_texts, last_texts}
 use Rattle.drv_gcc.specs.declared.toolchain.Choice.{Choice}
+use Rattle.drv_gcc.specs.declared.toolchain.Finding.TheVariants.{Along, Fixed, Own}
+use Rattle.drv_gcc.specs.declared.toolchain.Finding.{Finding}
 use Rattle.drv_gcc.specs.declared.toolchain.ForMachine.{ForMachine}
 use Rattle.drv_gcc.specs.declared.toolchain.Included.{Included}
 use Rattle.drv_gcc.specs.declared.toolchain.Linker.{Linker}
@@ -112,13 +114,16 @@ rooted_words plain below = codes "%{-sysroot=*:" ++ below ++ codes ";:" ++ plain
 unfoldable pub folder_texts : Toolchain → List ℕ
 folder_texts gcc = own_text gcc.folders ++ headers_text gcc.include_words ++ libraries_text gcc.link_folders
 
--- A program where gcc finds it (GCC, "find_a_program"): along the -B of the line and COMPILER_PATH, and else in a folder of its own or along PATH.
--- The words of -wrapper are followed by its plain name where it is in none of those folders.
-unfoldable pub looked_for : Bool → List ℕ
-looked_for own = if own then codes "-gdrv-dirs|-gdrv-path=*" else codes "-gdrv-dirs|-gdrv-path=*|-gdrv-wrapper=*"
+-- A program where gcc finds it (GCC, "find_a_program"): along the -B of the line and COMPILER_PATH, and else in a folder of its own or along PATH;
+-- or at the one place with which gcc was built (DEFAULT_ASSEMBLER). The words of -wrapper are followed by its plain name where it is in none of
+-- those folders.
+unfoldable pub looked_for : Finding → List ℕ
+looked_for Own = codes "-gdrv-dirs|-gdrv-path=*"
+looked_for Along = codes "-gdrv-dirs|-gdrv-path=*|-gdrv-wrapper=*"
+looked_for Fixed = codes "-gdrv-none"
 
 unfoldable pub program_choice : List ℕ → Program → List ℕ
-program_choice name it = looked_for it.is_own ++ codes ":" ++ name ++ codes ";:" ++ spec_word it.path
+program_choice name it = looked_for it.finding ++ codes ":" ++ name ++ codes ";:" ++ spec_word it.path
 
 -- the words of -wrapper precede the program, which is then looked for as a file
 unfoldable pub program_body : List ℕ → Program → List ℕ

@@ -25,6 +25,6 @@ pub use listed::{option_lines, options};
 pub use plans::same_commands;
 pub use replacing::replace;
 pub use toolchain::{
-    Choice, ForMachine, Included, Linker, MachineOptions, MachineWord, NamedText, Program,
+    Choice, Finding, ForMachine, Included, Linker, MachineOptions, MachineWord, NamedText, Program,
     Programs, Toolchain,
 };

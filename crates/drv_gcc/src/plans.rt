@@ -1,7 +1,7 @@
 //! Whether two drivers plan the same.
 
-ghost use Rattle.drv_gcc.specs.Plans.{is_temporary, plain_program, plain_word, same_command};
-ghost use Rattle.drv_gcc.specs.Plans.{same_commands, same_words};
+ghost use Rattle.drv_gcc.specs.Plans.{is_linker, is_temporary, plain_program, plain_word};
+ghost use Rattle.drv_gcc.specs.Plans.{same_command, same_commands, same_words};
 ghost use Rattle.std.specs.Prelude.{◌≡◌};
 
 use drv_words::{Listing, Word, base};
@@ -25,16 +25,19 @@ fn plain_word<'a>(word: &'a [u8]) -> &'a [u8]
     }
 }
 
+/// Whether a program is the linker, that of a target, or what runs it.
+fn is_linker(name: &[u8]) -> bool
+    ensures { result ≡ is_linker name.now }
+{
+    name == b"collect2".as_slice() || name.ends_with(b"-ld")
+}
+
 /// A program by its name. What runs the linker is the linker.
 fn plain_program<'a>(path: &'a [u8]) -> &'a [u8]
     ensures { result.now ≡ plain_program path.now }
 {
     let name = base(path);
-    if name == b"collect2".as_slice() {
-        b"ld"
-    } else {
-        name
-    }
+    if is_linker(name) { b"ld" } else { name }
 }
 
 /// Whether words are the same.

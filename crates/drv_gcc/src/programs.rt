@@ -7,20 +7,21 @@ ghost use Rattle.std.specs.List.{flat_map};
 ghost use Rattle.std.specs.Prelude.{◌≡◌, ◌++◌, OnOk};
 
 use crate::composing::push_entry;
-use crate::toolchain::{Linker, Program, Programs};
+use crate::toolchain::{Finding, Linker, Program, Programs};
 use crate::words::{push_or_nothing, push_word};
 use drv_words::Word;
 use std::alloc::{AllocError, Global};
 
 /// Adds the tests of a line for which a program is looked for by its name.
 #[tactic(auto, unfolding(crate::specs::SpecFile::looked_for))]
-fn push_looked_for(body: &mut Word, is_own: bool) -> Result<(), AllocError>
-    ensures { OnOk result (body.new ≡ body.old ++ looked_for is_own) }
+fn push_looked_for(body: &mut Word, finding: Finding) -> Result<(), AllocError>
+    ensures { OnOk result (body.new ≡ body.old ++ looked_for finding) }
 {
-    if is_own {
-        return body.extend_from_slice(b"-gdrv-dirs|-gdrv-path=*");
+    match finding {
+        Finding::Own => body.extend_from_slice(b"-gdrv-dirs|-gdrv-path=*"),
+        Finding::Along => body.extend_from_slice(b"-gdrv-dirs|-gdrv-path=*|-gdrv-wrapper=*"),
+        Finding::Fixed => body.extend_from_slice(b"-gdrv-none"),
     }
-    body.extend_from_slice(b"-gdrv-dirs|-gdrv-path=*|-gdrv-wrapper=*")
 }
 
 /// Adds the name of a program for these lines, and its path for others.
@@ -28,7 +29,7 @@ fn push_looked_for(body: &mut Word, is_own: bool) -> Result<(), AllocError>
 fn push_choice_of(body: &mut Word, name: &[u8], it: &Program) -> Result<(), AllocError>
     ensures { OnOk result (body.new ≡ body.old ++ program_choice name.now it.now) }
 {
-    push_looked_for(body, it.is_own)?;
+    push_looked_for(body, it.finding)?;
     body.extend_from_slice(b":")?;
     body.extend_from_slice(name)?;
     body.extend_from_slice(b";:")?;

@@ -40,13 +40,24 @@ pub struct Included {
     pub texts: Word,
 }
 
+/// Where a gcc finds a program that it starts.
+#[derive(Clone, Copy, Debug)]
+pub enum Finding {
+    /// In a folder of its own, unless the line names a folder that has it.
+    Own,
+    /// Along PATH, unless the line names a folder that has it.
+    Along,
+    /// At one place, whatever the line names.
+    Fixed,
+}
+
 /// A program of a gcc.
 #[derive(Debug, Drop)]
 pub struct Program {
     /// Where it is.
     pub path: Word,
-    /// Whether the gcc has it in a folder of its own. It looks for others along PATH.
-    pub is_own: bool,
+    /// Where the gcc finds it.
+    pub finding: Finding,
 }
 
 /// A linker that `-fuse-ld=` names, in a folder of the gcc.

@@ -1,4 +1,4 @@
-use Rattle.gdrv_write_specs.specs.declared.calling.Call.TheVariants.{Help, Version, Write}
+use Rattle.gdrv_write_specs.specs.declared.calling.Call.TheVariants.{Add, Help, Version, Write}
 use Rattle.gdrv_write_specs.specs.declared.calling.Call.{Call}
 use Rattle.gdrv_write_specs.specs.declared.calling.CallFault.TheVariants.{Misused, NotSpecs}
 use Rattle.gdrv_write_specs.specs.declared.calling.CallFault.{CallFault}
@@ -8,7 +8,7 @@ use Rattle.std.specs.Cmp.Lexicographic.{pointwise}
 use Rattle.std.specs.List.{ends_with}
 use Rattle.std.specs.Prelude.{◌&&◌, Bool, Err, List, [], ◌∷◌, Ok, Result, codes, if◌then◌else◌, length, nat_eq, nat_lt, ℕ}
 
--- What a call of the program asks for: [--force] -o X.specs GCC (this project's profile).
+-- What a call of the program asks for: [--force] -o X.specs GCC, or --add X.specs OPTION.. (this project's profile).
 
 -- a name before the ending, which a slash isn't the last byte of
 abbrev pub is_specs : List ℕ → Bool
@@ -24,6 +24,15 @@ order_of manner (option ∷ output ∷ []) = Err Misused
 order_of manner (option ∷ []) = Err Misused
 order_of manner [] = Err Misused
 
+-- the options for a machine whose words are added, at least one
+abbrev pub added_to : List ℕ → List (List ℕ) → Result Call CallFault
+added_to path options = if is_specs path then Ok (Add path options) else Err (NotSpecs path)
+
+abbrev pub addition_of : List (List ℕ) → Result Call CallFault
+addition_of (path ∷ option ∷ options) = added_to path (option ∷ options)
+addition_of (path ∷ []) = Err Misused
+addition_of [] = Err Misused
+
 abbrev pub question_of : List ℕ → Result Call CallFault
 question_of word =
     if pointwise nat_eq word (codes "--help") then Ok Help else if pointwise nat_eq word (codes "--version") then Ok Version
@@ -32,5 +41,7 @@ question_of word =
 abbrev pub call_of : List (List ℕ) → Result Call CallFault
 call_of [] = Err Misused
 call_of (word ∷ []) = question_of word
-call_of (word ∷ next ∷ words) = if pointwise nat_eq word (codes "--force") then order_of Forced (next ∷ words)
+call_of (word ∷ next ∷ words) =
+    if pointwise nat_eq word (codes "--force") then order_of Forced (next ∷ words)
+    else if pointwise nat_eq word (codes "--add") then addition_of (next ∷ words)
     else order_of Compared (word ∷ next ∷ words)

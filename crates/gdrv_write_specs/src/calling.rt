@@ -1,12 +1,13 @@
 //! What a call of the program asks for.
 
 ghost use Rattle.drv_words.specs.Gives.{Gives};
-ghost use Rattle.gdrv_write_specs.specs.Calls.{call_of, is_specs, order_of, question_of, written_to};
+ghost use Rattle.gdrv_write_specs.specs.Calls.{added_to, addition_of, call_of, is_specs};
+ghost use Rattle.gdrv_write_specs.specs.Calls.{order_of, question_of, written_to};
 ghost use Rattle.gdrv_write_specs.specs.declared.calling.CallFault.TheVariants.{Memory};
-ghost use Rattle.std.specs.Prelude.{◌≡◌};
+ghost use Rattle.std.specs.Prelude.{◌≡◌, IfOk};
 
-use drv_words::Word;
-use std::alloc::AllocError;
+use drv_words::{Listing, Word};
+use std::alloc::{AllocError, Global};
 
 /// How a spec file is put in place.
 #[derive(Clone, Copy, Debug)]
@@ -26,6 +27,8 @@ pub enum Call {
     Version,
     /// The spec file of this path for this gcc.
     Write(Manner, Word, Word),
+    /// The words of these options for a machine, beside the spec file of this path.
+    Add(Word, Listing<Word>),
 }
 
 /// Why a call asks for nothing.
@@ -80,6 +83,39 @@ fn order_of(manner: Manner, words: &[Word]) -> Result<Call, CallFault>
     }
 }
 
+/// A copy of words.
+fn copied(alloc: Global, words: &[Word]) -> Result<Listing<Word>, AllocError>
+    ensures { IfOk result (λ copy. copy ≡ words.now) }
+{
+    let mut copy = Listing::new(alloc);
+    for word in words {
+        copy.push(word.clone()?)?;
+    }
+    Ok(copy)
+}
+
+/// The words of options that are added beside the spec file of this path.
+fn added_to(alloc: Global, path: &Word, options: &[Word]) -> Result<Call, CallFault>
+    ensures { Gives Memory (λ call. call) result (added_to path.now options.now) }
+{
+    let path = path.clone()?;
+    if is_specs(path.as_bytes()) {
+        let options = copied(alloc, options)?;
+        return Ok(Call::Add(path, options));
+    }
+    Err(CallFault::NotSpecs(path))
+}
+
+/// The words that are added.
+fn addition_of(alloc: Global, words: &[Word]) -> Result<Call, CallFault>
+    ensures { Gives Memory (λ call. call) result (addition_of words.now) }
+{
+    match words {
+        [path, options @ ..] if !options.is_empty() => added_to(alloc, path, options),
+        _ => Err(CallFault::Misused),
+    }
+}
+
 /// What a word asks of the program itself.
 fn question_of(word: &[u8]) -> Result<Call, CallFault>
     ensures { result ≡ question_of word.now }
@@ -96,9 +132,9 @@ fn question_of(word: &[u8]) -> Result<Call, CallFault>
 /// What a call with these words asks for.
 ///
 /// # Errors
-/// Lack of memory; the words are others than `[--force] -o X.specs GCC` or a question; the name of
-/// the spec file has another ending.
-pub fn call_of(words: &[Word]) -> Result<Call, CallFault>
+/// Lack of memory; the words are others than `[--force] -o X.specs GCC`, `--add X.specs OPTION..` or
+/// a question; the name of the spec file has another ending.
+pub fn call_of(alloc: Global, words: &[Word]) -> Result<Call, CallFault>
     ensures { Gives Memory (λ call. call) result (call_of words.now) }
 {
     match words {
@@ -107,6 +143,7 @@ pub fn call_of(words: &[Word]) -> Result<Call, CallFault>
         [word, rest @ ..] if word.as_bytes() == b"--force".as_slice() => {
             order_of(Manner::Forced, rest)
         }
+        [word, rest @ ..] if word.as_bytes() == b"--add".as_slice() => addition_of(alloc, rest),
         words => order_of(Manner::Compared, words),
     }
 }

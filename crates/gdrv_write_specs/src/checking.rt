@@ -36,7 +36,7 @@ const LINES: [&[u8]; 31] = [
     b"x.o -nostartfiles -L. -lm -o made",
     b"x.o -pthread -rdynamic -s -o made",
     b"x.o -shared-libgcc -Ofast -o made",
-    b"x.o -static-libgcc -fopenmp -o made",
+    b"x.o -static-libgcc -o made",
     b"x.o -fsanitize=address -o made",
     b"-c x.c -flto -O2 -o made",
     b"-c x.c -save-temps -o made",
@@ -76,6 +76,26 @@ const NAMED: [&[u8]; 14] = [
     b"-shared",
     b"-static-libgcc",
     b"-shared-libgcc",
+];
+
+/// Options for no machine by which a gcc may choose other words for its machine: a line with one has
+/// its plan, or is refused.
+const OTHERS: [&[u8]; 15] = [
+    b"-fopenmp",
+    b"-fpic",
+    b"-fPIC",
+    b"-fpie",
+    b"-fPIE",
+    b"-fno-pic",
+    b"-fno-pie",
+    b"-pie",
+    b"-no-pie",
+    b"-static",
+    b"-shared",
+    b"-Ofast",
+    b"-Os",
+    b"-ffast-math",
+    b"-fno-fast-math",
 ];
 
 /// Two drivers that are compared in a room.
@@ -189,13 +209,25 @@ impl<'a> Pair<'a> {
 
     /// Whether an option for a machine gives another plan than gcc's, which this driver would carry
     /// out.
-    fn is_other(self, option: &Word) -> Result<bool, Fault> {
+    pub fn is_other(self, option: &Word) -> Result<bool, Fault> {
         for line in MACHINE_LINES {
             if let Verdict::Other = self.verdict(line, option.as_bytes())? {
                 return Ok(true);
             }
         }
         Ok(false)
+    }
+
+    /// The options for no machine that this driver would carry out otherwise.
+    pub fn chosen_otherwise(self) -> Result<Listing<Word>, Fault> {
+        let mut others = Listing::new(self.rt.alloc());
+        for option in OTHERS {
+            let word = Word::from_bytes(self.rt.alloc(), option)?;
+            if let Verdict::Other = self.verdict(b"x.c -o made", option)? {
+                others.push(word)?;
+            }
+        }
+        Ok(others)
     }
 
     /// The options that the gcc lacks because its texts don't name them.

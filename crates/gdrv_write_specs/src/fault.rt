@@ -25,6 +25,12 @@ pub enum Fault {
     NoDriver,
     /// Nothing can be written at this path.
     NoPlace(Word),
+    /// There is no such file.
+    NoSpecs(Word),
+    /// This file has no rows for machines.
+    NoRows(Word),
+    /// The gcc refuses these options, or the spec file would make something else of them.
+    NoRow(Word),
     /// The plans differ; what they are is in the text.
     Differs(Word),
     /// The system refused something else.
@@ -91,6 +97,19 @@ impl Fault {
                 b"",
             ),
             Fault::NoPlace(path) => line(alloc, b"cannot write '", path.as_bytes(), b"'"),
+            Fault::NoSpecs(path) => line(alloc, b"cannot read '", path.as_bytes(), b"'"),
+            Fault::NoRows(path) => line(
+                alloc,
+                b"'",
+                path.as_bytes(),
+                b"' has no rows: its spec file takes options for a machine as they are",
+            ),
+            Fault::NoRow(key) => line(
+                alloc,
+                b"no words for '",
+                key.as_bytes(),
+                b"': the gcc refuses them, or its plan would be another one",
+            ),
             Fault::Differs(text) => line(alloc, text.as_bytes(), b"", b""),
             Fault::Other => line(alloc, b"the system refused a call", b"", b""),
         }
@@ -104,7 +123,7 @@ pub fn misuse_text(alloc: Global, fault: &CallFault) -> Result<Word, AllocError>
         CallFault::Misused => {
             line(
                 alloc,
-                b"expected [--force] -o X.specs GCC, --help or --version",
+                b"expected [--force] -o X.specs GCC, --add X.specs OPTION.., --help or --version",
                 b"",
                 b"",
             )

@@ -8,6 +8,8 @@ use crate::finding::{command_named, has_word, word_beginning};
 use crate::machines::{Facts, Part, choice, facts_for, machine_of, own_folder};
 use crate::natives::with_natives;
 use crate::room::Room;
+use crate::row_texts::{Ways, add_row_values, multilib_facts};
+use crate::rows::{Row, rows_of};
 use crate::wording::{own_records, with_other_words};
 use drv_dump::{OurDump, pass_libraries, translate_dump};
 use drv_gcc::{
@@ -106,6 +108,10 @@ pub struct Gathered {
     own: Facts,
     /// What it does for those that an option chooses.
     others: Listing<Facts>,
+    /// Its rows.
+    pub rows: Listing<Row>,
+    /// Where its words for its machines are.
+    pub ways: Ways,
 }
 
 /// The texts of a dump in this driver's language, and of it what they lack.
@@ -119,9 +125,9 @@ struct Translated {
 
 impl<'a> Asked<'a> {
     /// Its texts in this driver's language.
-    fn translated(self) -> Result<Translated, Fault> {
+    fn translated(self, ways: Ways) -> Result<Translated, Fault> {
         let alloc = self.alloc();
-        let (dump, probes) = with_natives(self, self.own_texts()?)?;
+        let (dump, probes) = with_natives(self, self.guarded_for(ways)?, ways)?;
         let (Ok(OurDump { texts, refused }), Ok(passed)) = (
             translate_dump(alloc, dump.as_bytes()),
             pass_libraries(alloc, dump.as_bytes()),
@@ -256,8 +262,11 @@ impl<'a> Asked<'a> {
         })
     }
 
-    /// The words that it adds for its machine.
-    fn machine(self) -> Result<Listing<MachineWord>, Fault> {
+    /// The words that it adds for its machine, if its texts have them.
+    fn machine(self, ways: Ways) -> Result<Listing<MachineWord>, Fault> {
+        if let Ways::Rows = ways {
+            return Ok(Listing::new(self.alloc()));
+        }
         match machine_of(self)? {
             Some(machine) => Ok(machine),
             None => Err(Fault::NoPlan(self.gcc.clone()?)),
@@ -265,9 +274,9 @@ impl<'a> Asked<'a> {
     }
 
     /// What is known of the gcc before its programs are asked for.
-    fn known(self) -> Result<Known, Fault> {
-        let translated = self.translated()?;
-        let machine = self.machine()?;
+    fn known(self, ways: Ways) -> Result<Known, Fault> {
+        let translated = self.translated(ways)?;
+        let machine = self.machine(ways)?;
         let own = self.own_machine(&translated, machine.as_slice())?;
         Ok(Known {
             translated,
@@ -348,7 +357,7 @@ fn assembled(alloc: Global, texts: Word, passed: Word, around: Around) -> Toolch
 }
 
 /// No text.
-fn nothing(alloc: Global) -> Choice {
+pub fn nothing(alloc: Global) -> Choice {
     Choice {
         own: Word::empty(alloc),
         others: Listing::new(alloc),
@@ -428,11 +437,15 @@ fn named_for(
     probes: &[Word],
     own: &Facts,
     others: &[Facts],
+    ways: Ways,
 ) -> Result<Listing<NamedText>, Fault> {
     let mut texts = Listing::new(alloc);
     add_files(alloc, names, own, others, &mut texts)?;
     add_folders_of(alloc, own.folders.as_slice(), &mut texts)?;
-    add_natives(alloc, probes, own, others, &mut texts)?;
+    match ways {
+        Ways::Texts => add_natives(alloc, probes, own, others, &mut texts)?,
+        Ways::Rows => add_row_values(alloc, probes, &mut texts)?,
+    }
     Ok(texts)
 }
 
@@ -475,15 +488,26 @@ impl Gathered {
             self.probes.as_slice(),
             own,
             others,
+            self.ways,
         )?;
         let records = NamedText {
             name: Word::from_bytes(alloc, b"own_records")?,
             choice: own_records(alloc, self.records.as_bytes())?,
         };
-        let has_native = !self.probes.is_empty();
-        choose_for(alloc, &mut self.toolchain, own, others, has_native)?;
+        let is_native = matches!(self.ways, Ways::Texts) && !self.probes.is_empty();
+        choose_for(alloc, &mut self.toolchain, own, others, is_native)?;
+        if let Ways::Rows = self.ways {
+            self.toolchain.tests = Listing::new(alloc);
+        }
         self.toolchain.named = named;
         self.toolchain.named.push(records)?;
+        Ok(())
+    }
+
+    /// Asks for the rows.
+    pub fn add_rows(&mut self, rt: &HostRuntime, room: &Room, gcc: &Word) -> Result<(), Fault> {
+        self.others = multilib_facts(rt, room, gcc, &self.folder, self.names.as_slice())?;
+        self.rows = rows_of(rt, room, gcc, self.probes.as_slice())?;
         Ok(())
     }
 
@@ -529,7 +553,7 @@ fn places_of(rt: &HostRuntime, room: &Room, gcc: &Word) -> Result<Places, Fault>
 }
 
 /// Asks a gcc for all that its spec file is made of. The texts for its machines are not chosen yet.
-pub fn gather(rt: &HostRuntime, room: &Room, gcc: &Word) -> Result<Gathered, Fault> {
+pub fn gather(rt: &HostRuntime, room: &Room, gcc: &Word, ways: Ways) -> Result<Gathered, Fault> {
     let option = Word::empty(rt.alloc());
     let asked = Asked {
         rt,
@@ -542,7 +566,7 @@ pub fn gather(rt: &HostRuntime, room: &Room, gcc: &Word) -> Result<Gathered, Fau
         translated,
         machine,
         own,
-    } = asked.known()?;
+    } = asked.known(ways)?;
     let Translated {
         texts,
         passed,
@@ -565,5 +589,7 @@ pub fn gather(rt: &HostRuntime, room: &Room, gcc: &Word) -> Result<Gathered, Fau
         records,
         own: own.facts,
         others: Listing::new(rt.alloc()),
+        rows: Listing::new(rt.alloc()),
+        ways,
     })
 }

@@ -1,8 +1,9 @@
 //! The spec files that the texts of a gcc include.
 
 use crate::asked::Asked;
-use crate::asking::text;
+use crate::asking::{named, text};
 use crate::fault::Fault;
+use crate::finding::has_bytes;
 use drv_dump::{OurDump, translate_dump};
 use drv_gcc::{Included, named_texts, values};
 use drv_words::{Listing, Word};
@@ -35,6 +36,13 @@ fn texts_of_file(alloc: Global, content: &[u8]) -> Result<Word, Fault> {
     }
 }
 
+/// How a text of a dump begins that has the name of an included file.
+fn head_of(alloc: Global, name: &Word) -> Result<Word, Fault> {
+    let mut head = named(alloc, b"*include_", name.as_bytes())?;
+    head.extend_from_slice(b":\n")?;
+    Ok(head)
+}
+
 impl<'a> Asked<'a> {
     /// A spec file that the texts include.
     fn included(self, name: &Word) -> Result<Included, Fault> {
@@ -57,11 +65,14 @@ impl<'a> Asked<'a> {
         Ok(())
     }
 
-    /// The spec files that the texts include. `%(include_words)` is a text of another kind.
-    fn all_included(self, names: &[Word]) -> Result<Listing<Included>, Fault> {
+    /// The spec files of these names that the texts include. `%(include_words)` is a text of another
+    /// kind, and so is one that gcc itself calls so.
+    fn all_included(self, names: &[Word], texts: &Word) -> Result<Listing<Included>, Fault> {
         let mut included = Listing::new(self.alloc());
         for name in names {
-            if name.as_bytes() != b"words".as_slice() {
+            let is_file = name.as_bytes() != b"words".as_slice()
+                && !has_bytes(texts.as_bytes(), head_of(self.alloc(), name)?.as_bytes());
+            if is_file {
                 self.add_included(name, &mut included)?;
             }
         }
@@ -71,6 +82,6 @@ impl<'a> Asked<'a> {
     /// The spec files that these texts include.
     pub fn included_by(self, texts: &Word) -> Result<Listing<Included>, Fault> {
         let names = named_texts(self.alloc(), b"%(include_", texts.as_bytes())?;
-        self.all_included(names.as_slice())
+        self.all_included(names.as_slice(), texts)
     }
 }

@@ -1,6 +1,7 @@
 //! Writes the spec file of a gcc, and what gdrv-cc reads beside it.
 #![tactic(auto)]
 
+mod adding;
 mod asked;
 mod asking;
 mod calling;
@@ -20,10 +21,13 @@ mod placing;
 mod programs;
 mod refusing;
 mod room;
+mod row_texts;
+mod rows;
 mod shortening;
 mod wording;
 
-use calling::{Call, CallFault, Manner, call_of};
+use adding::add_words;
+use calling::{Call, CallFault, call_of};
 use drv_run::VERSION;
 use drv_system::{arguments, complain};
 use drv_words::Word;
@@ -69,9 +73,9 @@ fn print_version(rt: &HostRuntime) -> ExitCode {
     }
 }
 
-/// Writes the file that a call asks for.
-fn write(rt: &HostRuntime, manner: Manner, output: &Word, gcc: &Word) -> ExitCode {
-    match write_file(rt, manner, output, gcc) {
+/// How a call ends.
+fn ended(rt: &HostRuntime, done: Result<(), Fault>) -> ExitCode {
+    match done {
         Ok(()) => ExitCode::from(0),
         Err(fault) => refuse(rt, fault.text(rt.alloc())),
     }
@@ -82,14 +86,15 @@ fn act(rt: &HostRuntime, call: Result<Call, CallFault>) -> ExitCode {
     match call {
         Ok(Call::Help) => print(rt, HELP),
         Ok(Call::Version) => print_version(rt),
-        Ok(Call::Write(manner, output, gcc)) => write(rt, manner, &output, &gcc),
+        Ok(Call::Write(manner, output, gcc)) => ended(rt, write_file(rt, manner, &output, &gcc)),
+        Ok(Call::Add(output, options)) => ended(rt, add_words(rt, &output, options.as_slice())),
         Err(fault) => refuse(rt, misuse_text(rt.alloc(), &fault)),
     }
 }
 
 fn main(rt: HostRuntime) -> ExitCode {
     match arguments(&rt) {
-        Ok(words) => act(&rt, call_of(words.as_slice())),
+        Ok(words) => act(&rt, call_of(rt.alloc(), words.as_slice())),
         Err(_) => {
             complain(&rt, BAD_ARGUMENT);
             ExitCode::from(1)

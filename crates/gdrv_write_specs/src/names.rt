@@ -367,7 +367,7 @@ fn add_taken(
 }
 
 /// The lines of a text, sorted by their bytes, each once.
-fn sorted(alloc: Global, text: &Word) -> Result<Word, Fault> {
+pub fn sorted(alloc: Global, text: &Word) -> Result<Word, Fault> {
     let mut lines = Vec::new(alloc);
     for line in values(alloc, b"", text.as_bytes())?.into_vec() {
         lines.push(line)?;

@@ -4,19 +4,43 @@ use crate::asked::Asked;
 use crate::asking::named;
 use crate::fault::Fault;
 use crate::room::{joined, write};
+use crate::row_texts::Ways;
 use drv_gcc::{named_texts, replace};
 use drv_words::{Listing, Word};
 use itoa::Buffer;
 use std::alloc::Global;
 
 /// How a function that finds out about the machine of the call is called.
-const NATIVE: &[u8] = b"%:local_cpu_detect(";
+const NATIVE: [&[u8]; 1] = [b"%:local_cpu_detect("];
 
-/// A call of this function.
-fn native_call(alloc: Global, arguments: &Word) -> Result<Word, Fault> {
-    let mut call = named(alloc, NATIVE, arguments.as_bytes())?;
+/// How functions of one machine alone are called.
+const FUNCTIONS: [&[u8]; 5] = [
+    b"%:local_cpu_detect(",
+    b"%:rewrite_march(",
+    b"%:rewrite_mcpu(",
+    b"%:asm_auto_mfpu(",
+    b"%:be8_linkopt(",
+];
+
+/// A call of a function.
+fn native_call(alloc: Global, function: &[u8], arguments: &Word) -> Result<Word, Fault> {
+    let mut call = named(alloc, function, arguments.as_bytes())?;
     call.push(b')')?;
     Ok(call)
+}
+
+/// A call for lines that have what its arguments test: some functions end gcc without arguments.
+fn guarded(alloc: Global, arguments: &Word, call: &Word) -> Result<Word, Fault> {
+    let bytes = arguments.as_bytes();
+    let end = bytes.iter().position(|byte| *byte == b':').unwrap_or(0);
+    if !bytes.starts_with(b"%{") || bytes.starts_with(b"%{!") {
+        return Ok(call.clone()?);
+    }
+    let mut text = Word::from_bytes(alloc, bytes.get(..end).unwrap_or(b""))?;
+    text.push(b':')?;
+    text.extend_from_slice(call.as_bytes())?;
+    text.push(b'}')?;
+    Ok(text)
 }
 
 /// The name of the text in the place of its call of this number.
@@ -43,16 +67,26 @@ fn with_native(alloc: Global, dump: &Word, name: &Word, call: &Word) -> Result<W
 
 /// A dump with named texts in the places of the calls of this function, and a spec file for each
 /// that shows what it gives.
-pub fn with_natives(asked: Asked<'_>, dump: Word) -> Result<(Word, Listing<Word>), Fault> {
+pub fn with_natives(
+    asked: Asked<'_>,
+    dump: Word,
+    ways: Ways,
+) -> Result<(Word, Listing<Word>), Fault> {
     let alloc = asked.alloc();
     let mut texts = dump;
     let mut probes = Listing::new(alloc);
-    for arguments in named_texts(alloc, NATIVE, texts.as_bytes())?.as_slice() {
-        let call = native_call(alloc, arguments)?;
-        let name = native_name(alloc, probes.len())?;
-        write_probe(asked, &name, &call)?;
-        texts = with_native(alloc, &texts, &name, &call)?;
-        probes.push(name)?;
+    let functions = match ways {
+        Ways::Texts => NATIVE.as_slice(),
+        Ways::Rows => FUNCTIONS.as_slice(),
+    };
+    for function in functions {
+        for arguments in named_texts(alloc, function, texts.as_bytes())?.as_slice() {
+            let call = native_call(alloc, function, arguments)?;
+            let name = native_name(alloc, probes.len())?;
+            write_probe(asked, &name, &guarded(alloc, arguments, &call)?)?;
+            texts = with_native(alloc, &texts, &name, &call)?;
+            probes.push(name)?;
+        }
     }
     Ok((texts, probes))
 }

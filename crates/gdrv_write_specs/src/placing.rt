@@ -5,10 +5,12 @@ use crate::calling::Manner;
 use crate::checking::Pair;
 use crate::fault::Fault;
 use crate::gathering::{Gathered, gather};
-use crate::names::names_of;
+use crate::names::{names_of, sorted};
 use crate::parts::{PARTS, part_of, whole_of};
 use crate::programs::{is_file, program_at};
 use crate::room::{Room, absolute, joined};
+use crate::row_texts::Ways;
+use crate::rows::{push_names, push_rows, suffix_of};
 use drv_gcc::{gcc_file, spec_file, values};
 use drv_system::complain;
 use drv_words::{Listing, Word, parted};
@@ -28,7 +30,7 @@ fn gcc_at(rt: &HostRuntime, name: &Word) -> Result<Option<Word>, Fault> {
 }
 
 /// The driver that plans by a spec file: beside this program, or along PATH.
-fn driver_at(rt: &HostRuntime) -> Result<Word, Fault> {
+pub fn driver_at(rt: &HostRuntime) -> Result<Word, Fault> {
     if let Ok(own) = current_exe(rt) {
         if let Some((folder, _)) = parted(b'/', own.as_str().as_bytes()) {
             let path = named(rt.alloc(), folder, b"/gdrv-cc")?;
@@ -97,15 +99,28 @@ fn said(rt: &HostRuntime, room: &Room, gcc: &Word) -> Result<Listing<Word>, Faul
 }
 
 /// Writes the files beside the spec file.
-fn put_beside(rt: &HostRuntime, room: &Room, gcc: &Word, folders: &[Word]) -> Result<(), Fault> {
-    let alloc = rt.alloc();
-    room.put(rt, b".options", &names_of(rt, room, gcc)?)?;
+fn put_beside(rt: &HostRuntime, room: &Room, gcc: &Word, gathered: &Gathered) -> Result<(), Fault> {
+    let mut names = names_of(rt, room, gcc)?;
+    for row in gathered.rows.as_slice() {
+        push_names(&mut names, row)?;
+    }
+    room.put(rt, b".options", &sorted(rt.alloc(), &names)?)?;
+    put_gcc(rt, room, gcc, gathered)
+}
+
+/// Writes the file beside the spec file that names the gcc, and has its rows.
+fn put_gcc(rt: &HostRuntime, room: &Room, gcc: &Word, gathered: &Gathered) -> Result<(), Fault> {
     let lines = said(rt, room, gcc)?;
-    room.put(
-        rt,
-        b".gcc",
-        &gcc_file(alloc, gcc.as_bytes(), folders, lines.as_slice())?,
-    )
+    let folders = gathered.toolchain.folders.as_slice();
+    let mut text = gcc_file(rt.alloc(), gcc.as_bytes(), folders, lines.as_slice())?;
+    let suffix = suffix_of(rt, room, gcc)?;
+    if !suffix.is_empty() {
+        text.extend_from_slice(b"suffix ")?;
+        text.extend_from_slice(suffix.as_bytes())?;
+        text.push(b'\n')?;
+    }
+    push_rows(&mut text, gathered.rows.as_slice())?;
+    room.put(rt, b".gcc", &text)
 }
 
 /// Names some words to the user, on one line.
@@ -184,16 +199,65 @@ fn check_machines(pair: Pair<'_>, gathered: &mut Gathered) -> Result<Listing<Wor
     Ok(refused)
 }
 
-/// Compares the plans, and has the options refused that would give others.
-fn check(pair: Pair<'_>, manner: Manner, gathered: &mut Gathered) -> Result<(), Fault> {
-    judge(pair, manner, pair.differing()?.as_slice())?;
-    let refused = check_machines(pair, gathered)?;
-    judge(pair, manner, pair.others(refused.as_slice())?.as_slice())?;
+/// Has the options refused that are for no machine and would give other plans. Gives those.
+fn refuse_others(pair: Pair<'_>, gathered: &mut Gathered) -> Result<Listing<Word>, Fault> {
+    let others = pair.chosen_otherwise()?;
+    if !others.is_empty() {
+        refuse(gathered, others.as_slice())?;
+        put_specs(pair, gathered)?;
+    }
+    Ok(others)
+}
+
+/// Compares the plans by the rows, and leaves out those that would give others.
+fn check_rows(pair: Pair<'_>, gathered: &mut Gathered) -> Result<(), Fault> {
+    let mut same = Listing::new(pair.rt.alloc());
+    let mut others = Listing::new(pair.rt.alloc());
+    while let Some(row) = gathered.rows.pop() {
+        if pair.is_other(&row.key)? {
+            others.push(row.key)?;
+        } else {
+            same.push(row)?;
+        }
+    }
+    gathered.rows = same;
+    if pair.is_rooted_otherwise()? {
+        gathered.toolchain.is_rooted = false;
+        put_specs(pair, gathered)?;
+    }
     tell(
         pair.rt,
+        b"no row, since it would make something else:",
+        others.as_slice(),
+    )?;
+    put_gcc(pair.rt, pair.room, pair.gcc, gathered)
+}
+
+/// Compares the plans by texts alone, and has the options refused that would give others.
+fn check_texts(pair: Pair<'_>, manner: Manner, gathered: &mut Gathered) -> Result<(), Fault> {
+    let refused = check_machines(pair, gathered)?;
+    judge(pair, manner, pair.others(refused.as_slice())?.as_slice())?;
+    tell_refused(pair.rt, refused.as_slice())
+}
+
+/// Names the options that are refused by name.
+fn tell_refused(rt: &HostRuntime, options: &[Word]) -> Result<(), Fault> {
+    tell(
+        rt,
         b"refused by name, since they would make something else:",
-        refused.as_slice(),
+        options,
     )
+}
+
+/// Compares the plans, and has the options refused that would give others.
+fn check(pair: Pair<'_>, manner: Manner, gathered: &mut Gathered) -> Result<(), Fault> {
+    let others = refuse_others(pair, gathered)?;
+    judge(pair, manner, pair.differing()?.as_slice())?;
+    tell_refused(pair.rt, others.as_slice())?;
+    match gathered.ways {
+        Ways::Texts => check_texts(pair, manner, gathered),
+        Ways::Rows => check_rows(pair, gathered),
+    }
 }
 
 /// Makes the files of a gcc, of which this is known, and tries them.
@@ -204,17 +268,26 @@ fn put_gathered(pair: Pair<'_>, manner: Manner, gathered: &mut Gathered) -> Resu
         b"texts that cannot be translated, so lines that use them are refused:",
         gathered.lacking.as_slice(),
     )?;
-    let folders = gathered.toolchain.folders.as_slice();
-    put_beside(pair.rt, pair.room, pair.gcc, folders)?;
+    put_beside(pair.rt, pair.room, pair.gcc, gathered)?;
     refuse(gathered, pair.unnamed()?.as_slice())?;
     put_specs(pair, gathered)?;
     check(pair, manner, gathered)
 }
 
-/// Makes the files of a gcc, and tries them.
-fn put_all(pair: Pair<'_>, manner: Manner) -> Result<(), Fault> {
-    let mut gathered = gather(pair.rt, pair.room, pair.gcc)?;
+/// Makes the files of a gcc whose words for its machines are in rows, and tries them.
+fn put_with_rows(pair: Pair<'_>, manner: Manner) -> Result<(), Fault> {
+    let mut gathered = gather(pair.rt, pair.room, pair.gcc, Ways::Rows)?;
+    gathered.add_rows(pair.rt, pair.room, pair.gcc)?;
     put_gathered(pair, manner, &mut gathered)
+}
+
+/// Makes the files of a gcc, and tries them. If the texts alone give other plans, rows do the work.
+fn put_all(pair: Pair<'_>, manner: Manner) -> Result<(), Fault> {
+    let mut gathered = gather(pair.rt, pair.room, pair.gcc, Ways::Texts)?;
+    match put_gathered(pair, manner, &mut gathered) {
+        Err(Fault::Differs(_)) => put_with_rows(pair, manner),
+        done => done,
+    }
 }
 
 /// Makes the files of a gcc in a room, tries them, and puts them in place.
@@ -229,6 +302,14 @@ fn write_in(
     room.place(rt, stem)
 }
 
+/// The path of a spec file without its ending.
+pub fn stem_of(rt: &HostRuntime, output: &Word) -> Result<Word, Fault> {
+    let specs = absolute(rt, output)?;
+    let bytes = specs.as_bytes();
+    let stem = bytes.strip_suffix(b".specs".as_slice()).unwrap_or(bytes);
+    Ok(Word::from_bytes(rt.alloc(), stem)?)
+}
+
 /// Writes the spec file of a gcc, and the files beside it. If its plans differ from gcc's, nothing
 /// is written.
 pub fn write_file(
@@ -240,12 +321,7 @@ pub fn write_file(
     let Some(path) = gcc_at(rt, gcc)? else {
         return Err(Fault::NoGcc(gcc.clone()?));
     };
-    let specs = absolute(rt, output)?;
-    let bytes = specs.as_bytes();
-    let stem = Word::from_bytes(
-        rt.alloc(),
-        bytes.strip_suffix(b".specs".as_slice()).unwrap_or(bytes),
-    )?;
+    let stem = stem_of(rt, output)?;
     let room = Room::new(rt, &stem, &driver_at(rt)?)?;
     let done = write_in(rt, &room, manner, &stem, &path);
     room.remove(rt);

@@ -5,8 +5,8 @@ use crate::asking::{named, text};
 use crate::fault::Fault;
 use crate::finding::{word_after, word_after_start};
 use crate::room::absolute;
-use drv_gcc::{Linker, Program, Programs};
-use drv_words::{Listing, Word};
+use drv_gcc::{Finding, Linker, Program, Programs};
+use drv_words::{Listing, Word, base};
 use std::env::var;
 use std::fs;
 
@@ -45,24 +45,35 @@ pub fn program_at(rt: &HostRuntime, name: &Word) -> Result<Option<Word>, Fault> 
     Ok(None)
 }
 
+/// Where gcc finds a program of this name that it shows so. One of another name is at the place with
+/// which gcc was built: its options look for no such name.
+fn finding_of(name: &[u8], shown: &[u8]) -> Finding {
+    if !shown.contains(&b'/') {
+        Finding::Along
+    } else if base(shown) == name {
+        Finding::Own
+    } else {
+        Finding::Fixed
+    }
+}
+
 impl<'a> Asked<'a> {
-    /// A program that gcc names so: by its path in a folder of its own, or by its plain name.
-    fn program(self, shown: &Word) -> Result<Program, Fault> {
-        let is_own = shown.as_bytes().contains(&b'/');
-        let found = if is_own {
-            None
-        } else {
-            program_at(self.rt, shown)?
+    /// A program of this name that gcc shows so: by its path, or by its plain name.
+    fn program(self, name: &[u8], shown: &Word) -> Result<Program, Fault> {
+        let finding = finding_of(name, shown.as_bytes());
+        let found = match finding {
+            Finding::Along => program_at(self.rt, shown)?,
+            Finding::Own | Finding::Fixed => None,
         };
         Ok(Program {
             path: found.unwrap_or(shown.clone()?),
-            is_own,
+            finding,
         })
     }
 
     /// A program of this name.
     fn program_named(self, name: &[u8]) -> Result<Program, Fault> {
-        self.program(&self.answer(b"-print-prog-name=", name)?)
+        self.program(name, &self.answer(b"-print-prog-name=", name)?)
     }
 
     /// The linkers of `-fuse-ld=` in gcc's own folders.
@@ -83,8 +94,8 @@ impl<'a> Asked<'a> {
     /// The programs: those of the plan of a compilation, and those that gcc names.
     pub fn programs(self, cc1: &Word, assembler: &Word, link: &[Word]) -> Result<Programs, Fault> {
         Ok(Programs {
-            compiler: self.program(cc1)?,
-            assembler: self.program(assembler)?,
+            compiler: self.program(b"cc1", cc1)?,
+            assembler: self.program(b"as", assembler)?,
             objcopy: self.program_named(b"objcopy")?,
             linker: self.program_named(b"ld")?,
             linkers: self.linkers()?,

@@ -177,7 +177,7 @@ impl Room {
     }
 
     /// Puts a file of this ending in place.
-    fn place_file(&self, rt: &HostRuntime, stem: &Word, ending: &[u8]) -> Result<(), Fault> {
+    pub fn place_file(&self, rt: &HostRuntime, stem: &Word, ending: &[u8]) -> Result<(), Fault> {
         let from = joined(rt.alloc(), &self.stem, ending)?;
         let to = joined(rt.alloc(), stem, ending)?;
         match fs::rename(rt, text(from.as_bytes())?, text(to.as_bytes())?) {

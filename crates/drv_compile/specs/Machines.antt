@@ -1,0 +1,60 @@
+use Rattle.drv_args.specs.declared.items.Item.{Item}
+use Rattle.drv_args.specs.declared.option_table.Effect.TheVariants as effect
+use Rattle.drv_cc.specs.LineItems.{alone}
+use Rattle.drv_compile.specs.Compilers.{values}
+use Rattle.drv_compile.specs.Decides.{first_of}
+use Rattle.drv_words.specs.Bytes as byte
+use Rattle.std.specs.Cmp.Lexicographic.{pointwise}
+use Rattle.std.specs.List.{flat_map, slice_split, starts_with}
+use Rattle.std.specs.Prelude.{◌==◌, ◌||◌, Bool, List, [], ◌∷◌, ◌++◌, None, Option, Some, codes, if◌then◌else◌, nat_eq, ℕ}
+
+-- The options of a line that choose its machine, and the words that gcc makes of them (GCC, "gcc.cc", DRIVER_SELF_SPECS, OPTION_DEFAULT_SPECS,
+-- set_multilib_dir; in no dump). The file beside the spec file may have rows: `machine`, these options with a blank before each, and after a
+-- tab the words, with a tab between two. A line has the words of its row in their place.
+
+abbrev pub is_machine : List ℕ → Bool
+is_machine option =
+    starts_with nat_eq option (codes "-m") || pointwise nat_eq option (codes "-EB") || pointwise nat_eq option (codes "-EL")
+
+-- the options of a line for its machine
+abbrev pub key_word : Item → List ℕ
+key_word i = if is_machine i.option then byte.space ∷ i.option ++ i.argument else []
+
+abbrev pub key_of : List Item → List ℕ
+key_of items = flat_map key_word items
+
+-- how the row of a line begins
+abbrev pub row_beginning : List Item → List ℕ
+row_beginning items = codes "machine" ++ key_of items ++ codes "\t"
+
+-- the words of a row as switches
+abbrev pub word_items : List ℕ → List Item
+word_items [] = []
+word_items (b ∷ word) = alone effect.Switch (b ∷ word) ∷ []
+
+abbrev pub row_items : List ℕ → List Item
+row_items row = flat_map word_items (slice_split (λ b. b == byte.tab) row)
+
+-- what of a line is for no machine
+abbrev pub plain_item : Item → List Item
+plain_item i = if is_machine i.option then [] else i ∷ []
+
+abbrev pub plain_items : List Item → List Item
+plain_items items = flat_map plain_item items
+
+abbrev pub with_row : List Item → Option (List ℕ) → Option (List Item)
+with_row items None = None
+with_row items (Some row) = Some (plain_items items ++ row_items row)
+
+-- the items of a line by the rows of a text; none where it has rows, and none for the line
+abbrev pub by_rows : List ℕ → List Item → Option (List ℕ) → Option (List Item)
+by_rows text items None = Some items
+by_rows text items (Some first) = with_row items (first_of (values (row_beginning items) text))
+
+abbrev pub machined : List ℕ → List Item → Option (List Item)
+machined text items = by_rows text items (first_of (values (codes "machine") text))
+
+-- where the file is not whole, the line stays as it is
+abbrev pub machined_by : Option (List ℕ) → List Item → Option (List Item)
+machined_by None items = Some items
+machined_by (Some text) items = machined text items

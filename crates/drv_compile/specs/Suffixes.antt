@@ -1,0 +1,50 @@
+use Rattle.drv_args.specs.declared.items.Item.{Item}
+use Rattle.drv_args.specs.declared.option_table.Effect.TheVariants as effect
+use Rattle.drv_args.specs.declared.option_table.Effect.{Effect}
+use Rattle.drv_cc.specs.Items.{is_among}
+use Rattle.drv_cc.specs.Table.{texts}
+use Rattle.drv_compile.specs.Compilers.{values}
+use Rattle.drv_compile.specs.Decides.{first_of}
+use Rattle.drv_words.specs.Bytes as byte
+use Rattle.drv_words.specs.FileNames.{base}
+use Rattle.std.specs.List.{flat_map, list_any}
+use Rattle.std.specs.Prelude.{◌==◌, Bool, List, [], ◌∷◌, ◌++◌, None, Option, Some, codes, if◌then◌else◌, ℕ}
+
+-- The name of a program that a line links: with the machine's suffix of programs, if it has none (GCC, "gcc.cc", convert_filename). The file
+-- beside the spec file may have a line `suffix .exe`.
+
+-- what is no file
+abbrev pub is_no_file : List ℕ → Bool
+is_no_file path = is_among (texts (codes "- /dev/null")) path
+
+abbrev pub has_dot : List ℕ → Bool
+has_dot path = list_any (λ b. b == byte.period) (base path)
+
+abbrev pub suffixed : List ℕ → List ℕ → List ℕ
+suffixed suffix path = if is_no_file path then path else if has_dot path then path else path ++ suffix
+
+abbrev pub argument_by : Effect → List ℕ → List ℕ → List ℕ
+argument_by effect.Output suffix path = suffixed suffix path
+argument_by _ suffix path = path
+
+abbrev pub argument_of : List ℕ → Item → List ℕ
+argument_of suffix i = argument_by i.effect suffix i.argument
+
+abbrev pub with_suffix : List ℕ → Item → List Item
+with_suffix suffix i = record i { argument = argument_of suffix i } ∷ []
+
+-- the options by which nothing is linked, as that function counts them
+abbrev pub is_unlinked : Item → Bool
+is_unlinked i = is_among (texts (codes "-c -S -E")) i.option
+
+abbrev pub suffixed_items : List ℕ → List Item → List Item
+suffixed_items suffix items = if list_any is_unlinked items then items else flat_map (with_suffix suffix) items
+
+abbrev pub suffixed_if : Option (List ℕ) → List Item → List Item
+suffixed_if None items = items
+suffixed_if (Some suffix) items = suffixed_items suffix items
+
+-- where the file is not whole, the line stays as it is
+abbrev pub suffixed_by : Option (List ℕ) → List Item → List Item
+suffixed_by None items = items
+suffixed_by (Some text) items = suffixed_if (first_of (values (codes "suffix ") text)) items

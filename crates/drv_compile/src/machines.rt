@@ -1,0 +1,167 @@
+//! The options of a line that choose its machine, and the words that gcc makes of them.
+
+ghost use Rattle.drv_compile.specs.Machines.{by_rows, is_machine, key_of, key_word, machined};
+ghost use Rattle.drv_compile.specs.Machines.{machined_by, plain_item, row_beginning, row_items};
+ghost use Rattle.drv_compile.specs.Machines.{with_row, word_items};
+ghost use Rattle.std.specs.List.{flat_map};
+ghost use Rattle.std.specs.Option.{option_copied};
+ghost use Rattle.std.specs.Prelude.{◌≡◌, ◌++◌, IfOk, OnOk};
+
+use crate::compilers::first_value;
+use drv_args::{Effect, Item};
+use drv_words::{Listing, Word};
+use std::alloc::{AllocError, Global};
+
+/// Whether an option chooses a machine.
+fn is_machine(option: &[u8]) -> bool
+    ensures { result ≡ is_machine option.now }
+{
+    option.starts_with(b"-m") || option == b"-EB".as_slice() || option == b"-EL".as_slice()
+}
+
+/// Adds an option that chooses a machine.
+fn push_key(key: &mut Word, item: &Item) -> Result<(), AllocError>
+    ensures { OnOk result (key.new ≡ key.old ++ key_word item.now) }
+{
+    if is_machine(item.option.as_bytes()) {
+        key.push(b' ')?;
+        key.extend_from_slice(item.option.as_bytes())?;
+        key.extend_from_slice(item.argument.as_bytes())?;
+    }
+    Ok(())
+}
+
+/// Adds the options that choose a machine.
+fn push_keys(key: &mut Word, items: &[Item]) -> Result<(), AllocError>
+    ensures { OnOk result (key.new ≡ key.old ++ flat_map key_word items.now) }
+{
+    for item in items {
+        push_key(key, item)?;
+    }
+    Ok(())
+}
+
+/// The options that choose a machine, each after a blank.
+pub(crate) fn key_of(alloc: Global, items: &[Item]) -> Result<Word, AllocError>
+    ensures { IfOk result (λ key. key ≡ key_of items.now) }
+{
+    let mut key = Word::empty(alloc);
+    push_keys(&mut key, items)?;
+    Ok(key)
+}
+
+/// How the row of a line begins.
+fn row_beginning(alloc: Global, items: &[Item]) -> Result<Word, AllocError>
+    ensures { IfOk result (λ beginning. beginning ≡ row_beginning items.now) }
+{
+    let mut beginning = Word::from_bytes(alloc, b"machine")?;
+    beginning.extend_from_slice(key_of(alloc, items)?.as_bytes())?;
+    beginning.extend_from_slice(b"\t")?;
+    Ok(beginning)
+}
+
+/// Adds a word of a row as a switch.
+fn push_word(alloc: Global, word: &[u8], items: &mut Listing<Item>) -> Result<(), AllocError>
+    ensures { OnOk result (items.new ≡ items.old ++ word_items word.now) }
+{
+    if !word.is_empty() {
+        items.push(Item {
+            effect: Effect::Switch,
+            option: Word::from_bytes(alloc, word)?,
+            argument: Word::empty(alloc),
+        })?;
+    }
+    Ok(())
+}
+
+/// The words of a row as switches.
+fn row_items(alloc: Global, row: &[u8]) -> Result<Listing<Item>, AllocError>
+    ensures { IfOk result (λ items. items ≡ row_items row.now) }
+{
+    let mut items = Listing::new(alloc);
+    for word in row.split(|byte| *byte == b'\t') {
+        push_word(alloc, word, &mut items)?;
+    }
+    Ok(items)
+}
+
+/// A copy of an item.
+fn copied(item: &Item) -> Result<Item, AllocError>
+    ensures { IfOk result (λ copy. copy ≡ item.now) }
+{
+    Ok(Item {
+        effect: item.effect,
+        option: item.option.clone()?,
+        argument: item.argument.clone()?,
+    })
+}
+
+/// Adds an item that is for no machine.
+fn push_plain(item: &Item, items: &mut Listing<Item>) -> Result<(), AllocError>
+    ensures { OnOk result (items.new ≡ items.old ++ plain_item item.now) }
+{
+    if !is_machine(item.option.as_bytes()) {
+        items.push(copied(item)?)?;
+    }
+    Ok(())
+}
+
+/// Adds the items that are for no machine.
+fn push_all_plain(items: &[Item], plain: &mut Listing<Item>) -> Result<(), AllocError>
+    ensures { OnOk result (plain.new ≡ plain.old ++ flat_map plain_item items.now) }
+{
+    for item in items {
+        push_plain(item, plain)?;
+    }
+    Ok(())
+}
+
+/// The items of a line with the words of its row, if it has one.
+fn with_row(
+    alloc: Global,
+    items: &[Item],
+    row: Option<Word>,
+) -> Result<Option<Listing<Item>>, AllocError>
+    ensures { IfOk result (λ made. made ≡ with_row items.now row) }
+{
+    let Some(row) = row else {
+        return Ok(None);
+    };
+    let mut plain = Listing::new(alloc);
+    push_all_plain(items, &mut plain)?;
+    let words = row_items(alloc, row.as_bytes())?;
+    let mut made = plain.into_vec();
+    made.append(&mut words.into_vec())?;
+    Ok(Some(Listing::from_vec(made)))
+}
+
+/// The items of a line by the rows of a text: with the words of the line's row in the place of its
+/// options for a machine, and as they are where the text has no rows. None where it has no such row.
+pub(crate) fn machined(
+    alloc: Global,
+    text: &[u8],
+    items: Listing<Item>,
+) -> Result<Option<Listing<Item>>, AllocError>
+    ensures { IfOk result (λ made. made ≡ machined text.now items) }
+{
+    if first_value(alloc, b"machine", text)?.is_none() {
+        return Ok(Some(items));
+    }
+    let beginning = row_beginning(alloc, items.as_slice())?;
+    let row = first_value(alloc, beginning.as_bytes(), text)?;
+    with_row(alloc, items.as_slice(), row)
+}
+
+/// The items of a line by the rows of a file, if that is whole.
+pub(crate) fn machined_by(
+    alloc: Global,
+    text: Option<&[u8]>,
+    items: Listing<Item>,
+) -> Result<Option<Listing<Item>>, AllocError>
+    ensures { IfOk result (λ made. made ≡ machined_by (option_copied text.entry) items) }
+{
+    match text {
+        Some(text) => machined(alloc, text, items),
+        None => Ok(Some(items)),
+    }
+}

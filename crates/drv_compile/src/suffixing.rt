@@ -1,0 +1,122 @@
+//! The names of programs that lines link.
+
+ghost use Rattle.drv_compile.specs.Suffixes.{argument_of, has_dot, is_no_file, is_unlinked, suffixed};
+ghost use Rattle.drv_compile.specs.Suffixes.{suffixed_by, suffixed_items, with_suffix};
+ghost use Rattle.std.specs.List.{flat_map, list_any};
+ghost use Rattle.std.specs.Option.{option_copied};
+ghost use Rattle.std.specs.Prelude.{◌≡◌, ◌++◌, IfOk, OnOk};
+
+use crate::compilers::first_value;
+use drv_args::{Effect, Item};
+use drv_words::{Listing, Word, base};
+use std::alloc::{AllocError, Global};
+
+/// Whether a path names no file.
+fn is_no_file(path: &[u8]) -> bool
+    ensures { result ≡ is_no_file path.now }
+{
+    path == b"-".as_slice() || path == b"/dev/null".as_slice()
+}
+
+/// Whether a name has a dot after its folder.
+fn has_dot(path: &[u8]) -> bool
+    ensures { result ≡ has_dot path.now }
+{
+    base(path).iter().any(|byte| *byte == b'.')
+}
+
+/// The name of a program with a suffix, if it has none.
+fn suffixed(path: &Word, suffix: &[u8]) -> Result<Word, AllocError>
+    ensures { IfOk result (λ name. name ≡ suffixed suffix.now path.now) }
+{
+    let mut name = path.clone()?;
+    if !is_no_file(path.as_bytes()) && !has_dot(path.as_bytes()) {
+        name.extend_from_slice(suffix)?;
+    }
+    Ok(name)
+}
+
+/// The argument of an item: if it names the output, with a suffix.
+fn argument_of(item: &Item, suffix: &[u8]) -> Result<Word, AllocError>
+    ensures { IfOk result (λ argument. argument ≡ argument_of suffix.now item.now) }
+{
+    match item.effect {
+        Effect::Output => suffixed(&item.argument, suffix),
+        _ => item.argument.clone(),
+    }
+}
+
+/// Whether an option leaves out the link.
+fn is_unlinked(item: &Item) -> bool
+    ensures { result ≡ is_unlinked item.now }
+{
+    let option = item.option.as_bytes();
+    option == b"-c".as_slice() || option == b"-S".as_slice() || option == b"-E".as_slice()
+}
+
+/// Whether an option of a line leaves out the link.
+fn are_unlinked(items: &[Item]) -> bool
+    ensures { result ≡ list_any is_unlinked items.now }
+{
+    items.iter().any(is_unlinked)
+}
+
+/// Adds an item with this argument.
+fn push_suffixed(item: &Item, suffix: &[u8], made: &mut Listing<Item>) -> Result<(), AllocError>
+    ensures { OnOk result (made.new ≡ made.old ++ with_suffix suffix.now item.now) }
+{
+    made.push(Item {
+        effect: item.effect,
+        option: item.option.clone()?,
+        argument: argument_of(item, suffix)?,
+    })?;
+    Ok(())
+}
+
+/// Adds the items of a line, the name of a program with this suffix.
+fn push_all_suffixed(
+    items: &[Item],
+    suffix: &[u8],
+    made: &mut Listing<Item>,
+) -> Result<(), AllocError>
+    ensures { OnOk result (made.new ≡ made.old ++ flat_map (with_suffix suffix.now) items.now) }
+{
+    for item in items {
+        push_suffixed(item, suffix, made)?;
+    }
+    Ok(())
+}
+
+/// The items of a line, the name of the program that it links with this suffix.
+fn suffixed_items(
+    alloc: Global,
+    suffix: &[u8],
+    items: Listing<Item>,
+) -> Result<Listing<Item>, AllocError>
+    ensures { IfOk result (λ made. made ≡ suffixed_items suffix.now items) }
+{
+    if are_unlinked(items.as_slice()) {
+        return Ok(items);
+    }
+    let mut made = Listing::new(alloc);
+    push_all_suffixed(items.as_slice(), suffix, &mut made)?;
+    Ok(made)
+}
+
+/// The items of a line, the name of the program that it links with the suffix that a text names, if
+/// it names one.
+pub(crate) fn suffixed_by(
+    alloc: Global,
+    text: Option<&[u8]>,
+    items: Listing<Item>,
+) -> Result<Listing<Item>, AllocError>
+    ensures { IfOk result (λ made. made ≡ suffixed_by (option_copied text.entry) items) }
+{
+    let Some(text) = text else {
+        return Ok(items);
+    };
+    match first_value(alloc, b"suffix ", text)? {
+        Some(suffix) => suffixed_items(alloc, suffix.as_bytes(), items),
+        None => Ok(items),
+    }
+}

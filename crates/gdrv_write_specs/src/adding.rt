@@ -1,0 +1,170 @@
+//! The words for options of a machine are added beside a spec file.
+
+use crate::asked::{Asked, Places};
+use crate::asking::{named, text};
+use crate::checking::Pair;
+use crate::fault::Fault;
+use crate::names::sorted;
+use crate::natives::with_natives;
+use crate::placing::{driver_at, stem_of};
+use crate::room::{Room, joined, write};
+use crate::row_texts::Ways;
+use crate::rows::{Row, push_names, push_row, row_of};
+use drv_gcc::values;
+use drv_words::{Listing, Word};
+use std::alloc::Global;
+use std::fs;
+
+/// The endings of the files beside the one that names the gcc.
+const ENDINGS: [&[u8]; 7] = [
+    b".specs",
+    b".options",
+    b".compile",
+    b".c.compile",
+    b".link",
+    b".all",
+    b".c.all",
+];
+
+/// Options as one text.
+fn key_of(alloc: Global, options: &[Word]) -> Result<Word, Fault> {
+    let mut key = Word::empty(alloc);
+    for (n, option) in options.iter().enumerate() {
+        if 0 < n {
+            key.push(b' ')?;
+        }
+        key.extend_from_slice(option.as_bytes())?;
+    }
+    Ok(key)
+}
+
+/// The lines of a file before its mark.
+fn lines_of(rt: &HostRuntime, path: &Word) -> Result<Listing<Word>, Fault> {
+    let Ok(content) = fs::read(rt, text(path.as_bytes())?) else {
+        return Err(Fault::NoSpecs(path.clone()?));
+    };
+    let mut lines = Listing::new(rt.alloc());
+    for line in values(rt.alloc(), b"", content.as_slice())?.into_vec() {
+        if !line.is_empty() && !line.as_bytes().starts_with(b"# whole ") {
+            lines.push(line)?;
+        }
+    }
+    Ok(lines)
+}
+
+/// A text of lines.
+fn text_of(alloc: Global, lines: &[Word]) -> Result<Word, Fault> {
+    let mut whole = Word::empty(alloc);
+    for line in lines {
+        whole.extend_from_slice(line.as_bytes())?;
+        whole.push(b'\n')?;
+    }
+    Ok(whole)
+}
+
+/// The lines of which none is a row of these options.
+fn other_lines(alloc: Global, lines: &[Word], key: &Word) -> Result<Listing<Word>, Fault> {
+    let mut beginning = named(alloc, b"machine ", key.as_bytes())?;
+    beginning.push(b'\t')?;
+    let mut others = Listing::new(alloc);
+    for line in lines {
+        if !line.as_bytes().starts_with(beginning.as_bytes()) {
+            others.push(line.clone()?)?;
+        }
+    }
+    Ok(others)
+}
+
+/// Copies the files of a spec file into a room.
+fn copy_files(rt: &HostRuntime, room: &Room, stem: &Word) -> Result<(), Fault> {
+    for ending in ENDINGS {
+        let path = joined(rt.alloc(), stem, ending)?;
+        if let Ok(content) = fs::read(rt, text(path.as_bytes())?) {
+            write(
+                rt,
+                &joined(rt.alloc(), &room.stem, ending)?,
+                content.as_slice(),
+            )?;
+        }
+    }
+    Ok(())
+}
+
+/// The row of these options.
+fn row_for(rt: &HostRuntime, room: &Room, gcc: &Word, key: &Word) -> Result<Row, Fault> {
+    let asked = Asked {
+        rt,
+        room,
+        gcc,
+        option: key,
+        places: Places::Searched,
+    };
+    let (_, probes) = with_natives(asked, asked.own_texts()?, Ways::Rows)?;
+    match row_of(asked, probes.as_slice())? {
+        Some(row) => Ok(row),
+        None => Err(Fault::NoRow(key.clone()?)),
+    }
+}
+
+/// Adds a row to these lines of the file that names the gcc, and its options to the names.
+fn put_row(
+    rt: &HostRuntime,
+    room: &Room,
+    stem: &Word,
+    lines: &[Word],
+    row: &Row,
+) -> Result<(), Fault> {
+    let alloc = rt.alloc();
+    let others = other_lines(alloc, lines, &row.key)?;
+    let mut whole = text_of(alloc, others.as_slice())?;
+    push_row(&mut whole, row)?;
+    room.put(rt, b".gcc", &whole)?;
+    let options = lines_of(rt, &joined(alloc, stem, b".options")?)?;
+    let mut names = text_of(alloc, options.as_slice())?;
+    push_names(&mut names, row)?;
+    room.put(rt, b".options", &sorted(alloc, &names)?)
+}
+
+/// Adds the row of these options in a room, tries it, and puts it in place.
+fn add_in(
+    rt: &HostRuntime,
+    room: &Room,
+    stem: &Word,
+    lines: &[Word],
+    gcc: &Word,
+    key: &Word,
+) -> Result<(), Fault> {
+    copy_files(rt, room, stem)?;
+    let row = row_for(rt, room, gcc, key)?;
+    put_row(rt, room, stem, lines, &row)?;
+    if (Pair { rt, room, gcc }).is_other(key)? {
+        return Err(Fault::NoRow(key.clone()?));
+    }
+    room.place_file(rt, stem, b".options")?;
+    room.place_file(rt, stem, b".gcc")
+}
+
+/// The gcc of a file that names one and has rows.
+fn gcc_with_rows(alloc: Global, path: &Word, lines: &[Word]) -> Result<Word, Fault> {
+    let whole = text_of(alloc, lines)?;
+    let gccs = values(alloc, b"compiler ", whole.as_bytes())?;
+    let rows = values(alloc, b"machine", whole.as_bytes())?;
+    match (gccs.as_slice(), rows.as_slice()) {
+        ([gcc, ..], [_, ..]) => Ok(gcc.clone()?),
+        _ => Err(Fault::NoRows(path.clone()?)),
+    }
+}
+
+/// Asks the gcc of a spec file for the words that it makes of these options, and adds them beside
+/// that file. If its plans by them differ from gcc's, nothing is written.
+pub fn add_words(rt: &HostRuntime, output: &Word, options: &[Word]) -> Result<(), Fault> {
+    let stem = stem_of(rt, output)?;
+    let path = joined(rt.alloc(), &stem, b".gcc")?;
+    let lines = lines_of(rt, &path)?;
+    let gcc = gcc_with_rows(rt.alloc(), &path, lines.as_slice())?;
+    let key = key_of(rt.alloc(), options)?;
+    let room = Room::new(rt, &stem, &driver_at(rt)?)?;
+    let done = add_in(rt, &room, &stem, lines.as_slice(), &gcc, &key);
+    room.remove(rt);
+    done
+}

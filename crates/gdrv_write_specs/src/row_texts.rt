@@ -1,0 +1,124 @@
+//! Texts of a gcc whose words for its machines are in rows.
+
+use crate::asked::{Asked, Places};
+use crate::asking::named;
+use crate::fault::Fault;
+use crate::gathering::nothing;
+use crate::machines::{Facts, facts_for};
+use crate::room::Room;
+use crate::rows::multilibs;
+use drv_gcc::{Choice, NamedText, replace};
+use drv_words::{Listing, Word};
+use itoa::Buffer;
+use std::alloc::Global;
+
+/// Where a gcc's words for its machines are.
+#[derive(Clone, Copy, Debug)]
+pub enum Ways {
+    /// In the texts, by tests of the line's options.
+    Texts,
+    /// In rows, of which gdrv-cc hands on the words of one.
+    Rows,
+}
+
+/// How texts begin of which each line uses one, and how they begin where rows have the words for
+/// machines. They refuse lines without the front, which hands these words on. They refuse links
+/// whose files are looked for along other folders too, while the libraries are in one of their own.
+const GUARDED: [(&[u8], &[u8]); 4] = [
+    (
+        b"*cpp_unique_options:\n",
+        b"*cpp_unique_options:\n%{!-gdrv-front:%ethis spec file needs gdrv-cc} ",
+    ),
+    (
+        b"*cc1_options:\n",
+        b"*cc1_options:\n%{!-gdrv-front:%ethis spec file needs gdrv-cc} ",
+    ),
+    (
+        b"*asm_options:\n",
+        b"*asm_options:\n%{!-gdrv-front:%ethis spec file needs gdrv-cc} ",
+    ),
+    (
+        b"*link:\n",
+        b"*link:\n%{!-gdrv-front:%ethis spec file needs gdrv-cc} %{-gdrv-dirs:%{-gdrv-multi=*:%e-B \
+or -specs= with options for other libraries is not in this spec file}} ",
+    ),
+];
+
+impl<'a> Asked<'a> {
+    /// Its texts, with what they refuse where rows have the words for machines.
+    pub fn guarded_for(self, ways: Ways) -> Result<Word, Fault> {
+        let mut texts = self.own_texts()?;
+        if let Ways::Rows = ways {
+            for (head, guarded) in GUARDED {
+                texts = replace(self.alloc(), texts.as_bytes(), head, guarded)?;
+            }
+        }
+        Ok(texts)
+    }
+}
+
+/// The text for what a function gives: the words of the row, each after this one's name.
+fn row_value(alloc: Global, number: usize) -> Result<Choice, Fault> {
+    let mut choice = nothing(alloc);
+    choice.own = named(
+        alloc,
+        b"%{-gdrv-fn",
+        Buffer::new().format(number).as_bytes(),
+    )?;
+    choice.own.extend_from_slice(b"=*:%*}")?;
+    Ok(choice)
+}
+
+/// Named texts of what a function gives, of which the rows have the words.
+pub fn add_row_values(
+    alloc: Global,
+    probes: &[Word],
+    texts: &mut Listing<NamedText>,
+) -> Result<(), Fault> {
+    for (n, probe) in probes.iter().enumerate() {
+        texts.push(NamedText {
+            name: probe.clone()?,
+            choice: row_value(alloc, n)?,
+        })?;
+    }
+    Ok(())
+}
+
+/// The test of a row for libraries in a folder of their own.
+fn folder_test(alloc: Global, folder: &Word) -> Result<Word, Fault> {
+    let mut test = Word::from_bytes(alloc, b"-gdrv-multi=")?;
+    for byte in folder.as_bytes() {
+        if *byte == b'/' {
+            test.push(b'\\')?;
+        }
+        test.push(*byte)?;
+    }
+    Ok(test)
+}
+
+/// What the gcc does for each of its libraries in a folder of its own, by a test of that folder.
+pub fn multilib_facts(
+    rt: &HostRuntime,
+    room: &Room,
+    gcc: &Word,
+    folder: &Word,
+    names: &[Word],
+) -> Result<Listing<Facts>, Fault> {
+    let none = Word::empty(rt.alloc());
+    let own = Asked {
+        rt,
+        room,
+        gcc,
+        option: &none,
+        places: Places::Searched,
+    };
+    let mut found = Listing::new(rt.alloc());
+    for option in multilibs(own)?.as_slice() {
+        let asked = Asked { option, ..own };
+        let place = asked.answer(b"-print-multi-directory", b"")?;
+        let mut facts = facts_for(asked, folder, names, &[], &[])?;
+        facts.test = folder_test(rt.alloc(), &place)?;
+        found.push(facts)?;
+    }
+    Ok(found)
+}

@@ -1,0 +1,283 @@
+//! Rows for the machines of a gcc: the options that choose one, and the words that gcc makes of
+//! them. gdrv-cc hands on the words of a row in the place of its options.
+
+use crate::asked::{Asked, Places};
+use crate::asking::named;
+use crate::fault::Fault;
+use crate::finding::{command_named, has_word, word_after, words_between};
+use crate::room::Room;
+use drv_gcc::{options, values};
+use drv_words::{Listing, Word, split};
+use itoa::Buffer;
+use std::alloc::Global;
+
+/// A row: the options of a line that choose a machine, and the words that gcc makes of them.
+#[derive(Drop)]
+pub struct Row {
+    /// The options, as a line has them.
+    pub key: Word,
+    /// The words.
+    pub words: Listing<Word>,
+}
+
+/// The switches that gcc makes of a line with the options; none where it refuses them.
+fn collected(asked: Asked<'_>) -> Result<Option<Listing<Word>>, Fault> {
+    let said = asked.ask(b"-### -c -x c /dev/null")?;
+    let lines = values(asked.alloc(), b"COLLECT_GCC_OPTIONS=", said.err.as_bytes())?;
+    let [line, ..] = lines.as_slice() else {
+        return Ok(None);
+    };
+    let mut words = Listing::new(asked.alloc());
+    for word in split(asked.alloc(), line.as_bytes())?.into_vec() {
+        if word.as_bytes() != b"-c".as_slice() {
+            words.push(word)?;
+        }
+    }
+    Ok(if said.is_done { Some(words) } else { None })
+}
+
+/// Adds the word for the folder of the libraries, if they are in one of their own.
+fn add_folder(asked: Asked<'_>, words: &mut Listing<Word>) -> Result<(), Fault> {
+    let folder = asked.answer(b"-print-multi-directory", b"")?;
+    if folder.as_bytes() != b".".as_slice() {
+        words.push(named(asked.alloc(), b"--gdrv-multi=", folder.as_bytes())?)?;
+    }
+    Ok(())
+}
+
+/// The beginning of the words for the function of this number.
+fn value_name(alloc: Global, number: usize) -> Result<Word, Fault> {
+    let mut name = named(alloc, b"--gdrv-fn", Buffer::new().format(number).as_bytes())?;
+    name.push(b'=')?;
+    Ok(name)
+}
+
+/// Adds a word for each that a function gives.
+fn add_values(
+    asked: Asked<'_>,
+    number: usize,
+    probe: &Word,
+    words: &mut Listing<Word>,
+) -> Result<(), Fault> {
+    let alloc = asked.alloc();
+    let line = named(alloc, b"-### x.o -o x -specs=", probe.as_bytes())?;
+    let planned = asked.planned(line.as_bytes())?;
+    let shown = command_named(planned.as_slice(), b"PROBE-V").unwrap_or(&[]);
+    let name = value_name(alloc, number)?;
+    for value in words_between(alloc, shown, b"PROBE-V", b"PROBE-END")?.as_slice() {
+        words.push(named(alloc, name.as_bytes(), value.as_bytes())?)?;
+    }
+    Ok(())
+}
+
+/// The row of these options; none where gcc refuses them.
+pub fn row_of(asked: Asked<'_>, probes: &[Word]) -> Result<Option<Row>, Fault> {
+    let Some(mut words) = collected(asked)? else {
+        return Ok(None);
+    };
+    add_folder(asked, &mut words)?;
+    for (number, probe) in probes.iter().enumerate() {
+        add_values(asked, number, probe, &mut words)?;
+    }
+    Ok(Some(Row {
+        key: asked.option.clone()?,
+        words,
+    }))
+}
+
+/// The options of a library, as `-print-multi-lib` names them: each after an `@`.
+fn multilib_options(alloc: Global, line: &[u8]) -> Result<Word, Fault> {
+    let mut key = Word::empty(alloc);
+    for (n, option) in line.split(|byte| *byte == b'@').enumerate() {
+        if 0 < n {
+            if 1 < n {
+                key.push(b' ')?;
+            }
+            key.push(b'-')?;
+            key.extend_from_slice(option)?;
+        }
+    }
+    Ok(key)
+}
+
+/// The options of each library in a folder of its own.
+pub fn multilibs(asked: Asked<'_>) -> Result<Listing<Word>, Fault> {
+    let alloc = asked.alloc();
+    let said = asked.ask(b"-print-multi-lib")?;
+    let mut keys = Listing::new(alloc);
+    for line in values(alloc, b"", said.out.as_bytes())?.as_slice() {
+        let key = multilib_options(alloc, line.as_bytes())?;
+        if !key.is_empty() {
+            keys.push(key)?;
+        }
+    }
+    Ok(keys)
+}
+
+/// Options whose values name a machine.
+const MACHINES: [&[u8]; 5] = [b"-march=", b"-mcpu=", b"-mtune=", b"-mabi=", b"-mmcu="];
+
+/// Adds a key that a list lacks.
+fn add_key(keys: &mut Listing<Word>, key: Word) -> Result<(), Fault> {
+    if !key.as_bytes().ends_with(b"=") && !has_word(keys.as_slice(), key.as_bytes()) {
+        keys.push(key)?;
+    }
+    Ok(())
+}
+
+/// Adds the options that gcc lists for this beginning.
+fn add_listed(asked: Asked<'_>, beginning: &[u8], keys: &mut Listing<Word>) -> Result<(), Fault> {
+    let question = named(asked.alloc(), b"--completion=", beginning)?;
+    let said = asked.ask(question.as_bytes())?;
+    for option in options(asked.alloc(), said.out.as_bytes())?.into_vec() {
+        add_key(keys, option)?;
+    }
+    Ok(())
+}
+
+/// The values that gcc names where it refuses one of an option.
+fn values_named(asked: Asked<'_>, name: &[u8]) -> Result<Listing<Word>, Fault> {
+    let alloc = asked.alloc();
+    let question = named(alloc, b"-### -c -x c /dev/null ", name)?;
+    let said = asked.ask(named(alloc, question.as_bytes(), b"?")?.as_bytes())?;
+    let mut found = Listing::new(alloc);
+    for line in values(alloc, b"", said.err.as_bytes())?.as_slice() {
+        if let Some(list) = named_in(line.as_bytes()) {
+            found = split(alloc, list)?;
+        }
+    }
+    Ok(found)
+}
+
+/// The list of values in a line of gcc's, if it has one: up to a semicolon.
+fn named_in(line: &[u8]) -> Option<&[u8]> {
+    let mut parts = line.splitn(2, |byte| *byte == b';');
+    let first = parts.next()?;
+    let at = place_after(first, b" note: valid arguments are: ")?;
+    first.get(at..)
+}
+
+/// The place in a text after these bytes.
+fn place_after(text: &[u8], bytes: &[u8]) -> Option<usize> {
+    for at in 0..text.len() {
+        if text.get(at..).unwrap_or(b"").starts_with(bytes) {
+            return Some(at.saturating_add(bytes.len()));
+        }
+    }
+    None
+}
+
+/// Adds an option with each value that gcc names, and the same for `-mtune=` where it names
+/// processors.
+fn add_named(asked: Asked<'_>, name: &[u8], keys: &mut Listing<Word>) -> Result<(), Fault> {
+    let alloc = asked.alloc();
+    for value in values_named(asked, name)?.as_slice() {
+        add_key(keys, named(alloc, name, value.as_bytes())?)?;
+        if name == b"-mcpu=".as_slice() {
+            add_key(keys, named(alloc, b"-mtune=", value.as_bytes())?)?;
+        }
+    }
+    Ok(())
+}
+
+/// The options of which rows are written.
+fn keys_of(asked: Asked<'_>) -> Result<Listing<Word>, Fault> {
+    let alloc = asked.alloc();
+    let mut keys = Listing::new(alloc);
+    keys.push(Word::empty(alloc))?;
+    for key in multilibs(asked)?.into_vec() {
+        add_key(&mut keys, key)?;
+    }
+    for order in [b"-EB".as_slice(), b"-EL"] {
+        add_key(&mut keys, Word::from_bytes(alloc, order)?)?;
+    }
+    add_listed(asked, b"-m", &mut keys)?;
+    for name in MACHINES {
+        add_listed(asked, name, &mut keys)?;
+        add_named(asked, name, &mut keys)?;
+    }
+    Ok(keys)
+}
+
+/// The same gcc, asked with other options.
+fn asked_with<'a>(
+    rt: &'a HostRuntime,
+    room: &'a Room,
+    gcc: &'a Word,
+    option: &'a Word,
+) -> Asked<'a> {
+    Asked {
+        rt,
+        room,
+        gcc,
+        option,
+        places: Places::Searched,
+    }
+}
+
+/// The rows of a gcc whose functions have these probes.
+pub fn rows_of(
+    rt: &HostRuntime,
+    room: &Room,
+    gcc: &Word,
+    probes: &[Word],
+) -> Result<Listing<Row>, Fault> {
+    let none = Word::empty(rt.alloc());
+    let mut rows = Listing::new(rt.alloc());
+    for key in keys_of(asked_with(rt, room, gcc, &none))?.as_slice() {
+        if let Some(row) = row_of(asked_with(rt, room, gcc, key), probes)? {
+            rows.push(row)?;
+        }
+    }
+    Ok(rows)
+}
+
+/// The suffix that gcc gives the name of a program; empty if none.
+pub fn suffix_of(rt: &HostRuntime, room: &Room, gcc: &Word) -> Result<Word, Fault> {
+    let none = Word::empty(rt.alloc());
+    let asked = asked_with(rt, room, gcc, &none);
+    let planned = asked.planned(b"-### x.o -o made")?;
+    let link = match planned.as_slice().last() {
+        Some(link) => link.as_slice(),
+        None => &[],
+    };
+    let output = word_after(rt.alloc(), link, b"-o")?;
+    let suffix = output.as_bytes().strip_prefix(b"made".as_slice());
+    Ok(Word::from_bytes(rt.alloc(), suffix.unwrap_or(b""))?)
+}
+
+/// Adds the line of a row.
+pub fn push_row(text: &mut Word, row: &Row) -> Result<(), Fault> {
+    text.extend_from_slice(b"machine")?;
+    if !row.key.is_empty() {
+        text.push(b' ')?;
+        text.extend_from_slice(row.key.as_bytes())?;
+    }
+    text.push(b'\t')?;
+    for (n, word) in row.words.as_slice().iter().enumerate() {
+        if 0 < n {
+            text.push(b'\t')?;
+        }
+        text.extend_from_slice(word.as_bytes())?;
+    }
+    Ok(text.push(b'\n')?)
+}
+
+/// Adds the lines of rows.
+pub fn push_rows(text: &mut Word, rows: &[Row]) -> Result<(), Fault> {
+    for row in rows {
+        push_row(text, row)?;
+    }
+    Ok(())
+}
+
+/// Adds the options of a row to a list of names.
+pub fn push_names(names: &mut Word, row: &Row) -> Result<(), Fault> {
+    for option in row.key.as_bytes().split(|byte| *byte == b' ') {
+        if !option.is_empty() {
+            names.extend_from_slice(option)?;
+            names.push(b'\n')?;
+        }
+    }
+    Ok(())
+}
