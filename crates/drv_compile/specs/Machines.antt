@@ -8,9 +8,9 @@ use Rattle.std.specs.Cmp.Lexicographic.{pointwise}
 use Rattle.std.specs.List.{flat_map, slice_split, starts_with}
 use Rattle.std.specs.Prelude.{◌==◌, ◌||◌, Bool, List, [], ◌∷◌, ◌++◌, None, Option, Some, codes, if◌then◌else◌, nat_eq, ℕ}
 
--- The options of a line that choose its machine, and the words that gcc makes of them (GCC, "gcc.cc", DRIVER_SELF_SPECS, OPTION_DEFAULT_SPECS,
--- set_multilib_dir; in no dump). The file beside the spec file may have rows: `machine`, these options with a blank before each, and after a
--- tab the words, with a tab between two. A line has the words of its row in their place.
+-- The options of a line that choose its machine, and the words that gcc makes of them (GCC, "gcc.cc", DRIVER_SELF_SPECS and
+-- OPTION_DEFAULT_SPECS, set_multilib_dir; in no dump). The file beside the spec file may have rows: `machine`, these options with a blank
+-- before each, and after a tab the words, with a tab between two. A line has the words of its row in their place.
 
 abbrev pub is_machine : List ℕ → Bool
 is_machine option =

@@ -10,8 +10,8 @@ use Rattle.drv_words.specs.FileNames.{base}
 use Rattle.std.specs.List.{flat_map, list_any}
 use Rattle.std.specs.Prelude.{◌==◌, Bool, List, [], ◌∷◌, ◌++◌, None, Option, Some, codes, if◌then◌else◌, ℕ}
 
--- The name of a program that a line links: with the machine's suffix of programs, if it has none (GCC, "gcc.cc", convert_filename). The file
--- beside the spec file may have a line `suffix .exe`.
+-- The name of a program that a line links: with the machine's suffix of programs, if it has none (GCC, "gcc.cc", convert_filename). The
+-- file beside the spec file may have a line `suffix .exe`.
 
 -- what is no file
 abbrev pub is_no_file : List ℕ → Bool
