@@ -35,7 +35,8 @@ fn lines_in(alloc: Global, answer: &ReadAnswer) -> Result<Option<Word>, AllocErr
     }
 }
 
-/// The lines before the mark of a file that `write_specs` wrote, where it is a plain file and whole.
+/// The lines before the mark of a file that `gdrv-write-specs` wrote, where it is a plain file and
+/// whole.
 pub(crate) fn written<S: System>(
     alloc: Global,
     path: &Word,
@@ -62,7 +63,7 @@ fn is_whole(answer: &ReadAnswer) -> bool
     }
 }
 
-/// Whether a file that `write_specs` wrote is a plain file and whole. Its lines aren't copied.
+/// Whether a file that `gdrv-write-specs` wrote is a plain file and whole. Its lines aren't copied.
 pub(crate) fn is_written<S: System>(
     path: &Word,
     outside: &mut Outside<'_, S>,

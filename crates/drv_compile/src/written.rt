@@ -1,4 +1,4 @@
-//! Whether a file that `write_specs` wrote is whole: it ends in a mark that says its size.
+//! Whether a file that `gdrv-write-specs` wrote is whole: it ends in a mark that says its size.
 
 ghost use Rattle.drv_compile.specs.Written.{mark, whole_lines};
 ghost use Rattle.std.specs.Option.{option_copied};
