@@ -1,16 +1,16 @@
 use Rattle.drv_args.specs.declared.items.Item.{Item}
 use Rattle.drv_args.specs.declared.option_table.Effect.TheVariants as effect
-use Rattle.drv_cc.specs.LineItems.{alone}
+use Rattle.drv_cc.specs.LineItems.{alone, item_of}
 use Rattle.drv_compile.specs.Compilers.{values}
 use Rattle.drv_compile.specs.Decides.{first_of}
 use Rattle.drv_words.specs.Bytes as byte
 use Rattle.std.specs.Cmp.Lexicographic.{pointwise}
 use Rattle.std.specs.List.{flat_map, slice_split, starts_with}
-use Rattle.std.specs.Prelude.{◌==◌, ◌||◌, Bool, List, [], ◌∷◌, ◌++◌, None, Option, Some, codes, if◌then◌else◌, nat_eq, ℕ}
+use Rattle.std.specs.Prelude.{◌==◌, ◌||◌, Bool, List, [], ◌∷◌, ◌++◌, None, Option, Some, codes, drop, if◌then◌else◌, nat_eq, ℕ}
 
 -- The options of a line that choose its machine, and the words that gcc makes of them (GCC, "gcc.cc", DRIVER_SELF_SPECS and
 -- OPTION_DEFAULT_SPECS, set_multilib_dir; in no dump). The file beside the spec file may have rows: `machine`, these options with a blank
--- before each, and after a tab the words, with a tab between two. A line has the words of its row in their place.
+-- before each, and after a tab the words, with a tab between two. A line has the words of its row in their place, before all others.
 
 abbrev pub is_machine : List ℕ → Bool
 is_machine option =
@@ -27,10 +27,20 @@ key_of items = flat_map key_word items
 abbrev pub row_beginning : List Item → List ℕ
 row_beginning items = codes "machine" ++ key_of items ++ codes "\t"
 
--- the words of a row as switches
+-- A word of a row is a switch; one for a folder of the row's libraries is a prefix too, and files are looked for there first (GCC, "gcc.cc",
+-- for_each_path).
+abbrev pub folder_option : List ℕ
+folder_option = codes "--gdrv-in="
+
+abbrev pub folder_item : List ℕ → Item
+folder_item word = item_of effect.Prefix folder_option (drop 10 word)
+
+abbrev pub word_item : List ℕ → Item
+word_item word = if starts_with nat_eq word folder_option then folder_item word else alone effect.Switch word
+
 abbrev pub word_items : List ℕ → List Item
 word_items [] = []
-word_items (b ∷ word) = alone effect.Switch (b ∷ word) ∷ []
+word_items (b ∷ word) = word_item (b ∷ word) ∷ []
 
 abbrev pub row_items : List ℕ → List Item
 row_items row = flat_map word_items (slice_split (λ b. b == byte.tab) row)
@@ -44,7 +54,7 @@ plain_items items = flat_map plain_item items
 
 abbrev pub with_row : List Item → Option (List ℕ) → Option (List Item)
 with_row items None = None
-with_row items (Some row) = Some (plain_items items ++ row_items row)
+with_row items (Some row) = Some (row_items row ++ plain_items items)
 
 -- the items of a line by the rows of a text; none where it has rows, and none for the line
 abbrev pub by_rows : List ℕ → List Item → Option (List ℕ) → Option (List Item)

@@ -1,11 +1,11 @@
 //! The options of a line that choose its machine, and the words that gcc makes of them.
 
-ghost use Rattle.drv_compile.specs.Machines.{by_rows, is_machine, key_of, key_word, machined};
-ghost use Rattle.drv_compile.specs.Machines.{machined_by, plain_item, row_beginning, row_items};
-ghost use Rattle.drv_compile.specs.Machines.{with_row, word_items};
+ghost use Rattle.drv_compile.specs.Machines.{by_rows, folder_item, is_machine, key_of, key_word};
+ghost use Rattle.drv_compile.specs.Machines.{machined, machined_by, plain_item, row_beginning};
+ghost use Rattle.drv_compile.specs.Machines.{row_items, with_row, word_item, word_items};
 ghost use Rattle.std.specs.List.{flat_map};
 ghost use Rattle.std.specs.Option.{option_copied};
-ghost use Rattle.std.specs.Prelude.{◌≡◌, ◌++◌, IfOk, OnOk};
+ghost use Rattle.std.specs.Prelude.{◌≡◌, ◌++◌, IfOk, OnOk, drop};
 
 use crate::compilers::first_value;
 use drv_args::{Effect, Item};
@@ -60,21 +60,52 @@ fn row_beginning(alloc: Global, items: &[Item]) -> Result<Word, AllocError>
     Ok(beginning)
 }
 
-/// Adds a word of a row as a switch.
+/// The word of a row for a folder of its libraries begins so.
+const FOLDER: &[u8] = b"--gdrv-in=";
+
+/// The folder of such a word.
+fn folder_of(word: &[u8]) -> &[u8]
+    ensures { result.now ≡ drop 10 word.now }
+{
+    word.get(10..).unwrap_or(&[])
+}
+
+/// A folder of libraries as a prefix.
+fn folder_item(alloc: Global, word: &[u8]) -> Result<Item, AllocError>
+    ensures { IfOk result (λ item. item ≡ folder_item word.now) }
+{
+    Ok(Item {
+        effect: Effect::Prefix,
+        option: Word::from_bytes(alloc, FOLDER)?,
+        argument: Word::from_bytes(alloc, folder_of(word))?,
+    })
+}
+
+/// A word of a row as an item: a folder is a prefix, and any other word a switch.
+fn word_item(alloc: Global, word: &[u8]) -> Result<Item, AllocError>
+    ensures { IfOk result (λ item. item ≡ word_item word.now) }
+{
+    if word.starts_with(FOLDER) {
+        return folder_item(alloc, word);
+    }
+    Ok(Item {
+        effect: Effect::Switch,
+        option: Word::from_bytes(alloc, word)?,
+        argument: Word::empty(alloc),
+    })
+}
+
+/// Adds a word of a row.
 fn push_word(alloc: Global, word: &[u8], items: &mut Listing<Item>) -> Result<(), AllocError>
     ensures { OnOk result (items.new ≡ items.old ++ word_items word.now) }
 {
     if !word.is_empty() {
-        items.push(Item {
-            effect: Effect::Switch,
-            option: Word::from_bytes(alloc, word)?,
-            argument: Word::empty(alloc),
-        })?;
+        items.push(word_item(alloc, word)?)?;
     }
     Ok(())
 }
 
-/// The words of a row as switches.
+/// The words of a row as items.
 fn row_items(alloc: Global, row: &[u8]) -> Result<Listing<Item>, AllocError>
     ensures { IfOk result (λ items. items ≡ row_items row.now) }
 {
@@ -116,7 +147,7 @@ fn push_all_plain(items: &[Item], plain: &mut Listing<Item>) -> Result<(), Alloc
     Ok(())
 }
 
-/// The items of a line with the words of its row, if it has one.
+/// The items of a line after the words of its row, if it has one.
 fn with_row(
     alloc: Global,
     items: &[Item],
@@ -130,8 +161,8 @@ fn with_row(
     let mut plain = Listing::new(alloc);
     push_all_plain(items, &mut plain)?;
     let words = row_items(alloc, row.as_bytes())?;
-    let mut made = plain.into_vec();
-    made.append(&mut words.into_vec())?;
+    let mut made = words.into_vec();
+    made.append(&mut plain.into_vec())?;
     Ok(Some(Listing::from_vec(made)))
 }
 

@@ -90,8 +90,14 @@ fn copy_files(rt: &HostRuntime, room: &Room, stem: &Word) -> Result<(), Fault> {
     Ok(())
 }
 
-/// The row of these options.
-fn row_for(rt: &HostRuntime, room: &Room, gcc: &Word, key: &Word) -> Result<Row, Fault> {
+/// The row of these options, for a gcc with these folders.
+fn row_for(
+    rt: &HostRuntime,
+    room: &Room,
+    gcc: &Word,
+    folders: &[Word],
+    key: &Word,
+) -> Result<Row, Fault> {
     let asked = Asked {
         rt,
         room,
@@ -100,7 +106,7 @@ fn row_for(rt: &HostRuntime, room: &Room, gcc: &Word, key: &Word) -> Result<Row,
         places: Places::Searched,
     };
     let (_, probes) = with_natives(asked, asked.own_texts()?, Ways::Rows)?;
-    match row_of(asked, probes.as_slice())? {
+    match row_of(asked, probes.as_slice(), folders)? {
         Some(row) => Ok(row),
         None => Err(Fault::NoRow(key.clone()?)),
     }
@@ -135,7 +141,9 @@ fn add_in(
     key: &Word,
 ) -> Result<(), Fault> {
     copy_files(rt, room, stem)?;
-    let row = row_for(rt, room, gcc, key)?;
+    let whole = text_of(rt.alloc(), lines)?;
+    let folders = values(rt.alloc(), b"folder ", whole.as_bytes())?;
+    let row = row_for(rt, room, gcc, folders.as_slice(), key)?;
     put_row(rt, room, stem, lines, &row)?;
     if (Pair { rt, room, gcc }).is_other(key)? {
         return Err(Fault::NoRow(key.clone()?));

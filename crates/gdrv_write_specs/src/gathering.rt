@@ -1,12 +1,13 @@
 //! What is known of a gcc is gathered from its answers.
 
 use crate::asked::{Asked, Places};
-use crate::asking::{commands, named, text};
+use crate::asking::{commands, named};
 use crate::defaults::with_defaults;
 use crate::fault::Fault;
 use crate::finding::{command_named, has_word, word_beginning};
 use crate::machines::{Facts, Part, choice, facts_for, machine_of, own_folder};
 use crate::natives::with_natives;
+use crate::programs::is_folder;
 use crate::room::Room;
 use crate::row_texts::{Ways, add_row_values, multilib_facts};
 use crate::rows::{Row, rows_of};
@@ -19,7 +20,6 @@ use drv_gcc::{
 use drv_words::{Listing, Word};
 use itoa::Buffer;
 use std::alloc::Global;
-use std::fs;
 
 /// A spec file that shows what the folders of gcc are (`%I`, `%D`).
 pub const PROBE: &[u8] =
@@ -28,11 +28,7 @@ pub const PROBE: &[u8] =
 /// Adds the folders of a path that are there, and that a list lacks.
 fn add_folders(rt: &HostRuntime, path: &[u8], folders: &mut Listing<Word>) -> Result<(), Fault> {
     for folder in path.split(|byte| *byte == b':') {
-        let is_there = match fs::metadata(rt, text(folder)?) {
-            Ok(found) => found.is_dir(),
-            Err(_) => false,
-        };
-        if is_there && !has_word(folders.as_slice(), folder) {
+        if is_folder(rt, folder)? && !has_word(folders.as_slice(), folder) {
             folders.push(Word::from_bytes(rt.alloc(), folder)?)?;
         }
     }
@@ -507,7 +503,8 @@ impl Gathered {
     /// Asks for the rows.
     pub fn add_rows(&mut self, rt: &HostRuntime, room: &Room, gcc: &Word) -> Result<(), Fault> {
         self.others = multilib_facts(rt, room, gcc, &self.folder, self.names.as_slice())?;
-        self.rows = rows_of(rt, room, gcc, self.probes.as_slice())?;
+        let folders = self.toolchain.folders.as_slice();
+        self.rows = rows_of(rt, room, gcc, self.probes.as_slice(), folders)?;
         Ok(())
     }
 

@@ -21,6 +21,14 @@ pub fn is_file(rt: &HostRuntime, path: &Word) -> Result<bool, Fault> {
     }
 }
 
+/// Whether a folder is at a path.
+pub fn is_folder(rt: &HostRuntime, path: &[u8]) -> Result<bool, Fault> {
+    match fs::metadata(rt, text(path)?) {
+        Ok(found) => Ok(found.is_dir()),
+        Err(_) => Ok(false),
+    }
+}
+
 /// The path of a program that is looked for along PATH, or that has a path; none where it isn't
 /// there.
 pub fn program_at(rt: &HostRuntime, name: &Word) -> Result<Option<Word>, Fault> {

@@ -23,7 +23,7 @@ pub enum Ways {
 
 /// How texts begin of which each line uses one, and how they begin where rows have the words for
 /// machines. They refuse lines without the front, which hands these words on. They refuse links
-/// whose files are looked for along other folders too, while the libraries are in one of their own.
+/// whose files are looked for along folders of the line, while the libraries are in one of their own.
 const GUARDED: [(&[u8], &[u8]); 4] = [
     (
         b"*cpp_unique_options:\n",
@@ -39,8 +39,8 @@ const GUARDED: [(&[u8], &[u8]); 4] = [
     ),
     (
         b"*link:\n",
-        b"*link:\n%{!-gdrv-front:%ethis spec file needs gdrv-cc} %{-gdrv-dirs:%{-gdrv-multi=*:%e-B \
-or -specs= with options for other libraries is not in this spec file}} ",
+        b"*link:\n%{!-gdrv-front:%ethis spec file needs gdrv-cc} %{-gdrv-dirs:%{-gdrv-multi=*:%(own_\
+folders)%{B*:%e-B with options for other libraries is not in this spec file}}} ",
     ),
 ];
 

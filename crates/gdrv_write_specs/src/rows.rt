@@ -5,6 +5,7 @@ use crate::asked::{Asked, Places};
 use crate::asking::named;
 use crate::fault::Fault;
 use crate::finding::{command_named, has_word, word_after, words_between};
+use crate::programs::is_folder;
 use crate::room::Room;
 use drv_gcc::{options, values};
 use drv_words::{Listing, Word, split};
@@ -36,13 +37,31 @@ fn collected(asked: Asked<'_>) -> Result<Option<Listing<Word>>, Fault> {
     Ok(if said.is_done { Some(words) } else { None })
 }
 
-/// Adds the word for the folder of the libraries, if they are in one of their own.
-fn add_folder(asked: Asked<'_>, words: &mut Listing<Word>) -> Result<(), Fault> {
-    let folder = asked.answer(b"-print-multi-directory", b"")?;
-    if folder.as_bytes() != b".".as_slice() {
-        words.push(named(asked.alloc(), b"--gdrv-multi=", folder.as_bytes())?)?;
+/// Adds a word for each of these folders that has libraries in a folder of this name.
+fn add_places(
+    asked: Asked<'_>,
+    name: &Word,
+    folders: &[Word],
+    words: &mut Listing<Word>,
+) -> Result<(), Fault> {
+    for folder in folders {
+        let mut place = named(asked.alloc(), folder.as_bytes(), name.as_bytes())?;
+        place.push(b'/')?;
+        if is_folder(asked.rt, place.as_bytes())? {
+            words.push(named(asked.alloc(), b"--gdrv-in=", place.as_bytes())?)?;
+        }
     }
     Ok(())
+}
+
+/// Adds the words for the folder of the libraries, if they are in one of their own.
+fn add_folder(asked: Asked<'_>, folders: &[Word], words: &mut Listing<Word>) -> Result<(), Fault> {
+    let name = asked.answer(b"-print-multi-directory", b"")?;
+    if name.as_bytes() == b".".as_slice() {
+        return Ok(());
+    }
+    words.push(named(asked.alloc(), b"--gdrv-multi=", name.as_bytes())?)?;
+    add_places(asked, &name, folders, words)
 }
 
 /// The beginning of the words for the function of this number.
@@ -70,12 +89,12 @@ fn add_values(
     Ok(())
 }
 
-/// The row of these options; none where gcc refuses them.
-pub fn row_of(asked: Asked<'_>, probes: &[Word]) -> Result<Option<Row>, Fault> {
+/// The row of these options, for a gcc with these folders; none where it refuses them.
+pub fn row_of(asked: Asked<'_>, probes: &[Word], folders: &[Word]) -> Result<Option<Row>, Fault> {
     let Some(mut words) = collected(asked)? else {
         return Ok(None);
     };
-    add_folder(asked, &mut words)?;
+    add_folder(asked, folders, &mut words)?;
     for (number, probe) in probes.iter().enumerate() {
         add_values(asked, number, probe, &mut words)?;
     }
@@ -215,17 +234,18 @@ fn asked_with<'a>(
     }
 }
 
-/// The rows of a gcc whose functions have these probes.
+/// The rows of a gcc with these folders, whose functions have these probes.
 pub fn rows_of(
     rt: &HostRuntime,
     room: &Room,
     gcc: &Word,
     probes: &[Word],
+    folders: &[Word],
 ) -> Result<Listing<Row>, Fault> {
     let none = Word::empty(rt.alloc());
     let mut rows = Listing::new(rt.alloc());
     for key in keys_of(asked_with(rt, room, gcc, &none))?.as_slice() {
-        if let Some(row) = row_of(asked_with(rt, room, gcc, key), probes)? {
+        if let Some(row) = row_of(asked_with(rt, room, gcc, key), probes, folders)? {
             rows.push(row)?;
         }
     }
