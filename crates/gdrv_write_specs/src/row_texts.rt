@@ -23,24 +23,32 @@ pub enum Ways {
 
 /// How texts begin of which each line uses one, and how they begin where rows have the words for
 /// machines. They refuse lines without the front, which hands these words on. They refuse links
-/// whose files are looked for along folders of the line, while the libraries are in one of their own.
+/// whose files are looked for along folders of the line, while the libraries are in one of their
+/// own, and spec files that are.
 const GUARDED: [(&[u8], &[u8]); 4] = [
     (
         b"*cpp_unique_options:\n",
-        b"*cpp_unique_options:\n%{!-gdrv-front:%ethis spec file needs gdrv-cc} ",
+        b"*cpp_unique_options:\n%{!-gdrv-front:%ethis spec file needs gdrv-cc} \
+%{-gdrv-multi=*:%{specs=*:%(own_folders)%{B*:%e-B with options for other libraries is not in this \
+spec file}}} ",
     ),
     (
         b"*cc1_options:\n",
-        b"*cc1_options:\n%{!-gdrv-front:%ethis spec file needs gdrv-cc} ",
+        b"*cc1_options:\n%{!-gdrv-front:%ethis spec file needs gdrv-cc} \
+%{-gdrv-multi=*:%{specs=*:%(own_folders)%{B*:%e-B with options for other libraries is not in this \
+spec file}}} ",
     ),
     (
         b"*asm_options:\n",
-        b"*asm_options:\n%{!-gdrv-front:%ethis spec file needs gdrv-cc} ",
+        b"*asm_options:\n%{!-gdrv-front:%ethis spec file needs gdrv-cc} \
+%{-gdrv-multi=*:%{specs=*:%(own_folders)%{B*:%e-B with options for other libraries is not in this \
+spec file}}} ",
     ),
     (
         b"*link:\n",
-        b"*link:\n%{!-gdrv-front:%ethis spec file needs gdrv-cc} %{-gdrv-dirs:%{-gdrv-multi=*:%(own_\
-folders)%{B*:%e-B with options for other libraries is not in this spec file}}} ",
+        b"*link:\n%{!-gdrv-front:%ethis spec file needs gdrv-cc} \
+%{-gdrv-dirs:%{-gdrv-multi=*:%(own_folders)%{B*:%e-B with options for other libraries is not in \
+this spec file}}} ",
     ),
 ];
 
