@@ -6,7 +6,7 @@ use crate::fault::Fault;
 use crate::gathering::nothing;
 use crate::machines::{Facts, facts_for};
 use crate::room::Room;
-use crate::rows::multilibs;
+use crate::rows::{folder_switch, multilibs};
 use drv_gcc::{Choice, NamedText, replace};
 use drv_words::{Listing, Word};
 use itoa::Buffer;
@@ -92,18 +92,6 @@ pub fn add_row_values(
     Ok(())
 }
 
-/// The test of a row for libraries in a folder of their own.
-fn folder_test(alloc: Global, folder: &Word) -> Result<Word, Fault> {
-    let mut test = Word::from_bytes(alloc, b"-gdrv-multi=")?;
-    for byte in folder.as_bytes() {
-        if *byte == b'/' {
-            test.push(b'\\')?;
-        }
-        test.push(*byte)?;
-    }
-    Ok(test)
-}
-
 /// What the gcc does for each of its libraries in a folder of its own, by a test of that folder.
 pub fn multilib_facts(
     rt: &HostRuntime,
@@ -125,7 +113,8 @@ pub fn multilib_facts(
         let asked = Asked { option, ..own };
         let place = asked.answer(b"-print-multi-directory", b"")?;
         let mut facts = facts_for(asked, folder, names, &[], &[])?;
-        facts.test = folder_test(rt.alloc(), &place)?;
+        let switch = folder_switch(rt.alloc(), &place)?;
+        facts.test = named(rt.alloc(), b"-", switch.as_bytes())?;
         found.push(facts)?;
     }
     Ok(found)

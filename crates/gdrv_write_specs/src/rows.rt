@@ -7,7 +7,7 @@ use crate::fault::Fault;
 use crate::finding::{command_named, has_word, word_after, words_between};
 use crate::programs::is_folder;
 use crate::room::Room;
-use drv_gcc::{options, values};
+use drv_gcc::{options, replace, values};
 use drv_words::{Listing, Word, split};
 use itoa::Buffer;
 use std::alloc::Global;
@@ -60,8 +60,16 @@ fn add_folder(asked: Asked<'_>, folders: &[Word], words: &mut Listing<Word>) -> 
     if name.as_bytes() == b".".as_slice() {
         return Ok(());
     }
-    words.push(named(asked.alloc(), b"--gdrv-multi=", name.as_bytes())?)?;
+    let switch = folder_switch(asked.alloc(), &name)?;
+    words.push(named(asked.alloc(), b"--", switch.as_bytes())?)?;
     add_places(asked, &name, folders, words)
+}
+
+/// The switch for libraries in a folder of this name, as a test of a text has it: no test has a
+/// slash.
+pub fn folder_switch(alloc: Global, name: &Word) -> Result<Word, Fault> {
+    let switch = named(alloc, b"gdrv-multi=", name.as_bytes())?;
+    Ok(replace(alloc, switch.as_bytes(), b"/", b",")?)
 }
 
 /// The beginning of the words for the function of this number.
