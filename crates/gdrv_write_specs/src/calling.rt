@@ -6,7 +6,7 @@ ghost use Rattle.gdrv_write_specs.specs.Calls.{order_of, question_of, written_to
 ghost use Rattle.gdrv_write_specs.specs.declared.calling.CallFault.TheVariants.{Memory};
 ghost use Rattle.std.specs.Prelude.{◌≡◌, IfOk};
 
-use drv_words::{Listing, Word};
+use drv_words::{Listing, Word, copy_words};
 use std::alloc::{AllocError, Global};
 
 /// How a spec file is put in place.
@@ -83,24 +83,13 @@ fn order_of(manner: Manner, words: &[Word]) -> Result<Call, CallFault>
     }
 }
 
-/// A copy of words.
-fn copied(alloc: Global, words: &[Word]) -> Result<Listing<Word>, AllocError>
-    ensures { IfOk result (λ copy. copy ≡ words.now) }
-{
-    let mut copy = Listing::new(alloc);
-    for word in words {
-        copy.push(word.clone()?)?;
-    }
-    Ok(copy)
-}
-
 /// The words of options that are added beside the spec file of this path.
 fn added_to(alloc: Global, path: &Word, options: &[Word]) -> Result<Call, CallFault>
     ensures { Gives Memory (λ call. call) result (added_to path.now options.now) }
 {
     let path = path.clone()?;
     if is_specs(path.as_bytes()) {
-        let options = copied(alloc, options)?;
+        let options = copy_words(alloc, options)?;
         return Ok(Call::Add(path, options));
     }
     Err(CallFault::NotSpecs(path))

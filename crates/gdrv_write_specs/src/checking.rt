@@ -231,7 +231,7 @@ impl<'a> Pair<'a> {
     }
 
     /// The options that the gcc lacks because its texts don't name them.
-    pub fn unnamed(self) -> Result<Listing<Word>, Fault> {
+    pub fn unnamed_options(self) -> Result<Listing<Word>, Fault> {
         let mut unnamed = Listing::new(self.rt.alloc());
         for option in NAMED {
             let word = Word::from_bytes(self.rt.alloc(), option)?;

@@ -105,7 +105,7 @@ impl<'a> Asked<'a> {
     }
 
     /// The dump with the texts that refuse lines.
-    fn guarded(self) -> Result<Word, Fault> {
+    fn with_refusals(self) -> Result<Word, Fault> {
         let mut dump = self.dump()?;
         for (head, guarded) in GUARDED {
             dump = replace(self.alloc(), dump.as_bytes(), head, guarded)?;
@@ -115,7 +115,7 @@ impl<'a> Asked<'a> {
 
     /// The texts of the gcc.
     pub fn own_texts(self) -> Result<Word, Fault> {
-        let dump = self.guarded()?;
+        let dump = self.with_refusals()?;
         let files = self.files_read()?;
         if files.is_empty() {
             return Ok(dump);

@@ -5,7 +5,7 @@ use crate::asking::{commands, named};
 use crate::defaults::with_defaults;
 use crate::fault::Fault;
 use crate::finding::{command_named, has_word, word_beginning};
-use crate::machines::{Facts, Part, choice, facts_for, machine_of, own_folder};
+use crate::machines::{Facts, MachineText, choice, facts_for, machine_of, own_folder};
 use crate::natives::with_natives;
 use crate::programs::is_folder;
 use crate::room::Room;
@@ -121,7 +121,7 @@ struct Translated {
 
 impl<'a> Asked<'a> {
     /// Its texts in this driver's language.
-    fn translated(self, ways: Ways) -> Result<Translated, Fault> {
+    fn translate(self, ways: Ways) -> Result<Translated, Fault> {
         let alloc = self.alloc();
         let (dump, probes) = with_natives(self, self.guarded_for(ways)?, ways)?;
         let (Ok(OurDump { texts, refused }), Ok(passed)) = (
@@ -220,11 +220,11 @@ impl<'a> Asked<'a> {
     ) -> Result<Toolchain, Fault> {
         let around = self.around(&texts, names)?;
         let texts = with_defaults(self.alloc(), texts, machine)?;
-        Ok(assembled(self.alloc(), texts, passed, around))
+        Ok(toolchain_of(self.alloc(), texts, passed, around))
     }
 
     /// The toolchain with these texts, and what it hands to the assembler for `-g`.
-    fn described(
+    fn describe(
         self,
         texts: Word,
         passed: Word,
@@ -271,7 +271,7 @@ impl<'a> Asked<'a> {
 
     /// What is known of the gcc before its programs are asked for.
     fn known(self, ways: Ways) -> Result<Known, Fault> {
-        let translated = self.translated(ways)?;
+        let translated = self.translate(ways)?;
         let machine = self.machine(ways)?;
         let own = self.own_machine(&translated, machine.as_slice())?;
         Ok(Known {
@@ -322,7 +322,7 @@ struct Known {
 }
 
 /// A toolchain that does nothing for its machines yet.
-fn assembled(alloc: Global, texts: Word, passed: Word, around: Around) -> Toolchain {
+fn toolchain_of(alloc: Global, texts: Word, passed: Word, around: Around) -> Toolchain {
     let Around {
         included,
         roots,
@@ -369,9 +369,9 @@ fn machine_options(
 ) -> Result<MachineOptions, Fault> {
     Ok(MachineOptions {
         has_native,
-        usual: choice(alloc, own, others, Part::Usual)?,
-        native: choice(alloc, own, others, Part::Native)?,
-        tuned: choice(alloc, own, others, Part::Tuned)?,
+        usual: choice(alloc, own, others, MachineText::Usual)?,
+        native: choice(alloc, own, others, MachineText::Native)?,
+        tuned: choice(alloc, own, others, MachineText::Tuned)?,
     })
 }
 
@@ -386,7 +386,7 @@ fn add_files(
     for (n, name) in names.iter().enumerate() {
         texts.push(NamedText {
             name: named(alloc, b"file_", name.as_bytes())?,
-            choice: choice(alloc, own, others, Part::Place(n))?,
+            choice: choice(alloc, own, others, MachineText::Place(n))?,
         })?;
     }
     Ok(())
@@ -420,7 +420,7 @@ fn add_natives(
     for (n, probe) in probes.iter().enumerate() {
         texts.push(NamedText {
             name: probe.clone()?,
-            choice: choice(alloc, own, others, Part::Value(n))?,
+            choice: choice(alloc, own, others, MachineText::Value(n))?,
         })?;
     }
     Ok(())
@@ -462,8 +462,8 @@ fn choose_for(
     others: &[Facts],
     has_native: bool,
 ) -> Result<(), Fault> {
-    let include_words = choice(alloc, own, others, Part::IncludeWords)?;
-    let link_folders = choice(alloc, own, others, Part::LinkFolders)?;
+    let include_words = choice(alloc, own, others, MachineText::IncludeWords)?;
+    let link_folders = choice(alloc, own, others, MachineText::LinkFolders)?;
     let machine = machine_options(alloc, has_native, own, others)?;
     let tests = tests_of(alloc, others)?;
     toolchain.include_words = include_words;
@@ -570,7 +570,7 @@ pub fn gather(rt: &HostRuntime, room: &Room, gcc: &Word, ways: Ways) -> Result<G
         lacking,
         probes,
     } = translated;
-    let (toolchain, records) = asked.described(
+    let (toolchain, records) = asked.describe(
         texts,
         passed,
         own.names.as_slice(),

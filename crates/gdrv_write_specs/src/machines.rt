@@ -48,7 +48,7 @@ pub struct Facts {
 
 /// One of these texts.
 #[derive(Clone, Copy)]
-pub enum Part {
+pub enum MachineText {
     Place(usize),
     IncludeWords,
     LinkFolders,
@@ -444,15 +444,15 @@ pub fn facts_for(
 
 impl Facts {
     /// One of the texts.
-    pub fn text(&self, part: Part) -> &[u8] {
+    pub fn text(&self, part: MachineText) -> &[u8] {
         let found = match part {
-            Part::Place(n) => self.places.as_slice().get(n),
-            Part::IncludeWords => Some(&self.shown.headers),
-            Part::LinkFolders => Some(&self.shown.libraries),
-            Part::Usual => Some(&self.added.usual),
-            Part::Native => Some(&self.added.native),
-            Part::Tuned => Some(&self.added.tuned),
-            Part::Value(n) => self.values.as_slice().get(n),
+            MachineText::Place(n) => self.places.as_slice().get(n),
+            MachineText::IncludeWords => Some(&self.shown.headers),
+            MachineText::LinkFolders => Some(&self.shown.libraries),
+            MachineText::Usual => Some(&self.added.usual),
+            MachineText::Native => Some(&self.added.native),
+            MachineText::Tuned => Some(&self.added.tuned),
+            MachineText::Value(n) => self.values.as_slice().get(n),
         };
         match found {
             Some(text) => text.as_bytes(),
@@ -462,7 +462,7 @@ impl Facts {
 }
 
 /// The text of a machine, with the test of its option.
-fn for_machine(alloc: Global, facts: &Facts, part: Part) -> Result<ForMachine, Fault> {
+fn for_machine(alloc: Global, facts: &Facts, part: MachineText) -> Result<ForMachine, Fault> {
     Ok(ForMachine {
         test: facts.test.clone()?,
         text: Word::from_bytes(alloc, facts.text(part))?,
@@ -474,7 +474,7 @@ fn differing(
     alloc: Global,
     own: &Facts,
     others: &[Facts],
-    part: Part,
+    part: MachineText,
 ) -> Result<Listing<ForMachine>, Fault> {
     let mut differing = Listing::new(alloc);
     for it in others {
@@ -486,7 +486,12 @@ fn differing(
 }
 
 /// A text for each machine: the gcc's own, and those of which it is another one.
-pub fn choice(alloc: Global, own: &Facts, others: &[Facts], part: Part) -> Result<Choice, Fault> {
+pub fn choice(
+    alloc: Global,
+    own: &Facts,
+    others: &[Facts],
+    part: MachineText,
+) -> Result<Choice, Fault> {
     Ok(Choice {
         own: Word::from_bytes(alloc, own.text(part))?,
         others: differing(alloc, own, others, part)?,

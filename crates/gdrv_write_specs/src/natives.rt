@@ -30,7 +30,7 @@ fn native_call(alloc: Global, function: &[u8], arguments: &Word) -> Result<Word,
 }
 
 /// A call for lines that have what its arguments test: some functions end gcc without arguments.
-fn guarded(alloc: Global, arguments: &Word, call: &Word) -> Result<Word, Fault> {
+fn guard_call(alloc: Global, arguments: &Word, call: &Word) -> Result<Word, Fault> {
     let bytes = arguments.as_bytes();
     let end = bytes.iter().position(|byte| *byte == b':').unwrap_or(0);
     if !bytes.starts_with(b"%{") || bytes.starts_with(b"%{!") {
@@ -83,7 +83,7 @@ pub fn with_natives(
         for arguments in named_texts(alloc, function, texts.as_bytes())?.as_slice() {
             let call = native_call(alloc, function, arguments)?;
             let name = native_name(alloc, probes.len())?;
-            write_probe(asked, &name, &guarded(alloc, arguments, &call)?)?;
+            write_probe(asked, &name, &guard_call(alloc, arguments, &call)?)?;
             texts = with_native(alloc, &texts, &name, &call)?;
             probes.push(name)?;
         }

@@ -3,7 +3,7 @@
 use crate::asking::named;
 use crate::fault::Fault;
 use crate::finding::has_bytes;
-use crate::shortening::{Known, name_in, shortened, squeezed};
+use crate::shortening::{Known, name_in, shorten, squeeze};
 use drv_dump::{Kind, read_text};
 use drv_words::{Listing, Word, split};
 use std::alloc::Global;
@@ -286,7 +286,7 @@ fn visit(
         return Ok(true);
     }
     it.is_counted = true;
-    let Some(text) = shortened(alloc, known, names, it.body.as_bytes())? else {
+    let Some(text) = shorten(alloc, known, names, it.body.as_bytes())? else {
         return Ok(false);
     };
     it.body = text.clone()?;
@@ -355,7 +355,7 @@ fn placed(alloc: Global, entries: &mut [Entry], name: &[u8]) -> Result<Option<Wo
 }
 
 /// A text with others in the places of their names; none if one of them isn't grown yet.
-fn grown(alloc: Global, entries: &mut [Entry], body: &[u8]) -> Result<Option<Word>, Fault> {
+fn with_bodies(alloc: Global, entries: &mut [Entry], body: &[u8]) -> Result<Option<Word>, Fault> {
     let mut whole = Word::empty(alloc);
     let Ok(pieces) = read_text(alloc, body) else {
         return Ok(None);
@@ -381,9 +381,9 @@ fn grow(alloc: Global, entries: &mut [Entry]) -> Result<(), Fault> {
                 Some(it) if it.is_reached && !it.is_grown => it.body.clone()?,
                 _ => continue,
             };
-            if let Some(text) = grown(alloc, entries, body.as_bytes())? {
+            if let Some(text) = with_bodies(alloc, entries, body.as_bytes())? {
                 if let Some(it) = entries.get_mut(n) {
-                    it.body = squeezed(alloc, text.as_bytes())?;
+                    it.body = squeeze(alloc, text.as_bytes())?;
                     it.is_grown = true;
                 }
             }
@@ -415,7 +415,7 @@ fn push_entry(file: &mut Word, name: &[u8], body: &[u8]) -> Result<(), Fault> {
 }
 
 /// The texts of a part: those with new names, and its roots. None if some root isn't grown.
-fn printed(alloc: Global, entries: &[Entry], roots: &[Word]) -> Result<Option<Word>, Fault> {
+fn print_part(alloc: Global, entries: &[Entry], roots: &[Word]) -> Result<Option<Word>, Fault> {
     let mut file = Word::empty(alloc);
     for it in entries {
         if let Some(name) = &it.letter {
@@ -557,7 +557,7 @@ fn part_among(
         return Ok(None);
     }
     grow(alloc, entries)?;
-    printed(alloc, entries, roots)
+    print_part(alloc, entries, roots)
 }
 
 /// A part of a spec file; none if it has a text that can't be read, or that names itself.

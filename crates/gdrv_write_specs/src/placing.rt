@@ -269,7 +269,7 @@ fn put_gathered(pair: Pair<'_>, manner: Manner, gathered: &mut Gathered) -> Resu
         gathered.lacking.as_slice(),
     )?;
     put_beside(pair.rt, pair.room, pair.gcc, gathered)?;
-    refuse(gathered, pair.unnamed()?.as_slice())?;
+    refuse(gathered, pair.unnamed_options()?.as_slice())?;
     put_specs(pair, gathered)?;
     check(pair, manner, gathered)
 }

@@ -179,7 +179,7 @@ fn end_alternative(alloc: Global, known: &Known, it: &mut Braces) -> Result<(), 
             }
             it.given.extend_from_slice(tests.as_bytes())?;
             it.given.push(b':')?;
-            let text = squeezed(alloc, trimmed(body.as_bytes()))?;
+            let text = squeeze(alloc, trimmed(body.as_bytes()))?;
             it.given.extend_from_slice(text.as_bytes())?;
             note_failed(alloc, it, tests.as_bytes())?;
         }
@@ -236,7 +236,7 @@ fn unless(text: &[u8]) -> Option<(&[u8], &[u8])> {
 
 /// Braces in braces, both for lines without some switches, as one: `%{!S:%{!T:X}}`. None if they are
 /// others.
-fn merged(alloc: Global, text: &[u8]) -> Result<Option<Word>, Fault> {
+fn merge(alloc: Global, text: &[u8]) -> Result<Option<Word>, Fault> {
     let Some((names, body)) = unless(text) else {
         return Ok(None);
     };
@@ -271,7 +271,7 @@ fn alternatives(alloc: Global, it: &Braces) -> Result<Word, Fault> {
         return Ok(Word::empty(alloc));
     }
     let whole = braced(&it.opening, it.given.as_bytes())?;
-    Ok(match merged(alloc, whole.as_bytes())? {
+    Ok(match merge(alloc, whole.as_bytes())? {
         Some(shorter) => shorter,
         None => whole,
     })
@@ -419,7 +419,7 @@ fn put_gap(gap: Gap, text: &mut Word) -> Result<(), Fault> {
 }
 
 /// A text with one blank where there are several, and none beside a newline.
-pub fn squeezed(alloc: Global, text: &[u8]) -> Result<Word, Fault> {
+pub fn squeeze(alloc: Global, text: &[u8]) -> Result<Word, Fault> {
     let mut whole = Word::empty(alloc);
     let mut gap = Gap::Nothing;
     let mut is_escaped = false;
@@ -445,7 +445,7 @@ pub fn squeezed(alloc: Global, text: &[u8]) -> Result<Word, Fault> {
 
 /// A text for lines of which this is known, where these are the names of all texts; none if it
 /// can't be read.
-pub fn shortened(
+pub fn shorten(
     alloc: Global,
     known: &Known,
     names: &[Word],
@@ -461,5 +461,5 @@ pub fn shortened(
     for piece in pieces.as_slice() {
         cutting.add(alloc, known, names, piece)?;
     }
-    Ok(Some(squeezed(alloc, cutting.whole.as_bytes())?))
+    Ok(Some(squeeze(alloc, cutting.whole.as_bytes())?))
 }
