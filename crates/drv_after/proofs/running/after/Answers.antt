@@ -7,6 +7,9 @@ use Rattle.drv_core.specs.Story.{event}
 use Rattle.drv_words.specs.Stepping.{fits}
 use Rattle.std.proofs.Common.{◌≡◌, ◌∙◌, ◌++◌, [], ◌∷◌, ap, length, subst, sym, true}
 
+-- after (src/running.rt): the whole run of a plan, in which each step is answered by the first answer that is given for its place, or else
+-- that all is well
+
 pub answer-requires-clause-fits : goal.answer-requires-clause-fits
 answer-requires-clause-fits c =
     subst (λ action. IfMake action (λ step. fits c.loop-run.run.events step c.answer_to.result ≡ true)) c.in-Make.ensures.action

@@ -6,6 +6,8 @@ use Rattle.std.proofs.Common.{◌≡◌, ◌-◌, ◌∷◌, ◌++◌, ◌∙◌
 use Rattle.std.proofs.lemmas.List.{nil_from_length}
 use Rattle.drv_args.proofs.expansion.expand_all.Goals as goal
 
+-- expand_all (src/expansion.rt): replaces each argument that names a file
+
 pub returns-in_err-replace_word-clause-expands : goal.returns-in_err-replace_word-clause-expands
 returns-in_err-replace_word-clause-expands g c F e =
     let goes = c.loop-word.invariant.goes F (extends_before c.replace_word.ensures.asks e) in

@@ -6,6 +6,8 @@ use Rattle.std.proofs.lemmas.Iterator.{YieldsList-from_slice}
 use Rattle.std.proofs.lemmas.List.Sums.{length-filter}
 use Rattle.std.specs.Slice.Iter.{iter_rest}
 
+-- file_count (src/judging.rt): how many inputs are files
+
 pub returns : goal.returns
 returns c =
     count_from_yields_List _ _ c.count.ensures.ran

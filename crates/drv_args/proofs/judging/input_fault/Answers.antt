@@ -3,6 +3,8 @@ use Rattle.drv_args.specs.Lines.{is_input}
 use Rattle.std.proofs.Common.{ap, inr, sym, ◌∙◌}
 use Rattle.drv_args.proofs.judging.input_fault.Goals as goal
 
+-- input_fault (src/judging.rt): the refusal of an output that is also an input
+
 pub returns-then-is_input : goal.returns-then-is_input
 returns-then-is_input c =
     inr (input_is_output c.args.output.now c.in_ok-clone.field-0 c.args.line.now

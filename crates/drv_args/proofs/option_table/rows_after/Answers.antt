@@ -3,6 +3,9 @@ use Rattle.drv_args.specs.Options.{option_table}
 use Rattle.drv_args.proofs.option_table.rows_after.Goals as goal
 use Rattle.std.proofs.Common.{arith, refl}
 
+-- rows_after (src/option_table.rt): the rows whose option begins with `-` and this byte, in the order of the table (GCC manual, "Overall
+-- Options", "Directory Options", "Preprocessor Options", "Link Options"; the forms of an option are this project's profile)
+
 pub returns-in-35 : goal.returns-in-35
 unfolding option_table
 returns-in-35 c = rows_at 35 c.args.letter _ c.in-35.is refl

@@ -1,6 +1,8 @@
 use Rattle.drv_args.proofs.LineSteps.{alone_next, last_line, wants_next}
 use Rattle.drv_args.proofs.reading.note_words.Goals as goal
 
+-- note_words (src/reading.rt): adds words to a line
+
 pub loop-left-preserved-in-Alone : goal.loop-left-preserved-in-Alone
 loop-left-preserved-in-Alone c =
     alone_next c.loop-left.left.now c.word-item.result c.as_bytes-bytes.result.now c.loop-left.builder c.note_whole.new.self

@@ -5,6 +5,8 @@ use Rattle.drv_args.specs.Fronts.{items_of}
 use Rattle.drv_args.specs.Lines.{line_of_items}
 use Rattle.std.proofs.Common.{◌≡◌, ◌∙◌, ap, rules, sym}
 
+-- read_words (src/reading.rt): reads words into a line
+
 pub returns-in_err-note_words : goal.returns-in_err-note_words
 returns-in_err-note_words c =
     let e : line_with c.in_ok-builder.builder (items_of c.as_slice.result.now)

@@ -2,6 +2,8 @@ use Rattle.drv_args.proofs.Beginnings.{fits_whole}
 use Rattle.drv_args.proofs.reading.start_by_row.Goals as goal
 use Rattle.std.proofs.Common.{◌++◌, ◌∙◌, ap}
 
+-- start_by_row (src/reading.rt): how a word begins a front, by the row that fits it
+
 pub returns-in-Joined-clause-whole : goal.returns-in-Joined-clause-whole
 returns-in-Joined-clause-whole c =
     ap (λ argument. c.args.row.option.now ++ argument) c.rest_of-argument.ensures ∙ fits_whole c.args.row.form c.args.row.option.now

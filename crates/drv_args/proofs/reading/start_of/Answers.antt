@@ -4,6 +4,8 @@ use Rattle.drv_args.specs.Code.Lookup.{shown}
 use Rattle.std.proofs.Common.{◌∙◌, None, Some, ap, arith, map, sym}
 use Rattle.std.specs.Option.{option_map}
 
+-- start_of (src/reading.rt): how a word begins a front
+
 pub returns-in-Some-clause-start : goal.returns-in-Some-clause-start
 returns-in-Some-clause-start c =
     c.start_by_row.ensures.start

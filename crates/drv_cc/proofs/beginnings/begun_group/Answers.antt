@@ -3,6 +3,8 @@ use Rattle.drv_cc.specs.Code.Groups.{begun_at}
 use Rattle.drv_cc.specs.Table.{sections}
 use Rattle.std.proofs.Common.{◌≡◌, ap, arith, sym}
 
+-- begun_group (src/beginnings.rt): the options of this key that a word begins with
+
 pub returns-in-0 : goal.returns-in-0
 unfolding sections
 returns-in-0 c = ap begun_at (sym c.in-0.is)

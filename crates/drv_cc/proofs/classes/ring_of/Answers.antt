@@ -4,6 +4,8 @@ use Rattle.drv_cc.specs.Code.Groups.{ringed_shown}
 use Rattle.std.proofs.Common.{map}
 use Rattle.std.specs.Option.{option_map}
 
+-- ring_of (src/classes.rt): the ring that has a name
+
 pub returns : goal.returns
 returns c =
     ring_found c.args.name.now c.list_key.result (map ringed_shown c.ringed_group.result.now)

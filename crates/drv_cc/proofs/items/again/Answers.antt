@@ -2,6 +2,8 @@ use Rattle.drv_cc.proofs.Again.{asked_again}
 use Rattle.drv_cc.proofs.items.again.Goals as goal
 use Rattle.std.proofs.Common.{◌∙◌, sym}
 
+-- again (src/items.rt): an item, by names of options
+
 pub returns : goal.returns
 returns c =
     asked_again c.args.known.now c.args.item _ c.by_own_name.result

@@ -3,6 +3,8 @@ use Rattle.drv_cc.proofs.keeping.kept_backwards.Goals as goal
 use Rattle.drv_cc.specs.Code.Staying.{is_seen}
 use Rattle.std.proofs.Common.{◌-◌, length, take}
 
+-- kept_backwards (src/keeping.rt): the items that stay, the last one first
+
 pub loop-left-preserved : goal.loop-left-preserved
 loop-left-preserved c =
     keeping_more c.args.items.now c.loop-left.left.now (take (length c.loop-left.left.now - 1) c.loop-left.left.now) c.loop-left.stay.items

@@ -3,6 +3,8 @@ use Rattle.drv_cc.specs.Code.Groups.{ignored_at}
 use Rattle.drv_cc.specs.Table.{ignored}
 use Rattle.std.proofs.Common.{◌≡◌, ap, arith, sym}
 
+-- ignored_group (src/name_groups.rt): the options of this key that are passed over
+
 pub returns-in-0 : goal.returns-in-0
 unfolding ignored
 returns-in-0 c = ap ignored_at (sym c.in-0.is)

@@ -3,6 +3,8 @@ use Rattle.drv_cc.specs.Front.{variable}
 use Rattle.std.proofs.Common.{[], ◌∷◌, ◌++◌, ◌∙◌, ap, codes}
 use Rattle.std.proofs.lemmas.Result.{on_ok_weaker}
 
+-- add_piece_variable (src/quoting.rt): adds the variable of the pieces for the assembler
+
 pub returns : goal.returns
 returns c =
     on_ok_weaker c.add_variable.result

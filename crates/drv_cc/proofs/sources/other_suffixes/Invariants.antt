@@ -3,6 +3,8 @@ use Rattle.drv_cc.specs.SideFiles.{other_suffixes, sources, sources_from}
 use Rattle.std.proofs.Common.{◌≡◌, drop}
 use Rattle.drv_cc.proofs.sources.other_suffixes.Given as goal
 
+-- the loops of other_suffixes (src/sources.rt): the suffixes of sources of these kinds that only their language makes sources
+
 abbrev pub invariant-loop-item : goal.invariant-loop-item
 invariant-loop-item l =
     all_noted (count_shown l.count) (other_suffixes (sources_from (kinds_shown l.kinds) l.language (drop l.item-index l.items)))

@@ -3,6 +3,8 @@ use Rattle.drv_cc.specs.Code.Groups.{whole_at}
 use Rattle.drv_cc.specs.Table.{sections}
 use Rattle.std.proofs.Common.{◌≡◌, ap, arith, sym}
 
+-- whole_group (src/whole_options.rt): the options of this key that a word is
+
 pub returns-in-0 : goal.returns-in-0
 unfolding sections
 returns-in-0 c = ap whole_at (sym c.in-0.is)

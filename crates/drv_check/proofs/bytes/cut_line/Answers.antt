@@ -4,6 +4,8 @@ use Rattle.drv_specs.specs.Lines.{lines_of}
 use Rattle.std.proofs.Common.{◌+◌, ◌∙◌, ◌∷◌, ap, sym, take}
 use Rattle.std.proofs.lemmas.List.{take_rest}
 
+-- cut_line (src/bytes.rt): a text's first line, and what follows its newline, if it has one
+
 pub returns-in-Some-clause-lines : goal.returns-in-Some-clause-lines
 returns-in-Some-clause-lines c =
     first_line c.args.text.now c.find_byte.result c.in-Some.at c.find_byte.ensures c.in-Some.is

@@ -3,6 +3,8 @@ use Rattle.drv_specs.proofs.Trimming.{front_by}
 use Rattle.drv_specs.specs.Blanks.{is_blank}
 use Rattle.std.proofs.Common.{length, refl}
 
+-- without_blanks (src/bytes.rt): a text without the blanks at its front
+
 pub returns : goal.returns
 returns c =
     front_by is_blank c.args.text.now c.following.result.now c.first_solid.result (length c.args.text.now) c.unwrap_or-stays.result

@@ -1,6 +1,8 @@
 use Rattle.drv_check.proofs.FaultsAlone.{base_checked}
 use Rattle.drv_check.proofs.checking.check_base.Goals as goal
 
+-- check_base (src/checking.rt): checks the files that are loaded first, and keeps their faults alone
+
 pub returns-clause-checks : goal.returns-clause-checks
 returns-clause-checks g c F e =
     base_checked F c.args.prefixes.now c.args.over.now c.in_ok-checking.checking c.check_all.new.checking c.faults_alone.result

@@ -5,6 +5,8 @@ use Rattle.std.proofs.Common.{◌≡◌, ◌++◌, length}
 use Rattle.std.specs.List.{flat_map}
 use Rattle.std.specs.Option.{option_map}
 
+-- the loops of push_marked (src/differing.rt): adds the lines of a text, each after a mark
+
 abbrev pub invariant-loop-left : goal.invariant-loop-left
 invariant-loop-left l =
     l.text ++ flat_map (marked_line l.mark) (lines_from (option_map (λ bytes. bytes.now) l.left)) ≡ l.fn.text ++ marked l.mark l.lines

@@ -4,6 +4,8 @@ use Rattle.drv_syntax.specs.Parsed.{tree_of}
 use Rattle.drv_syntax.specs.Tokens.{tokens_of}
 use Rattle.std.proofs.Common.{◌≡◌, ◌++◌, None, length}
 
+-- the loops of push_all_lost (src/lost_marks.rt): adds the warnings of tokens that mark no word
+
 abbrev pub invariant-loop-left : goal.invariant-loop-left
 invariant-loop-left l =
     l.marks.items ++ lost_marks l.start l.before l.left ≡ l.fn.marks.items ++ lost_marks l.start None (tokens_of (tree_of l.tree))

@@ -4,6 +4,8 @@ use Rattle.drv_check.specs.Origins.{files_from}
 use Rattle.std.proofs.Common.{◌≡◌, ◌++◌, drop}
 use Rattle.std.specs.List.{flat_map}
 
+-- the loops of namings_of (src/naming.rt): the parts of the texts of a set that name switches, by its dump, in their order
+
 abbrev pub invariant-loop-piece : goal.invariant-loop-piece
 invariant-loop-piece l =
     l.namings ++ flat_map (piece_namings l.sources (files_from 0 l.sources)) (drop l.piece-index l.piece-items)

@@ -4,6 +4,8 @@ use Rattle.drv_specs.specs.Code.Slices.{bytes_from, lines_from}
 use Rattle.std.proofs.Common.{◌≡◌, ◌≤◌, ◌+◌, ◌++◌, length}
 use Rattle.std.specs.Option.{option_map}
 
+-- the loops of pieces_of (src/pieces.rt): the pieces of a settled text that are directives, in their order (GCC manual, "Spec Files")
+
 abbrev pub invariant-loop-left : goal.invariant-loop-left
 invariant-loop-left l = record {
   cut : l.pieces.items ++ pieces_from l.begun l.number l.at (lines_from (option_map (λ bytes. bytes.now) l.left)) ≡ pieces_of l.text;

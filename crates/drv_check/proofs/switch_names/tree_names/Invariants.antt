@@ -4,6 +4,8 @@ use Rattle.drv_syntax.specs.Parsed.{tree_of}
 use Rattle.drv_syntax.specs.Tokens.{tokens_of}
 use Rattle.std.proofs.Common.{◌≡◌, ◌-◌, drop, length}
 
+-- the loops of tree_names (src/switch_names.rt): whether a tree names a switch
+
 abbrev pub invariant-loop-place : goal.invariant-loop-place
 invariant-loop-place l =
     parts_name l.name (tree_of l.tree) l.place (drop l.place (tokens_of (tree_of l.tree))) ≡ tree_names l.name (tree_of l.tree)

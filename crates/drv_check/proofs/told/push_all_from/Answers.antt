@@ -4,6 +4,8 @@ use Rattle.drv_check.specs.Told.{from_text}
 use Rattle.std.proofs.Common.{◌++◌}
 use Rattle.std.specs.List.{flat_map}
 
+-- push_all_from (src/told.rt): adds where files are included
+
 pub loop-place-preserved : goal.loop-place-preserved
 loop-place-preserved c =
     places_next c.loop-place.text c.push_from.new.text c.args.places.now c.loop-place.place-index c.place-item.result

@@ -6,6 +6,8 @@ use Rattle.json.specs.Token.{end_object, key}
 use Rattle.json.specs.Tree.{json_tokens}
 use Rattle.std.proofs.Common.{◌∙◌, ◌++◌, ap, codes}
 
+-- put_members (src/told_json.rt): writes what it is and where its file is included, and ends the object
+
 pub returns : goal.returns
 returns c =
     two_members c.token-3.result c.args.out.now c.token.new.self c.put_word.new.out c.token-2.new.self c.put_places.new.out

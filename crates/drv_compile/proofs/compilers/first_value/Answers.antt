@@ -4,6 +4,8 @@ use Rattle.drv_compile.specs.Compilers.{lines}
 use Rattle.std.proofs.Common.{◌∙◌, ap}
 use Rattle.std.specs.Option.{option_map}
 
+-- first_value (src/compilers.rt): the first value of a key in a text, if there is one
+
 pub returns-in-None : goal.returns-in-None
 returns-in-None c =
     value_none c.args.key.now (lines c.args.text.now) _ (ap (option_map (λ line. line.now)) c.in-None.is) c.first_line.ensures

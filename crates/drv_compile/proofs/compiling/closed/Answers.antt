@@ -1,6 +1,8 @@
 use Rattle.drv_compile.proofs.Done.{no_bytes, no_pipe_after_text, nothing_closed, some_bytes, text_closed, text_unclosed}
 use Rattle.drv_compile.proofs.compiling.closed.Goals as goal
 
+-- closed (src/compiling.rt): says a text after a work, if there is one
+
 pub returns-then-is_empty-clause-closes : goal.returns-then-is_empty-clause-closes
 returns-then-is_empty-clause-closes g c =
     nothing_closed (g.S.System.events c.args.sys.now) c.args.text.now c.args.status (no_bytes _ _ c.is_empty.ensures c.if-is_empty.true)

@@ -2,6 +2,8 @@ use Rattle.drv_compile.proofs.Done.{Setting}
 use Rattle.drv_compile.proofs.compiling.set_children.Given as goal
 use Rattle.std.proofs.Common.{◌≡◌, length}
 
+-- the loops of set_children (src/compiling.rt): sets the variables of a line for children
+
 abbrev pub invariant-loop-variable : goal.invariant-loop-variable
 invariant-loop-variable g l = record {
   sets : Setting (length (g.S.System.events l.fn.sys)) l.children l.variable-index (g.H.Host.notes l.fn.host) (g.H.Host.notes l.host);

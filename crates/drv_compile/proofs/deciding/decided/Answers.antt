@@ -2,6 +2,9 @@ use Rattle.drv_compile.proofs.Decided.{decided_so}
 use Rattle.drv_compile.proofs.deciding.decided.Goals as goal
 use Rattle.drv_system.proofs.AskedCalls.{extends_before}
 
+-- decided (src/deciding.rt): what the words of a line ask for, response files expanded and those of c99 turned into gcc's, where the spec
+-- file of this program lies at `own`, if that is known
+
 pub returns-clause-decision : goal.returns-clause-decision
 returns-clause-decision g c F e =
     decided_so F c.args.own.now c.args.words.now c.in_ok-place.place c.in_ok-found.found c.in_ok-place-2.place c.decided_with.result

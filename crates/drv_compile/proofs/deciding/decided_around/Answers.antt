@@ -1,6 +1,8 @@
 use Rattle.drv_compile.proofs.Decided.{around_read}
 use Rattle.drv_compile.proofs.deciding.decided_around.Goals as goal
 
+-- decided_around (src/deciding.rt): the decision over a compiler and where it looks
+
 pub returns-clause-decision : goal.returns-clause-decision
 returns-clause-decision g c F e =
     around_read F c.args.specs c.as_bytes.result.now c.args.words.now c.args.around c.in_ok-reading.reading c.of_reading.result

@@ -2,6 +2,8 @@ use Rattle.drv_compile.proofs.Decided.{specs_given}
 use Rattle.drv_compile.proofs.deciding.decided_with.Goals as goal
 use Rattle.drv_system.proofs.AskedCalls.{extends_before}
 
+-- decided_with (src/deciding.rt): the decision with a spec file, if there is one
+
 pub returns-clause-decision : goal.returns-clause-decision
 returns-clause-decision g c F e =
     specs_given F c.args.own c.args.words.now c.args.found c.in-Some.specs c.as_bytes.result.now c.in_ok-text.text c.decided_over.result

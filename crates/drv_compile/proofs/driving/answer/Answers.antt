@@ -6,6 +6,8 @@ use Rattle.drv_run.specs.declared.ending.Ending.TheVariants.{OutOfMemory}
 use Rattle.drv_system.specs.Known.{Is}
 use Rattle.std.proofs.Common.{◌≡◌, ◌⊎◌, Err, Option, subst}
 
+-- answer (src/driving.rt): what the spec files of a line give it
+
 pub returns-in_ok-stop-in-Err-clause-answers : goal.returns-in_ok-stop-in-Err-clause-answers
 returns-in_ok-stop-in-Err-clause-answers g c F e =
     answer_told F c.args.name.now c.args.chain.now c.args.given.now c.args.first.now c.in-Err.ending c.in_ok-stop-in-Err.stop

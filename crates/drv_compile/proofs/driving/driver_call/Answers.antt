@@ -2,6 +2,8 @@ use Rattle.drv_compile.proofs.DriverCalls.{drives_by, undriven_answer, undriven_
 use Rattle.drv_compile.proofs.driving.driver_call.Goals as goal
 use Rattle.drv_system.proofs.AskedCalls.{asked_further, extends_before}
 
+-- driver_call (src/driving.rt): what the driver is called with for a line, with the options that its spec files give it
+
 pub returns-in_err-first-clause-drives : goal.returns-in_err-first-clause-drives
 returns-in_err-first-clause-drives g c F e =
     undriven_texts F c.args.calling.now c.args.chain.now c.args.call c.args.given.now _ _ c.from_residual.result c.as_bytes.ensures

@@ -5,6 +5,8 @@ use Rattle.drv_compile.specs.Words.{stop_of, within_limit}
 use Rattle.std.proofs.Common.{◌≡◌, ◌∙◌, Err, Ok, ap, subst}
 use Rattle.std.specs.List.{each_same}
 
+-- expansion (src/expanding.rt): arguments with their response files expanded
+
 pub returns-in-Ok-clause-gives : goal.returns-in-Ok-clause-gives
 returns-in-Ok-clause-gives g c F e =
     let same : c.in_ok-args.args ≡ c.args.args.now = each_same _ _ c.in_ok-args.ensures.cases in

@@ -5,6 +5,8 @@ use Rattle.drv_system.proofs.Asking.{asks_extends, extends_then}
 use Rattle.drv_compile.specs.Inputs.{absent_by}
 use Rattle.std.proofs.Common.{◌++◌, ◌∙◌, ap, refl}
 
+-- absent (src/inputs.rt): the text about the inputs that are not there
+
 pub loop-input-preserved : goal.loop-input-preserved
 loop-input-preserved g c = record {
   asks = asked_further c.loop-input.invariant.asks (record { asks = c.kind.ensures.asks; same_sys = refl; same_facts = refl });

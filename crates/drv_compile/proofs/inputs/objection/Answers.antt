@@ -3,6 +3,8 @@ use Rattle.drv_compile.proofs.inputs.objection.Goals as goal
 use Rattle.drv_system.proofs.AskedCalls.{extends_before}
 use Rattle.std.proofs.Common.{◌∙◌, sym}
 
+-- objection (src/inputs.rt): the text that refuses a line: about a variable that gcc's driver takes, or else about missing inputs
+
 pub returns-then-is_some-clause-text : goal.returns-then-is_some-clause-text
 returns-then-is_some-clause-text g c F e =
     set_objects F c.args.name.now c.args.inputs.now c.in_ok-value.value c.variable_text.result (c.in_ok-value.ensures.value F e)

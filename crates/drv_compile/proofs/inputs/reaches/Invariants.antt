@@ -3,6 +3,8 @@ use Rattle.drv_compile.specs.Inputs.{Noted, Reaches}
 use Rattle.drv_compile.specs.declared.host.HostEvent.{HostEvent}
 use Rattle.std.proofs.Common.{Bool, List, ◌++◌, drop}
 
+-- the loops of reaches (src/inputs.rt): whether an input leads to the file at a path
+
 abbrev pub invariant-loop-input : goal.invariant-loop-input
 invariant-loop-input g l =
     Noted (g.H.Host.notes l.fn.host) (g.H.Host.notes l.host)

@@ -4,6 +4,8 @@ use Rattle.drv_compile.specs.Places.{texts_or}
 use Rattle.drv_system.proofs.AskedCalls.{extends_before}
 use Rattle.std.proofs.Common.{◌∙◌, ap}
 
+-- texts_asked (src/parts.rt): the file that has the texts for a line with these items and stages: the spec file, or a part of it beside it
+
 pub returns-clause-texts : goal.returns-clause-texts
 returns-clause-texts g c F e =
     texts_found F c.args.specs.now c.args.items.now c.args.stages c.in_ok-part.part c.in_ok-path.path c.in_ok-kind.kind c.texts_at.result

@@ -3,6 +3,8 @@ use Rattle.drv_compile.proofs.Worded.{memory_stops}
 use Rattle.drv_compile.proofs.preparing.prepare.Goals as goal
 use Rattle.drv_system.proofs.AskedCalls.{asked_further, extends_before}
 
+-- prepare (src/preparing.rt): what a call with these arguments does
+
 pub returns-in_err-words-clause-comes : goal.returns-in_err-words-clause-comes
 returns-in_err-words-clause-comes g c =
     none_noted _ _ (λ F e. words_stop F c.args.calling.now c.args.own.now c.args.args.now c.args.seed _ c.from_residual.result

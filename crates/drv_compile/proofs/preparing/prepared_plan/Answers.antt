@@ -4,6 +4,8 @@ use Rattle.drv_compile.specs.Texts.{gone_text}
 use Rattle.drv_system.proofs.AskedCalls.{asked_further, extends_before}
 use Rattle.std.proofs.Common.{◌∙◌, ap}
 
+-- prepared_plan (src/preparing.rt): a line that nothing refuses, with what the driver is called with and its work
+
 pub returns-in_err-driven-clause-plans : goal.returns-in_err-driven-clause-plans
 returns-in_err-driven-clause-plans g c F e =
     undriven_plan F c.args.calling.now c.args.chain.now c.args.call c.args.given.now c.args.seed _ c.from_residual-in_err-driven.result

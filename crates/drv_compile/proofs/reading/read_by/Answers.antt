@@ -2,6 +2,9 @@ use Rattle.drv_compile.proofs.Names.{read_named, read_unnamed}
 use Rattle.drv_compile.proofs.reading.read_by.Goals as goal
 use Rattle.drv_system.proofs.AskedCalls.{asked_further, extends_before}
 
+-- read_by (src/reading.rt): the answer to a line of these items, which were read without names of options, by those of the compiler, if the
+-- file that has them is whole
+
 pub returns-in_default-clause-reading : goal.returns-in_default-clause-reading
 returns-in_default-clause-reading g c words is F e =
     read_unnamed F c.args.specs.now c.args.around.now words c.in_ok-named.named (c.in_ok-named.ensures.items words is F e) c.in_default.is

@@ -2,6 +2,8 @@ use Rattle.drv_compile.proofs.Names.{refused_again}
 use Rattle.drv_compile.proofs.reading.refused_answer.Goals as goal
 use Rattle.std.proofs.Common.{◌∙◌}
 
+-- refused_answer (src/reading.rt): the answer to a line that is refused where its spec files name nothing
+
 pub returns-clause-answer : goal.returns-clause-answer
 returns-clause-answer g c known words is F e =
     refused_again F known c.args.around.now words c.args.refusals.now c.args.items.now c.as_slice.result.now c.in_ok-taken.taken

@@ -2,6 +2,8 @@ use Rattle.drv_compile.proofs.Ran.{many_end, planning_ends}
 use Rattle.drv_compile.proofs.running.line_work.Goals as goal
 use Rattle.std.proofs.Common.{refl}
 
+-- line_work (src/running.rt): what a line with these specs asks for, if it doesn't name one output for several sources
+
 pub returns-in_err-refuse_several-clause-works : goal.returns-in_err-refuse_several-clause-works
 returns-in_err-refuse_several-clause-works g c F e =
     many_end F c.args.line.now c.args.set.now c.args.seed c.in_err-refuse_several.field-0.0 c.from_residual.result c.from_residual.ensures.1

@@ -7,6 +7,8 @@ use Rattle.drv_specs.specs.Sets.{text_of}
 use Rattle.drv_system.proofs.AskedCalls.{extends_before}
 use Rattle.std.proofs.Common.{codes, refl}
 
+-- self_worked (src/self_specs.rt): what the spec files of a line of the driver give a line of these items
+
 pub returns-in_err-own-clause-works : goal.returns-in_err-own-clause-works
 returns-in_err-own-clause-works g c F e =
     line_refused c.in_err-own.field-0.0 (line_given c.args.first.now)

@@ -5,6 +5,8 @@ use Rattle.drv_compile.specs.SelfSpecs.{worked_by, worked_for}
 use Rattle.drv_specs.specs.Sets.{text_of}
 use Rattle.std.proofs.Common.{codes}
 
+-- worked_by (src/self_specs.rt): what specs give a line of these items
+
 pub returns-in-Some-clause-works : goal.returns-in-Some-clause-works
 returns-in-Some-clause-works g c F e =
     alike _ c.worked_for.result (worked_for F c.args.settings.now c.args.set.now c.in-Some.text.now

@@ -2,6 +2,8 @@ use Rattle.drv_compile.proofs.Leading.{place_declined, specs_declined}
 use Rattle.drv_compile.proofs.tasks.without_specs.Goals as goal
 use Rattle.std.proofs.Common.{rules}
 
+-- without_specs (src/tasks.rt): the text where there is no spec file
+
 pub returns-in-Some : goal.returns-in-Some
 returns-in-Some c =
     specs_declined c.args.calling.now c.args.path.now _ _ _ _ c.no_specs_text.result c.in-Some.is (search rules) (search rules)

@@ -2,6 +2,8 @@ use Rattle.drv_compile.proofs.Told.{told_all, told_more}
 use Rattle.drv_compile.proofs.telling.lines_told.Goals as goal
 use Rattle.std.proofs.Common.{arith}
 
+-- lines_told (src/telling.rt): the text of refusals by these names of options: a line for each of them
+
 pub loop-refusal-preserved : goal.loop-refusal-preserved
 loop-refusal-preserved c =
     told_more c.args.name.now c.args.known.now c.args.refusals.now c.loop-refusal.refusal-index c.refusal-item.result c.loop-refusal.text

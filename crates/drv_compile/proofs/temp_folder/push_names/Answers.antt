@@ -2,6 +2,8 @@ use Rattle.drv_compile.proofs.Settled.{names_pushed}
 use Rattle.drv_compile.proofs.temp_folder.push_names.Goals as goal
 use Rattle.drv_system.proofs.AskedCalls.{extends_before}
 
+-- push_names (src/temp_folder.rt): adds the names that may be that of the folder
+
 pub returns-clause-names : goal.returns-clause-names
 returns-clause-names g c F e =
     names_pushed F c.args.names.now c.push_named.new.names c.push_named-2.new.names c.push_named-3.new.names c.push_folders_of_all.new.names

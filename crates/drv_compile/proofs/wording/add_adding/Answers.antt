@@ -4,6 +4,8 @@ use Rattle.drv_compile.specs.Texts.{quoted}
 use Rattle.std.proofs.Common.{◌++◌, ◌∙◌, ap, codes}
 use Rattle.std.proofs.lemmas.Result.{on_ok_weaker}
 
+-- add_adding (src/wording.rt): adds the command that asks the compiler for the words of options
+
 pub returns : goal.returns
 returns c =
     on_ok_weaker c.extend_from_slice-2.result

@@ -4,6 +4,8 @@ use Rattle.drv_compile.specs.Texts.{quoted}
 use Rattle.std.proofs.Common.{◌++◌, ◌∙◌, ap, codes}
 use Rattle.std.proofs.lemmas.Result.{on_ok_weaker}
 
+-- add_writing (src/wording.rt): adds the command that writes the spec file of a machine
+
 pub returns : goal.returns
 returns c =
     on_ok_weaker c.extend_from_slice-2.result

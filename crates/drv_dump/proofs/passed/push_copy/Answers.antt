@@ -4,6 +4,8 @@ use Rattle.drv_dump.specs.Dumps.{written_entry}
 use Rattle.drv_dump.specs.Passed.{or_refusal, passed_of}
 use Rattle.std.proofs.Common.{◌∙◌, ◌++◌, Ok, ap, codes, sym}
 
+-- push_copy (src/passed.rt): adds the copy of an entry
+
 pub returns : goal.returns
 returns c =
     let name = ap (λ l. codes "pass_" ++ l) (sym c.as_bytes.ensures) ∙ sym c.in_ok-name.ensures ∙ sym c.as_bytes-3.ensures in

@@ -1,6 +1,8 @@
 use Rattle.drv_dump.proofs.passed.push_with_option.Goals as goal
 use Rattle.drv_dump.proofs.Passing.{option_put}
 
+-- push_with_option (src/passed.rt): adds the option, and a word
+
 pub returns : goal.returns
 returns c =
     option_put c.args.copy.now c.extend_from_slice.new.self c.extend_from_slice-2.new.self c.args.word.now

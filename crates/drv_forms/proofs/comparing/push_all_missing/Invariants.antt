@@ -3,6 +3,8 @@ use Rattle.drv_forms.specs.Difference.{word_text, words_of}
 use Rattle.std.proofs.Common.{◌≡◌, ◌++◌, drop}
 use Rattle.std.specs.List.{flat_map}
 
+-- the loops of push_all_missing (src/comparing.rt): adds the words that another command has not
+
 abbrev pub invariant-loop-word : goal.invariant-loop-word
 invariant-loop-word l =
     l.text.items ++ flat_map (word_text l.mark (words_of l.other)) (drop l.word-index l.words)

@@ -2,6 +2,8 @@ use Rattle.drv_forms.proofs.Databases.{entries_next}
 use Rattle.drv_forms.proofs.database.put_entries.Goals as goal
 use Rattle.std.proofs.Common.{rules}
 
+-- put_entries (src/database.rt): writes the entries of a plan as an array
+
 pub loop-job-preserved : goal.loop-job-preserved
 loop-job-preserved c =
     entries_next c.args.directory.now c.args.names.now c.loop-job.job-index c.as_slice-job-items.result.now c.job-item.result c.loop-job.out

@@ -6,6 +6,8 @@ use Rattle.json.specs.Tree.{items_tokens}
 use Rattle.std.proofs.Common.{◌≡◌, ◌∷◌, ◌++◌, drop}
 use Rattle.std.specs.List.{flat_map}
 
+-- the loops of put_entries (src/database.rt): writes the entries of a plan as an array
+
 abbrev pub invariant-loop-job : goal.invariant-loop-job
 invariant-loop-job l =
     l.out ++ items_tokens (items_json (entry_json l.directory) (flat_map (entry_of l.names) (drop l.job-index l.job-items)))

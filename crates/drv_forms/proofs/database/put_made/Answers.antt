@@ -6,6 +6,8 @@ use Rattle.json.specs.Token.{key}
 use Rattle.json.specs.Tree.{json_tokens, members_tokens}
 use Rattle.std.specs.Prelude.{codes}
 
+-- put_made (src/database.rt): writes the members of a command and of its output, and ends the object
+
 pub returns : goal.returns
 returns c =
     named_then (key (codes "arguments")) (json_tokens (command_json c.args.command.now))

@@ -2,6 +2,8 @@ use Rattle.drv_forms.proofs.drawing.push_piped.Given as goal
 use Rattle.drv_forms.specs.Picture.{piped_text}
 use Rattle.std.proofs.Common.{◌≡◌, ◌++◌, drop}
 
+-- the loops of push_piped (src/drawing.rt): adds commands after the first of a group
+
 abbrev pub invariant-loop-command : goal.invariant-loop-command
 invariant-loop-command l = record {
   text : l.text.items ++ piped_text l.job l.group l.number (drop l.command-index l.commands) ≡ l.fn.text.items

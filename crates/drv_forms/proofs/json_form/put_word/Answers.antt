@@ -4,6 +4,8 @@ use Rattle.std.proofs.Common.{◌≡◌, ◌++◌, List, OnOk, subst, sym, ◌�
 use Rattle.std.specs.Str.{IsUtf8}
 use Rattle.drv_forms.proofs.json_form.put_word.Goals as goal
 
+-- put_word (src/json_form.rt): writes a word
+
 pub returns-in-Ok : goal.returns-in-Ok
 returns-in-Ok c =
     let P : List Token → Type 0 = λ tokens. OnOk c.token.result (c.token.new.self ≡ c.args.out.now ++ tokens) in

@@ -1,6 +1,8 @@
 use Rattle.drv_funcs.proofs.Ends.{ends_before}
 use Rattle.drv_funcs.proofs.changes.add_before.Goals as goal
 
+-- add_before (src/changes.rt): a change comes before those that the ends are known of
+
 pub returns : goal.returns
 returns c changes are =
     ends_before c.args.ends.now c.insert.new.self c.args.change.now c.in_ok-clone.field-0 c.in_ok-end.end changes are

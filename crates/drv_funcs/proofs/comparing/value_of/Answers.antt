@@ -4,6 +4,8 @@ use Rattle.drv_funcs.specs.Outcome.{last, starred}
 use Rattle.drv_match.specs.Matching.{hits}
 use Rattle.std.proofs.Common.{◌≡◌, Some, rules}
 
+-- value_of (src/comparing.rt): the rest of the last switch that the starred prefix hits
+
 pub rest-rest-requires : goal.rest-rest-requires
 rest-rest-requires c =
     let at : last (hits c.args.switches.now c.args.hidden.now (starred c.args.prefix.now)) ≡ Some c.in-Some.place.now = search rules in

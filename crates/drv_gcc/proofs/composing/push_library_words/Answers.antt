@@ -4,6 +4,8 @@ use Rattle.drv_gcc.specs.SpecFile.{library_words, spec_word, then_blank}
 use Rattle.std.proofs.Common.{◌++◌, codes}
 use Rattle.std.specs.List.{flat_map}
 
+-- push_library_words (src/composing.rt): adds words for folders of libraries
+
 pub returns : goal.returns
 unfolding library_words
 returns c =

@@ -5,6 +5,8 @@ use Rattle.drv_syntax.specs.Labels.{pattern_nodes}
 use Rattle.drv_syntax.specs.Tree.{Pattern, Span}
 use Rattle.std.proofs.Common.{List, ◌-◌}
 
+-- the loops of patterns_in (src/emitting.rt): the patterns from one place up to another
+
 abbrev pub invariant-loop-at : goal.invariant-loop-at
 invariant-loop-at l = record {
   spans : Spans l.text l.at l.end;

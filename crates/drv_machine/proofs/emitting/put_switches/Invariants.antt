@@ -7,6 +7,8 @@ use Rattle.drv_system.specs.Code.Asked.{Asked}
 use Rattle.drv_system.specs.Facts.{Facts}
 use Rattle.std.proofs.Common.{◌≡◌, drop}
 
+-- the loops of put_switches (src/emitting.rt): puts the switches at these places
+
 abbrev pub invariant-loop-place : goal.invariant-loop-place
 invariant-loop-place g l = record {
   asks : Asked g.S.System.events l.fn.outside l.outside;

@@ -9,6 +9,8 @@ use Rattle.drv_syntax.specs.Labels.{brace_nodes}
 use Rattle.drv_syntax.specs.Tree.{Brace}
 use Rattle.std.proofs.Common.{ap, subst, sym}
 
+-- work_brace (src/failing.rt): the part in braces from one place up to another is run, or reached
+
 pub returns-then-has_patterns-clause-does : goal.returns-then-has_patterns-clause-does
 returns-then-has_patterns-clause-does g c F e brace given s b =
     let p = c.has_patterns.ensures.patterns c.if-has_patterns.true brace s in

@@ -8,6 +8,8 @@ use Rattle.drv_syntax.specs.declared.token.Leaf.TheVariants as leaves
 use Rattle.drv_words.specs.FileNames.{base, stem}
 use Rattle.std.proofs.Common.{ap, refl, rules, sym, ◌∙◌}
 
+-- work_leaf (src/items.rt): works a directive that is whole with its byte
+
 pub returns-in_err-input_name-in-InputName-clause-does : goal.returns-in_err-input_name-in-InputName-clause-does
 returns-in_err-input_name-in-InputName-clause-does g c F e =
     let failed = leaf_unnamed F c.args.context.now c.args.machine.now c.args.leaf leaves.InputName c.in-InputName.is

@@ -9,6 +9,8 @@ use Rattle.drv_syntax.specs.Parsed.{tree_of}
 use Rattle.std.proofs.Common.{Ok, ap, length, refl, rules}
 use Rattle.std.specs.Prelude.{Some, option_map}
 
+-- open_text (src/named.rt): the text of a name is opened; one that isn't there gives nothing
+
 pub returns-in_default : goal.returns-in_default
 returns-in_default c F s given b =
     leaf F c.args.context.now c.args.walk.now.text.now c.args.walk.now s given c.args.walk.now.at

@@ -12,6 +12,8 @@ use Rattle.drv_machine.specs.declared.walk.Opened.{Opened}
 use Rattle.drv_system.specs.Gives.{GivesKnown}
 use Rattle.std.proofs.Common.{◌≡◌, ◌∙◌, List, [], ◌∷◌, Ok, ap, arith, length, refl, rules, subst, sym, ℕ}
 
+-- close (src/turns.rt): the innermost open part ends: what it was opened for is done, or done once more, in the part around it
+
 pub close_hit-requires-clause-in_list : goal.close_hit-requires-clause-in_list
 close_hit-requires-clause-in_list g c =
     (subst (λ (o : Opened). OpenedFits c.args.walk.now.text.now c.args.context.now o c.requires.fits.0 c.requires.fits.1 c.requires.fits.2)

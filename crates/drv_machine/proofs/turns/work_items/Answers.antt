@@ -5,6 +5,8 @@ use Rattle.drv_system.proofs.AskedCalls.{asked_further, asked_none, extends_befo
 use Rattle.drv_system.proofs.Asking.{extends_refl}
 use Rattle.std.proofs.Common.{arith, rules, ◌∙◌}
 
+-- work_items (src/turns.rt): works the items of a walk that are left, up to its end
+
 pub loop-walk-init : goal.loop-walk-init
 loop-walk-init g c = record {
   asks = asked_none c.args.outside.now;

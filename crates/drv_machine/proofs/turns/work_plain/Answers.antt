@@ -3,6 +3,8 @@ use Rattle.drv_machine.proofs.TurnSteps.{lain_after, plain_item, turn_plain, tur
 use Rattle.drv_machine.proofs.turns.work_plain.Goals as goal
 use Rattle.std.proofs.Common.{Ok, arith, rules, ◌∙◌}
 
+-- work_plain (src/turns.rt): works the plain bytes from the place that is reached, up to another item or the end of the innermost part
+
 pub token_at-token-requires : goal.token_at-token-requires
 token_at-token-requires c =
     place_in c.loop-walk.walk.text.now c.loop-walk.walk.at c.loop-walk.invariant.lain.rest c.loop-walk.walk.end c.loop-walk-test.true

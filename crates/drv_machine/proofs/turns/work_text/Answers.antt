@@ -9,6 +9,8 @@ use Rattle.drv_syntax.specs.Parsed.{tree_of}
 use Rattle.drv_system.specs.Facts.{no_facts}
 use Rattle.std.proofs.Common.{[], ap, length}
 
+-- work_text (src/turns.rt): works a whole text
+
 pub work_items-requires-clause-lain : goal.work_items-requires-clause-lain
 work_items-requires-clause-lain g c =
     let given = run no_facts c.args.context.now c.args.machine.now

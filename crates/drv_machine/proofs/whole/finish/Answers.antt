@@ -10,6 +10,8 @@ use Rattle.drv_system.proofs.AskedCalls.{asked_further, extends_before}
 use Rattle.drv_system.specs.Gives.{GivesKnown}
 use Rattle.std.proofs.Common.{ap, rules, subst, sym}
 
+-- finish (src/whole.rt): works the whole text, and judges what was cut
+
 pub returns-in_err-work_whole-clause-does : goal.returns-in_err-work_whole-clause-does
 returns-in_err-work_whole-clause-does g c F e =
     let cut = run F c.args.context.now c.args.machine.now (whole_text F c.args.context.now (tree_of c.args.text.now)) in

@@ -11,6 +11,8 @@ use Rattle.drv_system.specs.Gives.{GivesKnown}
 use Rattle.std.proofs.Common.{ap, false, length, subst, sym, ◌∙◌}
 use Rattle.std.proofs.lemmas.List.{length-map}
 
+-- worked (src/whole.rt): a spec text worked to its end
+
 pub finish-requires : goal.finish-requires
 finish-requires g c =
     ap (λ (s : Machine). length s.world.hidden) (c.in_ok-machine.ensures no_facts) ∙ length-map c.args.context.now.switches (λ s. false)

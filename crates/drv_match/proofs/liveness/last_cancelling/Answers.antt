@@ -4,6 +4,8 @@ use Rattle.drv_match.specs.Code.Indexed.{positive}
 use Rattle.drv_match.specs.Matching.{has_negative, is_level, negative}
 use Rattle.std.proofs.Common.{◌≡◌, None, Some, false, rules, true}
 
+-- last_cancelling (src/liveness.rt): the place of the last switch that cancels this name, or 0 if there is none
+
 pub returns-then-not-branch : goal.returns-then-not-branch
 returns-then-not-branch c =
     let no_level : is_level c.args.name.now ≡ false = search rules in

@@ -8,6 +8,8 @@ use Rattle.std.proofs.Common.{◌≡◌, ◌<◌, ◌+◌, ◌-◌, ◌∙◌, a
 use Rattle.std.specs.Cmp.Lexicographic.{pointwise}
 use Rattle.std.proofs.lemmas.Grind.{common_steps}
 
+-- mark_live (src/liveness.rt): sets the flags of the live switches
+
 pub index_mut-requires : goal.index_mut-requires
 index_mut-requires c =
     let within : get_or c.args.order.now c.loop-k.k 0 < length c.args.names.now =

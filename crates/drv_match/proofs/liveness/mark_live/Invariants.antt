@@ -3,6 +3,8 @@ use Rattle.drv_match.specs.Matching.{cancels, is_live, name_at}
 use Rattle.drv_match.proofs.liveness.mark_live.Given as goal
 use Rattle.std.proofs.Common.{◌≡◌, ◌-◌, ◌<◌, false, get_or, length, ℕ}
 
+-- the loops of mark_live (src/liveness.rt): sets the flags of the live switches
+
 abbrev pub invariant-loop-k : goal.invariant-loop-k
 invariant-loop-k l = record {
   as_many : length l.flags.items ≡ length l.names;

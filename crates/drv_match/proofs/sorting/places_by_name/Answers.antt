@@ -7,6 +7,8 @@ use Rattle.std.proofs.lemmas.Result.{IfOk-at_ok}
 use Rattle.std.specs.List.{range_with_len}
 use Rattle.std.specs.Ordering.{is_lt}
 
+-- places_by_name (src/sorting.rt): all places of these names, by name, then by place
+
 pub returns : goal.returns
 returns c =
     let all : c.in_ok-order.order.items ≡ range_with_len 0 (length c.args.names.now) =

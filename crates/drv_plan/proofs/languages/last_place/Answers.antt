@@ -4,6 +4,8 @@ use Rattle.drv_plan.specs.Languages.{last_text}
 use Rattle.drv_plan.specs.Code.Looking.{fits}
 use Rattle.std.proofs.Common.{◌-◌, ◌∙◌, ap, arith, sym}
 
+-- last_place (src/languages.rt): the index of the last pair whose key fits
+
 pub returns-then-fits : goal.returns-then-fits
 returns-then-fits c =
     pair_hit (fits c.args.wanted) c.args.pairs.now c.loop-left.left (c.loop-left.left - 1) c.index-pairs-left.result c.as_bytes.result.now

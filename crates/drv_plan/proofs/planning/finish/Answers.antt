@@ -1,6 +1,8 @@
 use Rattle.drv_plan.proofs.Steps.{plan_finished}
 use Rattle.drv_plan.proofs.planning.finish.Goals as goal
 
+-- finish (src/planning.rt): the plan, once all inputs are done
+
 pub returns-clause-works : goal.returns-clause-works
 returns-clause-works g c F e =
     plan_finished F c.args.set.now c.args.progress.now c.link_of.new.progress c.in_ok-link.link c.in_ok-plan_of.field-0

@@ -2,6 +2,8 @@ use Rattle.drv_plan.proofs.Steps.{given_alike, plan_begun}
 use Rattle.drv_plan.proofs.planning.planned.Goals as goal
 use Rattle.drv_plan.specs.Denoted.{finished, planned, then_by, with_inputs}
 
+-- planned (src/planning.rt): the plan of inputs, in this context
+
 pub returns-clause-works : goal.returns-clause-works
 returns-clause-works g c F e =
     given_alike _ c.plan_inputs.result (then_by (with_inputs F c.args.set.now 0 c.args.inputs.now c.in_ok-progress.progress)

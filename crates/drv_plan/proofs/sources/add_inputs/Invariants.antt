@@ -5,6 +5,8 @@ use Rattle.drv_system.specs.Code.Asked.{Asked}
 use Rattle.drv_system.specs.Facts.{Facts}
 use Rattle.std.proofs.Common.{◌≡◌, drop}
 
+-- the loops of add_inputs (src/sources.rt): adds the inputs of a line in order
+
 abbrev pub invariant-loop-place : goal.invariant-loop-place
 invariant-loop-place g l = record {
   asks : Asked g.S.System.events l.fn.outside l.outside;

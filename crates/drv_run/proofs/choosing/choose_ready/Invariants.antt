@@ -1,6 +1,9 @@
 use Rattle.drv_run.proofs.choosing.choose_ready.Given as goal
 use Rattle.std.proofs.Common.{◌≡◌, ◌≤◌}
 
+-- the loops of choose_ready (src/choosing.rt): has the first source go on, of those that may, whose next step is no wait for a child that
+-- has not ended
+
 abbrev pub invariant-loop-choice : goal.invariant-loop-choice
 invariant-loop-choice g l = record {
   journal : g.S.System.events l.sys ≡ g.S.System.events l.fn.sys;

@@ -5,6 +5,8 @@ use Rattle.drv_system.proofs.AskedCalls.{asked_further}
 use Rattle.drv_system.proofs.Asking.{asks_extends, extends_then}
 use Rattle.std.proofs.Common.{refl}
 
+-- work_of_line (src/deciding.rt): what a line asks for: its spec files are loaded first
+
 pub returns-in_err-set-clause-comes : goal.returns-in_err-set-clause-comes
 returns-in_err-set-clause-comes g c F e args words gives reads =
     loading_ends F args c.args.seed words c.args.line.now c.in_err-set.field-0.0 c.from_residual.result c.from_residual.ensures.1 gives

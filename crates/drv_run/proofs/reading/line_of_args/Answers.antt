@@ -4,6 +4,8 @@ use Rattle.drv_run.proofs.reading.line_of_args.Goals as goal
 use Rattle.drv_run.specs.Drives.{stopped_by_args}
 use Rattle.std.proofs.Common.{Err, refl}
 
+-- line_of_args (src/reading.rt): the line of arguments
+
 pub returns-in_err-words-clause-comes : goal.returns-in_err-words-clause-comes
 returns-in_err-words-clause-comes g c F e =
     line_stops F c.args.args c.in_err-words.field-0.0 c.from_residual.result c.from_residual.ensures.1

@@ -2,6 +2,8 @@ use Rattle.drv_search.proofs.Options.{no_option, one_option}
 use Rattle.drv_search.proofs.folders.push_if_folder.Goals as goal
 use Rattle.std.proofs.Common.{◌∙◌, sym}
 
+-- push_if_folder (src/folders.rt): adds the option for a path, if it is a folder
+
 pub returns-then-not-is_dir-clause-option : goal.returns-then-not-is_dir-clause-option
 returns-then-not-is_dir-clause-option g c F e =
     no_option F c.args.path.now c.in_ok-kind.kind c.args.options.now (e.kinds c.args.path.now c.in_ok-kind.kind c.in_ok-kind.ensures.known)

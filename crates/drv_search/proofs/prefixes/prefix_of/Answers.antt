@@ -3,6 +3,8 @@ use Rattle.drv_search.proofs.prefixes.prefix_of.Goals as goal
 use Rattle.drv_search.specs.Search.{is_prefix}
 use Rattle.std.proofs.Common.{◌∙◌, ap, sym}
 
+-- prefix_of (src/prefixes.rt): the prefix for an argument of `-B`
+
 pub returns-clause-prefix : goal.returns-clause-prefix
 returns-clause-prefix g c F e = prefix_given F c.args.dir.now c.in_ok-kind.kind c.as_prefix.result (ap is_prefix (sym c.as_bytes.ensures)
     ∙ sym c.is_prefix.ensures ∙ c.if-is_prefix.false) (e.kinds c.args.dir.now c.in_ok-kind.kind c.in_ok-kind.ensures.known)

@@ -2,6 +2,8 @@ use Rattle.drv_search.proofs.Candidates.{under_second}
 use Rattle.drv_system.proofs.AskedCalls.{extends_before}
 use Rattle.drv_search.proofs.searching.found_under.Goals as goal
 
+-- found_under (src/searching.rt): the file under one prefix: in the folder of the machine, or else in the prefix itself
+
 pub returns-clause-hit : goal.returns-clause-hit
 returns-clause-hit g c F e =
     under_second F c.args.prefix.now c.args.name.now c.in_ok-hit.field-0 c.bare_hit.result

@@ -3,6 +3,8 @@ use Rattle.drv_specs.proofs.bytes.without_blanks.Goals as goal
 use Rattle.drv_specs.specs.Blanks.{is_blank}
 use Rattle.std.proofs.Common.{length, refl}
 
+-- without_blanks (src/bytes.rt): a text without the blanks at its front
+
 pub returns-clause-bytes : goal.returns-clause-bytes
 returns-clause-bytes c = front_by is_blank c.args.text.now c.following.result.now c.first_solid.result
     (length c.args.text.now) c.unwrap_or-stays.result c.first_solid.ensures refl c.unwrap_or-stays.ensures c.following.ensures

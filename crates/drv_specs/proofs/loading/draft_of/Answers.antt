@@ -4,6 +4,8 @@ use Rattle.drv_specs.specs.Directives.{read_settled}
 use Rattle.drv_specs.specs.Loading.{worked}
 use Rattle.std.proofs.Common.{ap}
 
+-- draft_of (src/loading.rt): a copy of entries after the directives of a settled text, which may read `files` more files
+
 pub returns-clause-works : goal.returns-clause-works
 returns-clause-works g c F e =
     given_alike _ c.worked_entries.result (worked F c.args.prefixes.now c.in_ok-draft.draft c.args.files (read_settled c.args.text.now))

@@ -4,6 +4,8 @@ use Rattle.std.proofs.Common.{◌∙◌, ap, is_some, sym}
 use Rattle.std.specs.Map.Iter.{deref_pair}
 use Rattle.std.specs.Option.{option_flatten, option_map}
 
+-- text_at (src/named_texts.rt): the text of a name
+
 pub returns-in_default : goal.returns-in_default
 returns-in_default c = sym (unlisted c.args.name.now c.args.kept.now.entries
     (none_of _ (sym c.get_index_of.ensures.found ∙ ap is_some c.in_default.is)))

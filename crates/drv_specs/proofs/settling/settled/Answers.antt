@@ -4,6 +4,8 @@ use Rattle.drv_specs.specs.Lines.{is_kept, joined_onto, settled}
 use Rattle.std.proofs.Common.{◌∙◌, ap, filter, fold, refl}
 use Rattle.std.specs.Prelude.{slice_index}
 
+-- settled (src/settling.rt): what is left of a spec file's text
+
 pub loop-at-preserved : goal.loop-at-preserved
 loop-at-preserved c =
     ap (λ t. fold joined_onto c.settle_onto.new.text.items (filter is_kept t)) c.following-rest.ensures

@@ -3,6 +3,8 @@ use Rattle.drv_syntax.proofs.tree.parse.Goals as goal
 use Rattle.drv_syntax.specs.Code.Parts.{IsRead}
 use Rattle.std.proofs.Common.{arith, subst, sym}
 
+-- parse (src/tree.rt): the tree of a text, or its first fault
+
 pub returns-in_err-read-clause-refused : goal.returns-in_err-read-clause-refused
 returns-in_err-read-clause-refused c =
     first_refused c.args.text.now (omega (arith, c.if-text-gt-TEXT_LIMIT.false)) c.from_residual.result c.in_err-read.field-0.0

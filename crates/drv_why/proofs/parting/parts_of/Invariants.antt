@@ -2,6 +2,9 @@ use Rattle.drv_why.proofs.parting.parts_of.Given as goal
 use Rattle.drv_why.specs.Parts.{parts_from, parts_of}
 use Rattle.std.proofs.Common.{◌≡◌, ◌++◌, ◌+◌, length}
 
+-- the loops of parts_of (src/parting.rt): the parts of a line, in their order: an option and the next word, if that is its argument, or a
+-- word alone (GCC manual, "Overall Options")
+
 abbrev pub invariant-loop-first : goal.invariant-loop-first
 invariant-loop-first l = record {
   parts : l.parts ++ parts_from l.first l.left ≡ parts_of l.line;

@@ -2,6 +2,8 @@ use Rattle.drv_words.proofs.Ordered.{eight_ordered}
 use Rattle.drv_words.proofs.ordering.order_eight.Goals as goal
 use Rattle.std.proofs.Common.{◌∙◌, rules}
 
+-- order_eight (src/ordering.rt): how eight bytes are ordered beside eight others: as the numbers that they spell are
+
 pub returns : goal.returns
 returns c =
     c.cmp.ensures ∙ eight_ordered c.args.one.now c.args.other.now _ _ c.told-one c.told-other (search rules)

@@ -4,6 +4,8 @@ use Rattle.std.proofs.Common.{◌≡◌, arith}
 use Rattle.std.proofs.lemmas.Grind.{common_steps}
 use Rattle.drv_words.proofs.printing.render.Goals as goal
 
+-- render (src/printing.rt): the text of lines
+
 pub returns-clause-shows : goal.returns-clause-shows
 returns-clause-shows c =
     let is : c.from_vec.result ≡ lines_text c.args.lines.now = grind (arith, common_steps) in shown_text _ _ is

@@ -3,6 +3,8 @@ use Rattle.std.proofs.Common.{arith, length, ap, sym}
 use Rattle.drv_words.proofs.response.split_front.Goals.{then-loop-splitter-test+else-saturating_sub-most, else-loop-splitter-test}
 use Rattle.drv_words.proofs.response.split_front.Goals as goal
 
+-- split_front (src/response.rt): splits a text and appends its words to others, but goes no further than to one word more than `most`
+
 pub returns-clause-more : goal.returns-clause-more
 returns-clause-more c more =
     let all = ap length (sym c.loop-splitter.invariant) in

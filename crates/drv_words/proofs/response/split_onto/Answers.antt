@@ -3,6 +3,8 @@ use Rattle.drv_words.specs.Code.Splitter.{following, words_of}
 use Rattle.std.proofs.Common.{◌∙◌, ap}
 use Rattle.drv_words.proofs.response.split_onto.Goals as goal
 
+-- split_onto (src/response.rt): appends the words of a response file's text, as [`split`] returns them, to others
+
 pub returns : goal.returns
 returns c =
     split_is_onto c.args.text.now c.args.words.now c.in_ok-words.field-0

@@ -3,6 +3,9 @@ use Rattle.drv_words.specs.Response.{SplitsOnto}
 use Rattle.std.proofs.Common.{◌≡◌, ◌-◌, ◌∙◌, IsTrue, List, ap, arith, length, nat_le, subst, ℕ}
 use Rattle.drv_words.proofs.response.split_within.Goals as goal
 
+-- split_within (src/response.rt): appends the words of a response file's text, as [`split`] returns them, to others, if the text has at
+-- most `most` words
+
 pub returns-clause-counts : goal.returns-clause-counts
 returns-clause-counts c =
     let made : c.saturating_sub.result ≡ length c.in_ok-words.field-0 - length c.replace-others.result =

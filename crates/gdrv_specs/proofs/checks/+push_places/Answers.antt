@@ -2,6 +2,8 @@ use Rattle.gdrv_specs.proofs.FilesChecked.{found_at, lost_at, places_lost, place
 use Rattle.gdrv_specs.proofs.checks.+push_places.Goals as goal
 use Rattle.std.proofs.Common.{◌∙◌, ◌<◌, ◌++◌, ◌∷◌, [], ap, arith}
 
+-- push_places (src/checks.rt): where a source is included, where that source is included, and so on, up to a number of places
+
 pub returns-in_default-source_at : goal.returns-in_default-source_at
 returns-in_default-source_at t c =
     let some : 0 < c.args.more = omega (arith, c.if-more-eq0.false) in

@@ -1,6 +1,9 @@
 use Rattle.gdrv_specs.proofs.FilesChecked.{checks_after, checks_before}
 use Rattle.gdrv_specs.proofs.checks.tell_check.Goals as goal
 
+-- tell_check (src/checks.rt): writes every fault of spec files to standard output and what is surely not meant, each with its place (GCC
+-- manual, "Spec Files")
+
 pub returns-in-Ok : goal.returns-in-Ok
 returns-in-Ok g c =
     checks_after c.args.request.now c.in-Ok.checking c.tell_found.result c.as_slice.result.now c.as_slice-files.result.now

@@ -5,6 +5,8 @@ use Rattle.gdrv_specs.specs.Databases.{input_name}
 use Rattle.std.proofs.Common.{◌∙◌, Err, ap, subst}
 use Rattle.std.specs.Prelude.{map}
 
+-- names_read (src/databases.rt): the names of the inputs of a line
+
 pub returns-in_err-line-clause-names : goal.returns-in_err-line-clause-names
 returns-in_err-line-clause-names g c F e =
     stopped F c.args.args.now c.in_err-line.field-0.0 c.from_residual-in_err-line.result c.from_residual-in_err-line.ensures.1

@@ -1,6 +1,9 @@
 use Rattle.gdrv_specs.proofs.LineNames.{tells_named, tells_stopped}
 use Rattle.gdrv_specs.proofs.databases.tell_database.Goals as goal
 
+-- tell_database (src/databases.rt): writes the plan of a line of the driver to standard output as a compilation database, for sources in
+-- this directory (Clang, "JSON Compilation Database Format Specification")
+
 pub returns-in-Ok : goal.returns-in-Ok
 returns-in-Ok g c =
     tells_named c.args.directory c.args.line c.in-Ok.names c.args.seed c.tell_plan.result c.new.ensures c.names_read.ensures.asks

@@ -3,6 +3,8 @@ use Rattle.gdrv_specs.proofs.explaining.answer.Goals as goal
 use Rattle.std.proofs.Common.{ap, ◌∙◌}
 use Rattle.drv_why.specs.Parts.{without}
 
+-- answer (src/explaining.rt): the text about a part
+
 pub returns-clause-answers : goal.returns-clause-answers
 returns-clause-answers g c F e =
     answered F c.args.explained.now.line c.args.explained.now.work c.args.explained.now.seed c.args.part.now c.in_ok-rest.rest

@@ -3,6 +3,8 @@ use Rattle.gdrv_specs.proofs.Reasons.{all_answers, more_answers}
 use Rattle.gdrv_specs.proofs.explaining.answers.Goals as goal
 use Rattle.std.proofs.Common.{ap, ◌∙◌, ◌++◌}
 
+-- answers (src/explaining.rt): the texts about parts, one after another
+
 pub loop-part-preserved : goal.loop-part-preserved
 loop-part-preserved g c = record {
   asks = asks_then c.loop-part.invariant.asks c.answer.ensures.asks;

@@ -4,6 +4,8 @@ use Rattle.gdrv_specs.proofs.explaining.answers.Given as goal
 use Rattle.gdrv_specs.specs.Reasons.{AnswersAll}
 use Rattle.std.proofs.Common.{◌++◌, List, drop, ℕ}
 
+-- the loops of answers (src/explaining.rt): the texts about parts, one after another
+
 abbrev pub invariant-loop-part : goal.invariant-loop-part
 invariant-loop-part g l = record {
   asks : Asks (g.S.System.events l.fn.sys) (g.S.System.events l.sys) l.fn.facts l.facts;

@@ -2,6 +2,8 @@ use Rattle.rectool.proofs.Calls.{accepted, refused}
 use Rattle.rectool.proofs.call.code_of.Goals as goal
 use Rattle.std.proofs.Common.{sym, ◌∙◌}
 
+-- code_of (src/call.rt): the status of these digits, if all bytes are digits and the number is at most 255
+
 pub returns-in_err-code : goal.returns-in_err-code
 returns-in_err-code c =
     c.from_residual.ensures ∙ sym (refused c.args.digits.now c.loop-digit.code c.loop-digit.digit-index (sym c.if-is_empty.ensures)

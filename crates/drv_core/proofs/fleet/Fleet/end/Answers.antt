@@ -3,6 +3,8 @@ use Rattle.std.proofs.Common.{◌≡◌, nat_eq, not, refl, rules}
 use Rattle.std.proofs.lemmas.Fn.{filter_same}
 use Rattle.std.specs.List.{filter}
 
+-- end (src/fleet.rt): the source in progress has ended
+
 pub returns : goal.returns
 returns c =
     let kept : c.retain.new.self.items ≡ filter (λ k. not (nat_eq k c.args.self.now.current)) c.args.self.now.begun.items =

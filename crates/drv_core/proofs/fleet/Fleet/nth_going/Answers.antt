@@ -9,6 +9,8 @@ use Rattle.std.specs.List.{filter}
 use Rattle.std.specs.Prelude.{unwrap_or}
 use Rattle.std.specs.Slice.Iter.{iter_rest}
 
+-- nth_going (src/fleet.rt): the source of this number among those that have begun and may go on, or else the next one that begins
+
 pub returns : goal.returns
 returns c =
     let fleet = fleet_of c.args.self.now in

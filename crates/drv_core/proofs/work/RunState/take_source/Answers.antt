@@ -5,6 +5,8 @@ use Rattle.drv_core.specs.Code.RunState.{flown}
 use Rattle.drv_core.specs.Code.RunStateView.{run_state_of}
 use Rattle.std.proofs.Common.{◌∙◌, ap}
 
+-- take_source (src/work.rt): the source in progress takes an answer
+
 pub returns : goal.returns
 returns c = c.leave_sources.ensures ∙ ap (λ f. flown (record (run_state_of c.args.self.now) { fleet = f }))
     (c.take.ensures ∙ ap (λ jobs. taken jobs (fleet_of c.args.self.now.fleet) c.args.answer) c.as_slice.ensures)

@@ -2,6 +2,8 @@ use Rattle.drv_machine.proofs.Files.{file_begins, no_beginning}
 use Rattle.drv_machine.proofs.machine.Machine.begin_file.Goals as goal
 use Rattle.std.proofs.Common.{rules}
 
+-- begin_file (src/machine/filing.rt): the open word ends, and the words after it are those of a file
+
 pub returns-in_err-end_word-clause-does : goal.returns-in_err-end_word-clause-does
 returns-in_err-end_word-clause-does g c F e =
     let failed = no_beginning F c.args.context.now c.args.self.now c.in_err-end_word.field-0.0 (c.in_err-end_word.ensures.does F e) in

@@ -2,6 +2,8 @@ use Rattle.drv_machine.proofs.FailureFiles.{closed_none, closed_some}
 use Rattle.drv_machine.proofs.machine.Machine.close_inside.Goals as goal
 use Rattle.drv_machine.specs.contracts.machine.Machine.{the_view}
 
+-- close_inside (src/machine/marking.rt): the innermost `%W` ends, and the last word that ended in it is a failure file
+
 pub returns-in_default-clause-does : goal.returns-in_default-clause-does
 returns-in_default-clause-does c F C =
     rw (← c.self.view_is) (closed_none F C (the_view c.self.inside) c.close.new.self c.in_ok-word.field-0 c.in_ok-word.ensures

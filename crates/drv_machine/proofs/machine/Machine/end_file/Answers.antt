@@ -4,6 +4,8 @@ use Rattle.drv_machine.proofs.machine.Machine.end_file.Goals as goal
 use Rattle.drv_system.proofs.AskedCalls.{asked_further, extends_before}
 use Rattle.std.proofs.Common.{rules, ◌∙◌}
 
+-- end_file (src/machine/filing.rt): the open word ends, and with it the file: its name is put, if it has words
+
 pub returns-in_err-end_word-clause-does : goal.returns-in_err-end_word-clause-does
 returns-in_err-end_word-clause-does g c F e =
     let failed = no_end F c.args.context.now c.args.self.now c.in_err-end_word.field-0.0 (c.in_err-end_word.ensures.does F e) in

@@ -4,6 +4,8 @@ use Rattle.drv_machine.specs.Working.{Break, words}
 use Rattle.drv_system.proofs.AskedCalls.{asked_further, extends_before}
 use Rattle.std.proofs.Common.{[], ◌∷◌}
 
+-- put_apart (src/machine/lists.rt): whole words are put after a break
+
 pub returns-clause-does : goal.returns-clause-does
 returns-clause-does g c F e = put_last F c.args.context.now c.args.self.now c.end_word.new.self c.put_words.new.self (Break ∷ [])
     (words c.args.list.now) c.put_words.result (c.in_ok-end_word.ensures.does F (extends_before c.put_words.ensures.asks e))

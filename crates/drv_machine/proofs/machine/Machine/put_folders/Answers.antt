@@ -9,6 +9,8 @@ use Rattle.drv_system.proofs.AskedCalls.{extends_before}
 use Rattle.std.proofs.Common.{ap, sym, ◌∙◌}
 use Rattle.std.specs.List.{flat_map}
 
+-- put_folders (src/machine/lists.rt): the options for the folders of libraries are put
+
 pub returns-clause-does : goal.returns-clause-does
 returns-clause-does g c F e =
     let C = c.args.context.now in

@@ -3,6 +3,8 @@ use Rattle.drv_machine.proofs.Outputs.{outputs_put}
 use Rattle.drv_machine.proofs.machine.Machine.put_outputs.Goals as goal
 use Rattle.std.proofs.Common.{sym, ◌∙◌}
 
+-- put_outputs (src/machine/lists.rt): the outputs of the jobs so far are put, each as a word of its own
+
 pub returns-clause-does : goal.returns-clause-does
 returns-clause-does g c F e =
     let none = no_input c.input.result.now c.is_some.result c.is_some.ensures c.if-is_some.false in

@@ -2,6 +2,9 @@ use Rattle.drv_machine.proofs.Functions.{value_failed, value_none, value_put}
 use Rattle.drv_machine.proofs.machine.Machine.put_value.Goals as goal
 use Rattle.std.proofs.Common.{rules}
 
+-- put_value (src/machine/functions.rt): arguments have been cut, and what was cut before them goes on: the function's value is put, if it
+-- has one
+
 pub returns-in_err-word-clause-does : goal.returns-in_err-word-clause-does
 returns-in_err-word-clause-does g c F e =
     let failed = value_failed F c.args.context.now c.args.outer.value c.args.name.now c.args.self.now c.in_err-word.field-0.0

@@ -4,6 +4,8 @@ use Rattle.drv_machine.specs.Atoms.{broken_word}
 use Rattle.drv_machine.specs.Working.{Open}
 use Rattle.std.proofs.Common.{[], ◌∷◌}
 
+-- put_word (src/machine/lists.rt): a whole word is put, with an opening before it and a break after it
+
 pub returns-clause-does : goal.returns-clause-does
 returns-clause-does g c F e =
     put_last F c.args.context.now c.args.self.now c.open.new.self c.put_broken.new.self (Open ∷ [])

@@ -5,6 +5,8 @@ use Rattle.drv_words.specs.declared.plan.Command.{Command}
 use Rattle.std.proofs.Common.{◌++◌, ◌∙◌, ap, sym}
 use Rattle.std.specs.Global.{Vec}
 
+-- add_line (src/machine/finishing.rt): the command of one line more joins those of the group that is begun
+
 pub returns-then-is_joined-clause-added : goal.returns-then-is_joined-clause-added
 returns-then-is_joined-clause-added g c F e lines =
     one_joined F c.args.context.now c.args.ended.now c.args.begun.now.items c.push.new.self.items c.args.line c.in_ok-command_of.field-0

@@ -4,6 +4,8 @@ use Rattle.std.proofs.Common.{drop, length, ◌≡◌}
 use Rattle.std.specs.List.{list_any}
 use Rattle.std.specs.Prelude.{nat_lt}
 
+-- the loops of has_long_pipe (src/machine/finishing.rt): whether a group has too many commands
+
 abbrev pub invariant-loop-group : goal.invariant-loop-group
 invariant-loop-group l = list_any (λ group. nat_lt most_piped (length group)) (drop l.group-index l.groups)
     ≡ list_any (λ group. nat_lt most_piped (length group)) l.groups

@@ -2,6 +2,8 @@ use Rattle.drv_machine.proofs.Indexes.{next_indexed}
 use Rattle.drv_machine.proofs.machine.indexed.index_of.Goals as goal
 use Rattle.std.proofs.Common.{arith}
 
+-- index_of (src/machine/indexed.rt): the words of a list, in order
+
 pub loop-word-preserved : goal.loop-word-preserved
 loop-word-preserved c other =
     next_indexed c.loop-word.index c.insert.new.self c.args.words.now c.loop-word.word-index c.word-item.result c.in_ok-clone.field-0

@@ -3,6 +3,8 @@ use Rattle.drv_machine.specs.Temps.{last_drawn}
 use Rattle.std.proofs.Common.{drop, length, ◌≡◌, ◌≤◌}
 use Rattle.std.specs.Prelude.{None}
 
+-- the loops of last_drawn (src/machine/naming.rt): the last of these names that was drawn so with this suffix
+
 abbrev pub invariant-loop-i : goal.invariant-loop-i
 invariant-loop-i l = record {
   within : l.i ≤ length l.drawn;

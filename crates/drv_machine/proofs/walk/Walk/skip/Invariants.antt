@@ -3,6 +3,8 @@ use Rattle.drv_machine.specs.Code.Walking.{Lies}
 use Rattle.drv_syntax.specs.Tree.{Items}
 use Rattle.std.proofs.Common.{◌-◌, ◌≡◌}
 
+-- the loops of skip (src/walk.rt): passes over other alternatives than the one that was run
+
 abbrev pub invariant-loop-self : goal.invariant-loop-self
 invariant-loop-self l = record {
   lies : (rest : Items) → Lies l.text l.fn.self.at rest l.fn.self.end → Lies l.text l.self.at rest l.fn.self.end;

@@ -6,6 +6,8 @@ use Rattle.std.proofs.lemmas.Iterator.{YieldsList-from_slice}
 use Rattle.std.proofs.lemmas.Iterator.Adapters.{serves_from_places}
 use Rattle.std.proofs.lemmas.Iterator.Search.{any_from_yields_List}
 
+-- has_hit (src/switches.rt): whether a pattern hits any switch
+
 pub any-requires-clause-callable : goal.any-requires-clause-callable
 any-requires-clause-callable c =
     serves_from_places (YieldsList-from_slice c.named_places-named.result.now c.iter.ensures.rest) (λ x q k. search (rules, tests))

@@ -2,6 +2,8 @@ use Rattle.drv_plan.proofs.Steps.{refusal_given, source_refused, source_worked}
 use Rattle.drv_plan.proofs.progress.Progress.add_source.Goals as goal
 use Rattle.drv_plan.specs.Denoted.{with_source}
 
+-- add_source (src/progress.rt): runs the text of the source at this place of the line, and adds its job
+
 pub returns-in_err-job-clause-works : goal.returns-in_err-job-clause-works
 returns-in_err-job-clause-works g c F e =
     refusal_given c.in_err-job.field-0.0 c.from_residual.result _ (with_source F c.args.place c.args.source c.args.text.now c.args.self.now)

@@ -2,6 +2,8 @@ use Rattle.drv_plan.proofs.Steps.{text_worked}
 use Rattle.drv_plan.proofs.progress.Progress.work.Goals as goal
 use Rattle.std.proofs.Common.{◌∙◌}
 
+-- work (src/progress.rt): runs a text in the context, and keeps what goes on to the next one
+
 pub returns-clause-works : goal.returns-clause-works
 returns-clause-works g c F e =
     text_worked F c.args.text.now c.args.self.now c.go_on.new.self c.in_ok-done.done c.into_job.result (c.in_ok-done.ensures.works F e)

@@ -1,6 +1,8 @@
 use Rattle.drv_specs.proofs.Appending.{appended_puts}
 use Rattle.drv_specs.proofs.entries.Entries.append.Goals as goal
 
+-- append (src/changing.rt): adds to a text
+
 pub returns : goal.returns
 returns c =
     appended_puts c.args.self.now c.take.new.self c.insert.new.self c.args.name.now c.args.addition.now c.in_ok-text-2.text

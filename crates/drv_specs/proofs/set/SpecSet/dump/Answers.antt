@@ -6,6 +6,9 @@ use Rattle.drv_specs.specs.Sets.{Set, no_specs}
 use Rattle.drv_system.specs.Known.{Is}
 use Rattle.std.proofs.Common.{◌≡◌, IfOk, Ok, subst, sym}
 
+-- dump (src/dumping.rt): the text of the set: its named texts and then its pairs, each with its name and a colon on a line before it and an
+-- empty line after it (GCC manual, "-dumpspecs")
+
 pub returns-clause-reloads : goal.returns-clause-reloads
 returns-clause-reloads c plain F prefixes =
     subst (λ (set : Set). IfOk c.dump_of.result (λ text. loaded F prefixes no_specs text ≡ Is (Ok set))) c.self.view_is

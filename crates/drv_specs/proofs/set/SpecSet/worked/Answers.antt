@@ -2,6 +2,8 @@ use Rattle.drv_specs.proofs.Keeping.{settled_keeps}
 use Rattle.drv_specs.proofs.set.SpecSet.worked.Goals as goal
 use Rattle.drv_system.proofs.Asking.{extends_refl}
 
+-- worked (src/loading.rt): the set after the directives of a settled text, which may read `files` more files
+
 pub invariant_of-result : goal.invariant_of-result
 invariant_of-result g c =
     settled_keeps c.worked_entries.new.outside.facts.now c.args.prefixes.now c.into_entries-entries.result c.in_ok-entries.entries

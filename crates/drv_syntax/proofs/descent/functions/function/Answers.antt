@@ -4,6 +4,8 @@ use Rattle.drv_syntax.specs.Code.Writing.{front_size, seen}
 use Rattle.std.proofs.Common.{[], ◌∙◌, ap, inr, sym}
 use Rattle.std.specs.Prelude.{Err}
 
+-- function (src/descent/functions.rt): a function's name, and its parenthesis
+
 pub returns-in_default : goal.returns-in_default
 returns-in_default c =
     inr (function_cut c.args.outer c.args.at (seen c.args.r.now) c.front_length-size.result c.take-name.result.now c.take-name.new.self

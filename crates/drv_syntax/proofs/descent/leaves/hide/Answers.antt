@@ -3,6 +3,8 @@ use Rattle.drv_syntax.proofs.descent.leaves.hide.Goals as goal
 use Rattle.drv_syntax.specs.Code.Writing.{seen, spelled}
 use Rattle.std.proofs.Common.{◌∙◌}
 
+-- hide (src/descent/leaves.rt): `%<` or `%>`, after the byte
+
 pub returns : goal.returns
 returns c =
     hidden_done c.args.outer c.args.at (seen c.args.r.now) (seen c.pattern.new.r) (spelled c.in_ok-p.p.word c.pattern.new.r.word.items)

@@ -7,6 +7,8 @@ use Rattle.std.proofs.Common.{◌∙◌, ◌≤◌, ap, arith, inr, length, subs
 use Rattle.std.specs.List.{prefix_len}
 use Rattle.std.specs.Prelude.{Err}
 
+-- name (src/descent/leaves.rt): `%(`, after the bracket
+
 pub returns-then-size-gt255 : goal.returns-then-size-gt255
 returns-then-size-gt255 c =
     inr (name_long c.args.outer c.args.at c.args.at (seen c.args.r.now) c.name_length-size.result

@@ -5,6 +5,8 @@ use Rattle.drv_syntax.specs.Code.Writing.{at_rest, is_empty, seen, spelled}
 use Rattle.std.proofs.Common.{◌∙◌, ap, inr, sym}
 use Rattle.std.specs.Prelude.{Err}
 
+-- option (src/descent/leaves.rt): `%x`, after the letter
+
 pub returns-in_default-2 : goal.returns-in_default-2
 returns-in_default-2 c =
     inr (option_opens c.args.outer c.args.at (seen c.args.r.now) c.in-Some.b c.take.new.self c.in-Some.ensures c.if-b-ne123.false

@@ -6,6 +6,8 @@ use Rattle.drv_syntax.specs.declared.fault.SyntaxFault.TheVariants.{Unclosed}
 use Rattle.std.proofs.Common.{◌∙◌, ap, inr, sym}
 use Rattle.std.specs.Prelude.{Err, Ok}
 
+-- saying (src/descent/leaves.rt): `%e` or `%n`, after the letter
+
 pub returns-in_default : goal.returns-in_default
 returns-in_default c =
     inr (saying_hung c.args.outer (kind_seen c.args.list) c.args.kind c.args.at (seen c.args.r.now) (seen c.quoted.new.r)

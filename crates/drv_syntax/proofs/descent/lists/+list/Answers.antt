@@ -24,6 +24,8 @@ use Rattle.drv_syntax.specs.declared.descent.tests.Next.TheVariants as nexts
 use Rattle.std.proofs.Common.{◌∙◌, [], ◌∷◌, false, true, ap, arith, drop, inr, refl, sym}
 use Rattle.std.specs.Prelude.{Err, Ok, Some}
 
+-- The functions of the reader that call one another (src/descent/): each gives what the descent gives for its list, choice, test or call.
+
 pub items-returns-in_default-clause-list : goal.items-returns-in_default-clause-list
 items-returns-in_default-clause-list t c =
     sym c.loop-tail.invariant

@@ -6,6 +6,8 @@ use Rattle.drv_syntax.specs.Descent as descent
 use Rattle.drv_syntax.specs.Refusals.{AtBar, AtNext}
 use Rattle.std.proofs.Common.{◌≡◌, ◌+◌, ◌*◌, length}
 
+-- The functions of the reader that call one another (src/descent/): each gives what the descent gives for its list, choice, test or call.
+
 abbrev pub decreases-items : goal.decreases-items
 decreases-items l = 10 * l.c.levels + 9
 

@@ -2,6 +2,8 @@ use Rattle.drv_syntax.proofs.Wrote.{owned_of}
 use Rattle.drv_syntax.proofs.descent.parts.close_choice.Goals as goal
 use Rattle.drv_syntax.specs.Code.Writing.{seen}
 
+-- close_choice (src/descent/parts.rt): an alternative ends, whose X ends so without the white space at its end
+
 pub returns : goal.returns
 returns c =
     owned_of c.args.choice c.args.tail c.args.around (seen c.args.r.now) c.truncate.new.self c.close.new.self c.truncate-2.new.self

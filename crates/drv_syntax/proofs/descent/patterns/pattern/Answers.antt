@@ -4,6 +4,8 @@ use Rattle.drv_syntax.specs.Code.Writing.{is_empty, seen, spelled}
 use Rattle.std.proofs.Common.{◌∙◌, ap, inr, sym}
 use Rattle.std.specs.Prelude.{Err}
 
+-- pattern (src/descent/patterns.rt): a pattern
+
 pub returns-in_default : goal.returns-in_default
 returns-in_default c =
     inr (pattern_hung c.args.outer c.args.at (seen c.args.r.now) (seen c.quoted.new.r)

@@ -3,6 +3,8 @@ use Rattle.drv_syntax.proofs.WholeGiven.{from_start}
 use Rattle.drv_syntax.proofs.descent.reading.read_text.Goals as goal
 use Rattle.std.proofs.Common.{◌∙◌, sym}
 
+-- read_text (src/descent/reading.rt): the tokens and the labels of a text
+
 pub returns-in_err-tokens : goal.returns-in_err-tokens
 returns-in_err-tokens c =
     gives_err _ c.in_err-tokens.field-0.0 _ c.from_residual.result _ _ (λ h. absurd cc) c.in_err-tokens.ensures c.from_residual.ensures.1

@@ -5,6 +5,8 @@ use Rattle.drv_syntax.specs.Code.Writing.{is_empty, seen, spelled}
 use Rattle.std.proofs.Common.{◌∙◌, ap, inr, sym}
 use Rattle.std.specs.Prelude.{Err}
 
+-- marked (src/descent/tests.rt): what a test asks that begins with this mark, after it
+
 pub returns-in_default : goal.returns-in_default
 returns-in_default c =
     inr (marked_hung c.args.outer c.args.at c.args.emits c.args.mark (seen c.args.r.now) (seen c.quoted.new.r)

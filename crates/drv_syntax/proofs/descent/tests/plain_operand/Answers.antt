@@ -6,6 +6,8 @@ use Rattle.drv_syntax.specs.Contexts.{top}
 use Rattle.drv_syntax.specs.Descent.{no_lists}
 use Rattle.std.proofs.Common.{◌∙◌, sym}
 
+-- plain_operand (src/descent/tests.rt): what a test asks that doesn't ask for a function's result, or a pattern
+
 pub returns-in_err-o : goal.returns-in_err-o
 returns-in_err-o c =
     gives_err _ c.in_err-o.field-0.0 _ c.from_residual.result _ _

@@ -5,6 +5,8 @@ use Rattle.drv_syntax.specs.Code.Writing.{seen}
 use Rattle.drv_syntax.specs.Contexts.{top}
 use Rattle.drv_syntax.specs.Descent.{no_lists}
 
+-- plain_test (src/descent/tests.rt): a test that doesn't ask for a function's result, or a pattern, after its front
+
 pub returns : goal.returns
 returns c =
     gives_same _ _ c.judged.result _ _

@@ -7,6 +7,8 @@ use Rattle.std.proofs.Common.{◌∙◌, ap, sym}
 use Rattle.std.specs.List.{prefix_len}
 use Rattle.std.specs.Prelude.{Ok}
 
+-- quoted (src/descent/words.rt): the longest run of bytes of the class and of escapes; nothing where the text ends in an escape
+
 pub returns-then-not-begins : goal.returns-then-not-begins
 returns-then-not-begins c =
     ap (λ x. Ok x) (run_found c.args.class (seen c.args.r.now) c.run_length-size.result c.take-run.result.now c.take-run.new.self

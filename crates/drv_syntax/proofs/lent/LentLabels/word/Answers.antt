@@ -1,6 +1,8 @@
 use Rattle.drv_syntax.proofs.MarkedWords.{within_at}
 use Rattle.drv_syntax.proofs.lent.LentLabels.word.Goals as goal
 
+-- word (src/lent.rt): the word of the one at this place
+
 pub slice_bounds-result-count : goal.slice_bounds-result-count
 slice_bounds-result-count c =
     (within_at c.self.inside.words.now c.self.inside.marks.now c.args.self.now c.args.place _ c.self.view_is c.self.invariant c.requires).0

@@ -4,6 +4,8 @@ use Rattle.drv_syntax.proofs.tree.SpecTree.extended.Goals as goal
 use Rattle.drv_syntax.specs.Code.Ending.{ending_in, goes_on}
 use Rattle.std.proofs.Common.{◌∙◌, ◌++◌, ap, arith, inr, length, length-append, sym}
 
+-- extended (src/tree.rt): the tree of the text with more after it, or its first fault
+
 pub returns-in_err-read-clause-tree : goal.returns-in_err-read-clause-tree
 returns-in_err-read-clause-tree c =
     refused_more c.self.inside.text.items c.args.self c.args.more.now c.extend_from_slice.new.self.items (length c.text-start.result.now)

@@ -6,6 +6,8 @@ use Rattle.std.specs.Cmp.Lexicographic.{pointwise}
 use Rattle.std.specs.Map.{lookup}
 use Rattle.std.specs.Prelude.{cond}
 
+-- kind (src/facts.rt): the kind of a path: the table's answer, or else the system's, which the table keeps
+
 pub invariant_of-self-2 : goal.invariant_of-self-2
 invariant_of-self-2 g c =
     let grows = appended c.self.inside.kinds.entries c.reserve.new.self.entries c.insert.new.self.entries c.in_ok-key.key c.args.path.now

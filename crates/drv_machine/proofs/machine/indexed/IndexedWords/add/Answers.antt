@@ -3,6 +3,8 @@ use Rattle.drv_machine.proofs.machine.indexed.IndexedWords.add.Goals as goal
 use Rattle.drv_machine.specs.Working.{is_among}
 use Rattle.std.proofs.Common.{ap, sym, ◌∙◌}
 
+-- add (src/machine/indexed.rt): a word goes to the end, unless it is in the list
+
 pub invariant_of-self-2 : goal.invariant_of-self-2
 invariant_of-self-2 c =
     indexed_more c.in_ok-index.index c.insert.new.self c.self-2.inside.words c.push.new.self c.args.word c.in_ok-clone.field-0

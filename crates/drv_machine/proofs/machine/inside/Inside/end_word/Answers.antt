@@ -3,6 +3,8 @@ use Rattle.drv_machine.proofs.machine.inside.Inside.end_word.Goals as goal
 use Rattle.drv_machine.specs.Code.Held.{ended_in}
 use Rattle.std.proofs.Common.{ap, ◌∙◌}
 
+-- end_word (src/machine/inside.rt): a word has ended in all of them
+
 pub returns : goal.returns
 returns c = rw (← c.self.view_is)
     (ap (λ word. ended_in word c.self.inside.count 0) c.in_ok-self-inside.ensures.cases
