@@ -34,7 +34,7 @@ abbrev pub has_two_signs : List ℕ → Bool
 has_two_signs (dash ∷ letter ∷ rest) = list_any (nat_eq letter) (codes "Wfgm")
 has_two_signs word = false
 
--- an option that takes no argument is of a class with that of the other sign
+-- an option that takes no argument is of a class with its opposite
 abbrev pub class_alone : List ℕ → List ℕ
 class_alone name =
     if not (has_two_signs name) then []

@@ -272,7 +272,7 @@ rings =
     ∷ codes "-fuse-ld=bfd -fuse-ld=gold -fuse-ld=lld -fuse-ld=mold" ∷ codes "-gpubnames -ggnu-pubnames -gno-pubnames" ∷ codes "-Qy -Qn"
     ∷ codes "-fdiagnostics-color=always -fdiagnostics-color=never -fdiagnostics-color=auto" ∷ []
 
--- options that no other sign of theirs takes back (GCC Internals, "Option Properties", RejectNegative)
+-- options without an opposite: neither -fno-X nor -fX takes the other back (GCC Internals, "Option Properties", RejectNegative)
 unfoldable pub unpaired : List ℕ
 unpaired =
     codes "-g -g0 -g1 -g2 -g3 -ggdb -ggdb0 -ggdb1 -ggdb2 -ggdb3 -gdwarf -gdwarf-2 -gdwarf-3 -gdwarf-4 -gdwarf-5 -gstabs -gstabs+ "

@@ -1,4 +1,4 @@
-//! The libraries of checks.
+//! The checks of -fsanitize= (sanitizers), and the libraries that they need.
 
 ghost use Rattle.drv_cc.specs.Checks.{is_check, names_no_check};
 ghost use Rattle.drv_cc.specs.Levels.{check_words, checked_by, is_checked, library_word};

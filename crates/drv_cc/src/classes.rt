@@ -24,7 +24,7 @@ pub(crate) fn is_one_of(names: &[&[u8]], name: &[u8]) -> bool
     false
 }
 
-/// The group of lists in which a name is that is in one.
+/// The number of the group of short lists that has this name, if a list has it.
 fn list_key(name: &[u8]) -> usize
     ensures key { result ≡ list_key name.now }
     ensures below { result < 16 }
@@ -40,7 +40,7 @@ pub(crate) fn is_ignored(name: &[u8]) -> bool
     is_one_of(ignored_group(list_key(name)), name)
 }
 
-/// Whether no other sign of an option takes it back.
+/// Whether an option has no opposite: neither `-fno-X` nor `-fX` takes the other back (RejectNegative).
 #[tactic(auto, using(crate::proofs::Lists::among_unpaired))]
 fn is_unpaired(name: &[u8]) -> bool
     ensures { result ≡ is_among (texts unpaired) name.now }

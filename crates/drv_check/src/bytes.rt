@@ -127,7 +127,7 @@ pub(crate) fn trimmed(text: &[u8]) -> &[u8]
     without_end_blanks(without_blanks(text))
 }
 
-/// A text without its last byte.
+/// A text without its last byte, as the name of an included file without the `>` behind it.
 pub(crate) fn without_last(text: &[u8]) -> &[u8]
     ensures { result.now ≡ take (length text.now - 1) text.now }
 {

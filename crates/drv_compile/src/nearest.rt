@@ -20,7 +20,8 @@ struct Near<'n> {
     compared: usize,
 }
 
-/// A word to which names are compared, with how often it has each byte.
+/// A word to which names are compared. How often it has each byte tells how many edits there are at
+/// least, before they are counted.
 #[derive(Drop)]
 struct Wanted<'w> {
     word: &'w [u8],

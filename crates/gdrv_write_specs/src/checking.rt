@@ -78,8 +78,8 @@ const NAMED: [&[u8]; 14] = [
     b"-shared-libgcc",
 ];
 
-/// Options for no machine by which a gcc may choose other words for its machine: a line with one has
-/// its plan, or is refused.
+/// Options other than `-m..` by which a gcc may choose other words for its machine: a line with one
+/// has its plan, or is refused.
 const OTHERS: [&[u8]; 15] = [
     b"-fopenmp",
     b"-fpic",
