@@ -23,7 +23,11 @@ use Rattle.drv_syntax.specs.declared.token.TokenKind.TheVariants as kinds
 use Rattle.std.proofs.Common.{◌≡◌, ◌∙◌, ◌+◌, ◌-◌, ◌≤◌, Bool, false, true, List, [], ◌∷◌, ap, arith, drop, length, refl, suc, sym, zero, ℕ}
 use Rattle.std.specs.Prelude.{◌&&◌, Err, Ok, Option, Result, Some}
 
--- What is given of a test of a function's result, from its percent sign on. It serves the reader's `result`.
+-- What the reader's `result` returns for a test of a function's result, `%:name(..)`, from its percent sign on. It serves the clause of
+-- `result`. `result_given` and `listed_given` turn what specs/Descent makes of a part (`Took`, `Ends`, `Stops`) into the code's result.
+-- `deep` reads the lists two levels deeper, which are the arguments. A `Choice` is an alternative whose token is open. `Open` is the place
+-- of a token that is not closed yet. `outer` is the place of the outermost directive that is open, if one is, and `at` that of the % of the
+-- directive here.
 
 -- the lists in braces in a list of so many levels
 deeper_is : (level : ℕ) → 2 ≤ level → (c : ListContext) (n : ℕ) (text : List ℕ) → (around level).1 c n text
@@ -34,44 +38,54 @@ deeper_is (suc (suc level)) h c n text =
     let e : level ≡ suc (suc level) - 1 - 1 = omega arith in
     ap (λ (l : ℕ). (levels l).0 c n text) e
 
+-- in a directive, a text that ends in a part leaves the outermost directive open
 within_given : {X Y : Type 0} (outer : Option ℕ) (at : ℕ) (rest : Left) (g : X → Left → Y) (r : Read X)
     → given outer rest g (within at r) ≡ given (Some (open_at outer at)) rest g r
 within_given outer at rest g (Took x size) = refl
 within_given outer at rest g (Ends n) = refl
 within_given outer at rest g (Stops n fault) = refl
 
+-- a test of a function's result is no starred pattern
 never_starred : (b negated : Bool) (name : List ℕ) (list : Items) → (b && is_starred negated (HasResult name list)) ≡ false
 never_starred true true name list = refl
 never_starred true false name list = refl
 never_starred false negated name list = refl
 
 module _ (outer : Option ℕ) (at : ℕ) (so_far : Option Choice) (start : ℕ) (negated : Bool) (c : ListContext) (v : Reading) where
+  -- what reads the lists two levels deeper
   abbrev deep : Lists
   deep = (around c.levels).1
 
+  -- the outermost directive that is open in the test
   abbrev inner : Option ℕ
   inner = Some (open_at outer at)
 
+  -- what is written of the test up to this rest
   abbrev on : Operand → Left → Choice × Reading
   on o rest = result_on so_far start negated v.parts o.as_test rest
 
+  -- what the code's `result` returns here
   abbrev reads : Result (Choice × Reading) SyntaxFault
   reads = result_given outer so_far start negated v (result deep c at v.rest.at (drop 1 v.rest.bytes))
 
+  -- the label of the test
   abbrev label : List ℕ → Label
   label name = part_label name false negated asking.Result
 
   -- the colon
   module _ (colon : ℕ) (one two : Left) (one_is : one ≡ after 1 v.rest) (first : Some colon ≡ first_of one.bytes) (is : colon ≡ ascii.colon)
       (two_is : two ≡ after 1 one) where
+    -- the rest after the percent sign
     abbrev front : Left
     front = after 1 v.rest
 
+    -- the rest after the percent sign is a colon and what follows it
     text_is : front.bytes ≡ ascii.colon ∷ drop 1 front.bytes
     text_is =
         ap (λ (x : Left). x.bytes) (sym one_is) ∙ some_left one.bytes colon first ∙ ap (λ b. b ∷ drop 1 one.bytes) is
         ∙ ap (λ (x : Left). ascii.colon ∷ drop 1 x.bytes) one_is
 
+    -- after the colon, the test gives its function's name and then its arguments
     after_colon : reads ≡ given inner two on (then_read (function_from v.rest.at two.at [] two.bytes) (result_in deep c two.at two.bytes))
     after_colon =
         let n : v.rest.at + 2 ≡ v.rest.at + 1 + 1 = omega arith in
@@ -88,15 +102,18 @@ module _ (outer : Option ℕ) (at : ℕ) (so_far : Option Choice) (start : ℕ) 
     -- the name
     module _ (o : Option ℕ) (o_is : o ≡ inner) (n : ℕ) (n_is : n ≡ v.rest.at) (name : List ℕ) (u : Reading)
         (named : named_given o (at_rest two v) (function_from n two.at [] two.bytes) ≡ Ok (name, u)) where
+      -- the code reads this name
       named_is : named_given inner (at_rest two v) (function_from v.rest.at two.at [] two.bytes) ≡ Ok (name, u)
       named_is =
           ap (λ x. named_given x (at_rest two v) (function_from v.rest.at two.at [] two.bytes)) (sym o_is)
           ∙ ap (λ (i : ℕ). named_given o (at_rest two v) (function_from i two.at [] two.bytes)) (sym n_is)
           ∙ named
 
+      -- what the arguments of this name give, with the parenthesis that closes them
       abbrev arguments : List ℕ → ℕ → List ℕ → Read Operand
       arguments x n text = then_read (deep (in_arguments (in_braces c)) n text) (λ list size. Took (d.result_operand x list.0) (size + 1))
 
+      -- after k bytes of the name and its parenthesis come the arguments
       arguments_at : (x : List ℕ) (k : ℕ)
           → given inner two on (result_in deep c two.at two.bytes x k)
           ≡ given inner (after k two) on (arguments x (two.at + k) (drop k two.bytes))
@@ -109,6 +126,7 @@ module _ (outer : Option ℕ) (at : ℕ) (so_far : Option Choice) (start : ℕ) 
           by (Ends n) = refl
           by (Stops n fault) = refl
 
+      -- once the name is read, the test gives its arguments
       after_name : reads ≡ given inner u.rest on (arguments name u.rest.at u.rest.bytes)
       after_name =
           after_colon
@@ -121,18 +139,22 @@ module _ (outer : Option ℕ) (at : ℕ) (so_far : Option Choice) (start : ℕ) 
           (opened_is : opened_here kinds.Test (label name) start q ≡ (part, w)) (ctx : ListContext)
           (ctx_is : ctx ≡ in_arguments (in_braces c))
           (enough : 2 ≤ c.levels) where
+        -- what specs/Descent makes of the list of arguments
         abbrev list : Read (Items × ℕ)
         list = deep (in_arguments (in_braces c)) u.rest.at u.rest.bytes
 
+        -- the reading with the alternative and the test open
         abbrev begun : Reading
         begun = record { rest = u.rest; parts = opened kinds.Test (label name) start (choice_open so_far start u.parts).1 }
 
+        -- the code's reading is this one
         w_is : w ≡ begun
         w_is =
             sym (ap (λ (x : Open × Reading). x.1) opened_is)
             ∙ ap (λ (l : Left). record { rest = l; parts = opened kinds.Test (label name) start q.parts }) stays
             ∙ ap (λ (x : Choice × Parts). record { rest = u.rest; parts = opened kinds.Test (label name) start x.1 }) (sym opens)
 
+        -- the code's open token is this one
         part_is : part ≡ record { token = length (choice_open so_far start u.parts).1.tokens; start = start }
         part_is =
             sym (ap (λ (x : Open × Reading). x.0) opened_is)
@@ -148,6 +170,7 @@ module _ (outer : Option ℕ) (at : ℕ) (so_far : Option Choice) (start : ℕ) 
             ∙ ap (λ r. listed_given inner (tail_at begun) begun r)
             (sym (deeper_is c.levels enough (in_arguments (in_braces c)) u.rest.at u.rest.bytes))
 
+        -- the fault of the arguments is that of the test
         pub asked_stop : (fault : SyntaxFault) → listed_given o (tail_at w) w ((levels ctx.levels).0 ctx w.rest.at w.rest.bytes) ≡ Err fault
             → reads ≡ Err fault
         asked_stop fault h =
@@ -160,6 +183,7 @@ module _ (outer : Option ℕ) (at : ℕ) (so_far : Option Choice) (start : ℕ) 
             )) on
             list (λ x size. Took (d.result_operand name x.0) (size + 1)) fault (sym list_is ∙ h)
 
+        -- once the arguments are read, the code's open alternative and test, the arguments and the closed test are the test of the tree
         pub asked_done : (tail : Tail) (x : Reading) (end : Left)
             → listed_given o (tail_at w) w ((levels ctx.levels).0 ctx w.rest.at w.rest.bytes) ≡ Ok (tail, x)
             → end ≡ after 1 x.rest

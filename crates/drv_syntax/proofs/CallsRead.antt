@@ -12,8 +12,10 @@ use Rattle.std.proofs.Common.{◌≡◌, ◌∙◌, ◌+◌, ◌++◌, Bool, fal
 use Rattle.std.proofs.Common.{suc, sym, ℕ}
 use Rattle.std.specs.Prelude.{◌-◌, ◌==◌}
 
--- What the grammar says of a call, Descent makes of it. It is to serve the laws `spelled_is_read`, `front_is_unrefused` and
--- `refusal_kinds`.
+-- What the grammar says of a function's call, in a list or in a test, Descent makes of it. It serves the laws `spelled_is_read`,
+-- `front_is_unrefused` and `refusal_kinds`. `Reads r text x rest` says that the result r took x from the text and left this rest
+-- (PartsRead). `Fails` and `failed` say how a result fails (Failing). The numbers in the statements are bytes: 37 is %, 40 (, 58 :. Descent
+-- is the grammar as functions (specs/Descent). The grammar itself has cases (specs/Spelling, Fronts, Refusals).
 
 -- the byte that ends a list, or 0 where the text ends
 abbrev pub first_of : List ℕ → ℕ
@@ -27,6 +29,7 @@ ListReads size lists c =
     → Reads (lists c n text) text (items, first_of rest) rest
 
 module _ {X : Type 0} (make : List ℕ → Items → X) (g : ListContext) (lists : Lists) (at outer : ℕ) where
+  -- what Descent makes of a call, by what is made of its name and arguments
   abbrev pub called : ℕ → List ℕ → Read X
   called n text = within outer (then_read (d.function_from at n [] text) (λ name k.
       then_read (lists (in_arguments g) (n + k) (drop k text)) (λ list used. Took (make name list.0) (k + (used + 1)))))
@@ -35,6 +38,7 @@ module _ {X : Type 0} (make : List ℕ → Items → X) (g : ListContext) (lists
   abbrev pub listed : List ℕ → ℕ → Read (Items × ℕ) → Read X
   listed name k r = within outer (then_read r (λ list used. Took (make name list.0) (k + (used + 1))))
 
+  -- once its name and parenthesis are read, a call gives what the list of its arguments gives
   call_goes : (n : ℕ) (name text : List ℕ) → is_function name ≡ true
       → (k : ℕ) × (drop k (name ++ 40 ∷ text) ≡ text) × (length (name ++ 40 ∷ text) ≡ k + length text)
       × (called n (name ++ 40 ∷ text) ≡ listed name k (lists (in_arguments g) (n + k) text))
@@ -49,6 +53,7 @@ module _ {X : Type 0} (make : List ℕ → Items → X) (g : ListContext) (lists
             ∙ ap (λ (t : List ℕ). listed name m.size (lists (in_arguments g) (n + m.size) t)) m.left,
       )
 
+  -- a call by the grammar is read, if lists in arguments are
   pub call_reads : {size : ℕ} (ih : ListReads size lists (in_arguments g)) {text name rest : List ℕ} {items : Items} (n : ℕ)
       → IsCall size g text name items rest → At size n text → Reads (called n text) text (make name items) rest
   call_reads ih {rest = rest} {items} n (s.call {text = u} {name = name} e is l) a =
@@ -64,7 +69,7 @@ module _ {X : Type 0} (make : List ℕ → Items → X) (g : ListContext) (lists
         fits = omega (arith, z.2, more.1);
       }
 
-  -- its list fails
+  -- a call fails as the list of its arguments does
   pub call_fails : (f : Failure) (n : ℕ) (name text : List ℕ) → is_function name ≡ true
       → ((m : ℕ) → n + length (name ++ 40 ∷ text) ≡ m + length text → Fails (lists (in_arguments g) m text) f)
       → called n (name ++ 40 ∷ text) ≡ failed (around outer f)
@@ -76,10 +81,12 @@ module _ {X : Type 0} (make : List ℕ → Items → X) (g : ListContext) (lists
 
 -- the call of a test of a result, whose % has the place n
 module _ (deep : Lists) (c : ListContext) (at : ℕ) (emits : Bool) where
+  -- a test of a function's result is a percent sign, a colon and a call
   result_is : (n : ℕ) (text : List ℕ) → (c.levels - 1 == 0) ≡ false
       → d.asked deep c at emits n (37 ∷ 58 ∷ text) ≡ past 2 (called d.result_operand (in_braces c) deep n at (n + 2) text)
   result_is n text e = rw e (past_past 1 1 (called d.result_operand (in_braces c) deep n at (n + 2) text))
 
+  -- a test of a function's result by the grammar is read, if lists in arguments are
   pub result_reads : {size : ℕ} (ih : ListReads size deep (in_arguments (in_braces c))) (n : ℕ) (text name rest : List ℕ) (items : Items)
       → IsCall size (in_braces c) text name items rest → At size n (37 ∷ 58 ∷ text)
       → Reads (d.asked deep c at emits n (37 ∷ 58 ∷ text)) (37 ∷ 58 ∷ text) (d.result_operand name items) rest
@@ -91,6 +98,7 @@ module _ (deep : Lists) (c : ListContext) (at : ℕ) (emits : Bool) where
       level : {text name rest : List ℕ} {items : Items} → IsCall size (in_braces c) text name items rest → (c.levels - 1 == 0) ≡ false
       level (s.call e is l) = e
 
+  -- a test of a function's result fails as the list of its arguments does
   pub result_fails : (f : Failure) (n : ℕ) (name text : List ℕ) → (c.levels - 1 == 0) ≡ false → is_function name ≡ true
       → ((m : ℕ) → n + length (37 ∷ 58 ∷ name ++ 40 ∷ text) ≡ m + length text → Fails (deep (in_arguments (in_braces c)) m text) f)
       → d.asked deep c at emits n (37 ∷ 58 ∷ name ++ 40 ∷ text) ≡ failed (around at f)

@@ -36,9 +36,14 @@ use Rattle.std.proofs.Common.{refl, suc, sym, zero, ℕ}
 use Rattle.std.specs.List.{prefix_len}
 use Rattle.std.specs.Prelude.{◌==◌, Err, None, Ok, Option, Result}
 
--- What is given of the alternatives of braces, from one of them on. It serves the reader's `choices` and `later`.
+-- What the reader's `choices` and `later` return for the alternatives of braces, from one of them on: its tests, its X, and a later
+-- alternative or the end of the braces. It serves the clauses of both. `given` and `.._given` turn what specs/Descent makes of a part
+-- (`Took`, `Ends`, `Stops`) into the code's result. A `Reading` is the text that is left and the tokens and labels so far. A `Choice` is an
+-- alternative whose token is open. `outer` is the place of the outermost directive that is open, if one is, and `at` that of the % of the
+-- directive here.
 
 module _ (lists deep : Lists) (c : ListContext) (at : ℕ) where
+  -- so many bytes of alternatives that are past are so many bytes less of the text
   choices_skip : (order : Order) (n k : ℕ) (text : List ℕ)
       → choices lists deep c at order n k text ≡ choices lists deep c at order (n + k) 0 (drop k text)
   choices_skip order n zero [] = refl
@@ -57,6 +62,7 @@ module _ (lists deep : Lists) (c : ListContext) (at : ℕ) where
   NoEmit (Ends n) = Unit {0}
   NoEmit (Stops n fault) = Unit {0}
 
+  -- alternatives after the first are never patterns
   late_choices : (text : List ℕ) (n skip : ℕ) → NoEmit (choices lists deep c at AtNext n skip text)
   late_choices [] n skip = tt
   late_choices (b ∷ text) n (suc skip) = late_choices text (n + 1) skip
@@ -115,6 +121,7 @@ module _ (lists deep : Lists) (c : ListContext) (at : ℕ) where
       by false never = form (tests deep c at AtNext n 0 (b ∷ text)) (late_tests deep c at (b ∷ text) AtNext n 0 tt) never
 
   module _ (outer : Option ℕ) where
+    -- what the alternatives after the first give, from here on
     abbrev pub later_from : Reading → Result Reading SyntaxFault
     later_from v = later_given outer v (choices lists deep c at AtNext v.rest.at 0 v.rest.bytes)
 
@@ -122,13 +129,16 @@ module _ (lists deep : Lists) (c : ListContext) (at : ℕ) where
     abbrev pub x_from : Choice → Reading → Result (ℕ × Reading) SyntaxFault
     x_from choice u = x_given outer at choice u (lists (owner_when choice.starred (in_braces c)) u.rest.at u.rest.bytes)
 
+    -- a result with its value changed by g
     abbrev pub mapped : {W : Type 0} → (Reading → W) → Result Reading SyntaxFault → Result W SyntaxFault
     mapped g (Ok w) = Ok (g w)
     mapped g (Err fault) = Err fault
 
+    -- after an X that this byte ends: the braces end, or the alternatives after it follow
     abbrev pub x_next : {W : Type 0} → (Reading → W) → ℕ → Reading → Result W SyntaxFault
     x_next g end w = if end == ascii.closing_brace then Ok (g w) else mapped g (later_from w)
 
+    -- what an X gives, and then the end of the braces or the alternatives after it
     abbrev pub x_nexts : {W : Type 0} → (Reading → W) → Result (ℕ × Reading) SyntaxFault → Result W SyntaxFault
     x_nexts g (Ok y) = x_next g y.0 y.1
     x_nexts g (Err fault) = Err fault
@@ -138,12 +148,15 @@ module _ (lists deep : Lists) (c : ListContext) (at : ℕ) where
     module _ {W : Type 0} (g : Reading → W) (f : Brace → Left → W) (v : Reading)
         (f_is : (cs : Choices) (rest : Left) → f (tree.Choose cs) rest ≡ g (record { rest = rest; parts = choices_written cs v.parts }))
         (s : Span) (negated : Bool) (a : Asked) (asks : Tests) (k : ℕ) where
+      -- the tests of the alternative
       abbrev ts : Tests
       ts = test s negated a asks
 
+      -- what the code has after these tests: the open alternative, and the parts so far
       abbrev begun : Choice × Parts
       begun = tests_on (added None v.parts s negated a) asks
 
+      -- the rest after the colon
       abbrev here : Left
       here = after 1 (after k v.rest)
 
@@ -156,26 +169,33 @@ module _ (lists deep : Lists) (c : ListContext) (at : ℕ) where
             ts;
       }
 
+      -- the code's open alternative is this one
       own_is : begun.0 ≡ own
       own_is = tests_choice ts (choice_open None s.start v.parts)
 
+      -- the parts with the alternative open and its tests written
       abbrev asked : Parts
       asked = wrote (test_nodes ts) (tests_have_star ts) (opened kinds.Alternative no_label s.start v.parts)
 
+      -- the parts that the code has after the tests are these
       asked_is : begun.1 ≡ asked
       asked_is = tests_wrote ts (choice_open None s.start v.parts)
 
+      -- the parts with the whole alternative written, with these items as its X
       abbrev written : Items → Parts
       written items = choice_written (span s.start (last_place (trimmed items) here.at)) ts (trimmed items) v.parts
 
+      -- the rest after an X of so many bytes and the byte that ends it
       abbrev last : ℕ → Left
       last size = after 1 (after size here)
 
+      -- all bytes of the alternative lead to that rest
       last_is : (size : ℕ) → after (k + (1 + size + 1)) v.rest ≡ last size
       last_is size =
           let e : k + (1 + size + 1) ≡ (k + 1 + size) + 1 = omega arith in
           ap (λ (i : ℕ). after i v.rest) e ∙ after_after (k + 1 + size) 1 v.rest ∙ ap (λ (x : Left). after 1 x) (more_after k size v.rest)
 
+      -- specs/Descent reads the alternatives after it from that rest on
       others_are : (size : ℕ) → choices lists deep c at AtNext (v.rest.at + 1) (k + 1 + size) (drop 1 v.rest.bytes)
           ≡ choices lists deep c at AtNext (last size).at 0 (last size).bytes
       others_are size =
@@ -183,6 +203,7 @@ module _ (lists deep : Lists) (c : ListContext) (at : ℕ) where
           ∙ ap (λ (x : Left). choices lists deep c at AtNext x.at 0 x.bytes)
           (one_after (k + 1 + size) v.rest ∙ ap (λ (x : Left). after 1 x) (more_after k size v.rest))
 
+      -- what the alternatives after this one give is given with this one written first
       goes_on : (items : Items) (size : ℕ) (r : Read Brace) → NoEmit r
           → given outer v.rest f
           (past k (then_read r (λ brace more. Took (with_choice (v.rest.at + k) ts items brace) (1 + size + 1 + more))))
@@ -196,6 +217,7 @@ module _ (lists deep : Lists) (c : ListContext) (at : ℕ) where
       goes_on items size (Ends i) never = refl
       goes_on items size (Stops i fault) never = refl
 
+      -- after an X that is read, a closing brace ends the braces, and any other byte leads to the next alternative
       x_goes : (x : Items × ℕ) (size : ℕ)
           → given outer v.rest f
           (past k (x_go (v.rest.at + k) ts x size (choices lists deep c at AtNext (v.rest.at + 1) (k + 1 + size)
@@ -217,6 +239,7 @@ module _ (lists deep : Lists) (c : ListContext) (at : ℕ) where
               (late_choices (drop 1 v.rest.bytes) (v.rest.at + 1) (k + 1 + size))
               ∙ ap (λ r. mapped g (later_given outer (record { rest = last size; parts = written x.0 }) r)) (others_are size)
 
+      -- once the list that is its X is read, the alternative gives what follows its X
       list_goes : (r : Read (Items × ℕ))
           → given outer v.rest f (then_read (within at r) (λ x size. past k (x_go (v.rest.at + k) ts x size
           (choices lists deep c at AtNext (v.rest.at + 1) (k + 1 + size) (drop 1 v.rest.bytes)))))
@@ -228,6 +251,7 @@ module _ (lists deep : Lists) (c : ListContext) (at : ℕ) where
           ∙ ap (λ (z : Parts). x_next g x.1 (record { rest = last size; parts = z }))
           (sym (choice_owned v.parts s.start here.at ts x.0 (all_starred ts)))
 
+      -- once the tests of an alternative are read, the braces give its X, and then the end of the braces or the next alternative
       pub alternative_by : given outer v.rest f (form_go lists c at v.rest.at v.rest.bytes (d.Alternative s negated a asks) k
           (λ skip. choices lists deep c at AtNext (v.rest.at + 1) skip (drop 1 v.rest.bytes)))
           ≡ x_nexts g (x_from begun.0 (record { rest = here; parts = begun.1 }))
@@ -241,34 +265,42 @@ module _ (lists deep : Lists) (c : ListContext) (at : ℕ) where
 
     -- what alternatives are by their first test, or their tests
 
+    -- the braces hold alternatives and leave this
     abbrev as_choices : Reading → Inside × Reading
     as_choices w = (insides.Choices, w)
 
+    -- what braces give after their first tests, or after patterns
     abbrev pub form_choices : code.Form → Reading → Result (Inside × Reading) SyntaxFault
     form_choices forms.Patterns u = Ok (insides.Patterns, u)
     form_choices (forms.Tests choice) u = x_nexts as_choices (x_from choice u)
 
+    -- what the first tests or patterns of braces give, and then what follows them
     abbrev pub forms_choices : Result (code.Form × Reading) SyntaxFault → Result (Inside × Reading) SyntaxFault
     forms_choices (Ok x) = form_choices x.0 x.1
     forms_choices (Err fault) = Err fault
 
+    -- the reading itself
     abbrev same_reading : Reading → Reading
     same_reading w = w
 
+    -- what the alternatives from here on give after the tests of the first of them, where patterns are refused
     abbrev pub form_later : code.Form → Reading → Result Reading SyntaxFault
     form_later forms.Patterns u = Err (BadDirective at)
     form_later (forms.Tests choice) u = x_nexts same_reading (x_from choice u)
 
+    -- what the tests of a later alternative give, and then what follows them
     abbrev pub forms_later : Result (code.Form × Reading) SyntaxFault → Result Reading SyntaxFault
     forms_later (Ok x) = form_later x.0 x.1
     forms_later (Err fault) = Err fault
 
+    -- braces begin with tests or patterns, also where the text ends there
     choices_whole : (n : ℕ) (text : List ℕ) → choices lists deep c at AtFront n 0 text
         ≡ then_read (tests deep c at AtFront n 0 text) (λ form k. form_go lists c at n text form k
         (λ skip. choices lists deep c at AtNext (n + 1) skip (drop 1 text)))
     choices_whole n [] = refl
     choices_whole n (b ∷ text) = refl
 
+    -- braces give what their first tests or patterns give: patterns end them, and tests lead to an X and what follows it
     pub choices_by : (v : Reading) → brace_given outer v (choices lists deep c at AtFront v.rest.at 0 v.rest.bytes)
         ≡ forms_choices (form_given outer v (tests deep c at AtFront v.rest.at 0 v.rest.bytes))
     choices_by v = ap (λ r. brace_given outer v r) (choices_whole v.rest.at v.rest.bytes)
@@ -285,6 +317,7 @@ module _ (lists deep : Lists) (c : ListContext) (at : ℕ) where
         by (Ends i) = refl
         by (Stops i fault) = refl
 
+    -- a later alternative is the default if a colon follows its white space, and else it begins with tests
     later_whole : (n : ℕ) (text : List ℕ) → choices lists deep c at AtNext n 0 text
         ≡ (if begins_with ascii.colon (drop (prefix_len is_white text) text) then default lists c at n (prefix_len is_white text) text
         else then_read (tests deep c at AtNext n 0 text) (λ form k. form_go lists c at n text form k
@@ -302,6 +335,7 @@ module _ (lists deep : Lists) (c : ListContext) (at : ℕ) where
         by [] = refl
         by (x ∷ bs) = refl
 
+    -- a later alternative without a colon at its front gives its tests, its X and what follows that
     pub later_tests : (v : Reading) → begins_with ascii.colon (drop (prefix_len is_white v.rest.bytes) v.rest.bytes) ≡ false
         → later_from v ≡ forms_later (form_given outer v (tests deep c at AtNext v.rest.at 0 v.rest.bytes))
     later_tests v e =
@@ -323,13 +357,16 @@ module _ (lists deep : Lists) (c : ListContext) (at : ℕ) where
 
     -- an alternative without tests
 
+    -- after the X of a default, a closing brace ends the braces and any other byte is refused
     abbrev pub default_next : ℕ → Reading → Result Reading SyntaxFault
     default_next end w = if end == ascii.closing_brace then Ok w else Err (EmptyTest at)
 
+    -- what the X of a default gives, and then the end of the braces or a refusal
     abbrev pub default_nexts : Result (ℕ × Reading) SyntaxFault → Result Reading SyntaxFault
     default_nexts (Ok y) = default_next y.0 y.1
     default_nexts (Err fault) = Err fault
 
+    -- a later alternative with a colon at its front is the default: it gives its X, after which the braces must end
     pub later_default : (v : Reading) → begins_with ascii.colon (drop (prefix_len is_white v.rest.bytes) v.rest.bytes) ≡ true
         → later_from v ≡ default_nexts (x_from (default_here (at_rest (after (prefix_len is_white v.rest.bytes) v.rest) v)).0
         (default_here (at_rest (after (prefix_len is_white v.rest.bytes) v.rest) v)).1)
@@ -397,17 +434,21 @@ module _ (lists deep : Lists) (c : ListContext) (at : ℕ) where
 
     -- the code's steps
 
+    -- where no closing brace ends an X, the alternatives after it follow
     x_more : {W : Type 0} (g : Reading → W) (end : ℕ) (w : Reading) → (end ≡ ascii.closing_brace → ⊥) → x_next g end w
         ≡ mapped g (later_from w)
     x_more g end w h = ap (λ (t : Bool). if t then Ok (g w) else mapped g (later_from w)) (differs end ascii.closing_brace h)
 
+    -- where a closing brace ends an X, the braces end
     x_last : {W : Type 0} (g : Reading → W) (end : ℕ) (w : Reading) → end ≡ ascii.closing_brace → x_next g end w ≡ Ok (g w)
     x_last g end w h = ap (λ (i : ℕ). x_next g i w) h
 
+    -- a result with its value left as it is stays the same
     mapped_same : (r : Result Reading SyntaxFault) → mapped same_reading r ≡ r
     mapped_same (Ok w) = refl
     mapped_same (Err fault) = refl
 
+    -- after an X no more of the text is left than before
     x_less : (choice : Choice) (u w : Reading) (end : ℕ) → x_from choice u ≡ Ok (end, w) → length w.rest.bytes ≤ length u.rest.bytes
     x_less choice u w end h = by (lists (owner_when choice.starred (in_braces c)) u.rest.at u.rest.bytes) h
       where
@@ -421,6 +462,7 @@ module _ (lists deep : Lists) (c : ListContext) (at : ℕ) where
         by (Ends i) e = absurd cc
         by (Stops i fault) e = absurd cc
 
+    -- whether a colon follows the white space at the front is the same for the code's own numbers and lists
     pub colon_is : (v : Reading) (white : ℕ) (bs cs : List ℕ) (t : Bool) → white ≡ prefix_len is_white bs → bs ≡ v.rest.bytes → cs
         ≡ v.rest.bytes
         → begins_with ascii.colon (drop white cs) ≡ t
@@ -431,38 +473,46 @@ module _ (lists deep : Lists) (c : ListContext) (at : ℕ) where
         ∙ h
 
     module _ (v : Reading) where
+      -- the fault of the first tests is that of the braces
       pub choices_stop : (fault : SyntaxFault) → form_given outer v (tests deep c at AtFront v.rest.at 0 v.rest.bytes) ≡ Err fault
           → brace_given outer v (choices lists deep c at AtFront v.rest.at 0 v.rest.bytes) ≡ Err fault
       choices_stop fault h = choices_by v ∙ ap (λ x. forms_choices x) h
 
+      -- the fault of the tests of a later alternative is that of the alternatives from it on
       pub later_stop : (fault : SyntaxFault) → begins_with ascii.colon (drop (prefix_len is_white v.rest.bytes) v.rest.bytes) ≡ false
           → form_given outer v (tests deep c at AtNext v.rest.at 0 v.rest.bytes) ≡ Err fault → later_from v ≡ Err fault
       later_stop fault e h = later_tests v e ∙ ap (λ x. forms_later x) h
 
       module _ (u : Reading) (form : code.Form) (read : form_given outer v (tests deep c at AtFront v.rest.at 0 v.rest.bytes)
           ≡ Ok (form, u)) where
+        -- braces whose front is patterns hold these alone
         pub choices_patterns : form ≡ forms.Patterns
             → brace_given outer v (choices lists deep c at AtFront v.rest.at 0 v.rest.bytes) ≡ Ok (insides.Patterns, u)
         choices_patterns e = choices_by v ∙ ap (λ x. forms_choices x) read ∙ ap (λ f. form_choices f u) e
 
         module _ (choice : Choice) (is : form ≡ forms.Tests choice) where
+          -- once the first tests are read, braces give what their X gives, and what follows it
           choices_x : brace_given outer v (choices lists deep c at AtFront v.rest.at 0 v.rest.bytes) ≡ x_nexts as_choices (x_from choice u)
           choices_x = choices_by v ∙ ap (λ x. forms_choices x) read ∙ ap (λ f. form_choices f u) is
 
+          -- the fault of the first X is that of the braces
           pub choices_x_stop : (fault : SyntaxFault) → x_from choice u ≡ Err fault
               → brace_given outer v (choices lists deep c at AtFront v.rest.at 0 v.rest.bytes) ≡ Err fault
           choices_x_stop fault h = choices_x ∙ ap (λ x. x_nexts as_choices x) h
 
           module _ (end : ℕ) (w : Reading) (ends : x_from choice u ≡ Ok (end, w)) where
+            -- where a closing brace ends the first X, the braces end with it
             pub choices_x_last : end ≡ ascii.closing_brace
                 → brace_given outer v (choices lists deep c at AtFront v.rest.at 0 v.rest.bytes) ≡ Ok (insides.Choices, w)
             choices_x_last e = choices_x ∙ ap (λ x. x_nexts as_choices x) ends ∙ x_last as_choices end w e
 
+            -- where no closing brace ends the first X, the fault of the later alternatives is that of the braces
             pub choices_later_stop : (fault : SyntaxFault) → (end ≡ ascii.closing_brace → ⊥) → later_from w ≡ Err fault
                 → brace_given outer v (choices lists deep c at AtFront v.rest.at 0 v.rest.bytes) ≡ Err fault
             choices_later_stop fault e h =
                 choices_x ∙ ap (λ x. x_nexts as_choices x) ends ∙ x_more as_choices end w e ∙ ap (λ x. mapped as_choices x) h
 
+            -- where no closing brace ends the first X, the braces leave what the later alternatives leave
             pub choices_later_done : (last : Reading) → (end ≡ ascii.closing_brace → ⊥) → later_from w ≡ Ok last
                 → brace_given outer v (choices lists deep c at AtFront v.rest.at 0 v.rest.bytes) ≡ Ok (insides.Choices, last)
             choices_later_done last e h =
@@ -471,23 +521,29 @@ module _ (lists deep : Lists) (c : ListContext) (at : ℕ) where
       module _ (none : begins_with ascii.colon (drop (prefix_len is_white v.rest.bytes) v.rest.bytes) ≡ false)
           (u : Reading) (form : code.Form) (read : form_given outer v (tests deep c at AtNext v.rest.at 0 v.rest.bytes) ≡ Ok (form, u))
         where
+          -- patterns in place of a later alternative are refused
           pub later_patterns : form ≡ forms.Patterns → later_from v ≡ Err (BadDirective at)
           later_patterns e = later_tests v none ∙ ap (λ x. forms_later x) read ∙ ap (λ f. form_later f u) e
 
           module _ (choice : Choice) (is : form ≡ forms.Tests choice) where
+            -- once its tests are read, a later alternative gives what its X gives, and what follows it
             later_x : later_from v ≡ x_nexts same_reading (x_from choice u)
             later_x = later_tests v none ∙ ap (λ x. forms_later x) read ∙ ap (λ f. form_later f u) is
 
+            -- the fault of the X of a later alternative is that of the alternatives from it on
             pub later_x_stop : (fault : SyntaxFault) → x_from choice u ≡ Err fault → later_from v ≡ Err fault
             later_x_stop fault h = later_x ∙ ap (λ x. x_nexts same_reading x) h
 
             module _ (end : ℕ) (w : Reading) (ends : x_from choice u ≡ Ok (end, w)) where
+              -- where a closing brace ends the X of a later alternative, the alternatives end with it
               pub later_x_last : end ≡ ascii.closing_brace → later_from v ≡ Ok w
               later_x_last e = later_x ∙ ap (λ x. x_nexts same_reading x) ends ∙ x_last same_reading end w e
 
+              -- where no closing brace ends the X of a later alternative, the alternatives give what those after it give
               pub later_x_more : (end ≡ ascii.closing_brace → ⊥) → later_from v ≡ later_from w
               later_x_more e = later_x ∙ ap (λ x. x_nexts same_reading x) ends ∙ x_more same_reading end w e ∙ mapped_same (later_from w)
 
+              -- an alternative takes at least one byte, so the loop of `later` ends
               pub later_less : length w.rest.bytes < length v.rest.bytes
               later_less =
                   let first : length u.rest.bytes < length v.rest.bytes = form_smaller deep c at outer AtNext v u form read in
@@ -499,6 +555,7 @@ module _ (lists deep : Lists) (c : ListContext) (at : ℕ) where
           (rest : Left)
           (run : white ≡ prefix_len is_white bs) (bytes : bs ≡ v.rest.bytes) (left : rest ≡ after white v.rest)
           (choice : Choice) (u : Reading) (opens : default_here (at_rest rest v) ≡ (choice, u)) where
+        -- a default gives what its X gives, and what follows it
         default_x : later_from v ≡ default_nexts (x_from choice u)
         default_x =
             later_default v some
@@ -506,13 +563,16 @@ module _ (lists deep : Lists) (c : ListContext) (at : ℕ) where
             (ap (λ (i : ℕ). after i v.rest) (sym (run ∙ ap (λ xs. prefix_len is_white xs) bytes)) ∙ sym left)
             ∙ ap (λ (x : Choice × Reading). default_nexts (x_from x.0 x.1)) opens
 
+        -- the fault of the X of the default is that of the alternatives
         pub default_stop : (fault : SyntaxFault) → x_from choice u ≡ Err fault → later_from v ≡ Err fault
         default_stop fault h = default_x ∙ ap (λ x. default_nexts x) h
 
         module _ (end : ℕ) (w : Reading) (ends : x_from choice u ≡ Ok (end, w)) where
+          -- where a closing brace ends the X of the default, the alternatives end with it
           pub default_last : end ≡ ascii.closing_brace → later_from v ≡ Ok w
           default_last e = default_x ∙ ap (λ x. default_nexts x) ends ∙ ap (λ (i : ℕ). default_next i w) e
 
+          -- where any other byte ends the X of the default, it is refused, since the default must be the last alternative
           pub default_bad : (end ≡ ascii.closing_brace → ⊥) → later_from v ≡ Err (EmptyTest at)
           default_bad e =
               default_x ∙ ap (λ x. default_nexts x) ends

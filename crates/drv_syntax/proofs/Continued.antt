@@ -39,23 +39,29 @@ use Rattle.std.proofs.Common.{refl, subst, suc, sym, ℕ}
 use Rattle.std.proofs.lemmas.Bool.Decides.{nat_tests}
 use Rattle.std.specs.Prelude.{◌==◌, Err, None, Ok, Option, Result, Some, slice_get}
 
--- A text that has a tree goes on after its end. It serves `SpecTree::extended`.
+-- A text that has a tree goes on after its end: read with more bytes after it, it gives its own items and then those of the rest, if its
+-- last item can't be longer there. It serves `SpecTree::extended`, which keeps the tokens and labels of the text and reads only what
+-- follows. `goes_on` (specs/Code/Ending) is the test for that last item.
 
 -- the last token of a text is that of its last item, if that has no parts
 
+-- the last of some tokens and one more is that one
 seam : (ts : List Token) (t : Token) → slice_get (ts ++ t ∷ []) (length ts) ≡ Some t
 seam [] t = refl
 seam (x ∷ ts) t = seam ts t
 
+-- a number equals itself in the test
 at_end : (m : ℕ) → (m == m) ≡ true
 at_end m = grind (arith, nat_tests)
 
+-- a text that its last token ends with ends as that token's kind says
 ending_last : (ts : List Token) (t : Token) → ending_in t.end (ts ++ t ∷ []) ≡ ending_by t.kind
 ending_last ts t =
     let e : length (ts ++ t ∷ []) - 1 ≡ length ts = omega (arith, length-append ts (t ∷ [])) in
     ap (λ (i : ℕ). ending_after t.end (slice_get (ts ++ t ∷ []) i)) e ∙ ap (λ (x : Option Token). ending_after t.end x) (seam ts t)
     ∙ rw (at_end t.end) refl
 
+-- a text whose last item has no parts ends as the kind of this item says
 ends_so : (done : Items) (p : Span) (item : Item) → inner_nodes item ≡ no_node
     → ending_in p.end (tokens_of (join done (more p item none))) ≡ ending_by (kind_of item)
 ends_so done p item e =
@@ -75,16 +81,19 @@ Fits (UserError words) rest = ⊥
 Fits (Notice words) rest = ⊥
 Fits _ rest = Unit {0}
 
+-- the rest fits the last of these items
 abbrev LastFits : Items → List ℕ → Type 0
 LastFits none rest = Unit {0}
 LastFits (more s item none) rest = Fits item rest
 LastFits (more s item (more t other items)) rest = LastFits (more t other items) rest
 
+-- items, one more and the items after it are the same in either grouping
 join_more : (before : Items) (p : Span) (item : Item) (items : Items) → join (join before (more p item none)) items
     ≡ join before (more p item items)
 join_more none p item items = refl
 join_more (more t other before) p item items = ap (λ (x : Items). more t other x) (join_more before p item items)
 
+-- where the code's test lets a text go on, what follows fits its last item
 item_fits : (before : Items) (p : Span) (item : Item) (rest : List ℕ)
     → goes_on (ending_in p.end (tokens_of (join before (more p item none)))) rest ≡ true → Fits item rest
 item_fits before p (TempName kind suffix) rest g = sym (ap (λ (e : Ending). goes_on e rest) (ends_so before p (TempName kind suffix) refl))
@@ -111,6 +120,7 @@ item_fits before p Star rest g = tt
 item_fits before p (FailureFile brace) rest g = tt
 item_fits before p (ArgumentsFile brace) rest g = tt
 
+-- where the code's test lets a text go on, what follows fits the last of its items
 last_fits : {size : ℕ} {c : ListContext} {text : List ℕ} (rest : List ℕ) (items before : Items) → AreItems size c text items []
     → goes_on (ending_in size (tokens_of (join before items))) rest ≡ true → LastFits items rest
 last_fits rest none before i g = tt
@@ -125,10 +135,12 @@ last_fits {size} rest (more p item (more t other items)) before (s.next_item {n 
 
 -- the item that a text ends in is the same where more follows
 
+-- a run that the text ends in is the same run before a byte that can't be in it
 run_on : {f : ℕ → Bool} {t run q : List ℕ} {b : ℕ} → IsRun f t run [] → f b ≡ false → IsRun f (t ++ b ∷ q) run (b ∷ q)
 run_on (s.run_ends h) e = s.run_ends (s.at_byte e)
 run_on (s.run_goes h i) e = s.run_goes h (run_on i e)
 
+-- a run with escapes that the text ends in is the same run before a byte that can't be in it
 quoted_on : {f : ℕ → Bool} {t word q : List ℕ} {b : ℕ} → IsQuoted f t word [] → (b == ascii.backslash) ≡ false → f b ≡ false
     → IsQuoted f (t ++ b ∷ q) word (b ∷ q)
 quoted_on s.quoted_end e g = s.quoted_stop e g
@@ -141,12 +153,14 @@ blank_out : (b : ℕ) → is_blank b ≡ true → ((b == ascii.backslash) ≡ fa
 blank_out b h = each (λ x. ((x == ascii.backslash) ≡ false) × (is_word x ≡ false) × (is_suffix x ≡ false) × ((x == ascii.percent) ≡ false)
     × ((x == ascii.asterisk) ≡ false)) (32 ∷ 9 ∷ []) b h ((refl, refl, refl, refl, refl), ((refl, refl, refl, refl, refl), tt))
 
+-- a suffix that the text ends in is the same before a blank
 suffix_on : {t suffix : List ℕ} (q : List ℕ) → IsSuffix t suffix [] → begins_blank q ≡ true → IsSuffix (t ++ q) suffix q
 suffix_on [] i h = differs (sym h)
 suffix_on (b ∷ q) (s.suffix_run i) h = s.suffix_run (run_on i (blank_out b h).2)
 suffix_on (b ∷ q) s.suffix_object h = s.suffix_object
 suffix_on (b ∷ q) s.suffix_none h = s.suffix_other (blank_out b h).2 (blank_out b h).3
 
+-- a pattern that the text ends in is the same before a blank
 pattern_on : {t : List ℕ} {p : Pattern} (q : List ℕ) → IsPattern t p [] → begins_blank q ≡ true → IsPattern (t ++ q) p q
 pattern_on [] i h = differs (sym h)
 pattern_on (b ∷ q) (s.unstarred i e) h =
@@ -154,10 +168,12 @@ pattern_on (b ∷ q) (s.unstarred i e) h =
     s.unstarred (quoted_on i o.0 o.1) (s.at_byte o.4)
 pattern_on (b ∷ q) (s.starred i) h = s.starred (quoted_longer (b ∷ q) i tt)
 
+-- nothing fits after %e and %n, so this case can't arise
 said_fits : {A : Type 0} (kind : SayKind) (words q : List ℕ) → Fits (said kind words) q → A
 said_fits AsError words q h = absurd h
 said_fits AsNotice words q h = absurd h
 
+-- a directive that a text ends in is the same directive before a rest that fits it
 directive_on : {size : ℕ} {c : ListContext} {f : Directive} {t : List ℕ} {x : Item} (q : List ℕ) → IsDirective size c f t x [] → Fits x q
     → IsDirective (size + length q) c f (t ++ q) x q
 directive_on q s.whole h = s.whole
@@ -172,6 +188,7 @@ directive_on q (s.function i) h = s.function (call_longer q i)
 directive_on q (s.braces i) h = s.braces (brace_longer q i)
 directive_on q (s.marked_braces i) h = s.marked_braces (brace_longer q i)
 
+-- an item that the text ends in is the same item before a rest that fits it
 item_on : {size : ℕ} {c : ListContext} {t : List ℕ} {x : Item} (q : List ℕ) → IsItem size c t x [] → Fits x q
     → IsItem (size + length q) c (t ++ q) x q
 item_on q (s.plain e g) h = s.plain e g
@@ -187,6 +204,7 @@ item_goes : {size : ℕ} {c : ListContext} {t mid : List ℕ} (q : List ℕ) (p 
 item_goes q p x none (s.no_item e) h i = item_on q i h
 item_goes q p x (more r y items) (s.next_item a j b l) h i = item_longer q i (item_filled j)
 
+-- what fits the last of some items fits the last of those after the first
 rest_fits : (p : Span) (x : Item) (items : Items) (q : List ℕ) → LastFits (more p x items) q → LastFits items q
 rest_fits p x none q h = tt
 rest_fits p x (more r y items) q h = h
@@ -197,11 +215,13 @@ rest_fits p x (more r y items) q h = h
 abbrev after : Items → ℕ → Read (Items × ℕ) → Read (Items × ℕ)
 after items k r = then_read r (λ list used. Took (join items list.0, list.1) (k + used))
 
+-- no items before what is read change nothing
 after_none : (r : Read (Items × ℕ)) → after none 0 r ≡ r
 after_none (Took list used) = let e : 0 + used ≡ used = omega arith in ap (λ (i : ℕ). Took list i) e
 after_none (Ends at) = refl
 after_none (Stops n fault) = refl
 
+-- an item before other items, and then what is read, are those items with it before
 after_more : (n m k first : ℕ) (x : Item) (items : Items) (used size : ℕ) (r : Read (Items × ℕ)) → n ≡ first → n + 1 + used ≡ m
     → 1 + used + k ≡ size → item_go n x used (after items k r) ≡ after (more (span first m) x items) size r
 after_more n m k first x items used size (Took list extra) f e g =
@@ -213,9 +233,11 @@ after_more n m k first x items used size (Ends at) f e g = refl
 after_more n m k first x items used size (Stops i fault) f e g = refl
 
 module _ (level : ℕ) (is : level ≡ 63) (q : List ℕ) where
+  -- what Descent makes of a whole text from here on
   abbrev reads : ℕ → List ℕ → Read (Items × ℕ)
   reads n t = (levels (suc level)).0 top n t
 
+  -- a text with a tree and a rest that fits it give its items and then those of the rest
   items_on : {size : ℕ} {t : List ℕ} (items : Items) (n : ℕ) → AreItems size top t items [] → LastFits items q → At size n t
       → reads n (t ++ q) ≡ after items (length t) (reads (n + length t) q)
   items_on none n (s.no_item e) h place =
@@ -235,6 +257,7 @@ module _ (level : ℕ) (is : level ≡ 63) (q : List ℕ) where
       ∙ after_more n m (length mid) first x items o.used (length t) (reads (n + 1 + o.used + length mid) q) begins ends (sym sizes)
       ∙ ap (λ (k : ℕ). after (more (span first m) x items) (length t) (reads k q)) there
 
+-- the tokens of two lists, one after the other, are those of both
 tokens_joined : (items list : Items) → tokens_of (join items list) ≡ tokens_of items ++ flat (length (tokens_of items)) (nodes_of list)
 tokens_joined items list =
     items_flat 0 (join items list) ∙ ap (λ ns. flat 0 ns) (items_join items list)
@@ -245,9 +268,11 @@ tokens_joined items list =
     by : (k : ℕ) → 0 + k ≡ k
     by k = omega arith
 
+-- the labels of two lists, one after the other, are those of both
 labels_joined : (items list : Items) → labels_of (join items list) ≡ labels_of items ++ labels (nodes_of list)
 labels_joined items list = ap (λ ns. labels ns) (items_join items list) ∙ labels_both (nodes_of items) (nodes_of list)
 
+-- where the code's test lets a text go on, the whole is read as its tokens and labels, and then those of the rest
 pub rest_is : (text rest : List ℕ) (tokens : List Token) (names : List Label) → whole_given text ≡ Ok (tokens, names)
     → goes_on (ending_in (length text) tokens) rest ≡ true → whole_given (text ++ rest) ≡ rest_given (length text) rest tokens names
 rest_is text rest tokens names h g = by (descent text) refl h
@@ -282,15 +307,19 @@ rest_is text rest tokens names h g = by (descent text) refl h
 -- the code's list of the rest
 
 module _ (n : ℕ) (bytes : List ℕ) (v : Reading) (here : v.rest ≡ record { at = n; bytes = bytes }) where
+  -- what the code's `items` returns for the rest of a whole text
   abbrev lists : Reading → Result (Tail × Reading) SyntaxFault
   lists w = listed_given None (tail_at w) w ((levels 64).0 top w.rest.at w.rest.bytes)
 
+  -- the reading at the rest, with these parts
   abbrev begun : Reading
   begun = record { rest = record { at = n; bytes = bytes }; parts = v.parts }
 
+  -- the code's reading is this one
   begun_is : v ≡ begun
   begun_is = ap (λ (r : Left). record { rest = r; parts = v.parts }) here
 
+  -- the tokens and labels that the code's list of the rest leaves are those of the whole
   pub rest_done : (tail : Tail) (u : Reading) → lists v ≡ Ok (tail, u)
       → rest_given n bytes v.parts.tokens v.parts.labels ≡ Ok (u.parts.tokens, u.parts.labels)
   rest_done tail u h = by ((levels 64).0 top n bytes) (ap (λ (w : Reading). lists w) (sym begun_is) ∙ h)
@@ -307,6 +336,7 @@ module _ (n : ℕ) (bytes : List ℕ) (v : Reading) (here : v.rest ≡ record { 
       by (Ends at) g = absurd cc
       by (Stops m fault) g = absurd cc
 
+  -- the fault of the code's list of the rest is that of the whole
   pub rest_stops : (fault : SyntaxFault) → lists v ≡ Err fault → rest_given n bytes v.parts.tokens v.parts.labels ≡ Err fault
   rest_stops fault h = by ((levels 64).0 top n bytes) (ap (λ (w : Reading). lists w) (sym begun_is) ∙ h)
     where

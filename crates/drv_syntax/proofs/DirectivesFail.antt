@@ -20,18 +20,22 @@ use Rattle.std.proofs.Common.{length, length-append, refl, subst, sym, ℕ}
 use Rattle.std.proofs.lemmas.Bool.Decides.{nat_tests}
 use Rattle.std.specs.Prelude.{◌==◌, nat_le}
 
--- Where a byte of a directive doesn't fit, Descent stops at it. It is to serve the law `refusal_kinds`.
+-- Where a byte of a directive doesn't fit, Descent stops at it: names, patterns, and what breaks off. It serves the law `refusal_kinds`.
+-- `last` is what is left of the text where a directive is due, up to the byte that doesn't fit (specs/Refusals), and q is what follows that
+-- byte. `Stops k fault` is the result that names its place k and its fault. Descent is the grammar as functions (specs/Descent). The
+-- grammar itself has cases (specs/Spelling, Fronts, Refusals).
 
--- at this place, with this fault
+-- equal places give equal results `Stops`
 pub stops_at : {X : Type 0} {i j m n : ℕ} (make : ℕ → SyntaxFault) → i ≡ j → m ≡ n
     → ◌≡◌ {A = Read X} (Stops i (make m)) (Stops j (make n))
 stops_at {j = j} {m} make e f = ap (λ (k : ℕ). Stops k (make m)) e ∙ ap (λ (k : ℕ). Stops j (make k)) f
 
--- a byte that begins no run
+-- a byte that begins no run gives a run of no bytes
 pub none_quoted : (f : ℕ → Bool) {b : ℕ} (q : List ℕ) → (b == ascii.backslash) ≡ false → f b ≡ false → quoted f (b ∷ q) ≡ Run [] 0
 none_quoted f [] e g = rw (e, g) refl
 none_quoted f (c ∷ q) e g = rw (e, g) refl
 
+-- a byte that begins no pattern is refused where a pattern is due
 pub pattern_stops : (x at m : ℕ) (q : List ℕ) → Empty x → d.pattern_at at m (x ∷ q) ≡ Stops (m + 0) (EmptyTest at)
 pattern_stops x at m q e = ap (λ (z : Quoted). d.pattern_text at m z (x ∷ q)) (none_quoted is_word q e.0 e.1)
     ∙ ap (λ (z : Bool). if z then Took (pattern [] true) (0 + 1) else Stops (m + 0) (EmptyTest at)) e.2
@@ -39,6 +43,7 @@ pattern_stops x at m q e = ap (λ (z : Quoted). d.pattern_text at m z (x ∷ q))
 -- the name of no function
 
 module _ (at : ℕ) (x : ℕ) (q : List ℕ) where
+  -- where Descent refuses a byte after a front of a function's name, it does so however much of that front is past
   name_stops : (m : ℕ) (done name : List ℕ) → is_function_front (done ++ name) ≡ true
       → ((k : ℕ) → d.function_from at k (done ++ name) (x ∷ q) ≡ Stops k (UnknownFunction at))
       → d.function_from at m done (name ++ x ∷ q) ≡ Stops (m + length name) (UnknownFunction at)
@@ -52,6 +57,7 @@ module _ (at : ℕ) (x : ℕ) (q : List ℕ) where
       rw (front_front (done ++ b ∷ []) name front) (ap (λ r. past 1 r) (name_stops (m + 1) (done ++ b ∷ []) name front
       (λ k. ap (λ (w : List ℕ). d.function_from at k w (x ∷ q)) g ∙ h k)) ∙ ap (λ (k : ℕ). Stops k (UnknownFunction at)) z)
 
+-- a text that can be no function's name from its last byte on is refused at that byte
 pub function_stops : {last : List ℕ} (at m : ℕ) (q : List ℕ) → IsNoFunction last
     → (k : ℕ) × (k + 1 ≡ m + length last) × (d.function_from at m [] (last ++ q) ≡ Stops k (UnknownFunction at))
 function_stops at m q (r.not_a_front name b h e g) = (
@@ -68,11 +74,13 @@ function_stops at m q (r.not_a_name name h e) = (
 
 -- the name of a named text
 
+-- a text is as long as the run that it begins with and what follows
 run_length : {f : ℕ → Bool} {t w u : List ℕ} → IsRun f t w u → length t ≡ length w + length u
 run_length (s.run_ends {rest} h) = omega arith
 run_length (s.run_goes e i) = omega (arith, run_length i)
 
 module _ (at : ℕ) (q : List ℕ) where
+  -- where a name has at most 255 bytes, so has each front of it
   shorter : (done : List ℕ) (b : ℕ) (w : List ℕ) → length (done ++ b ∷ w) ≤ 255 → nat_le (length (done ++ b ∷ [])) 255 ≡ true
   shorter done b w l =
       let short : length (done ++ b ∷ []) ≤ 255 = omega (arith, l, length-append done (b ∷ w), length-append done (b ∷ [])) in
@@ -105,7 +113,7 @@ module _ (at : ℕ) (q : List ℕ) where
       (m.0, omega (arith, m.1), rw (h, short) (ap (λ r. past 1 r) m.2))
 
 module _ (lists deep : Lists) (c : ListContext) (at m : ℕ) where
-  -- braces or arguments within 64 others
+  -- braces or arguments within 64 others are refused at the byte of their directive
   pub nested_stops : (f : Directive) (text : List ℕ) → nests f ≡ true → (c.levels == 0) ≡ true
       → d.directive_by lists deep c at m f text ≡ Stops m (TooNested at)
   nested_stops kinds.WithCall text h e = rw e refl
@@ -121,7 +129,7 @@ module _ (lists deep : Lists) (c : ListContext) (at m : ℕ) where
   nested_stops kinds.WithPattern text h e = differs (sym h)
   nested_stops kinds.OfStar text h e = differs (sym h)
 
-  -- a directive that breaks off
+  -- a directive that breaks off is refused at the byte with which it can't be whole any more
   pub break_stops : {f : Directive} {last : List ℕ} (q : List ℕ) → Breaks c f last
       → (k : ℕ) × (k ≡ m + length last) × (d.directive_by lists deep c at m f (last ++ q) ≡ Stops k (BadDirective at))
   break_stops q (r.no_option e) = (m + 1, refl, rw e refl)

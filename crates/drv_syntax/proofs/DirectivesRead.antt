@@ -29,7 +29,10 @@ use Rattle.std.proofs.Common.{inr, length, length-append, refl, subst, suc, sym,
 use Rattle.std.proofs.lemmas.Bool.Decides.{nat_tests}
 use Rattle.std.specs.Prelude.{◌==◌, nat_le}
 
--- What the grammar says of a directive, Descent makes of it. It is to serve the laws `spelled_is_read` and `front_is_unrefused`.
+-- What the grammar says of a directive, Descent makes of it. It serves the laws `spelled_is_read` and `front_is_unrefused`. `Reads r text x
+-- rest` says that the result r took x from the text and left this rest (PartsRead). `ListReads` and `ListEnds` say of all lists with a
+-- context that they are read, and that a text that ends in them is not closed. Descent is the grammar as functions (specs/Descent). The
+-- grammar itself has cases (specs/Spelling, Fronts, Refusals).
 
 -- where a text of this size is cut that ends in this directive, whose % has the place n
 abbrev pub cut_place : ℕ → ℕ → Directive → ℕ
@@ -46,25 +49,32 @@ names_end at n done (s.run_goes {b} {text} {run} e i) l =
     rw (e, fits) (ap (λ r. past 1 r) (names_end at (n + 1) (done ++ b ∷ []) i (subst (λ (v : List ℕ). length v ≤ 255) (sym regrouped) l)))
 
 module _ (lists deep : Lists) (c : ListContext) (at n : ℕ) where
+  -- what Descent makes of the text after the byte of this directive
   abbrev pub by : Directive → List ℕ → Read Item
   by f text = d.directive_by lists deep c at n f text
 
+  -- what Descent makes of braces or arguments, by whether a level is left
   abbrev pub nests : Read Item → Read Item
   nests r = d.nested c.levels at n r
 
+  -- where a level is left, braces and arguments are read
   pub nest_is : (r : Read Item) → (c.levels == 0) ≡ false → nests r ≡ r
   nest_is r e = ap (λ (z : Bool). if z then d.Stops n (TooNested at) else r) e
 
+  -- what Descent makes of the inside of braces of this kind
   abbrev pub in_place : BraceKind → ℕ → List ℕ → Read Item
   in_place kind m text = d.braces lists deep c at kind m text
 
+  -- a call by the grammar has a level left for its arguments
   call_level : {size : ℕ} {text name rest : List ℕ} {items : Items} → IsCall size c text name items rest → (c.levels == 0) ≡ false
   call_level (s.call e is l) = e
 
+  -- the inside of braces by the grammar has a level left
   brace_level : {size : ℕ} {text rest : List ℕ} {brace : Brace} → IsBrace size c text brace rest → (c.levels == 0) ≡ false
   brace_level (s.emits e o) = e
   brace_level (s.chooses e o) = e
 
+  -- the inside of braces in which the text ends has a level left
   cut_level : {size : ℕ} {text : List ℕ} → CutsBrace size c text → (c.levels == 0) ≡ false
   cut_level (cuts.cut_emits e o) = e
   cut_level (cuts.cut_chooses e o) = e
@@ -72,12 +82,14 @@ module _ (lists deep : Lists) (c : ListContext) (at n : ℕ) where
   module _ (size : ℕ) (args : (c.levels == 0) ≡ false → ListReads size lists (in_arguments c))
       (xs : (c.levels == 0) ≡ false → (asks : Tests) → ListReads size lists (in_x (in_braces c) asks))
       (deeper : (c.levels - 1 == 0) ≡ false → ListReads size deep (in_arguments (in_braces c))) where
+    -- the inside of braces by the grammar is read
     braces_read : {text rest : List ℕ} {brace : Brace} (kind : BraceKind) (m : ℕ) → IsBrace size c text brace rest → At size m text
         → Reads (in_place kind m text) text (braced kind brace) rest
     braces_read kind m i place =
         let z = brace_reads lists deep c at size (xs (brace_level i)) deeper m i place in
         reads_then (λ brace used. Took (braced kind brace) used) z (record { size = z.size; is = refl; left = z.left; fits = z.fits })
 
+    -- what follows the byte of a directive by the grammar is read
     pub directive_reads : {f : Directive} {text rest : List ℕ} {item : Item} → IsDirective size c f text item rest → At size (n + 1) text
         → Reads (by f text) text item rest
     directive_reads s.whole place = record { size = 0; is = refl; left = refl; fits = omega arith }
@@ -103,13 +115,16 @@ module _ (lists deep : Lists) (c : ListContext) (at n : ℕ) where
     module _ (args_end : (c.levels == 0) ≡ false → ListEnds size lists (in_arguments c))
         (x_ends : (c.levels == 0) ≡ false → (asks : Tests) → ListEnds size lists (in_x (in_braces c) asks))
         (deeper_end : (c.levels - 1 == 0) ≡ false → ListEnds size deep (in_arguments (in_braces c))) where
+      -- the text ends in the directive, which isn't closed, or the directive is read up to the end
       abbrev pub DirOut : Directive → List ℕ → Type 0
       DirOut f text = (by f text ≡ Ends (cut_place size at f)) ⊎ ((x : Item) × Reads (by f text) text x [])
 
+      -- where the text ends in the inside of braces, Descent says that they aren't closed
       braces_end : {text : List ℕ} (kind : BraceKind) (m : ℕ) → CutsBrace size c text → At size m text → in_place kind m text ≡ Ends at
       braces_end kind m i place = ap (λ r. then_read r (λ brace used. Took (braced kind brace) used))
           (brace_ends lists deep c at size (xs (cut_level i)) deeper (x_ends (cut_level i)) deeper_end m i place)
 
+      -- where the text ends in %e or %n, it ends in a backslash, or the directive is read up to the end
       saying_out : (kind : SayKind) (text : List ℕ) → HangsOut (is_said c.kind) text ⊎ EndsOut (is_said c.kind) text → At size (n + 1) text
           → DirOut (WithSaying kind) text
       saying_out kind text (inl h) place =
@@ -125,6 +140,7 @@ module _ (lists deep : Lists) (c : ListContext) (at n : ℕ) where
         },
       )
 
+      -- where the text ends in %< or %>, the directive isn't closed, or is read up to the end
       hide_out : (text : List ℕ) → HangsOut is_word text ⊎ EndsOut is_word text → DirOut WithPattern text
       hide_out text (inl h) = inl (ap (λ (q : Quoted). then_read (d.pattern_text at (n + 1) q text) (λ p used. Took (Hide p) used)) h.1)
       hide_out text (inr ([], used, e, l, k)) =
@@ -141,12 +157,14 @@ module _ (lists deep : Lists) (c : ListContext) (at n : ℕ) where
         },
       )
 
+      -- where the text ends in %x{, Descent says that the directive isn't closed
       option_out : (text : List ℕ) → HangsOut is_option text ⊎ EndsOut is_option text → d.option at (n + 1) (123 ∷ text) ≡ Ends at
       option_out text (inl h) = ap (λ (q : Quoted). past 1 (d.option_text at (n + 1 + 1) q text)) h.1
       option_out text (inr (word, used, e, l, k)) =
           ap (λ (q : Quoted). past 1 (d.option_text at (n + 1 + 1) q text)) e
           ∙ ap (λ (x : List ℕ). past 1 (d.option_end at (n + 1 + 1) word used x)) l
 
+      -- where by the grammar the text ends in a directive, this isn't closed, or is read up to the end
       pub directive_out : {f : Directive} {text : List ℕ} → CutsDirective size c f text → At size (n + 1) text → DirOut f text
       directive_out cuts.cut_suffix place =
           let last : n + 1 ≡ size - 1 = omega (arith, place) in

@@ -6,14 +6,18 @@ use Rattle.drv_syntax.specs.Fronts.{RunsOut}
 use Rattle.drv_syntax.specs.declared.fault.SyntaxFault.{SyntaxFault}
 use Rattle.std.proofs.Common.{◌≡◌, ◌∙◌, ◌+◌, ◌⊎◌, Bool, List, [], ◌∷◌, ap, arith, drop, drop-drop, inl, inr, length, refl, subst, sym, ℕ}
 
--- How Descent fails on a text that the grammar says is cut short or refused. It is to serve the laws `front_is_unrefused` and
--- `refusal_kinds`.
+-- How Descent fails on a text that the grammar says is cut short or refused. It serves the laws `front_is_unrefused` and `refusal_kinds`. A
+-- `Failure` is one of the two ways to fail. `r ≡ failed f` says that the result r fails in the way f. `around at f` is how the directive
+-- whose % has the place `at` then fails: where the text ends in it, that directive is named as open, and no longer what is in it. `Fails r
+-- f` is the same of r, up to which directive is named. Descent is the grammar as functions (specs/Descent). The grammar itself has cases
+-- (specs/Spelling, Fronts, Refusals).
 
 -- the text ends in a part that isn't closed, with this place; or the byte at this place doesn't fit
 pub data Failure : Type 0 where
   AtEnd : ℕ → Failure
   AtByte : ℕ → SyntaxFault → Failure
 
+-- the result that fails in this way
 abbrev pub failed : {X : Type 0} → Failure → Read X
 failed (AtEnd at) = Ends at
 failed (AtByte n fault) = Stops n fault
@@ -28,27 +32,33 @@ abbrev pub Fails : {X : Type 0} → Read X → Failure → Type 0
 Fails r (AtEnd at) = (inner : ℕ) × (r ≡ Ends inner)
 Fails r (AtByte n fault) = r ≡ Stops n fault
 
+-- where a part fails, this part and what follows it fail in the same way
 pub then_fails : {X Y : Type 0} {r : Read X} (f : Failure) (goes : X → ℕ → Read Y) → r ≡ failed f → then_read r goes ≡ failed f
 then_fails (AtEnd at) goes e = ap (λ r. then_read r goes) e
 then_fails (AtByte n fault) goes e = ap (λ r. then_read r goes) e
 
+-- a part fails in the same way, however many bytes come before it
 pub past_fails : {X : Type 0} {r : Read X} (f : Failure) (k : ℕ) → r ≡ failed f → past k r ≡ failed f
 past_fails (AtEnd at) k e = ap (λ r. past k r) e
 past_fails (AtByte n fault) k e = ap (λ r. past k r) e
 
+-- where a list in a directive fails, the directive does; where the text ends in the list, it is the directive that isn't closed
 pub within_fails : {X : Type 0} (r : Read X) (f : Failure) (at : ℕ) → Fails r f → within at r ≡ failed (around at f)
 within_fails r (AtEnd inner) at e = ap (λ r. within at r) e.1
 within_fails r (AtByte n fault) at e = ap (λ r. within at r) e
 
+-- a directive fails as the list in it does, whatever would follow that list
 pub within_then : {X Y : Type 0} (r : Read X) (f : Failure) (at : ℕ) (goes : X → ℕ → Read Y) → Fails r f
     → within at (then_read r goes) ≡ failed (around at f)
 within_then r (AtEnd inner) at goes e = ap (λ r. within at (then_read r goes)) e.1
 within_then r (AtByte n fault) at goes e = ap (λ r. within at (then_read r goes)) e
 
+-- a result that equals one that fails does so too
 pub fails_as : {X : Type 0} (r o : Read X) (f : Failure) → r ≡ o → Fails o f → Fails r f
 fails_as r o (AtEnd at) e h = (h.0, e ∙ h.1)
 fails_as r o (AtByte n fault) e h = e ∙ h
 
+-- a result that fails as a directive around a failure f does fails in the way f, up to which directive is named as open
 pub fails_so : {X : Type 0} (r : Read X) (at : ℕ) (f : Failure) → r ≡ failed (around at f) → Fails r f
 fails_so r at (AtEnd inner) e = (at, e)
 fails_so r at (AtByte n fault) e = e
@@ -57,9 +67,11 @@ fails_so r at (AtByte n fault) e = e
 abbrev pub HangsOut : (ℕ → Bool) → List ℕ → Type 0
 HangsOut f text = (size : ℕ) × (quoted f text ≡ d.Hangs size) × (size + 1 ≡ length text)
 
+-- the run is the whole text
 abbrev pub EndsOut : (ℕ → Bool) → List ℕ → Type 0
 EndsOut f text = (word : List ℕ) × (size : ℕ) × (quoted f text ≡ Run word size) × (drop size text ≡ []) × (size ≡ length text)
 
+-- a run up to the end of the text either hangs at a backslash, which is the last byte, or is the whole text
 pub runs_out : {f : ℕ → Bool} {text : List ℕ} → RunsOut f text → HangsOut f text ⊎ EndsOut f text
 runs_out cuts.out_end = inr ([], 0, refl, refl, refl)
 runs_out cuts.out_backslash = inl (0, refl, omega arith)

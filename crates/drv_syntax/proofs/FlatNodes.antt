@@ -18,12 +18,14 @@ abbrev pub join : Items → Items → Items
 join tree.none others = others
 join (tree.more s item items) others = tree.more s item (join items others)
 
+-- tokens with equal insides, and equal others after them, are equal
 pub same_token : (n : ℕ) (kind : TokenKind) (s : Span) {xs ys : List Token} {f g : ℕ → List Token} → xs ≡ ys → ((m : ℕ) → f m ≡ g m)
     → token n kind s xs f ≡ token n kind s ys g
 same_token n kind s {xs} {ys} {f} {g} e h =
     subst (λ (zs : List Token). token n kind s xs f ≡ token n kind s zs g) e
     (ap (λ zs. record { kind = kind; start = s.start; end = s.end; next = n + 1 + length xs } ∷ xs ++ zs) (h (n + 1 + length xs)))
 
+-- the tokens of parts and of others after them are those of both, one after the other
 pub flat_both : (n : ℕ) (xs ys : Nodes) → flat n (both xs ys) ≡ flat n xs ++ flat (n + length (flat n xs)) ys
 flat_both n no_node ys = rw (by n) refl
   where
@@ -53,15 +55,18 @@ as_many n (node kind label s inner xs) =
         → length (l ∷ a ++ b) ≡ length (t ∷ c ++ d)
     counted l t a b c d e f = omega (arith, length-append a b, length-append c d)
 
+-- the tokens of patterns are those of their parts
 pub patterns_flat : (n : ℕ) (patterns : List (Span × Pattern)) → pattern_tokens n patterns ≡ flat n (pattern_nodes patterns)
 patterns_flat n [] = refl
 patterns_flat n (p ∷ patterns) = same_token n kinds.Pattern p.0 {xs = []} {ys = []} refl (λ m. patterns_flat m patterns)
 
 mutual
+  -- the tokens of a list of items are those of its parts
   pub items_flat : (n : ℕ) (items : Items) → item_tokens n items ≡ flat n (nodes_of items)
   items_flat n tree.none = refl
   items_flat n (tree.more s item items) = same_token n (kind_of item) s (inner_flat (n + 1) item) (λ m. items_flat m items)
 
+  -- the tokens inside an item are those of the parts inside it
   inner_flat : (n : ℕ) (item : Item) → inner_tokens n item ≡ flat n (inner_nodes item)
   inner_flat n (tree.Plain b) = refl
   inner_flat n (tree.Escape b) = refl
@@ -82,10 +87,12 @@ mutual
   inner_flat n (tree.FailureFile brace) = brace_flat n brace
   inner_flat n (tree.ArgumentsFile brace) = brace_flat n brace
 
+  -- the tokens of braces are those of the parts in them
   brace_flat : (n : ℕ) (brace : Brace) → brace_tokens n brace ≡ flat n (brace_nodes brace)
   brace_flat n (tree.Emit patterns) = patterns_flat n patterns
   brace_flat n (tree.Choose choices) = choices_flat n choices
 
+  -- the tokens of alternatives are those of their parts
   choices_flat : (n : ℕ) (choices : Choices) → choice_tokens n choices ≡ flat n (choice_nodes choices)
   choices_flat n tree.no_choice = refl
   choices_flat n (tree.choice s tests items choices) =
@@ -96,19 +103,23 @@ mutual
       ∙ sym (flat_both (n + 1) (test_nodes tests) (nodes_of items))))
       (λ m. choices_flat m choices)
 
+  -- the tokens of tests are those of their parts
   tests_flat : (n : ℕ) (tests : Tests) → test_tokens n tests ≡ flat n (test_nodes tests)
   tests_flat n tree.no_test = refl
   tests_flat n (tree.test s negated asked tests) = same_token n kinds.Test s (asked_flat (n + 1) asked) (λ m. tests_flat m tests)
 
+  -- the tokens of what a test asks are those of the parts in it
   asked_flat : (n : ℕ) (asked : Asked) → asked_tokens n asked ≡ flat n (asked_nodes asked)
   asked_flat n (tree.HasSwitch p) = refl
   asked_flat n (tree.HasSuffix word) = refl
   asked_flat n (tree.HasLanguage word) = refl
   asked_flat n (tree.HasResult name arguments) = items_flat n arguments
 
+-- a tree has as many labels as tokens
 pub as_many_of : (items : Items) → length (labels_of items) ≡ length (tokens_of items)
 as_many_of items = as_many 0 (nodes_of items) ∙ ap (λ ts. length ts) (sym (items_flat 0 items))
 
+-- the parts of two lists, one after the other, are those of both
 pub items_join : (xs ys : Items) → nodes_of (join xs ys) ≡ both (nodes_of xs) (nodes_of ys)
 items_join tree.none ys = refl
 items_join (tree.more s item xs) ys = ap (λ n. node (kind_of item) (label_of item) s (inner_nodes item) n) (items_join xs ys)

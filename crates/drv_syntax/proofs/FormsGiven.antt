@@ -26,15 +26,21 @@ use Rattle.std.proofs.Common.{refl, subst, suc, sym, zero, ℕ}
 use Rattle.std.proofs.lemmas.List.{length-drop}
 use Rattle.std.specs.Prelude.{◌==◌, Err, None, Ok, Option, Result, Some}
 
--- What is given of the tests of an alternative, from one of its tests on. It serves the reader's `tests` and `more_tests`.
+-- What the reader's `tests` and `more_tests` return for the tests of an alternative, from one of them on: the byte after a test decides
+-- whether patterns, an X or another test follow. It serves the clauses of both. `form_given`, `more_given` and `tried_given` turn what
+-- specs/Descent makes of tests (`Took`, `Ends`, `Stops`) into the code's result. A `Next` is what a test and the byte after it make of the
+-- braces, and a `Choice` is an alternative whose token is open. `outer` is the place of the outermost directive that is open, if one is,
+-- and `at` that of the % of the directive here.
 
 -- a test after the first is no pattern
 
+-- the place of a test where braces can't hold patterns any more
 abbrev pub Late : Order → Type 0
 Late AtFront = ⊥
 Late AtNext = Unit {0}
 Late AtBar = Unit {0}
 
+-- what a test and the byte after it make of the braces is no pattern
 abbrev NoPattern : After → Type 0
 NoPattern (d.Emits p) = ⊥
 NoPattern (d.Joins p) = ⊥
@@ -42,6 +48,7 @@ NoPattern (d.Asks s negated a) = Unit {0}
 NoPattern (d.Bars s negated a) = Unit {0}
 NoPattern (d.Fails fault) = Unit {0}
 
+-- no byte after a test at the front of a later alternative makes it a pattern
 next_after : (at : ℕ) (t : Tried) → NoPattern (d.after at AtNext t)
 next_after at t =
     by (t.byte == ascii.closing_brace) (t.byte == ascii.ampersand) (t.byte == ascii.colon) (t.byte == ascii.bar) t.operand.as_test
@@ -58,17 +65,20 @@ next_after at t =
     by false false false true None = tt
     by false false false false o = tt
 
+-- where braces can't hold patterns any more, no byte makes a test a pattern
 late_after : (at : ℕ) (order : Order) (t : Tried) → Late order → NoPattern (d.after at order t)
 late_after at AtFront t late = absurd late
 late_after at AtNext t late = next_after at t
 late_after at AtBar t late = next_after at t
 
+-- what was read, if anything, is no patterns
 abbrev pub NoPatterns : Read Form → Type 0
 NoPatterns (Took (d.Patterns ps) size) = ⊥
 NoPatterns (Took (d.Alternative s negated a others) size) = Unit {0}
 NoPatterns (Ends at) = Unit {0}
 NoPatterns (Stops n fault) = Unit {0}
 
+-- what goes on after a test that is no pattern is no patterns
 late_go : (a : After) (n k : ℕ) (ps : Read (List (Span × Pattern))) (others : Read Form) → NoPattern a → NoPatterns others
     → NoPatterns (test_go a n k ps others)
 late_go (d.Emits p) n k ps others never h = absurd never
@@ -81,6 +91,7 @@ late_go (d.Bars s negated a) n k ps (Stops m fault) never h = tt
 late_go (d.Fails fault) n k ps others never h = tt
 
 module _ (deep : Lists) (c : ListContext) (at : ℕ) where
+  -- tests of a later alternative and tests after a bar are never patterns
   pub late_tests : (text : List ℕ) (order : Order) (n skip : ℕ) → Late order → NoPatterns (tests deep c at order n skip text)
   late_tests [] order n skip late = tt
   late_tests (b ∷ text) order n (suc skip) late = late_tests text order (n + 1) skip late
@@ -94,6 +105,7 @@ module _ (deep : Lists) (c : ListContext) (at : ℕ) where
       by (Ends m) others = tt
       by (Stops m fault) others = tt
 
+  -- so many bytes of tests that are past are so many bytes less of the text
   tests_skip : (order : Order) (n k : ℕ) (text : List ℕ) → tests deep c at order n k text ≡ tests deep c at order (n + k) 0 (drop k text)
   tests_skip order n zero [] = refl
   tests_skip order n (suc k) [] = refl
@@ -104,17 +116,19 @@ module _ (deep : Lists) (c : ListContext) (at : ℕ) where
       let i : n + 1 + k ≡ n + suc k = omega arith in
       tests_skip order (n + 1) k text ∙ ap (λ (j : ℕ). tests deep c at order j 0 (drop k text)) i
 
+  -- tests after a bar, k bytes and one more further on, begin at the rest there
   bars_on : (k : ℕ) (r : Left)
       → tests deep c at AtBar (r.at + 1) k (drop 1 r.bytes) ≡ tests deep c at AtBar (after 1 (after k r)).at 0 (after 1 (after k r)).bytes
   bars_on k r = tests_skip AtBar (r.at + 1) k (drop 1 r.bytes) ∙ ap (λ (x : Left). tests deep c at AtBar x.at 0 x.bytes) (one_after k r)
 
+  -- tests are a first test and what goes on from it, also where the text ends there
   tests_whole : (order : Order) (n : ℕ) (text : List ℕ) → tests deep c at order n 0 text
       ≡ then_read (one_test deep c at order n text)
       (λ t k. test_go (d.after at order t) n k (patterns at (n + 1) k (drop 1 text)) (tests deep c at AtBar (n + 1) k (drop 1 text)))
   tests_whole order n [] = refl
   tests_whole order n (b ∷ text) = refl
 
-  -- what a test and the byte after it leave is less than there was
+  -- a test with the byte after it takes at least one byte
   pub tried_smaller : (outer : Option ℕ) (order : Order) (so_far : Option Choice) (v u : Reading) (next : Next)
       → tried_given outer at order so_far v (one_test deep c at order v.rest.at v.rest.bytes) ≡ Ok (next, u)
       → length u.rest.bytes < length v.rest.bytes
@@ -144,6 +158,7 @@ module _ (deep : Lists) (c : ListContext) (at : ℕ) where
       by [] is e = absurd cc
       by (b ∷ text) is e = some b text is (one_test deep c at order v.rest.at (b ∷ text)) e
 
+  -- the tests of an alternative take at least one byte
   pub form_smaller : (outer : Option ℕ) (order : Order) (v u : Reading) (form : code.Form)
       → form_given outer v (tests deep c at order v.rest.at 0 v.rest.bytes) ≡ Ok (form, u) → length u.rest.bytes < length v.rest.bytes
   form_smaller outer order v u form h = by v.rest.bytes refl h
@@ -172,38 +187,46 @@ module _ (deep : Lists) (c : ListContext) (at : ℕ) where
       by (b ∷ text) is e = some b text is (tests deep c at order v.rest.at 0 (b ∷ text)) e
 
   module _ (outer : Option ℕ) (order : Order) where
+    -- the braces hold patterns and leave this
     abbrev pub as_patterns : Result Reading SyntaxFault → Result (code.Form × Reading) SyntaxFault
     as_patterns (Ok u) = Ok (forms.Patterns, u)
     as_patterns (Err fault) = Err fault
 
+    -- an alternative begins with these tests
     abbrev pub as_tests : Result (Choice × Reading) SyntaxFault → Result (code.Form × Reading) SyntaxFault
     as_tests (Ok x) = Ok (forms.Tests x.0, x.1)
     as_tests (Err fault) = Err fault
 
+    -- what the code's `tests` returns by what the first test and the byte after it make of the braces
     abbrev pub next_form : Next → Reading → Result (code.Form × Reading) SyntaxFault
     next_form nexts.Emits u = Ok (forms.Patterns, u)
     next_form nexts.Joins u = as_patterns (patterns_given outer u (patterns at u.rest.at 0 u.rest.bytes))
     next_form (nexts.Asks choice) u = Ok (forms.Tests choice, u)
     next_form (nexts.Bars choice) u = as_tests (more_given outer choice u (tests deep c at AtBar u.rest.at 0 u.rest.bytes))
 
+    -- what the first test gives, and then what the code's `tests` returns by it
     abbrev pub next_forms : Result (Next × Reading) SyntaxFault → Result (code.Form × Reading) SyntaxFault
     next_forms (Ok x) = next_form x.0 x.1
     next_forms (Err fault) = Err fault
 
+    -- what the code's `more_tests` returns by what a test and the byte after it make of the braces
     abbrev pub next_more : Next → Reading → Result (Choice × Reading) SyntaxFault
     next_more nexts.Emits u = Err (BadDirective at)
     next_more nexts.Joins u = Err (BadDirective at)
     next_more (nexts.Asks choice) u = Ok (choice, u)
     next_more (nexts.Bars choice) u = more_given outer choice u (tests deep c at AtBar u.rest.at 0 u.rest.bytes)
 
+    -- what a test after a bar gives, and then what the code's `more_tests` returns by it
     abbrev pub nexts_more : Result (Next × Reading) SyntaxFault → Result (Choice × Reading) SyntaxFault
     nexts_more (Ok x) = next_more x.0 x.1
     nexts_more (Err fault) = Err fault
 
     module _ (v : Reading) (k : ℕ) where
+      -- the rest after k bytes and the byte after them
       abbrev left : Left
       left = after 1 (after k v.rest)
 
+      -- a pattern put before the patterns after an & is those patterns given with that pattern written first
       joins : (p : Span × Pattern) (r : Read (List (Span × Pattern)))
           → form_given outer v (then_read r (λ ps size. Took (d.Patterns (p ∷ ps)) (k + 1 + size)))
           ≡ as_patterns
@@ -214,6 +237,7 @@ module _ (deep : Lists) (c : ListContext) (at : ℕ) where
       joins p (Ends m) = refl
       joins p (Stops m fault) = refl
 
+      -- a test put before the tests after a bar is those tests given with that test written first
       bars : (s : Span) (negated : Bool) (a : Asked) (r : Read Form) → NoPatterns r
           → form_given outer v (then_read r (λ form size. Took (with_test s negated a form) (k + 1 + size)))
           ≡ as_tests (more_given outer (added None v.parts s negated a).0
@@ -224,6 +248,7 @@ module _ (deep : Lists) (c : ListContext) (at : ℕ) where
       bars s negated a (Ends m) never = refl
       bars s negated a (Stops m fault) never = refl
 
+      -- a test put before the tests after a bar, in an alternative that is open, is those tests given with that test written first
       more_bars : (choice : Choice) (s : Span) (negated : Bool) (a : Asked) (r : Read Form) → NoPatterns r
           → more_given outer choice v (then_read r (λ form size. Took (with_test s negated a form) (k + 1 + size)))
           ≡ more_given outer (added (Some choice) v.parts s negated a).0
@@ -235,6 +260,7 @@ module _ (deep : Lists) (c : ListContext) (at : ℕ) where
       more_bars choice s negated a (Ends m) never = refl
       more_bars choice s negated a (Stops m fault) never = refl
 
+      -- what specs/Descent goes on with after a test, by the byte after it, is what the code's `tests` goes on with
       form_next : (a : After)
           → form_given outer v (test_go a v.rest.at k (patterns at (v.rest.at + 1) k (drop 1 v.rest.bytes))
           (tests deep c at AtBar (v.rest.at + 1) k (drop 1 v.rest.bytes)))
@@ -254,6 +280,7 @@ module _ (deep : Lists) (c : ListContext) (at : ℕ) where
           (bars_on k v.rest)
       form_next (d.Fails fault) = refl
 
+      -- after a bar, what specs/Descent goes on with after a test is what the code's `more_tests` goes on with
       more_next : (choice : Choice) (a : After) → NoPattern a
           → more_given outer choice v (test_go a v.rest.at k (patterns at (v.rest.at + 1) k (drop 1 v.rest.bytes))
           (tests deep c at AtBar (v.rest.at + 1) k (drop 1 v.rest.bytes)))
@@ -269,7 +296,7 @@ module _ (deep : Lists) (c : ListContext) (at : ℕ) where
           (bars_on k v.rest)
       more_next choice (d.Fails fault) never = refl
 
-    -- by what a test and the byte after it make of them
+    -- the tests of an alternative give what their first test and the byte after it lead to
     pub tests_by : (v : Reading) → form_given outer v (tests deep c at order v.rest.at 0 v.rest.bytes)
         ≡ next_forms (tried_given outer at order None v (one_test deep c at order v.rest.at v.rest.bytes))
     tests_by v = ap (λ r. form_given outer v r) (tests_whole order v.rest.at v.rest.bytes)
@@ -283,40 +310,47 @@ module _ (deep : Lists) (c : ListContext) (at : ℕ) where
         by (Ends m) = refl
         by (Stops m fault) = refl
 
+    -- the fault of the first test is that of the tests
     pub tests_stop : (v : Reading) (fault : SyntaxFault)
         → tried_given outer at order None v (one_test deep c at order v.rest.at v.rest.bytes) ≡ Err fault
         → form_given outer v (tests deep c at order v.rest.at 0 v.rest.bytes) ≡ Err fault
     tests_stop v fault h = tests_by v ∙ ap (λ x. next_forms x) h
 
+    -- once the first test is read, the tests give what the code does next
     pub tests_at : (v u : Reading) (next is : Next) → tried_given outer at order None v (one_test deep c at order v.rest.at v.rest.bytes)
         ≡ Ok (next, u)
         → next ≡ is → form_given outer v (tests deep c at order v.rest.at 0 v.rest.bytes) ≡ next_form is u
     tests_at v u next is h e = tests_by v ∙ ap (λ x. next_forms x) h ∙ ap (λ (n : Next). next_form n u) e
 
+    -- after a pattern and &, the fault of the other patterns is that of the whole
     pub joins_stop : (v u : Reading) (next : Next) (fault : SyntaxFault)
         → tried_given outer at order None v (one_test deep c at order v.rest.at v.rest.bytes) ≡ Ok (next, u) → next ≡ nexts.Joins
         → patterns_given outer u (patterns at u.rest.at 0 u.rest.bytes) ≡ Err fault
         → form_given outer v (tests deep c at order v.rest.at 0 v.rest.bytes) ≡ Err fault
     joins_stop v u next fault h e g = tests_at v u next nexts.Joins h e ∙ ap (λ x. as_patterns x) g
 
+    -- after a pattern and &, the whole is patterns and leaves what the others leave
     pub joins_done : (v u w : Reading) (next : Next)
         → tried_given outer at order None v (one_test deep c at order v.rest.at v.rest.bytes) ≡ Ok (next, u) → next ≡ nexts.Joins
         → patterns_given outer u (patterns at u.rest.at 0 u.rest.bytes) ≡ Ok w
         → form_given outer v (tests deep c at order v.rest.at 0 v.rest.bytes) ≡ Ok (forms.Patterns, w)
     joins_done v u w next h e g = tests_at v u next nexts.Joins h e ∙ ap (λ x. as_patterns x) g
 
+    -- after a test and a bar, the fault of the other tests is that of the whole
     pub bars_stop : (v u : Reading) (next : Next) (choice : Choice) (fault : SyntaxFault)
         → tried_given outer at order None v (one_test deep c at order v.rest.at v.rest.bytes) ≡ Ok (next, u) → next ≡ nexts.Bars choice
         → more_given outer choice u (tests deep c at AtBar u.rest.at 0 u.rest.bytes) ≡ Err fault
         → form_given outer v (tests deep c at order v.rest.at 0 v.rest.bytes) ≡ Err fault
     bars_stop v u next choice fault h e g = tests_at v u next (nexts.Bars choice) h e ∙ ap (λ x. as_tests x) g
 
+    -- after a test and a bar, the whole is the tests of one alternative and leaves what the others leave
     pub bars_done : (v u w : Reading) (next : Next) (choice last : Choice)
         → tried_given outer at order None v (one_test deep c at order v.rest.at v.rest.bytes) ≡ Ok (next, u) → next ≡ nexts.Bars choice
         → more_given outer choice u (tests deep c at AtBar u.rest.at 0 u.rest.bytes) ≡ Ok (last, w)
         → form_given outer v (tests deep c at order v.rest.at 0 v.rest.bytes) ≡ Ok (forms.Tests last, w)
     bars_done v u w next choice last h e g = tests_at v u next (nexts.Bars choice) h e ∙ ap (λ x. as_tests x) g
 
+    -- tests after a bar give what the first of them and the byte after it lead to
     pub more_by : (v : Reading) (choice : Choice) → Late order → more_given outer choice v (tests deep c at order v.rest.at 0 v.rest.bytes)
         ≡ nexts_more (tried_given outer at order (Some choice) v (one_test deep c at order v.rest.at v.rest.bytes))
     more_by v choice late =
@@ -331,17 +365,19 @@ module _ (deep : Lists) (c : ListContext) (at : ℕ) where
         by (Ends m) = refl
         by (Stops m fault) = refl
 
+    -- the fault of the first test after a bar is that of all tests after the bar
     pub more_stop : (v : Reading) (choice : Choice) (fault : SyntaxFault) → Late order
         → tried_given outer at order (Some choice) v (one_test deep c at order v.rest.at v.rest.bytes) ≡ Err fault
         → more_given outer choice v (tests deep c at order v.rest.at 0 v.rest.bytes) ≡ Err fault
     more_stop v choice fault late h = more_by v choice late ∙ ap (λ x. nexts_more x) h
 
+    -- once the first test after a bar is read, the tests after the bar give what the code does next
     pub more_at : (v u : Reading) (choice : Choice) (next is : Next) → Late order
         → tried_given outer at order (Some choice) v (one_test deep c at order v.rest.at v.rest.bytes) ≡ Ok (next, u) → next ≡ is
         → more_given outer choice v (tests deep c at order v.rest.at 0 v.rest.bytes) ≡ next_more is u
     more_at v u choice next is late h e = more_by v choice late ∙ ap (λ x. nexts_more x) h ∙ ap (λ (n : Next). next_more n u) e
 
-    -- after a bar there are no patterns
+    -- a test after a bar is refused where the code takes it for a pattern
     pub more_never : (v u : Reading) (choice : Choice) (next : Next) → Late order
         → tried_given outer at order (Some choice) v (one_test deep c at order v.rest.at v.rest.bytes) ≡ Ok (next, u)
         → (next ≡ nexts.Emits) ⊎ (next ≡ nexts.Joins)

@@ -5,16 +5,19 @@ use Rattle.std.specs.Prelude.{◌==◌, ◌&&◌, nat_eq, if◌then◌else◌}
 
 -- A function's name, and whether a byte goes on with one, are compared byte by byte. It serves `is_function` and `is_function_front`.
 
+-- t and u is u if t is true, and else false
 both : (t : Bool) (u : Bool) → (t && u) ≡ (if t then u else false)
 both true u = refl
 both false u = refl
 
+-- names are the same if their bytes are, one by one
 pub same_pointwise : (p q : List ℕ) → pointwise nat_eq p q ≡ is_same p q
 same_pointwise [] [] = refl
 same_pointwise [] (c ∷ q) = refl
 same_pointwise (b ∷ p) [] = refl
 same_pointwise (b ∷ p) (c ∷ q) = both (b == c) (pointwise nat_eq p q) ∙ ap (λ z. if b == c then z else false) (same_pointwise p q)
 
+-- a name and a byte more are no front of a name that is no longer than the first one
 pub front_short : (p q : List ℕ) (b : ℕ) → length q ≤ length p → is_front (p ++ b ∷ []) q ≡ false
 front_short [] [] b h = refl
 front_short [] (c ∷ q) b h = absurd (omega arith)
@@ -25,6 +28,7 @@ front_short (a ∷ p) (c ∷ q) b h = by (a == c) (front_short p q b (omega arit
     by true e = e
     by false e = refl
 
+-- a name and a byte more are a front of a longer name exactly if the longer one begins with the same bytes
 pub front_long : (p q : List ℕ) (b : ℕ) → length p < length q → is_front (p ++ b ∷ []) q
     ≡ (pointwise nat_eq p (take (length p) q) && (b == get_or q (length p) 0))
 front_long [] [] b h = absurd (omega arith)

@@ -29,32 +29,42 @@ use Rattle.drv_words.specs.Gives.{Gives}
 use Rattle.std.specs.Prelude.{◌==◌, Err, None, Ok, Option, Result, Some}
 use Rattle.std.specs.Result.{IsErrAnd}
 
--- What is given of parts that follow one another. It serves all of the reader's functions that read one part after another.
+-- What the code returns for parts that follow one another, and for words, options, texts, patterns and names. It serves the clauses of
+-- src/descent/leaves.rt, patterns.rt and functions.rt, and every function that reads one part after another. `given` turns what a function
+-- of specs/Descent makes of a part into the code's result. A part that is read (`Took`) becomes what is written and left, a text that ends
+-- in it (`Ends`) becomes `Unclosed`, and a byte that doesn't fit (`Stops`) becomes its fault. A `Reading` is the text that is left and the
+-- tokens and labels so far. The lemmas call it v before a part and u after it. `outer` is the place of the outermost directive that is
+-- open, if one is, and `at` that of the % of the directive here.
 
 -- of a result and of a choice
 
+-- equal results have equal values
 pub ok_same : {X E : Type 0} {x y : X} → ◌≡◌ {A = Result X E} (Ok x) (Ok y) → x ≡ y
 ok_same e = cc
 
+-- equal failed results have equal faults
 pub err_same : {X E : Type 0} {x y : E} → ◌≡◌ {A = Result X E} (Err x) (Err y) → x ≡ y
 err_same e = cc
 
+-- a text without a first byte is empty
 pub none_left : (bs : List ℕ) → None ≡ first_of bs → bs ≡ []
 none_left [] e = refl
 none_left (b ∷ bs) e = absurd cc
 
+-- a text with a first byte is that byte and the text without it
 pub some_left : (bs : List ℕ) (b : ℕ) → Some b ≡ first_of bs → bs ≡ b ∷ drop 1 bs
 some_left [] b e = absurd cc
 some_left (c ∷ bs) b e =
     let p : c ≡ b = cc in
     ap (λ (x : ℕ). x ∷ bs) p
 
+-- code that returns the fault that its definition gives meets its clause
 pub err_gives : {X Y : Type 0} (memory fault : SyntaxFault) (view : X → Y) (result : Result X SyntaxFault) (whole : Result Y SyntaxFault)
     → IsErrAnd result (λ e. e ≡ fault) → whole ≡ Err fault → Gives memory view result whole
 err_gives memory fault view (Ok x) whole e h = absurd e
 err_gives memory fault view (Err f) whole e h = inr (h ∙ ap (λ x. Err x) (sym e))
 
--- the same for a fault of a part
+-- code that passes on the fault of a part meets its clause, if by the definition this fault of the part is that of the whole
 pub gives_err : {X Y Z : Type 0} (memory fault : SyntaxFault) (view : X → Y) (result : Result X SyntaxFault) (part : Result Z SyntaxFault)
     (whole : Result Y SyntaxFault)
     → (part ≡ Err fault → whole ≡ Err fault) → (fault ≡ memory) ⊎ (part ≡ Err fault) → IsErrAnd result (λ e. e ≡ fault)
@@ -65,6 +75,7 @@ gives_err memory fault view (Err f) part whole on (inr g) e = inr (on g ∙ ap (
 
 -- parts
 
+-- where a part has a fault, a part and what follows it have the same fault
 pub given_stops : {X Y Z W : Type 0} (outer : Option ℕ) (rest : Left) (f : X → Left → Z) (g : Y → Left → W) (r : Read X)
     (goes : X → ℕ → Read Y)
     (e : SyntaxFault) → given outer rest f r ≡ Err e → given outer rest g (then_read r goes) ≡ Err e
@@ -76,6 +87,7 @@ given_stops outer rest f g (Stops n fault) goes e h =
     let p : fault ≡ e = err_same h in
     ap (λ (x : SyntaxFault). Err x) p
 
+-- once a part is read that writes nothing, a part and what follows it give what the next part gives from there
 pub given_then : {X Y Z : Type 0} (outer : Option ℕ) (v u : Reading) (x : X) (g : Y → Left → Z) (r : Read X) (goes : X → ℕ → Read Y)
     (next : X → ℕ → List ℕ → Read Y)
     → ((y : X) (k : ℕ) → given outer v.rest g (goes y k) ≡ given outer (after k v.rest) g (next y (v.rest.at + k) (drop k v.rest.bytes)))
@@ -89,6 +101,7 @@ given_then {X = X} outer v u x g (Took y size) goes next is h =
 given_then {X = X} outer v u x g (Ends at) goes next is h = absurd cc
 given_then {X = X} outer v u x g (Stops n fault) goes next is h = absurd cc
 
+-- once a part is read that writes nothing, another value made of its value is written at the same place
 pub given_map : {X Y Z : Type 0} (outer : Option ℕ) (v u : Reading) (x : X) (g : Y → Left → Z) (r : Read X) (to : X → Y)
     → given {Y = X × Reading} outer v.rest (λ y rest. (y, at_rest rest v)) r ≡ Ok (x, u)
     → given outer v.rest g (then_read r (λ y k. Took (to y) k)) ≡ Ok (g (to x) u.rest)
@@ -99,7 +112,7 @@ given_map {X = X} outer v u x g (Took y size) to h =
 given_map {X = X} outer v u x g (Ends at) to h = absurd cc
 given_map {X = X} outer v u x g (Stops n fault) to h = absurd cc
 
--- the parts so far stay as they are
+-- a part that writes nothing leaves the tokens and labels as they are
 pub given_parts : {X : Type 0} (outer : Option ℕ) (v u : Reading) (x : X) (r : Read X)
     → given {Y = X × Reading} outer v.rest (λ y rest. (y, at_rest rest v)) r ≡ Ok (x, u) → v.parts ≡ u.parts
 given_parts {X = X} outer v u x (Took y size) h =
@@ -108,7 +121,7 @@ given_parts {X = X} outer v u x (Took y size) h =
 given_parts {X = X} outer v u x (Ends at) h = absurd cc
 given_parts {X = X} outer v u x (Stops n fault) h = absurd cc
 
--- what is left is no longer
+-- after a part that writes nothing, no more of the text is left than before
 pub given_shorter : {X : Type 0} (outer : Option ℕ) (v u : Reading) (x : X) (r : Read X)
     → given {Y = X × Reading} outer v.rest (λ y rest. (y, at_rest rest v)) r ≡ Ok (x, u) → length u.rest.bytes ≤ length v.rest.bytes
 given_shorter {X = X} outer v u x (Took y size) h =
@@ -120,7 +133,7 @@ given_shorter outer v u x (Stops n fault) h = absurd cc
 
 -- words with escapes
 
--- the text ends in an escape
+-- where the text ends in a backslash within a run of bytes, the part with this run is not closed
 pub quoted_hung : {Y Z : Type 0} (outer : Option ℕ) (v u : Reading) (g : Y → Left → Z) (q : Quoted) (goes : Quoted → Read Y) (place : ℕ → ℕ)
     → ((size : ℕ) → goes (Hangs size) ≡ Ends (place (v.rest.at + size))) → quoted_to [] v q ≡ (None, u)
     → given outer v.rest g (goes q) ≡ Err (Unclosed (open_at outer (place u.rest.at)))
@@ -135,14 +148,17 @@ quoted_hung outer v u g (Hangs size) goes place is e =
 -- a part that ends with such a run
 
 module _ {Y Z : Type 0} (outer : Option ℕ) (g : Y → Left → Z) where
+  -- a part of so many bytes is one of none, from the rest after them
   took_none : (rest : Left) (size : ℕ) (x : Y) → given outer rest g (Took x size) ≡ given outer (after size rest) g (Took x 0)
   took_none rest size x = ap (λ (r : Left). Ok (g x r)) (sym (after_none (after size rest)))
 
+  -- a part of so many bytes and one more is one of one byte, from the rest after them
   took_more : (rest : Left) (size : ℕ) (x : Y) → given outer rest g (Took x (size + 1)) ≡ given outer (after size rest) g (Took x 1)
   took_more rest size x = ap (λ (r : Left). Ok (g x r)) (after_after size 1 rest)
 
 -- %x{..}
 
+-- the end of %x{..} gives the same, whether its bytes are counted with it or already taken
 option_shift : {Z : Type 0} (outer : Option ℕ) (rest : Left) (g : Item → Left → Z) (at n : ℕ) (w : List ℕ) (size : ℕ) (bs : List ℕ)
     → given outer rest g (option_end at n w size bs) ≡ given outer (after size rest) g (option_end at n w 0 bs)
 option_shift outer rest g at n w size [] = refl
@@ -150,12 +166,15 @@ option_shift outer rest g at n [] size (b ∷ bs) = refl
 option_shift outer rest g at n (x ∷ w) size (b ∷ bs) = took_more outer g rest size (AddOption (x ∷ w))
 
 module _ (outer : Option ℕ) (at : ℕ) (v : Reading) where
+  -- what %x gives on these bytes after it
   abbrev reads : List ℕ → Result Reading SyntaxFault
   reads bs = item_given outer at v (option at v.rest.at bs)
 
+  -- what %x{ gives from this rest on
   abbrev inside : Left → Result Reading SyntaxFault
   inside rest = item_given outer at (at_rest rest v) (option_text at rest.at (quoted is_option rest.bytes) rest.bytes)
 
+  -- %x with a brace gives what it gives after the brace
   past_brace : (bs : List ℕ) → bs ≡ ascii.opening_brace ∷ drop 1 bs → v.rest.bytes ≡ bs → reads bs ≡ inside (after 1 v.rest)
   past_brace bs e g =
       ap (λ z. reads z) e
@@ -169,12 +188,14 @@ module _ (outer : Option ℕ) (at : ℕ) (v : Reading) where
       given_past_here (Ends n) = refl
       given_past_here (Stops n fault) = refl
 
+  -- after an opening brace, %x gives what the text in the braces gives
   pub option_opens : (b : ℕ) (rest : Left) → Some b ≡ first_of v.rest.bytes → b ≡ ascii.opening_brace → rest ≡ after 1 v.rest
       → reads v.rest.bytes ≡ inside rest
   option_opens b rest e g h =
       past_brace v.rest.bytes (some_left v.rest.bytes b e ∙ ap (λ x. x ∷ drop 1 v.rest.bytes) g) refl
       ∙ ap (λ (l : Left). inside l) (sym h)
 
+  -- where the text ends in a backslash within %x{, the directive is not closed
   pub option_hung : (rest : Left) (u : Reading) → quoted_to [] (at_rest rest v) (quoted is_option rest.bytes) ≡ (None, u)
       → inside rest ≡ Err (Unclosed (open_at outer at))
   option_hung rest u e = quoted_hung outer (at_rest rest v) u
@@ -182,10 +203,12 @@ module _ (outer : Option ℕ) (at : ℕ) (v : Reading) where
       (λ q. option_text at rest.at q rest.bytes)
       (λ i. at) (λ size. refl) e
 
+  -- what the end of %x{..} gives after these bytes
   abbrev option_left : Reading → List ℕ → List ℕ → Result Reading SyntaxFault
   option_left u w bs = given outer u.rest (λ x l. record { rest = l; parts = item_written at x l.at v.parts })
       (option_end at u.rest.at w 0 bs)
 
+  -- once the run of bytes in %x{ is read, the directive gives what its end gives
   pub option_word : (rest : Left) (u : Reading) (word : List ℕ) → quoted_to [] (at_rest rest v) (quoted is_option rest.bytes)
       ≡ (Some word, u)
       → inside rest ≡ option_left u word u.rest.bytes
@@ -203,15 +226,18 @@ module _ (outer : Option ℕ) (at : ℕ) (v : Reading) where
       by [] (b ∷ bs) = refl
       by (x ∷ w) (b ∷ bs) = refl
 
+  -- where the text ends after the bytes in %x{, the directive is not closed
   pub option_end_cut : (u : Reading) (word : List ℕ) → None ≡ first_of u.rest.bytes
       → option_left u word u.rest.bytes ≡ Err (Unclosed (open_at outer at))
   option_end_cut u word e = ap (λ bs. option_left u word bs) (none_left u.rest.bytes e)
 
+  -- %x{} without a byte in it is refused
   pub option_empty : (u : Reading) (word : List ℕ) (b : ℕ) → Some b ≡ first_of u.rest.bytes → true ≡ is_empty word
       → option_left u word u.rest.bytes ≡ Err (BadDirective at)
   option_empty u [] b e g = ap (λ bs. option_left u [] bs) (some_left u.rest.bytes b e)
   option_empty u (x ∷ word) b e g = absurd cc
 
+  -- %x{OPTION} writes one token, up to its closing brace, with the option as its label
   pub option_done : (u : Reading) (word : List ℕ) (b : ℕ) (end : Left) → Some b ≡ first_of u.rest.bytes → false ≡ is_empty word
       → end ≡ after 1 u.rest
       → v.parts ≡ u.parts → option_left u word u.rest.bytes ≡ Ok (leaf_here kinds.AddOption (word_label word) at (at_rest end u))
@@ -224,6 +250,7 @@ module _ (outer : Option ℕ) (at : ℕ) (v : Reading) where
 
 -- %e and %n
 
+-- the end of %e and %n gives the same, whether the bytes of their text are counted with it or already taken
 saying_shift : {Z : Type 0} (outer : Option ℕ) (rest : Left) (g : Item → Left → Z) (kind : SayKind) (w : List ℕ) (size : ℕ) (bs : List ℕ)
     → given outer rest g (saying_end kind w size bs) ≡ given outer (after size rest) g (saying_end kind w 0 bs)
 saying_shift outer rest g kind w size [] = took_none outer g rest size (said kind w)
@@ -234,6 +261,7 @@ saying_shift outer rest g kind w size (b ∷ bs) = by (b == ascii.newline)
     by true = took_more outer g rest size (said kind w)
     by false = took_none outer g rest size (said kind w)
 
+-- after the text of %e or %n, a newline that follows is taken too
 saying_ends : {Z : Type 0} (outer : Option ℕ) (rest : Left) (g : Item → Left → Z) (kind : SayKind) (w : List ℕ)
     → given outer rest g (saying_end kind w 0 rest.bytes) ≡ Ok (g (said kind w) (past_byte ascii.newline rest))
 saying_ends outer rest g kind w = by rest.bytes
@@ -249,14 +277,17 @@ saying_ends outer rest g kind w = by rest.bytes
     by (b ∷ bs) = at_byte (b == ascii.newline)
 
 module _ (outer : Option ℕ) (list : Kind) (kind : SayKind) (at : ℕ) (v : Reading) where
+  -- the item is written, from its percent sign up to this rest
   abbrev said_at : Item → Left → Reading
   said_at x l = record { rest = l; parts = item_written at x l.at v.parts }
 
+  -- where the text ends in a backslash within %e or %n, the directive is not closed
   pub saying_hung : (u : Reading) → quoted_to [] v (quoted (is_said list) v.rest.bytes) ≡ (None, u)
       → item_given outer at v (saying list kind v.rest.at v.rest.bytes) ≡ Err (Unclosed (open_at outer u.rest.at))
   saying_hung u e = quoted_hung outer v u said_at (quoted (is_said list) v.rest.bytes) (λ q. saying_text kind v.rest.at q v.rest.bytes)
       (λ i. i) (λ size. refl) e
 
+  -- %e and %n write one token, with their text as its label, up to the end of the text or past its newline
   pub saying_done : (u : Reading) (word : List ℕ) (end : Left) → quoted_to [] v (quoted (is_said list) v.rest.bytes) ≡ (Some word, u)
       → end ≡ past_byte ascii.newline u.rest → v.parts ≡ u.parts
       → item_given outer at v (saying list kind v.rest.at v.rest.bytes)
@@ -277,6 +308,7 @@ module _ (outer : Option ℕ) (list : Kind) (kind : SayKind) (at : ℕ) (v : Rea
 
 -- patterns
 
+-- the end of a pattern gives the same, whether the bytes of its word are counted with it or already taken
 pattern_shift : {Z : Type 0} (outer : Option ℕ) (rest : Left) (g : Pattern → Left → Z) (at n : ℕ) (w : List ℕ) (size : ℕ) (bs : List ℕ)
     → given outer rest g (pattern_end at n w size bs) ≡ given outer (after size rest) g (pattern_end at n w 0 bs)
 pattern_shift outer rest g at n [] size [] = refl
@@ -294,10 +326,12 @@ pattern_shift outer rest g at n (x ∷ w) size (b ∷ bs) = by (b == ascii.aster
     by true = took_more outer g rest size (pattern (x ∷ w) true)
     by false = took_none outer g rest size (pattern (x ∷ w) false)
 
+-- what is made of whether a star follows, or the fault
 abbrev star_then : {Z : Type 0} → Result Bool SyntaxFault → (Bool → Z) → Result Z SyntaxFault
 star_then (Ok star) f = Ok (f star)
 star_then (Err fault) f = Err fault
 
+-- after its word, a pattern gives what the code decides by the next byte: a star belongs to it, and without a word it needs one
 pattern_ends : {Z : Type 0} (outer : Option ℕ) (rest : Left) (g : Pattern → Left → Z) (at n : ℕ) (word : List ℕ)
     → given outer rest g (pattern_end at n word 0 rest.bytes)
     ≡ star_then (star_after outer at (is_empty word) (first_of rest.bytes)) (λ star. g (pattern word star) (past_byte ascii.asterisk rest))
@@ -323,14 +357,17 @@ pattern_ends outer rest g at n word = by word rest.bytes
     by (x ∷ w) (b ∷ bs) = some x w (b == ascii.asterisk)
 
 module _ (outer : Option ℕ) (at : ℕ) (v : Reading) where
+  -- the pattern, with this rest and nothing written
   abbrev as_pattern : Pattern → Left → Pattern × Reading
   as_pattern p l = (p, at_rest l v)
 
+  -- where the text ends in a backslash within a pattern, the directive is not closed
   pub pattern_hung : (u : Reading) → quoted_to [] v (quoted is_word v.rest.bytes) ≡ (None, u)
       → pattern_given outer v (pattern_at at v.rest.at v.rest.bytes) ≡ Err (Unclosed (open_at outer at))
   pattern_hung u e = quoted_hung outer v u as_pattern (quoted is_word v.rest.bytes) (λ q. pattern_text at v.rest.at q v.rest.bytes)
       (λ i. at) (λ size. refl) e
 
+  -- once its word is read, a pattern gives what the code's `star_after` decides
   pattern_word : (u : Reading) (word : List ℕ) → quoted_to [] v (quoted is_word v.rest.bytes) ≡ (Some word, u)
       → pattern_given outer v (pattern_at at v.rest.at v.rest.bytes)
       ≡ star_then (star_after outer at (is_empty word) (first_of u.rest.bytes))
@@ -341,6 +378,7 @@ module _ (outer : Option ℕ) (at : ℕ) (v : Reading) where
       (λ w size bs. pattern_shift outer v.rest as_pattern at v.rest.at w size bs) e
       ∙ pattern_ends outer u.rest as_pattern at v.rest.at word
 
+  -- the fault that the code finds by the byte after the word is that of the pattern
   pub pattern_stops : (u : Reading) (word : List ℕ) (none : Bool) (first : Option ℕ) (e : SyntaxFault)
       → quoted_to [] v (quoted is_word v.rest.bytes) ≡ (Some word, u)
       → none ≡ is_empty word → first ≡ first_of u.rest.bytes → star_after outer at none first ≡ Err e
@@ -350,6 +388,7 @@ module _ (outer : Option ℕ) (at : ℕ) (v : Reading) where
       ∙ ap (λ x. star_then x (λ star. as_pattern (pattern word star) (past_byte ascii.asterisk u.rest)))
       (ap (λ x. star_after outer at x (first_of u.rest.bytes)) (sym g) ∙ ap (λ x. star_after outer at none x) (sym h) ∙ k)
 
+  -- a pattern is its word and whether a star follows it; it writes nothing
   pub pattern_done : (u : Reading) (word : List ℕ) (none : Bool) (first : Option ℕ) (star : Bool) (end : Left)
       → quoted_to [] v (quoted is_word v.rest.bytes) ≡ (Some word, u)
       → none ≡ is_empty word → first ≡ first_of u.rest.bytes → star_after outer at none first ≡ Ok star
@@ -364,6 +403,7 @@ module _ (outer : Option ℕ) (at : ℕ) (v : Reading) where
 
 -- %< and %>
 
+-- %< and %> write one token, with the word of their pattern as its label
 pub hidden_done : (outer : Option ℕ) (at : ℕ) (v u : Reading) (word : List ℕ) (star : Bool)
     → pattern_given outer v (pattern_at at v.rest.at v.rest.bytes) ≡ Ok (pattern word star, u)
     → item_given outer at v (hidden at v.rest.at v.rest.bytes) ≡ Ok (leaf_here kinds.Hide (part_label word star false asking.Switch) at u)
@@ -377,22 +417,25 @@ hidden_done outer at v u word star h =
 
 -- what the code has of a run
 
+-- a word that the code returns is that of the run in specs/Descent
 pub seen_some : {E : Type 0} (w : Option Spelled) (word : Spelled) (copied : List ℕ) (u : Reading) (x : Option (List ℕ) × Reading)
     → ◌≡◌ {A = Result (Option (List ℕ) × Reading) E} (Ok x) (Ok (words_seen w copied u)) → w ≡ Some word
     → x ≡ (Some (spelled word copied), u)
 seen_some w word copied u x e is = ok_same e ∙ ap (λ (z : Option Spelled). words_seen z copied u) is
 
+-- where the code returns no word, specs/Descent has none
 pub seen_none : {E : Type 0} (w : Option Spelled) (copied : List ℕ) (u : Reading) (x : Option (List ℕ) × Reading)
     → ◌≡◌ {A = Result (Option (List ℕ) × Reading) E} (Ok x) (Ok (words_seen w copied u)) → w ≡ None → x ≡ (None, u)
 seen_none w copied u x e is = ok_same e ∙ ap (λ (z : Option Spelled). words_seen z copied u) is
 
--- what a run leaves of the parts so far
+-- a run of bytes writes nothing
 pub quoted_parts : {x : Option (List ℕ)} (v u : Reading) (q : Quoted) → quoted_to [] v q ≡ (x, u) → v.parts ≡ u.parts
 quoted_parts v u (Run w size) e = ap (λ (z : Option (List ℕ) × Reading). z.1.parts) e
 quoted_parts v u (Hangs size) e = ap (λ (z : Option (List ℕ) × Reading). z.1.parts) e
 
 -- names of functions
 
+-- the name of a function, read byte by byte, is the longest front of a name that the text begins with, which the code takes at once
 function_goes : {Z : Type 0} (outer : Option ℕ) (rest : Left) (g : List ℕ → Left → Z) (at n : ℕ) (p text : List ℕ)
     → given outer rest g (function_from at n p text)
     ≡ given outer (after (front_size p text) rest) g
@@ -431,12 +474,15 @@ function_goes outer rest g at n p (b ∷ text) =
 
 module _ (outer : Option ℕ) (at : ℕ) (v : Reading) (k : ℕ) (name : List ℕ) (rest : Left) (whole : k ≡ front_size [] v.rest.bytes)
     (left : rest ≡ after k v.rest) (taken : name ≡ take k v.rest.bytes) where
+  -- the name, with this rest and nothing written
   abbrev as_name : List ℕ → Left → List ℕ × Reading
   as_name w l = (w, at_rest l v)
 
+  -- what follows the front of a name gives
   abbrev name_ends : List ℕ → Result (List ℕ × Reading) SyntaxFault
   name_ends bs = given outer rest as_name (function_end at rest.at name bs)
 
+  -- a function's name gives what follows the front that the code takes
   function_at : named_given outer v (function_from at v.rest.at [] v.rest.bytes) ≡ name_ends rest.bytes
   function_at =
       function_goes outer v.rest as_name at v.rest.at [] v.rest.bytes
@@ -445,25 +491,30 @@ module _ (outer : Option ℕ) (at : ℕ) (v : Reading) (k : ℕ) (name : List �
       ∙ ap (λ (q : List ℕ). given outer (after k v.rest) as_name (function_end at (v.rest.at + k) q (drop k v.rest.bytes))) (sym taken)
       ∙ ap (λ (r : Left). given outer r as_name (function_end at r.at name r.bytes)) (sym left)
 
+  -- where the text ends after the longest front of a function's name, the directive is not closed
   pub function_cut : None ≡ first_of rest.bytes
       → named_given outer v (function_from at v.rest.at [] v.rest.bytes) ≡ Err (Unclosed (open_at outer at))
   function_cut e = function_at ∙ ap (λ bs. name_ends bs) (none_left rest.bytes e)
 
+  -- where no parenthesis follows the longest front of a function's name, the function is unknown
   pub function_bad : (b : ℕ) → Some b ≡ first_of rest.bytes → (b ≡ ascii.opening_parenthesis → ⊥)
       → named_given outer v (function_from at v.rest.at [] v.rest.bytes) ≡ Err (UnknownFunction at)
   function_bad b e g =
       let other : (b == ascii.opening_parenthesis) ≡ false = differs b ascii.opening_parenthesis g in
       function_at ∙ ap (λ bs. name_ends bs) (some_left rest.bytes b e) ∙ rw other refl
 
+  -- where a parenthesis follows that front, it is the function's name or the function is unknown
   opens : (b : ℕ) → Some b ≡ first_of rest.bytes → b ≡ ascii.opening_parenthesis
       → named_given outer v (function_from at v.rest.at [] v.rest.bytes)
       ≡ given outer rest as_name (if is_function name then Took name 1 else Stops rest.at (UnknownFunction at))
   opens b e g = function_at ∙ ap (λ bs. name_ends bs) (some_left rest.bytes b e ∙ ap (λ x. x ∷ drop 1 rest.bytes) g)
 
+  -- where a parenthesis follows a front that is no function's name, the function is unknown
   pub function_unknown : (b : ℕ) → Some b ≡ first_of rest.bytes → b ≡ ascii.opening_parenthesis → is_function name ≡ false
       → named_given outer v (function_from at v.rest.at [] v.rest.bytes) ≡ Err (UnknownFunction at)
   function_unknown b e g h = opens b e g ∙ rw h refl
 
+  -- where a parenthesis follows a function's name, the code's `function` returns this name and takes the parenthesis
   pub function_done : (b : ℕ) (end : Left) → Some b ≡ first_of rest.bytes → b ≡ ascii.opening_parenthesis → is_function name ≡ true
       → end ≡ after 1 rest → named_given outer v (function_from at v.rest.at [] v.rest.bytes) ≡ Ok (name, at_rest end v)
   function_done b end e g h l = opens b e g ∙ rw h refl ∙ ap (λ (r : Left). Ok (as_name name r)) (sym l)

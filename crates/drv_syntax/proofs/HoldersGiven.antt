@@ -24,9 +24,13 @@ use Rattle.drv_syntax.specs.declared.token.TokenKind.TheVariants as kinds
 use Rattle.std.proofs.Common.{◌≡◌, ◌∙◌, ◌+◌, ◌-◌, ◌≤◌, false, List, [], ◌∷◌, ap, arith, drop, length, refl, suc, sym, zero, ℕ}
 use Rattle.std.specs.Prelude.{Ok, Option, Some}
 
--- What is given of parts that hold lists. It serves the reader's `call` and `braces`.
+-- What the reader's `call` and `braces` return for a function's call and for braces: a token that opens, what they hold, and the token
+-- closed. It serves their clauses. `item_given`, `listed_given` and `brace_given` turn what specs/Descent makes of a part (`Took`, `Ends`,
+-- `Stops`) into the code's result. A `Reading` is the text that is left and the tokens and labels so far. `Open` is the place of a token
+-- that is not closed yet. `outer` is the place of the outermost directive that is open, if one is, and `at` that of the % of the directive
+-- here.
 
--- the lists in a list of so many levels
+-- the lists in a list of at least one level are those with a level less
 pub around_is : (level : ℕ) → 1 ≤ level → (c : ListContext) (n : ℕ) (text : List ℕ)
     → (around level).0 c n text ≡ (levels (level - 1)).0 c n text
 around_is zero h c n text = absurd (omega (arith, h))
@@ -34,6 +38,7 @@ around_is (suc level) h c n text =
     let e : level ≡ suc level - 1 = omega arith in
     ap (λ (l : ℕ). (levels l).0 c n text) e
 
+-- in a directive, a text that ends in a part leaves the outermost directive open
 given_within : {X Y : Type 0} (outer : Option ℕ) (at : ℕ) (rest : Left) (g : X → Left → Y) (r : Read X)
     → given outer rest g (within at r) ≡ given (Some (open_at outer at)) rest g r
 given_within outer at rest g (Took x size) = refl
@@ -43,12 +48,15 @@ given_within outer at rest g (Stops n fault) = refl
 -- functions
 
 module _ (outer : Option ℕ) (at : ℕ) (lists : Lists) (c : ListContext) (v : Reading) where
+  -- the item is written, from its percent sign up to this rest
   abbrev as_item : Item → Left → Reading
   as_item x l = record { rest = l; parts = item_written at x l.at v.parts }
 
+  -- what the arguments of this name give, with the parenthesis that closes them
   abbrev arguments : List ℕ → ℕ → List ℕ → Read Item
   arguments name n text = then_read (lists (in_arguments c) n text) (λ list size. Took (Function name list.0) (size + 1))
 
+  -- after k bytes of the name and its parenthesis come the arguments
   arguments_at : (name : List ℕ) (k : ℕ)
       → given (Some (open_at outer at)) v.rest as_item (call_in lists c v.rest.at v.rest.bytes name k)
       ≡ given (Some (open_at outer at)) (after k v.rest) as_item (arguments name (v.rest.at + k) (drop k v.rest.bytes))
@@ -61,6 +69,7 @@ module _ (outer : Option ℕ) (at : ℕ) (lists : Lists) (c : ListContext) (v : 
       by (Ends n) = refl
       by (Stops n fault) = refl
 
+  -- once its name is read, a call gives its arguments
   call_named : (name : List ℕ) (u : Reading)
       → named_given (Some (open_at outer at)) v (function_from at v.rest.at [] v.rest.bytes) ≡ Ok (name, u)
       → item_given outer at v (call lists c at v.rest.at v.rest.bytes)
@@ -70,6 +79,7 @@ module _ (outer : Option ℕ) (at : ℕ) (lists : Lists) (c : ListContext) (v : 
       ∙ given_then (Some (open_at outer at)) v u name as_item (function_from at v.rest.at [] v.rest.bytes)
       (call_in lists c v.rest.at v.rest.bytes) (λ x n text. arguments x n text) (λ x k. arguments_at x k) h
 
+  -- once a function's name and its arguments are read, the code's open token, the arguments and the closed token are the item of the call
   pub call_done : (name : List ℕ) (u w : Reading) (part : Open) (x : Reading) (tail : Tail) (end : Left)
       → named_given (Some (open_at outer at)) v (function_from at v.rest.at [] v.rest.bytes) ≡ Ok (name, u)
       → ◌≡◌ {A = Open × Reading} (part, w) (
@@ -117,6 +127,7 @@ module _ (outer : Option ℕ) (at : ℕ) (lists : Lists) (c : ListContext) (v : 
 
 -- braces
 
+-- patterns written one after another are the patterns written at once
 patterns_wrote : (ps : List (Span × Pattern)) (z : Parts) → patterns_written ps z ≡ wrote (pattern_nodes ps) false z
 patterns_wrote [] z = sym (wrote_none z)
 patterns_wrote (p ∷ ps) z =
@@ -124,6 +135,7 @@ patterns_wrote (p ∷ ps) z =
     ∙ ap (λ (y : Parts). wrote (pattern_nodes ps) false y) (sym (leaf_is kinds.Pattern (pattern_label p.1) p.0.start p.0.end z))
     ∙ sym (wrote_both (node kinds.Pattern (pattern_label p.1) p.0 no_node no_node) (pattern_nodes ps) false false z)
 
+-- alternatives written one after another are the alternatives written at once
 choices_wrote : (cs : Choices) (z : Parts) → choices_written cs z ≡ wrote (choice_nodes cs) (choices_have_star cs) z
 choices_wrote no_choice z = sym (wrote_none z)
 choices_wrote (choice s tests items cs) z =
@@ -131,12 +143,15 @@ choices_wrote (choice s tests items cs) z =
     ∙ sym (wrote_both (choice_nodes (choice s tests items no_choice)) (choice_nodes cs) (tests_have_star tests) (choices_have_star cs) z)
 
 module _ (outer : Option ℕ) (at : ℕ) (kind : BraceKind) (v : Reading) where
+  -- the parts with the token of the braces open
   abbrev z : Parts
   z = opened kinds.Choose no_label at v.parts
 
+  -- the place of that token
   abbrev o : Open
   o = record { token = length v.parts.tokens; start = at }
 
+  -- braces opened, filled with patterns and closed are the item of these braces
   patterns_closed : (k : BraceKind) (ps : List (Span × Pattern)) (end : ℕ)
       → item_written at (braced k (tree.Emit ps)) end v.parts ≡ closed_at (brace_kind k insides.Patterns) o end
       (wrote (pattern_nodes ps) false z)
@@ -145,6 +160,7 @@ module _ (outer : Option ℕ) (at : ℕ) (kind : BraceKind) (v : Reading) where
   patterns_closed IntoArgumentsFile ps end =
       sym (closed_is kinds.Choose kinds.ArgumentsFile no_label at end (pattern_nodes ps) false v.parts)
 
+  -- braces opened, filled with alternatives and closed are the item of these braces
   choices_closed : (k : BraceKind) (cs : Choices) (end : ℕ)
       → item_written at (braced k (tree.Choose cs)) end v.parts
       ≡ closed_at (brace_kind k insides.Choices) o end (wrote (choice_nodes cs) (choices_have_star cs) z)
@@ -154,6 +170,7 @@ module _ (outer : Option ℕ) (at : ℕ) (kind : BraceKind) (v : Reading) where
   choices_closed IntoArgumentsFile cs end =
       sym (closed_is kinds.Choose kinds.ArgumentsFile no_label at end (choice_nodes cs) (choices_have_star cs) v.parts)
 
+  -- once the inside of braces is read, the code's open token, what they hold and the closed token are the item of the braces
   pub braces_done : (r : Read Brace) (inside : Inside) (part : Open) (u w : Reading)
       → ◌≡◌ {A = Open × Reading} (part, u) (o, record { rest = v.rest; parts = z })
       → brace_given outer u r ≡ Ok (inside, w)

@@ -39,10 +39,15 @@ use Rattle.std.proofs.Common.{length-append, refl, subst, suc, sym, zero, ℕ}
 use Rattle.std.specs.List.{prefix_len}
 use Rattle.std.specs.Prelude.{◌==◌}
 
--- Where a byte of a list doesn't fit, Descent stops at it: alternatives, directives and items. It is to serve the law `refusal_kinds`.
+-- Where a byte of a list doesn't fit, Descent stops at it: alternatives, directives and items. It serves the law `refusal_kinds`.
+-- `Reaches.. t due last` says that the text t leads to a place where `due` is due, and leaves `last` there. `Refuses` says that `last` ends
+-- in a byte that doesn't fit there (specs/Refusals). k is the place of that byte, and q is what follows it in the text. `Stops k fault` is
+-- the result that names that place and this fault. The numbers in the statements are bytes: 37 is %, 58 :. Descent is the grammar as
+-- functions (specs/Descent). The grammar itself has cases (specs/Spelling, Fronts, Refusals).
 
 -- no colon of a default begins the tests that a byte doesn't fit
 
+-- where white space, a `!` or none, and then no default begin a text, no colon of a default is at its front
 begins_so : (order : Order) {t u v : List ℕ} {negated : Bool} → AreSpaces t u → IsSign u negated v → s.Stops is_white v
     → s.Stops (is_default order negated) v → NoDefault order t
 begins_so order {u = u} {negated = negated} sp sign w h =
@@ -56,18 +61,21 @@ begins_so order {u = u} {negated = negated} sp sign w h =
     by AtNext (s.plain_sign z) (s.at_byte e) = e
     by AtNext (s.not_sign i) h = refl
 
+-- a byte that is no colon begins no default
 other_byte : (order : Order) (negated : Bool) (b : ℕ) → (b == 58) ≡ false → is_default order negated b ≡ false
 other_byte AtFront negated b e = refl
 other_byte AtBar negated b e = refl
 other_byte AtNext false b e = e
 other_byte AtNext true b e = refl
 
+-- a text that leads to a place where a byte is left has a byte
 pub reaches_filled : {size : ℕ} {c : ListContext} {t last : List ℕ} {due : Due} → Reaches size c t due last → Filled last → Filled t
 reaches_filled r.item_due h = h
 reaches_filled (r.after_item i o) h = item_filled i
 reaches_filled (r.in_directive a al o) h = tt
 
 module _ (k : ℕ) (q : List ℕ) where
+  -- where what a test asks is due and a byte doesn't fit, neither white space nor a default is there
   due_begins : {order : Order} {at : ℕ} {g : ListContext} {negated : Bool} {last : List ℕ} {fault : SyntaxFault} → Refuses (k + 1)
       (r.ATest g at order negated) last fault → s.Stops is_white (last ++ q) × s.Stops (is_default order negated) (last ++ q)
   due_begins {order} {negated = negated} (r.test_within_all p e) = (s.at_byte refl, s.at_byte (other_byte order negated 37 refl))
@@ -75,6 +83,7 @@ module _ (k : ℕ) (q : List ℕ) where
   due_begins (r.no_test_there h w e f) = (s.at_byte w, s.at_byte f)
   due_begins {order} {negated = negated} (r.no_call p e f) = (s.at_byte refl, s.at_byte (other_byte order negated 37 refl))
 
+  -- no colon of a default is at the front of tests that have a byte that doesn't fit
   tests_begin_so : {order : Order} {at : ℕ} {g : ListContext} {t last : List ℕ} {due : Due} {fault : SyntaxFault}
       → ReachesTests (k + 1) g at order t due last → Refuses (k + 1) due last fault → NoDefault order (t ++ q)
   tests_begin_so {order} (r.after_bar sp sign i z o) h =
@@ -115,6 +124,7 @@ module _ (k : ℕ) (q : List ℕ) where
 
     module _ (at : ℕ) (level : (c.levels == 0) ≡ false) where
       mutual
+        -- in alternatives, Descent stops at the byte that doesn't fit
         choices_fail : {t last : List ℕ} {due : Due} {fault : SyntaxFault} (order : Order) (n : ℕ)
             → ReachesChoices (k + 1) (in_braces c) at order t due last → Refuses (k + 1) due last fault → At (k + 1) n t
             → inside lists deep c at order n (t ++ q) ≡ Stops k fault
@@ -136,6 +146,7 @@ module _ (k : ℕ) (q : List ℕ) where
             next_fails lists deep c at order n i m x (AtByte k fault)
             (later_fail (n + suc (m.size + 1 + x.size)) more h (omega (arith, after, length-append next q)))
 
+        -- in alternatives after the first, Descent stops at the byte that doesn't fit
         later_fail : {t last : List ℕ} {due : Due} {fault : SyntaxFault} (n : ℕ) → ReachesLater (k + 1) (in_braces c) at t due last
             → Refuses (k + 1) due last fault → At (k + 1) n t → inside lists deep c at AtNext n (t ++ q) ≡ Stops k fault
         later_fail n (r.to_next o) h place = choices_fail AtNext n o h place
@@ -149,6 +160,7 @@ module _ (k : ℕ) (q : List ℕ) where
             let last : n + prefix_len is_white (t ++ q) + 1 + x.size ≡ k = omega (arith, there, x.fits) in
             default_on lists deep c at n (spaces_longer q sp) x ∙ ap (λ (j : ℕ). Stops j (EmptyTest at)) last
 
+      -- in the inside of braces, Descent stops at the byte that doesn't fit
       brace_fails : {t last : List ℕ} {due : Due} {fault : SyntaxFault} (n : ℕ) → ReachesBrace (k + 1) (in_braces c) at t due last
           → Refuses (k + 1) due last fault → At (k + 1) n t → inside lists deep c at AtFront n (t ++ q) ≡ Stops k fault
       brace_fails {t} {fault = fault} n (r.in_emits o) h place =
@@ -157,6 +169,7 @@ module _ (k : ℕ) (q : List ℕ) where
 
     -- a directive
 
+    -- after the byte of a directive that holds lists, Descent stops at the byte that doesn't fit
     by_fails : {f : Directive} {text last : List ℕ} {due : Due} {fault : SyntaxFault} (at m : ℕ) → ReachesIn (k + 1) c at f text due last
         → Refuses (k + 1) due last fault → At (k + 1) (m + 1) text → d.directive_by lists deep c at m f (text ++ q) ≡ Stops k fault
     by_fails {last = last} {due} {fault} at m (r.in_call {text = text} name e is o) h place =
@@ -183,18 +196,22 @@ module _ (k : ℕ) (q : List ℕ) where
     -- an item
 
     module _ (n b : ℕ) (u : List ℕ) {fault : SyntaxFault} where
+      -- where Descent stops in a directive, it stops there in the list
       percent_fails : d.directive lists deep c n (b ∷ u) ≡ Stops k fault → d.items_with lists deep c n 0 (37 ∷ b ∷ u) ≡ Stops k fault
       percent_fails e = ap (λ r. then_read r (λ one j. d.item_go n one j (d.items_with lists deep c (n + 1) j (b ∷ u)))) e
 
+      -- where Descent stops after the byte of a directive, it stops there in the list
       byte_fails : is_allowed c.in_arguments b ≡ true → d.directive_by lists deep c n (n + 1) (directive_of b) u ≡ Stops k fault
           → d.items_with lists deep c n 0 (37 ∷ b ∷ u) ≡ Stops k fault
       byte_fails al e = percent_fails (ap (λ (z : Bool). if z then past 1
           (d.directive_by lists deep c n (n + 1) (directive_of b) u) else Stops
           (n + 1) (BadDirective n)) al ∙ ap (λ r. past 1 r) e)
 
+    -- what Descent makes of the text after the byte of this directive
     abbrev by_byte : ℕ → List ℕ → Directive → Read Item
     by_byte n u f = d.directive_by lists deep c n (n + 1) f u
 
+    -- where an item is due, Descent stops at the byte that doesn't fit
     item_fails : {last : List ℕ} {fault : SyntaxFault} (n : ℕ) → Refuses (k + 1) (r.AnItem c) last fault → At (k + 1) n last
         → d.items_with lists deep c n 0 (last ++ q) ≡ Stops k fault
     item_fails n (r.star_outside {n = m} {b = b} p al e f) place =
@@ -226,6 +243,7 @@ module _ (k : ℕ) (q : List ℕ) where
         let z = break_stops lists deep c n (n + 1) q i in
         byte_fails n b (last ++ q) al (z.2 ∙ stops_at (λ x. BadDirective x) (omega (arith, place, z.1)) (omega (arith, place, p)))
 
+    -- in a list, Descent stops at the byte that doesn't fit
     pub items_fail : {t last : List ℕ} {due : Due} {fault : SyntaxFault} (n : ℕ) → Reaches (k + 1) c t due last
         → Refuses (k + 1) due last fault
         → At (k + 1) n t → d.items_with lists deep c n 0 (t ++ q) ≡ Stops k fault
@@ -242,9 +260,11 @@ module _ (k : ℕ) (q : List ℕ) where
 
   -- lists with so many levels
 
+  -- in all lists with so many levels, Descent stops at the byte that doesn't fit
   abbrev AllFail : ℕ → Lists → Type 0
   AllFail level lists = (c : ListContext) → c.levels ≡ level → ListFails k q lists c
 
+  -- if Descent stops at a byte that doesn't fit in the lists with fewer levels, it does so in lists with this many
   with_fails : (level : ℕ) (lists deep : Lists) → ((level == 0) ≡ false → Both (k + 1 + length q) (level - 1) lists)
       → ((level - 1 == 0) ≡ false → Both (k + 1 + length q) (level - 1 - 1) deep) → ((level == 0) ≡ false → AllFail (level - 1) lists)
       → ((level - 1 == 0) ≡ false → AllFail (level - 1 - 1) deep) → AllFail level (λ c n text. d.items_with lists deep c n 0 text)
@@ -256,6 +276,7 @@ module _ (k : ℕ) (q : List ℕ) where
       items_fail lists deep c known (λ z. lower z (in_arguments c) refl) (λ z asks. lower z (in_x (in_braces c) asks) refl)
       (λ z. lowest z (in_arguments (in_braces c)) refl) n reaches h place
 
+  -- in lists with any number of levels, Descent stops at the byte that doesn't fit, by induction over the levels
   pub levels_fail : (level : ℕ) → AllFail level (d.levels level).0 × AllFail (level - 1) (d.levels level).1
   levels_fail zero = (
     with_fails 0 d.no_lists d.no_lists (λ h. absurd cc) (λ h. absurd cc) (λ h. absurd cc) (λ h. absurd cc),

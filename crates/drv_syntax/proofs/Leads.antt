@@ -5,16 +5,19 @@ use Rattle.std.specs.Prelude.{◌==◌, nat_le}
 
 -- Facts on bytes and classes of them.
 
+-- bytes that the test finds equal are equal
 pub same : (a b : ℕ) → (a == b) ≡ true → a ≡ b
 same a b h = grind (arith, nat_tests)
 
+-- true is not false, so such a case can't arise
 pub differs : {A : Type 0} → true ≡ false → A
 differs h = absurd cc
 
+-- a number that the test finds at most another is at most the other
 pub le_true : {m n : ℕ} → nat_le m n ≡ true → m ≤ n
 le_true h = grind (arith, nat_tests)
 
--- a byte that is none of these is not the first of them
+-- a byte that is none of these differs from the first of them and is none of the others
 pub not_of : (x : ℕ) (xs : List ℕ) (b : ℕ) → is_of (x ∷ xs) b ≡ false → ((b == x) ≡ false) × (is_of xs b ≡ false)
 not_of x xs b h = by (b == x) refl h
   where
@@ -22,7 +25,7 @@ not_of x xs b h = by (b == x) refl h
     by true e h = differs (rw e at h)
     by false e h = (e, rw e at h)
 
--- a byte of one kind is none that is not of it
+-- a byte that f allows differs from one that f doesn't allow
 pub other : (f : ℕ → Bool) (b x : ℕ) → f b ≡ true → f x ≡ false → (b == x) ≡ false
 other f b x h g = by (b == x) refl
   where
@@ -30,19 +33,22 @@ other f b x h g = by (b == x) refl
     by true e = differs (sym h ∙ ap f (same b x e) ∙ g)
     by false e = e
 
+-- f allows no byte of the list
 abbrev pub NoneOf : (ℕ → Bool) → List ℕ → Type 0
 NoneOf f [] = Unit {0}
 NoneOf f (x ∷ xs) = (y : f x ≡ false) × NoneOf f xs
 
+-- a byte that f allows is none of a list of bytes that f doesn't allow
 pub none_of : (f : ℕ → Bool) (xs : List ℕ) (b : ℕ) → f b ≡ true → NoneOf f xs → is_of xs b ≡ false
 none_of f [] b h g = refl
 none_of f (x ∷ xs) b h g = rw (other f b x h g.0) (none_of f xs b h g.1)
 
--- what holds of each byte of a list holds of a byte that is of it
+-- P holds of each byte of the list
 abbrev pub AllOf : (ℕ → Type 0) → List ℕ → Type 0
 AllOf P [] = Unit {0}
 AllOf P (x ∷ xs) = (y : P x) × AllOf P xs
 
+-- what holds of each byte of a list holds of a byte that is in the list
 pub each : (P : ℕ → Type 0) (xs : List ℕ) (b : ℕ) → is_of xs b ≡ true → AllOf P xs → P b
 each P [] b h all = differs (sym h)
 each P (x ∷ xs) b h all = by (b == x) refl h (λ g. each P xs b g all.1)

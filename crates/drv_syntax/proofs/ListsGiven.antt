@@ -35,20 +35,28 @@ use Rattle.std.proofs.lemmas.List.{length-drop}
 use Rattle.std.specs.List.{prefix_len}
 use Rattle.std.specs.Prelude.{◌==◌, not, Err, None, Ok, Option, Result, Some}
 
--- What is given of a list of items, from one of its items on. It serves the reader's `items`.
+-- What the reader's `items` returns for a list, from one of its items on: each lemma is one turn of its loop. It serves the clause of
+-- `items`. `given` turns what a function of specs/Descent makes of a part into the code's result. A part that is read (`Took`) becomes what
+-- is written and left, a text that ends in it (`Ends`) becomes `Unclosed`, and a byte that doesn't fit (`Stops`) becomes its fault. A
+-- `Reading` is the text that is left and the tokens and labels so far. A `Tail` is where a list ends without the white space at its end.
+-- `outer` is the place of the outermost directive that is open, if one is.
 
+-- what the code returns for a list of these items, up to this rest
 abbrev list_on : Tail → Parts → Items × ℕ → Left → Tail × Reading
 list_on tail z list rest = (with_end (tail_on tail list.0 z) list.1, record { rest = rest; parts = list_written list.0 z })
 
 -- plain bytes
 
+-- a plain byte is written here, and the rest is after it
 abbrev plain_here : ℕ → Reading → Reading
 plain_here b v = byte_here kinds.Plain (word_label (b ∷ [])) v
 
+-- the byte differs from each of these
 abbrev Apart : List ℕ → ℕ → Type 0
 Apart [] b = Unit {0}
 Apart (x ∷ xs) b = ((b == x) ≡ false) × Apart xs b
 
+-- a byte that is in none of a list of bytes differs from each of them
 apart : (xs : List ℕ) (b : ℕ) → not (is_of xs b) ≡ true → Apart xs b
 apart [] b e = tt
 apart (x ∷ xs) b e = by (b == x) refl e (λ h. apart xs b h)
@@ -57,12 +65,14 @@ apart (x ∷ xs) b e = by (b == x) refl e (λ h. apart xs b h)
     by true g h ih = absurd cc
     by false g h ih = (g, ih h)
 
+-- a byte that a run of plain bytes takes: it ends no list, is no percent sign, and is written as a plain byte
 record PlainByte (kind : ListKind) (b : ℕ) : Type 0 where
   pub stays : ends_list (kind_seen kind) b ≡ false
   pub other : (b == ascii.percent) ≡ false
   pub given : (outer : Option ℕ) (t : Bool) (tail : Tail) (v : Reading)
       → byte_given outer t b tail v ≡ Ok (tail_at (plain_here b v), plain_here b v)
 
+-- each byte that a run takes in such a list is a plain byte there
 plain_byte : (kind : ListKind) (b : ℕ) → runs kind b ≡ true → PlainByte kind b
 plain_byte list_kinds.Top b e =
     let a : Apart (stops list_kinds.Top) b = apart (stops list_kinds.Top) b e in
@@ -86,15 +96,18 @@ plain_byte list_kinds.InArguments b e =
       given = λ outer t tail v. rw (a.0, a.1.1.0, a.1.1.1.0, a.1.1.1.1.0, a.1.1.1.1.1.0) refl;
     }
 
+-- parts of these tokens and labels, with or without a %* of their X
 abbrev parts_of : List Token → List Label → Bool → Parts
 parts_of tokens names holds = record { tokens = tokens; labels = names; holds = holds }
 
+-- a run of no bytes writes nothing and leaves the same
 run_none : (v : Reading) → run_after 0 v ≡ v
 run_none v =
     ap (λ (r : Left). record { rest = r; parts = parts_of (v.parts.tokens ++ []) (v.parts.labels ++ []) v.parts.holds }) (after_none v.rest)
     ∙ ap (λ ts. record { rest = v.rest; parts = parts_of ts (v.parts.labels ++ []) v.parts.holds }) (append-nil v.parts.tokens)
     ∙ ap (λ ls. record { rest = v.rest; parts = parts_of v.parts.tokens ls v.parts.holds }) (append-nil v.parts.labels)
 
+-- a plain byte, and then a run of k bytes, write and leave the same as a run of k + 1 bytes
 run_more : (k : ℕ) (v : Reading) (b : ℕ) (text : List ℕ) → v.rest.bytes ≡ b ∷ text → run_after k (plain_here b v) ≡ run_after (suc k) v
 run_more k v b text e =
     let t : Token = whole_token kinds.Plain v.rest.at (v.rest.at + 1) (length v.parts.tokens + 1) in
@@ -135,6 +148,7 @@ run_more k v b text e =
           (v.parts.tokens ++ plain_tokens v.rest.at (length v.parts.tokens + 1) bs) (v.parts.labels ++ byte_labels bs) v.parts.holds;
     }) whole
 
+-- a plain byte and then a run of k bytes leave the same tail and reading as a run of k + 1 bytes
 plains_more : (k : ℕ) (tail : Tail) (v : Reading) (b : ℕ) (text : List ℕ) → v.rest.bytes ≡ b ∷ text
     → plains_after k (tail_at (plain_here b v)) (plain_here b v) ≡ plains_after (suc k) tail v
 plains_more zero tail v b text e =
@@ -175,6 +189,7 @@ module _ (lists deep : Lists) (c : ListContext) (outer : Option ℕ) (inside : O
   abbrev item_after : ℕ → Item → Left → Reading → Reading
   item_after n one rest v = record { rest = rest; parts = item_written n one rest.at v.parts }
 
+  -- what the list gives once its next item is read, by that item or its fault
   abbrev stepped : Tail → Reading → Read Item → Result (Tail × Reading) SyntaxFault
   stepped tail v (Took one k) =
       items_at (tail_after one tail (after k (after 1 v.rest)).at (item_after v.rest.at one (after k (after 1 v.rest)) v).parts)
@@ -182,6 +197,7 @@ module _ (lists deep : Lists) (c : ListContext) (outer : Option ℕ) (inside : O
   stepped tail v (Ends at) = Err (Unclosed (open_at outer at))
   stepped tail v (Stops n fault) = Err fault
 
+  -- an item written before the items after it is those items given with that item written first
   go_on : (tail : Tail) (v : Reading) (one : Item) (k : ℕ) (r : Read (Items × ℕ))
       → listed_given outer tail v (item_go v.rest.at one k r)
       ≡ listed_given outer (tail_after one tail (after k (after 1 v.rest)).at (item_after v.rest.at one (after k (after 1 v.rest)) v).parts)
@@ -194,6 +210,7 @@ module _ (lists deep : Lists) (c : ListContext) (outer : Option ℕ) (inside : O
       (λ (r : Left). after size r) (after_after 1 k v.rest) in
       ap (λ (r : Left). Ok (list_on (tail_after one tail (v.rest.at + 1 + k) z) z list r)) rest
 
+  -- where the next byte doesn't end the list, the list gives what its next item gives and then the items after it, or the item's fault
   pub item_steps : (tail : Tail) (v : Reading) (b : ℕ) (text : List ℕ) → v.rest.bytes ≡ b ∷ text → ends_list c.kind b ≡ false
       → items_at tail v ≡ stepped tail v (item lists deep c v.rest.at b text)
   item_steps tail v b text e g =
@@ -214,7 +231,7 @@ module _ (lists deep : Lists) (c : ListContext) (outer : Option ℕ) (inside : O
           ∙ ap (λ bs. listed_given outer (tail_after one tail (v.rest.at + 1 + k) z) next
           (items_with lists deep c (v.rest.at + 1 + k) 0 (drop k bs))) (sym (ap (λ bs. drop 1 bs) e))
 
-  -- the byte that ends the list
+  -- at the byte that ends it, a list writes nothing more, and gives its tail with that byte
   pub items_end : (tail : Tail) (v : Reading) (b : ℕ) (text : List ℕ) → v.rest.bytes ≡ b ∷ text → ends_list c.kind b ≡ true
       → items_at tail v ≡ Ok (with_end tail b, v)
   items_end tail v b text e g =
@@ -227,6 +244,7 @@ module _ (lists deep : Lists) (c : ListContext) (outer : Option ℕ) (inside : O
   at_last v (Ok tail) = Ok (tail, v)
   at_last v (Err fault) = Err fault
 
+  -- at the end of the text, a list gives what `end_given` says of its kind: a whole text is complete, any other list is not closed
   pub items_last : (tail : Tail) (v : Reading) → v.rest.bytes ≡ [] → items_at tail v ≡ at_last v (end_given outer c.kind tail v.rest.at)
   items_last tail v e = ap (λ bs. listed_given outer tail v (items_with lists deep c v.rest.at 0 bs)) e ∙ by c.kind
     where
@@ -237,9 +255,11 @@ module _ (lists deep : Lists) (c : ListContext) (outer : Option ℕ) (inside : O
 
   -- an item that is a directive
 
+  -- what a directive gives that begins with the percent sign here
   abbrev directed : Reading → Read Item → Result Reading SyntaxFault
   directed v r = given outer (after 1 v.rest) (λ one rest. item_after v.rest.at one rest v) r
 
+  -- after a directive, which is no white space, the list goes on with its tail right after it
   stepped_ok : (tail : Tail) (v u : Reading) (r : Read Item) → NotWhite r → directed v r ≡ Ok u → stepped tail v r ≡ items_at (tail_at u) u
   stepped_ok tail v u (Took one k) white h =
       let p : item_after v.rest.at one (after k (after 1 v.rest)) v ≡ u = ok_same h in
@@ -249,6 +269,7 @@ module _ (lists deep : Lists) (c : ListContext) (outer : Option ℕ) (inside : O
   stepped_ok tail v u (Ends at) white h = absurd cc
   stepped_ok tail v u (Stops n fault) white h = absurd cc
 
+  -- the fault of a directive is that of the list
   stepped_err : (tail : Tail) (v : Reading) (e : SyntaxFault) (r : Read Item) → directed v r ≡ Err e → stepped tail v r ≡ Err e
   stepped_err tail v e (Took one k) h = absurd cc
   stepped_err tail v e (Ends at) h =
@@ -258,6 +279,7 @@ module _ (lists deep : Lists) (c : ListContext) (outer : Option ℕ) (inside : O
       let p : fault ≡ e = err_same h in
       ap (λ x. Err x) p
 
+  -- after a directive that is read, the list goes on, and its tail is right after the directive
   pub directed_goes : (tail : Tail) (v u : Reading) (text : List ℕ) → v.rest.bytes ≡ ascii.percent ∷ text
       → directed v (d.directive lists deep c v.rest.at (drop 1 v.rest.bytes)) ≡ Ok u → items_at tail v ≡ items_at (tail_at u) u
   directed_goes tail v u text e h =
@@ -265,6 +287,7 @@ module _ (lists deep : Lists) (c : ListContext) (outer : Option ℕ) (inside : O
       ∙ stepped_ok tail v u (d.directive lists deep c v.rest.at text) (directive_white lists deep c v.rest.at text)
       (ap (λ bs. directed v (d.directive lists deep c v.rest.at (drop 1 bs))) (sym e) ∙ h)
 
+  -- the fault of a directive is the fault of the list
   pub directed_stops : (tail : Tail) (v : Reading) (fault : SyntaxFault) (text : List ℕ) → v.rest.bytes ≡ ascii.percent ∷ text
       → directed v (d.directive lists deep c v.rest.at (drop 1 v.rest.bytes)) ≡ Err fault → items_at tail v ≡ Err fault
   directed_stops tail v fault text e h =
@@ -274,10 +297,12 @@ module _ (lists deep : Lists) (c : ListContext) (outer : Option ℕ) (inside : O
 
   -- an item that is no directive
 
+  -- what the list gives from what an item leaves
   abbrev as_items : Result (Tail × Reading) SyntaxFault → Result (Tail × Reading) SyntaxFault
   as_items (Ok x) = items_at x.0 x.1
   as_items (Err fault) = Err fault
 
+  -- an item that holds no parts is written as one token, and the list goes on after it
   step_one : (tail : Tail) (v : Reading) (one : Item) (kind : TokenKind) (label : Label)
       → ((end : ℕ) (z : Parts) → item_written v.rest.at one end z ≡ leafed kind label v.rest.at end z)
       → stepped tail v (Took one 0) ≡ items_at (if is_white_item one then tail else tail_at (byte_here kind label v))
@@ -288,6 +313,7 @@ module _ (lists deep : Lists) (c : ListContext) (outer : Option ℕ) (inside : O
       (after_none r1)
       ∙ ap (λ (z : Parts). items_at (tail_after one tail r1.at z) (record { rest = r1; parts = z })) (h r1.at v.parts)
 
+  -- a backslash and its byte are an item of the list, and at the end of the text a backslash isn't closed
   step_escape : (tail : Tail) (v : Reading) (text : List ℕ)
       → stepped tail v (escape v.rest.at text) ≡ as_items (with_tail (second_given outer v text))
   step_escape tail v [] = refl
@@ -297,6 +323,7 @@ module _ (lists deep : Lists) (c : ListContext) (outer : Option ℕ) (inside : O
       ∙ ap (λ (z : Parts). items_at (tail_after (tree.Escape b) tail (v.rest.at + 2) z) (record { rest = after 2 v.rest; parts = z }))
       (leaf_is kinds.Escape (word_label (b ∷ [])) v.rest.at (v.rest.at + 2) v.parts)
 
+  -- an item that is no directive gives in a list what the code makes of its first byte: white space keeps the tail, any other item moves it
   step_byte : (tail : Tail) (v : Reading) (b : ℕ) (text : List ℕ) → v.rest.bytes ≡ b ∷ text → (b == ascii.percent) ≡ false
       → stepped tail v (item lists deep c v.rest.at b text) ≡ as_items (byte_given outer c.in_arguments b tail v)
   step_byte tail v b text is other =
@@ -334,11 +361,13 @@ module _ (lists deep : Lists) (c : ListContext) (outer : Option ℕ) (inside : O
       by false false false false e f g h = rw (e, other, f, g, h)
           (step_one tail v (Plain b) kinds.Plain (word_label (b ∷ [])) (λ end z. leaf_is kinds.Plain (word_label (b ∷ [])) n end z))
 
+  -- after an item that is no directive, the list goes on with the tail that this item leaves
   pub byte_goes : (tail next : Tail) (v u : Reading) (b : ℕ) (text : List ℕ) → v.rest.bytes ≡ b ∷ text → ends_list c.kind b ≡ false
       → (b == ascii.percent) ≡ false → byte_given outer c.in_arguments b tail v ≡ Ok (next, u) → items_at tail v ≡ items_at next u
   byte_goes tail next v u b text e g other h =
       item_steps tail v b text e g ∙ step_byte tail v b text e other ∙ ap (λ x. as_items x) h
 
+  -- the fault of an item that is no directive is the fault of the list
   pub byte_stops : (tail : Tail) (v : Reading) (fault : SyntaxFault) (b : ℕ) (text : List ℕ) → v.rest.bytes ≡ b ∷ text
       → ends_list c.kind b ≡ false
       → (b == ascii.percent) ≡ false → byte_given outer c.in_arguments b tail v ≡ Err fault → items_at tail v ≡ Err fault
@@ -347,6 +376,7 @@ module _ (lists deep : Lists) (c : ListContext) (outer : Option ℕ) (inside : O
 
   -- plain bytes
 
+  -- after a plain byte, the list goes on with its tail right after it
   plain_step : (kind : ListKind) (tail : Tail) (v : Reading) (b : ℕ) (text : List ℕ) → kind_seen kind ≡ c.kind → runs kind b ≡ true
       → v.rest.bytes ≡ b ∷ text
       → items_at tail v ≡ items_at (tail_at (plain_here b v)) (plain_here b v)
@@ -355,6 +385,7 @@ module _ (lists deep : Lists) (c : ListContext) (outer : Option ℕ) (inside : O
       let e : ends_list c.kind b ≡ false = subst (λ (k : Kind). ends_list k b ≡ false) same_kind f.stays in
       byte_goes tail (tail_at (plain_here b v)) v (plain_here b v) b text is e f.other (f.given outer c.in_arguments tail v)
 
+  -- a list gives the same from its start as from the end of the run of plain bytes that it begins with
   plains_from : (kind : ListKind) → kind_seen kind ≡ c.kind → (text : List ℕ) (tail : Tail) (v : Reading) → v.rest.bytes ≡ text
       → items_at tail v ≡ as_items (Ok (plains_after (prefix_len (runs kind) text) tail v))
   plains_from kind same_kind [] tail v e = refl
@@ -375,6 +406,7 @@ module _ (lists deep : Lists) (c : ListContext) (outer : Option ℕ) (inside : O
           ∙ ap (λ (x : Tail × Reading). as_items (Ok x)) (plains_more k tail v b text e)
           ∙ ap (λ (i : ℕ). as_items (Ok (plains_after i tail v))) one
 
+  -- after the run of plain bytes that the code takes at once, the list goes on
   pub plains_go : (kind : ListKind) (tail next : Tail) (v u : Reading) → kind_seen kind ≡ c.kind → plains_on kind tail v ≡ (next, u)
       → items_at tail v ≡ items_at next u
   plains_go kind tail next v u same_kind h =
@@ -382,6 +414,7 @@ module _ (lists deep : Lists) (c : ListContext) (outer : Option ℕ) (inside : O
 
   -- what is left gets shorter
 
+  -- after the first byte and so many more, less of the text is left than before
   shorter_after : (k : ℕ) (r : Left) (b : ℕ) (text : List ℕ) → r.bytes ≡ b ∷ text → length (after k (after 1 r)).bytes < length r.bytes
   shorter_after k r b text e =
       let rest : length (drop k (drop 1 r.bytes)) ≤ length (drop 1 r.bytes) = omega (arith, length-drop k (drop 1 r.bytes)) in
@@ -389,6 +422,7 @@ module _ (lists deep : Lists) (c : ListContext) (outer : Option ℕ) (inside : O
       let whole : length r.bytes ≡ suc (length text) = ap (λ bs. length bs) e in
       omega (arith, rest, one, whole)
 
+  -- a directive takes at least one byte, so the loop of `items` ends
   pub directed_shorter : (v u : Reading) (text : List ℕ) → v.rest.bytes ≡ ascii.percent ∷ text
       → directed v (d.directive lists deep c v.rest.at (drop 1 v.rest.bytes)) ≡ Ok u → length u.rest.bytes < length v.rest.bytes
   directed_shorter v u text e h = by (d.directive lists deep c v.rest.at (drop 1 v.rest.bytes)) h
@@ -400,6 +434,7 @@ module _ (lists deep : Lists) (c : ListContext) (outer : Option ℕ) (inside : O
       by (Ends at) g = absurd cc
       by (Stops n fault) g = absurd cc
 
+  -- where no byte is left and a list of this kind may end there, the list is complete
   pub items_finish : (tail last : Tail) (v : Reading) (n : ℕ) → None ≡ first_of v.rest.bytes → n ≡ v.rest.at
       → end_given outer c.kind tail n ≡ Ok last
       → items_at tail v ≡ Ok (last, v)
@@ -407,12 +442,14 @@ module _ (lists deep : Lists) (c : ListContext) (outer : Option ℕ) (inside : O
       items_last tail v (none_left v.rest.bytes e)
       ∙ ap (λ x. at_last v x) (ap (λ (i : ℕ). end_given outer c.kind tail i) (sym g) ∙ h)
 
+  -- where no byte is left and a list of this kind may not end there, the list gives that fault
   pub items_cut : (tail : Tail) (v : Reading) (n : ℕ) (fault : SyntaxFault) → None ≡ first_of v.rest.bytes → n ≡ v.rest.at
       → end_given outer c.kind tail n ≡ Err fault → items_at tail v ≡ Err fault
   items_cut tail v n fault e g h =
       items_last tail v (none_left v.rest.bytes e)
       ∙ ap (λ x. at_last v x) (ap (λ (i : ℕ). end_given outer c.kind tail i) (sym g) ∙ h)
 
+  -- after a run of plain bytes no more of the text is left than before
   pub plains_shorter : (kind : ListKind) (tail next : Tail) (v u : Reading) → plains_on kind tail v ≡ (next, u)
       → length u.rest.bytes ≤ length v.rest.bytes
   plains_shorter kind tail next v u h = by (prefix_len (runs kind) v.rest.bytes) h
@@ -425,6 +462,7 @@ module _ (lists deep : Lists) (c : ListContext) (outer : Option ℕ) (inside : O
           let p : length (drop (suc k) v.rest.bytes) ≡ length u.rest.bytes = ap (λ z. length z.1.rest.bytes) g in
           omega (arith, p, length-drop (suc k) v.rest.bytes)
 
+  -- after at least one byte, less of the text is left than before
   left_shorter : (k : ℕ) (v u : Reading) (b : ℕ) (text : List ℕ) → v.rest.bytes ≡ b ∷ text → 0 < k → u.rest ≡ after k v.rest
       → length u.rest.bytes < length v.rest.bytes
   left_shorter k v u b text e some h =
@@ -432,6 +470,7 @@ module _ (lists deep : Lists) (c : ListContext) (outer : Option ℕ) (inside : O
       let q : length v.rest.bytes ≡ suc (length text) = ap (λ bs. length bs) e in
       omega (arith, p, q, some, length-drop k v.rest.bytes)
 
+  -- an item that is no directive takes at least one byte, so the loop of `items` ends
   pub byte_shorter : (t : Bool) (tail next : Tail) (v u : Reading) (b : ℕ) (text : List ℕ) → v.rest.bytes ≡ b ∷ text
       → byte_given outer t b tail v ≡ Ok (next, u) → length u.rest.bytes < length v.rest.bytes
   byte_shorter t tail next v u b text e h = by (is_blank b) (b == ascii.newline) (b == ascii.backslash) (b == ascii.bar) t

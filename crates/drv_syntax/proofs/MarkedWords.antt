@@ -10,35 +10,42 @@ use Rattle.std.proofs.Common.{sym, zero, ap, ◌∙◌, arith, append_assoc, len
 use Rattle.std.proofs.Math.Seq.{drop-append_seam, take-length}
 use Rattle.std.proofs.lemmas.List.{drop-append-le, drop_more, length-drop, length-map, map-append, map-set, take-append-le, take-map}
 
--- Labels whose words follow one another. It serves `Labels`, where the reader writes them.
+-- Labels are kept as one list of words and a mark for each label, which says where its word is in that list. It serves `Labels`, where the
+-- reader writes them: what each call adds to words and marks is the label that its clause says. `marked_labels words marks` are the labels.
+-- `Within n marks` says that each mark's word lies within n bytes (specs/Marks).
 
+-- words that lie within n bytes lie within more
 pub within_more : (n m : ℕ) (marks : List LabelMark) → n ≤ m → Within n marks → Within m marks
 within_more n m [] h w = tt
 within_more n m (x ∷ marks) h w = ((w.0.0, omega arith), within_more n m marks h w.1)
 
+-- marks whose words lie within n bytes, and one more such mark, do so together
 pub within_push : (n : ℕ) (marks : List LabelMark) (m : LabelMark) → Within n marks → m.start ≤ m.end → m.end ≤ n
     → Within n (marks ++ m ∷ [])
 within_push n [] m w a b = ((a, b), tt)
 within_push n (x ∷ marks) m w a b = (w.0, within_push n marks m w.1 a b)
 
+-- if the words of marks lie within n bytes, those of the first k marks do
 pub within_take : (n k : ℕ) (marks : List LabelMark) → Within n marks → Within n (take k marks)
 within_take n zero marks w = tt
 within_take n (suc k) [] w = tt
 within_take n (suc k) (x ∷ marks) w = (w.0, within_take n k marks w.1)
 
+-- if the words of marks lie within n bytes, they do so after one mark is put in the place of another
 pub within_set : (n k : ℕ) (marks : List LabelMark) (m : LabelMark) → Within n marks → m.start ≤ m.end → m.end ≤ n
     → Within n (set marks k m)
 within_set n k [] m w a b = tt
 within_set n zero (x ∷ marks) m w a b = ((a, b), w.1)
 within_set n (suc k) (x ∷ marks) m w a b = (w.0, within_set n k marks m w.1 a b)
 
+-- the word of the mark at this place lies within n bytes
 within_get : (n : ℕ) (marks : List LabelMark) (place : ℕ) (d : LabelMark) → Within n marks → place < length marks
     → ((get_or marks place d).start ≤ (get_or marks place d).end) × ((get_or marks place d).end ≤ n)
 within_get n [] place d w h = absurd (omega arith)
 within_get n (x ∷ marks) zero d w h = w.0
 within_get n (x ∷ marks) (suc place) d w h = within_get n marks place d w.1 (omega arith)
 
--- where the word of the label at this place is
+-- the word of the label at this place of the list lies within the words
 pub within_at : (words : List ℕ) (marks : List LabelMark) (now : List Label) (place : ℕ) (d : LabelMark) → marked_labels words marks ≡ now
     → Within (length words) marks → place < length now
     → ((get_or marks place d).start ≤ (get_or marks place d).end) × ((get_or marks place d).end ≤ length words)
@@ -53,6 +60,7 @@ part_kept words more a b h k =
     ap (λ xs. take (b - a) xs) (drop-append-le a words more (omega arith))
     ∙ take-append-le (b - a) (drop a words) more (omega (arith, length-drop a words))
 
+-- labels stay what they are when words are added
 pub labels_kept : (words more : List ℕ) (marks : List LabelMark) → Within (length words) marks
     → marked_labels (words ++ more) marks ≡ marked_labels words marks
 labels_kept words more [] w = refl
@@ -61,7 +69,7 @@ labels_kept words more (m ∷ marks) w =
     ∷ marked_labels (words ++ more) marks) (part_kept words more m.start m.end w.0.0 w.0.1)
     ∙ ap (λ ls. marked_label words m ∷ ls) (labels_kept words more marks w.1)
 
--- the word at the end of the words
+-- what was added to the words is the word between their old end and their new one
 pub last_part : (words more : List ℕ) (a b : ℕ) → a ≡ length words → b ≡ length (words ++ more)
     → take (b - a) (drop a (words ++ more)) ≡ more
 last_part words more a b h k =
@@ -73,7 +81,7 @@ last_part words more a b h k =
     size : b - length words ≡ length more
     size = omega (arith, length-append words more)
 
--- one label more
+-- a word added to the words, with a mark for it, is one label more
 pub labels_push : (words more : List ℕ) (marks : List LabelMark) (start end : ℕ) (starred negated : Bool) (asks : TestKind)
     → Within (length words) marks
     → start ≡ length words → end ≡ length (words ++ more)
@@ -101,7 +109,7 @@ labels_push words more marks start end starred negated asks w h k =
     (labels_kept words more marks w)
     ∙ ap (λ word. marked_labels words marks ++ part_label word starred negated asks ∷ []) (last_part words more start end h k)
 
--- the same, where the word comes in two parts
+-- a word that is added in two parts, with a mark for both, is one label more
 pub labels_pushed : (words first second front word : List ℕ) (marks all : List LabelMark) (now : List Label) (start end : ℕ)
     (starred negated : Bool) (asks : TestKind)
     → now ≡ marked_labels words marks → Within (length words) marks → first ≡ words ++ front → second ≡ first ++ word → start ≡ length words
@@ -125,6 +133,7 @@ labels_pushed words first second front word marks all now start end starred nega
     whole : second ≡ words ++ (front ++ word)
     whole = g ∙ ap (λ ws. ws ++ word) f ∙ append_assoc words front word
 
+-- a byte and then a word that are added, with a mark for both, are one label more (`push_marked`)
 pub labels_marked : (words first second word : List ℕ) (mark : ℕ) (marks all : List LabelMark) (now : List Label) (start end : ℕ)
     (starred negated : Bool) (asks : TestKind)
     → now ≡ marked_labels words marks → Within (length words) marks → first ≡ words ++ mark ∷ [] → second ≡ first ++ word
@@ -134,6 +143,7 @@ pub labels_marked : (words first second word : List ℕ) (mark : ℕ) (marks all
 labels_marked words first second word mark marks all now start end starred negated asks e w f g h k a =
     labels_pushed words first second (mark ∷ []) word marks all now start end starred negated asks e w f g h k a
 
+-- a word that is added, with a mark for it, is one label more (`push`, `push_byte`)
 pub labels_added : (words second word : List ℕ) (marks all : List LabelMark) (now : List Label) (start end : ℕ) (starred negated : Bool)
     (asks : TestKind)
     → now ≡ marked_labels words marks → Within (length words) marks → second ≡ words ++ word → start ≡ length words → end ≡ length second
@@ -153,6 +163,7 @@ labels_added words second word marks all now start end starred negated asks e w 
     } ∷ [])) (sym f)
     ∙ ap (λ ms. marked_labels second ms) (sym a)
 
+-- a mark for no bytes is one label more that names nothing (`push_none`)
 pub labels_none : (words : List ℕ) (marks all : List LabelMark) (now : List Label) → now ≡ marked_labels words marks
     → all ≡ marks ++ record { start = 0; end = 0; starred = false; negated = false; asks = asking.Switch; holds_star = false } ∷ []
     → now ++ no_label ∷ [] ≡ marked_labels words all
@@ -162,11 +173,12 @@ labels_none words marks all now e a =
     (record { start = 0; end = 0; starred = false; negated = false; asks = asking.Switch; holds_star = false } ∷ []))
     ∙ ap (λ ms. marked_labels words ms) (sym a)
 
+-- the first n marks are the first n labels (`truncate`)
 pub labels_take : (words : List ℕ) (n : ℕ) (marks : List LabelMark) → marked_labels words (take n marks)
     ≡ take n (marked_labels words marks)
 labels_take words n marks = sym (take-map (λ m. marked_label words m) n marks)
 
--- the label of an alternative in the place of another
+-- a mark for an alternative in the place of another is its label in that place (`hold`)
 pub labels_set : (words : List ℕ) (place : ℕ) (holds : Bool) (marks : List LabelMark)
     → marked_labels words
     (set marks place (record { start = 0; end = 0; starred = false; negated = false; asks = asking.Switch; holds_star = holds }))
@@ -179,10 +191,12 @@ within_on : (n start : ℕ) (run : List ℕ) → start + length run ≤ n → Wi
 within_on n start [] h = tt
 within_on n start (b ∷ run) h = ((omega arith, omega (arith, h)), within_on n (start + 1) run (omega (arith, h)))
 
+-- if the words of marks and of others lie within n bytes, those of both do
 within_both : (n : ℕ) (marks others : List LabelMark) → Within n marks → Within n others → Within n (marks ++ others)
 within_both n [] others w h = h
 within_both n (m ∷ marks) others w h = (w.0, within_both n marks others w.1 h)
 
+-- where bytes are added with a mark for each, all marks lie within the words
 pub within_run : (words second run : List ℕ) (start : ℕ) (marks all : List LabelMark) → second ≡ words ++ run → start ≡ length words
     → all ≡ marks ++ byte_marks start run → Within (length words) marks
     → Within (length second) all
@@ -194,6 +208,7 @@ within_run words second run start marks all e f a w =
     size : length second ≡ length words + length run
     size = ap (λ xs. length xs) e ∙ length-append words run
 
+-- bytes at the end of the words, with a mark for each, are their labels
 run_at : (words run : List ℕ) (start : ℕ) → start ≡ length words → marked_labels (words ++ run) (byte_marks start run) ≡ byte_labels run
 run_at words [] start h = refl
 run_at words (b ∷ run) start h =
@@ -208,6 +223,7 @@ run_at words (b ∷ run) start h =
         one : start + 1 - start ≡ 1
         one = omega arith
 
+-- bytes that are added, with a mark for each, are one label more for each (`push_bytes`)
 pub labels_run : (words second run : List ℕ) (start : ℕ) (marks all : List LabelMark) (now : List Label) → now ≡ marked_labels words marks
     → Within (length words) marks → second ≡ words ++ run → start ≡ length words
     → all ≡ marks ++ byte_marks start run → now ++ byte_labels run ≡ marked_labels second all
@@ -219,6 +235,7 @@ labels_run words second run start marks all now e w f h a =
     ∙ ap (λ ws. marked_labels ws (marks ++ byte_marks start run)) (sym f)
     ∙ ap (λ ms. marked_labels second ms) (sym a)
 
+-- a step of the loop of `push_marks` keeps the list of marks that the loop leads to
 pub marks_step : (old new all : List LabelMark) (place i : ℕ) (run : List ℕ) → i < length run
     → new ≡ old ++ record { start = place; end = place + 1; starred = false; negated = false; asks = asking.Switch; holds_star = false }
     ∷ []

@@ -6,19 +6,23 @@ use Rattle.std.proofs.Common.{◌≡◌, ◌∙◌, ◌+◌, Bool, false, true, 
 use Rattle.std.proofs.Common.{subst}
 use Rattle.std.proofs.Common.{sym, take, ℕ}
 
--- What Descent makes of a part of a text is what the grammar says of that part. Three relations say it: what the part is, with a rest
--- after it; that the text ends in it; and that the text ends in the byte that doesn't fit it. It serves the laws `read_is_spelled`,
--- `unrefused_is_front` and `refused_kinds`.
+-- What Descent makes of a part of a text is what the grammar says of that part. Three relations say it: what the part is, with a rest after
+-- it; that the text ends in it; and that the text ends in the byte that doesn't fit it. `Is`, `Cuts` and `Bad` take the size of a text and
+-- what is left of it from the part on. Below, a part is called meant where this holds of it. It serves the laws `read_is_spelled`,
+-- `unrefused_is_front` and `refused_kinds`. Descent is the grammar as functions (specs/Descent). The grammar itself has cases
+-- (specs/Spelling, Fronts, Refusals).
 
 -- so far a part looks at what follows it: at the next byte, and at the one after a percent sign
 pub data Looks : Type 0 where
   AtByte : Looks
   PastPercent : Looks
 
+-- two rests of a text that a part can't tell apart, as it looks no further
 abbrev pub Alike : Looks → List ℕ → List ℕ → Type 0
 Alike AtByte = Near
 Alike PastPercent = Far
 
+-- rests that a part can't tell apart begin with the same byte, or are both empty
 pub near_alike : (l : Looks) {u q : List ℕ} → Alike l u q → Near u q
 near_alike AtByte a = a
 near_alike PastPercent a = near_far a
@@ -37,29 +41,30 @@ pub record Breaks (n : ℕ) (text : List ℕ) (Bad : ℕ → List ℕ → Syntax
   pub place : n + length cut ≡ k + 1
   pub bad : Bad (k + 1) cut fault
 
+-- what Descent makes of a part of the text at the place n, `Took`, `Ends` or `Stops`, is what the grammar says of it: `Is`, `Cuts` or `Bad`
 pub data Meant {X : Type 0} (l : Looks) (n : ℕ) (text : List ℕ) (Is : ℕ → List ℕ → X → List ℕ → Type 0) (Cuts : ℕ → List ℕ → Type 0)
     (Bad : ℕ → List ℕ → SyntaxFault → Type 0) : Read X → Type 0 where
   meant_took : {x : X} {size : ℕ} → Takes l n text Is x size → Meant l n text Is Cuts Bad (Took x size)
   meant_ends : {at : ℕ} → Cuts (n + length text) text → Meant l n text Is Cuts Bad (Ends at)
   meant_stops : {k : ℕ} {fault : SyntaxFault} → Breaks n text Bad k fault → Meant l n text Is Cuts Bad (Stops k fault)
 
--- one of two, by a test
+-- what holds of each of two, if the test chooses it, holds of the one that the test chooses
 pub choose : {X : Type 0} (P : X → Type 0) (t : Bool) (x y : X) → (t ≡ true → P x) → (t ≡ false → P y) → P (if t then x else y)
 choose P true x y f g = f refl
 choose P false x y f g = g refl
 
--- the places of a text and of its rest
+-- the rest of a text after its first k bytes ends where the text ends
 pub rest_place : (n k : ℕ) (text : List ℕ) → Step text k → n + k + length (drop k text) ≡ n + length text
 rest_place n k text m =
     let e : length text ≡ k + length (drop k text) = ap length (sym m.whole) ∙ m.sized (drop k text) in
     omega (arith, e)
 
--- the byte there doesn't fit
+-- the first byte of the text doesn't fit
 pub breaks_here : (n b : ℕ) (text : List ℕ) (Bad : ℕ → List ℕ → SyntaxFault → Type 0) (fault : SyntaxFault) → Bad (n + 1) (b ∷ []) fault
     → Breaks n (b ∷ text) Bad n fault
 breaks_here n b text Bad fault h = record { cut = b ∷ []; near = same_byte; taken = refl; place = refl; bad = h }
 
--- the byte after so many doesn't fit
+-- the byte after the first so many doesn't fit
 pub breaks_after : (n size : ℕ) (text : List ℕ) (m : Step text size) (b : ℕ) (rest : List ℕ) → drop size text ≡ b ∷ rest
     → (Bad : ℕ → List ℕ → SyntaxFault → Type 0) (fault : SyntaxFault) → Bad (n + size + 1) (m.front (b ∷ [])) fault
     → Breaks n text Bad (n + size) fault
@@ -73,6 +78,8 @@ breaks_after n size text m b rest e Bad fault h = record {
 
 module _ {X : Type 0} (l : Looks) (n k : ℕ) (text : List ℕ) (m : Step text k) (Is : ℕ → List ℕ → X → List ℕ → Type 0)
     (Cuts : ℕ → List ℕ → Type 0) (Bad : ℕ → List ℕ → SyntaxFault → Type 0) where
+  -- a byte that doesn't fit k bytes further on doesn't fit in the whole text, if the grammar's relation for the rest implies that for the
+  -- text
   breaks_past : {Inner : ℕ → List ℕ → SyntaxFault → Type 0} (i : ℕ) (fault : SyntaxFault) → Breaks (n + k) (drop k text) Inner i fault
       → ((total : ℕ) (t : List ℕ) (fault : SyntaxFault) → Near (drop k text) t → At total (n + k) t → Inner total t fault
       → Bad total (m.front t) fault)
@@ -85,6 +92,7 @@ module _ {X : Type 0} (l : Looks) (n k : ℕ) (text : List ℕ) (m : Step text k
     bad = f (i + 1) s.cut fault s.near s.place s.bad;
   }
 
+  -- a part that is taken k bytes further on is taken from the whole text, if the grammar's relation for the rest implies that for the text
   takes_past : {Inner : ℕ → List ℕ → X → List ℕ → Type 0} (x : X) (size : ℕ) → Takes l (n + k) (drop k text) Inner x size
       → ((total : ℕ) (t : List ℕ) (x : X) (q : List ℕ) → Near (drop k text) t → At total (n + k) t → Inner total t x q
       → Is total (m.front t) x q)
@@ -98,7 +106,7 @@ module _ {X : Type 0} (l : Looks) (n k : ℕ) (text : List ℕ) (m : Step text k
           let place : At total (n + k) (s.step.front q) = omega (arith, at, m.sized (s.step.front q)) in
           f total (s.step.front q) x q (s.step.near q (near_alike l b)) place (s.is total q b place)
 
-  -- what is read after so many bytes
+  -- a part that is meant k bytes further on is meant in the whole text, if the grammar's relations for the rest imply those for the text
   pub meant_past : {Inner : ℕ → List ℕ → X → List ℕ → Type 0} {Ending : ℕ → List ℕ → Type 0}
       {Stopping : ℕ → List ℕ → SyntaxFault → Type 0} {r : Read X} → Meant l (n + k) (drop k text) Inner Ending Stopping r
       → ((total : ℕ) (t : List ℕ) (x : X) (q : List ℕ) → Near (drop k text) t → At total (n + k) t → Inner total t x q
@@ -115,7 +123,7 @@ module _ {X : Type 0} (l : Looks) (n k : ℕ) (text : List ℕ) (m : Step text k
       (g (n + length text) (drop k text) (near_self (drop k text)) place e))
   meant_past (meant_stops {k = i} {fault} s) f g h = meant_stops (breaks_past i fault s h)
 
--- a part, and what goes on from it
+-- where a part is meant, and what goes on from it is meant too, both in a row are
 pub meant_then : {X Y : Type 0} {o l : Looks} {n : ℕ} {text : List ℕ} {First : ℕ → List ℕ → X → List ℕ → Type 0}
     {Ending : ℕ → List ℕ → Type 0} {Stopping : ℕ → List ℕ → SyntaxFault → Type 0} {Is : ℕ → List ℕ → Y → List ℕ → Type 0}
     {Cuts : ℕ → List ℕ → Type 0} {Bad : ℕ → List ℕ → SyntaxFault → Type 0} {r : Read X} (goes : X → ℕ → Read Y)
@@ -134,7 +142,7 @@ meant_then goes (meant_stops {k} {fault} s) f g h = meant_stops (record {
   bad = h (k + 1) s.cut fault s.place s.near s.bad;
 })
 
--- a part after so many bytes, and what goes on from it
+-- where a part k bytes further on is meant, and what goes on from it is meant in the whole text, both in a row are
 pub meant_after : {X Y : Type 0} {o l : Looks} {n k : ℕ} {text : List ℕ} {First : ℕ → List ℕ → X → List ℕ → Type 0}
     {Ending : ℕ → List ℕ → Type 0} {Stopping : ℕ → List ℕ → SyntaxFault → Type 0} {Is : ℕ → List ℕ → Y → List ℕ → Type 0}
     {Cuts : ℕ → List ℕ → Type 0} {Bad : ℕ → List ℕ → SyntaxFault → Type 0} {r : Read X} (m : Step text k) (goes : X → ℕ → Read Y)
@@ -153,6 +161,7 @@ meant_after {n = n} {k} {text} {Ending = Ending} {Cuts = Cuts} m goes (meant_end
 meant_after {X} {l = l} {n} {k} {text} {Cuts = Cuts} {Bad = Bad} m goes (meant_stops {k = i} {fault} s) f g h =
     meant_stops (breaks_past {X = X} l n k text m (λ total t x q. Unit {0}) Cuts Bad i fault s h)
 
+-- a part is meant whichever directive is named as open where the text ends in it
 pub meant_within : {X : Type 0} {l : Looks} {n : ℕ} {text : List ℕ} {Is : ℕ → List ℕ → X → List ℕ → Type 0}
     {Cuts : ℕ → List ℕ → Type 0} {Bad : ℕ → List ℕ → SyntaxFault → Type 0} {r : Read X} (at : ℕ) → Meant l n text Is Cuts Bad r
     → Meant l n text Is Cuts Bad (within at r)
@@ -160,13 +169,14 @@ meant_within at (meant_took s) = meant_took s
 meant_within at (meant_ends d) = meant_ends d
 meant_within at (meant_stops s) = meant_stops s
 
+-- a part that looks only at the next byte is also one that looks past a percent sign
 pub meant_far : {X : Type 0} {n : ℕ} {text : List ℕ} {Is : ℕ → List ℕ → X → List ℕ → Type 0} {Cuts : ℕ → List ℕ → Type 0}
     {Bad : ℕ → List ℕ → SyntaxFault → Type 0} {r : Read X} → Meant AtByte n text Is Cuts Bad r → Meant PastPercent n text Is Cuts Bad r
 meant_far (meant_took s) = meant_took (record { step = s.step; is = λ total q far at. s.is total q (near_far far) at })
 meant_far (meant_ends d) = meant_ends d
 meant_far (meant_stops s) = meant_stops s
 
--- what is said of it in other words
+-- a part that is meant by some relations is meant by others that these imply
 pub meant_as : {X : Type 0} {l : Looks} {n : ℕ} {text : List ℕ} {First : ℕ → List ℕ → X → List ℕ → Type 0}
     {Ending : ℕ → List ℕ → Type 0} {Stopping : ℕ → List ℕ → SyntaxFault → Type 0} {Is : ℕ → List ℕ → X → List ℕ → Type 0}
     {Cuts : ℕ → List ℕ → Type 0} {Bad : ℕ → List ℕ → SyntaxFault → Type 0} {r : Read X} → Meant l n text First Ending Stopping r
@@ -187,14 +197,17 @@ meant_as (meant_stops {k} {fault} s) f g h = meant_stops (record {
   bad = h (k + 1) s.cut fault s.place s.near s.bad;
 })
 
+-- what was taken is the part that the grammar says, whatever rest that begins alike follows
 pub of_took : {X : Type 0} {l : Looks} {n : ℕ} {text : List ℕ} {Is : ℕ → List ℕ → X → List ℕ → Type 0} {Cuts : ℕ → List ℕ → Type 0}
     {Bad : ℕ → List ℕ → SyntaxFault → Type 0} {x : X} {size : ℕ} → Meant l n text Is Cuts Bad (Took x size) → Takes l n text Is x size
 of_took (meant_took s) = s
 
+-- the text ends in the part by the grammar
 pub of_ends : {X : Type 0} {l : Looks} {n : ℕ} {text : List ℕ} {Is : ℕ → List ℕ → X → List ℕ → Type 0} {Cuts : ℕ → List ℕ → Type 0}
     {Bad : ℕ → List ℕ → SyntaxFault → Type 0} {at : ℕ} → Meant l n text Is Cuts Bad (Ends at) → Cuts (n + length text) text
 of_ends (meant_ends d) = d
 
+-- the text has a byte that doesn't fit by the grammar, with this place and fault
 pub of_stops : {X : Type 0} {l : Looks} {n : ℕ} {text : List ℕ} {Is : ℕ → List ℕ → X → List ℕ → Type 0} {Cuts : ℕ → List ℕ → Type 0}
     {Bad : ℕ → List ℕ → SyntaxFault → Type 0} {k : ℕ} {fault : SyntaxFault} → Meant l n text Is Cuts Bad (Stops k fault)
     → Breaks n text Bad k fault

@@ -18,7 +18,12 @@ use Rattle.drv_syntax.specs.declared.fault.SyntaxFault.{SyntaxFault}
 use Rattle.std.proofs.Common.{◌≡◌, ◌∙◌, ◌+◌, ◌++◌, false, true, List, [], ◌∷◌, ap, arith, drop, length, refl, subst, sym, ℕ}
 use Rattle.std.specs.Prelude.{◌==◌}
 
--- Lists of items as a part of a text, and the calls of functions that hold one, as Descent takes them (Meant).
+-- Lists of items as a part of a text, and the calls of functions that hold one: what Descent makes of them is what the grammar says. It
+-- serves MeantTests, MeantChoices and MeantItems. `Meant l n text Is Cuts Bad r` (Meant) says so of the result r for the text at the place
+-- n. What was taken `Is` the part, whatever rest that begins alike follows. Or the text ends in the part (`Cuts`), or in a byte that
+-- doesn't fit where something else is due (`Bad`). The relations take the size `total` of a text, what is left of it from the part on, and
+-- for `Is` also the part and what is left after it. Descent is the grammar as functions (specs/Descent). The grammar itself has cases
+-- (specs/Spelling, Fronts, Refusals).
 
 -- the byte that ends a list
 abbrev pub Ended : Kind → ℕ → List ℕ → Type 0
@@ -26,15 +31,19 @@ Ended Top b q = q ≡ []
 Ended InX b q = (rest : List ℕ) × (q ≡ b ∷ rest) × (is_end InX b ≡ true)
 Ended InArguments b q = (rest : List ℕ) × (q ≡ b ∷ rest) × (is_end InArguments b ≡ true)
 
+-- the text t, which goes on like the text, is this list of items and then q, where the list's last byte is
 abbrev pub ListIs : ListContext → List ℕ → ℕ → List ℕ → Items × ℕ → List ℕ → Type 0
 ListIs c text total t x q = Far text t × AreItems total c t x.0 q × Ended c.kind x.1 q
 
+-- the text ends in such a list
 abbrev pub ListCuts : ListContext → ℕ → List ℕ → Type 0
 ListCuts c total t = AreFrontItems total c t
 
+-- the text leads, in the list, to a byte that doesn't fit where something else is due
 abbrev pub ListBad : ListContext → List ℕ → ℕ → List ℕ → SyntaxFault → Type 0
 ListBad c text total t fault = Far text t × (due : Due) × (last : List ℕ) × Reaches total c t due last × Refuses total due last fault
 
+-- what Descent makes of a list with this context is what the grammar says
 abbrev pub ListMeant : ListContext → ℕ → List ℕ → Read (Items × ℕ) → Type 0
 ListMeant c n text r = Meant AtByte n text (ListIs c text) (ListCuts c) (ListBad c text) r
 
@@ -42,13 +51,14 @@ ListMeant c n text r = Meant AtByte n text (ListIs c text) (ListCuts c) (ListBad
 abbrev pub Listed : ℕ → Lists → Type 0
 Listed level lists = (c : ListContext) → c.levels ≡ level → (n : ℕ) (text : List ℕ) → ListMeant c n text (lists c n text)
 
+-- k bytes before two parts in a row can be counted with what follows the first of them
 pub past_then : {X Y : Type 0} (k : ℕ) (r : Read X) (goes : X → ℕ → Read Y)
     → past k (then_read r goes) ≡ then_read r (λ x size. past k (goes x size))
 past_then k (Took x size) goes = refl
 past_then k (Ends at) goes = refl
 past_then k (Stops n fault) goes = refl
 
--- what ends a list that was taken, in the text
+-- after a list that was taken comes the byte that may end it, or in a whole text the end
 pub list_ended : {c : ListContext} {n : ℕ} {text : List ℕ} {x : Items × ℕ} {size : ℕ} → Takes AtByte n text (ListIs c text) x size
     → Ended c.kind x.1 (drop size text)
 list_ended {n = n} {text} {size = size} t =
@@ -56,6 +66,7 @@ list_ended {n = n} {text} {size = size} t =
 
 -- a call in a list or a test with this context
 
+-- the text ends in a byte that doesn't fit in the name of a function or in its arguments
 pub data CallBad (g : ListContext) (at total : ℕ) : List ℕ → SyntaxFault → Type 0 where
   no_function : {t : List ℕ} → IsNoFunction t → CallBad g at total t (UnknownFunction at)
   in_list : {u last : List ℕ} {due : Due} {fault : SyntaxFault} (name : List ℕ) → is_function name ≡ true
@@ -64,21 +75,26 @@ pub data CallBad (g : ListContext) (at total : ℕ) : List ℕ → SyntaxFault �
 
 module _ {X : Type 0} (make : List ℕ → Items → X) (g : ListContext) (inner : (g.levels == 0) ≡ false) (lists : Lists)
     (meets : (n : ℕ) (text : List ℕ) → ListMeant (in_arguments g) n text (lists (in_arguments g) n text)) (at : ℕ) where
+  -- the text is the call of a function with these arguments, of which x is made
   abbrev pub CallIs : ℕ → List ℕ → X → List ℕ → Type 0
   CallIs total t x q = (name : List ℕ) × (items : Items) × (x ≡ make name items) × IsCall total g t name items q
 
+  -- the text ends in a call
   abbrev CallCuts : ℕ → List ℕ → Type 0
   CallCuts total t = CutsCall total g t
 
+  -- what Descent makes of a call is what the grammar says
   abbrev pub CallMeant : ℕ → List ℕ → Read X → Type 0
   CallMeant n text r = Meant AtByte n text CallIs CallCuts (CallBad g at) r
 
+  -- what Descent makes of the arguments of a function with this name is what the grammar says
   abbrev ArgsMeant : List ℕ → ℕ → List ℕ → Read X → Type 0
   ArgsMeant called n text r = Meant AtByte n text
       (λ total t x q. (items : Items) × (x ≡ make called items) × AreItems total (in_arguments g) t items (ascii.closing_parenthesis ∷ q))
       (ListCuts (in_arguments g))
       (λ total t fault. (due : Due) × (last : List ℕ) × Reaches total (in_arguments g) t due last × Refuses total due last fault) r
 
+  -- the arguments of a call, with the parenthesis that closes them, are what the grammar says
   arguments_meant : (called : List ℕ) (n : ℕ) (text : List ℕ)
       → ArgsMeant called n text (then_read (lists (in_arguments g) n text) (λ list size. Took (make called list.0) (size + 1)))
   arguments_meant called n text = meant_then (λ list size. Took (make called list.0) (size + 1)) (meets n text) closed
@@ -99,6 +115,7 @@ module _ {X : Type 0} (make : List ℕ → Items → X) (g : ListContext) (inner
             );
           })
 
+  -- a function's name with its parenthesis and its arguments, in a list or in a test, are what the grammar says
   pub call_meant : (n : ℕ) (text : List ℕ) (around : ℕ) → CallMeant n text
       (d.within around (then_read (d.function_from at n [] text) (λ called k.
       then_read (lists (in_arguments g) (n + k) (drop k text)) (λ list size. Took (make called list.0) (k + (size + 1))))))

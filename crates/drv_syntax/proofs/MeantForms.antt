@@ -28,7 +28,12 @@ use Rattle.std.proofs.Common.{subst, suc, sym, zero, ℕ}
 use Rattle.std.specs.List.{prefix_len}
 use Rattle.std.specs.Prelude.{◌-◌, ◌==◌, None, Option, Some}
 
--- What braces begin with, patterns or the tests of an alternative, as Descent takes it (Meant).
+-- What braces or an alternative begin with, patterns or tests: what Descent makes of them is what the grammar says. It serves MeantChoices.
+-- `Meant l n text Is Cuts Bad r` (Meant) says so of the result r for the text at the place n. What was taken `Is` the part, whatever rest
+-- that begins alike follows. Or the text ends in the part (`Cuts`), or in a byte that doesn't fit where something else is due (`Bad`). The
+-- relations take the size `total` of a text, what is left of it from the part on, and for `Is` also the part and what is left after it.
+-- `Tried` is a test that may still be a pattern, with the byte after it. The numbers in the statements are bytes: 38 is &, 58 :, 124 |, 125
+-- }. Descent is the grammar as functions (specs/Descent). The grammar itself has cases (specs/Spelling, Fronts, Refusals).
 
 -- patterns, or the tests of an alternative
 pub data IsForm (total : ℕ) (g : ListContext) (order : Order) : List ℕ → Form → List ℕ → Type 0 where
@@ -40,23 +45,29 @@ pub data IsForm (total : ℕ) (g : ListContext) (order : Order) : List ℕ → F
 
 -- a test that is a pattern, and one that asks
 
+-- a test that is a pattern, with white space around it
 data Emitted (total : ℕ) : List ℕ → Span → Pattern → List ℕ → Type 0 where
   emitted : {i m : ℕ} {t u v q : List ℕ} {p : Pattern} → AreSpaces t u → At total i u → IsPattern u p v → At total m v → AreSpaces v q
       → Emitted total t (span i m) p q
 
+-- a test that asks, with white space around it and a `!` or none
 data Questioned (total : ℕ) (g : ListContext) : List ℕ → Span → Bool → Asked → List ℕ → Type 0 where
   questioned : {i m : ℕ} {t u v w q : List ℕ} {negated : Bool} {a : Asked} → AreSpaces t u → At total i u → IsSign u negated v
       → IsAsked total g v a w → At total m w → AreSpaces w q → Questioned total g t (span i m) negated a q
 
+-- options with equal values have the same value
 some_is : {X : Type 0} (a b : X) → Some a ≡ Some b → a ≡ b
 some_is a b e = cc
 
+-- no value is not some value, so this case can't arise
 none_some : {X A : Type 0} (a : X) → ◌≡◌ {A = Option X} None (Some a) → A
 none_some a e = absurd cc
 
+-- some value is not no value, so this case can't arise
 some_none : {X A : Type 0} (a : X) → ◌≡◌ {A = Option X} (Some a) None → A
 some_none a e = absurd cc
 
+-- what Descent took for a pattern is a pattern by the grammar
 operand_pattern : {total : ℕ} {g : ListContext} {emits : Bool} {t q : List ℕ} {o : Operand} {p : Pattern} → IsOperand total g emits t o q
     → o.as_pattern ≡ Some p → IsPattern t p q
 operand_pattern {p = p} (by_switch {t} {q} {p = x} h i) e = subst (λ (y : Pattern). IsPattern t y q) (some_is x p e) i
@@ -70,6 +81,7 @@ operand_pattern {p = p} (by_bare {mark} {q} f is i h) e =
     subst (λ (y : Pattern). IsPattern (mark ∷ q) y q) (some_is (pattern (mark ∷ []) false) p e) i
 operand_pattern {p = p} (by_result i) e = none_some p e
 
+-- what Descent took for a test is a test by the grammar
 operand_asked : {total : ℕ} {g : ListContext} {emits : Bool} {t q : List ℕ} {o : Operand} {a : Asked} → IsOperand total g emits t o q
     → o.as_test ≡ Some a → IsAsked total g t a q
 operand_asked {total} {g} {a = a} (by_switch {t} {q} {p = x} h i) e = subst (λ (y : Asked). IsAsked total g t y q) (some_is _ a e)
@@ -81,26 +93,31 @@ operand_asked {a = a} (by_bare f is i h) e = none_some a e
 operand_asked {total} {g} {a = a} (by_result {t} {q = q} i) e =
     subst (λ (y : Asked). IsAsked total g (37 ∷ 58 ∷ t) y q) (some_is _ a e) (s.result i)
 
+-- after a test comes the byte that Descent names
 tried_byte : {total : ℕ} {g : ListContext} {order : Order} {t q : List ℕ} {tr : Tried} → IsTried total g order t tr q
     → (rest : List ℕ) × (q ≡ tr.byte ∷ rest)
 tried_byte (is_tried sp a sign (tried_from {q = q} o b z w)) = (q, refl)
 
+-- the byte that Descent names after a test is no white space
 tried_white : {total : ℕ} {g : ListContext} {order : Order} {t q : List ℕ} {tr : Tried} → IsTried total g order t tr q
     → is_white tr.byte ≡ false
 tried_white (is_tried sp a sign (tried_from o b z w)) = w
 
+-- a test that may be a pattern is one by the grammar, with white space around it
 tried_pattern : {total : ℕ} {g : ListContext} {order : Order} {t q : List ℕ} {tr : Tried} {p : Pattern} → IsTried total g order t tr q
     → may_emit order tr.negated ≡ true → tr.operand.as_pattern ≡ Some p → Emitted total t tr.place p q
 tried_pattern {order = order} {p = p} (is_tried {negated = negated} sp a sign (tried_from {w = v} o b z w)) h e =
     let f = emits_at order negated h in
     emitted sp a (subst (λ (x : List ℕ). IsPattern x p v) (sym (unsigned sign f.1)) (operand_pattern o e)) b z
 
+-- a test that asks is one by the grammar, with white space around it
 tried_asked : {total : ℕ} {g : ListContext} {order : Order} {t q : List ℕ} {tr : Tried} {a : Asked} → IsTried total g order t tr q
     → tr.operand.as_test ≡ Some a → Questioned total g t tr.place tr.negated a q
 tried_asked (is_tried sp a sign (tried_from o b z w)) e = questioned sp a sign (operand_asked o e) b z
 
 -- the byte after it doesn't fit
 
+-- after a test that can be no pattern, a colon or a bar is due
 asked_ends : {at total : ℕ} {g : ListContext} (order : Order) (negated : Bool) {t q rest : List ℕ} {o : Operand}
     → IsOperand total g (may_emit order negated) t o q → AreSpaces q rest → (may_emit order negated ≡ false) ⊎ (o.as_pattern ≡ None)
     → ReachesAsked total g at order negated t (AnEnd at ends_test) rest
@@ -114,7 +131,7 @@ asked_ends order negated (by_bare e is i h) z (inl f) = differs (sym e ∙ f)
 asked_ends order negated (by_bare e is i h) z (inr f) = some_none _ f
 asked_ends order negated (by_result i) z f = r.call_ends (s.result i) z
 
--- after a . or , alone and white space
+-- where white space and a byte that ends no pattern follow a mark alone, the white space isn't empty
 bared_white : {x : ℕ} {q : List ℕ} → is_white x ≡ false → is_of ends_pattern x ≡ false → Bared q → AreSpaces q (x ∷ [])
     → (b : ℕ) × (u : List ℕ) × (q ≡ b ∷ u) × (is_white b ≡ true) × AreSpaces u (x ∷ [])
 bared_white {x} w g (b, rest, e, h) s.no_space = by h
@@ -130,6 +147,7 @@ bared_white w g h (s.space {b} {text} e sp) = (b, text, refl, e, sp)
 
 -- a starred . or , and word, and a . or , alone
 
+-- after a starred pattern that begins with a mark, and white space, no byte but } or & fits
 star_bad : {at total x : ℕ} {g : ListContext} {order : Order} {negated : Bool} {t u v q : List ℕ} {mark : ℕ} {word : List ℕ}
     → AreSpaces t u → IsSign u negated (mark ∷ v) → may_emit order negated ≡ true → is_mark mark ≡ true
     → IsPattern (mark ∷ v) (pattern word true) q → AreSpaces q (x ∷ []) → is_white x ≡ false → is_of ends_pattern x ≡ false
@@ -138,6 +156,7 @@ star_bad {order = order} {negated} {t} sp sign e is p z w h =
     let f = emits_at order negated e in
     emit_bad f.0 (r.starred_ends (subst (λ (y : List ℕ). AreSpaces t y) (unsigned sign f.1) sp) is p z) (r.no_end w h)
 
+-- after a mark alone and white space, the byte that is refused there doesn't fit
 bare_bad : {at total x : ℕ} {g : ListContext} {order : Order} {negated : Bool} {t u q : List ℕ} {mark : ℕ} {fault : SyntaxFault}
     → AreSpaces t u → IsSign u negated (mark ∷ q) → may_emit order negated ≡ true → is_mark mark ≡ true → Bared q → AreSpaces q (x ∷ [])
     → is_white x ≡ false → is_of ends_pattern x ≡ false → Refuses total (r.PastMark at) (x ∷ []) fault
@@ -148,14 +167,14 @@ bare_bad {order = order} {negated} {t} {mark = mark} sp sign e is h z w g refuse
     emit_bad f.0 (r.past_mark (subst (λ (y : List ℕ). AreSpaces t y) (unsigned sign f.1
     ∙ ap (λ (y : List ℕ). mark ∷ y) b.2) sp) is b.3 b.4) refuses
 
--- a } or & where there is no pattern
+-- after what can be no pattern, and white space, a byte that ends no test doesn't fit
 no_pattern_bad : {at total x : ℕ} {g : ListContext} {order : Order} {t : List ℕ} {tr : Tried} → IsTried total g order t tr (x ∷ [])
     → (may_emit order tr.negated ≡ false) ⊎ (tr.operand.as_pattern ≡ None) → is_of ends_test x ≡ false
     → TestBad at total g order t (BadDirective at)
 no_pattern_bad {order = order} (is_tried {negated = negated} sp a sign (tried_from o b z w)) h e =
     test_bad (r.in_test sp sign (asked_ends order negated o z h)) (r.no_end w e)
 
--- a : or | where nothing is asked
+-- after what is no test, and white space, a : or | doesn't fit
 no_test_bad : {at total x : ℕ} {g : ListContext} {order : Order} {t : List ℕ} {tr : Tried} → IsTried total g order t tr (x ∷ [])
     → tr.operand.as_test ≡ None → is_of ends_test x ≡ true → is_of ends_pattern x ≡ false
     → TestBad at total g order t (if tr.operand.bare then EmptyTest at else BadDirective at)
@@ -168,6 +187,7 @@ no_test_bad (is_tried sp a sign (tried_from (by_result i) b z w)) e f g = some_n
 
 -- another byte
 
+-- after a first test that may be a pattern, and white space, no byte fits but : | } and &
 first_bad : {at total x : ℕ} {g : ListContext} {t u v q : List ℕ} {o : Operand} → AreSpaces t u → IsSign u false v
     → IsOperand total g true v o q → AreSpaces q (x ∷ []) → is_white x ≡ false → is_of ends_test x ≡ false
     → is_of ends_pattern x ≡ false → is_of ends_either x ≡ false → TestBad at total g AtFront t (BadDirective at)
@@ -178,6 +198,7 @@ first_bad sp sign (by_star {mark} h is i) z w e f g =
 first_bad sp sign (by_bare h is i k) z w e f g = bare_bad sp sign h is k z w f (r.no_end_past_mark w g)
 first_bad sp sign (by_result i) z w e f g = test_bad (r.in_test sp sign (r.call_ends (s.result i) z)) (r.no_end w e)
 
+-- after a test at any place, and white space, no byte fits but : | } and &
 order_bad : {at total x : ℕ} {g : ListContext} (order : Order) (negated : Bool) {t u v q : List ℕ} {o : Operand} → AreSpaces t u
     → IsSign u negated v → IsOperand total g (may_emit order negated) v o q → AreSpaces q (x ∷ []) → is_white x ≡ false
     → is_of ends_test x ≡ false → is_of ends_pattern x ≡ false → is_of ends_either x ≡ false → TestBad at total g order t (BadDirective at)
@@ -186,64 +207,77 @@ order_bad AtFront true sp sign o z w e f g = test_bad (r.in_test sp sign (asked_
 order_bad AtNext negated sp sign o z w e f g = test_bad (r.in_test sp sign (asked_ends AtNext negated o z (inl refl))) (r.no_end w e)
 order_bad AtBar negated sp sign o z w e f g = test_bad (r.in_test sp sign (asked_ends AtBar negated o z (inl refl))) (r.no_end w e)
 
+-- after a test that Descent took, and white space, no byte fits but : | } and &
 other_bad : {at total x : ℕ} {g : ListContext} {order : Order} {t : List ℕ} {tr : Tried} → IsTried total g order t tr (x ∷ [])
     → is_of ends_test x ≡ false → is_of ends_pattern x ≡ false → is_of ends_either x ≡ false → TestBad at total g order t (BadDirective at)
 other_bad {order = order} (is_tried {negated = negated} sp a sign (tried_from o b z w)) e f g = order_bad order negated sp sign o z w e f g
 
 -- patterns and tests that are more
 
+-- a pattern before the closing brace is patterns by itself
 emitted_last : {total : ℕ} {t q : List ℕ} {place : Span} {p : Pattern} → Emitted total t place p (125 ∷ q)
     → ArePatterns total t ((place, p) ∷ []) q
 emitted_last (emitted sp a i b z) = s.last_pattern sp a i b z
 
+-- a pattern, an & and the patterns after it are patterns
 emitted_next : {total : ℕ} {t u q : List ℕ} {place : Span} {p : Pattern} {ps : List (Span × Pattern)} → Emitted total t place p (38 ∷ u)
     → ArePatterns total u ps q → ArePatterns total t ((place, p) ∷ ps) q
 emitted_next (emitted sp a i b z) o = s.next_pattern sp a i b z o
 
+-- where the text ends in the patterns after an &, it ends in patterns
 emitted_cut : {total : ℕ} {t u : List ℕ} {place : Span} {p : Pattern} → Emitted total t place p (38 ∷ u) → CutsPatterns u → CutsPatterns t
 emitted_cut (emitted sp a i b z) o = cuts.after_and sp i z o
 
+-- what is due in the patterns after an & is due in the braces
 emitted_reach : {at total : ℕ} {t u last : List ℕ} {due : Due} {place : Span} {p : Pattern} → Emitted total t place p (38 ∷ u)
     → ReachesPatterns at u due last → ReachesEmits at t due last
 emitted_reach (emitted sp a i b z) o = r.after_first sp i z o
 
+-- a test before a colon is the tests of an alternative by itself
 asked_last : {total : ℕ} {g : ListContext} {t q : List ℕ} {place : Span} {negated : Bool} {a : Asked}
     → Questioned total g t place negated a (58 ∷ q) → AreTests total g t (test place negated a no_test) (58 ∷ q)
 asked_last (questioned sp a sign i b z) = s.last_test sp a sign i b z
 
+-- a test, a bar and the tests after it are tests
 asked_next : {total : ℕ} {g : ListContext} {t u q : List ℕ} {place : Span} {negated : Bool} {a : Asked} {others : Tests}
     → Questioned total g t place negated a (124 ∷ u) → AreTests total g u others q → AreTests total g t (test place negated a others) q
 asked_next (questioned sp a sign i b z) o = s.next_test sp a sign i b z o
 
+-- where the text ends in the tests after a bar, it ends in tests
 asked_cut : {total : ℕ} {g : ListContext} {t u : List ℕ} {place : Span} {negated : Bool} {a : Asked}
     → Questioned total g t place negated a (124 ∷ u) → CutsTests total g u → CutsTests total g t
 asked_cut (questioned sp a sign i b z) o = cuts.after_bar sp sign i z o
 
+-- what is due in the tests after a bar is due in the tests
 asked_reach : {at total : ℕ} {g : ListContext} {order : Order} {t u last : List ℕ} {due : Due} {place : Span} {negated : Bool} {a : Asked}
     → Questioned total g t place negated a (124 ∷ u) → ReachesTests total g at AtBar u due last → ReachesTests total g at order t due last
 asked_reach (questioned sp a sign i b z) o = r.after_bar sp sign i z o
 
+-- a test after a bar is not at the front of the braces, so this case can't arise
 not_front : {A : Type 0} → AtBar ≡ AtFront → A
 not_front e = absurd cc
 
--- the tests after a bar
+-- a test, a bar and what follows are the tests of one alternative
 with_more : {total : ℕ} {g : ListContext} {order : Order} {t u q : List ℕ} {place : Span} {negated : Bool} {a : Asked} {form : Form}
     → Questioned total g t place negated a (124 ∷ u) → IsForm total g AtBar u form q
     → IsForm total g order t (d.with_test place negated a form) q
 with_more i (form_patterns e o) = not_front e
 with_more i (form_tests o) = form_tests (asked_next i o)
 
+-- where the text ends in a test after a bar, it ends in the tests
 cut_more : {total : ℕ} {g : ListContext} {order : Order} {t u : List ℕ} {place : Span} {negated : Bool} {a : Asked}
     → Questioned total g t place negated a (124 ∷ u) → TestCuts total g AtBar u → TestCuts total g order t
 cut_more i (cut_test o) = cut_test (asked_cut i o)
 cut_more i (cut_pattern e o) = not_front e
 
+-- a byte that doesn't fit in a test after a bar doesn't fit in the tests
 bad_more : {at total : ℕ} {g : ListContext} {order : Order} {t u : List ℕ} {place : Span} {negated : Bool} {a : Asked} {fault : SyntaxFault}
     → Questioned total g t place negated a (124 ∷ u) → TestBad at total g AtBar u fault → TestBad at total g order t fault
 bad_more i (test_bad o h) = test_bad (asked_reach i o) h
 bad_more i (emit_bad e o h) = not_front e
 
 module _ (at : ℕ) (g : ListContext) where
+  -- what Descent makes of patterns, or of the tests of an alternative, is what the grammar says
   abbrev pub FormMeant : Order → ℕ → List ℕ → Read Form → Type 0
   FormMeant order n text x = Meant AtByte n text (λ total t form q. IsForm total g order t form q) (λ total t. TestCuts total g order t)
       (λ total t fault. TestBad at total g order t fault) x
@@ -251,20 +285,25 @@ module _ (at : ℕ) (g : ListContext) where
   module _ (order : Order) (n b k : ℕ) (text : List ℕ) (tr : Tried)
       (t : Takes AtByte n (b ∷ text) (λ total u tr q. IsTried total g order u tr q) tr k) (ps : Read (List (Span × Pattern)))
       (i : PatternsMeant at (n + 1 + k) (drop k text) ps) (others : Read Form) (j : FormMeant AtBar (n + 1 + k) (drop k text) others) where
+    -- what Descent goes on with after the test is what the grammar says
     abbrev Goes : After → Type 0
     Goes a = FormMeant order n (b ∷ text) (d.test_go a n k ps others)
 
+    -- after the test comes its byte
     end : (rest : List ℕ) × (drop k (b ∷ text) ≡ tr.byte ∷ rest)
     end = tried_byte (t.is (n + length (t.step.front (drop k (b ∷ text)))) (drop k (b ∷ text)) (near_self (drop k (b ∷ text))) refl)
 
+    -- where the byte after the test is x, any rest that begins like the text's begins with x
     ended : (x : ℕ) → tr.byte ≡ x → (q : List ℕ) → Near (drop k (b ∷ text)) q → (rest : List ℕ) × (q ≡ x ∷ rest)
     ended x e q near =
         let u = near_head (subst (λ (y : List ℕ). Near y q) end.1 near) in
         (u.0, u.1 ∙ ap (λ (y : ℕ). y ∷ u.0) e)
 
+    -- the byte after the test follows it in the text
     there : (x : ℕ) → tr.byte ≡ x → drop k (b ∷ text) ≡ x ∷ end.0
     there x e = end.1 ∙ ap (λ (y : ℕ). y ∷ end.0) e
 
+    -- the byte after the test doesn't fit, if by the grammar it doesn't
     bad_at : (fault : SyntaxFault) → ((total : ℕ) → IsTried total g order (t.step.front (tr.byte ∷ [])) tr (tr.byte ∷ [])
         → TestBad at total g order (t.step.front (tr.byte ∷ [])) fault) → FormMeant order n (b ∷ text) (Stops (n + k) fault)
     bad_at fault f = meant_stops (breaks_after n k (b ∷ text) t.step tr.byte end.0 end.1
@@ -272,6 +311,7 @@ module _ (at : ℕ) (g : ListContext) where
         (f (n + k + 1) (t.is (n + k + 1) (tr.byte ∷ []) (subst (λ (u : List ℕ). Near u (tr.byte ∷ [])) (sym end.1) same_byte)
         (omega (arith, t.step.sized (tr.byte ∷ []))))))
 
+    -- at a byte that ends a pattern, what follows is as the grammar says if the test is a pattern, and else the byte doesn't fit
     pattern_case : (goes : Span × Pattern → After) → is_of ends_test tr.byte ≡ false
         → ((p : Pattern) → may_emit order tr.negated ≡ true → tr.operand.as_pattern ≡ Some p → Goes (goes (tr.place, p)))
         → Goes (d.as_pattern at tr.place (may_emit order tr.negated) tr.operand.as_pattern goes)
@@ -283,6 +323,7 @@ module _ (at : ℕ) (g : ListContext) where
         by true e None z = bad_at (BadDirective at) (λ total y. no_pattern_bad y (inr z) h)
         by false e p z = bad_at (BadDirective at) (λ total y. no_pattern_bad y (inl e) h)
 
+    -- at a byte that ends a test, what follows is as the grammar says if it asks, and else the byte doesn't fit
     test_case : (goes : Asked → After) → is_of ends_test tr.byte ≡ true → is_of ends_pattern tr.byte ≡ false
         → ((a : Asked) → tr.operand.as_test ≡ Some a → Goes (goes a)) → Goes (d.as_test at tr.operand.bare tr.operand.as_test goes)
     test_case goes h g f = by tr.operand.as_test refl
@@ -291,6 +332,7 @@ module _ (at : ℕ) (g : ListContext) where
         by (Some a) z = f a z
         by None z = bad_at (if tr.operand.bare then EmptyTest at else BadDirective at) (λ total y. no_test_bad y z h g)
 
+    -- a pattern with the closing brace after it is patterns, as the grammar says
     emits : tr.byte ≡ 125 → (p : Pattern) → may_emit order tr.negated ≡ true → tr.operand.as_pattern ≡ Some p → Goes (Emits (tr.place, p))
     emits e p h f = meant_took (record {
       step = t.step;
@@ -302,6 +344,7 @@ module _ (at : ℕ) (g : ListContext) where
         form {total} {u} {q} rest z = subst (λ (v : List ℕ). IsForm total g order u (Patterns ((tr.place, p) ∷ [])) v) (sym rest.1)
             (form_patterns (emits_at order tr.negated h).0 (emitted_last (subst (λ (v : List ℕ). Emitted total u tr.place p v) rest.1 z)))
 
+    -- after a pattern and an &, what Descent makes of the patterns is what the grammar says
     joins : tr.byte ≡ 38 → (p : Pattern) → may_emit order tr.negated ≡ true → tr.operand.as_pattern ≡ Some p → Goes (Joins (tr.place, p))
     joins e p h f =
         subst (λ (z : Read Form). FormMeant order n (b ∷ text) z)
@@ -326,6 +369,7 @@ module _ (at : ℕ) (g : ListContext) where
           is = λ total q near place. (let y = z.is total q near place in (rest, refl, y.0, y.1, y.2));
         })) (λ total u place near y. y) (λ total u fault place near y. y)
 
+    -- a test with a colon after it is the tests of an alternative, as the grammar says
     asks : tr.byte ≡ 58 → (a : Asked) → tr.operand.as_test ≡ Some a → Goes (Asks tr.place tr.negated a)
     asks e a f = meant_took (record {
       step = t.step;
@@ -338,6 +382,7 @@ module _ (at : ℕ) (g : ListContext) where
             (sym rest.1)
             (form_tests (asked_last (subst (λ (v : List ℕ). Questioned total g u tr.place tr.negated a v) rest.1 z)))
 
+    -- after a test and a bar, what Descent makes of the tests is what the grammar says
     bars : tr.byte ≡ 124 → (a : Asked) → tr.operand.as_test ≡ Some a → Goes (Bars tr.place tr.negated a)
     bars e a f =
         subst (λ (z : Read Form). FormMeant order n (b ∷ text) z)
@@ -358,6 +403,7 @@ module _ (at : ℕ) (g : ListContext) where
           is = λ total q near place. (form, refl, z.is total q near place);
         })) (λ total u place near y. y) (λ total u fault place near y. y)
 
+    -- after a test, what Descent goes on with is what the grammar says, by the byte after it
     go_meant : FormMeant order n (b ∷ text) (d.test_go (d.after at order tr) n k ps others)
     go_meant =
         choose Goes (tr.byte == ascii.closing_brace) _ _
@@ -372,6 +418,7 @@ module _ (at : ℕ) (g : ListContext) where
         (ap (λ (y : ℕ). is_of ends_pattern y) (same tr.byte 124 e)) (bars (same tr.byte 124 e)))
         (λ q. bad_at (BadDirective at) (λ total y. other_bad y (rw (p, q) refl) (rw (f, h) refl) (rw (p, q, f, h) refl))))))
 
+-- after a bar there is no default
 bar_stops : (text : List ℕ) → s.Stops (is_default AtBar false) text
 bar_stops [] = s.at_end
 bar_stops (b ∷ text) = s.at_byte refl
@@ -379,6 +426,7 @@ bar_stops (b ∷ text) = s.at_byte refl
 module _ (deep : Lists) (c : ListContext) (outer : (c.levels == 0) ≡ false)
     (meets : (c.levels - 1 == 0) ≡ false → (n : ℕ) (text : List ℕ)
     → ListMeant (in_arguments (in_braces c)) n text (deep (in_arguments (in_braces c)) n text)) (at : ℕ) where
+  -- patterns, or the tests of an alternative, are what the grammar says, unless the colon of a default is there
   pub tests_meant : (text : List ℕ) (order : Order) (n skip : ℕ)
       → s.Stops (is_default order false) (drop (prefix_len is_white (drop skip text)) (drop skip text))
       → FormMeant at (in_braces c) order (n + skip) (drop skip text) (d.tests deep c at order n skip text)

@@ -41,8 +41,15 @@ use Rattle.std.proofs.Common.{subst}
 use Rattle.std.proofs.Common.{suc, sym, zero, ℕ}
 use Rattle.std.specs.Prelude.{◌-◌, ◌==◌}
 
--- Items and lists of items, as Descent takes them (Meant).
+-- Items and lists of items: what Descent makes of them is what the grammar says. It serves MeantWhole, and so the laws `read_is_spelled`,
+-- `unrefused_is_front` and `refused_kinds`. `Meant l n text Is Cuts Bad r` (Meant) says so of the result r for the text at the place n.
+-- What was taken `Is` the part, whatever rest that begins alike follows. Or the text ends in the part (`Cuts`), or in a byte that doesn't
+-- fit where something else is due (`Bad`). The relations take the size `total` of a text, what is left of it from the part on, and for `Is`
+-- also the part and what is left after it. `Listed` is this for all lists with so many levels left. The numbers in the statements are
+-- bytes: 37 is %, 92 a backslash. Descent is the grammar as functions (specs/Descent). The grammar itself has cases (specs/Spelling,
+-- Fronts, Refusals).
 
+-- the text leads, from an item on, to a byte that doesn't fit where something else is due
 abbrev pub ItemBad : ListContext → ℕ → List ℕ → SyntaxFault → Type 0
 ItemBad c total t fault = (due : Due) × (last : List ℕ) × Reaches total c t due last × Refuses total due last fault
 
@@ -61,6 +68,7 @@ burst_item {c} {b = b} e al place (breaks {f} {t} i) =
 burst_item {c} {b = b} e al place (hides {x} i) = (AnItem c, 37 ∷ b ∷ x ∷ [], r.item_due, r.hides_nothing place al e i)
 burst_item {c} {b = b} e al place (unknown {t} level i) = (AnItem c, 37 ∷ b ∷ t, r.item_due, r.item_no_function place al e level i)
 
+-- a byte that doesn't fit in a call doesn't fit in the directive %:
 call_burst : {c : ListContext} {at total : ℕ} {t : List ℕ} {fault : SyntaxFault} → (c.levels == 0) ≡ false → CallBad c at total t fault
     → Bursts c at total WithCall t fault
 call_burst e (no_function i) = unknown e i
@@ -70,11 +78,13 @@ module _ (lists deep : Lists) (c : ListContext) (meets : (c.levels == 0) ≡ fal
     (deeper : (c.levels - 1 == 0) ≡ false → Listed (c.levels - 1 - 1) deep) where
   -- directives that hold lists
 
+  -- a call after %: is what the grammar says
   call_read : (at n : ℕ) (text : List ℕ) → (c.levels == 0) ≡ false → DirMeant c at WithCall n text (d.call lists c at n text)
   call_read at n text e = meant_far (meant_as (call_meant Function c e lists (meets e (in_arguments c) refl) at n text at)
       (λ total t x q place near i. subst (λ (y : Item). IsDirective total c WithCall t y q) (sym i.2) (s.function i.3))
       (λ total t place near i. cuts.cut_function i) (λ total t fault place near i. call_burst e i))
 
+  -- the inside of braces after %{ is what the grammar says
   braces_read : (at n : ℕ) (text : List ℕ) → (c.levels == 0) ≡ false
       → DirMeant c at WithBraces n text (d.braces lists deep c at InPlace n text)
   braces_read at n text e = meant_far (meant_then (λ brace size. Took (braced InPlace brace) size)
@@ -83,6 +93,7 @@ module _ (lists deep : Lists) (c : ListContext) (meets : (c.levels == 0) ≡ fal
       (λ brace size t. meant_took (record { step = t.step; is = λ total q near place. s.braces (t.is total q near place) }))
       (λ total t place near i. cuts.cut_braces i) (λ total t fault place near i. inside (r.in_place e i.2) i.3))
 
+  -- %W and %@ with their braces are what the grammar says
   marked_read : (at : ℕ) (kind : BraceKind) (n : ℕ) (text : List ℕ) → (c.levels == 0) ≡ false
       → DirMeant c at (WithMarkedBraces kind) n text (d.marked_braces lists deep c at kind n text)
   marked_read at kind n [] e = meant_ends (cuts.cut_mark e)
@@ -106,9 +117,11 @@ module _ (lists deep : Lists) (c : ListContext) (meets : (c.levels == 0) ≡ fal
   -- after the byte of a directive
 
   module _ (n b : ℕ) (text : List ℕ) (al : is_allowed c.in_arguments b ≡ true) where
+    -- what Descent makes of a directive from its byte on is what the grammar says
     abbrev ByteMeant : Read Item → Type 0
     ByteMeant x = ItemMeant c 37 (n + 1) (b ∷ text) (past 1 x)
 
+    -- a directive whose text after its byte is meant is meant
     through : {f : Directive} {x : Read Item} → directive_of b ≡ f → DirMeant c n f (n + 1 + 1) text x → ByteMeant x
     through {f} e i = meant_past PastPercent (n + 1) 1 (b ∷ text) (byte_step b text) (λ total t x q. IsItem total c (37 ∷ t) x q)
         (λ total t. CutsItem total c (37 ∷ t)) (λ total t fault. ItemBad c total (37 ∷ t) fault) i
@@ -116,22 +129,27 @@ module _ (lists deep : Lists) (c : ListContext) (meets : (c.levels == 0) ≡ fal
         (λ total t near place j. cuts.cut_directive al (subst (λ (g : Directive). CutsDirective total c g t) (sym e) j))
         (λ total t fault near place j. burst_item e al (omega (arith, place)) j)
 
+    -- a directive that is whole with its byte is what the grammar says
     alone : {f : Directive} (x : Item) → directive_of b ≡ f → ((total : ℕ) (q : List ℕ) → IsDirective total c f q x q)
         → ByteMeant (Took x 0)
     alone x e g = through e (meant_took (record { step = no_step text; is = λ total q far place. g total q }))
 
+    -- a byte that is refused as that of a directive doesn't fit
     refused : (fault : SyntaxFault) → Refuses (n + 1 + 1) (AnItem c) (37 ∷ b ∷ []) fault → ByteMeant (Stops (n + 1) fault)
     refused fault i = meant_stops (breaks_here (n + 1) b text (λ total t fault. ItemBad c total (37 ∷ t) fault) fault
         (AnItem c, 37 ∷ b ∷ [], r.item_due, i))
 
+    -- a percent sign and a byte are two bytes
     two : At (n + 1 + 1) n (37 ∷ b ∷ [])
     two = omega arith
 
+    -- %* is what the grammar says, by what it finds around it
     star_read : directive_of b ≡ OfStar → (owner : Owner) → c.owner ≡ owner → ByteMeant (d.star n (n + 1) owner)
     star_read e Nobody f = refused (StarOutside n) (r.star_outside two al e f)
     star_read e Mixed f = refused (MixedStar n) (r.mixed_star two al e f)
     star_read e Starred f = alone Star e (λ total q. s.star f)
 
+    -- braces and arguments are what the grammar says, whether a level is left or not
     nested_read : {f : Directive} {x : Read Item} → directive_of b ≡ f → r.nests f ≡ true
         → ((c.levels == 0) ≡ false → DirMeant c n f (n + 1 + 1) text x) → ByteMeant (d.nested c.levels n (n + 1) x)
     nested_read {f} e nests i =
@@ -139,6 +157,7 @@ module _ (lists deep : Lists) (c : ListContext) (meets : (c.levels == 0) ≡ fal
         (λ h. refused (TooNested n) (r.item_within_all two al (ap (λ (g : Directive). r.nests g) e ∙ nests) h))
         (λ h. through e (i h))
 
+    -- a directive, by its byte, is what the grammar says
     directive_read : (f : Directive) → directive_of b ≡ f → ByteMeant (d.directive_by lists deep c n (n + 1) f text)
     directive_read Nowhere e = refused (BadDirective n) (r.no_directive two al e)
     directive_read (Whole one) e = alone (Leaf one) e (λ total q. s.whole)
@@ -153,6 +172,7 @@ module _ (lists deep : Lists) (c : ListContext) (meets : (c.levels == 0) ≡ fal
     directive_read WithBraces e = nested_read e refl (λ h. braces_read n (n + 1 + 1) text h)
     directive_read (WithMarkedBraces kind) e = nested_read e refl (λ h. marked_read n kind (n + 1 + 1) text h)
 
+  -- what follows a percent sign is what the grammar says
   percent_read : (n : ℕ) (text : List ℕ) → ItemMeant c 37 (n + 1) text (d.directive lists deep c n text)
   percent_read n [] = meant_ends cuts.cut_percent
   percent_read n (b ∷ text) =
@@ -163,20 +183,24 @@ module _ (lists deep : Lists) (c : ListContext) (meets : (c.levels == 0) ≡ fal
 
   -- an item
 
+  -- an item that is its first byte alone is what the grammar says
   single_read : (n b : ℕ) (text : List ℕ) (x : Item) → ((total : ℕ) (q : List ℕ) → IsItem total c (b ∷ q) x q)
       → ItemMeant c b (n + 1) text (Took x 0)
   single_read n b text x f = meant_took (record { step = no_step text; is = λ total q far place. f total q })
 
+  -- a backslash and its byte are what the grammar says
   escape_read : (n : ℕ) (text : List ℕ) → ItemMeant c 92 (n + 1) text (d.escape n text)
   escape_read n [] = meant_ends cuts.cut_escape
   escape_read n (b ∷ text) = meant_took (record { step = byte_step b text; is = λ total q far place. s.escape })
 
+  -- a byte that Descent doesn't find to end a list, and that is no backslash or percent sign, ends none by the grammar
   open_list : (b : ℕ) → (b == ascii.backslash) ≡ false → (b == ascii.percent) ≡ false → d.ends_list c.kind b ≡ false
       → is_end c.kind b ≡ false
   open_list b e g h =
       let f : d.ends_list c.kind b ≡ is_end c.kind b = rw (e, g) refl in
       sym f ∙ h
 
+  -- an item that doesn't end the list is what the grammar says
   item_read : (n b : ℕ) (text : List ℕ) → d.ends_list c.kind b ≡ false → ItemMeant c b (n + 1) text (d.item lists deep c n b text)
   item_read n b text h =
       choose (ItemMeant c b (n + 1) text) (b == ascii.backslash) _ _
@@ -201,6 +225,7 @@ module _ (lists deep : Lists) (c : ListContext) (meets : (c.levels == 0) ≡ fal
 
   -- a list
 
+  -- at the end of the text, a list is complete if it is a whole text, and else the text ends in it
   nothing_read : (m n : ℕ) (kind : Kind) → c.kind ≡ kind → ListMeant c m [] (d.list_end kind n)
   nothing_read m n Top e = meant_took (record { step = no_step []; is = λ total q near place. all q near })
     where
@@ -213,11 +238,13 @@ module _ (lists deep : Lists) (c : ListContext) (meets : (c.levels == 0) ≡ fal
   nothing_read m n InX e = meant_ends cuts.items_end
   nothing_read m n InArguments e = meant_ends cuts.items_end
 
+  -- a byte that may end a list ends it
   ended_by : (kind : Kind) (b : ℕ) (q : List ℕ) → is_end kind b ≡ true → Ended kind b (b ∷ q)
   ended_by Top b q e = differs (sym e)
   ended_by InX b q e = (q, refl, e)
   ended_by InArguments b q e = (q, refl, e)
 
+  -- a byte that Descent finds to end a list is no percent sign, and ends it by the grammar
   ending_byte : (b : ℕ) → d.ends_list c.kind b ≡ true → ((b == ascii.percent) ≡ false) × (is_end c.kind b ≡ true)
   ending_byte b h = by (b == ascii.backslash) (b == ascii.percent) refl refl h
     where
@@ -227,6 +254,7 @@ module _ (lists deep : Lists) (c : ListContext) (meets : (c.levels == 0) ≡ fal
       by false true e f h = differs (sym h)
       by false false e f h = (f, h)
 
+  -- at the byte that ends it, a list has no more items
   end_read : (n b : ℕ) (text : List ℕ) → d.ends_list c.kind b ≡ true → ListMeant c n (b ∷ text) (Took (none, b) 0)
   end_read n b text h = meant_took (record { step = no_step (b ∷ text); is = λ total q near place. all near })
     where
@@ -239,25 +267,32 @@ module _ (lists deep : Lists) (c : ListContext) (meets : (c.levels == 0) ≡ fal
 
   module _ (n b : ℕ) (text : List ℕ) (one : Item) (k : ℕ)
       (t : Takes PastPercent (n + 1) text (λ total t x q. IsItem total c (b ∷ t) x q) one k) where
+    -- the step over the item
     abbrev here : Step (b ∷ text) (1 + k)
     here = steps 1 (byte_step b text) k t.step
 
+    -- 1 + k is the number after k
     one_more : suc k ≡ 1 + k
     one_more = omega arith
 
+    -- the place after the item, counted from its first byte or from the next
     places : n + 1 + k ≡ n + (1 + k)
     places = omega arith
 
+    -- what follows the item, counted from its first byte or from the next
     same_rest : drop (1 + k) (b ∷ text) ≡ drop k text
     same_rest = ap (λ (j : ℕ). drop j (b ∷ text)) (sym one_more)
 
+    -- before any rest that goes on alike, the bytes that were taken are this item by the grammar
     item : (total : ℕ) (u : List ℕ) → Far (drop (1 + k) (b ∷ text)) u → At total (n + (1 + k)) u → IsItem total c (b ∷ t.step.front u) one u
     item total u far place =
         t.is total u (subst (λ (v : List ℕ). Far v u) same_rest far) (omega (arith, place, t.step.sized u))
 
+    -- with any such rest, the text goes on alike
     far_item : (u : List ℕ) → Far (drop (1 + k) (b ∷ text)) u → Far (b ∷ text) (b ∷ t.step.front u)
     far_item u far = far_more (t.step.near u (near_far (subst (λ (v : List ℕ). Far v u) same_rest far)))
 
+    -- an item and the items after it are a list, as the grammar says
     more_read : (others : Read (Items × ℕ)) → ListMeant c (n + 1 + k) (drop k text) others
         → ListMeant c n (b ∷ text) (d.item_go n one k others)
     more_read others i = meant_after here (λ list size. Took (more (span n (n + 1 + k)) one list.0, list.1) (1 + k + size)) later
@@ -284,7 +319,7 @@ module _ (lists deep : Lists) (c : ListContext) (meets : (c.levels == 0) ≡ fal
               rest.2,
             )
 
-  -- a list, so many bytes into a text
+  -- a list from any place of a text on is what the grammar says
   pub items_read : (text : List ℕ) (n skip : ℕ) → ListMeant c (n + skip) (drop skip text) (d.items_with lists deep c n skip text)
   items_read [] n zero = nothing_read (n + 0) n c.kind refl
   items_read [] n (suc skip) = nothing_read (n + suc skip) n c.kind refl
@@ -304,15 +339,18 @@ module _ (lists deep : Lists) (c : ListContext) (meets : (c.levels == 0) ≡ fal
 
 -- lists with so many levels
 
+-- lists are what the grammar says, if those with fewer levels in them are
 with_meets : (level : ℕ) (lists deep : Lists) → ((level == 0) ≡ false → Listed (level - 1) lists)
     → ((level - 1 == 0) ≡ false → Listed (level - 1 - 1) deep) → Listed level (λ c n text. d.items_with lists deep c n 0 text)
 with_meets level lists deep meets deeper c is n text = from_start (items_read lists deep c
     (subst (λ (l : ℕ). (l == 0) ≡ false → Listed (l - 1) lists) (sym is) meets)
     (subst (λ (l : ℕ). (l - 1 == 0) ≡ false → Listed (l - 1 - 1) deep) (sym is) deeper) text n 0)
 
+-- the lists with so many levels, and those in them, are what the grammar says
 abbrev AllListed : ℕ → Type 0
 AllListed level = Listed level (levels level).0 × Listed (level - 1) (levels level).1
 
+-- lists with any number of levels are what the grammar says, by induction over the levels
 levels_read : (level : ℕ) → AllListed level
 levels_read zero = (
   with_meets 0 d.no_lists d.no_lists (λ h. absurd cc) (λ h. absurd cc),
@@ -332,5 +370,6 @@ levels_read (suc level) =
 from_top : (level : ℕ) → level ≡ 64 → (text : List ℕ) → ListMeant top 0 text ((levels level).0 top 0 text)
 from_top level e text = (levels_read level).0 top (sym e) 0 text
 
+-- a whole text is what the grammar says of a list with 64 levels
 pub text_read : (text : List ℕ) → ListMeant top 0 text ((levels (depth text)).0 top 0 text)
 text_read text = from_top (depth text) (depth_is text) text

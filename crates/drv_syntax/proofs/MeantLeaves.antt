@@ -31,7 +31,12 @@ use Rattle.std.proofs.lemmas.Bool.Decides.{nat_tests}
 use Rattle.std.specs.List.{prefix_len}
 use Rattle.std.specs.Prelude.{◌==◌, nat_le}
 
--- The directives that hold no list, as Descent takes what follows their byte (Meant).
+-- The directives that hold no list: what Descent makes of the text after their byte is what the grammar says. It serves MeantItems. `Meant
+-- l n text Is Cuts Bad r` (Meant) says so of the result r for the text at the place n. What was taken `Is` the part, whatever rest that
+-- begins alike follows. Or the text ends in the part (`Cuts`), or in a byte that doesn't fit (`Bad`). The relations take the size `total`
+-- of a text, what is left of it from the part on, and for `Is` also the part and what is left after it. `DirMeant` is this for a directive,
+-- whose % has the place `at`. Descent is the grammar as functions (specs/Descent). The grammar itself has cases (specs/Spelling, Fronts,
+-- Refusals).
 
 -- after the byte of a directive, whose % has the place at: a text ends in the byte that no longer fits
 pub data Bursts (c : ListContext) (at total : ℕ) : Directive → List ℕ → SyntaxFault → Type 0 where
@@ -41,30 +46,38 @@ pub data Bursts (c : ListContext) (at total : ℕ) : Directive → List ℕ → 
   hides : {x : ℕ} → Empty x → Bursts c at total WithPattern (x ∷ []) (EmptyTest at)
   unknown : {t : List ℕ} → (c.levels == 0) ≡ false → IsNoFunction t → Bursts c at total WithCall t (UnknownFunction at)
 
+-- the text is what follows the byte of this directive, and q is left
 abbrev pub DirIs : ListContext → Directive → ℕ → List ℕ → Item → List ℕ → Type 0
 DirIs c f total t x q = IsDirective total c f t x q
 
+-- the text ends in the directive, after its byte
 abbrev pub DirCuts : ListContext → Directive → ℕ → List ℕ → Type 0
 DirCuts c f total t = CutsDirective total c f t
 
+-- the text ends in a byte that doesn't fit in the directive
 abbrev pub DirBad : ListContext → ℕ → Directive → ℕ → List ℕ → SyntaxFault → Type 0
 DirBad c at f total t fault = Bursts c at total f t fault
 
+-- what Descent makes of the text after the byte of this directive is what the grammar says
 abbrev pub DirMeant : ListContext → ℕ → Directive → ℕ → List ℕ → Read Item → Type 0
 DirMeant c at f n text r = Meant PastPercent n text (DirIs c f) (DirCuts c f) (DirBad c at f) r
 
 -- suffixes
 
+-- at the end of the text there is no suffix
 no_suffix : {q : List ℕ} → Far [] q → IsSuffix q [] q
 no_suffix far_end = s.suffix_none
 
+-- where neither a byte of a suffix nor a percent sign follows, there is no suffix
 other_suffix : {b : ℕ} {u q : List ℕ} → Far (b ∷ u) q → is_suffix b ≡ false → (b == ascii.percent) ≡ false → IsSuffix q [] q
 other_suffix (far_other e) g h = s.suffix_other g h
 other_suffix (far_more n) g h = s.suffix_other g h
 
+-- where no O follows a percent sign, there is no suffix
 near_first : {b : ℕ} {u q : List ℕ} → Near (b ∷ u) q → (b == ascii.capital_o) ≡ false → IsSuffix (ascii.percent ∷ q) [] (ascii.percent ∷ q)
 near_first same_byte h = s.suffix_directive h
 
+-- where the text has a percent sign and then no O, there is no suffix
 percent_suffix : {p b : ℕ} {u q : List ℕ} → Far (p ∷ b ∷ u) q → p ≡ ascii.percent → (b == ascii.capital_o) ≡ false → IsSuffix q [] q
 percent_suffix (far_other e) g h = differs (sym (ap (λ (y : ℕ). y == ascii.percent) g) ∙ e)
 percent_suffix (far_more {q = q} n) g h = subst (λ (y : ℕ). IsSuffix (y ∷ q) [] (y ∷ q)) (sym g) (near_first n h)
@@ -77,10 +90,12 @@ data NamedBad (at : ℕ) (name : List ℕ) (total : ℕ) : List ℕ → SyntaxFa
   too_long : {t w : List ℕ} → IsRun is_name_byte t w [] → length (name ++ w) ≡ 256 → NamedBad at name total t (BadDirective at)
 
 module _ (c : ListContext) (at : ℕ) where
+  -- without a suffix, the directive takes nothing, as the grammar says
   nothing_meant : (kind : TempKind) (n : ℕ) (text : List ℕ) → ((q : List ℕ) → Far text q → IsSuffix q [] q)
       → DirMeant c at (WithSuffix kind) n text (Took (TempName kind []) 0)
   nothing_meant kind n text f = meant_took (record { step = no_step text; is = λ total q far place. s.temp_name (f q far) })
 
+  -- without letters, a suffix is .o where %O follows, or else none, as the grammar says
   object_meant : (kind : TempKind) (n b : ℕ) → is_suffix b ≡ false → (text : List ℕ)
       → DirMeant c at (WithSuffix kind) n (b ∷ text) (d.suffix_object kind n b text)
   object_meant kind n b e [] =
@@ -95,6 +110,7 @@ module _ (c : ListContext) (at : ℕ) where
       })) (λ h. nothing_meant kind n (b ∷ x ∷ text) (λ q far. percent_suffix far (same b 37 g) h)))
       (λ g. nothing_meant kind n (b ∷ x ∷ text) (λ q far. other_suffix far e g))
 
+  -- the suffix of %g, %u, %U, %| and %m is what the grammar says
   pub suffix_meant : (kind : TempKind) (n : ℕ) (text : List ℕ) → DirMeant c at (WithSuffix kind) n text (d.suffix kind n text)
   suffix_meant kind n [] = nothing_meant kind n [] (λ q far. no_suffix far)
   suffix_meant kind n (b ∷ text) =
@@ -106,11 +122,13 @@ module _ (c : ListContext) (at : ℕ) where
 
   -- %x{OPTION}
 
+  -- what Descent makes of the text after %x{ is what the grammar says
   abbrev OptionMeant : ℕ → List ℕ → Read Item → Type 0
   OptionMeant n text r = Meant PastPercent n text (λ total t x q. IsDirective total c WithOption (ascii.opening_brace ∷ t) x q)
       (λ total t. CutsDirective total c WithOption (ascii.opening_brace ∷ t))
       (λ total t fault. Bursts c at total WithOption (ascii.opening_brace ∷ t) fault) r
 
+  -- a byte that ends a run in %x{ is the closing brace
   closing : (b : ℕ) (rest : List ℕ) → s.Stops is_option (b ∷ rest) → b ≡ 125
   closing b rest (s.at_byte e) = by (b == ascii.closing_brace) refl
     where
@@ -118,6 +136,7 @@ module _ (c : ListContext) (at : ℕ) where
       by true g = same b 125 g
       by false g = differs (sym (ap (λ (t : Bool). if t then false else true) g) ∙ e)
 
+  -- after its bytes, %x{ needs its brace, and is refused if it has no byte, as the grammar says
   option_end_meant : (n : ℕ) (text word : List ℕ) (size : ℕ) → QuotedRun is_option text word size → (rest : List ℕ)
       → drop size text ≡ rest → OptionMeant n text (d.option_end at n word size rest)
   option_end_meant n text [] size r [] e = meant_ends (cuts.cut_option_text (r.out e))
@@ -136,6 +155,7 @@ module _ (c : ListContext) (at : ℕ) where
         is = λ total u far place. s.add_option (q.is (125 ∷ u) (subst (λ (t : List ℕ). Near t (125 ∷ u)) (sym f) same_byte));
       })
 
+  -- the text after %x{ is what the grammar says
   option_text_meant : (n : ℕ) (text : List ℕ) → OptionMeant n text (d.option_text at n (quoted is_option text) text)
   option_text_meant n text = by (quoted is_option text) (quotes is_option text)
     where
@@ -143,6 +163,7 @@ module _ (c : ListContext) (at : ℕ) where
       by (Hangs size) o = meant_ends (cuts.cut_option_text o)
       by (Run word size) q = option_end_meant n text word size q (drop size text) refl
 
+  -- %x{OPTION} is what the grammar says
   pub option_meant : (n : ℕ) (text : List ℕ) → DirMeant c at WithOption n text (d.option at n text)
   option_meant n [] = meant_ends cuts.cut_option
   option_meant n (b ∷ text) =
@@ -155,6 +176,7 @@ module _ (c : ListContext) (at : ℕ) where
 
   -- %eTEXT and %nTEXT
 
+  -- after the text of %e or %n, a newline belongs to it and nothing else does, as the grammar says
   saying_end_meant : (kind : SayKind) (n : ℕ) (text word : List ℕ) (size : ℕ) → QuotedRun (is_said c.kind) text word size
       → (rest : List ℕ) → drop size text ≡ rest → DirMeant c at (WithSaying kind) n text (d.saying_end kind word size rest)
   saying_end_meant kind n text word size q [] e = meant_took (record {
@@ -174,6 +196,7 @@ module _ (c : ListContext) (at : ℕ) where
             (s.by_other (near_stops (near_far far) (subst (λ (t : List ℕ). s.Stops (λ x. x == ascii.newline) t) (sym e) (s.at_byte g))));
       }))
 
+  -- the text of %e and %n is what the grammar says
   pub saying_meant : (kind : SayKind) (n : ℕ) (text : List ℕ) → DirMeant c at (WithSaying kind) n text (d.saying c.kind kind n text)
   saying_meant kind n text = by (quoted (is_said c.kind) text) (quotes (is_said c.kind) text)
     where
@@ -183,6 +206,7 @@ module _ (c : ListContext) (at : ℕ) where
 
   -- %<PATTERN
 
+  -- the pattern of %< and %> is what the grammar says
   pub hide_meant : (n : ℕ) (text : List ℕ)
       → DirMeant c at WithPattern n text (d.then_read (d.pattern_at at n text) (λ p size. Took (Hide p) size))
   hide_meant n text = meant_then (λ p size. Took (Hide p) size) (pattern_meant at n text) (λ p size t. meant_took (record {
@@ -194,16 +218,20 @@ module _ (c : ListContext) (at : ℕ) where
 
   -- %(NAME), after so much of the name
 
+  -- the text is the rest w of a name and its bracket, and x is the named text of the whole name
   abbrev NamedIs : List ℕ → ℕ → List ℕ → Item → List ℕ → Type 0
   NamedIs name total t x q = (b : ℕ) × (w : List ℕ) × (all : List ℕ) × (x ≡ NamedText (b ∷ all)) × (name ++ w ≡ b ∷ all)
       × IsRun is_name_byte t w (ascii.closing_parenthesis ∷ q) × (length (name ++ w) ≤ 255)
 
+  -- the text is the rest of a name of at most 255 bytes, without its bracket
   abbrev NamedCuts : List ℕ → ℕ → List ℕ → Type 0
   NamedCuts name total t = (w : List ℕ) × IsRun is_name_byte t w [] × (length (name ++ w) ≤ 255)
 
+  -- what Descent makes of the text after this front of a name is what the grammar says
   abbrev NamedMeant : ℕ → List ℕ → List ℕ → Read Item → Type 0
   NamedMeant n name text x = Meant PastPercent n text (NamedIs name) (NamedCuts name) (NamedBad at name) x
 
+  -- after its bytes, a named text needs its bracket, and is refused if it has no byte, as the grammar says
   name_end_meant : (n : ℕ) (name : List ℕ) (b : ℕ) (text : List ℕ) → length name ≤ 255 → is_name_byte b ≡ false
       → NamedMeant n name (b ∷ text) (d.name_end at n name 0 (b ∷ text))
   name_end_meant n [] b text h e = meant_stops (at_first (breaks_here n b text (NamedBad at []) (BadDirective at) (nameless refl e)))
@@ -230,19 +258,23 @@ module _ (c : ListContext) (at : ℕ) where
       (breaks_here n b text (NamedBad at (x ∷ name)) (BadDirective at) (not_closed (s.run_ends (s.at_byte e))
       (subst (λ (t : List ℕ). length t ≤ 255) (sym (append-nil (x ∷ name))) h) g))))
 
+  -- a number that the test doesn't find at most another is more than that
   le_false : (i j : ℕ) → nat_le i j ≡ false → j + 1 ≤ i
   le_false i j h = grind (arith, nat_tests)
 
   module _ (name : List ℕ) (b : ℕ) (e : is_name_byte b ≡ true) where
+    -- a byte added to a name, and then w, are the name and then the byte and w
     regrouped : (w : List ℕ) → (name ++ b ∷ []) ++ w ≡ name ++ b ∷ w
     regrouped w = append_assoc name (b ∷ []) w
 
+    -- a byte that doesn't fit after one byte more of a name doesn't fit after the name
     further_bad : {total : ℕ} {t : List ℕ} {fault : SyntaxFault} → NamedBad at (name ++ b ∷ []) total t fault
         → NamedBad at name total (b ∷ t) fault
     further_bad (nameless z g) = absurd (let f : length (name ++ b ∷ []) ≡ 0 = ap length z in omega (arith, length-append name (b ∷ []), f))
     further_bad (not_closed {w = w} q l g) = not_closed (s.run_goes e q) (subst (λ (v : List ℕ). length v ≤ 255) (regrouped w) l) g
     further_bad (too_long {w = w} q l) = too_long (s.run_goes e q) (subst (λ (v : List ℕ). length v ≡ 256) (regrouped w) l)
 
+    -- one more byte of the name of a named text, and then the rest of it, are what the grammar says
     further : (n : ℕ) (text : List ℕ) → NamedMeant (n + 1) (name ++ b ∷ []) text (d.name_from at (n + 1) (name ++ b ∷ []) text)
         → NamedMeant n name (b ∷ text) (d.past 1 (d.name_from at (n + 1) (name ++ b ∷ []) text))
     further n text z = meant_past PastPercent n 1 (b ∷ text) (byte_step b text) (NamedIs name) (NamedCuts name) (NamedBad at name) z
@@ -258,6 +290,7 @@ module _ (c : ListContext) (at : ℕ) where
         (λ total t near place i. (b ∷ i.0, s.run_goes e i.1, subst (λ (v : List ℕ). length v ≤ 255) (regrouped i.0) i.2))
         (λ total t fault near place i. further_bad i)
 
+  -- after a front of its name, %(NAME) is what the grammar says
   named_meant : (text name : List ℕ) (n : ℕ) → length name ≤ 255 → NamedMeant n name text (d.name_from at n name text)
   named_meant [] name n h = meant_ends ([], s.run_ends s.at_end, subst (λ (v : List ℕ). length v ≤ 255) (sym (append-nil name)) h)
   named_meant (b ∷ text) name n h =
@@ -269,11 +302,13 @@ module _ (c : ListContext) (at : ℕ) where
       omega (arith, length-append name (b ∷ []), f, h))))))
       (λ e. name_end_meant n name b text h e)
 
+  -- a byte that doesn't fit in a name doesn't fit in %(
   name_bad : {total : ℕ} {t : List ℕ} {fault : SyntaxFault} → NamedBad at [] total t fault → Bursts c at total WithName t fault
   name_bad (nameless z e) = breaks (r.no_name e)
   name_bad (not_closed q l g) = breaks (r.open_name q l g)
   name_bad (too_long q l) = breaks (r.long_name q l)
 
+  -- %(NAME) is what the grammar says
   pub name_meant : (n : ℕ) (text : List ℕ) → DirMeant c at WithName n text (d.name_from at n [] text)
   name_meant n text = meant_as (named_meant text [] n (omega arith))
       (λ total t x q place near i. subst (λ (y : Item). IsDirective total c WithName t y q) (sym i.3)

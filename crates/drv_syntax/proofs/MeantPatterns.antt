@@ -24,9 +24,14 @@ use Rattle.std.proofs.Common.{ℕ}
 use Rattle.std.specs.List.{prefix_len}
 use Rattle.std.specs.Prelude.{◌==◌}
 
--- Patterns of braces, as Descent takes them (Meant).
+-- Patterns of braces: what Descent makes of them is what the grammar says. It serves MeantForms. `Meant l n text Is Cuts Bad r` (Meant)
+-- says so of the result r for the text at the place n. What was taken `Is` the part, whatever rest that begins alike follows. Or the text
+-- ends in the part (`Cuts`), or in a byte that doesn't fit (`Bad`). The relations take the size `total` of a text, what is left of it from
+-- the part on, and for `Is` also the part and what is left after it. The numbers in the statements are bytes: 38 is &, 125 }. Descent is
+-- the grammar as functions (specs/Descent). The grammar itself has cases (specs/Spelling, Fronts, Refusals).
 
--- what is read after a byte that follows so many
+-- a part that is meant after k bytes and one more is meant in the whole text, if the grammar's relations for the rest imply those for the
+-- text
 pub meant_byte : {X : Type 0} (l : Looks) (n b k : ℕ) (text rest : List ℕ) (x : ℕ) (m : Step (b ∷ text) k)
     → (e : drop k (b ∷ text) ≡ x ∷ rest) → (Is : ℕ → List ℕ → X → List ℕ → Type 0) (Cuts : ℕ → List ℕ → Type 0)
     (Bad : ℕ → List ℕ → SyntaxFault → Type 0) {Inner : ℕ → List ℕ → X → List ℕ → Type 0} {Ending : ℕ → List ℕ → Type 0}
@@ -59,7 +64,7 @@ meant_byte l n b k text rest x m e Is Cuts Bad {Inner} {Ending} {Stopping} {r} i
     moved = subst (λ (i : ℕ). Meant l (n + (k + 1)) (drop i (b ∷ text)) Inner Ending Stopping r) sizes
         (subst (λ (i : ℕ). Meant l i (drop k text) Inner Ending Stopping r) places i)
 
--- what is read later in a text is read at its rest
+-- a part that is meant at the place n + 1 + skip is meant at n + (1 + skip), which is the same place
 pub at_rest : {X : Type 0} {l : Looks} (n skip : ℕ) {text : List ℕ} {Is : ℕ → List ℕ → X → List ℕ → Type 0} {Cuts : ℕ → List ℕ → Type 0}
     {Bad : ℕ → List ℕ → SyntaxFault → Type 0} {r : Read X} → Meant l (n + 1 + skip) text Is Cuts Bad r
     → Meant l (n + suc skip) text Is Cuts Bad r
@@ -67,12 +72,14 @@ at_rest {l = l} n skip {text} {Is} {Cuts} {Bad} {r} i =
     let e : n + 1 + skip ≡ n + suc skip = omega arith in
     subst (λ (j : ℕ). Meant l j text Is Cuts Bad r) e i
 
+-- a part that is meant at a place is meant no bytes after that place
 pub at_start : {X : Type 0} {l : Looks} {n : ℕ} {text : List ℕ} {Is : ℕ → List ℕ → X → List ℕ → Type 0} {Cuts : ℕ → List ℕ → Type 0}
     {Bad : ℕ → List ℕ → SyntaxFault → Type 0} {r : Read X} → Meant l n text Is Cuts Bad r → Meant l (n + 0) text Is Cuts Bad r
 at_start {l = l} {n} {text} {Is} {Cuts} {Bad} {r} i =
     let e : n ≡ n + 0 = omega arith in
     subst (λ (j : ℕ). Meant l j text Is Cuts Bad r) e i
 
+-- a part that is meant no bytes after a place is meant at that place
 pub from_start : {X : Type 0} {l : Looks} {n : ℕ} {text : List ℕ} {Is : ℕ → List ℕ → X → List ℕ → Type 0} {Cuts : ℕ → List ℕ → Type 0}
     {Bad : ℕ → List ℕ → SyntaxFault → Type 0} {r : Read X} → Meant l (n + 0) text Is Cuts Bad r → Meant l n text Is Cuts Bad r
 from_start {l = l} {n} {text} {Is} {Cuts} {Bad} {r} i =
@@ -90,23 +97,29 @@ data IsThere (total start : ℕ) : List ℕ → (Span × Pattern) × ℕ → Lis
       → IsThere total start u ((span start m, p), b) (b ∷ q)
 
 module _ (at : ℕ) where
+  -- the text leads, in patterns after an &, to a byte that doesn't fit where something else is due
   abbrev pub PatternsBad : ℕ → List ℕ → SyntaxFault → Type 0
   PatternsBad total t fault = (due : Due) × (last : List ℕ) × ReachesPatterns at t due last × Refuses total due last fault
 
+  -- what Descent makes of one pattern with white space around it and the byte after it is what the grammar says
   abbrev OneMeant : ℕ → List ℕ → Read ((Span × Pattern) × ℕ) → Type 0
   OneMeant n text x = Meant AtByte n text (λ total t x q. IsOne total t x q) (λ total t. CutsPatterns t) PatternsBad x
 
+  -- a pattern, white space and the byte after it are one pattern with its byte
   there_end : {total start m : ℕ} {u v q : List ℕ} {p : Pattern} {x : (Span × Pattern) × ℕ} → IsPattern u p v → At total m v
       → ByteIs {Y = (Span × Pattern) × ℕ} (λ b. ((span start m, p), b)) v x q → IsThere total start u x q
   there_end i a (byte_is sp w) = is_there i a sp w
 
+  -- white space, and then one pattern with its byte, are one pattern with white space around it
   one_there : {total start : ℕ} {t u q : List ℕ} {x : (Span × Pattern) × ℕ} → AreSpaces t u → At total start u → IsThere total start u x q
       → IsOne total t x q
   one_there sp a (is_there i b sp2 w) = is_one sp a i b sp2 w
 
+  -- what Descent makes of one pattern after its white space, with the byte after it, is what the grammar says
   abbrev ThereMeant : ℕ → List ℕ → Read ((Span × Pattern) × ℕ) → Type 0
   ThereMeant n text x = Meant AtByte n text (λ total t x q. IsThere total n t x q) (λ total t. CutsPatterns t) PatternsBad x
 
+  -- a pattern after its white space, with the byte after it, is what the grammar says
   there_meant : (n : ℕ) (text : List ℕ) → s.Stops is_white text → ThereMeant n text
       (then_read (d.pattern_at at n text) (λ p k.
       past k (d.pattern_after at (span n (n + k), p) (prefix_len is_white (drop k text)) (drop k text))))
@@ -126,20 +139,24 @@ module _ (at : ℕ) where
       white_first : (text : List ℕ) → s.Stops is_white text → (t : List ℕ) → Near text t → (x : ℕ) → t ≡ x ∷ [] → is_white x ≡ false
       white_first text w t near x e = first (subst (λ (u : List ℕ). s.Stops is_white u) e (near_stops near w))
 
+  -- white space and more white space are white space
   spaces_more : {t u v : List ℕ} → AreSpaces t u → AreSpaces u v → AreSpaces t v
   spaces_more s.no_space z = z
   spaces_more (s.space e sp) z = s.space e (spaces_more sp z)
 
+  -- where the text after white space ends in patterns, the whole does
   cut_more : {t u : List ℕ} → AreSpaces t u → CutsPatterns u → CutsPatterns t
   cut_more sp (cuts.in_pattern z o) = cuts.in_pattern (spaces_more sp z) o
   cut_more sp (cuts.after_pattern z p e) = cuts.after_pattern (spaces_more sp z) p e
   cut_more sp (cuts.after_and z p e o) = cuts.after_and (spaces_more sp z) p e o
 
+  -- what is due in patterns after white space is due in the whole
   reach_more : {t u last : List ℕ} {due : Due} → AreSpaces t u → ReachesPatterns at u due last → ReachesPatterns at t due last
   reach_more sp (r.pattern_due z) = r.pattern_due (spaces_more sp z)
   reach_more sp (r.pattern_ends z p e) = r.pattern_ends (spaces_more sp z) p e
   reach_more sp (r.after_and z p e o) = r.after_and (spaces_more sp z) p e o
 
+  -- a pattern with white space around it and the byte after it are what the grammar says
   one_meant : (n : ℕ) (text : List ℕ) → OneMeant n text (d.pattern_from at n (prefix_len is_white text) text)
   one_meant n text = meant_past AtByte n (prefix_len is_white text) text w.0 (λ total t x q. IsOne total t x q) (λ total t. CutsPatterns t)
       PatternsBad (there_meant (n + prefix_len is_white text) (drop (prefix_len is_white text) text) w.2)
@@ -151,33 +168,41 @@ module _ (at : ℕ) where
 
   -- all of them
 
+  -- what Descent makes of patterns after an &, up to the closing brace, is what the grammar says
   abbrev pub PatternsMeant : ℕ → List ℕ → Read (List (Span × Pattern)) → Type 0
   PatternsMeant n text x = Meant AtByte n text
       (λ total t ps q. (rest : List ℕ) × (q ≡ ascii.closing_brace ∷ rest) × ArePatterns total t ps rest) (λ total t. CutsPatterns t)
       PatternsBad x
 
+  -- after one pattern comes the byte that Descent names
   one_byte : {total : ℕ} {t q : List ℕ} {x : (Span × Pattern) × ℕ} → IsOne total t x q → (rest : List ℕ) × (q ≡ x.1 ∷ rest)
   one_byte (is_one {q = q} sp a p b z w) = (q, refl)
 
+  -- one pattern before the closing brace is patterns by itself
   last_one : {total : ℕ} {t q : List ℕ} {x : (Span × Pattern) × ℕ} → IsOne total t x (125 ∷ q) → ArePatterns total t (x.0 ∷ []) q
   last_one (is_one sp a p b z w) = s.last_pattern sp a p b z
 
+  -- one pattern, an & and the patterns after it are patterns
   next_one : {total : ℕ} {t q rest : List ℕ} {x : (Span × Pattern) × ℕ} {ps : List (Span × Pattern)} → IsOne total t x (38 ∷ q)
       → ArePatterns total q ps rest → ArePatterns total t (x.0 ∷ ps) rest
   next_one (is_one sp a p b z w) o = s.next_pattern sp a p b z o
 
+  -- where the text ends in the patterns after an &, it ends in patterns
   cut_next : {total : ℕ} {t q : List ℕ} {x : (Span × Pattern) × ℕ} → IsOne total t x (38 ∷ q) → CutsPatterns q → CutsPatterns t
   cut_next (is_one sp a p b z w) o = cuts.after_and sp p z o
 
+  -- what is due in the patterns after an & is due in patterns
   reach_next : {total : ℕ} {t q last : List ℕ} {due : Due} {x : (Span × Pattern) × ℕ} → IsOne total t x (38 ∷ q)
       → ReachesPatterns at q due last → ReachesPatterns at t due last
   reach_next (is_one sp a p b z w) o = r.after_and sp p z o
 
+  -- after one pattern, a byte that is neither the closing brace nor an & doesn't fit
   bad_one : {total y : ℕ} {t : List ℕ} {x : (Span × Pattern) × ℕ} → IsOne total t x (y ∷ []) → (y == 125) ≡ false → (y == 38) ≡ false
       → PatternsBad total t (BadDirective at)
   bad_one (is_one {b = b} sp a p z e w) f g =
       (r.AnEnd at ends_pattern, b ∷ [], r.pattern_ends sp p e, r.no_end w (rw (f, g) refl))
 
+  -- what Descent goes on with after a pattern is what the grammar says: a brace ends the patterns, an & leads to more, no other byte fits
   go_meant : (n b k : ℕ) (text : List ℕ) (x : (Span × Pattern) × ℕ) → Takes AtByte n (b ∷ text) (λ total t x q. IsOne total t x q) x k
       → (others : Read (List (Span × Pattern))) → PatternsMeant (n + 1 + k) (drop k text) others
       → PatternsMeant n (b ∷ text) (d.pattern_go at n x k others)
@@ -220,6 +245,7 @@ module _ (at : ℕ) where
         is = λ total q near place. (let j = z.is total q near place in (ps, refl, j.0, j.1, j.2));
       })) (λ total t place near j. j) (λ total t fault place near j. j)
 
+  -- the patterns after an &, up to the brace that closes them, are what the grammar says
   pub patterns_meant : (text : List ℕ) (n skip : ℕ) → PatternsMeant (n + skip) (drop skip text) (d.patterns at n skip text)
   patterns_meant [] n zero = meant_ends (cuts.in_pattern s.no_space cuts.out_end)
   patterns_meant [] n (suc skip) = meant_ends (cuts.in_pattern s.no_space cuts.out_end)

@@ -19,10 +19,15 @@ use Rattle.std.proofs.Common.{drop-drop, length, refl, subst, suc, sym, take, �
 use Rattle.std.specs.List.{prefix_len}
 use Rattle.std.specs.Prelude.{◌==◌}
 
--- Runs of bytes, patterns and the names of functions, as Descent takes them (Meant).
+-- Runs of bytes, patterns and the names of functions: what Descent makes of them is what the grammar says. It serves MeantLeaves,
+-- MeantCalls, MeantTests and MeantPatterns. `Meant l n text Is Cuts Bad r` (Meant) says so of the result r for the text at the place n.
+-- What was taken `Is` the part, whatever rest that begins alike follows. Or the text ends in the part (`Cuts`), or in a byte that doesn't
+-- fit (`Bad`). The relations take the size `total` of a text, what is left of it from the part on, and for `Is` also the part and what is
+-- left after it. Descent is the grammar as functions (specs/Descent). The grammar itself has cases (specs/Spelling, Fronts, Refusals).
 
 -- runs of bytes and escapes
 
+-- the first bytes of the text, so many, are the longest run of bytes that f allows and of escapes, and this is its word
 pub record QuotedRun (f : ℕ → Bool) (text word : List ℕ) (size : ℕ) : Type 0 where
   pub step : Step text size
   pub is : (q : List ℕ) → Near (drop size text) q → IsQuoted f (step.front q) word q
@@ -30,18 +35,22 @@ pub record QuotedRun (f : ℕ → Bool) (text word : List ℕ) (size : ℕ) : Ty
   pub stops : s.Stops f (drop size text)
   pub plain : s.Stops (λ b. b == ascii.backslash) (drop size text)
 
+-- what `quoted` of Descent gives is the longest run of bytes that f allows and of escapes
 abbrev pub Quotes : (ℕ → Bool) → List ℕ → Quoted → Type 0
 Quotes f text (Run word size) = QuotedRun f text word size
 Quotes f text (Hangs size) = RunsOut f text
 
+-- where the text begins with neither a backslash nor a byte that f allows, the run has no bytes
 stop_run : {f : ℕ → Bool} {u q : List ℕ} → Near u q → s.Stops (λ b. b == ascii.backslash) u → s.Stops f u → IsQuoted f q [] q
 stop_run both_end g h = s.quoted_end
 stop_run same_byte (s.at_byte e) (s.at_byte g) = s.quoted_stop e g
 
+-- a run without a word takes no byte
 pub empty_run : {f : ℕ → Bool} {t q : List ℕ} → IsQuoted f t [] q → t ≡ q
 empty_run s.quoted_end = refl
 empty_run (s.quoted_stop e g) = refl
 
+-- a byte that f doesn't allow, and that is no backslash, begins no run
 no_run : (f : ℕ → Bool) (b : ℕ) (text : List ℕ) → (b == ascii.backslash) ≡ false → f b ≡ false → QuotedRun f (b ∷ text) [] 0
 no_run f b text e g = record {
   step = no_step (b ∷ text);
@@ -54,6 +63,7 @@ no_run f b text e g = record {
 module _ (f : ℕ → Bool) (b k : ℕ) (whole : List ℕ) (m : Step whole k)
     (goes : (t word q : List ℕ) → IsQuoted f t word q → IsQuoted f (m.front t) (b ∷ word) q)
     (out : RunsOut f (drop k whole) → RunsOut f whole) where
+  -- one more byte or escape before a run is part of that run
   grown : (q : Quoted) → Quotes f (drop k whole) q → Quotes f whole (with_byte b k q)
   grown (Run word size) r =
       let dd : drop size (drop k whole) ≡ drop (k + size) whole = drop-drop size k whole in
@@ -66,9 +76,11 @@ module _ (f : ℕ → Bool) (b k : ℕ) (whole : List ℕ) (m : Step whole k)
       }
   grown (Hangs size) r = out r
 
+-- the step over two bytes
 abbrev two_steps : (b c : ℕ) (text : List ℕ) → Step (b ∷ c ∷ text) 2
 two_steps b c text = steps 1 (byte_step b (c ∷ text)) 1 (byte_step c text)
 
+-- what `quoted` of Descent takes is the longest run of such bytes and escapes; where it hangs, the text ends within the run
 pub quotes : (f : ℕ → Bool) (text : List ℕ) → Quotes f text (quoted f text)
 quotes f [] = record {
   step = no_step [];
@@ -99,9 +111,11 @@ quotes f (b ∷ c ∷ text) =
 
 -- white space
 
+-- the first bytes of the text, so many, are white space, and no more follows
 abbrev pub Spaced : List ℕ → ℕ → Type 0
 Spaced text size = (m : Step text size) × ((q : List ℕ) → AreSpaces (m.front q) q) × s.Stops is_white (drop size text)
 
+-- the white space that Descent skips is white space by the grammar, and no more follows it
 pub spaces : (text : List ℕ) → Spaced text (prefix_len is_white text)
 spaces [] = (no_step [], λ q. s.no_space, s.at_end)
 spaces (b ∷ text) =
@@ -115,9 +129,11 @@ spaces (b ∷ text) =
 
 -- runs of bytes
 
+-- the first bytes of the text, so many, are the longest run of bytes that f allows
 abbrev Ran : (ℕ → Bool) → List ℕ → ℕ → Type 0
 Ran f text size = (m : Step text size) × ((q : List ℕ) → Near (drop size text) q → IsRun f (m.front q) (take size text) q)
 
+-- the longest front of bytes that f allows, as Descent counts it, is the longest run of them by the grammar
 pub runs : (f : ℕ → Bool) (text : List ℕ) → Ran f text (prefix_len f text)
 runs f [] = (no_step [], λ q n. s.run_ends (near_stops n s.at_end))
 runs f (b ∷ text) =
@@ -139,19 +155,24 @@ runs f (b ∷ text) =
 
 -- patterns
 
+-- the text is this pattern, and q is left
 abbrev pub PatternIs : ℕ → List ℕ → Pattern → List ℕ → Type 0
 PatternIs total t p q = IsPattern t p q
 
+-- the text ends in a word
 abbrev pub PatternCuts : ℕ → List ℕ → Type 0
 PatternCuts total t = RunsOut is_word t
 
+-- the text is one byte, with which no pattern begins
 abbrev pub PatternBad : ℕ → ℕ → List ℕ → SyntaxFault → Type 0
 PatternBad at total t fault = (x : ℕ) × (t ≡ x ∷ []) × Empty x × (fault ≡ EmptyTest at)
 
 module _ (at n : ℕ) (text : List ℕ) where
+  -- what Descent makes of a pattern is what the grammar says
   abbrev PatternMeant : d.Read Pattern → Type 0
   PatternMeant r = Meant AtByte n text PatternIs PatternCuts (PatternBad at) r
 
+  -- a word and a star are a pattern with a star
   starred_meant : (word : List ℕ) (size b : ℕ) (rest : List ℕ) → QuotedRun is_word text word size → drop size text ≡ b ∷ rest
       → (b == ascii.asterisk) ≡ true → PatternMeant (d.Took (pattern word true) (size + 1))
   starred_meant word size b rest r e h =
@@ -161,6 +182,7 @@ module _ (at n : ℕ) (text : List ℕ) where
         is = λ total q near place. s.starred (r.is (42 ∷ q) (subst (λ (t : List ℕ). Near t (42 ∷ q)) (sym f) same_byte));
       })
 
+  -- a word that no star follows is a pattern without one
   unstarred_meant : (x : ℕ) (word : List ℕ) (size : ℕ) → QuotedRun is_word text (x ∷ word) size
       → s.Stops (λ b. b == ascii.asterisk) (drop size text) → PatternMeant (d.Took (pattern (x ∷ word) false) size)
   unstarred_meant x word size r h = meant_took (record {
@@ -169,6 +191,7 @@ module _ (at n : ℕ) (text : List ℕ) where
         (near_stops near h);
   })
 
+  -- what follows the word of a pattern is what the grammar says: a star, another byte, or the end of the text
   end_meant : (word : List ℕ) (size : ℕ) → QuotedRun is_word text word size → (rest : List ℕ) → drop size text ≡ rest
       → PatternMeant (d.pattern_end at n word size rest)
   end_meant [] size r [] e = meant_ends (r.out e)
@@ -194,6 +217,7 @@ module _ (at n : ℕ) (text : List ℕ) where
       choose PatternMeant (b == ascii.asterisk) _ _ (λ h. starred_meant (x ∷ word) size b rest r e h)
       (λ h. unstarred_meant x word size r (subst (λ (t : List ℕ). s.Stops (λ x. x == ascii.asterisk) t) (sym e) (s.at_byte h)))
 
+  -- a pattern, which is a word, a word with a star or a star alone, is what the grammar says
   pub pattern_meant : PatternMeant (d.pattern_at at n text)
   pattern_meant = by (quoted is_word text) (quotes is_word text)
     where
@@ -203,18 +227,23 @@ module _ (at n : ℕ) (text : List ℕ) where
 
 -- names of functions
 
+-- the text after this front of a name is the rest of a function's name and its parenthesis
 abbrev pub NameIs : List ℕ → ℕ → List ℕ → List ℕ → List ℕ → Type 0
 NameIs name total t called q = (name ++ t ≡ called ++ ascii.opening_parenthesis ∷ q) × (is_function called ≡ true)
 
+-- this front and the text are a front of a function's name
 abbrev pub NameCuts : List ℕ → ℕ → List ℕ → Type 0
 NameCuts name total t = is_function_front (name ++ t) ≡ true
 
+-- this front and the text are no function's name and its parenthesis, from the last byte on
 abbrev pub NameBad : ℕ → List ℕ → ℕ → List ℕ → SyntaxFault → Type 0
 NameBad at name total t fault = IsNoFunction (name ++ t) × (fault ≡ UnknownFunction at)
 
+-- what Descent makes of a function's name after this front is what the grammar says
 abbrev FunctionMeant : ℕ → ℕ → List ℕ → List ℕ → d.Read (List ℕ) → Type 0
 FunctionMeant at n name text r = Meant AtByte n text (NameIs name) (NameCuts name) (NameBad at name) r
 
+-- the name of a function, after a front of it, with its parenthesis is what the grammar says
 pub function_meant : (at n : ℕ) (name text : List ℕ) → is_function_front name ≡ true → FunctionMeant at n name text
     (d.function_from at n name text)
 function_meant at n name [] h = meant_ends (ap is_function_front (append-nil name) ∙ h)

@@ -25,7 +25,12 @@ use Rattle.std.proofs.Common.{refl, subst, sym, ℕ}
 use Rattle.std.specs.List.{prefix_len}
 use Rattle.std.specs.Prelude.{◌-◌, ◌==◌}
 
--- What a test asks, and a whole test with the byte after it, as Descent takes them (Meant).
+-- What a test asks, and a whole test with the byte after it: what Descent makes of them is what the grammar says. It serves MeantForms. A
+-- mark is the `.` or `,` of a test. `Meant l n text Is Cuts Bad r` (Meant) says so of the result r for the text at the place n. What was
+-- taken `Is` the part, whatever rest that begins alike follows. Or the text ends in the part (`Cuts`), or in a byte that doesn't fit
+-- (`Bad`). The relations take the size `total` of a text, what is left of it from the part on, and for `Is` also the part and what is left
+-- after it. `Tried` is a test that may still be a pattern, with the byte after it. The numbers in the statements are bytes: 37 is %, 58 :.
+-- Descent is the grammar as functions (specs/Descent). The grammar itself has cases (specs/Spelling, Fronts, Refusals).
 
 -- a byte and white space, or the end of patterns, right after a . or , alone
 abbrev pub Bared : List ℕ → Type 0
@@ -53,22 +58,27 @@ pub data AskedBad (at total : ℕ) (g : ListContext) (order : Order) (negated : 
 
 -- bytes
 
+-- a mark can be in a word
 pub mark_word : (mark : ℕ) → is_mark mark ≡ true → is_word mark ≡ true
 mark_word mark e = each (λ b. is_word b ≡ true) (46 ∷ 44 ∷ []) mark e (refl, (refl, tt))
 
+-- a mark is no backslash
 pub mark_plain : (mark : ℕ) → is_mark mark ≡ true → (mark == ascii.backslash) ≡ false
 mark_plain mark e = other is_mark mark 92 e refl
 
+-- where a text doesn't begin with a byte that f allows, f doesn't allow its first byte
 pub first : {f : ℕ → Bool} {b : ℕ} {rest : List ℕ} → s.Stops f (b ∷ rest) → f b ≡ false
 first (s.at_byte g) = g
 
+-- a text that begins like another begins with the first byte of that one
 pub near_head : {b : ℕ} {u q : List ℕ} → Near (b ∷ u) q → (rest : List ℕ) × (q ≡ b ∷ rest)
 near_head (same_byte {q = q}) = (q, refl)
 
+-- where a text that begins like another is one byte, and f doesn't allow the other's first byte, f doesn't allow this byte
 first_near : {f : ℕ → Bool} {b x : ℕ} {text t : List ℕ} → Near (b ∷ text) t → t ≡ x ∷ [] → s.Stops f (b ∷ text) → f x ≡ false
 first_near {f} near e h = first (subst (λ (t : List ℕ). s.Stops f t) e (near_stops near h))
 
--- a word after a . or , is what a test asks
+-- a mark and a word after it ask for a suffix or a language
 pub asked_marked : {total mark b : ℕ} {g : ListContext} {t word q : List ℕ} → is_mark mark ≡ true → IsQuoted is_word t (b ∷ word) q
     → IsAsked total g (mark ∷ t) (d.marked mark (b ∷ word)) q
 asked_marked {total} {mark} {b} {g} {t} {word} {q} e i = by (mark == 46) (mark == 44) refl refl e
@@ -79,7 +89,7 @@ asked_marked {total} {mark} {b} {g} {t} {word} {q} e i = by (mark == 46) (mark =
     by false true h k f = subst (λ (z : ℕ). IsAsked total g (z ∷ t) (HasLanguage (b ∷ word)) q) (sym (same mark 44 k)) (s.language i)
     by false false h k f = differs (sym f)
 
--- a . or , and what is after it is a pattern
+-- a mark is a pattern where neither a word, an escape nor a star follows it
 mark_pattern : {mark b : ℕ} {q : List ℕ} → is_mark mark ≡ true → (b == ascii.backslash) ≡ false → is_word b ≡ false
     → (b == ascii.asterisk) ≡ false → IsPattern (mark ∷ b ∷ q) (pattern (mark ∷ []) false) (b ∷ q)
 mark_pattern {mark} e f g h = s.unstarred (s.quoted_byte (mark_plain mark e) (mark_word mark e) (s.quoted_stop f g)) (s.at_byte h)
@@ -88,25 +98,31 @@ module _ (deep : Lists) (c : ListContext) (outer : (c.levels == 0) ≡ false)
     (meets : (c.levels - 1 == 0) ≡ false → (n : ℕ) (text : List ℕ)
     → ListMeant (in_arguments (in_braces c)) n text (deep (in_arguments (in_braces c)) n text)) (at : ℕ) (order : Order) where
   module _ (negated : Bool) where
+    -- the text is what a test asks or a pattern, and q is left
     abbrev AskedIs : ℕ → List ℕ → Operand → List ℕ → Type 0
     AskedIs total t o q = IsOperand total (in_braces c) (may_emit order negated) t o q
 
+    -- the text ends in what a test asks
     abbrev AskedCuts : ℕ → List ℕ → Type 0
     AskedCuts total t = CutsAsked total (in_braces c) t
 
+    -- the text ends in a byte that doesn't fit in what a test asks
     abbrev Bad : ℕ → List ℕ → SyntaxFault → Type 0
     Bad total t fault = AskedBad at total (in_braces c) order negated t fault
 
+    -- what Descent makes of what a test asks is what the grammar says
     abbrev AskedMeant : ℕ → List ℕ → Read Operand → Type 0
     AskedMeant n text x = Meant AtByte n text AskedIs AskedCuts Bad x
 
     -- after a . or ,
 
     module _ (mark : ℕ) (is : is_mark mark ≡ true) where
+      -- what Descent makes of the text after the mark of a test is what the grammar says
       abbrev MarkMeant : ℕ → List ℕ → Read Operand → Type 0
       MarkMeant n text x = Meant AtByte n text (λ total t o q. AskedIs total (mark ∷ t) o q) (λ total t. AskedCuts total (mark ∷ t))
           (λ total t fault. Bad total (mark ∷ t) fault) x
 
+      -- a mark alone, with white space or the end of a pattern after it, is a pattern, as the grammar says
       bare_took : (n b : ℕ) (rest : List ℕ) → may_emit order negated ≡ true → (b == ascii.backslash) ≡ false → is_word b ≡ false
           → (b == ascii.asterisk) ≡ false → (is_white b ≡ true) ⊎ (is_of ends_pattern b ≡ true)
           → MarkMeant n (b ∷ rest) (Took (d.bare_operand mark) 0)
@@ -120,6 +136,7 @@ module _ (deep : Lists) (c : ListContext) (outer : (c.levels == 0) ≡ false)
           there total q u = subst (λ (z : List ℕ). AskedIs total (mark ∷ z) (d.bare_operand mark) z) (sym u.1)
               (by_bare h is (mark_pattern is f g e) (b, u.0, refl, i))
 
+      -- after a mark alone, in braces that may still hold patterns, Descent takes what the grammar says
       bare_meant : (n b : ℕ) (rest : List ℕ) → may_emit order negated ≡ true → (b == ascii.backslash) ≡ false → is_word b ≡ false
           → MarkMeant n (b ∷ rest) (d.bare_end at mark n b)
       bare_meant n b rest h f g =
@@ -144,6 +161,7 @@ module _ (deep : Lists) (c : ListContext) (outer : (c.levels == 0) ≡ false)
           (first (subst (λ (t : List ℕ). s.Stops is_word t) e
           q.stops)))
 
+      -- a mark and its word that no star follows are a test or a pattern, as the grammar says
       marked_took : (n x size : ℕ) (text word : List ℕ) → QuotedRun is_word text (x ∷ word) size
           → s.Stops (λ y. y == ascii.asterisk) (drop size text) → MarkMeant n text (Took (d.marked_operand mark (x ∷ word)) size)
       marked_took n x size text word q h = meant_took (record {
@@ -151,6 +169,7 @@ module _ (deep : Lists) (c : ListContext) (outer : (c.levels == 0) ≡ false)
         is = λ total u near place. by_mark is (q.is u near) (near_stops near h);
       })
 
+      -- after a mark and its word, Descent takes what the grammar says
       mark_end_meant : (n size : ℕ) (text word : List ℕ) → QuotedRun is_word text word size → (rest : List ℕ) → drop size text ≡ rest
           → (emits : Bool) → may_emit order negated ≡ emits → MarkMeant n text (d.mark_end at emits mark n word size rest)
       mark_end_meant n size text [] q [] e emits h = meant_ends (cuts.cut_marked is (q.out e))
@@ -175,6 +194,7 @@ module _ (deep : Lists) (c : ListContext) (outer : (c.levels == 0) ≡ false)
           (r.no_end refl refl))))
           (λ i. marked_took n x size text word q (subst (λ (t : List ℕ). s.Stops (λ y. y == ascii.asterisk) t) (sym e) (s.at_byte i)))
 
+      -- what follows the mark of a test is what the grammar says
       mark_meant : (n : ℕ) (text : List ℕ) → MarkMeant n text (d.mark_text at (may_emit order negated) mark n (quoted is_word text) text)
       mark_meant n text = by (quoted is_word text) (quotes is_word text)
         where
@@ -184,11 +204,13 @@ module _ (deep : Lists) (c : ListContext) (outer : (c.levels == 0) ≡ false)
 
     -- a function's result
 
+    -- a byte that doesn't fit in the call of a test doesn't fit in the test
     result_bad : (n total : ℕ) (t : List ℕ) (fault : SyntaxFault) → (c.levels - 1 == 0) ≡ false → At total n (37 ∷ 58 ∷ t)
         → CallBad (in_braces c) n total t fault → Bad total (37 ∷ 58 ∷ t) fault
     result_bad n total t fault e place (no_function i) = asked_bad r.asked_due (r.test_no_function place e i)
     result_bad n total t fault e place (in_list name is reaches refuses) = asked_bad (r.in_function name e is reaches) refuses
 
+    -- the call of a function that a test asks for is what the grammar says
     result_meant : (n : ℕ) (text : List ℕ) → (c.levels - 1 == 0) ≡ false → AskedMeant n (37 ∷ text) (past 1 (d.result deep c at n text))
     result_meant n [] e = meant_ends (cuts.cut_call e)
     result_meant n (b ∷ text) e =
@@ -216,6 +238,7 @@ module _ (deep : Lists) (c : ListContext) (outer : (c.levels == 0) ≡ false)
 
     -- what a test asks
 
+    -- what a test asks, after its white space and `!`, is what the grammar says
     asked_meant : (n : ℕ) (text : List ℕ) → s.Stops is_white text → s.Stops (is_default order negated) text
         → AskedMeant n text (d.asked deep c at (may_emit order negated) n text)
     asked_meant n [] w f = meant_ends (cuts.cut_switch s.at_end cuts.out_end)
@@ -244,12 +267,15 @@ module _ (deep : Lists) (c : ListContext) (outer : (c.levels == 0) ≡ false)
 
 -- the byte after a test, and white space
 
+-- white space, and the byte after it, which isn't taken
 pub data ByteIs {Y : Type 0} (make : ℕ → Y) : List ℕ → Y → List ℕ → Type 0 where
   byte_is : {b : ℕ} {t q : List ℕ} → AreSpaces t (b ∷ q) → is_white b ≡ false → ByteIs make t (make b) (b ∷ q)
 
+-- what Descent makes of white space and the byte after it is what the grammar says
 abbrev pub ByteMeant : {Y : Type 0} → (ℕ → Y) → ℕ → List ℕ → Read Y → Type 0
 ByteMeant make n text x = Meant AtByte n text (λ total t y q. ByteIs make t y q) (λ total t. AreSpaces t []) (λ total t fault. ⊥) x
 
+-- white space and the byte after it, from which something is made, are what the grammar says
 pub byte_meant : {Y : Type 0} (at : ℕ) (make : ℕ → Y) (end : List ℕ → Read Y) → end [] ≡ Ends at
     → ((b : ℕ) (rest : List ℕ) → end (b ∷ rest) ≡ Took (make b) 0) → (n : ℕ) (text : List ℕ)
     → ByteMeant make n text (past (prefix_len is_white text) (end (drop (prefix_len is_white text) text)))
@@ -282,15 +308,18 @@ byte_meant {Y} at make end none some n text = by (drop (prefix_len is_white text
 
 -- a test after its sign
 
+-- the text is a test after its sign, with white space and the byte after it
 pub data TriedFrom (total : ℕ) (g : ListContext) (order : Order) (start : ℕ) (negated : Bool) : List ℕ → Tried → List ℕ → Type 0 where
   tried_from : {b m : ℕ} {t w q : List ℕ} {o : Operand} → IsOperand total g (may_emit order negated) t o w → At total m w
       → AreSpaces w (b ∷ q) → is_white b ≡ false
       → TriedFrom total g order start negated t (record { place = span start m; negated = negated; operand = o; byte = b }) (b ∷ q)
 
+-- the text ends in a test after its sign, or in white space after the test
 pub data FromCuts (total : ℕ) (g : ListContext) (emits : Bool) : List ℕ → Type 0 where
   in_operand : {t : List ℕ} → CutsAsked total g t → FromCuts total g emits t
   after_operand : {t w : List ℕ} {o : Operand} → IsOperand total g emits t o w → AreSpaces w [] → FromCuts total g emits t
 
+-- a test, white space and a byte are the test with its byte
 from_end : {total m start : ℕ} {g : ListContext} {order : Order} {negated : Bool} {t u q : List ℕ} {o : Operand} {tr : Tried}
     → IsOperand total g (may_emit order negated) t o u → At total m u
     → ByteIs {Y = Tried} (λ b. record { place = span start m; negated = negated; operand = o; byte = b }) u tr q
@@ -302,27 +331,31 @@ pub data IsTried (total : ℕ) (g : ListContext) (order : Order) : List ℕ → 
   is_tried : {start : ℕ} {t u v q : List ℕ} {negated : Bool} {tr : Tried} → AreSpaces t u → At total start u → IsSign u negated v
       → TriedFrom total g order start negated v tr q → IsTried total g order t tr q
 
+-- the text ends in tests, or in patterns where the braces may hold these
 pub data TestCuts (total : ℕ) (g : ListContext) (order : Order) : List ℕ → Type 0 where
   cut_test : {t : List ℕ} → CutsTests total g t → TestCuts total g order t
   cut_pattern : {t : List ℕ} → order ≡ AtFront → CutsPatterns t → TestCuts total g order t
 
+-- the text ends in a byte that doesn't fit in tests, or in patterns where the braces may hold these
 pub data TestBad (at total : ℕ) (g : ListContext) (order : Order) : List ℕ → SyntaxFault → Type 0 where
   test_bad : {t last : List ℕ} {due : Due} {fault : SyntaxFault} → ReachesTests total g at order t due last → Refuses total due last fault
       → TestBad at total g order t fault
   emit_bad : {t last : List ℕ} {due : Due} {fault : SyntaxFault} → order ≡ AtFront → ReachesEmits at t due last
       → Refuses total due last fault → TestBad at total g order t fault
 
+-- braces may still hold patterns only at their front and without a `!`
 pub emits_at : (order : Order) (negated : Bool) → may_emit order negated ≡ true → (order ≡ AtFront) × (negated ≡ false)
 emits_at AtFront false e = (refl, refl)
 emits_at AtFront true e = differs (sym e)
 emits_at AtNext negated e = differs (sym e)
 emits_at AtBar negated e = differs (sym e)
 
+-- a sign that is no `!` takes no byte
 pub unsigned : {u v : List ℕ} {negated : Bool} → IsSign u negated v → negated ≡ false → u ≡ v
 unsigned (s.plain_sign h) e = refl
 unsigned (s.not_sign sp) e = differs e
 
--- what was taken is asked, or is a pattern
+-- what Descent took for a test or a pattern is a test by the grammar, or a pattern where the braces may still hold these
 pub operand_is : {total : ℕ} {g : ListContext} {emits : Bool} {t q : List ℕ} {o : Operand} → IsOperand total g emits t o q
     → ((a : Asked) × IsAsked total g t a q) ⊎ ((emits ≡ true) × ((p : Pattern) × IsPattern t p q))
 operand_is (by_switch {p = p} h i) = inl (HasSwitch p, s.switch h i)
@@ -334,6 +367,7 @@ operand_is (by_result {name = name} {items = items} i) = inl (HasResult name ite
 
 module _ {total : ℕ} {g : ListContext} {order : Order} {t u v : List ℕ} {negated : Bool} (sp : AreSpaces t u) (sign : IsSign u negated v)
   where
+    -- a text that ends in a test after its white space and sign ends in a test or a pattern
     test_cuts : FromCuts total g (may_emit order negated) v → TestCuts total g order t
     test_cuts (in_operand i) = cut_test (cuts.in_asked sp sign i)
     test_cuts (after_operand {w = w} o end) = by (operand_is o)
@@ -345,6 +379,7 @@ module _ {total : ℕ} {g : ListContext} {order : Order} {t u v : List ℕ} {neg
             let e = emits_at order negated i.0 in
             cut_pattern e.0 (cuts.after_pattern sp (subst (λ (x : List ℕ). IsPattern x i.1.0 w) (sym (unsigned sign e.1)) i.1.1) end)
 
+-- a byte that doesn't fit in what a test asks doesn't fit in the test
 asked_test : {at total : ℕ} {g : ListContext} {order : Order} {t u v : List ℕ} {negated : Bool} {fault : SyntaxFault} → AreSpaces t u
     → IsSign u negated v → AskedBad at total g order negated v fault → TestBad at total g order t fault
 asked_test sp sign (asked_bad reaches refuses) = test_bad (r.in_test sp sign reaches) refuses
@@ -352,6 +387,7 @@ asked_test {order = order} {t} {negated = negated} sp sign (mark_bad {mark} {b} 
     let f = emits_at order negated e in
     emit_bad f.0 (r.after_mark (subst (λ (x : List ℕ). AreSpaces t x) (unsigned sign f.1) sp) is p) (r.mark_alone w h)
 
+-- after a `!` there is no default
 no_default : (order : Order) (text : List ℕ) → s.Stops (is_default order true) text
 no_default order [] = s.at_end
 no_default AtFront (b ∷ text) = s.at_byte refl
@@ -361,11 +397,13 @@ no_default AtBar (b ∷ text) = s.at_byte refl
 module _ (deep : Lists) (c : ListContext) (outer : (c.levels == 0) ≡ false)
     (meets : (c.levels - 1 == 0) ≡ false → (n : ℕ) (text : List ℕ)
     → ListMeant (in_arguments (in_braces c)) n text (deep (in_arguments (in_braces c)) n text)) (at : ℕ) (order : Order) where
+  -- what Descent makes of a test after its sign, with the byte after it, is what the grammar says
   abbrev FromMeant : ℕ → Bool → ℕ → List ℕ → Read Tried → Type 0
   FromMeant start negated n text x = Meant AtByte n text (λ total t tr q. TriedFrom total (in_braces c) order start negated t tr q)
       (λ total t. FromCuts total (in_braces c) (may_emit order negated) t)
       (λ total t fault. AskedBad at total (in_braces c) order negated t fault) x
 
+  -- a test after its sign, with the byte after it, is what the grammar says
   from_meant : (start : ℕ) (negated : Bool) (n : ℕ) (text : List ℕ) → s.Stops is_white text → s.Stops (is_default order negated) text
       → FromMeant start negated n text (d.asked_from deep c at order start negated n text)
   from_meant start negated n text w f = meant_then
@@ -381,18 +419,21 @@ module _ (deep : Lists) (c : ListContext) (outer : (c.levels == 0) ≡ false)
       (λ total u fault near place i. absurd i))
       (λ total t place near i. in_operand i) (λ total t fault place near i. i)
 
+  -- what Descent makes of a test after its white space, with a `!` or none, is what the grammar says
   abbrev SignedMeant : ℕ → ℕ → List ℕ → Read Tried → Type 0
   SignedMeant start n text x = Meant AtByte n text
       (λ total t tr q. (negated : Bool) × (v : List ℕ) × IsSign t negated v × TriedFrom total (in_braces c) order start negated v tr q)
       (λ total t. (negated : Bool) × (v : List ℕ) × IsSign t negated v × FromCuts total (in_braces c) (may_emit order negated) v)
       (λ total t fault. (negated : Bool) × (v : List ℕ) × IsSign t negated v × AskedBad at total (in_braces c) order negated v fault) x
 
+  -- what Descent makes of a test after its `!` is what the grammar says
   abbrev NotMeant : ℕ → ℕ → List ℕ → Read Tried → Type 0
   NotMeant start n text x = Meant AtByte n text
       (λ total t tr q. (v : List ℕ) × AreSpaces t v × TriedFrom total (in_braces c) order start true v tr q)
       (λ total t. (v : List ℕ) × AreSpaces t v × FromCuts total (in_braces c) (may_emit order true) v)
       (λ total t fault. (v : List ℕ) × AreSpaces t v × AskedBad at total (in_braces c) order true v fault) x
 
+  -- a test after its `!`, with white space between them, is what the grammar says
   not_meant : (start n : ℕ) (text : List ℕ) → start + 1 ≡ n → NotMeant start n text
       (d.negated_after deep c at order start (prefix_len is_white text) text)
   not_meant start n text e = meant_past AtByte n (prefix_len is_white text) text w.0
@@ -408,6 +449,7 @@ module _ (deep : Lists) (c : ListContext) (outer : (c.levels == 0) ≡ false)
       w : Spaced text (prefix_len is_white text)
       w = spaces text
 
+  -- a test with a `!` or without, after its white space, is what the grammar says
   signed_meant : (n : ℕ) (text : List ℕ) → s.Stops is_white text → s.Stops (is_default order false) text
       → SignedMeant n n text (d.signed deep c at order n text)
   signed_meant n [] w f = meant_ends (false, [], s.plain_sign s.at_end, in_operand (cuts.cut_switch s.at_end cuts.out_end))
@@ -425,10 +467,12 @@ module _ (deep : Lists) (c : ListContext) (outer : (c.levels == 0) ≡ false)
       (λ total t place near i. (false, t, s.plain_sign (near_stops near (s.at_byte e)), i))
       (λ total t fault place near i. (false, t, s.plain_sign (near_stops near (s.at_byte e)), i)))
 
+  -- what Descent makes of a whole test, with the byte after it, is what the grammar says
   abbrev pub TestMeant : ℕ → List ℕ → Read Tried → Type 0
   TestMeant n text x = Meant AtByte n text (λ total t tr q. IsTried total (in_braces c) order t tr q)
       (λ total t. TestCuts total (in_braces c) order t) (λ total t fault. TestBad at total (in_braces c) order t fault) x
 
+  -- a whole test with the byte after it is what the grammar says, unless it is the colon of a default
   pub one_test_meant : (n : ℕ) (text : List ℕ) → s.Stops (is_default order false) (drop (prefix_len is_white text) text)
       → TestMeant n text (d.one_test deep c at order n text)
   one_test_meant n text f = meant_past AtByte n (prefix_len is_white text) text w.0

@@ -16,8 +16,10 @@ use Rattle.drv_syntax.specs.declared.fault.SyntaxFault.{SyntaxFault}
 use Rattle.std.proofs.Common.{◌≡◌, ◌∙◌, ◌+◌, ◌⊎◌, List, [], ap, arith, drop, inl, inr, length, refl, subst, sym, take, ℕ}
 
 -- What Descent makes of a text is what the grammar says of it: the laws `read_is_spelled`, `unrefused_is_front` and `refused_kinds`.
+-- Descent is the grammar as functions (specs/Descent). The grammar itself has cases (specs/Spelling, Fronts, Refusals).
 
 module _ (text : List ℕ) where
+  -- a text whose tree Descent gives has this tree by the grammar
   spelled : (r : Read (Items × ℕ)) → ListMeant top 0 text r → (items : Items) → outcome r ≡ Got items → Spells text items
   spelled (Took list size) m items e = by (of_took m)
     where
@@ -37,6 +39,7 @@ module _ (text : List ℕ) where
   spelled (Ends at) m items e = absurd cc
   spelled (Stops k fault) m items e = absurd cc
 
+  -- a text that Descent says is cut short is a front by the grammar
   cut_front : (r : Read (Items × ℕ)) → ListMeant top 0 text r → (at : ℕ) → outcome r ≡ Cut at → Front text
   cut_front (Took list size) m at e = absurd cc
   cut_front (Ends n) m at e =
@@ -44,6 +47,7 @@ module _ (text : List ℕ) where
       subst (λ (i : ℕ). AreFrontItems i top text) none (of_ends m)
   cut_front (Stops k fault) m at e = absurd cc
 
+  -- a text that Descent refuses is refused by a case of the grammar, at the byte that doesn't fit and with the same fault
   refused : (r : Read (Items × ℕ)) → ListMeant top 0 text r → (k : ℕ) (fault : SyntaxFault) → outcome r ≡ Bad k fault
       → IsRefused (take (k + 1) text) fault
   refused (Took list size) m k fault e = absurd cc
@@ -59,6 +63,7 @@ module _ (text : List ℕ) where
       subst (λ (f : SyntaxFault). IsRefused (take (k + 1) text) f) same_fault
       (subst (λ (t : List ℕ). IsRefused t other) (b.taken ∙ ap (λ (j : ℕ). take j text) size) cut)
 
+-- where Descent gives a tree, the grammar says that the text has this tree
 pub read_is_spelled : (text : List ℕ) (items : Items) → read text ≡ Got items → Spells text items
 read_is_spelled text items e = spelled text ((levels (depth text)).0 top 0 text) (text_read text) items e
 
@@ -68,9 +73,11 @@ front_of : {size : ℕ} {c : ListContext} {text rest : List ℕ} {items : Items}
 front_of {size} {c} (s.no_item e) z = subst (λ (t : List ℕ). AreFrontItems size c t) (sym z) cuts.items_end
 front_of (s.next_item a i b l) z = cuts.whole_item i (front_of l z)
 
+-- a text that Descent doesn't refuse is a front of a spec text by the grammar
 pub unrefused_is_front : (text : List ℕ) → Unrefused text → Front text
 unrefused_is_front text (inl (items, e)) = front_of (read_is_spelled text items e) refl
 unrefused_is_front text (inr (at, e)) = cut_front text ((levels (depth text)).0 top 0 text) (text_read text) at e
 
+-- where Descent refuses a text, a case of the grammar refuses it up to the byte that doesn't fit, with the same fault
 pub refused_kinds : (text : List ℕ) (k : ℕ) (fault : SyntaxFault) → read text ≡ Bad k fault → IsRefused (take (k + 1) text) fault
 refused_kinds text k fault e = refused text ((levels (depth text)).0 top 0 text) (text_read text) k fault e

@@ -19,28 +19,34 @@ use Rattle.std.proofs.Common.{◌≡◌, ◌+◌, ◌++◌, Bool, false, true, i
 use Rattle.std.specs.List.{prefix_len}
 use Rattle.std.specs.Prelude.{◌==◌, codes, nat_le}
 
--- A directive is no white space. It serves the reader's `items`, which leaves white space out at the end of an X.
+-- A directive is no white space. It serves the reader's `items`, which leaves white space out at the end of an X, and so moves the tail of
+-- the list after each directive. `NotWhite r` says of the result r that it is no item of white space.
 
+-- what was read, if anything, is no white space
 abbrev pub NotWhite : Read Item → Type 0
 NotWhite (Took one k) = is_white_item one ≡ false
 NotWhite (Ends at) = Unit {0}
 NotWhite (Stops n fault) = Unit {0}
 
+-- bytes before an item don't make it white space
 past_white : (k : ℕ) (r : Read Item) → NotWhite r → NotWhite (past k r)
 past_white k (Took one size) h = h
 past_white k (Ends at) h = tt
 past_white k (Stops n fault) h = tt
 
+-- an item read in a directive is no white space if it isn't by itself
 within_white : (at : ℕ) (r : Read Item) → NotWhite r → NotWhite (within at r)
 within_white at (Took one size) h = h
 within_white at (Ends n) h = tt
 within_white at (Stops n fault) h = tt
 
+-- an item after another part is no white space if it isn't by itself
 then_white : {X : Type 0} (r : Read X) (goes : X → ℕ → Read Item) → ((x : X) (k : ℕ) → NotWhite (goes x k)) → NotWhite (then_read r goes)
 then_white (Took x size) goes h = h x size
 then_white (Ends at) goes h = tt
 then_white (Stops n fault) goes h = tt
 
+-- %g, %u, %U, %| and %m are no white space
 suffix_white : (kind : TempKind) (n : ℕ) (text : List ℕ) → NotWhite (d.suffix kind n text)
 suffix_white kind n [] = refl
 suffix_white kind n (b ∷ text) = by (is_suffix b)
@@ -60,6 +66,7 @@ suffix_white kind n (b ∷ text) = by (is_suffix b)
     by true = refl
     by false = object (b == ascii.percent) text refl
 
+-- %x{OPTION} is no white space
 option_white : (at n : ℕ) (text : List ℕ) → NotWhite (d.option at n text)
 option_white at n [] = tt
 option_white at n (b ∷ text) = by (b == ascii.opening_brace)
@@ -77,6 +84,7 @@ option_white at n (b ∷ text) = by (b == ascii.opening_brace)
     by true = past_white 1 (d.option_text at (n + 1) (quoted is_option text) text) (inside (quoted is_option text))
     by false = tt
 
+-- %e and %n are no white space
 saying_white : (list : Kind) (kind : SayKind) (n : ℕ) (text : List ℕ) → NotWhite (d.saying list kind n text)
 saying_white list kind n text = by (quoted (is_said list) text)
   where
@@ -96,6 +104,7 @@ saying_white list kind n text = by (quoted (is_said list) text)
     by (Hangs size) = tt
     by (Run word size) = ended word size (drop size text)
 
+-- %(NAME) is no white space
 name_white : (at n : ℕ) (name text : List ℕ) → NotWhite (d.name_from at n name text)
 name_white at n name [] = tt
 name_white at n name (b ∷ text) = by (is_name_byte b) (nat_le (length (name ++ b ∷ [])) 255) (name_white at (n + 1) (name ++ b ∷ []) text)
@@ -116,6 +125,7 @@ name_white at n name (b ∷ text) = by (is_name_byte b) (nat_le (length (name ++
     by false u ih = ended name
 
 module _ (lists deep : Lists) (c : ListContext) (at : ℕ) where
+  -- what braces or arguments give is no white space, whether a level is left or not
   nested_white : (n : ℕ) (r : Read Item) → NotWhite r → NotWhite (d.nested c.levels at n r)
   nested_white n r h = by (c.levels == 0)
     where
@@ -123,6 +133,7 @@ module _ (lists deep : Lists) (c : ListContext) (at : ℕ) where
       by true = tt
       by false = h
 
+  -- braces are no white space
   braced_white : (kind : BraceKind) (n : ℕ) (text : List ℕ) → NotWhite (d.braces lists deep c at kind n text)
   braced_white kind n text = then_white (d.choices lists deep c at AtFront n 0 text) (λ brace size. Took (braced kind brace) size)
       (λ brace size. by kind brace)
@@ -132,6 +143,7 @@ module _ (lists deep : Lists) (c : ListContext) (at : ℕ) where
       by IntoFailureFile brace = refl
       by IntoArgumentsFile brace = refl
 
+  -- %W and %@ are no white space
   marked_white : (kind : BraceKind) (n : ℕ) (text : List ℕ) → NotWhite (d.marked_braces lists deep c at kind n text)
   marked_white kind n [] = tt
   marked_white kind n (b ∷ text) = by (b == ascii.opening_brace)
@@ -140,11 +152,13 @@ module _ (lists deep : Lists) (c : ListContext) (at : ℕ) where
       by true = past_white 1 (d.braces lists deep c at kind (n + 1) text) (braced_white kind (n + 1) text)
       by false = tt
 
+  -- %* is no white space
   star_white : (n : ℕ) (owner : Owner) → NotWhite (d.star at n owner)
   star_white n Nobody = tt
   star_white n Mixed = tt
   star_white n Starred = refl
 
+  -- no directive is white space, by its byte
   by_white : (n : ℕ) (x : Directive) (text : List ℕ) → NotWhite (d.directive_by lists deep c at n x text)
   by_white n directives.Nowhere text = tt
   by_white n (directives.Whole leaf) text = refl
@@ -164,6 +178,7 @@ module _ (lists deep : Lists) (c : ListContext) (at : ℕ) where
   by_white n (directives.WithMarkedBraces kind) text = nested_white n (d.marked_braces lists deep c at kind (n + 1) text)
       (marked_white kind (n + 1) text)
 
+-- a directive, from its percent sign on, is no white space
 pub directive_white : (lists deep : Lists) (c : ListContext) (at : ℕ) (text : List ℕ) → NotWhite (d.directive lists deep c at text)
 directive_white lists deep c at [] = tt
 directive_white lists deep c at (b ∷ text) = by (is_allowed c.in_arguments b)

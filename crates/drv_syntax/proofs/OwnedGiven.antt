@@ -21,10 +21,14 @@ use Rattle.std.proofs.Common.{refl, set, subst, sym, take, ℕ}
 use Rattle.std.proofs.Math.Seq.{set-append_seam, take-append_seam}
 use Rattle.std.specs.Prelude.{◌&&◌}
 
--- What is written of an alternative, whose X is written without the white space at its end. It serves the reader's `x` and `choices`.
+-- What is written of an alternative: its token, its tests, and its X without the white space at the X's end. It serves the clauses of the
+-- reader's `x` and `choices`. The code opens the token, writes all items, and cuts the white space off at the end. The lemmas show that
+-- this is the alternative of specs/Labels, written at once (`wrote`). A `Tail` is where a list ends without that white space. A `Choice` is
+-- an alternative whose token is open.
 
 -- tests
 
+-- tests written one after another are the tests written at once
 pub tests_wrote : (ts : Tests) (x : Choice × Parts) → (tests_on x ts).1 ≡ wrote (test_nodes ts) (tests_have_star ts) x.1
 tests_wrote no_test x = sym (wrote_none x.1)
 tests_wrote (test s negated a ts) x =
@@ -32,14 +36,17 @@ tests_wrote (test s negated a ts) x =
     ∙ sym (wrote_both (node kinds.Test (test_label negated a) s (asked_nodes a) no_node) (test_nodes ts) (asked_has_star a)
     (tests_have_star ts) x.1)
 
+-- b and true is b
 and_true : (b : Bool) → (b && true) ≡ b
 and_true true = refl
 and_true false = refl
 
+-- three conditions joined by and are the same in either grouping
 and_assoc : (a b c : Bool) → ((a && b) && c) ≡ (a && (b && c))
 and_assoc true b c = refl
 and_assoc false b c = refl
 
+-- all tests are starred patterns without a `!` if the first is and all others are
 starred_more : (s : Span) (negated : Bool) (a : Asked) (ts : Tests) → (is_starred negated a && all_starred ts)
     ≡ all_starred (test s negated a ts)
 starred_more s false (HasSwitch (pattern word true)) ts = refl
@@ -49,9 +56,11 @@ starred_more s false (HasLanguage word) ts = refl
 starred_more s false (HasResult name arguments) ts = refl
 starred_more s true a ts = refl
 
+-- the open alternative, with or without starred tests
 abbrev with_starred : Choice → Bool → Choice
 with_starred c starred = record { part = c.part; label = c.label; starred = starred }
 
+-- after its tests, an alternative is starred if it was before and all of them are starred patterns without a `!`
 pub tests_choice : (ts : Tests) (x : Choice × Parts) → (tests_on x ts).0 ≡ with_starred x.0 (x.0.starred && all_starred ts)
 tests_choice no_test x = ap (λ b. with_starred x.0 b) (sym (and_true x.0.starred))
 tests_choice (test s negated a ts) x =
@@ -61,13 +70,14 @@ tests_choice (test s negated a ts) x =
 
 -- white space at the end of a list
 
--- what is written is this and more
+-- the second parts are the first and more after them
 record More (a b : Parts) : Type 0 where
   pub tokens : List Token
   pub tokens_are : b.tokens ≡ a.tokens ++ tokens
   pub labels : List Label
   pub labels_are : b.labels ≡ a.labels ++ labels
 
+-- a list written whole is the list without the white space at its end, and more after that
 trims : (items : Items) (z : Parts) → More (list_written (trimmed items) z) (list_written items z)
 trims none z = record { tokens = []; tokens_are = sym (append-nil z.tokens); labels = []; labels_are = sym (append-nil z.labels) }
 trims (more s item items) z =
@@ -91,6 +101,7 @@ trims (more s item items) z =
       labels_are = h.labels_are ∙ append_assoc z.labels (labels one) h.labels;
     }
 
+-- the tail of a list at its last item
 abbrev ended_by : Tail → Items → Parts → Tail
 ended_by tail none z = tail
 ended_by tail (more s item items) z = record {
@@ -100,6 +111,7 @@ ended_by tail (more s item items) z = record {
   end = 0;
 }
 
+-- the tail that the code keeps while it reads a list is the end of the list without the white space at its end
 ended_is : (items : Items) (tail : Tail) (z : Parts) → tail_on tail items z ≡ ended_by tail (trimmed items) z
 ended_is none tail z = refl
 ended_is (more s item items) tail z =
@@ -121,48 +133,61 @@ ended_is (more s item items) tail z =
 -- an alternative, from its first test or its colon on
 
 module _ (z : Parts) (start place : ℕ) (ts : Tests) (items : Items) where
+  -- the parts with the alternative open
   abbrev front : Parts
   front = opened kinds.Alternative no_label start z
 
+  -- the parts with its tests written too
   abbrev asked : Parts
   asked = wrote (test_nodes ts) (tests_have_star ts) front
 
+  -- the tail of its X before any item
   abbrev begun : Tail
   begun = record { kept = place; tokens = length asked.tokens; labels = length asked.labels; end = 0 }
 
+  -- the parts with its X written, without the white space at its end
   abbrev list : Parts
   list = list_written (trimmed items) (unheld asked)
 
+  -- the parts with its X written, with that white space
   abbrev whole : Parts
   whole = list_written items (unheld asked)
 
+  -- its tests and its X as one list of parts
   abbrev inner : Nodes
   inner = both (test_nodes ts) (nodes_of (trimmed items))
 
+  -- the tail of a list counts the tokens up to its end
   size_of : (x : Items) → (ended_by begun x (unheld asked)).tokens ≡ length (list_written x (unheld asked)).tokens
   size_of none = refl
   size_of (more s item x) = refl
 
+  -- the tail of a list counts the labels up to its end
   labels_of : (x : Items) → (ended_by begun x (unheld asked)).labels ≡ length (list_written x (unheld asked)).labels
   labels_of none = refl
   labels_of (more s item x) = refl
 
+  -- the tail of a list has the place of its end
   end_of : (x : Items) → (ended_by begun x (unheld asked)).kept ≡ last_place x place
   end_of none = refl
   end_of (more s item x) = refl
 
+  -- the first items of a list that begins with a, as many as a has, are a
   cut : {X : Type 0} (a b c : List X) → b ≡ a ++ c → take (length a) b ≡ a
   cut a b c e = ap (λ xs. take (length a) xs) e ∙ take-append_seam a c
 
+  -- the code's tail is that of the X without the white space at its end
   tail_is : tail_on begun items (unheld asked) ≡ ended_by begun (trimmed items) (unheld asked)
   tail_is = ended_is items begun (unheld asked)
 
+  -- the tokens that the code keeps are those without the white space at the end
   kept_tokens : take (tail_on begun items (unheld asked)).tokens whole.tokens ≡ list.tokens
   kept_tokens =
       ap (λ (t : Tail). take t.tokens whole.tokens) tail_is
       ∙ ap (λ (n : ℕ). take n whole.tokens) (size_of (trimmed items))
       ∙ cut list.tokens whole.tokens (trims items (unheld asked)).tokens (trims items (unheld asked)).tokens_are
 
+  -- the labels that the code keeps are those without the white space at the end
   kept_labels : take (tail_on begun items (unheld asked)).labels whole.labels ≡ list.labels
   kept_labels =
       ap (λ (t : Tail). take t.labels whole.labels) tail_is
@@ -173,6 +198,7 @@ module _ (z : Parts) (start place : ℕ) (ts : Tests) (items : Items) where
   list_is : list ≡ wrote (nodes_of (trimmed items)) (has_star (trimmed items)) (unheld asked)
   list_is = list_wrote (trimmed items) (unheld asked)
 
+  -- the tests and then the X, written one after the other, are both written at once
   one_list : wrote inner (tests_have_star ts) front ≡ wrote (nodes_of (trimmed items)) false asked
   one_list = ap (λ (h : Bool). wrote inner h front) (sym (none_more (tests_have_star ts)))
       ∙ wrote_both (test_nodes ts) (nodes_of (trimmed items)) (tests_have_star ts) false front
@@ -181,27 +207,34 @@ module _ (z : Parts) (start place : ℕ) (ts : Tests) (items : Items) where
       none_more true = refl
       none_more false = refl
 
+  -- their tokens are those of both at once
   tokens_is : list.tokens ≡ (wrote inner (tests_have_star ts) front).tokens
   tokens_is = ap (λ (y : Parts). y.tokens) list_is ∙ sym (ap (λ (y : Parts). y.tokens) one_list)
 
+  -- their labels are those of both at once
   labels_is : list.labels ≡ (wrote inner (tests_have_star ts) front).labels
   labels_is = ap (λ (y : Parts). y.labels) list_is ∙ sym (ap (λ (y : Parts). y.labels) one_list)
 
+  -- the label of the alternative says that its X has a %* if one was read in it
   label_is : star_label whole.holds ≡ alternative_label (trimmed items)
   label_is = ap (λ (h : Bool). star_label h) (ap (λ (y : Parts). y.holds) (list_wrote items (unheld asked)) ∙ sym (trim_star items))
 
+  -- the place where the X ends without the white space at its end
   abbrev end : ℕ
   end = last_place (trimmed items) place
 
+  -- parts of these tokens and labels, with or without a %* of their X
   abbrev parts_of : List Token → List Label → Bool → Parts
   parts_of ts ls h = record { tokens = ts; labels = ls; holds = h }
 
+  -- with the alternative closed, the tokens are those of the tree's alternative
   closed_tokens : set list.tokens (length z.tokens) (whole_token kinds.Alternative start end (length list.tokens))
       ≡ (choice_written (span start end) ts (trimmed items) z).tokens
   closed_tokens =
       ap (λ xs. set xs (length z.tokens) (whole_token kinds.Alternative start end (length xs))) tokens_is
       ∙ ap (λ (y : Parts). y.tokens) (closed_is kinds.Alternative kinds.Alternative no_label start end inner (tests_have_star ts) z)
 
+  -- with its label set, the labels are those of the tree's alternative
   closed_labels : (l : Label) → l ≡ alternative_label (trimmed items) → set list.labels (length z.labels) l
       ≡ (choice_written (span start end) ts (trimmed items) z).labels
   closed_labels l e =
@@ -210,6 +243,7 @@ module _ (z : Parts) (start place : ℕ) (ts : Tests) (items : Items) where
       ∙ ap (λ (x : Label). z.labels ++ x ∷ labels inner) e
       ∙ ap (λ xs. z.labels ++ alternative_label (trimmed items) ∷ xs) (sym (append-nil (labels inner)))
 
+  -- an alternative that the code opens, fills and cuts at its tail is the alternative of the tree, written at once
   pub choice_owned : (starred : Bool)
       → owned_at (record { part = record { token = length z.tokens; start = start }; label = length z.labels; starred = starred })
       (tail_on begun items (unheld asked)) asked.holds whole

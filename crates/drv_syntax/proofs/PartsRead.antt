@@ -17,7 +17,10 @@ use Rattle.std.proofs.lemmas.Bool.Decides.{nat_tests}
 use Rattle.std.specs.List.{prefix_len}
 use Rattle.std.specs.Prelude.{◌==◌, nat_le}
 
--- What the grammar says of a part of a text, Descent makes of it: runs of bytes, and patterns. It is to serve the law `spelled_is_read`.
+-- What the grammar says of a part of a text, Descent makes of it: runs of bytes, patterns, names, and directives without lists. It serves
+-- the laws `spelled_is_read`, `front_is_unrefused` and `refusal_kinds`. `Reads r text x rest` says that the result r is `Took`: it took x
+-- from the text, and this rest is left. The numbers in the statements are bytes: 40 is (, 41 ), 123 {, 125 }. Descent is the grammar as
+-- functions (specs/Descent). The grammar itself has cases (specs/Spelling, Fronts, Refusals).
 
 -- a part is read, and this is left
 pub record Reads {X : Type 0} (r : Read X) (text : List ℕ) (x : X) (rest : List ℕ) : Type 0 where
@@ -26,6 +29,7 @@ pub record Reads {X : Type 0} (r : Read X) (text : List ℕ) (x : X) (rest : Lis
   pub left : drop size text ≡ rest
   pub fits : length text ≡ size + length rest
 
+-- a part that is read from the rest after k bytes is read, with these bytes, from the text
 pub reads_past : {X : Type 0} {r : Read X} {x : X} {mid rest : List ℕ} (k : ℕ) (text : List ℕ) → drop k text ≡ mid
     → length text ≡ k + length mid → Reads r mid x rest → Reads (past k r) text x rest
 reads_past k text e f m = record {
@@ -35,6 +39,7 @@ reads_past k text e f m = record {
   fits = omega (arith, f, m.fits);
 }
 
+-- where a part is read, and what goes on from it reads to this rest, both in a row do
 pub reads_then : {X Y : Type 0} {r : Read X} {text mid rest : List ℕ} {x : X} {y : Y} (goes : X → ℕ → Read Y) (m : Reads r text x mid)
     → Reads (goes x m.size) text y rest → Reads (then_read r goes) text y rest
 reads_then goes m k = record {
@@ -44,10 +49,11 @@ reads_then goes m k = record {
   fits = k.fits;
 }
 
+-- a part is read whichever directive is named as open where the text ends in it
 pub reads_within : {X : Type 0} {r : Read X} {x : X} {text rest : List ℕ} (at : ℕ) → Reads r text x rest → Reads (d.within at r) text x rest
 reads_within at m = record { size = m.size; is = ap (λ r. d.within at r) m.is; left = m.left; fits = m.fits }
 
--- a part, and what is read after it
+-- where a part is read, and the next part from what it left, both in a row are read
 pub reads_after : {X Y : Type 0} {r : Read X} {text mid rest : List ℕ} {x : X} {y : Y} (goes : X → ℕ → List ℕ → Read Y)
     (m : Reads r text x mid) → Reads (goes x m.size mid) mid y rest
     → Reads (then_read r (λ x k. past k (goes x k (drop k text)))) text y rest
@@ -55,28 +61,30 @@ reads_after {text = text} {rest = rest} {x} {y} goes m k =
     reads_then (λ x k. past k (goes x k (drop k text))) m
     (subst (λ (t : List ℕ). Reads (past m.size (goes x m.size t)) text y rest) (sym m.left) (reads_past m.size text m.left m.fits k))
 
--- the same by an equation
+-- a result that equals one that reads a part reads this part
 pub reads_as : {X : Type 0} {r o : Read X} {x : X} {text rest : List ℕ} → r ≡ o → Reads o text x rest → Reads r text x rest
 reads_as e m = record { size = m.size; is = e ∙ m.is; left = m.left; fits = m.fits }
 
+-- no bytes more are nothing more
 pub past_none : {X : Type 0} (r : Read X) → past 0 r ≡ r
 past_none (Took x size) = let e : 0 + size ≡ size = omega arith in ap (λ (i : ℕ). Took x i) e
 past_none (d.Ends at) = refl
 past_none (d.Stops n fault) = refl
 
+-- j bytes and then k bytes more are j + k bytes more
 pub past_past : {X : Type 0} (j k : ℕ) (r : Read X) → past j (past k r) ≡ past (j + k) r
 past_past j k (Took x size) = let e : j + (k + size) ≡ j + k + size = omega arith in ap (λ (i : ℕ). Took x i) e
 past_past j k (d.Ends at) = refl
 past_past j k (d.Stops n fault) = refl
 
--- the byte after so many
+-- where a byte and a rest follow the first bytes, this rest follows with one byte more
 pub byte_next : (text : List ℕ) {rest : List ℕ} {b : ℕ} (size : ℕ) → drop size text ≡ b ∷ rest → length text ≡ size + length (b ∷ rest)
     → (drop (suc size) text ≡ rest) × (length text ≡ suc size + length rest)
 byte_next text size e f =
     let one : size + 1 ≡ suc size = omega arith in
     (ap (λ (i : ℕ). drop i text) (sym one) ∙ sym (drop-drop 1 size text) ∙ ap (λ (t : List ℕ). drop 1 t) e, omega (arith, f))
 
--- what skips so many bytes of a text begins after them
+-- a function that skips k bytes of a text one by one gives what it gives for the rest after them
 pub skipped : {Y : Type 0} (f : ℕ → ℕ → List ℕ → Y) → ((n k b : ℕ) (text : List ℕ) → f n (suc k) (b ∷ text) ≡ f (n + 1) k text)
     → (n k : ℕ) (text rest : List ℕ) → drop k text ≡ rest → length text ≡ k + length rest → f n k text ≡ f (n + k) 0 rest
 skipped f goes n zero text rest e l =
@@ -88,16 +96,18 @@ skipped f goes n (suc k) (b ∷ text) rest e l =
     let m : length text ≡ k + length rest = omega (arith, l) in
     goes n k b text ∙ skipped f goes (n + 1) k text rest e m ∙ ap (λ (i : ℕ). f i 0 rest) z
 
--- runs of bytes and escapes
+-- `quoted` of Descent takes this word from the text and leaves this rest
 pub record RunsTo (f : ℕ → Bool) (text word rest : List ℕ) : Type 0 where
   pub size : ℕ
   pub is : quoted f text ≡ Run word size
   pub left : drop size text ≡ rest
   pub fits : length text ≡ size + length rest
 
+-- equal runs have the same word and the same number of bytes
 run_word : {v w : List ℕ} {i j : ℕ} → Run v i ≡ Run w j → (v ≡ w) × (i ≡ j)
 run_word e = (cc, cc)
 
+-- a run of bytes and escapes by the grammar is the one that `quoted` of Descent takes
 pub runs_to : {f : ℕ → Bool} {text word rest : List ℕ} → IsQuoted f text word rest → RunsTo f text word rest
 runs_to s.quoted_end = record { size = 0; is = refl; left = refl; fits = omega arith }
 runs_to {f} (s.quoted_stop {b} {rest} e g) = record { size = 0; is = none rest; left = refl; fits = omega arith }
@@ -131,7 +141,7 @@ runs_to {f} (s.quoted_byte {b} {text} {run} {rest} e g i) = by text (runs_to i)
       fits = omega (arith, m.fits);
     }
 
--- white space, and what is none after it
+-- white space by the grammar, which no more follows, is what Descent skips
 pub spaces_to : {text rest : List ℕ} → AreSpaces text rest → s.Stops is_white rest
     → (drop (prefix_len is_white text) text ≡ rest) × (length text ≡ prefix_len is_white text + length rest)
 spaces_to (s.no_space {rest = []}) h = (refl, omega arith)
@@ -143,7 +153,7 @@ spaces_to (s.space {b} {text} {rest} e i) h = by (spaces_to i h)
         × (length (b ∷ text) ≡ prefix_len is_white (b ∷ text) + length rest)
     by m = rw e (sym (drop-drop (prefix_len is_white text) 1 (b ∷ text)) ∙ m.0, omega (arith, m.1))
 
--- a pattern
+-- a pattern by the grammar is read
 pub pattern_reads : {text rest : List ℕ} {p : Pattern} (at n : ℕ) → IsPattern text p rest → Reads (d.pattern_at at n text) text p rest
 pattern_reads {text} {rest} at n (s.unstarred {b} {word = word} i e) =
     let m = runs_to i in
@@ -173,7 +183,7 @@ pattern_reads {text} {rest} at n (s.starred {word = word} i) =
     ended size [] = refl
     ended size (x ∷ word) = refl
 
--- runs of bytes
+-- a run of bytes by the grammar is the one that Descent counts at the front of the text
 pub run_to : {f : ℕ → Bool} {text run rest : List ℕ} → IsRun f text run rest
     → (take (prefix_len f text) text ≡ run) × (drop (prefix_len f text) text ≡ rest) × (length text ≡ prefix_len f text + length rest)
 run_to (s.run_ends {rest = []} h) = (refl, refl, omega arith)
@@ -194,6 +204,7 @@ run_to {f} (s.run_goes {b} {text} {run} {rest} e i) = by (run_to i)
 
 -- directives without lists
 
+-- a suffix by the grammar is read
 pub suffix_reads : {text suffix rest : List ℕ} (kind : TempKind) (n : ℕ) → IsSuffix text suffix rest
     → Reads (d.suffix kind n text) text (TempName kind suffix) rest
 suffix_reads kind n (s.suffix_run (s.run_goes {b} {text} e i)) =
@@ -213,11 +224,12 @@ suffix_reads kind n (s.suffix_other {b} {rest} e g) = record { size = 0; is = rw
     other (c ∷ rest) = rw g refl
 suffix_reads kind n (s.suffix_directive {b} {rest} e) = record { size = 0; is = rw e refl; left = refl; fits = omega arith }
 
--- where a run of bytes and escapes ends in a byte that is taken with it
+-- where a byte ends a run and is taken with it, the rest is what follows that byte
 pub ended_reads : {f : ℕ → Bool} {text word rest : List ℕ} {b : ℕ} (m : RunsTo f text word (b ∷ rest))
     → (drop (m.size + 1) text ≡ rest) × (length text ≡ m.size + 1 + length rest)
 ended_reads {text = text} m = (sym (drop-drop 1 m.size text) ∙ ap (λ (t : List ℕ). drop 1 t) m.left, omega (arith, m.fits))
 
+-- %x{OPTION} by the grammar is read
 pub option_reads : {text option rest : List ℕ} {b : ℕ} (at n : ℕ) → IsQuoted is_option text (b ∷ option) (125 ∷ rest)
     → Reads (d.option at n (123 ∷ text)) (123 ∷ text) (AddOption (b ∷ option)) rest
 option_reads {text} {option} {rest} {b} at n i =
@@ -231,6 +243,7 @@ option_reads {text} {option} {rest} {b} at n i =
       fits = e.1;
     })
 
+-- the text of %e and %n by the grammar is read
 pub saying_reads : {text words mid rest : List ℕ} (list : Kind) (kind : SayKind) (n : ℕ) → IsQuoted (is_said list) text words mid
     → s.EndsSaying mid rest → Reads (d.saying list kind n text) text (said kind words) rest
 saying_reads {text} {words} list kind n i s.by_newline =
@@ -257,7 +270,7 @@ saying_reads {text} {words} {rest = rest} list kind n i (s.by_other h) =
     ended size [] h = refl
     ended size (b ∷ rest) (s.at_byte e) = rw e refl
 
--- the name of a named text, after so much of it
+-- the rest of the name of a named text by the grammar, with its bracket, is read
 pub name_reads : {text w rest : List ℕ} (at n : ℕ) (name : List ℕ) (b : ℕ) (all : List ℕ) → IsRun is_name_byte text w (41 ∷ rest)
     → length (name ++ w) ≤ 255 → name ++ w ≡ b ∷ all → Reads (d.name_from at n name text) text (NamedText (b ∷ all)) rest
 name_reads {rest = rest} at n [] b all (s.run_ends h) l e = absurd cc
@@ -276,7 +289,7 @@ name_reads at n name b all (s.run_goes {b = c} {text} {run} g i) l e =
     rw (g, fits) (reads_past 1 (c ∷ text) refl (omega arith)
     (name_reads at (n + 1) (name ++ c ∷ []) b all i (subst (λ (v : List ℕ). length v ≤ 255) (sym regrouped) l) (regrouped ∙ e)))
 
--- the name of a function, after so much of it
+-- the rest of the name of a function, with its parenthesis, is read
 pub function_reads : (at n : ℕ) (done w rest : List ℕ) → is_function (done ++ w) ≡ true
     → Reads (d.function_from at n done (w ++ 40 ∷ rest)) (w ++ 40 ∷ rest) (done ++ w) rest
 function_reads at n done [] rest h =

@@ -20,16 +20,21 @@ use Rattle.std.proofs.lemmas.List.{length-drop}
 use Rattle.std.specs.List.{prefix_len}
 use Rattle.std.specs.Prelude.{◌==◌, Err, None, Ok, Option, Result, Some}
 
--- What is given of patterns, from one of them on. It serves the reader's `pattern` and `patterns`.
+-- What the reader's `patterns` returns for the patterns after an &, from one of them on: each lemma is one turn of its loop. It serves the
+-- clause of `patterns`. `patterns_given` and `pattern_given` turn what specs/Descent makes of a part (`Took`, `Ends`, `Stops`) into the
+-- code's result. A `Reading` is the text that is left and the tokens and labels so far. `spaced` is the rest after white space. `outer` is
+-- the place of the outermost directive that is open, if one is, and `at` that of the % of the directive here.
 
 module _ (outer : Option ℕ) (at : ℕ) where
+  -- these patterns are written, and the brace that closes them is taken
   abbrev patterns_on : Parts → List (Span × Pattern) → Left → Reading
   patterns_on z ps l = record { rest = after 1 l; parts = patterns_written ps z }
 
-  -- the patterns from here on
+  -- what the patterns from here on give
   abbrev joined : Reading → Result Reading SyntaxFault
   joined v = patterns_given outer v (patterns at v.rest.at 0 v.rest.bytes)
 
+  -- so many bytes of patterns that are past are so many bytes less of the text
   skip_patterns : {Z : Type 0} (rest : Left) (g : List (Span × Pattern) → Left → Z) (n k : ℕ) (text : List ℕ)
       → given outer rest g (patterns at n k text) ≡ given outer rest g (patterns at (n + k) 0 (drop k text))
   skip_patterns rest g n zero [] = refl
@@ -41,16 +46,18 @@ module _ (outer : Option ℕ) (at : ℕ) where
       let i : n + 1 + k ≡ n + suc k = omega arith in
       skip_patterns rest g (n + 1) k text ∙ ap (λ (j : ℕ). given outer rest g (patterns at j 0 (drop k text))) i
 
-  -- a pattern, its place and the byte after it
+  -- the pattern is written, and the byte after it is taken
   abbrev written_on : Span × Pattern → Left → Reading → Reading
   written_on p rest v = record { rest = after 1 rest; parts = leafed kinds.Pattern (pattern_label p.1) p.0.start p.0.end v.parts }
 
+  -- what the patterns give after a pattern, by the byte after it
   abbrev byte_on : Span × Pattern → Left → Reading → ℕ → Result Reading SyntaxFault
   byte_on p rest v b =
       if b == ascii.closing_brace then Ok (written_on p rest v)
       else if b == ascii.ampersand then joined (written_on p rest v)
       else Err (BadDirective at)
 
+  -- after a pattern, a closing brace ends the patterns, an & leads to the next one, and any other byte is refused
   byte_goes : (p : Span × Pattern) (k b x : ℕ) (text : List ℕ) (v : Reading) → v.rest.bytes ≡ b ∷ text
       → given outer v.rest (patterns_on v.parts) (pattern_go at v.rest.at (p, x) k (patterns at (v.rest.at + 1) k text))
       ≡ byte_on p (after k v.rest) v x
@@ -91,18 +98,21 @@ module _ (outer : Option ℕ) (at : ℕ) where
           ∙ ap (λ (i : ℕ). given outer (after 1 (after k v.rest)) (patterns_on z) (patterns at i 0 (drop k text))) place
           ∙ ap (λ bs. given outer (after 1 (after k v.rest)) (patterns_on z) (patterns at (v.rest.at + k + 1) 0 bs)) left
 
-  -- after a pattern and white space
+  -- what the patterns give after a pattern and white space, by what is left there
   abbrev next_on : Span × Pattern → Left → Reading → List ℕ → Result Reading SyntaxFault
   next_on p rest v [] = Err (Unclosed (open_at outer at))
   next_on p rest v (x ∷ bs) = byte_on p rest v x
 
+  -- what the patterns give after their first pattern and white space
   abbrev first_on : Reading → Pattern × Reading → Result Reading SyntaxFault
   first_on v x = next_on (span (spaced v.rest).at x.1.rest.at, x.0) (spaced x.1.rest) v (spaced x.1.rest).bytes
 
+  -- what the first pattern gives, and then what the patterns give after it
   abbrev pattern_then : Reading → Result (Pattern × Reading) SyntaxFault → Result Reading SyntaxFault
   pattern_then v (Ok x) = first_on v x
   pattern_then v (Err fault) = Err fault
 
+  -- patterns give what their first pattern gives, after white space, and then what the byte after it decides
   one_goes : (n b : ℕ) (text : List ℕ) (z : Parts) (r : Read Pattern)
       → given outer (record { at = n; bytes = b ∷ text }) (patterns_on z)
       (then_read (past (prefix_len is_white (b ∷ text)) (then_read r (λ p k. past k
@@ -149,6 +159,7 @@ module _ (outer : Option ℕ) (at : ℕ) where
           byte_goes (place, p) size b x text v refl
           ∙ ap (λ (r : Left). byte_on (place, p) r v x) rest
 
+  -- patterns give what their first pattern, from the rest after its white space, leads to
   joined_then : (n : ℕ) (bs : List ℕ) (z : Parts)
       → joined (record { rest = record { at = n; bytes = bs }; parts = z })
       ≡ pattern_then (record { rest = record { at = n; bytes = bs }; parts = z })
@@ -158,6 +169,7 @@ module _ (outer : Option ℕ) (at : ℕ) where
   joined_then n (b ∷ text) z =
       one_goes n b text z (pattern_at at (n + prefix_len is_white (b ∷ text)) (drop (prefix_len is_white (b ∷ text)) (b ∷ text)))
 
+  -- patterns give what their first pattern, as the code has it, leads to
   from : (v : Reading) (r1 : Left) (x : Result (Pattern × Reading) SyntaxFault) → r1 ≡ spaced v.rest
       → pattern_given outer (at_rest r1 v) (pattern_at at r1.at r1.bytes) ≡ x → joined v ≡ pattern_then v x
   from v r1 x e h =
@@ -165,6 +177,7 @@ module _ (outer : Option ℕ) (at : ℕ) where
       ∙ ap (λ (y : Result (Pattern × Reading) SyntaxFault). pattern_then v y)
       (ap (λ (r : Left). pattern_given outer (at_rest r v) (pattern_at at r.at r.bytes)) (sym e) ∙ h)
 
+  -- the fault of the first pattern is that of the patterns
   pub joined_stops : (v : Reading) (r1 : Left) (fault : SyntaxFault) → r1 ≡ spaced v.rest
       → pattern_given outer (at_rest r1 v) (pattern_at at r1.at r1.bytes) ≡ Err fault → joined v ≡ Err fault
   joined_stops v r1 fault e h = from v r1 (Err fault) e h
@@ -172,6 +185,7 @@ module _ (outer : Option ℕ) (at : ℕ) where
   module _ (v u : Reading) (r1 r2 : Left) (p : Pattern) (start end : ℕ) (e : r1 ≡ spaced v.rest)
       (h : pattern_given outer (at_rest r1 v) (pattern_at at r1.at r1.bytes) ≡ Ok (p, u)) (f : r2 ≡ spaced u.rest) (g : start ≡ r1.at)
       (k : end ≡ u.rest.at) where
+    -- once their first pattern is read, the patterns give what is left after it and white space
     here : joined v ≡ next_on (span start end, p) r2 v r2.bytes
     here =
         from v r1 (Ok (p, u)) e h
@@ -179,6 +193,7 @@ module _ (outer : Option ℕ) (at : ℕ) where
         ∙ ap (λ (i : ℕ). next_on (span i u.rest.at, p) r2 v r2.bytes) (sym (g ∙ ap (λ (r : Left). r.at) e))
         ∙ ap (λ (i : ℕ). next_on (span start i, p) r2 v r2.bytes) (sym k)
 
+    -- where the text ends after a pattern and white space, the braces are not closed
     pub joined_cut : None ≡ first_of r2.bytes → joined v ≡ Err (Unclosed (open_at outer at))
     joined_cut n = here ∙ by r2.bytes n
       where
@@ -186,9 +201,11 @@ module _ (outer : Option ℕ) (at : ℕ) where
         by [] m = refl
         by (x ∷ bs) m = absurd cc
 
+    -- where a byte is left there, the patterns give what this byte decides
     byte_at : (b : ℕ) → Some b ≡ first_of r2.bytes → joined v ≡ byte_on (span start end, p) r2 v b
     byte_at b n = here ∙ ap (λ bs. next_on (span start end, p) r2 v bs) (some_left r2.bytes b n)
 
+    -- after a pattern and white space, a byte that is neither a closing brace nor an & is refused
     pub joined_bad : (b : ℕ) → Some b ≡ first_of r2.bytes → (b ≡ ascii.closing_brace → ⊥) → (b ≡ ascii.ampersand → ⊥)
         → joined v ≡ Err (BadDirective at)
     joined_bad b n i j =
@@ -196,25 +213,30 @@ module _ (outer : Option ℕ) (at : ℕ) where
         let y : (b == ascii.ampersand) ≡ false = differs b ascii.ampersand j in
         byte_at b n ∙ rw (x, y) refl
 
+    -- the pattern is written, from its start to its end
     abbrev here_on : Left → Reading
     here_on rest = leaf_until kinds.Pattern (pattern_label p) start end (at_rest rest u)
 
+    -- the pattern that the code writes is this one
     written_is : (rest : Left) → rest ≡ after 1 r2 → written_on (span start end, p) r2 v ≡ here_on rest
     written_is rest l =
         ap (λ (r : Left). record { rest = r; parts = leafed kinds.Pattern (pattern_label p) start end v.parts }) (sym l)
         ∙ ap (λ (z : Parts). record { rest = rest; parts = leafed kinds.Pattern (pattern_label p) start end z })
         (given_parts outer (at_rest r1 v) u p (pattern_at at r1.at r1.bytes) h)
 
+    -- after a pattern and white space, a closing brace ends the patterns, and the pattern is written as one token
     pub joined_done : (b : ℕ) (rest : Left) → Some b ≡ first_of r2.bytes → b ≡ ascii.closing_brace → rest ≡ after 1 r2
         → joined v ≡ Ok (here_on rest)
     joined_done b rest n i l =
         byte_at b n ∙ ap (λ (x : ℕ). byte_on (span start end, p) r2 v x) i ∙ ap (λ (x : Reading). Ok x) (written_is rest l)
 
+    -- after a pattern, white space and an &, the pattern is written, and the patterns give what those after it give
     pub joined_goes : (b : ℕ) (rest : Left) → Some b ≡ first_of r2.bytes → b ≡ ascii.ampersand → rest ≡ after 1 r2
         → joined v ≡ joined (here_on rest)
     joined_goes b rest n i l =
         byte_at b n ∙ ap (λ (x : ℕ). byte_on (span start end, p) r2 v x) i ∙ ap (λ (x : Reading). joined x) (written_is rest l)
 
+    -- a pattern with the byte after it takes at least one byte, so the loop of `patterns` ends
     pub joined_shorter : (b : ℕ) (rest : Left) → Some b ≡ first_of r2.bytes → rest ≡ after 1 r2 → length rest.bytes < length v.rest.bytes
     joined_shorter b rest n l =
         let one : length rest.bytes ≡ length (drop 1 r2.bytes) = ap (λ (r : Left). length r.bytes) l in

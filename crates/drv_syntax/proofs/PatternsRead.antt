@@ -16,15 +16,19 @@ use Rattle.std.proofs.Common.{sym, zero, ℕ}
 use Rattle.std.specs.List.{prefix_len}
 use Rattle.std.specs.Prelude.{◌==◌}
 
--- What the grammar says of patterns after an ampersand, Descent makes of it. It is to serve the laws `spelled_is_read`,
--- `front_is_unrefused` and `refusal_kinds`.
+-- What the grammar says of patterns after an ampersand, Descent makes of it. It serves the laws `spelled_is_read`, `front_is_unrefused` and
+-- `refusal_kinds`. `Reads r text x rest` says that the result r took x from the text and left this rest (PartsRead). `failed f` is a result
+-- that fails in the way f (Failing). The numbers in the statements are bytes: 38 is &, 125 }. Descent is the grammar as functions
+-- (specs/Descent). The grammar itself has cases (specs/Spelling, Fronts, Refusals).
 
 module _ (at : ℕ) where
   -- white space after a pattern, and the byte there
 
+  -- what Descent makes of white space and the byte after a pattern
   abbrev byte_after : Span × Pattern → List ℕ → Read ((Span × Pattern) × ℕ)
   byte_after p rest = d.pattern_after at p (prefix_len is_white rest) rest
 
+  -- white space after a pattern, and the byte after it, are read
   byte_reads : {w q : List ℕ} {b : ℕ} (p : Span × Pattern) → AreSpaces w (b ∷ q) → is_white b ≡ false
       → Reads (byte_after p w) w (p, b) (b ∷ q)
   byte_reads {w} p i e =
@@ -37,11 +41,13 @@ module _ (at : ℕ) where
         fits = omega (arith, m.1);
       }
 
+  -- where the text ends after a pattern and white space, the braces are not closed
   byte_ends : {w : List ℕ} (p : Span × Pattern) → AreSpaces w [] → byte_after p w ≡ Ends at
   byte_ends {w} p i = ap (λ (t : List ℕ). past (prefix_len is_white w) (d.pattern_byte at p t)) (spaces_to i s.at_end).0
 
   -- one pattern and the byte after it
 
+  -- what Descent makes of one pattern and the byte after it
   abbrev one : ℕ → List ℕ → Read ((Span × Pattern) × ℕ)
   one n t = d.pattern_from at n (prefix_len is_white t) t
 
@@ -49,6 +55,7 @@ module _ (at : ℕ) where
   abbrev there : ℕ → List ℕ → Read ((Span × Pattern) × ℕ)
   there n u = then_read (d.pattern_at at n u) (λ p k. past k (byte_after (span n (n + k), p) (drop k u)))
 
+  -- a pattern by the grammar with white space around it, and the byte after it, are read
   pub one_reads : {t u v q : List ℕ} {p : Pattern} {b : ℕ} (n : ℕ) → AreSpaces t u → IsPattern u p v → AreSpaces v (b ∷ q)
       → is_white b ≡ false
       → (first : ℕ) × (last : ℕ) × (n + length t ≡ first + length u) × (n + length t ≡ last + length v)
@@ -66,6 +73,7 @@ module _ (at : ℕ) where
             (byte_reads (span (n + white) (n + white + w.size), p) z h))),
       )
 
+  -- after white space, Descent fails as it does at the pattern
   pub one_fails : (f : Failure) {t u : List ℕ} (n : ℕ) → AreSpaces t u → s.Stops is_white u
       → ((m : ℕ) → n + length t ≡ m + length u → d.pattern_at at m u ≡ failed f) → one n t ≡ failed f
   one_fails f {t} {u} n sp w h =
@@ -80,10 +88,12 @@ module _ (at : ℕ) where
 
   -- all of them
 
+  -- patterns are a first pattern and what its byte leads to, also where the text ends there
   opening : (n : ℕ) (t : List ℕ) → d.patterns at n 0 t ≡ then_read (one n t) (λ p k. d.pattern_go at n p k (d.patterns at n (suc k) t))
   opening n [] = refl
   opening n (b ∷ t) = refl
 
+  -- once the first pattern is read, the patterns give what the byte after it leads to
   pub patterns_go : (n : ℕ) {t q : List ℕ} {x : (Span × Pattern) × ℕ} {b : ℕ} (m : Reads (one n t) t x (b ∷ q))
       → d.patterns at n 0 t ≡ d.pattern_go at n x m.size (d.patterns at (n + suc m.size) 0 q)
   patterns_go n {t} {q} {x} m =
@@ -92,9 +102,11 @@ module _ (at : ℕ) where
       ∙ ap (λ ps. d.pattern_go at n x m.size ps)
       (skipped (λ (i k : ℕ) (u : List ℕ). d.patterns at i k u) (λ i k b u. refl) n (suc m.size) t q e.0 e.1)
 
+  -- the patterns fail as the first of them does
   pub patterns_fail : (f : Failure) (n : ℕ) (t : List ℕ) → one n t ≡ failed f → d.patterns at n 0 t ≡ failed f
   patterns_fail f n t e = opening n t ∙ then_fails f (λ p k. d.pattern_go at n p k (d.patterns at n (suc k) t)) e
 
+  -- patterns by the grammar are read, up to the brace that closes them
   pub patterns_read : {size : ℕ} {t rest : List ℕ} {ps : List (Span × Pattern)} (n : ℕ) → ArePatterns size t ps rest → At size n t
       → Reads (d.patterns at n 0 t) t ps (125 ∷ rest)
   patterns_read {size} {t} {rest} n (s.last_pattern {n = first} {m = last} {p = p} sp a i b z) place =
@@ -124,7 +136,7 @@ module _ (at : ℕ) where
           let one : suc j ≡ j + 1 = omega arith in
           sym (drop-drop k (j + 1) t) ∙ ap (λ (x : List ℕ). drop k x) (ap (λ (i : ℕ). drop i t) (sym one) ∙ e) ∙ f
 
-  -- after an ampersand
+  -- patterns fail as those after the first & do
   pub and_fails : (f : Failure) {t u v w : List ℕ} {p : Pattern} (n : ℕ) → AreSpaces t u → IsPattern u p v → AreSpaces v (38 ∷ w)
       → ((m : ℕ) → n + length t ≡ m + length w → d.patterns at m 0 w ≡ failed f) → d.patterns at n 0 t ≡ failed f
   and_fails f {t} {p = p} n sp i z h =
@@ -135,6 +147,7 @@ module _ (at : ℕ) where
 
   -- where the text ends
 
+  -- where the text ends in the word of a pattern, the braces are not closed
   pattern_ends : {u : List ℕ} (n : ℕ) → RunsOut is_word u → there n u ≡ Ends at
   pattern_ends {u} n o = by (runs_out o)
     where
@@ -148,6 +161,7 @@ module _ (at : ℕ) where
           ∙ ap (λ x. then_read (d.pattern_end at n (b ∷ word) size x) (λ p k. past k (byte_after (span n (n + k), p) (drop k u)))) l
           ∙ ap (λ x. past size (byte_after (span n (n + size), pattern (b ∷ word) false) x)) l
 
+  -- where the text ends in patterns, the braces are not closed
   pub patterns_end : {t : List ℕ} (n : ℕ) → CutsPatterns t → d.patterns at n 0 t ≡ Ends at
   patterns_end {t} n (cuts.in_pattern {u = u} sp o) = patterns_fail (AtEnd at) n t first
     where

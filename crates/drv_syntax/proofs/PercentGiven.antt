@@ -22,9 +22,13 @@ use Rattle.drv_syntax.specs.declared.token.TokenKind.TheVariants as kinds
 use Rattle.std.proofs.Common.{◌≡◌, ◌∙◌, ◌+◌, ◌++◌, ◌||◌, Bool, false, true, [], ◌∷◌, ap, arith, drop, length, refl, sym, ℕ}
 use Rattle.std.specs.Prelude.{◌==◌, Err, Ok, Option, Result, Some}
 
--- What is given of a directive, from its percent sign on. It serves the reader's `percent`.
+-- What the reader's `percent` returns for a directive, from its percent sign on. It serves the clause of `percent`. `directive_given` and
+-- `given` turn what a function of specs/Descent makes of a part (`Took`, `Ends`, `Stops`) into the code's result. A `Reading` is the text
+-- that is left and the tokens and labels so far. `outer` is the place of the outermost directive that is open, if one is, and `at` that of
+-- the % of the directive here.
 
 module _ (lists : Lists × Lists) (c : ListContext) (outer : Option ℕ) (v : Reading) (at : ℕ) where
+  -- the item is written, from its percent sign up to this rest
   abbrev as_item : Item → Left → Reading
   as_item x l = record { rest = l; parts = item_written at x l.at v.parts }
 
@@ -32,6 +36,7 @@ module _ (lists : Lists × Lists) (c : ListContext) (outer : Option ℕ) (v : Re
   abbrev pub goes_on : Left → Directive → Result Reading SyntaxFault
   goes_on r x = given outer r as_item (directive_by lists.0 lists.1 c at (at + 1) x r.bytes)
 
+  -- where the byte after the percent sign is allowed, the directive gives what follows that byte gives
   pub percent_opens : (b : ℕ) (r1 r2 : Left) (x : Directive) → at ≡ v.rest.at → r1 ≡ after 1 v.rest → Some b ≡ first_of r1.bytes
       → is_allowed c.in_arguments b ≡ true
       → r2 ≡ after 1 r1 → x ≡ directive_of b → directive_given outer c lists v ≡ goes_on r2 x
@@ -47,13 +52,16 @@ module _ (lists : Lists × Lists) (c : ListContext) (outer : Option ℕ) (v : Re
 
   -- one that holds no parts
 
+  -- an item of no more bytes is written up to here
   took_leaf : (r : Left) (x : Item) (y : Reading) → as_item x r ≡ y → given outer r as_item (Took x 0) ≡ Ok y
   took_leaf r x y e = ap (λ (l : Left). Ok (as_item x l)) (after_none r) ∙ ap (λ z. Ok z) e
 
+  -- b or true is true
   or_true : (b : Bool) → (b || true) ≡ true
   or_true true = refl
   or_true false = refl
 
+  -- a %* in an X whose tests are starred patterns is written as one token, and its X has a %* of its own
   star_is : (r : Left) → ◌≡◌ {A = Result Reading SyntaxFault} (Ok (as_item Star r)) (star_given Starred at (at_rest r v))
   star_is r =
       let m : length v.parts.tokens + 1 + 0 ≡ length v.parts.tokens + 1 = omega arith in
@@ -74,15 +82,18 @@ module _ (lists : Lists × Lists) (c : ListContext) (outer : Option ℕ) (v : Re
         };
       })) (or_true v.parts.holds)
 
+  -- %* gives what the code's `star` gives, by what it finds around it
   star_goes : (r : Left) (owner : Owner) → given outer r as_item (d.star at (at + 1) owner) ≡ star_given owner at (at_rest r v)
   star_goes r Nobody = refl
   star_goes r Mixed = refl
   star_goes r Starred = ap (λ (l : Left). Ok (as_item Star l)) (after_none r) ∙ star_is r
 
+  -- what follows the byte of a directive begins two bytes after the percent sign
   pub places : (r1 r2 : Left) → at ≡ v.rest.at → r1 ≡ after 1 v.rest → r2 ≡ after 1 r1 → r2.at ≡ at + 1 + 1
   places r1 r2 here e g =
       ap (λ (r : Left). r.at) g ∙ ap (λ (r : Left). r.at + 1) e ∙ ap (λ (i : ℕ). i + 1 + 1) (sym here)
 
+  -- a directive that holds no parts gives what the code's `directive` gives
   pub simple_goes : (r : Left) (x : Directive) → r.at ≡ at + 1 + 1 → is_simple x ≡ true
       → goes_on r x ≡ simple_given outer c at x (at_rest r v)
   simple_goes r directives.Nowhere e s = refl
@@ -104,17 +115,20 @@ module _ (lists : Lists × Lists) (c : ListContext) (outer : Option ℕ) (v : Re
 
   -- one that holds parts
 
+  -- %: gives what the code's `call` gives, if a level is left
   pub call_goes : (r : Left) (x : Directive) → x ≡ directives.WithCall → r.at ≡ at + 1 + 1 → (c.levels == 0) ≡ false
       → goes_on r x ≡ item_given outer at (at_rest r v) (d.call lists.0 c at r.at r.bytes)
   call_goes r x e g h =
       ap (λ (y : Directive). goes_on r y) e ∙ rw h refl ∙ ap (λ (n : ℕ). given outer r as_item (d.call lists.0 c at n r.bytes)) (sym g)
 
+  -- %{ gives what the code's `braces` gives, if a level is left
   pub braces_go : (r : Left) (x : Directive) → x ≡ directives.WithBraces → r.at ≡ at + 1 + 1 → (c.levels == 0) ≡ false
       → goes_on r x ≡ item_given outer at (at_rest r v) (d.braces lists.0 lists.1 c at InPlace r.at r.bytes)
   braces_go r x e g h =
       ap (λ (y : Directive). goes_on r y) e ∙ rw h refl
       ∙ ap (λ (n : ℕ). given outer r as_item (d.braces lists.0 lists.1 c at InPlace n r.bytes)) (sym g)
 
+  -- %W and %@ give what their braces give, if a level is left
   pub marked_go : (r : Left) (x : Directive) (kind : BraceKind) → x ≡ directives.WithMarkedBraces kind → r.at ≡ at + 1 + 1
       → (c.levels == 0) ≡ false
       → goes_on r x ≡ given outer r as_item (d.marked_braces lists.0 lists.1 c at kind r.at r.bytes)
@@ -122,11 +136,13 @@ module _ (lists : Lists × Lists) (c : ListContext) (outer : Option ℕ) (v : Re
       ap (λ (y : Directive). goes_on r y) e ∙ rw h refl
       ∙ ap (λ (n : ℕ). given outer r as_item (d.marked_braces lists.0 lists.1 c at kind n r.bytes)) (sym g)
 
+  -- where no brace follows %W or %@, the directive is refused
   pub marked_bad : (r : Left) (kind : BraceKind) (b : ℕ) → Some b ≡ first_of r.bytes → (b == ascii.opening_brace) ≡ false
       → given outer r as_item (d.marked_braces lists.0 lists.1 c at kind r.at r.bytes) ≡ Err (BadDirective at)
   marked_bad r kind b e g =
       ap (λ bs. given outer r as_item (d.marked_braces lists.0 lists.1 c at kind r.at bs)) (some_left r.bytes b e) ∙ rw g refl
 
+  -- where a brace follows %W or %@, the directive gives what the code's `braces` gives after it
   pub marked_opens : (r r3 : Left) (kind : BraceKind) (b : ℕ) → Some b ≡ first_of r.bytes → b ≡ ascii.opening_brace → r3 ≡ after 1 r
       → given outer r as_item (d.marked_braces lists.0 lists.1 c at kind r.at r.bytes)
       ≡ item_given outer at (at_rest r3 v) (d.braces lists.0 lists.1 c at kind r3.at r3.bytes)

@@ -6,7 +6,7 @@ use Rattle.std.proofs.lemmas.List.{drop_more}
 
 -- The tokens of plain bytes. It serves `Tokens::push_run`.
 
--- their tokens, one after another
+-- a step of the loop of `push_plains` keeps the list of tokens that the loop leads to
 pub tokens_step : (old new all : List Token) (n next i : ℕ) (run : List ℕ) → i < length run
     → new ≡ old ++ record { kind = kinds.Plain; start = n; end = n + 1; next = next + 1 } ∷ []
     → old ++ plain_tokens n (next + 1) (drop i run) ≡ all → new ++ plain_tokens (n + 1) (next + 1 + 1) (drop (i + 1) run) ≡ all

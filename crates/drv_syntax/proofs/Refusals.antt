@@ -14,16 +14,18 @@ use Rattle.std.proofs.lemmas.List.{length-take-le, take-append-drop}
 -- A refusal, its place and a cut text by the fronts alone. It serves the laws `shortest_prefix`, `refused_after_front`, `front_prefix` and
 -- `cut_front`.
 
+-- the first j bytes of the first k bytes are the first j
 take_within : (j k : ℕ) (xs : List ℕ) → j ≤ k → take j (take k xs) ≡ take j xs
 take_within zero k xs h = refl
 take_within (suc j) zero xs h = absurd (omega arith)
 take_within (suc j) (suc k) [] h = refl
 take_within (suc j) (suc k) (x ∷ xs) h = ap (λ (ys : List ℕ). x ∷ ys) (take_within j k xs (omega arith))
 
--- what is taken is what is taken less, and what follows that
+-- the first k bytes of a text are its first j, and then what follows these
 pub taken_on : (j k : ℕ) (xs : List ℕ) → j ≤ k → take k xs ≡ take j xs ++ drop j (take k xs)
 taken_on j k xs h = sym (take-append-drop j (take k xs)) ∙ ap (λ (ys : List ℕ). ys ++ drop j (take k xs)) (take_within j k xs h)
 
+-- a number less than k + 1 is less than k or is k
 less_or_same : (j k : ℕ) → j < k + 1 → (j < k) ⊎ (j ≡ k)
 less_or_same zero zero h = inr refl
 less_or_same zero (suc k) h = inl (omega arith)
@@ -34,6 +36,7 @@ less_or_same (suc j) (suc k) h = by (less_or_same j k (omega arith))
     by (inl x) = inl (omega arith)
     by (inr x) = inr (ap suc x)
 
+-- a text that isn't refused isn't refused at a byte, so this case can't arise
 unrefused : (text : List ℕ) (k : ℕ) (fault : SyntaxFault) {A : Type 0} → Unrefused text → read text ≡ Bad k fault → A
 unrefused text k fault (inl (items, e)) h = clash (sym e ∙ h)
   where
@@ -44,21 +47,26 @@ unrefused text k fault (inr (at, e)) h = clash (sym e ∙ h)
     clash : {A : Type 0} → Cut at ≡ Bad k fault → A
     clash e = absurd cc
 
+-- equal refusals name the same byte
 same_byte : (j k : ℕ) (f g : SyntaxFault) → Bad j f ≡ Bad k g → j ≡ k
 same_byte j k f g e = cc
 
 -- up to that byte the text is refused for this fault, whatever follows
 module _ (text : List ℕ) (k : ℕ) (fault : SyntaxFault) (h : read text ≡ Bad k fault) where
+  -- up to the byte of the refusal, with anything after it, the text is refused at its last byte
   again : (rest : List ℕ) → read (take (k + 1) text ++ rest) ≡ Bad (length (take (k + 1) text) - 1) fault
   again rest = refusal_kinds (take (k + 1) text) rest fault (refused_kinds text k fault h)
 
+  -- the text is refused at the last byte of its front up to the refusal
   whole : read text ≡ Bad (length (take (k + 1) text) - 1) fault
   whole = subst (λ (t : List ℕ). read t ≡ Bad (length (take (k + 1) text) - 1) fault) (take-append-drop (k + 1) text)
       (again (drop (k + 1) text))
 
+  -- the last byte of the front up to the refusal is at the place of the refusal
   last : length (take (k + 1) text) - 1 ≡ k
   last = same_byte (length (take (k + 1) text) - 1) k fault fault (sym whole ∙ h)
 
+  -- the place of the refusal is within the text
   inside : k < length text
   inside =
       let size = refused_filled (take (k + 1) text) (refused_kinds text k fault h) in
@@ -66,13 +74,15 @@ module _ (text : List ℕ) (k : ℕ) (fault : SyntaxFault) (h : read text ≡ Ba
       (take-append-drop (k + 1) text) in
       omega (arith, size, last, all, length-append (take (k + 1) text) (drop (k + 1) text))
 
+  -- up to the byte of the refusal, with anything after it, the text is refused at that place
   refused_on : (rest : List ℕ) → read (take (k + 1) text ++ rest) ≡ Bad k fault
   refused_on rest = subst (λ (j : ℕ). read (take (k + 1) text ++ rest) ≡ Bad j fault) last (again rest)
 
+  -- up to the byte of a refusal the text begins no front
   pub no_front : (rest : List ℕ) → Front (take (k + 1) text ++ rest) → ⊥
   no_front rest f = unrefused (take (k + 1) text ++ rest) k fault (front_is_read (take (k + 1) text ++ rest) f) (refused_on rest)
 
--- each prefix before the byte of the refusal is a front
+-- each prefix before the byte of the refusal is a front, and the text is refused there whatever follows
 shortest : (text : List ℕ) (k : ℕ) (fault : SyntaxFault) → read text ≡ Bad k fault
     → (k < length text) × ((j : ℕ) → j ≤ k → Front (take j text)) × ((rest : List ℕ) → read (take (k + 1) text ++ rest) ≡ Bad k fault)
 shortest text k fault h = (inside text k fault h, before, refused_on text k fault h)
@@ -93,6 +103,7 @@ shortest text k fault h = (inside text k fault h, before, refused_on text k faul
             let same_place : i ≡ k = same_byte i k f fault (sym all ∙ h) in
             absurd (let over : k < k = omega (arith, short, within, same_place, l) in omega (arith, over))
 
+-- each prefix before the byte of the refusal is a front, none with that byte is, and the text is refused there whatever follows
 pub refused_fronts : (text : List ℕ) (k : ℕ) (fault : SyntaxFault) → read text ≡ Bad k fault
     → (k < length text) × ((j : ℕ) → j ≤ k → Front (take j text)) × ((rest : List ℕ) → Front (take (k + 1) text ++ rest) → ⊥)
     × ((rest : List ℕ) → read (take (k + 1) text ++ rest) ≡ Bad k fault)

@@ -26,12 +26,17 @@ use Rattle.std.proofs.Common.{ℕ}
 use Rattle.std.specs.List.{prefix_len}
 use Rattle.std.specs.Prelude.{◌==◌, Err, None, Ok, Option, Result, Some}
 
--- What is given of a test by its front, and of one that asks for a function's result. It serves the reader's `test` and `result`.
+-- What the reader's `test` returns for a test, above all for one of a function's result, `%:name(..)`: white space and a `!` or none, what
+-- the test asks, and the byte after it. It serves the clause of `test`. `tried_given` turns what specs/Descent makes of a test (`Took`,
+-- `Ends`, `Stops`) into the code's result. A `Begun` is the front of a test, a `Reading` the text that is left and the tokens and labels so
+-- far, a `Choice` an alternative whose token is open. `outer` is the place of the outermost directive that is open, if one is, and `at`
+-- that of the % of the directive here.
 
+-- in a list with more than one level left, braces have a level left for the arguments in a test
 pub deep_enough : (level : ℕ) → 1 ≤ level → (level ≡ 1 → ⊥) → (level - 1 == 0) ≡ false
 deep_enough level h g = differs (level - 1) 0 (λ e. g (omega (arith, e, h)))
 
--- the byte after the front of a test
+-- what is left after the front of a test begins with the byte that the front names
 pub begun_first : (outer : Option ℕ) (at : ℕ) (v u : Reading) (begun : Begun) → begun_given outer at v ≡ Ok (begun, u)
     → first_of u.rest.bytes ≡ Some begun.byte
 begun_first outer at v u begun h = by (at_rest (spaced v.rest) v) (spaced v.rest).bytes refl h
@@ -57,18 +62,20 @@ begun_first outer at v u begun h = by (at_rest (spaced v.rest) v) (spaced v.rest
         signed_by true k = first w.rest.at (at_rest (spaced (after 1 w.rest)) w) (spaced (after 1 w.rest)).bytes refl k
         signed_by false k = pair (record { start = w.rest.at; negated = false; byte = b }) w (ap (λ bs. first_of bs) e) k
 
--- a test of a function's result can be no pattern
+-- what was read is a test, and can be no pattern
 record Asks (o : Operand) : Type 0 where
   pub asked : Asked
   pub is : o.as_test ≡ Some asked
   pub no_pattern : o.as_pattern ≡ None
 
+-- what was read, if anything, is a test and can be no pattern
 abbrev AsksResult : Read Operand → Type 0
 AsksResult (Took o size) = Asks o
 AsksResult (Ends n) = Unit {0}
 AsksResult (Stops n fault) = Unit {0}
 
 module _ (deep : Lists) (c : ListContext) (at : ℕ) where
+  -- a test of a function's result is a test and no pattern
   result_asks : (n : ℕ) (text : List ℕ) → AsksResult (result deep c at n text)
   result_asks n [] = tt
   result_asks n (b ∷ text) = by (b == ascii.colon)
@@ -91,27 +98,32 @@ module _ (deep : Lists) (c : ListContext) (at : ℕ) where
       by false = tt
 
   module _ (outer : Option ℕ) (order : Order) (so_far : Option Choice) where
+    -- what the code's `test` returns by what specs/Descent makes of the test
     abbrev tries : Reading → Read Tried → Result (Next × Reading) SyntaxFault
     tries v r = tried_given outer at order so_far v r
 
+    -- where k bytes come before a test, it gives what it gives from the rest after them
     tried_past : (v : Reading) (k : ℕ) (r : Read Tried) → tries v (past k r) ≡ tries (at_rest (after k v.rest) v) r
     tried_past v k (Took t size) = ap (λ (x : Left). after_given so_far (at_rest x v) (d.after at order t)) (after_after k size v.rest)
     tried_past v k (Ends n) = refl
     tried_past v k (Stops n fault) = refl
 
-    -- what a test asks, after its front
+    -- what a test gives after its front
     abbrev pub asked_here : Begun → Reading → Result (Next × Reading) SyntaxFault
     asked_here begun v = tries v (asked_from deep c at order begun.start begun.negated v.rest.at v.rest.bytes)
 
+    -- what the front of a test gives, and then what the test asks
     abbrev begun_then : Result (Begun × Reading) SyntaxFault → Result (Next × Reading) SyntaxFault
     begun_then (Ok x) = asked_here x.0 x.1
     begun_then (Err fault) = Err fault
 
+    -- after a `!` and white space, a test gives what it asks
     first_by : (start : ℕ) (v : Reading) (bs : List ℕ) → v.rest.bytes ≡ bs
         → tries v (asked_from deep c at order start true v.rest.at bs) ≡ begun_then (first_given outer at start true v bs)
     first_by start v [] e = refl
     first_by start v (b ∷ text) e = ap (λ xs. tries v (asked_from deep c at order start true v.rest.at xs)) (sym e)
 
+    -- with a `!` and white space or without, specs/Descent reads a test as the code does: its front, and then what it asks
     sign_by : (v : Reading) (bs : List ℕ) → v.rest.bytes ≡ bs → tries v (signed deep c at order v.rest.at bs)
         ≡ begun_then (sign_given outer at v bs)
     sign_by v [] e = refl
@@ -145,16 +157,18 @@ module _ (deep : Lists) (c : ListContext) (at : ℕ) where
             ∙ first_by v.rest.at (at_rest next v) next.bytes refl
         by false = ap (λ bs. tries v (asked_from deep c at order v.rest.at false v.rest.at bs)) (sym e)
 
+    -- a test gives what its front and then what it asks give
     begun_by : (v : Reading) → tries v (one_test deep c at order v.rest.at v.rest.bytes) ≡ begun_then (begun_given outer at v)
     begun_by v =
         tried_past v (prefix_len is_white v.rest.bytes) (signed deep c at order (spaced v.rest).at (spaced v.rest).bytes)
         ∙ sign_by (at_rest (spaced v.rest) v) (spaced v.rest).bytes refl
 
     module _ (v u : Reading) (begun : Begun) (is : begun_given outer at v ≡ Ok (begun, u)) where
+      -- once its front is read, a test gives what it asks
       begun_here : tries v (one_test deep c at order v.rest.at v.rest.bytes) ≡ asked_here begun u
       begun_here = begun_by v ∙ ap (λ x. begun_then x) is
 
-      -- a test that asks for no function's result
+      -- a test that doesn't begin with a percent sign holds no list, so what reads lists makes no difference to it
       pub test_plain : first_of u.rest.bytes ≡ Some begun.byte → (begun.byte == ascii.percent) ≡ false
           → tries v (one_test deep c at order v.rest.at v.rest.bytes)
           ≡ tries u (asked_from no_lists top at order begun.start begun.negated u.rest.at u.rest.bytes)
@@ -167,25 +181,31 @@ module _ (deep : Lists) (c : ListContext) (at : ℕ) where
           (sym (some_left u.rest.bytes begun.byte (sym e)))
 
       module _ (e : first_of u.rest.bytes ≡ Some begun.byte) (g : begun.byte ≡ ascii.percent) where
+        -- the rest is a percent sign and what follows it
         text_is : u.rest.bytes ≡ ascii.percent ∷ drop 1 u.rest.bytes
         text_is = some_left u.rest.bytes begun.byte (sym e) ∙ ap (λ b. b ∷ drop 1 u.rest.bytes) g
 
         module _ (deeper : (c.levels - 1 == 0) ≡ false) where
+          -- what the code's `result` returns here
           abbrev pub result_from : Result (Choice × Reading) SyntaxFault
           result_from = result_given outer so_far begun.start begun.negated u (result deep c at u.rest.at (drop 1 u.rest.bytes))
 
+          -- a result with what is left after it
           abbrev with_rest : Reading → Result Next SyntaxFault → Result (Next × Reading) SyntaxFault
           with_rest w (Ok next) = Ok (next, w)
           with_rest w (Err fault) = Err fault
 
+          -- what the byte after a test of a function's result makes of it
           abbrev result_byte : Choice → Reading → Left → List ℕ → Result (Next × Reading) SyntaxFault
           result_byte choice w rest [] = Err (Unclosed (open_at outer at))
           result_byte choice w rest (b ∷ text) = with_rest (record { rest = after 1 rest; parts = w.parts }) (result_after at choice b)
 
+          -- what a test of a function's result gives, and then white space and the byte after it
           abbrev result_then : Result (Choice × Reading) SyntaxFault → Result (Next × Reading) SyntaxFault
           result_then (Ok x) = result_byte x.0 x.1 (spaced x.1.rest) (spaced x.1.rest).bytes
           result_then (Err fault) = Err fault
 
+          -- after a test of a function's result, a colon leads to the X, a bar to another test, and any other byte is refused
           byte_by : (place : Span) (o : Operand) (a : Asked) → o.as_test ≡ Some a → o.as_pattern ≡ None → (rest : Left) (b : ℕ)
               → after_given so_far (at_rest rest u) (d.after at order
               (record { place = place; negated = begun.negated; operand = o; byte = b }))
@@ -236,6 +256,7 @@ module _ (deep : Lists) (c : ListContext) (at : ℕ) where
                   fails m (λ x. d.Joins x) ∙ ap (λ (x : ℕ). with_rest w (result_after at choice x)) (sym p)
               by false false m h i = colons (b == ascii.colon) (b == ascii.bar)
 
+          -- after a test of a function's result come white space and that byte
           ended_by : (o : Operand) (a : Asked) → o.as_test ≡ Some a → o.as_pattern ≡ None → (x : Left)
               → tries (at_rest x u) (ended at (span begun.start x.at) begun.negated o x.bytes)
               ≡ result_then (Ok (choice_here (added so_far u.parts (span begun.start x.at) begun.negated a) x))
@@ -253,6 +274,7 @@ module _ (deep : Lists) (c : ListContext) (at : ℕ) where
                   (after_none (spaced x))
                   ∙ byte_by (span begun.start x.at) o a is none (spaced x) b
 
+          -- a test of a function's result gives what the code's `result` returns, and then what the byte after it decides
           result_by : (r : Read Operand) → AsksResult r
               → tries u (then_read (past 1 r) (λ operand k. past k
               (ended at (span begun.start (u.rest.at + k)) begun.negated operand (drop k u.rest.bytes))))
@@ -267,6 +289,7 @@ module _ (deep : Lists) (c : ListContext) (at : ℕ) where
           result_by (Ends n) h = refl
           result_by (Stops n fault) h = refl
 
+          -- a test of a function's result gives what the code's `result` and then the byte after it give
           result_here : tries v (one_test deep c at order v.rest.at v.rest.bytes) ≡ result_then result_from
           result_here =
               begun_here
@@ -275,24 +298,29 @@ module _ (deep : Lists) (c : ListContext) (at : ℕ) where
               ∙ rw deeper refl
               ∙ result_by (result deep c at u.rest.at (drop 1 u.rest.bytes)) (result_asks u.rest.at (drop 1 u.rest.bytes))
 
+          -- the fault of the code's `result` is that of the test
           pub result_stop : (fault : SyntaxFault) → result_from ≡ Err fault → tries v (one_test deep c at order v.rest.at v.rest.bytes)
               ≡ Err fault
           result_stop fault h = result_here ∙ ap (λ x. result_then x) h
 
           module _ (choice : Choice) (w : Reading) (reads : result_from ≡ Ok (choice, w)) (rest : Left)
               (spaces : rest ≡ spaced w.rest) where
+            -- once the code's `result` is done, the test gives what the byte after it decides
             on_byte : tries v (one_test deep c at order v.rest.at v.rest.bytes) ≡ result_byte choice w rest rest.bytes
             on_byte = result_here ∙ ap (λ x. result_then x) reads ∙ ap (λ (x : Left). result_byte choice w x x.bytes) (sym spaces)
 
+            -- where the text ends after a test of a function's result, the braces are not closed
             pub result_cut : None ≡ first_of rest.bytes → tries v (one_test deep c at order v.rest.at v.rest.bytes)
                 ≡ Err (Unclosed (open_at outer at))
             result_cut i = on_byte ∙ ap (λ bs. result_byte choice w rest bs) (none_left rest.bytes i)
 
+            -- where a byte is left, the test gives what the code's `result_judged` decides by it
             at_byte : (b : ℕ) → Some b ≡ first_of rest.bytes
                 → tries v (one_test deep c at order v.rest.at v.rest.bytes)
                 ≡ with_rest (record { rest = after 1 rest; parts = w.parts }) (result_after at choice b)
             at_byte b i = on_byte ∙ ap (λ bs. result_byte choice w rest bs) (some_left rest.bytes b i)
 
+            -- a colon or a bar after a test of a function's result is taken, and decides what the test gives
             pub result_done : (b : ℕ) (next : Next) (last : Left) → Some b ≡ first_of rest.bytes → last ≡ after 1 rest
                 → result_after at choice b ≡ Ok next
                 → tries v (one_test deep c at order v.rest.at v.rest.bytes) ≡ Ok (next, record { rest = last; parts = w.parts })
@@ -300,6 +328,7 @@ module _ (deep : Lists) (c : ListContext) (at : ℕ) where
                 at_byte b i ∙ ap (λ x. with_rest (record { rest = after 1 rest; parts = w.parts }) x) h
                 ∙ ap (λ (x : Left). Ok (next, record { rest = x; parts = w.parts })) (sym j)
 
+            -- any other byte after a test of a function's result is refused
             pub result_bad : (b : ℕ) (fault : SyntaxFault) → Some b ≡ first_of rest.bytes → result_after at choice b ≡ Err fault
                 → tries v (one_test deep c at order v.rest.at v.rest.bytes) ≡ Err fault
             result_bad b fault i h = at_byte b i ∙ ap (λ x. with_rest (record { rest = after 1 rest; parts = w.parts }) x) h

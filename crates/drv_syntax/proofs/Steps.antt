@@ -8,8 +8,9 @@ use Rattle.std.proofs.Common.{take, zero, ℕ}
 use Rattle.std.specs.List.{prefix_len}
 use Rattle.std.specs.Prelude.{◌==◌, if◌then◌else◌}
 
--- A text of which the front is taken, with another rest after that front. Nothing here knows the grammar. It serves what
--- Descent makes of a text (Meant).
+-- A text of which the front is taken, with another rest after that front. Nothing here knows the grammar. It serves what Descent makes of a
+-- text (Meant): whether a part is taken depends on its bytes and on how the rest begins, not on the whole rest. Descent is the grammar as
+-- functions (specs/Descent).
 
 -- texts that begin alike
 pub data Near : List ℕ → List ℕ → Type 0 where
@@ -22,19 +23,23 @@ pub data Far : List ℕ → List ℕ → Type 0 where
   far_other : {b : ℕ} {u q : List ℕ} → (b == ascii.percent) ≡ false → Far (b ∷ u) (b ∷ q)
   far_more : {b : ℕ} {u q : List ℕ} → Near u q → Far (b ∷ u) (b ∷ q)
 
+-- texts that go on alike past a percent sign begin with the same byte, or are both empty
 pub near_far : {u q : List ℕ} → Far u q → Near u q
 near_far far_end = both_end
 near_far (far_other e) = same_byte
 near_far (far_more n) = same_byte
 
+-- each text begins as itself
 pub near_self : (u : List ℕ) → Near u u
 near_self [] = both_end
 near_self (b ∷ u) = same_byte
 
+-- each text goes on as itself
 pub far_self : (u : List ℕ) → Far u u
 far_self [] = far_end
 far_self (b ∷ u) = far_more (near_self u)
 
+-- where texts begin alike and one doesn't begin with such a byte, neither does the other
 pub near_stops : {f : ℕ → Bool} {u q : List ℕ} → Near u q → s.Stops f u → s.Stops f q
 near_stops both_end h = s.at_end
 near_stops same_byte (s.at_byte e) = s.at_byte e
@@ -47,6 +52,7 @@ pub record Step (text : List ℕ) (size : ℕ) : Type 0 where
   pub sized : (q : List ℕ) → length (front q) ≡ size + length q
   pub near : (q : List ℕ) → Near (drop size text) q → Near text (front q)
 
+-- no byte of the text
 abbrev pub no_step : (text : List ℕ) → Step text 0
 no_step text = record {
   front = λ q. q;
@@ -56,6 +62,7 @@ no_step text = record {
   near = λ q n. n;
 }
 
+-- the first byte of the text
 abbrev pub byte_step : (b : ℕ) (text : List ℕ) → Step (b ∷ text) 1
 byte_step b text = record {
   front = λ q. b ∷ q;
@@ -78,6 +85,7 @@ module _ {text : List ℕ} (k : ℕ) (m : Step text k) where
     near = λ q n. m.near (r.front q) (r.near q (subst (λ (t : List ℕ). Near t q) (sym (drop-drop size k text)) n));
   }
 
+  -- where a byte and a rest follow the first k bytes, this rest follows the first k + 1
   pub dropped : (b : ℕ) (rest : List ℕ) → drop k text ≡ b ∷ rest → drop (k + 1) text ≡ rest
   dropped b rest e = sym (drop-drop 1 k text) ∙ ap (λ (t : List ℕ). drop 1 t) e
 

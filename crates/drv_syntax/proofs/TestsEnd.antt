@@ -25,22 +25,26 @@ use Rattle.std.proofs.Common.{refl, subst, suc, sym, ℕ}
 use Rattle.std.specs.List.{prefix_len}
 use Rattle.std.specs.Prelude.{◌-◌, ◌==◌}
 
--- Where a text ends in a test, Descent makes of it that the braces aren't closed. It is to serve the law `front_is_unrefused`.
+-- Where a text ends in a test, Descent says that the braces aren't closed. It serves the law `front_is_unrefused`. A mark is the `.` or `,`
+-- of a test. `Reads r text x rest` says that the result r took x from the text and left this rest (PartsRead). `RunsOut f t` says that the
+-- text t ends in a run of bytes that f allows, and `Cuts..` that the text ends in this part by the grammar (specs/Fronts). Descent is the
+-- grammar as functions (specs/Descent). The grammar itself has cases (specs/Spelling, Fronts, Refusals).
 
--- a run that a text ends in
+-- a run that leaves nothing is a run up to the end of the text
 pub out_of : {f : ℕ → Bool} {t word : List ℕ} → IsQuoted f t word [] → RunsOut f t
 out_of s.quoted_end = cuts.out_end
 out_of (s.quoted_escape i) = cuts.out_escape (out_of i)
 out_of (s.quoted_byte e g i) = cuts.out_byte e g (out_of i)
 
--- the first byte of what a test asks
+-- where f allows no byte that begins a pattern, and no percent sign, what a test asks doesn't begin with one that f allows, even where the
+-- text ends in it
 pub cut_head : {f : ℕ → Bool} {size : ℕ} {c : ListContext} {u : List ℕ} → NoHead f → f 37 ≡ false → CutsAsked size c u → s.Stops f u
 cut_head h e (cuts.cut_switch z o) = out_head h o
 cut_head h e (cuts.cut_marked {b} z o) = s.at_byte (h.word b (mark_word b z))
 cut_head h e (cuts.cut_call z) = s.at_byte e
 cut_head h e (cuts.cut_result i) = s.at_byte e
 
--- the front of a function's name, after so much of it
+-- where the text ends in a front of a function's name, Descent says that the directive isn't closed
 pub name_ends : (at n : ℕ) (done t : List ℕ) → is_function_front (done ++ t) ≡ true → d.function_from at n done t ≡ Ends at
 name_ends at n done [] h = refl
 name_ends at n done (b ∷ t) h =
@@ -57,12 +61,14 @@ module _ (deep : Lists) (c : ListContext) (at : ℕ) where
   abbrev pub Out : Bool → ℕ → List ℕ → Type 0
   Out emits n u = (d.asked deep c at emits n u ≡ Ends at) ⊎ ((o : Operand) × Reads (d.asked deep c at emits n u) u o [])
 
+  -- where the text ends in what a test asks, or right after it, the braces are not closed
   pub out_from : (order : Order) (start : ℕ) (negated : Bool) (n : ℕ) (u : List ℕ) → Out (may_emit order negated) n u
       → d.asked_from deep c at order start negated n u ≡ Ends at
   out_from order start negated n u (inl e) = then_fails (AtEnd at)
       (λ operand k. past k (d.ended at (span start (n + k)) negated operand (drop k u))) e
   out_from order start negated n u (inr m) = from_ends deep c at order start negated n m.1 s.no_space
 
+  -- where the text ends in the word after a mark, Descent ends there, or has read a test up to the end
   marked_out : (emits : Bool) (n mark : ℕ) {t : List ℕ} → is_mark mark ≡ true → RunsOut is_word t → Out emits n (mark ∷ t)
   marked_out emits n mark {t} h o = by (runs_out o)
     where
@@ -83,6 +89,7 @@ module _ (deep : Lists) (c : ListContext) (at : ℕ) where
             })),
       )
 
+  -- where the text ends in the word of a switch, Descent ends there, or has read a test up to the end
   switch_out : (emits : Bool) (n : ℕ) (u : List ℕ) → s.Stops is_mark u → RunsOut is_word u → Out emits n u
   switch_out emits n [] h o = inl refl
   switch_out emits n (b ∷ t) (s.at_byte g) o = by (runs_out o) (out_head no_percent o)
@@ -108,6 +115,7 @@ module _ (deep : Lists) (c : ListContext) (at : ℕ) where
         },
       )
 
+  -- where the text ends in a word, with a mark before it or without, Descent ends there, or has read a test up to the end
   word_out : (emits : Bool) (n : ℕ) (u : List ℕ) → RunsOut is_word u → Out emits n u
   word_out emits n [] o = inl refl
   word_out emits n (b ∷ t) o = by (is_mark b) refl
@@ -124,6 +132,7 @@ module _ (deep : Lists) (c : ListContext) (at : ℕ) where
 
   -- patterns at the front of braces
 
+  -- where the text ends after a pattern at the front of braces, the braces are not closed
   pattern_out : (start n : ℕ) {u v : List ℕ} {p : Pattern} → IsPattern u p v → AreSpaces v []
       → d.asked_from deep c at AtFront start false n u ≡ Ends at
   pattern_out start n {u} (s.unstarred i e) s.no_space = out_from AtFront start false n u (word_out true n u (out_of i))
@@ -140,6 +149,7 @@ module _ (deep : Lists) (c : ListContext) (at : ℕ) where
       tests_fail deep c at order (AtEnd at) n t
       (g.5 ∙ past_fails (AtEnd at) g.1 (h g.0 (n + g.1) (omega (arith, g.3))))
 
+  -- where the text ends in patterns at the front of braces, the braces are not closed
   pub first_ends : {t : List ℕ} (n : ℕ) → CutsPatterns t → d.tests deep c at AtFront n 0 t ≡ Ends at
   first_ends n (cuts.in_pattern {u = u} sp o) =
       test_ends AtFront n sp (s.plain_sign (out_head no_sign o)) (out_head no_white o)
@@ -150,6 +160,7 @@ module _ (deep : Lists) (c : ListContext) (at : ℕ) where
 
   module _ (size : ℕ) (reads : (c.levels - 1 == 0) ≡ false → ListReads size deep (in_arguments (in_braces c)))
       (ends : (c.levels - 1 == 0) ≡ false → ListEnds size deep (in_arguments (in_braces c))) where
+    -- where by the grammar the text ends in what a test asks, Descent ends there, or has read a test up to the end
     asked_out : (emits : Bool) (n : ℕ) {u : List ℕ} → CutsAsked size (in_braces c) u → At size n u → Out emits n u
     asked_out emits n {u} (cuts.cut_switch h o) place = switch_out emits n u h o
     asked_out emits n (cuts.cut_marked {b} h o) place = marked_out emits n b h o
@@ -159,6 +170,7 @@ module _ (deep : Lists) (c : ListContext) (at : ℕ) where
     asked_out emits n (cuts.cut_result (cuts.in_function_arguments {text = t} name e is l)) place =
         inl (result_fails deep c at emits (AtEnd 0) n name t e is (λ m p. ends e m t l (omega (arith, place, p))))
 
+    -- where the text ends in the tests of an alternative, the braces are not closed
     pub tests_end : (order : Order) {t : List ℕ} (n : ℕ) → CutsTests size (in_braces c) t → At size n t
         → d.tests deep c at order n 0 t ≡ Ends at
     tests_end order n (cuts.in_asked {v = v} {negated = negated} sp sign i) place =

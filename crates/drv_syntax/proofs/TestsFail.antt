@@ -31,14 +31,20 @@ use Rattle.std.proofs.Common.{inl, inr, length}
 use Rattle.std.proofs.Common.{length-append, refl, subst, suc, sym, ℕ}
 use Rattle.std.specs.Prelude.{◌-◌, ◌==◌, None, Option, Some}
 
--- Where a byte in braces doesn't fit, Descent stops at it: tests and patterns. It is to serve the law `refusal_kinds`.
+-- Where a byte in braces doesn't fit, Descent stops at it: tests and patterns. It serves the law `refusal_kinds`. `Reaches.. t due last`
+-- says that the text t leads to a place where `due` is due, and leaves `last` there. `Refuses` says that `last` ends in a byte that doesn't
+-- fit there (specs/Refusals). k is the place of that byte, and q is what follows it in the text. `Stops k fault` is the result that names
+-- that place and this fault. A mark is the `.` or `,` of a test. The number 42 in the statements is the byte *. Descent is the grammar as
+-- functions (specs/Descent). The grammar itself has cases (specs/Spelling, Fronts, Refusals).
 
 -- what is known of the byte after a test
 
 module _ (at : ℕ) (order : Order) (place : Span) (negated : Bool) (o : Operand) (b : ℕ) where
+  -- the test with this byte after it
   abbrev tried : Tried
   tried = record { place = place; negated = negated; operand = o; byte = b }
 
+  -- a byte that ends neither a test nor a pattern doesn't fit after one
   pub none_fits : is_of ends_either b ≡ false → d.after at order tried ≡ d.Fails (BadDirective at)
   none_fits h =
       let w = not_of 58 (124 ∷ 125 ∷ 38 ∷ []) b h in
@@ -46,7 +52,7 @@ module _ (at : ℕ) (order : Order) (place : Span) (negated : Bool) (o : Operand
       let y = not_of 125 (38 ∷ []) b x.1 in
       rw (w.0, x.0, y.0, (not_of 38 [] b y.1).0) refl
 
-  -- where it can be no pattern
+  -- after what can be no pattern, a byte that ends no test doesn't fit
   pub no_pattern_fits : is_of ends_test b ≡ false
       → ((goes : Span × Pattern → d.After) → d.as_pattern at place (may_emit order negated) o.as_pattern goes ≡ d.Fails (BadDirective at))
       → d.after at order tried ≡ d.Fails (BadDirective at)
@@ -61,7 +67,7 @@ module _ (at : ℕ) (order : Order) (place : Span) (negated : Bool) (o : Operand
       by false true = p d.Joins
       by false false = refl
 
-  -- where it can be no test
+  -- after what can be no test, a byte that ends no pattern doesn't fit
   pub no_test_fits : is_of ends_pattern b ≡ false → o.as_test ≡ None → (o.bare ≡ true → is_of ends_test b ≡ false)
       → d.after at order tried ≡ d.Fails (BadDirective at)
   no_test_fits h e f =
@@ -77,15 +83,17 @@ module _ (at : ℕ) (order : Order) (place : Span) (negated : Bool) (o : Operand
       by false true true g k f = differs (sym (let z : is_of ends_test b ≡ true = rw (g, k) refl in z) ∙ f refl)
       by false false z g k f = refl
 
-  -- a . or , alone
+  -- a mark alone is refused as an empty test where a byte follows that ends a test
   pub bare_is_no_test : is_of ends_test b ≡ true → o.as_test ≡ None → o.bare ≡ true → d.after at order tried ≡ d.Fails (EmptyTest at)
   bare_is_no_test h e f = each (λ x. d.after at order (record { place = place; negated = negated; operand = o; byte = x })
       ≡ d.Fails (EmptyTest at)) (58 ∷ 124 ∷ []) b h (rw (e, f) refl, (rw (e, f) refl, tt))
 
+-- where braces can't hold patterns any more, an end of a pattern doesn't fit
 pub no_emit : {at : ℕ} (place : Span) {m : Bool} (p : Option Pattern) → m ≡ false → (goes : Span × Pattern → d.After)
     → d.as_pattern at place m p goes ≡ d.Fails (BadDirective at)
 no_emit {at} place p e goes = ap (λ (z : Bool). d.as_pattern at place z p goes) e
 
+-- after what is no pattern, an end of a pattern doesn't fit
 pub not_emitted : {at : ℕ} (place : Span) (m : Bool) (goes : Span × Pattern → d.After)
     → d.as_pattern at place m None goes ≡ d.Fails (BadDirective at)
 not_emitted place true goes = refl
@@ -99,7 +107,7 @@ module _ (k : ℕ) (q : List ℕ) where
       (due : Due) (last : List ℕ) (fault : SyntaxFault) (n : ℕ) (t : List ℕ) → Reaches (k + 1) c t due last → Refuses (k + 1) due last fault
       → At (k + 1) n t → lists c n (t ++ q) ≡ Stops k fault
 
-  -- patterns after an ampersand
+  -- in patterns after an &, Descent stops at the byte that doesn't fit
   pub patterns_fail : {at : ℕ} {due : Due} {t last : List ℕ} {fault : SyntaxFault} (n : ℕ) → ReachesPatterns at t due last
       → Refuses (k + 1) due last fault → At (k + 1) n t → d.patterns at n 0 (t ++ q) ≡ Stops k fault
   patterns_fail {at} {t = t} n (r.pattern_due sp) (r.no_pattern {b = b} e w) place =
@@ -117,7 +125,7 @@ module _ (k : ℕ) (q : List ℕ) where
       (λ m p. patterns_fail m o h (omega (arith, place, p, length-append t q, length-append w q)))
 
   module _ (deep : Lists) (c : ListContext) (at : ℕ) where
-    -- the byte after a test doesn't fit
+    -- where the byte after a test doesn't fit, Descent stops at it
     byte_stops : (order : Order) (n : ℕ) {t x : List ℕ} {place : Span} {negated : Bool} {o : Operand} {b : ℕ} {fault : SyntaxFault}
         → (m : Reads (d.one_test deep c at order n t) t (record { place = place; negated = negated; operand = o; byte = b }) (b ∷ x))
         → d.after at order (record { place = place; negated = negated; operand = o; byte = b }) ≡ d.Fails fault
@@ -128,7 +136,7 @@ module _ (k : ℕ) (q : List ℕ) where
         ∙ ap (λ a. d.test_go a n m.size (d.patterns at (n + suc m.size) 0 x) (d.tests deep c at AtBar (n + suc m.size) 0 x)) fails
         ∙ ap (λ (i : ℕ). Stops i fault) there
 
-    -- what a test may be was read, and the byte after it doesn't fit
+    -- where a test is read and the byte after it doesn't fit, Descent stops at that byte
     tested_stops : (order : Order) {t u v w x : List ℕ} {negated : Bool} {o : Operand} {b : ℕ} {fault : SyntaxFault} (n : ℕ)
         → AreSpaces t u → IsSign u negated v → s.Stops is_white v
         → ((m : ℕ) → n + length t ≡ m + length v → Reads (d.asked deep c at (may_emit order negated) m v) v o w)
@@ -141,7 +149,7 @@ module _ (k : ℕ) (q : List ℕ) where
         byte_stops order n (reads_as g.5 (reads_past g.1 t g.2 g.3 (from_reads deep c at order g.0 negated (n + g.1) o z w)))
         (fails (span g.0 (n + g.1 + o.size))) place
 
-    -- what a test asks isn't read
+    -- where Descent stops in what a test asks, it stops there in the tests
     asking_stops : (order : Order) {t u v : List ℕ} {negated : Bool} {fault : SyntaxFault} (n : ℕ) → AreSpaces t u → IsSign u negated v
         → s.Stops is_white v
         → ((m : ℕ) → n + length t ≡ m + length v → d.asked deep c at (may_emit order negated) m v ≡ Stops k fault)
@@ -154,14 +162,16 @@ module _ (k : ℕ) (q : List ℕ) where
 
     -- patterns at the front of braces
 
+    -- after a mark that is a pattern alone comes neither a byte of a word, nor a backslash, nor a star
     after_mark_byte : {mark first b x : ℕ} → IsPattern (mark ∷ b ∷ []) (pattern (first ∷ []) false) (x ∷ []) → Empty b
     after_mark_byte (s.unstarred (s.quoted_byte e g (s.quoted_stop f h)) (s.at_byte i)) = (f, h, i)
     after_mark_byte (s.unstarred (s.quoted_escape j) i) = absurd (let z = empty_run j in cc)
 
+    -- white space is neither a byte of a word, nor a backslash, nor a star
     white_empty : (b : ℕ) → is_white b ≡ true → Empty b
     white_empty b w = each Empty (32 ∷ 9 ∷ 10 ∷ []) b w ((refl, refl, refl), ((refl, refl, refl), ((refl, refl, refl), tt)))
 
-    -- a starred . or , and what follows it
+    -- after a starred pattern that begins with a mark, Descent stops at a byte that doesn't fit
     starred_fails : {t u v word last : List ℕ} {mark : ℕ} {fault : SyntaxFault} (n : ℕ) → AreSpaces t (mark ∷ u) → is_mark mark ≡ true
         → IsQuoted is_word (mark ∷ u) word (42 ∷ v) → AreSpaces v last → Refuses (k + 1) (AnEnd at ends_pattern) last fault
         → At (k + 1) n t → d.tests deep c at AtFront n 0 (t ++ q) ≡ Stops k fault
@@ -173,7 +183,7 @@ module _ (k : ℕ) (q : List ℕ) where
         (λ place. no_test_fits at AtFront place false (d.starred_operand mark word) b x refl (λ h. differs (sym h)))
         (omega (arith, place, length-append t q))
 
-    -- after a . or , and white space
+    -- after a mark alone and white space, Descent stops at a byte that doesn't fit
     past_fails_so : {t u last : List ℕ} {mark b : ℕ} {fault : SyntaxFault} (n : ℕ) → AreSpaces t (mark ∷ b ∷ u) → is_mark mark ≡ true
         → is_white b ≡ true → AreSpaces u last → Refuses (k + 1) (r.PastMark at) last fault → At (k + 1) n t
         → (x : ℕ) → last ≡ x ∷ [] → is_white x ≡ false
@@ -188,6 +198,7 @@ module _ (k : ℕ) (q : List ℕ) where
         (s.space white (spaces_longer q spaces)) w fails
         (omega (arith, place, length-append t q))
 
+    -- in braces that are patterns or may still be, Descent stops at the byte that doesn't fit
     pub emits_fail : {due : Due} {t last : List ℕ} {fault : SyntaxFault} (n : ℕ) → ReachesEmits at t due last
         → Refuses (k + 1) due last fault → At (k + 1) n t → d.tests deep c at AtFront n 0 (t ++ q) ≡ Stops k fault
     emits_fail n (r.starred_ends sp is (s.starred i) z) h place = starred_fails n sp is i z h place
@@ -217,6 +228,7 @@ module _ (k : ℕ) (q : List ℕ) where
 
     module _ (reads : (c.levels - 1 == 0) ≡ false → ListReads (k + 1 + length q) deep (in_arguments (in_braces c)))
         (fails : (c.levels - 1 == 0) ≡ false → ListFails deep (in_arguments (in_braces c))) where
+      -- a byte that is in no word is no mark
       not_mark : (b : ℕ) → is_word b ≡ false → is_mark b ≡ false
       not_mark b e = by (is_mark b) refl
         where
@@ -224,7 +236,7 @@ module _ (k : ℕ) (q : List ℕ) where
           by true h = differs (sym (mark_word b h) ∙ e)
           by false h = h
 
-      -- where what a test asks is due
+      -- where what a test asks is due, Descent stops at the byte that doesn't fit
       due_fails : {order : Order} {negated : Bool} {last : List ℕ} {fault : SyntaxFault} (m : ℕ)
           → Refuses (k + 1) (r.ATest (in_braces c) at order negated) last fault → At (k + 1) m last
           → d.asked deep c at (may_emit order negated) m (last ++ q) ≡ Stops k fault
@@ -253,6 +265,7 @@ module _ (k : ℕ) (q : List ℕ) where
 
       -- after a test that can be no pattern
 
+      -- the byte after the test is a star or none
       first_star : (b : ℕ) → s.Stops (λ x. x == 42) (b ∷ q) ⊎ (b ∷ q ≡ 42 ∷ q)
       first_star b = by (b == 42) refl
         where
@@ -260,11 +273,12 @@ module _ (k : ℕ) (q : List ℕ) where
           by true e = inr (ap (λ (y : ℕ). y ∷ q) (same b 42 e))
           by false e = inl (s.at_byte e)
 
+      -- white space and the byte after a test begin with no star, or that byte is a star without white space before it
       star_or : {w : List ℕ} {b : ℕ} → AreSpaces w (b ∷ q) → s.Stops (λ x. x == 42) w ⊎ (w ≡ 42 ∷ q)
       star_or {b = b} s.no_space = first_star b
       star_or (s.space {b = x} h i) = inl (s.at_byte (other is_white x 42 h refl))
 
-      -- a star after a . or , and a word
+      -- where no patterns can be, Descent stops at a star after a mark and its word
       star_stops : {u word : List ℕ} {x : ℕ} (emits : Bool) (m mark : ℕ) → emits ≡ false → is_mark mark ≡ true
           → IsQuoted is_word u (x ∷ word) (42 ∷ q) → m + length (mark ∷ u) ≡ k + length (42 ∷ q)
           → d.asked deep c at emits m (mark ∷ u) ≡ Stops k (BadDirective at)
@@ -279,12 +293,14 @@ module _ (k : ℕ) (q : List ℕ) where
 
       module _ (order : Order) {t u : List ℕ} {negated : Bool} {b : ℕ} (n : ℕ) (sp : AreSpaces t u) (white : is_white b ≡ false)
           (h : is_of ends_test b ≡ false) (place : n + length t ≡ k + length (b ∷ q)) where
+        -- after a test that was read and can be no pattern, Descent stops at a byte that ends no test
         whole_ends : {v w : List ℕ} {o : Operand} → IsSign u negated v → s.Stops is_white v → may_emit order negated ≡ false
             → ((m : ℕ) → n + length t ≡ m + length v → Reads (d.asked deep c at (may_emit order negated) m v) v o w) → AreSpaces w (b ∷ q)
             → d.tests deep c at order n 0 t ≡ Stops k (BadDirective at)
         whole_ends {o = o} sign head e reads z = tested_stops order n sp sign head reads z white
             (λ place. no_pattern_fits at order place negated o b h (λ goes. no_emit place o.as_pattern e goes)) place
 
+        -- after a mark and its word, where no patterns can be, Descent stops at a byte that ends no test
         marked_ends : {v w word : List ℕ} {x : ℕ} (mark : ℕ) → is_mark mark ≡ true → IsSign u negated (mark ∷ v)
             → may_emit order negated ≡ false → IsQuoted is_word v (x ∷ word) w → AreSpaces w (b ∷ q)
             → d.tests deep c at order n 0 t ≡ Stops k (BadDirective at)
@@ -301,6 +317,7 @@ module _ (k : ℕ) (q : List ℕ) where
                 star_stops (may_emit order negated) m mark e is (subst (λ (y : List ℕ). IsQuoted is_word v (x ∷ word) y) f i)
                 (omega (arith, place, p)))
 
+        -- after a test by the grammar that can be no pattern, Descent stops at a byte that ends no test
         asked_ends : {v w : List ℕ} {a : Asked} → IsSign u negated v → may_emit order negated ≡ false
             → IsAsked (k + 1 + length q) (in_braces c) v a w → AreSpaces w (b ∷ q) → At (k + 1 + length q) n t
             → d.tests deep c at order n 0 t ≡ Stops k (BadDirective at)
@@ -312,6 +329,7 @@ module _ (k : ℕ) (q : List ℕ) where
             whole_ends {o = d.result_operand name items} sign (s.at_byte refl) e
             (λ m p. result_reads deep c at (may_emit order negated) (reads (call_level i)) m text name w items i (omega (arith, a, p))) z
 
+        -- after a test of a function's result, Descent stops at a byte that ends no test
         call_ends : {v w name : List ℕ} {items : Items} → IsSign u negated v
             → IsAsked (k + 1 + length q) (in_braces c) v (HasResult name items) w
             → AreSpaces w (b ∷ q) → At (k + 1 + length q) n t → d.tests deep c at order n 0 t ≡ Stops k (BadDirective at)
@@ -323,6 +341,7 @@ module _ (k : ℕ) (q : List ℕ) where
             (λ goes. not_emitted place (may_emit order negated) goes))
             place
 
+      -- where what a test asks is due and a byte doesn't fit, no white space is there
       due_white : {order : Order} {negated : Bool} {last : List ℕ} {fault : SyntaxFault}
           → Refuses (k + 1) (r.ATest (in_braces c) at order negated) last fault → s.Stops is_white (last ++ q)
       due_white (r.test_within_all p e) = s.at_byte refl
@@ -330,6 +349,7 @@ module _ (k : ℕ) (q : List ℕ) where
       due_white (r.no_test_there h w e f) = s.at_byte w
       due_white (r.no_call p e f) = s.at_byte refl
 
+      -- in what a test asks and after it, Descent stops at the byte that doesn't fit
       asked_fails : {order : Order} {t u v last : List ℕ} {negated : Bool} {due : Due} {fault : SyntaxFault} (n : ℕ) → AreSpaces t u
           → IsSign u negated v → ReachesAsked (k + 1) (in_braces c) at order negated v due last → Refuses (k + 1) due last fault
           → At (k + 1) n t → d.tests deep c at order n 0 (t ++ q) ≡ Stops k fault
@@ -369,6 +389,7 @@ module _ (k : ℕ) (q : List ℕ) where
           (mark_reads at (m + 1) true mark (quoted_longer q i f) (stops_longer q e f)))) (spaces_longer q z) w
           (λ place. none_fits at AtFront place false (d.marked_operand mark (x ∷ word)) b h) (omega (arith, place, length-append t q))
 
+      -- in the tests of an alternative, Descent stops at the byte that doesn't fit
       pub reach_tests : {order : Order} {t last : List ℕ} {due : Due} {fault : SyntaxFault} (n : ℕ)
           → ReachesTests (k + 1) (in_braces c) at order t due last → Refuses (k + 1) due last fault → At (k + 1) n t
           → d.tests deep c at order n 0 (t ++ q) ≡ Stops k fault

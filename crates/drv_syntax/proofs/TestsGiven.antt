@@ -24,13 +24,18 @@ use Rattle.std.proofs.Common.{◌≡◌, ◌∙◌, ◌+◌, Bool, false, true, 
 use Rattle.std.specs.List.{prefix_len}
 use Rattle.std.specs.Prelude.{◌==◌, Err, None, Ok, Option, Result, Some}
 
--- What is given of the tests of braces. It serves the reader's `plain_operand`, `plain_test` and what they call.
+-- What the reader's `marked`, `plain_operand` and `plain_test` return for a test that asks for no function's result: a suffix, a language
+-- or a switch. It serves their clauses. `given` and `.._given` turn what specs/Descent makes of a part (`Took`, `Ends`, `Stops`) into the
+-- code's result. A mark is the `.` or `,` of a test. An `Operand` is what was read, which may still be a pattern or a test. `emits` says
+-- that the braces may still hold patterns. `outer` is the place of the outermost directive that is open, if one is, and `at` that of the %
+-- of the directive here.
 
+-- a clause that holds with one definition holds with an equal one
 pub gives_same : {X Y : Type 0} (memory : SyntaxFault) (view : X → Y) (result : Result X SyntaxFault) (a b : Result Y SyntaxFault)
     → a ≡ b → Gives memory view result b → Gives memory view result a
 gives_same memory view result a b e h = subst (λ x. Gives memory view result x) (sym e) h
 
--- a run without a byte has none of the text
+-- a run without a word takes no byte of the text
 quoted_none : (f : ℕ → Bool) (text : List ℕ) (size : ℕ) → quoted f text ≡ Run [] size → size ≡ 0
 quoted_none f [] size e =
     let p : 0 ≡ size = cc in
@@ -56,17 +61,21 @@ quoted_none f (b ∷ c ∷ text) size e = by (b == ascii.backslash) (f b) (quote
 
 -- after a mark
 
+-- what is made of the form of a test with a mark, or the fault
 abbrev form_then : {Z : Type 0} → Result MarkForm SyntaxFault → (MarkForm → Z) → Result Z SyntaxFault
 form_then (Ok form) f = Ok (f form)
 form_then (Err fault) f = Err fault
 
 module _ (outer : Option ℕ) (at : ℕ) (emits : Bool) (mark : ℕ) (v : Reading) where
+  -- what the test may be, with this rest and nothing written
   abbrev as_operand : Operand → Left → Operand × Reading
   as_operand o l = (o, at_rest l v)
 
+  -- what a test with this mark gives after the mark
   abbrev marked_reads : Result (Operand × Reading) SyntaxFault
   marked_reads = operand_given outer v (mark_text at emits mark v.rest.at (quoted is_word v.rest.bytes) v.rest.bytes)
 
+  -- the end of a word after a mark gives the same, whether the bytes of the word are counted with it or already taken
   mark_shift : (n : ℕ) (rest : Left) (w : List ℕ) (size : ℕ) (bs : List ℕ) → (w ≡ [] → size ≡ 0)
       → given outer rest as_operand (mark_end at emits mark n w size bs)
       ≡ given outer (after size rest) as_operand (mark_end at emits mark n w 0 bs)
@@ -90,6 +99,7 @@ module _ (outer : Option ℕ) (at : ℕ) (emits : Bool) (mark : ℕ) (v : Readin
       by true false = refl
       by false u = ap (λ (r : Left). Ok (as_operand (d.marked_operand mark (x ∷ w)) r)) (sym (after_none (after size rest)))
 
+  -- once the word after a mark is read, the test gives what its end gives
   mark_took : (u : Reading) (q : Quoted) (word : List ℕ) → ((w : List ℕ) (size : ℕ) → q ≡ Run w size → w ≡ [] → size ≡ 0)
       → quoted_to [] v q ≡ (Some word, u)
       → operand_given outer v (mark_text at emits mark v.rest.at q v.rest.bytes)
@@ -105,6 +115,7 @@ module _ (outer : Option ℕ) (at : ℕ) (emits : Bool) (mark : ℕ) (v : Readin
       let n : None ≡ Some word = ap (λ (z : Option (List ℕ) × Reading). z.0) e in
       absurd cc
 
+  -- after the word, the test gives what the code's `mark_form` decides by the next byte
   mark_ends : (n : ℕ) (rest : Left) (word : List ℕ)
       → given outer rest as_operand (mark_end at emits mark n word 0 rest.bytes)
       ≡ form_then (mark_form outer at emits (is_empty word) (first_of rest.bytes))
@@ -144,6 +155,7 @@ module _ (outer : Option ℕ) (at : ℕ) (emits : Bool) (mark : ℕ) (v : Readin
       by [] (b ∷ bs) = bare (b == ascii.asterisk) emits (b == ascii.closing_brace) (b == ascii.ampersand) (is_white b)
       by (x ∷ w) (b ∷ bs) = some x w (b == ascii.asterisk) emits
 
+  -- where the text ends in a backslash within the word after a mark, the braces are not closed
   pub marked_hung : (u : Reading) → quoted_to [] v (quoted is_word v.rest.bytes) ≡ (None, u)
       → marked_reads ≡ Err (Unclosed (open_at outer at))
   marked_hung u e = by (quoted is_word v.rest.bytes) e
@@ -155,6 +167,7 @@ module _ (outer : Option ℕ) (at : ℕ) (emits : Bool) (mark : ℕ) (v : Readin
           let n : Some w ≡ None = ap (λ (z : Option (List ℕ) × Reading). z.0) g in
           absurd cc
 
+  -- a test with a mark gives what the code decides, by whether its word has bytes and by the byte after the word
   marked_at : (u : Reading) (word : List ℕ) (none : Bool) (first : Option ℕ) → quoted_to [] v (quoted is_word v.rest.bytes) ≡ (Some word, u)
       → none ≡ is_empty word → first ≡ first_of u.rest.bytes
       → marked_reads ≡ form_then (mark_form outer at emits none first)
@@ -167,6 +180,7 @@ module _ (outer : Option ℕ) (at : ℕ) (emits : Bool) (mark : ℕ) (v : Readin
       ∙ ap (λ x. form_then (mark_form outer at emits none x)
       (λ form. as_operand (operand_of (marked_as form mark) word) (past_byte ascii.asterisk u.rest))) (sym h)
 
+  -- the fault that the code's `mark_form` finds after a mark and its word is that of the test
   pub marked_stops : (u : Reading) (word : List ℕ) (none : Bool) (first : Option ℕ) (e : SyntaxFault)
       → quoted_to [] v (quoted is_word v.rest.bytes) ≡ (Some word, u)
       → none ≡ is_empty word → first ≡ first_of u.rest.bytes → mark_form outer at emits none first ≡ Err e → marked_reads ≡ Err e
@@ -174,6 +188,7 @@ module _ (outer : Option ℕ) (at : ℕ) (emits : Bool) (mark : ℕ) (v : Readin
       marked_at u word none first q g h
       ∙ ap (λ x. form_then x (λ form. as_operand (operand_of (marked_as form mark) word) (past_byte ascii.asterisk u.rest))) k
 
+  -- a test with a mark is what the code's `mark_form` says, with its word and past its star
   pub marked_done : (u : Reading) (word : List ℕ) (none : Bool) (first : Option ℕ) (form : MarkForm) (asked : Asked) (end : Left)
       → quoted_to [] v (quoted is_word v.rest.bytes) ≡ (Some word, u)
       → none ≡ is_empty word → first ≡ first_of u.rest.bytes → mark_form outer at emits none first ≡ Ok form → asked ≡ marked_as form mark
@@ -189,9 +204,11 @@ module _ (outer : Option ℕ) (at : ℕ) (emits : Bool) (mark : ℕ) (v : Readin
 
 module _ (deep : Lists) (c : ListContext) (outer : Option ℕ) (at : ℕ) (emits : Bool) (v : Reading) (b : ℕ)
     (is : first_of v.rest.bytes ≡ Some b) where
+  -- what a test gives on these bytes
   abbrev asked_reads : List ℕ → Result (Operand × Reading) SyntaxFault
   asked_reads bs = operand_given outer v (d.asked deep c at emits v.rest.at bs)
 
+  -- a test that begins with a mark gives what the word after the mark gives
   pub asked_mark : (rest : Left) → is_mark b ≡ true → rest ≡ after 1 v.rest
       → asked_reads v.rest.bytes ≡ operand_given outer (at_rest rest v)
       (mark_text at emits b rest.at (quoted is_word rest.bytes) rest.bytes)
@@ -202,6 +219,7 @@ module _ (deep : Lists) (c : ListContext) (outer : Option ℕ) (at : ℕ) (emits
       (mark_text at emits b (v.rest.at + 1) (quoted is_word (drop 1 v.rest.bytes)) (drop 1 v.rest.bytes))
       ∙ ap (λ (r : Left). operand_given outer (at_rest r v) (mark_text at emits b r.at (quoted is_word r.bytes) r.bytes)) (sym g)
 
+  -- a test with neither a mark nor a percent sign at its front gives a test of a switch by its pattern
   asked_switch : is_mark b ≡ false → (b == ascii.percent) ≡ false
       → asked_reads v.rest.bytes ≡ operand_given outer v (then_read (pattern_at at v.rest.at v.rest.bytes)
       (λ p size. Took (switch_operand p) size))
@@ -211,6 +229,7 @@ module _ (deep : Lists) (c : ListContext) (outer : Option ℕ) (at : ℕ) (emits
       ∙ ap (λ bs. operand_given outer v (then_read (pattern_at at v.rest.at bs) (λ p size. Took (switch_operand p) size)))
       (sym (some_left v.rest.bytes b (sym is)))
 
+  -- without a mark and a percent sign, the fault of the pattern is that of the test
   pub switch_stops : (fault : SyntaxFault) → is_mark b ≡ false → (b == ascii.percent) ≡ false
       → pattern_given outer v (pattern_at at v.rest.at v.rest.bytes) ≡ Err fault → asked_reads v.rest.bytes ≡ Err fault
   switch_stops fault e g h =
@@ -222,10 +241,12 @@ module _ (deep : Lists) (c : ListContext) (outer : Option ℕ) (at : ℕ) (emits
 
 module _ (deep : Lists) (c : ListContext) (outer : Option ℕ) (at : ℕ) (order : Order) (so_far : Option Choice) (start : ℕ) (negated : Bool)
     (v : Reading) where
+  -- what a test that was read and then white space give, by the byte after them
   abbrev tried_at : Operand → Reading → List ℕ → Result (Next × Reading) SyntaxFault
   tried_at o u [] = Err (Unclosed (open_at outer at))
   tried_at o u (b ∷ text) = after_given so_far (at_rest (spaced u.rest) u) (d.after at order (tried_seen start u.rest.at negated o b))
 
+  -- once a test is read, white space and the byte after it decide what becomes of it
   tried_from : (o : Operand) (u : Reading) (r : Read Operand) → operand_given outer v r ≡ Ok (o, u)
       → tried_given outer at order so_far v
       (then_read r (λ operand k. past k (d.ended at (span start (v.rest.at + k)) negated operand (drop k v.rest.bytes))))
@@ -252,6 +273,7 @@ module _ (deep : Lists) (c : ListContext) (outer : Option ℕ) (at : ℕ) (order
       by (b ∷ bs) = ap (λ (r : Left). after_given so_far (at_rest r v)
           (d.after at order (tried_seen start (v.rest.at + k) negated operand b))) rest
 
+  -- where a byte follows a test and white space, this byte decides what the test and the braces are
   pub tried_some : (emits : Bool) (o : Operand) (u : Reading) (rest : Left) (end b : ℕ) → emits ≡ may_emit order negated
       → operand_given outer v (d.asked deep c at emits v.rest.at v.rest.bytes) ≡ Ok (o, u) → rest ≡ spaced u.rest → end ≡ u.rest.at
       → Some b ≡ first_of rest.bytes

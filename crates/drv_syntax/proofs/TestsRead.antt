@@ -20,10 +20,13 @@ use Rattle.std.proofs.Common.{zero, ℕ}
 use Rattle.std.specs.List.{prefix_len}
 use Rattle.std.specs.Prelude.{◌-◌, ◌==◌, Some}
 
--- What the grammar says of a test, Descent makes of it. It is to serve the laws `spelled_is_read`, `front_is_unrefused` and
--- `refusal_kinds`.
+-- What the grammar says of a test, Descent makes of it. It serves the laws `spelled_is_read`, `front_is_unrefused` and `refusal_kinds`. A
+-- mark is the `.` or `,` of a test. `Reads r text x rest` says that the result r took x from the text and left this rest (PartsRead).
+-- `failed f` is a result that fails in the way f (Failing). `Tried` is a test that may still be a pattern, with the byte after it. The
+-- numbers in the statements are bytes: 44 is a comma, 46 a period, 58 :, 124 |. Descent is the grammar as functions (specs/Descent). The
+-- grammar itself has cases (specs/Spelling, Fronts, Refusals).
 
--- a . or , and a word, which no star follows
+-- after a mark, a word by the grammar that no star follows is read, for a suffix, a language or a pattern
 pub mark_reads : {text word rest : List ℕ} {x : ℕ} (at n : ℕ) (emits : Bool) (mark : ℕ) → IsQuoted is_word text (x ∷ word) rest
     → s.Stops (λ b. b == ascii.asterisk) rest
     → Reads (d.mark_text at emits mark n (quoted is_word text) text) text (d.marked_operand mark (x ∷ word)) rest
@@ -43,7 +46,7 @@ mark_reads {text} {word} {rest} {x} at n emits mark i h =
     ended size [] h = refl
     ended size (b ∷ rest) (s.at_byte e) = rw e refl
 
--- the byte after white space
+-- white space after a test, and the byte after it, are read
 pub end_reads : {w q : List ℕ} {b : ℕ} (at : ℕ) (place : Span) (negated : Bool) (o : Operand) → AreSpaces w (b ∷ q) → is_white b ≡ false
     → Reads (d.ended at place negated o w) w (record { place = place; negated = negated; operand = o; byte = b }) (b ∷ q)
 end_reads {w} {q} {b} at place negated o i e =
@@ -56,6 +59,7 @@ end_reads {w} {q} {b} at place negated o i e =
       fits = omega (arith, m.1);
     }
 
+-- where the text ends after a test and white space, the braces are not closed
 pub no_end : {w : List ℕ} (at : ℕ) (place : Span) (negated : Bool) (o : Operand) → AreSpaces w [] → d.ended at place negated o w ≡ Ends at
 no_end {w} at place negated o i =
     ap (λ (t : List ℕ). past (prefix_len is_white w) (d.end_byte at place negated o t)) (spaces_to i s.at_end).0
@@ -67,12 +71,14 @@ asked_operand (HasSuffix word) = d.marked_operand 46 word
 asked_operand (HasLanguage word) = d.marked_operand 44 word
 asked_operand (HasResult name items) = d.result_operand name items
 
+-- what a test may be that asks this is a test
 asks : (a : Asked) → (asked_operand a).as_test ≡ Some a
 asks (HasSwitch p) = refl
 asks (HasSuffix word) = refl
 asks (HasLanguage word) = refl
 asks (HasResult name items) = refl
 
+-- a call by the grammar has a level left for its arguments
 pub call_level : {size : ℕ} {g : ListContext} {text name rest : List ℕ} {items : Items} → IsCall size g text name items rest
     → (g.levels == 0) ≡ false
 call_level (s.call e is l) = e
@@ -82,16 +88,19 @@ abbrev pub form_of : Tests → Form
 form_of no_test = Patterns []
 form_of (test place negated a others) = Alternative place negated a others
 
+-- a test put before the other tests of an alternative is an alternative with one test more
 pub one_more : {size : ℕ} {g : ListContext} {t rest : List ℕ} {others : Tests} (place : Span) (negated : Bool) (a : Asked)
     → AreTests size g t others rest → d.with_test place negated a (form_of others) ≡ form_of (test place negated a others)
 one_more place negated a (s.last_test sp x sign i y z) = refl
 one_more place negated a (s.next_test sp x sign i y z o) = refl
 
 module _ (deep : Lists) (c : ListContext) (at : ℕ) where
+  -- what begins with a mark is read by the word after the mark
   pub mark_is : (emits : Bool) (n mark : ℕ) (t : List ℕ) → is_mark mark ≡ true
       → d.asked deep c at emits n (mark ∷ t) ≡ past 1 (d.mark_text at emits mark (n + 1) (quoted is_word t) t)
   mark_is emits n mark t h = rw h refl
 
+  -- a pattern by the grammar that begins with no mark is read as a test of a switch
   pub switch_reads : (emits : Bool) (n : ℕ) (text rest : List ℕ) (p : Pattern) → s.Stops is_mark text → IsPattern text p rest
       → Reads (d.asked deep c at emits n text) text (d.switch_operand p) rest
   switch_reads emits n text rest p h i = by text h (pattern_head no_percent i) (pattern_reads at n i)
@@ -109,6 +118,7 @@ module _ (deep : Lists) (c : ListContext) (at : ℕ) where
           rw (e, f) (reads_then (λ p used. Took (d.switch_operand p) used) m
           (record { size = m.size; is = refl; left = m.left; fits = m.fits }))
 
+  -- what a test asks by the grammar is read, if no star follows it
   pub asked_reads : {size : ℕ} → ((c.levels - 1 == 0) ≡ false → ListReads size deep (in_arguments (in_braces c))) → (emits : Bool) (n : ℕ)
       {text rest : List ℕ} {a : Asked} → IsAsked size (in_braces c) text a rest → s.Stops (λ b. b == ascii.asterisk) rest → At size n text
       → Reads (d.asked deep c at emits n text) text (asked_operand a) rest
@@ -121,9 +131,11 @@ module _ (deep : Lists) (c : ListContext) (at : ℕ) where
       result_reads deep c at emits (ih (call_level i)) n text name rest items i place
 
   module _ (order : Order) where
+    -- what Descent makes of a test after its sign
     abbrev from : ℕ → Bool → ℕ → List ℕ → Read Tried
     from start negated n v = d.asked_from deep c at order start negated n v
 
+    -- with a `!` and white space or without, Descent goes on with what the test asks
     signed_goes : {u v : List ℕ} {negated : Bool} (n : ℕ) → IsSign u negated v → s.Stops is_white v
         → (k : ℕ) × (drop k u ≡ v) × (length u ≡ k + length v) × (d.signed deep c at order n u ≡ past k (from n negated (n + k) v))
     signed_goes n (s.plain_sign {rest} h) w =
@@ -145,7 +157,7 @@ module _ (deep : Lists) (c : ListContext) (at : ℕ) where
               ∙ ap (λ (i : ℕ). past (1 + white) (from n true i v)) z,
         )
 
-    -- before what a test asks
+    -- after white space and a `!` or none, Descent goes on with what the test asks, and knows where the test began
     pub test_goes : {t u v : List ℕ} {negated : Bool} (n : ℕ) → AreSpaces t u → IsSign u negated v → s.Stops is_white v
         → (start : ℕ) × (k : ℕ) × (drop k t ≡ v) × (length t ≡ k + length v) × (n + length t ≡ start + length u)
         × (d.one_test deep c at order n t ≡ past k (from start negated (n + k) v))
@@ -164,13 +176,14 @@ module _ (deep : Lists) (c : ListContext) (at : ℕ) where
               ∙ ap (λ (i : ℕ). past (white + z.0) (from (n + white) negated i v)) e,
         )
 
-    -- what a test asks, and the byte after it
+    -- once what it asks is read, a test with white space and the byte after it is read
     pub from_reads : (start : ℕ) (negated : Bool) (n : ℕ) {v w q : List ℕ} {o : Operand} {b : ℕ}
         → (m : Reads (d.asked deep c at (may_emit order negated) n v) v o w) → AreSpaces w (b ∷ q) → is_white b ≡ false
         → Reads (from start negated n v) v (record { place = span start (n + m.size); negated = negated; operand = o; byte = b }) (b ∷ q)
     from_reads start negated n {o = o} m sp h =
         reads_after (λ o k t. d.ended at (span start (n + k)) negated o t) m (end_reads at (span start (n + m.size)) negated o sp h)
 
+    -- where the text ends after what a test asks, the braces are not closed
     pub from_ends : (start : ℕ) (negated : Bool) (n : ℕ) {v w : List ℕ} {o : Operand}
         → Reads (d.asked deep c at (may_emit order negated) n v) v o w → AreSpaces w [] → from start negated n v ≡ Ends at
     from_ends start negated n {v} {w} {o} m sp =
@@ -185,6 +198,7 @@ module _ (deep : Lists) (c : ListContext) (at : ℕ) where
     tests_open n [] = refl
     tests_open n (b ∷ t) = refl
 
+    -- once the first test is read, the tests give what the byte after it leads to
     pub tests_go : (n : ℕ) {t x : List ℕ} {tr : Tried} {b : ℕ} (m : Reads (d.one_test deep c at order n t) t tr (b ∷ x))
         → d.tests deep c at order n 0 t
         ≡ d.test_go (d.after at order tr) n m.size (d.patterns at (n + suc m.size) 0 x) (d.tests deep c at AtBar (n + suc m.size) 0 x)
@@ -198,12 +212,13 @@ module _ (deep : Lists) (c : ListContext) (at : ℕ) where
         ∙ ap (λ fs. d.test_go (d.after at order tr) n m.size (d.patterns at (n + suc m.size) 0 x) fs)
         (skipped (λ (i k : ℕ) (u : List ℕ). d.tests deep c at AtBar i k u) (λ i k b u. refl) n (suc m.size) t x e.0 e.1)
 
+    -- the tests fail as the first of them does
     pub tests_fail : (f : Failure) (n : ℕ) (t : List ℕ) → d.one_test deep c at order n t ≡ failed f
         → d.tests deep c at order n 0 t ≡ failed f
     tests_fail f n t e = tests_open n t ∙ then_fails f (λ tr k.
         d.test_go (d.after at order tr) n k (d.patterns at n (suc k) t) (d.tests deep c at AtBar n (suc k) t)) e
 
-    -- a test that asks, and the byte after it
+    -- Descent reads this test from its white space up to this byte after it, and these are the places where it begins and ends
     pub record Asking (n : ℕ) (t u w : List ℕ) (negated : Bool) (a : Asked) (b : ℕ) (q : List ℕ) : Type 0 where
       pub first : ℕ
       pub last : ℕ
@@ -212,6 +227,7 @@ module _ (deep : Lists) (c : ListContext) (at : ℕ) where
       pub reads : Reads (d.one_test deep c at order n t) t
           (record { place = span first last; negated = negated; operand = asked_operand a; byte = b }) (b ∷ q)
 
+    -- a test by the grammar is read up to the byte after it, if this is no white space and no star
     pub asking : {size : ℕ} → ((c.levels - 1 == 0) ≡ false → ListReads size deep (in_arguments (in_braces c)))
         → {t u v w q : List ℕ} {negated : Bool} {a : Asked} {b : ℕ} (n : ℕ) → AreSpaces t u → IsSign u negated v
         → IsAsked size (in_braces c) v a w → AreSpaces w (b ∷ q) → is_white b ≡ false → (b == ascii.asterisk) ≡ false
@@ -229,6 +245,7 @@ module _ (deep : Lists) (c : ListContext) (at : ℕ) where
 
     -- the last test, and one before a bar
 
+    -- a test with a colon after it is read as an alternative with this test alone
     pub last_reads : {n : ℕ} {t u w q : List ℕ} {negated : Bool} {a : Asked} (k : Asking n t u w negated a 58 q)
         → Reads (d.tests deep c at order n 0 t) t (Alternative (span k.first k.last) negated a no_test) (58 ∷ q)
     last_reads {n} {q = q} {negated} {a} k =
@@ -242,6 +259,7 @@ module _ (deep : Lists) (c : ListContext) (at : ℕ) where
           fits = m.fits;
         }
 
+    -- after a test and a bar, Descent goes on with the tests after the bar
     pub next_goes : {n : ℕ} {t u w q : List ℕ} {negated : Bool} {a : Asked} (k : Asking n t u w negated a 124 q)
         → d.tests deep c at order n 0 t ≡ then_read (d.tests deep c at AtBar (n + suc k.reads.size) 0 q)
         (λ form size. Took (d.with_test (span k.first k.last) negated a form) (k.reads.size + 1 + size))
@@ -251,6 +269,7 @@ module _ (deep : Lists) (c : ListContext) (at : ℕ) where
         ∙ ap (λ x. d.test_go (d.as_test at (asked_operand a).bare x (d.Bars (span k.first k.last) negated)) n m.size
         (d.patterns at (n + suc m.size) 0 q) (d.tests deep c at AtBar (n + suc m.size) 0 q)) (asks a)
 
+    -- a test, a bar and the tests after it are read as the tests of one alternative
     pub next_reads : {n : ℕ} {t u w q rest : List ℕ} {negated : Bool} {a : Asked} {form : Form}
         (k : Asking n t u w negated a 124 q) → Reads (d.tests deep c at AtBar (n + suc k.reads.size) 0 q) q form rest
         → Reads (d.tests deep c at order n 0 t) t (d.with_test (span k.first k.last) negated a form) rest
@@ -266,6 +285,7 @@ module _ (deep : Lists) (c : ListContext) (at : ℕ) where
           fits = omega (arith, e.1, m.fits);
         }
 
+  -- the tests of an alternative by the grammar are read, up to their colon
   pub tests_read : {size : ℕ} → ((c.levels - 1 == 0) ≡ false → ListReads size deep (in_arguments (in_braces c))) → (order : Order)
       {t mid : List ℕ} {tests : Tests} (n : ℕ) → AreTests size (in_braces c) t tests (58 ∷ mid) → At size n t
       → Reads (d.tests deep c at order n 0 t) t (form_of tests) (58 ∷ mid)

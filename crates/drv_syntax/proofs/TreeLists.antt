@@ -11,14 +11,17 @@ use Rattle.std.specs.Prelude.{Result, Ok, Err}
 
 -- The tokens and labels that are kept of a text are those of its tree. It serves `SpecTree::tokens`, `word` and their like.
 
+-- the tokens of a text, or none where it has a fault
 abbrev tokens_in : Result (List Token × List Label) SyntaxFault → List Token
 tokens_in (Ok p) = p.0
 tokens_in (Err fault) = []
 
+-- the labels of a text, or none where it has a fault
 abbrev labels_in : Result (List Token × List Label) SyntaxFault → List Label
 labels_in (Ok p) = p.1
 labels_in (Err fault) = []
 
+-- the tokens that are kept of a text that was read are those of its tree
 pub listed_tokens : (text : List ℕ) (tokens : List Token) (labels : List Label) → listed (parsed text) ≡ Ok (tokens, labels)
     → tokens ≡ tokens_of (tree_of text)
 listed_tokens text tokens labels h = by (parsed text) h
@@ -27,6 +30,7 @@ listed_tokens text tokens labels h = by (parsed text) h
     by (Ok items) e = sym (ap (λ r. tokens_in r) e)
     by (Err fault) e = absurd cc
 
+-- the labels that are kept of a text that was read are those of its tree
 pub listed_labels : (text : List ℕ) (tokens : List Token) (labels : List Label) → listed (parsed text) ≡ Ok (tokens, labels)
     → labels ≡ labels_of (tree_of text)
 listed_labels text tokens labels h = by (parsed text) h
@@ -35,6 +39,7 @@ listed_labels text tokens labels h = by (parsed text) h
     by (Ok items) e = sym (ap (λ r. labels_in r) e)
     by (Err fault) e = absurd cc
 
+-- a place of a token is the place of a label
 pub label_within : (items : Items) (place : ℕ) (labels : List Label) → labels ≡ labels_of items → place < length (tokens_of items)
     → place < length labels
 label_within items place labels e h = subst (λ (n : ℕ). place < n) (sym (ap (λ ls. length ls) e ∙ as_many_of items)) h

@@ -7,10 +7,12 @@ use Rattle.std.specs.Prelude.{◌||◌}
 
 -- The X of an alternative ends without its white space, which has no %*. It serves the alternatives that the reader writes.
 
+-- an item of white space before these items, which is left out if they are none
 abbrev pub kept_white : Span → Item → Items → Items
 kept_white s item tree.none = tree.none
 kept_white s item (tree.more r other items) = tree.more s item (tree.more r other items)
 
+-- an item of white space is left out if no item follows it, and any other item is kept
 pub kept_is : (s : Span) (item : Item) (items : Items) → kept s item items
     ≡ (if is_white_item item then kept_white s item items else tree.more s item items)
 kept_is s (tree.Plain b) items = refl
@@ -34,6 +36,7 @@ kept_is s tree.Star items = refl
 kept_is s (tree.FailureFile brace) items = refl
 kept_is s (tree.ArgumentsFile brace) items = refl
 
+-- an item of white space is no %*
 white_star : (item : Item) → is_white_item item ≡ true → item_has_star item ≡ false
 white_star (tree.Plain b) e = refl
 white_star (tree.Escape b) e = refl
@@ -54,7 +57,7 @@ white_star tree.Star e = absurd cc
 white_star (tree.FailureFile brace) e = absurd cc
 white_star (tree.ArgumentsFile brace) e = absurd cc
 
--- white space at the end has no %*
+-- white space at the end of a list makes no difference to whether it has a %* of its X
 pub trim_star : (items : Items) → has_star (trimmed items) ≡ has_star items
 trim_star tree.none = refl
 trim_star (tree.more s item items) = ap (λ x. has_star x) (kept_is s item (trimmed items))

@@ -14,6 +14,7 @@ use Rattle.std.specs.Prelude.{None, Ok}
 
 -- A whole text is what follows a text without bytes. It serves `parse`.
 
+-- a text that is read from its start, with no tokens or labels before it, gives what a whole text gives
 pub from_start : (text : List ℕ) (tokens : List Token) (names : List Label) → [] ≡ tokens → [] ≡ names
     → rest_given 0 text tokens names ≡ whole_given text
 from_start text tokens names e f =

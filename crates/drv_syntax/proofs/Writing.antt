@@ -25,19 +25,26 @@ use Rattle.std.proofs.lemmas.Bool.Decides.{nat_tests}
 use Rattle.std.specs.List.{prefix_len}
 use Rattle.std.specs.Prelude.{◌==◌, ◌||◌, Err, None, Ok, Option, Result, Some, nat_le}
 
--- What is written of a part, where the grammar as functions reads it. It serves the reader's leaves: suffixes, options, names and words.
+-- What the code writes of a part without parts inside it, where Descent reads that part. It serves the reader's leaves: suffixes, options,
+-- names and words (src/descent/words.rt, leaves.rt). A `Reading` is the text that is left and the tokens and labels so far. `given` turns
+-- what Descent makes of a part into the code's result. `quoted_to w v q` is what a run q of bytes and escapes leaves of the reading v,
+-- where the front w of its word is already taken. Descent is the grammar as functions (specs/Descent). `outer` is the place of the
+-- outermost directive that is open, if one is, and `at` that of the % of the directive here.
 
+-- k bytes on, and then so many more, are all of these bytes on
 pub after_after : (k size : ℕ) (r : Left) → after (k + size) r ≡ after size (after k r)
 after_after k size r =
     let e : r.at + (k + size) ≡ r.at + k + size = omega arith in
     ap (λ (i : ℕ). record { at = i; bytes = drop (k + size) r.bytes }) e
     ∙ ap (λ (bs : List ℕ). record { at = r.at + k + size; bytes = bs }) (sym (drop-drop size k r.bytes))
 
+-- no bytes on are the same rest
 pub after_none : (r : Left) → after 0 r ≡ r
 after_none r =
     let e : r.at + 0 ≡ r.at = omega arith in
     ap (λ (i : ℕ). record { at = i; bytes = r.bytes }) e
 
+-- where k bytes come before a part, it gives what it gives from the rest after these
 pub given_past : {X Y : Type 0} (outer : Option ℕ) (rest : Left) (f : X → Left → Y) (k : ℕ) (r : Read X)
     → given outer rest f (past k r) ≡ given outer (after k rest) f r
 given_past outer rest f k (Took x size) = ap (λ (i : Left). Ok (f x i)) (after_after k size rest)
@@ -46,21 +53,26 @@ given_past outer rest f k (Stops n fault) = refl
 
 -- words with escapes
 
+-- a byte of the class is one more byte of the run
 quoted_more : (f : ℕ → Bool) (b : ℕ) (text : List ℕ) → (b == ascii.backslash) ≡ false → f b ≡ true
     → quoted f (b ∷ text) ≡ with_byte b 1 (quoted f text)
 quoted_more f b [] e g = rw (e, g) refl
 quoted_more f b (c ∷ text) e g = rw (e, g) refl
 
+-- a byte that is not of the class, and no backslash, ends a run
 quoted_stop : (f : ℕ → Bool) (b : ℕ) (text : List ℕ) → (b == ascii.backslash) ≡ false → f b ≡ false → quoted f (b ∷ text) ≡ Run [] 0
 quoted_stop f b [] e g = rw (e, g) refl
 quoted_stop f b (c ∷ text) e g = rw (e, g) refl
 
+-- a word, and this rest
 abbrev found : List ℕ → Left → Reading → Option (List ℕ) × Reading
 found word rest v = (Some word, at_rest rest v)
 
+-- no word, since the text ends in an escape, and this rest
 abbrev hangs : Left → Reading → Option (List ℕ) × Reading
 hangs rest v = (None, at_rest rest v)
 
+-- a byte before a run is a byte more of the front of its word
 quoted_byte : (w : List ℕ) (v : Reading) (b k : ℕ) (q : Quoted)
     → quoted_to w v (with_byte b k q) ≡ quoted_to (w ++ b ∷ []) (at_rest (after k v.rest) v) q
 quoted_byte w v b k (Run word size) =
@@ -68,11 +80,13 @@ quoted_byte w v b k (Run word size) =
     ∙ ap (λ (r : Left). found ((w ++ b ∷ []) ++ word) r v) (after_after k size v.rest)
 quoted_byte w v b k (Hangs size) = ap (λ (r : Left). hangs r v) (after_after k size v.rest)
 
+-- where a run ends, its word is its front
 quoted_end : (w : List ℕ) (v : Reading) → quoted_to w v (Run [] 0) ≡ found w v.rest v
 quoted_end w v =
     ap (λ (x : List ℕ). found x (after 0 v.rest) v) (append-nil w)
     ∙ ap (λ (r : Left). found w r v) (after_none v.rest)
 
+-- a backslash and its byte in a run are one byte of its word
 pub escape_step : (class : Class) (w : List ℕ) (v : Reading) (b : ℕ) (text : List ℕ) → v.rest.bytes ≡ ascii.backslash ∷ b ∷ text
     → quoted_to (w ++ b ∷ []) (at_rest (after 2 v.rest) v) (quoted (in_class class) (drop 2 v.rest.bytes))
     ≡ quoted_to w v (quoted (in_class class) v.rest.bytes)
@@ -81,6 +95,7 @@ escape_step class w v b text e =
     ∙ sym (quoted_byte w v b 2 (quoted (in_class class) text))
     ∙ ap (λ (bs : List ℕ). quoted_to w v (quoted (in_class class) bs)) (sym e)
 
+-- a byte of the class in a run is one byte of its word
 pub plain_step : (class : Class) (w : List ℕ) (v : Reading) (b : ℕ) (text : List ℕ) → v.rest.bytes ≡ b ∷ text
     → (b == ascii.backslash) ≡ false → in_class class b ≡ true
     → quoted_to (w ++ b ∷ []) (at_rest (after 1 v.rest) v) (quoted (in_class class) (drop 1 v.rest.bytes))
@@ -93,6 +108,7 @@ plain_step class w v b text e g h =
 
 -- a run without escapes
 
+-- the bytes that the code counts in a run are no backslashes
 no_backslash : (class : Class) (b : ℕ) → runs_in class b ≡ true → (b == ascii.backslash) ≡ false
 no_backslash class b e = by (b == ascii.backslash) refl e
   where
@@ -100,18 +116,22 @@ no_backslash class b e = by (b == ascii.backslash) refl e
     by true g h = absurd cc
     by false g h = g
 
+-- a byte that is no backslash is of the class exactly if the code counts it in a run
 of_class : (class : Class) (b : ℕ) (t : Bool) → (b == ascii.backslash) ≡ false → runs_in class b ≡ t → in_class class b ≡ t
 of_class class b t e g = ap (λ (u : Bool). if u then false else in_class class b) (sym e) ∙ g
 
+-- no bytes of a run taken change nothing
 run_none : (class : Class) (w : List ℕ) (v : Reading) (text : List ℕ)
     → quoted_to (w ++ []) (at_rest (after 0 v.rest) v) (quoted (in_class class) text) ≡ quoted_to w v (quoted (in_class class) text)
 run_none class w v text =
     ap (λ (x : List ℕ). quoted_to x (at_rest (after 0 v.rest) v) (quoted (in_class class) text)) (append-nil w)
     ∙ ap (λ (r : Left). quoted_to w (at_rest r v) (quoted (in_class class) text)) (after_none v.rest)
 
+-- 1 + k is the number after k
 one_more : (k : ℕ) → 1 + k ≡ suc k
 one_more k = omega arith
 
+-- a run gives the same after its bytes before the first backslash as from its start
 run_from : (class : Class) (w : List ℕ) (v : Reading) (text : List ℕ)
     → quoted_to (w ++ take (prefix_len (runs_in class) text) text) (at_rest (after (prefix_len (runs_in class) text) v.rest) v)
     (quoted (in_class class) (drop (prefix_len (runs_in class) text) text))
@@ -141,6 +161,7 @@ run_from class w v (b ∷ text) = by (runs_in class b) refl (run_from class (w +
         ∙ ap (λ (q : Quoted). quoted_to w v q)
         (sym (quoted_more (in_class class) b text (no_backslash class b e) (of_class class b true (no_backslash class b e) e)))
 
+-- after as many bytes as the code counts before the first backslash, a run gives the same as from its start
 pub run_takes : (class : Class) (v : Reading) (k : ℕ) → k ≡ prefix_len (runs_in class) v.rest.bytes
     → quoted_to (take k v.rest.bytes) (at_rest (after k v.rest) v) (quoted (in_class class) (drop k v.rest.bytes))
     ≡ quoted_to [] v (quoted (in_class class) v.rest.bytes)
@@ -148,6 +169,7 @@ run_takes class v k e =
     ap (λ (i : ℕ). quoted_to (take i v.rest.bytes) (at_rest (after i v.rest) v) (quoted (in_class class) (drop i v.rest.bytes))) e
     ∙ run_from class [] v v.rest.bytes
 
+-- where no backslash follows the bytes of a run, the run has ended there
 run_stops : (class : Class) (text : List ℕ) → begins_with ascii.backslash (drop (prefix_len (runs_in class) text) text) ≡ false
     → quoted (in_class class) (drop (prefix_len (runs_in class) text) text) ≡ Run [] 0
 run_stops class [] e = refl
@@ -164,7 +186,7 @@ run_stops class (b ∷ text) e = by (runs_in class b) refl e (λ g. run_stops cl
         ∙ ih (ap (λ (i : ℕ). begins_with ascii.backslash (drop i (b ∷ text))) (sym (one_more k)) ∙ h)
     by false g h ih = quoted_stop (in_class class) b text h (of_class class b false h g)
 
--- a word without escapes
+-- where no backslash follows the bytes of a run, its word is these bytes of the text
 pub run_is : (class : Class) (v : Reading) (k : ℕ) → k ≡ prefix_len (runs_in class) v.rest.bytes
     → begins_with ascii.backslash (drop k v.rest.bytes) ≡ false
     → quoted_to [] v (quoted (in_class class) v.rest.bytes) ≡ found (take k v.rest.bytes) (after k v.rest) v
@@ -179,6 +201,7 @@ run_is class v k e g =
         ap (λ (j : ℕ). quoted (in_class class) (drop j v.rest.bytes)) h
         ∙ run_stops class v.rest.bytes (ap (λ (j : ℕ). begins_with ascii.backslash (drop j v.rest.bytes)) (sym h) ∙ s)
 
+-- a word without escapes is the bytes that the code has taken
 pub run_found : (class : Class) (v : Reading) (k : ℕ) (run : List ℕ) (rest : Left) → k ≡ prefix_len (runs_in class) v.rest.bytes
     → rest ≡ after k v.rest → run ≡ take k v.rest.bytes → begins_with ascii.backslash rest.bytes ≡ false
     → quoted_to [] v (quoted (in_class class) v.rest.bytes) ≡ found run rest v
@@ -187,6 +210,7 @@ run_found class v k run rest e f g h =
     ∙ ap (λ (x : List ℕ). found x (after k v.rest) v) (sym g)
     ∙ ap (λ (r : Left). found run r v) (sym f)
 
+-- a run goes on after the bytes before its first backslash, with these as the front of its word
 pub run_goes : (class : Class) (v : Reading) (k : ℕ) (run : List ℕ) (rest : Left) → k ≡ prefix_len (runs_in class) v.rest.bytes
     → rest ≡ after k v.rest → run ≡ take k v.rest.bytes
     → quoted_to [] v (quoted (in_class class) v.rest.bytes) ≡ quoted_to run (at_rest rest v) (quoted (in_class class) rest.bytes)
@@ -195,7 +219,7 @@ run_goes class v k run rest e f g =
     ∙ ap (λ (x : List ℕ). quoted_to x (at_rest (after k v.rest) v) (quoted (in_class class) (drop k v.rest.bytes))) (sym g)
     ∙ ap (λ (r : Left). quoted_to run (at_rest r v) (quoted (in_class class) r.bytes)) (sym f)
 
--- bytes that aren't the same
+-- bytes that are not equal are found different by the test
 pub differs : (b c : ℕ) → (b ≡ c → ⊥) → (b == c) ≡ false
 differs b c h = by (b == c) refl
   where
@@ -203,7 +227,7 @@ differs b c h = by (b == c) refl
     by true e = absurd (h (same b c e))
     by false e = refl
 
--- a byte more of a word with escapes
+-- the loop that reads a run keeps its result over a backslash and the byte after it
 pub escape_kept : (class : Class) (w more : List ℕ) (v : Reading) (rest : Left) (b e : ℕ) (whole : Option (List ℕ) × Reading)
     → first_of v.rest.bytes ≡ Some b → b ≡ ascii.backslash → second_of v.rest.bytes ≡ Some e
     → more ≡ w ++ e ∷ [] → rest ≡ after 2 v.rest → quoted_to w v (quoted (in_class class) v.rest.bytes) ≡ whole
@@ -225,6 +249,7 @@ escape_kept class w more v rest b e whole f g h i j k =
         escape_step class w v e text
         (is ∙ ap (λ (z : ℕ). z ∷ d ∷ text) (p ∙ g) ∙ ap (λ (z : ℕ). ascii.backslash ∷ z ∷ text) q)
 
+-- the loop that reads a run keeps its result over a byte of the class
 pub plain_kept : (class : Class) (w more : List ℕ) (v : Reading) (rest : Left) (b : ℕ) (whole : Option (List ℕ) × Reading)
     → first_of v.rest.bytes ≡ Some b → (b ≡ ascii.backslash → ⊥) → in_class class b ≡ true
     → more ≡ w ++ b ∷ [] → rest ≡ after 1 v.rest → quoted_to w v (quoted (in_class class) v.rest.bytes) ≡ whole
@@ -245,9 +270,11 @@ plain_kept class w more v rest b whole f g h i j k =
 
 -- names
 
+-- a number at most another is found so by the test
 within : (n m : ℕ) → n ≤ m → nat_le n m ≡ true
 within n m h = grind (arith, nat_tests)
 
+-- the name of a named text that is longer than 255 bytes is refused
 name_long_from : {Y : Type 0} (outer : Option ℕ) (rest : Left) (f : Item → Left → Y) (at n : ℕ) (p text : List ℕ) → length p ≤ 255
     → 255 < length p + prefix_len is_name_byte text → given outer rest f (name_from at n p text) ≡ Err (BadDirective at)
 name_long_from outer rest f at n p [] h g = absurd (omega (arith, h, g))
@@ -268,6 +295,7 @@ name_long_from outer rest f at n p (b ∷ text) h g =
         given_past outer rest f 1 (name_from at (n + 1) (p ++ b ∷ []) text)
         ∙ ih l (omega (arith, x, length-append p (b ∷ [])))
 
+-- a name of at most 255 bytes, read byte by byte, is what the code takes at once
 name_short_from : {Y : Type 0} (outer : Option ℕ) (rest : Left) (f : Item → Left → Y) (at n : ℕ) (p text : List ℕ)
     → length p + prefix_len is_name_byte text ≤ 255
     → given outer rest f (name_from at n p text)
@@ -312,14 +340,17 @@ name_short_from outer rest f at n p (b ∷ text) h =
         ∙ ap (λ (j : ℕ). given outer (after (1 + k) rest) f (name_end at (n + (1 + k)) (p ++ take j (b ∷ text)) 0 (drop j (b ∷ text))))
         (sym (one_more k))
 
+-- the item is written up to this rest
 abbrev item_to : ℕ → Item → Left → Reading → Reading
 item_to start x r v = record { rest = r; parts = item_written start x r.at v.parts }
 
+-- where the code counts more than 255 bytes of a name, the directive is refused
 pub name_long : (outer : Option ℕ) (at start : ℕ) (v : Reading) (k : ℕ) → k ≡ prefix_len is_name_byte v.rest.bytes → 255 < k
     → item_given outer start v (name_from at v.rest.at [] v.rest.bytes) ≡ Err (BadDirective at)
 name_long outer at start v k e h = name_long_from outer v.rest (λ x r. item_to start x r v) at v.rest.at [] v.rest.bytes (omega arith)
     (omega (arith, e, h))
 
+-- where the code counts at most 255 bytes of a name, the directive gives what its end after the name gives
 pub name_short : (outer : Option ℕ) (at start : ℕ) (v : Reading) (k : ℕ) (name : List ℕ) (rest : Left)
     → k ≡ prefix_len is_name_byte v.rest.bytes → k ≤ 255 → rest ≡ after k v.rest → name ≡ take k v.rest.bytes
     → item_given outer start v (name_from at v.rest.at [] v.rest.bytes)
@@ -334,13 +365,16 @@ name_short outer at start v k name rest e h f g =
 
 -- an item without parts inside it
 
+-- b or false is b
 pub or_none : (b : Bool) → (b || false) ≡ b
 or_none true = refl
 or_none false = refl
 
+-- parts of these tokens and labels, with or without a %* of their X
 abbrev parts_of : List Token → List Label → Bool → Parts
 parts_of tokens labels holds = record { tokens = tokens; labels = labels; holds = holds }
 
+-- a part without parts inside it is written as one token and one label
 pub leaf_is : (kind : TokenKind) (label : Label) (start end : ℕ) (z : Parts)
     → wrote (node kind label (span start end) no_node no_node) false z ≡ leafed kind label start end z
 leaf_is kind label start end z =
@@ -354,9 +388,11 @@ leaf_is kind label start end z =
 module _ (outer : Option ℕ) (at start : ℕ) (v : Reading) (k : ℕ) (name : List ℕ) (rest : Left)
     (whole : k ≡ prefix_len is_name_byte v.rest.bytes)
     (short : k ≤ 255) (left : rest ≡ after k v.rest) (taken : name ≡ take k v.rest.bytes) where
+  -- what the end of a named text gives after this name
   abbrev ended : List ℕ → List ℕ → Result Reading SyntaxFault
   ended word bytes = item_given outer start (at_rest rest v) (name_end at rest.at word 0 bytes)
 
+  -- where the text ends after a name, the directive is not closed
   pub name_cut : first_of rest.bytes ≡ None → item_given outer start v (name_from at v.rest.at [] v.rest.bytes)
       ≡ Err (Unclosed (open_at outer at))
   name_cut e = name_short outer at start v k name rest whole short left taken ∙ by rest.bytes e
@@ -365,6 +401,7 @@ module _ (outer : Option ℕ) (at start : ℕ) (v : Reading) (k : ℕ) (name : L
       by [] g = refl
       by (c ∷ text) g = absurd cc
 
+  -- where another byte than a bracket follows a name, the directive is refused
   pub name_bad : (b : ℕ) → first_of rest.bytes ≡ Some b → (b ≡ ascii.closing_parenthesis → ⊥)
       → item_given outer start v (name_from at v.rest.at [] v.rest.bytes) ≡ Err (BadDirective at)
   name_bad b e g = name_short outer at start v k name rest whole short left taken ∙ by name rest.bytes e
@@ -379,6 +416,7 @@ module _ (outer : Option ℕ) (at start : ℕ) (v : Reading) (k : ℕ) (name : L
           let p : c ≡ b = cc in
           ap (λ (i : ℕ). ended (x ∷ q) (i ∷ text)) p ∙ rw other refl
 
+  -- a name with its bracket is written as one token, with the name as its label
   pub name_done : (b : ℕ) (end : Left) → end ≡ after 1 rest → first_of rest.bytes ≡ Some b → b ≡ ascii.closing_parenthesis → 0 < length name
       → item_given outer start v (name_from at v.rest.at [] v.rest.bytes)
       ≡ Ok (leaf_here kinds.NamedText (word_label name) start (at_rest end v))
@@ -396,6 +434,7 @@ module _ (outer : Option ℕ) (at start : ℕ) (v : Reading) (k : ℕ) (name : L
           ∙ ap (λ (z : Parts). Ok (record { rest = after 1 rest; parts = z }))
           (leaf_is kinds.NamedText (word_label (x ∷ q)) start (rest.at + 1) v.parts)
 
+-- a name of which at least one byte was taken isn't empty
 pub taken_some : (k : ℕ) (name bs : List ℕ) → name ≡ take k bs → k ≤ length bs → (k ≡ 0 → ⊥) → 0 < length name
 taken_some zero name bs e h g = absurd (g refl)
 taken_some (suc k) name [] e h g = absurd (omega (arith, h))
@@ -405,11 +444,12 @@ taken_some (suc k) name (b ∷ bs) e h g =
 
 -- after a word
 
+-- the word of a run, or no bytes where the text ends in an escape
 word_in : Option (List ℕ) → List ℕ
 word_in None = []
 word_in (Some w) = w
 
--- what goes on after a word goes on from there
+-- once a word is read, a part that ends with it gives what its end gives from there
 pub quoted_took : {X Y : Type 0} (outer : Option ℕ) (v u : Reading) (g : X → Left → Y) (q : Quoted) (word : List ℕ)
     (goes : Quoted → Read X) (end : List ℕ → ℕ → List ℕ → Read X)
     → ((w : List ℕ) (size : ℕ) → goes (Run w size) ≡ end w size (drop size v.rest.bytes))

@@ -19,27 +19,35 @@ use Rattle.std.proofs.Common.{◌≡◌, ◌∙◌, ◌+◌, ◌++◌, ◌||◌,
 use Rattle.std.proofs.Common.{length, length-append, refl, set, sym, take, ℕ}
 use Rattle.std.proofs.Math.Seq.{set-append_seam}
 
--- What is written of parts that follow one another, and of those that hold others. It serves the reader's `call`, `braces` and `result`.
+-- What is written of parts that follow one another, and of those that hold others. It serves the reader's `call`, `braces`, `result` and
+-- `close_choice`. `wrote nodes holds z` is z with the tokens and labels of these parts after its own (specs/Code/Writing). `holds` says
+-- that they have a %* of an X.
 
+-- parts of these tokens and labels, with or without a %* of their X
 abbrev parts_of : List Token → List Label → Bool → Parts
 parts_of tokens names holds = record { tokens = tokens; labels = names; holds = holds }
 
+-- parts of equal fields are equal
 same_parts : {ts us : List Token} {xs ys : List Label} {a b : Bool} → ts ≡ us → xs ≡ ys → a ≡ b → parts_of ts xs a ≡ parts_of us ys b
 same_parts {ts} {us} {xs} {ys} {a} {b} e f g =
     ap (λ z. parts_of z xs a) e ∙ ap (λ z. parts_of us z a) f ∙ ap (λ z. parts_of us ys z) g
 
+-- the labels of parts and of others after them are those of both
 pub labels_both : (xs ys : Nodes) → labels (both xs ys) ≡ labels xs ++ labels ys
 labels_both no_node ys = refl
 labels_both (node kind label s inner xs) ys =
     ap (λ zs. label ∷ labels inner ++ zs) (labels_both xs ys) ∙ sym (append_assoc (label ∷ labels inner) (labels xs) (labels ys))
 
+-- three conditions joined by or are the same in either grouping
 or_assoc : (a b c : Bool) → (a || (b || c)) ≡ ((a || b) || c)
 or_assoc true b c = refl
 or_assoc false b c = refl
 
+-- no parts write nothing
 pub wrote_none : (z : Parts) → wrote no_node false z ≡ z
 wrote_none z = same_parts (append-nil z.tokens) (append-nil z.labels) (or_none z.holds)
 
+-- parts and others after them write what both write, one after the other
 pub wrote_both : (xs ys : Nodes) (a b : Bool) (z : Parts) → wrote (both xs ys) (a || b) z ≡ wrote ys b (wrote xs a z)
 wrote_both xs ys a b z = same_parts
     (ap (λ ts. z.tokens ++ ts) (flat_both (length z.tokens) xs ys)
@@ -50,6 +58,7 @@ wrote_both xs ys a b z = same_parts
 
 -- lists of parts
 
+-- the items of a list, written one after another, are the list written at once
 pub list_wrote : (list : Items) (z : Parts) → list_written list z ≡ wrote (nodes_of list) (has_star list) z
 list_wrote none z = sym (wrote_none z)
 list_wrote (more s item items) z =
@@ -59,6 +68,7 @@ list_wrote (more s item items) z =
 
 -- parts that are closed
 
+-- an open token, what is inside it and its closed form put in its place are the token of the part
 closing : (a : List Token) (o : Token) (kind : TokenKind) (start end : ℕ) (f : ℕ → List Token)
     → set ((a ++ o ∷ []) ++ f (length (a ++ o ∷ []))) (length a) (whole_token kind start end
     (length ((a ++ o ∷ []) ++ f (length (a ++ o ∷ [])))))
@@ -72,6 +82,7 @@ closing a o kind start end f =
     (append_assoc a (o ∷ []) (f (length a + 1)))
     ∙ set-append_seam a o (f (length a + 1)) (whole_token kind start end (length a + 1 + length (f (length a + 1)))))
 
+-- a part that opens, is filled with others and closes is that part with these inside, written at once
 pub closed_is : (first kind : TokenKind) (label : Label) (start end : ℕ) (inner : Nodes) (holds : Bool) (z : Parts)
     → closed_at kind (record { token = length z.tokens; start = start }) end (wrote inner holds (opened first label start z))
     ≡ wrote (node kind label (span start end) inner no_node) holds z
@@ -80,6 +91,7 @@ closed_is first kind label start end inner holds z = same_parts
     (append_assoc z.labels (label ∷ []) (labels inner) ∙ ap (λ ls. z.labels ++ label ∷ ls) (sym (append-nil (labels inner))))
     refl
 
+-- the fields that the code leaves when it closes an alternative are those that the definition says
 pub owned_of : (c : Choice) (tail : Tail) (around : Bool) (v : Reading) (ts us : List Token) (ls ms : List Label)
     → ts ≡ take tail.tokens v.parts.tokens → ls ≡ take tail.labels v.parts.labels
     → us ≡ set ts c.part.token (whole_token kinds.Alternative c.part.start tail.kept (length ts))
