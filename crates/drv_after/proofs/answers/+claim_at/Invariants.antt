@@ -1,7 +1,7 @@
 use Rattle.drv_after.proofs.answers.+claim_at.Given as goal
 use Rattle.std.proofs.Common.{length}
 
--- the loops of claim_at (src/answers.rt): what a claim is answered: all is well unless another answer is given
+-- The loops of claim_at (src/answers.rt). What a claim is answered: all is well unless another answer is given.
 
 abbrev pub decreases-claim_at : goal.decreases-claim_at
 decreases-claim_at l = length l.given.now

@@ -1,7 +1,7 @@
 use Rattle.drv_after.proofs.answers.+removal_at.Given as goal
 use Rattle.std.proofs.Common.{length}
 
--- the loops of removal_at (src/answers.rt): whether a file is removed: it is unless another answer is given
+-- The loops of removal_at (src/answers.rt). Whether a file is removed: it is unless another answer is given.
 
 abbrev pub decreases-removal_at : goal.decreases-removal_at
 decreases-removal_at l = length l.given.now

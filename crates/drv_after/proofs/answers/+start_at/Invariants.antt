@@ -1,7 +1,7 @@
 use Rattle.drv_after.proofs.answers.+start_at.Given as goal
 use Rattle.std.proofs.Common.{length}
 
--- the loops of start_at (src/answers.rt): why a command is not started, if that is given
+-- The loops of start_at (src/answers.rt). Why a command is not started, if that is given.
 
 abbrev pub decreases-start_at : goal.decreases-start_at
 decreases-start_at l = length l.given.now

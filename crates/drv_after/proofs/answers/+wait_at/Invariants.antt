@@ -1,7 +1,7 @@
 use Rattle.drv_after.proofs.answers.+wait_at.Given as goal
 use Rattle.std.proofs.Common.{length}
 
--- the loops of wait_at (src/answers.rt): how a child ends: well unless another end is given
+-- The loops of wait_at (src/answers.rt). How a child ends: well unless another end is given.
 
 abbrev pub decreases-wait_at : goal.decreases-wait_at
 decreases-wait_at l = length l.given.now

@@ -2,8 +2,8 @@ use Rattle.drv_after.proofs.leaving.left.Given as goal
 use Rattle.drv_after.specs.Left.{left_from}
 use Rattle.std.proofs.Common.{◌≡◌, [], drop}
 
--- the loops of left (src/leaving.rt): the files of a plan that a run of these events leaves: temporaries that it made, and what its
--- commands may have written, without those that it removed
+-- The loops of left (src/leaving.rt). The files of a plan that a run of these events leaves: temporaries that it made, and what its
+-- commands may have written, without those that it removed.
 
 abbrev pub invariant-loop-event : goal.invariant-loop-event
 invariant-loop-event l = left_from l.plan l.left.items (drop l.event-index l.events) ≡ left_from l.plan [] l.events

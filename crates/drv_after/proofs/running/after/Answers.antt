@@ -7,8 +7,8 @@ use Rattle.drv_core.specs.Story.{event}
 use Rattle.drv_words.specs.Stepping.{fits}
 use Rattle.std.proofs.Common.{◌≡◌, ◌∙◌, ◌++◌, [], ◌∷◌, ap, length, subst, sym, true}
 
--- after (src/running.rt): the whole run of a plan, in which each step is answered by the first answer that is given for its place, or else
--- that all is well
+-- after (src/running.rt). The whole run of a plan, in which each step is answered by the first answer that is given for its place, or else
+-- that all is well.
 
 pub answer-requires-clause-fits : goal.answer-requires-clause-fits
 answer-requires-clause-fits c =

@@ -5,8 +5,8 @@ use Rattle.drv_core.specs.Needed.{needed}
 use Rattle.drv_core.specs.Run.{step_in}
 use Rattle.std.proofs.Common.{◌≡◌, ◌-◌, [], length}
 
--- the loops of after (src/running.rt): the whole run of a plan, in which each step is answered by the first answer that is given for its
--- place, or else that all is well
+-- The loops of after (src/running.rt). The whole run of a plan, in which each step is answered by the first answer that is given for its
+-- place, or else that all is well.
 
 abbrev pub invariant-loop-run : goal.invariant-loop-run
 invariant-loop-run l = record {

@@ -2,7 +2,7 @@ use Rattle.drv_after.proofs.telling.push_events.Given as goal
 use Rattle.drv_after.specs.Story.{events_text}
 use Rattle.std.proofs.Common.{◌≡◌, ◌++◌, drop}
 
--- the loops of push_events (src/telling.rt): adds the text of events
+-- The loops of push_events (src/telling.rt). Adds the text of events.
 
 abbrev pub invariant-loop-event : goal.invariant-loop-event
 invariant-loop-event l = l.text ++ events_text l.plan (drop l.event-index l.events) ≡ l.fn.text ++ events_text l.plan l.events

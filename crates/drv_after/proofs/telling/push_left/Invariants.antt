@@ -2,7 +2,7 @@ use Rattle.drv_after.proofs.telling.push_left.Given as goal
 use Rattle.drv_after.specs.Story.{left_text}
 use Rattle.std.proofs.Common.{◌≡◌, ◌++◌, drop}
 
--- the loops of push_left (src/telling.rt): adds a line for each file that is left
+-- The loops of push_left (src/telling.rt). Adds a line for each file that is left.
 
 abbrev pub invariant-loop-path : goal.invariant-loop-path
 invariant-loop-path l = l.text ++ left_text (drop l.path-index l.paths) ≡ l.fn.text ++ left_text l.paths

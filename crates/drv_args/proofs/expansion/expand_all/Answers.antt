@@ -6,7 +6,7 @@ use Rattle.std.proofs.Common.{◌≡◌, ◌-◌, ◌∷◌, ◌++◌, ◌∙◌
 use Rattle.std.proofs.lemmas.List.{nil_from_length}
 use Rattle.drv_args.proofs.expansion.expand_all.Goals as goal
 
--- expand_all (src/expansion.rt): replaces each argument that names a file
+-- expand_all (src/expansion.rt). Replaces each argument that names a file.
 
 pub returns-in_err-replace_word-clause-expands : goal.returns-in_err-replace_word-clause-expands
 returns-in_err-replace_word-clause-expands g c F e =

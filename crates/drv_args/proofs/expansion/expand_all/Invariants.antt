@@ -6,7 +6,7 @@ use Rattle.drv_system.specs.Facts.{Facts}
 use Rattle.std.proofs.Common.{◌≤◌, ◌+◌, ◌*◌, ◌^◌, reverse, vec_len}
 use Rattle.drv_args.proofs.expansion.expand_all.Given as goal
 
--- the loops of expand_all (src/expansion.rt): replaces each argument that names a file
+-- The loops of expand_all (src/expansion.rt). Replaces each argument that names a file.
 
 abbrev pub invariant-loop-word : goal.invariant-loop-word
 invariant-loop-word g l = record {

@@ -4,7 +4,7 @@ use Rattle.drv_args.specs.Expansion.{file_named, limited}
 use Rattle.std.proofs.Common.{◌∙◌, ap, is_some, sym}
 use Rattle.std.specs.List.{list_any}
 
--- expand_by (src/expansion.rt): replaces each argument that names a file, if there is one
+-- expand_by (src/expansion.rt). Replaces each argument that names a file, if there is one.
 
 pub returns-clause-expands : goal.returns-clause-expands
 returns-clause-expands g c F e =

@@ -1,7 +1,7 @@
 use Rattle.std.proofs.Common.{◌≡◌, ◌++◌, drop, length, reverse, take}
 use Rattle.drv_args.proofs.expansion.push_reversed.Given as goal
 
--- the loops of push_reversed (src/expansion.rt): moves the words from an index on to the stack, with the first on top
+-- The loops of push_reversed (src/expansion.rt). Moves the words from an index on to the stack, with the first on top.
 
 abbrev pub invariant-loop-words : goal.invariant-loop-words
 invariant-loop-words l = record {

@@ -6,7 +6,7 @@ use Rattle.drv_words.specs.Response.{SplitsOnto}
 use Rattle.std.proofs.Common.{◌≡◌, List, ap, inr, not, refl, subst, sym, ◌∙◌, ℕ}
 use Rattle.drv_args.proofs.expansion.replace_word.Goals as goal
 
--- replace_word (src/expansion.rt): if a word names a response file that can be read, adds the words of that file to `words`
+-- replace_word (src/expansion.rt). If a word names a response file that can be read, adds the words of that file to `words`.
 
 pub returns-then-branch-clause-replaces : goal.returns-then-branch-clause-replaces
 returns-then-branch-clause-replaces g c F e =

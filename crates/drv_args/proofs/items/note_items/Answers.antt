@@ -1,7 +1,7 @@
 use Rattle.drv_args.proofs.LineSteps.{next_item}
 use Rattle.drv_args.proofs.items.note_items.Goals as goal
 
--- note_items (src/items.rt): adds items to a line
+-- note_items (src/items.rt). Adds items to a line.
 
 pub loop-item-preserved : goal.loop-item-preserved
 loop-item-preserved c =

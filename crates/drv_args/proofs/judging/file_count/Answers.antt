@@ -6,7 +6,7 @@ use Rattle.std.proofs.lemmas.Iterator.{YieldsList-from_slice}
 use Rattle.std.proofs.lemmas.List.Sums.{length-filter}
 use Rattle.std.specs.Slice.Iter.{iter_rest}
 
--- file_count (src/judging.rt): how many inputs are files
+-- file_count (src/judging.rt). How many inputs are files.
 
 pub returns : goal.returns
 returns c =

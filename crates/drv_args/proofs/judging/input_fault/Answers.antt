@@ -3,7 +3,7 @@ use Rattle.drv_args.specs.Lines.{is_input}
 use Rattle.std.proofs.Common.{ap, inr, sym, ◌∙◌}
 use Rattle.drv_args.proofs.judging.input_fault.Goals as goal
 
--- input_fault (src/judging.rt): the refusal of an output that is also an input
+-- input_fault (src/judging.rt). The refusal of an output that is also an input.
 
 pub returns-then-is_input : goal.returns-then-is_input
 returns-then-is_input c =

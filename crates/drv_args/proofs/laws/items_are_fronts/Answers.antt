@@ -1,7 +1,7 @@
 use Rattle.drv_args.proofs.FrontLaws.{offends_law, reads_law}
 use Rattle.drv_args.proofs.laws.items_are_fronts.Goals as goal
 
--- items_are_fronts (src/laws.rt): a law: the items of words are those of a concatenation of fronts, each fitted by its first row
+-- items_are_fronts (src/laws.rt). A law: the items of words are those of a concatenation of fronts, each fitted by its first row.
 
 pub returns-clause-reads : goal.returns-clause-reads
 returns-clause-reads c = reads_law

@@ -1,8 +1,8 @@
 use Rattle.drv_args.proofs.OneExpansion.{refused_once, responds_alone, responds_once}
 use Rattle.drv_args.proofs.laws.one_expansion.Goals as goal
 
--- one_expansion (src/laws.rt): a law: words have one expansion, which leaves one number of replacements, or they are refused for one
--- reason, and never both
+-- one_expansion (src/laws.rt). A law: words have one expansion, which leaves one number of replacements, or they are refused for one
+-- reason, and never both.
 
 pub returns-clause-responds : goal.returns-clause-responds
 returns-clause-responds c = responds_once

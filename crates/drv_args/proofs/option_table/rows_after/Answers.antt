@@ -3,8 +3,8 @@ use Rattle.drv_args.specs.Options.{option_table}
 use Rattle.drv_args.proofs.option_table.rows_after.Goals as goal
 use Rattle.std.proofs.Common.{arith, refl}
 
--- rows_after (src/option_table.rt): the rows whose option begins with `-` and this byte, in the order of the table (GCC manual, "Overall
--- Options", "Directory Options", "Preprocessor Options", "Link Options"; the forms of an option are this project's profile)
+-- rows_after (src/option_table.rt). The rows whose option begins with `-` and this byte, in the order of the table (GCC manual, "Overall
+-- Options", "Directory Options", "Preprocessor Options", "Link Options"; the forms of an option are this project's profile).
 
 pub returns-in-35 : goal.returns-in-35
 unfolding option_table

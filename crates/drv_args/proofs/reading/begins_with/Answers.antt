@@ -2,7 +2,7 @@ use Rattle.drv_args.proofs.Beginnings.{begins_apart, begins_whole}
 use Rattle.drv_args.proofs.reading.begins_with.Goals as goal
 use Rattle.std.proofs.Common.{arith}
 
--- begins_with (src/reading.rt): whether a word begins with an option
+-- begins_with (src/reading.rt). Whether a word begins with an option.
 
 pub returns-then-word-i : goal.returns-then-word-i
 returns-then-word-i c = begins_apart c.args.option.now c.args.word.now c.loop-i.i c.loop-i-test.true c.if-word-option.false c.if-word-i.true

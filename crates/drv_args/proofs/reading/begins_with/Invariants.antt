@@ -2,7 +2,7 @@ use Rattle.drv_args.proofs.Beginnings.{begins}
 use Rattle.drv_args.proofs.reading.begins_with.Given as goal
 use Rattle.std.proofs.Common.{◌≡◌, drop}
 
--- the loops of begins_with (src/reading.rt): whether a word begins with an option
+-- The loops of begins_with (src/reading.rt). Whether a word begins with an option.
 
 abbrev pub invariant-loop-i : goal.invariant-loop-i
 invariant-loop-i l = begins (drop l.i l.option) (drop l.i l.word) ≡ begins l.option l.word

@@ -3,7 +3,7 @@ use Rattle.drv_args.specs.Options.{row_fits}
 use Rattle.std.proofs.Common.{◌≡◌, drop, find, map}
 use Rattle.drv_args.proofs.reading.first_fit.Given as goal
 
--- the loops of first_fit (src/reading.rt): the first row of a table that fits a word
+-- The loops of first_fit (src/reading.rt). The first row of a table that fits a word.
 
 abbrev pub invariant-loop-row : goal.invariant-loop-row
 invariant-loop-row l = find (row_fits l.word) (map shown (drop l.row-index l.table)) ≡ find (row_fits l.word) (map shown l.table)

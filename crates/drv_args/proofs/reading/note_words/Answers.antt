@@ -1,7 +1,7 @@
 use Rattle.drv_args.proofs.LineSteps.{alone_next, last_line, wants_next}
 use Rattle.drv_args.proofs.reading.note_words.Goals as goal
 
--- note_words (src/reading.rt): adds words to a line
+-- note_words (src/reading.rt). Adds words to a line.
 
 pub loop-left-preserved-in-Alone : goal.loop-left-preserved-in-Alone
 loop-left-preserved-in-Alone c =

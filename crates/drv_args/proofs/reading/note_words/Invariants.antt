@@ -3,7 +3,7 @@ use Rattle.drv_args.specs.Fronts.{items_of}
 use Rattle.std.proofs.Common.{◌≡◌, length}
 use Rattle.drv_args.proofs.reading.note_words.Given as goal
 
--- the loops of note_words (src/reading.rt): adds words to a line
+-- The loops of note_words (src/reading.rt). Adds words to a line.
 
 abbrev pub invariant-loop-left : goal.invariant-loop-left
 invariant-loop-left l = line_with l.builder (items_of l.left) ≡ line_with l.fn.builder (items_of l.words)

@@ -2,7 +2,7 @@ use Rattle.drv_args.proofs.Verdicts.{line_judged, line_refused}
 use Rattle.drv_args.proofs.reading.read_line.Goals as goal
 use Rattle.std.proofs.Common.{arith, refl}
 
--- read_line (src/reading.rt): reads the words of a line, and judges it
+-- read_line (src/reading.rt). Reads the words of a line, and judges it.
 
 pub returns-in_err-line : goal.returns-in_err-line
 returns-in_err-line c =

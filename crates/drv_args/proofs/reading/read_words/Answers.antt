@@ -5,7 +5,7 @@ use Rattle.drv_args.specs.Fronts.{items_of}
 use Rattle.drv_args.specs.Lines.{line_of_items}
 use Rattle.std.proofs.Common.{◌≡◌, ◌∙◌, ap, rules, sym}
 
--- read_words (src/reading.rt): reads words into a line
+-- read_words (src/reading.rt). Reads words into a line.
 
 pub returns-in_err-note_words : goal.returns-in_err-note_words
 returns-in_err-note_words c =

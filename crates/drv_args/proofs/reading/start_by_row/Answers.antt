@@ -2,7 +2,7 @@ use Rattle.drv_args.proofs.Beginnings.{fits_whole}
 use Rattle.drv_args.proofs.reading.start_by_row.Goals as goal
 use Rattle.std.proofs.Common.{◌++◌, ◌∙◌, ap}
 
--- start_by_row (src/reading.rt): how a word begins a front, by the row that fits it
+-- start_by_row (src/reading.rt). How a word begins a front, by the row that fits it.
 
 pub returns-in-Joined-clause-whole : goal.returns-in-Joined-clause-whole
 returns-in-Joined-clause-whole c =

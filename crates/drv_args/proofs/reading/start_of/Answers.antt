@@ -4,7 +4,7 @@ use Rattle.drv_args.specs.Code.Lookup.{shown}
 use Rattle.std.proofs.Common.{◌∙◌, None, Some, ap, arith, map, sym}
 use Rattle.std.specs.Option.{option_map}
 
--- start_of (src/reading.rt): how a word begins a front
+-- start_of (src/reading.rt). How a word begins a front.
 
 pub returns-in-Some-clause-start : goal.returns-in-Some-clause-start
 returns-in-Some-clause-start c =

@@ -1,7 +1,7 @@
 use Rattle.drv_c99.proofs.ItemLaws.{offends_law, reads_law}
 use Rattle.drv_c99.proofs.laws.items_are_read.Goals as goal
 
--- items_are_read (src/laws.rt): a law: the rules split a line into its items, one after another
+-- items_are_read (src/laws.rt). A law: the rules split a line into its items, one after another.
 
 pub returns-clause-reads : goal.returns-clause-reads
 returns-clause-reads c = reads_law

@@ -2,7 +2,7 @@ use Rattle.drv_c99.proofs.Steps.{ends_next, flag_next, joined_gives, joined_next
 use Rattle.drv_c99.proofs.translating.add_words.Goals as goal
 use Rattle.std.proofs.Common.{Ok, ap, sym}
 
--- add_words (src/translating.rt): adds words to a front
+-- add_words (src/translating.rt). Adds words to a front.
 
 pub loop-left-preserved-in_ok-add_flag-in-Flag : goal.loop-left-preserved-in_ok-add_flag-in-Flag
 loop-left-preserved-in_ok-add_flag-in-Flag c =

@@ -4,7 +4,7 @@ use Rattle.drv_c99.specs.Front.{items_of}
 use Rattle.std.proofs.Common.{◌≡◌, length}
 use Rattle.drv_c99.proofs.translating.add_words.Given as goal
 
--- the loops of add_words (src/translating.rt): adds words to a front
+-- The loops of add_words (src/translating.rt). Adds words to a front.
 
 abbrev pub invariant-loop-left : goal.invariant-loop-left
 invariant-loop-left l = front_with l.front (items_of l.side l.left) ≡ front_with l.fn.front (items_of BeforeEnd l.words)

@@ -3,7 +3,7 @@ use Rattle.drv_cc.specs.Code.Looking.{words_for}
 use Rattle.drv_cc.specs.Front.{library_words, named_folder}
 use Rattle.std.proofs.Common.{◌≡◌, ◌++◌, ◌∙◌, ap, sym}
 
--- add_folder (src/adding.rt): adds the words for a folder of a path
+-- add_folder (src/adding.rt). Adds the words for a folder of a path.
 
 pub returns-in_ok-add_joined-in-Libraries : goal.returns-in_ok-add_joined-in-Libraries
 returns-in_ok-add_joined-in-Libraries c =

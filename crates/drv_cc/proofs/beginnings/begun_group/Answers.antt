@@ -3,7 +3,7 @@ use Rattle.drv_cc.specs.Code.Groups.{begun_at}
 use Rattle.drv_cc.specs.Table.{sections}
 use Rattle.std.proofs.Common.{◌≡◌, ap, arith, sym}
 
--- begun_group (src/beginnings.rt): the options of this key that a word begins with
+-- begun_group (src/beginnings.rt). The options of this key that a word begins with.
 
 pub returns-in-0 : goal.returns-in-0
 unfolding sections

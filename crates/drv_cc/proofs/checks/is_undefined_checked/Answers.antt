@@ -5,7 +5,7 @@ use Rattle.std.proofs.Common.{◌==◌, rules, tests}
 use Rattle.std.proofs.lemmas.Iterator.Search.{any_from_yields_List}
 use Rattle.std.proofs.lemmas.Iterator.Splits.{YieldsList-from_slice_split}
 
--- is_undefined_checked (src/checks.rt): whether one of the checks of undefined behaviour is on
+-- is_undefined_checked (src/checks.rt). Whether one of the checks of undefined behaviour is on.
 
 pub returns : goal.returns
 returns c =

@@ -4,7 +4,7 @@ use Rattle.drv_cc.specs.Items.{same}
 use Rattle.std.proofs.Common.{◌≡◌, drop, find, map}
 use Rattle.std.specs.Option.{option_map}
 
--- the loops of ring_among (src/classes.rt): the ring of a name among options of rings
+-- The loops of ring_among (src/classes.rt). The ring of a name among options of rings.
 
 abbrev pub invariant-loop-ringed : goal.invariant-loop-ringed
 invariant-loop-ringed l =

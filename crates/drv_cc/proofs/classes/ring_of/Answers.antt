@@ -4,7 +4,7 @@ use Rattle.drv_cc.specs.Code.Groups.{ringed_shown}
 use Rattle.std.proofs.Common.{map}
 use Rattle.std.specs.Option.{option_map}
 
--- ring_of (src/classes.rt): the ring that has a name
+-- ring_of (src/classes.rt). The ring that has a name.
 
 pub returns : goal.returns
 returns c =

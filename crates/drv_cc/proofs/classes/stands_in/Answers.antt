@@ -5,7 +5,7 @@ use Rattle.std.proofs.Common.{◌==◌, rules, tests}
 use Rattle.std.proofs.lemmas.Iterator.Search.{any_from_yields_List}
 use Rattle.std.proofs.lemmas.Iterator.Splits.{YieldsList-from_slice_split}
 
--- stands_in (src/classes.rt): whether a text has a name between blanks
+-- stands_in (src/classes.rt). Whether a text has a name between blanks.
 
 pub returns : goal.returns
 returns c =

@@ -3,7 +3,7 @@ use Rattle.drv_cc.specs.Front.{run_of}
 use Rattle.std.proofs.Common.{◌≡◌, ◌∙◌, IfOk}
 use Rattle.std.proofs.Math.Path.{subst}
 
--- run (src/fronting.rt): the call of a line with these items, of which some may go
+-- run (src/fronting.rt). The call of a line with these items, of which some may go.
 
 pub returns : goal.returns
 returns c = subst (λ items. IfOk c.call_of.result (λ answer. answer ≡ run_of c.args.around.now items))

@@ -1,7 +1,7 @@
 use Rattle.drv_cc.proofs.giving.add_items.Given as goal
 use Rattle.std.proofs.Common.{◌≡◌, ◌++◌, drop}
 
--- the loops of add_items (src/giving.rt): adds items
+-- The loops of add_items (src/giving.rt). Adds items.
 
 abbrev pub invariant-loop-item : goal.invariant-loop-item
 invariant-loop-item l = l.all ++ drop l.item-index l.items ≡ l.fn.all ++ l.items

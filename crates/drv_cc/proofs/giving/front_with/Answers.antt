@@ -3,8 +3,8 @@ use Rattle.drv_cc.specs.SelfSpecs.{answer_with, given_items}
 use Rattle.std.proofs.Common.{◌≡◌, ◌∙◌, IfOk, ap}
 use Rattle.std.proofs.Math.Path.{subst}
 
--- front_with (src/giving.rt): the answer to a line of `gcc` whose spec files give it options (GCC, "gcc.cc", do_self_spec): refusals, or
--- items of the driver's line
+-- front_with (src/giving.rt). The answer to a line of `gcc` whose spec files give it options (GCC, "gcc.cc", do_self_spec): refusals, or
+-- items of the driver's line.
 
 pub returns : goal.returns
 returns c =

@@ -2,7 +2,7 @@ use Rattle.drv_cc.proofs.Again.{asked_again}
 use Rattle.drv_cc.proofs.items.again.Goals as goal
 use Rattle.std.proofs.Common.{◌∙◌, sym}
 
--- again (src/items.rt): an item, by names of options
+-- again (src/items.rt). An item, by names of options.
 
 pub returns : goal.returns
 returns c =

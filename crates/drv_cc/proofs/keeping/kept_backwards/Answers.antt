@@ -3,7 +3,7 @@ use Rattle.drv_cc.proofs.keeping.kept_backwards.Goals as goal
 use Rattle.drv_cc.specs.Code.Staying.{is_seen}
 use Rattle.std.proofs.Common.{◌-◌, length, take}
 
--- kept_backwards (src/keeping.rt): the items that stay, the last one first
+-- kept_backwards (src/keeping.rt). The items that stay, the last one first.
 
 pub loop-left-preserved : goal.loop-left-preserved
 loop-left-preserved c =

@@ -3,7 +3,7 @@ use Rattle.std.proofs.Common.{◌≡◌, drop}
 use Rattle.std.specs.Option.{option_map}
 use Rattle.drv_cc.proofs.keeping.last_argument.Given as goal
 
--- the loops of last_argument (src/keeping.rt): the argument of the last option of a name
+-- The loops of last_argument (src/keeping.rt). The argument of the last option of a name.
 
 abbrev pub invariant-loop-item : goal.invariant-loop-item
 invariant-loop-item l = last_from (option_map (λ argument. argument.now) l.found) l.name (drop l.item-index l.items)

@@ -5,7 +5,7 @@ use Rattle.std.proofs.Common.{◌==◌, rules, tests}
 use Rattle.std.proofs.lemmas.Iterator.Search.{any_from_yields_List}
 use Rattle.std.proofs.lemmas.Iterator.Splits.{YieldsList-from_slice_split}
 
--- is_known (src/known.rt): whether a name is known, by all lines
+-- is_known (src/known.rt). Whether a name is known, by all lines.
 
 pub returns : goal.returns
 returns c =

@@ -1,7 +1,7 @@
 use Rattle.std.proofs.Common.{◌≤◌, ◌-◌, ◌<◌, length}
 use Rattle.drv_cc.proofs.known.line_end.Given as goal
 
--- the loops of line_end (src/known.rt): where the line ends in which a place is
+-- The loops of line_end (src/known.rt). Where the line ends in which a place is.
 
 abbrev pub invariant-loop-end : goal.invariant-loop-end
 invariant-loop-end l = (l.at ≤ l.end) × (l.at < length l.text → l.end ≤ length l.text)

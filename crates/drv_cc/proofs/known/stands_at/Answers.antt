@@ -2,7 +2,7 @@ use Rattle.drv_cc.proofs.Lines.{further}
 use Rattle.drv_cc.proofs.known.stands_at.Goals as goal
 use Rattle.std.proofs.Common.{◌-◌}
 
--- stands_at (src/known.rt): whether this line begins at a place of a text
+-- stands_at (src/known.rt). Whether this line begins at a place of a text.
 
 pub returns-in-len1-up : goal.returns-in-len1-up
 returns-in-len1-up c =

@@ -2,7 +2,7 @@ use Rattle.drv_cc.specs.Levels.{debugged}
 use Rattle.std.proofs.Common.{◌≡◌, drop}
 use Rattle.drv_cc.proofs.levels.debugged_after.Given as goal
 
--- the loops of debugged_after (src/levels.rt): the debugging information after items
+-- The loops of debugged_after (src/levels.rt). The debugging information after items.
 
 abbrev pub invariant-loop-item : goal.invariant-loop-item
 invariant-loop-item l = debugged l.so_far (drop l.item-index l.items) ≡ debugged l.fn.before l.items

@@ -3,7 +3,7 @@ use Rattle.drv_cc.proofs.line_adding.add_all_prefixes.Goals as goal
 use Rattle.std.proofs.Common.{◌∙◌}
 use Rattle.std.proofs.lemmas.Result.{on_ok_weaker}
 
--- add_all_prefixes (src/line_adding.rt): adds all folders of programs after those of the line
+-- add_all_prefixes (src/line_adding.rt). Adds all folders of programs after those of the line.
 
 pub returns : goal.returns
 returns c =

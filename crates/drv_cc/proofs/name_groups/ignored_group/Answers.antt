@@ -3,7 +3,7 @@ use Rattle.drv_cc.specs.Code.Groups.{ignored_at}
 use Rattle.drv_cc.specs.Table.{ignored}
 use Rattle.std.proofs.Common.{◌≡◌, ap, arith, sym}
 
--- ignored_group (src/name_groups.rt): the options of this key that are passed over
+-- ignored_group (src/name_groups.rt). The options of this key that are passed over.
 
 pub returns-in-0 : goal.returns-in-0
 unfolding ignored

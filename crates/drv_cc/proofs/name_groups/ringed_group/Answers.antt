@@ -2,7 +2,7 @@ use Rattle.drv_cc.proofs.name_groups.ringed_group.Goals as goal
 use Rattle.drv_cc.specs.Code.Groups.{ringed_at}
 use Rattle.std.proofs.Common.{◌≡◌, ap, arith, sym}
 
--- ringed_group (src/name_groups.rt): the options of this key that are in a ring, each with its ring
+-- ringed_group (src/name_groups.rt). The options of this key that are in a ring, each with its ring.
 
 pub returns-in-0 : goal.returns-in-0
 returns-in-0 c = ap ringed_at (sym c.in-0.is)

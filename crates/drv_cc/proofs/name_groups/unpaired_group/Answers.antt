@@ -3,7 +3,7 @@ use Rattle.drv_cc.specs.Code.Groups.{unpaired_at}
 use Rattle.drv_cc.specs.Table.{unpaired}
 use Rattle.std.proofs.Common.{◌≡◌, ap, arith, sym}
 
--- unpaired_group (src/name_groups.rt): the options of this key that have one sign alone
+-- unpaired_group (src/name_groups.rt). The options of this key that have one sign alone.
 
 pub returns-in-0 : goal.returns-in-0
 unfolding unpaired

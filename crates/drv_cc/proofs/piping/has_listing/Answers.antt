@@ -5,7 +5,7 @@ use Rattle.std.proofs.Common.{◌==◌, codes, rules, tests}
 use Rattle.std.proofs.lemmas.Iterator.Search.{any_from_yields_List}
 use Rattle.std.proofs.lemmas.Iterator.Splits.{YieldsList-from_slice_split}
 
--- has_listing (src/piping.rt): whether one of the pieces between commas asks the assembler for a listing
+-- has_listing (src/piping.rt). Whether one of the pieces between commas asks the assembler for a listing.
 
 pub returns : goal.returns
 returns c =

@@ -5,7 +5,7 @@ use Rattle.std.proofs.Common.{◌==◌, rules, tests}
 use Rattle.std.proofs.lemmas.Iterator.Search.{any_from_yields_List}
 use Rattle.std.proofs.lemmas.Iterator.Splits.{YieldsList-from_slice_split}
 
--- has_output (src/piping.rt): whether one of the pieces between commas means standard output
+-- has_output (src/piping.rt). Whether one of the pieces between commas means standard output.
 
 pub returns : goal.returns
 returns c =

@@ -3,7 +3,7 @@ use Rattle.drv_cc.specs.Front.{variable}
 use Rattle.std.proofs.Common.{[], ◌∷◌, ◌++◌, ◌∙◌, ap, codes}
 use Rattle.std.proofs.lemmas.Result.{on_ok_weaker}
 
--- add_compiler (src/quoting.rt): adds the variable of the compiler that is called again
+-- add_compiler (src/quoting.rt). Adds the variable of the compiler that is called again.
 
 pub returns : goal.returns
 returns c =

@@ -3,7 +3,7 @@ use Rattle.drv_cc.specs.Front.{variable}
 use Rattle.std.proofs.Common.{[], ◌∷◌, ◌++◌, ◌∙◌, ap, codes}
 use Rattle.std.proofs.lemmas.Result.{on_ok_weaker}
 
--- add_options (src/quoting.rt): adds the variable of the words that the compiler is called again with
+-- add_options (src/quoting.rt). Adds the variable of the words that the compiler is called again with.
 
 pub returns : goal.returns
 returns c =

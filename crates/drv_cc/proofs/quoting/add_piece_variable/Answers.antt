@@ -3,7 +3,7 @@ use Rattle.drv_cc.specs.Front.{variable}
 use Rattle.std.proofs.Common.{[], ◌∷◌, ◌++◌, ◌∙◌, ap, codes}
 use Rattle.std.proofs.lemmas.Result.{on_ok_weaker}
 
--- add_piece_variable (src/quoting.rt): adds the variable of the pieces for the assembler
+-- add_piece_variable (src/quoting.rt). Adds the variable of the pieces for the assembler.
 
 pub returns : goal.returns
 returns c =

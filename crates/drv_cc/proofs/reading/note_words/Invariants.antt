@@ -3,7 +3,7 @@ use Rattle.drv_cc.specs.Items.{items_of}
 use Rattle.std.proofs.Common.{◌≡◌, ◌++◌, None, drop}
 use Rattle.drv_cc.proofs.reading.note_words.Given as goal
 
--- the loops of note_words (src/reading.rt): notes words, and gives the row that takes a word after them
+-- The loops of note_words (src/reading.rt). Notes words, and gives the row that takes a word after them.
 
 abbrev pub invariant-loop-word : goal.invariant-loop-word
 invariant-loop-word l =

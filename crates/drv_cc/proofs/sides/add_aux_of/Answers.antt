@@ -3,7 +3,7 @@ use Rattle.drv_cc.specs.SideFiles.{beginning}
 use Rattle.std.proofs.Common.{[], ◌∷◌, ◌++◌, ◌∙◌, ap, codes}
 use Rattle.std.proofs.lemmas.Result.{on_ok_weaker}
 
--- add_aux_of (src/sides.rt): adds the name of files that stay beside a source's output
+-- add_aux_of (src/sides.rt). Adds the name of files that stay beside a source's output.
 
 pub returns : goal.returns
 returns c =

@@ -3,7 +3,7 @@ use Rattle.drv_cc.specs.SideFiles.{suffix, unnamed_stem, with_value}
 use Rattle.std.proofs.Common.{[], ◌∷◌, ◌++◌, ◌∙◌, ap, append_assoc, codes}
 use Rattle.std.proofs.lemmas.Result.{on_ok_weaker}
 
--- add_own_base (src/sides.rt): adds the name of a source's side files and its suffix
+-- add_own_base (src/sides.rt). Adds the name of a source's side files and its suffix.
 
 pub returns : goal.returns
 returns c =

@@ -3,7 +3,7 @@ use Rattle.drv_cc.specs.SideFiles.{other_suffixes, sources, sources_from}
 use Rattle.std.proofs.Common.{◌≡◌, drop}
 use Rattle.drv_cc.proofs.sources.other_suffixes.Given as goal
 
--- the loops of other_suffixes (src/sources.rt): the suffixes of sources of these kinds that only their language makes sources
+-- The loops of other_suffixes (src/sources.rt). The suffixes of sources of these kinds that only their language makes sources.
 
 abbrev pub invariant-loop-item : goal.invariant-loop-item
 invariant-loop-item l =

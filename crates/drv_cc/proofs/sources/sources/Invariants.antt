@@ -3,7 +3,7 @@ use Rattle.drv_cc.specs.SideFiles.{sources, sources_from}
 use Rattle.std.proofs.Common.{◌≡◌, drop}
 use Rattle.drv_cc.proofs.sources.sources.Given as goal
 
--- the loops of sources (src/sources.rt): the sources of these kinds
+-- The loops of sources (src/sources.rt). The sources of these kinds.
 
 abbrev pub invariant-loop-item : goal.invariant-loop-item
 invariant-loop-item l = all_counted (count_shown l.count) (sources_from (kinds_shown l.kinds) l.language (drop l.item-index l.items))

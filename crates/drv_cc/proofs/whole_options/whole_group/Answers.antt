@@ -3,7 +3,7 @@ use Rattle.drv_cc.specs.Code.Groups.{whole_at}
 use Rattle.drv_cc.specs.Table.{sections}
 use Rattle.std.proofs.Common.{◌≡◌, ap, arith, sym}
 
--- whole_group (src/whole_options.rt): the options of this key that a word is
+-- whole_group (src/whole_options.rt). The options of this key that a word is.
 
 pub returns-in-0 : goal.returns-in-0
 unfolding sections

@@ -4,7 +4,7 @@ use Rattle.drv_syntax.specs.Parsed.{tree_of}
 use Rattle.drv_syntax.specs.Tokens.{tokens_of}
 use Rattle.std.proofs.Common.{◌≡◌, ◌-◌, ◌++◌, drop, length}
 
--- the loops of branches_of (src/branches.rt): the branches of a part, the first part inside which has this place
+-- The loops of branches_of (src/branches.rt). The branches of a part, the first part inside which has this place.
 
 abbrev pub invariant-loop-place : goal.invariant-loop-place
 invariant-loop-place l =

@@ -3,7 +3,7 @@ use Rattle.drv_check.specs.Code.Branching.{listed_marks}
 use Rattle.drv_syntax.specs.Parsed.{tree_of}
 use Rattle.std.proofs.Common.{◌≡◌, ◌++◌, [], drop}
 
--- the loops of push_branches (src/branches.rt): adds the warnings of these branches of a choice
+-- The loops of push_branches (src/branches.rt). Adds the warnings of these branches of a choice.
 
 abbrev pub invariant-loop-branch : goal.invariant-loop-branch
 invariant-loop-branch l =

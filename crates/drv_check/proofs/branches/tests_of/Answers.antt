@@ -5,7 +5,7 @@ use Rattle.drv_check.specs.Code.Branching.{test_in, tests_of}
 use Rattle.drv_syntax.specs.Parsed.{tree_of}
 use Rattle.drv_syntax.specs.Tokens.{tokens_of}
 
--- tests_of (src/branches.rt): the tests of a branch
+-- tests_of (src/branches.rt). The tests of a branch.
 
 pub returns : goal.returns
 returns c = elim c.loop-place-test.branch [

@@ -4,7 +4,7 @@ use Rattle.drv_syntax.specs.Parsed.{tree_of}
 use Rattle.drv_syntax.specs.Tokens.{tokens_of}
 use Rattle.std.proofs.Common.{◌≡◌, ◌-◌, ◌++◌, drop, length}
 
--- the loops of tests_of (src/branches.rt): the tests of a branch
+-- The loops of tests_of (src/branches.rt). The tests of a branch.
 
 abbrev pub invariant-loop-place : goal.invariant-loop-place
 invariant-loop-place l =

@@ -4,7 +4,7 @@ use Rattle.drv_specs.specs.Lines.{lines_of}
 use Rattle.std.proofs.Common.{◌+◌, ◌∙◌, ◌∷◌, ap, sym, take}
 use Rattle.std.proofs.lemmas.List.{take_rest}
 
--- cut_line (src/bytes.rt): a text's first line, and what follows its newline, if it has one
+-- cut_line (src/bytes.rt). A text's first line, and what follows its newline, if it has one.
 
 pub returns-in-Some-clause-lines : goal.returns-in-Some-clause-lines
 returns-in-Some-clause-lines c =

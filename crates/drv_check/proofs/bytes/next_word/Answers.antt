@@ -3,7 +3,7 @@ use Rattle.drv_specs.proofs.Sliced.{words_alone, words_none, words_some}
 use Rattle.drv_specs.specs.Lines.{words_of}
 use Rattle.std.proofs.Common.{◌∷◌, ◌∙◌, ap, sym, take}
 
--- next_word (src/bytes.rt): a text's first word, cut at blanks, and what follows it
+-- next_word (src/bytes.rt). A text's first word, cut at blanks, and what follows it.
 
 pub returns-then-not-has_byte-clause-none : goal.returns-then-not-has_byte-clause-none
 returns-then-not-has_byte-clause-none c =

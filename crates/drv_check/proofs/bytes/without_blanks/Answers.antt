@@ -3,7 +3,7 @@ use Rattle.drv_specs.proofs.Trimming.{front_by}
 use Rattle.drv_specs.specs.Blanks.{is_blank}
 use Rattle.std.proofs.Common.{length, refl}
 
--- without_blanks (src/bytes.rt): a text without the blanks at its front
+-- without_blanks (src/bytes.rt). A text without the blanks at its front.
 
 pub returns : goal.returns
 returns c =

@@ -3,7 +3,7 @@ use Rattle.drv_specs.specs.Blanks.{is_blank}
 use Rattle.drv_specs.specs.Lines.{without_end}
 use Rattle.std.proofs.Common.{◌≡◌, ◌≤◌, length, take}
 
--- the loops of without_end_blanks (src/bytes.rt): a text without the blanks at its end
+-- The loops of without_end_blanks (src/bytes.rt). A text without the blanks at its end.
 
 abbrev pub invariant-loop-end : goal.invariant-loop-end
 invariant-loop-end l = record {

@@ -4,7 +4,7 @@ use Rattle.drv_check.specs.Checks.{entered, enters_at, file_checked}
 use Rattle.drv_system.proofs.AskedCalls.{asked_further, asked_none, extends_before}
 use Rattle.std.proofs.Common.{ap}
 
--- check_file (src/checking.rt): checks an open file, within which `levels` more files may be nested
+-- check_file (src/checking.rt). Checks an open file, within which `levels` more files may be nested.
 
 pub loop-piece-init : goal.loop-piece-init
 loop-piece-init g t c = record {

@@ -5,7 +5,7 @@ use Rattle.drv_system.specs.Code.Asked.{Asked}
 use Rattle.drv_system.specs.Facts.{Facts}
 use Rattle.std.proofs.Common.{◌≡◌, drop}
 
--- the loops of check_file (src/checking.rt): checks an open file, within which `levels` more files may be nested
+-- The loops of check_file (src/checking.rt). Checks an open file, within which `levels` more files may be nested.
 
 abbrev pub invariant-loop-piece : goal.invariant-loop-piece
 invariant-loop-piece g l = record {

@@ -3,7 +3,7 @@ use Rattle.drv_check.proofs.checking.check_all.Goals as goal
 use Rattle.drv_check.specs.Checks.{all_called}
 use Rattle.drv_system.proofs.AskedCalls.{asked_further, extends_before}
 
--- check_all (src/checking.rt): checks the files of the call
+-- check_all (src/checking.rt). Checks the files of the call.
 
 pub loop-name-preserved : goal.loop-name-preserved
 loop-name-preserved g c = record {

@@ -5,7 +5,7 @@ use Rattle.drv_system.specs.Code.Asked.{Asked}
 use Rattle.drv_system.specs.Facts.{Facts}
 use Rattle.std.proofs.Common.{◌≡◌, drop}
 
--- the loops of check_all (src/checking.rt): checks the files of the call
+-- The loops of check_all (src/checking.rt). Checks the files of the call.
 
 abbrev pub invariant-loop-name : goal.invariant-loop-name
 invariant-loop-name g l = record {

@@ -1,7 +1,7 @@
 use Rattle.drv_check.proofs.FaultsAlone.{base_checked}
 use Rattle.drv_check.proofs.checking.check_base.Goals as goal
 
--- check_base (src/checking.rt): checks the files that are loaded first, and keeps their faults alone
+-- check_base (src/checking.rt). Checks the files that are loaded first, and keeps their faults alone.
 
 pub returns-clause-checks : goal.returns-clause-checks
 returns-clause-checks g c F e =

@@ -6,7 +6,7 @@ use Rattle.drv_system.proofs.AskedCalls.{extends_before}
 use Rattle.drv_system.specs.Known.{Is}
 use Rattle.std.proofs.Common.{◌∙◌, None, ap, false, sym}
 
--- check_called (src/checking.rt): checks a file of the call
+-- check_called (src/checking.rt). Checks a file of the call.
 
 pub returns-in-Some-clause-checks : goal.returns-in-Some-clause-checks
 returns-in-Some-clause-checks g c F e =

@@ -5,8 +5,8 @@ use Rattle.drv_system.proofs.Asking.{asks_then}
 use Rattle.drv_system.specs.Asking.{Extends}
 use Rattle.std.proofs.Common.{[], refl, rules}
 
--- check_files (src/checking.rt): all faults of spec files and what is surely not meant, in the order of their lines, those of an included
--- file in its place (GCC manual, "Spec Files"); then what shows only in the whole of them
+-- check_files (src/checking.rt). All faults of spec files and what is surely not meant, in the order of their lines, those of an included
+-- file in its place (GCC manual, "Spec Files"); then what shows only in the whole of them.
 
 pub returns-clause-asks : goal.returns-clause-asks
 returns-clause-asks g c = let asks = asks_then c.new.ensures.asks c.check_over.ensures.asks.asks in search rules

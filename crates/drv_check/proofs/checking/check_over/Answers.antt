@@ -2,7 +2,7 @@ use Rattle.drv_check.proofs.FaultsAlone.{over_checked}
 use Rattle.drv_check.proofs.checking.check_over.Goals as goal
 use Rattle.drv_system.proofs.AskedCalls.{extends_before}
 
--- check_over (src/checking.rt): checks files over the built-in set and over those that are loaded first
+-- check_over (src/checking.rt). Checks files over the built-in set and over those that are loaded first.
 
 pub returns-clause-checks : goal.returns-clause-checks
 returns-clause-checks g c F e =

@@ -5,8 +5,8 @@ use Rattle.drv_system.proofs.Asking.{asks_then}
 use Rattle.drv_system.specs.Asking.{Extends}
 use Rattle.std.proofs.Common.{rules}
 
--- sources_of (src/checking.rt): the files that a line loads into the built-in set, in the order in which they are opened: each of these
--- names, found along these prefixes, and those that it includes
+-- sources_of (src/checking.rt). The files that a line loads into the built-in set, in the order in which they are opened: each of these
+-- names, found along these prefixes, and those that it includes.
 
 pub returns-clause-asks : goal.returns-clause-asks
 returns-clause-asks g c = let asks = asks_then c.new.ensures.asks c.sources_found.ensures.asks.asks in search rules

@@ -5,7 +5,7 @@ use Rattle.std.proofs.Common.{◌≡◌, ◌++◌, length}
 use Rattle.std.specs.List.{flat_map}
 use Rattle.std.specs.Option.{option_map}
 
--- the loops of push_marked (src/differing.rt): adds the lines of a text, each after a mark
+-- The loops of push_marked (src/differing.rt). Adds the lines of a text, each after a mark.
 
 abbrev pub invariant-loop-left : goal.invariant-loop-left
 invariant-loop-left l =

@@ -5,8 +5,8 @@ use Rattle.drv_system.proofs.Asking.{asks_then}
 use Rattle.drv_system.specs.Asking.{Extends}
 use Rattle.std.proofs.Common.{rules}
 
--- fault_note (src/fault_notes.rt): where the driver refuses files that are loaded over a set, in their order, as a note: the place of the
--- first fault in its file
+-- fault_note (src/fault_notes.rt). Where the driver refuses files that are loaded over a set, in their order, as a note: the place of the
+-- first fault in its file.
 
 pub returns-clause-asks : goal.returns-clause-asks
 returns-clause-asks g c = let asks = asks_then c.new.ensures.asks c.note_along.ensures.asks.asks in search rules

@@ -3,7 +3,7 @@ use Rattle.drv_check.specs.Whole.{puts_key}
 use Rattle.std.proofs.Common.{◌≡◌, drop}
 use Rattle.std.specs.List.{list_any}
 
--- the loops of is_put (src/judging.rt): whether a piece among these puts a pair of this key
+-- The loops of is_put (src/judging.rt). Whether a piece among these puts a pair of this key.
 
 abbrev pub invariant-loop-piece : goal.invariant-loop-piece
 invariant-loop-piece l = list_any (puts_key l.key) (drop l.piece-index l.later) ≡ list_any (puts_key l.key) l.later

@@ -2,7 +2,7 @@ use Rattle.drv_check.proofs.judging.judge_file.Given as goal
 use Rattle.drv_check.specs.Whole.{file_judged, pieces_judged}
 use Rattle.std.proofs.Common.{◌≡◌, ◌++◌, length}
 
--- the loops of judge_file (src/judging.rt): adds what the whole of the files shows of one
+-- The loops of judge_file (src/judging.rt). Adds what the whole of the files shows of one.
 
 abbrev pub invariant-loop-left : goal.invariant-loop-left
 invariant-loop-left l = l.findings ++ pieces_judged l.set l.worked l.file l.left ≡ l.fn.findings ++ file_judged l.set l.worked l.file

@@ -2,7 +2,7 @@ use Rattle.drv_check.proofs.judging.judge_sources.Given as goal
 use Rattle.drv_check.specs.Whole.{sources_judged}
 use Rattle.std.proofs.Common.{◌≡◌, ◌-◌, ◌++◌, drop, length}
 
--- the loops of judge_sources (src/judging.rt): adds what the whole of the files shows of the sources from this place on
+-- The loops of judge_sources (src/judging.rt). Adds what the whole of the files shows of the sources from this place on.
 
 abbrev pub invariant-loop-number : goal.invariant-loop-number
 invariant-loop-number l =

@@ -4,7 +4,7 @@ use Rattle.drv_check.specs.Origins.{files_from}
 use Rattle.std.proofs.Common.{◌≡◌, ◌++◌, drop}
 use Rattle.std.specs.List.{flat_map}
 
--- the loops of namings_of (src/naming.rt): the parts of the texts of a set that name switches, by its dump, in their order
+-- The loops of namings_of (src/naming.rt). The parts of the texts of a set that name switches, by its dump, in their order.
 
 abbrev pub invariant-loop-piece : goal.invariant-loop-piece
 invariant-loop-piece l =

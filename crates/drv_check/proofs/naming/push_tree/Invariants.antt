@@ -4,7 +4,7 @@ use Rattle.drv_syntax.specs.Parsed.{tree_of}
 use Rattle.drv_syntax.specs.Tokens.{tokens_of}
 use Rattle.std.proofs.Common.{◌≡◌, ◌-◌, ◌++◌, drop, length}
 
--- the loops of push_tree (src/naming.rt): adds the parts of a text that name switches
+-- The loops of push_tree (src/naming.rt). Adds the parts of a text that name switches.
 
 abbrev pub invariant-loop-place : goal.invariant-loop-place
 invariant-loop-place l =

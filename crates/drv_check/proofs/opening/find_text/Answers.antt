@@ -3,7 +3,7 @@ use Rattle.drv_check.proofs.opening.find_text.Goals as goal
 use Rattle.drv_system.proofs.Asking.{asks_extends, asks_then, extends_then}
 use Rattle.std.proofs.Common.{refl}
 
--- find_text (src/opening.rt): the path of an included file, and its text
+-- find_text (src/opening.rt). The path of an included file, and its text.
 
 pub returns-in_err-text-clause-asks : goal.returns-in_err-text-clause-asks
 returns-in_err-text-clause-asks g c = record {

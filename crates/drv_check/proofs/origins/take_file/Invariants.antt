@@ -2,7 +2,7 @@ use Rattle.drv_check.proofs.origins.take_file.Given as goal
 use Rattle.drv_check.specs.Origins.{pieces_spots}
 use Rattle.std.proofs.Common.{◌≡◌, drop}
 
--- the loops of take_file (src/origins.rt): the spots of a head's text after a file
+-- The loops of take_file (src/origins.rt). The spots of a head's text after a file.
 
 abbrev pub invariant-loop-piece : goal.invariant-loop-piece
 invariant-loop-piece l =

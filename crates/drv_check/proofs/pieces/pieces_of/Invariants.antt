@@ -4,7 +4,7 @@ use Rattle.drv_specs.specs.Code.Slices.{bytes_from, lines_from}
 use Rattle.std.proofs.Common.{◌≡◌, ◌≤◌, ◌+◌, ◌++◌, length}
 use Rattle.std.specs.Option.{option_map}
 
--- the loops of pieces_of (src/pieces.rt): the pieces of a settled text that are directives, in their order (GCC manual, "Spec Files")
+-- The loops of pieces_of (src/pieces.rt). The pieces of a settled text that are directives, in their order (GCC manual, "Spec Files").
 
 abbrev pub invariant-loop-left : goal.invariant-loop-left
 invariant-loop-left l = record {

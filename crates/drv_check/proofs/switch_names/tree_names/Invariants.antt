@@ -4,7 +4,7 @@ use Rattle.drv_syntax.specs.Parsed.{tree_of}
 use Rattle.drv_syntax.specs.Tokens.{tokens_of}
 use Rattle.std.proofs.Common.{◌≡◌, ◌-◌, drop, length}
 
--- the loops of tree_names (src/switch_names.rt): whether a tree names a switch
+-- The loops of tree_names (src/switch_names.rt). Whether a tree names a switch.
 
 abbrev pub invariant-loop-place : goal.invariant-loop-place
 invariant-loop-place l =

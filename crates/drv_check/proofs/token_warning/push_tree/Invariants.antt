@@ -4,7 +4,7 @@ use Rattle.drv_syntax.specs.Parsed.{tree_of}
 use Rattle.drv_syntax.specs.Tokens.{tokens_of}
 use Rattle.std.proofs.Common.{◌≡◌, ◌-◌, ◌++◌, drop, length}
 
--- the loops of push_tree (src/token_warning.rt): adds the warnings of a tree, whose text begins at this byte of the piece
+-- The loops of push_tree (src/token_warning.rt). Adds the warnings of a tree, whose text begins at this byte of the piece.
 
 abbrev pub invariant-loop-place : goal.invariant-loop-place
 invariant-loop-place l =

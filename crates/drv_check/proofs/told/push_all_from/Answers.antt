@@ -4,7 +4,7 @@ use Rattle.drv_check.specs.Told.{from_text}
 use Rattle.std.proofs.Common.{◌++◌}
 use Rattle.std.specs.List.{flat_map}
 
--- push_all_from (src/told.rt): adds where files are included
+-- push_all_from (src/told.rt). Adds where files are included.
 
 pub loop-place-preserved : goal.loop-place-preserved
 loop-place-preserved c =

@@ -3,7 +3,7 @@ use Rattle.drv_check.specs.Told.{from_text}
 use Rattle.std.proofs.Common.{◌≡◌, ◌++◌, drop}
 use Rattle.std.specs.List.{flat_map}
 
--- the loops of push_all_from (src/told.rt): adds where files are included
+-- The loops of push_all_from (src/told.rt). Adds where files are included.
 
 abbrev pub invariant-loop-place : goal.invariant-loop-place
 invariant-loop-place l = l.text ++ flat_map from_text (drop l.place-index l.places) ≡ l.fn.text ++ flat_map from_text l.places

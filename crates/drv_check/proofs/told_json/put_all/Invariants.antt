@@ -5,7 +5,7 @@ use Rattle.json.specs.Token.{begin_array}
 use Rattle.json.specs.Tree.{items_tokens}
 use Rattle.std.proofs.Common.{◌≡◌, ◌∷◌, ◌++◌, drop}
 
--- the loops of put_all (src/told_json.rt): writes findings as an array
+-- The loops of put_all (src/told_json.rt). Writes findings as an array.
 
 abbrev pub invariant-loop-told : goal.invariant-loop-told
 invariant-loop-told l = l.out ++ items_tokens (items_json told_json (drop l.told-index l.all)) ≡ l.fn.out ++ begin_array

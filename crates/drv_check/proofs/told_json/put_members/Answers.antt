@@ -6,7 +6,7 @@ use Rattle.json.specs.Token.{end_object, key}
 use Rattle.json.specs.Tree.{json_tokens}
 use Rattle.std.proofs.Common.{◌∙◌, ◌++◌, ap, codes}
 
--- put_members (src/told_json.rt): writes what it is and where its file is included, and ends the object
+-- put_members (src/told_json.rt). Writes what it is and where its file is included, and ends the object.
 
 pub returns : goal.returns
 returns c =

@@ -5,7 +5,7 @@ use Rattle.json.specs.Token.{begin_array}
 use Rattle.json.specs.Tree.{items_tokens}
 use Rattle.std.proofs.Common.{◌≡◌, ◌∷◌, ◌++◌, drop}
 
--- the loops of put_places (src/told_json.rt): writes places as an array
+-- The loops of put_places (src/told_json.rt). Writes places as an array.
 
 abbrev pub invariant-loop-place : goal.invariant-loop-place
 invariant-loop-place l = l.out ++ items_tokens (items_json place_json (drop l.place-index l.places)) ≡ l.fn.out ++ begin_array

@@ -4,7 +4,7 @@ use Rattle.std.proofs.Common.{◌≡◌, ◌++◌, List, OnOk, subst, sym, ◌�
 use Rattle.std.specs.Str.{IsUtf8}
 use Rattle.drv_check.proofs.told_json.put_word.Goals as goal
 
--- put_word (src/told_json.rt): writes a word
+-- put_word (src/told_json.rt). Writes a word.
 
 pub returns-in-Ok : goal.returns-in-Ok
 returns-in-Ok c =

@@ -3,7 +3,7 @@ use Rattle.drv_check.specs.UnusedTexts.{piece_names}
 use Rattle.std.proofs.Common.{◌≡◌, ◌++◌, drop}
 use Rattle.std.specs.List.{flat_map}
 
--- the loops of push_pieces (src/unused_text.rt): adds the names that pieces work
+-- The loops of push_pieces (src/unused_text.rt). Adds the names that pieces work.
 
 abbrev pub invariant-loop-piece : goal.invariant-loop-piece
 invariant-loop-piece l = l.names.items ++ flat_map piece_names (drop l.piece-index l.pieces) ≡ l.fn.names.items

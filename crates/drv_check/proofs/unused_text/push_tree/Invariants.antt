@@ -4,7 +4,7 @@ use Rattle.drv_syntax.specs.Parsed.{tree_of}
 use Rattle.drv_syntax.specs.Tokens.{tokens_of}
 use Rattle.std.proofs.Common.{◌≡◌, ◌-◌, ◌++◌, drop, length}
 
--- the loops of push_tree (src/unused_text.rt): adds the names that a tree works
+-- The loops of push_tree (src/unused_text.rt). Adds the names that a tree works.
 
 abbrev pub invariant-loop-place : goal.invariant-loop-place
 invariant-loop-place l =

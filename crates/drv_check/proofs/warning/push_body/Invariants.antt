@@ -5,7 +5,7 @@ use Rattle.drv_specs.specs.Lines.{lines_of}
 use Rattle.std.proofs.Common.{◌≡◌, ◌≤◌, ◌+◌, ◌++◌, length}
 use Rattle.std.specs.Option.{option_map}
 
--- the loops of push_body (src/warning.rt): adds the warnings of the lines after the first
+-- The loops of push_body (src/warning.rt). Adds the warnings of the lines after the first.
 
 abbrev pub invariant-loop-left : goal.invariant-loop-left
 invariant-loop-left l = record {

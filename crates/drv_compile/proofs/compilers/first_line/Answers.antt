@@ -5,7 +5,7 @@ use Rattle.std.proofs.lemmas.Iterator.Search.{find_from_yields_List}
 use Rattle.std.proofs.lemmas.Iterator.Splits.{YieldsList-from_slice_split}
 use Rattle.std.specs.List.{starts_with}
 
--- first_line (src/compilers.rt): the first line of a text that begins with a key
+-- first_line (src/compilers.rt). The first line of a text that begins with a key.
 
 pub returns : goal.returns
 returns c =

@@ -4,7 +4,7 @@ use Rattle.drv_compile.specs.Compilers.{lines}
 use Rattle.std.proofs.Common.{◌∙◌, ap}
 use Rattle.std.specs.Option.{option_map}
 
--- first_value (src/compilers.rt): the first value of a key in a text, if there is one
+-- first_value (src/compilers.rt). The first value of a key in a text, if there is one.
 
 pub returns-in-None : goal.returns-in-None
 returns-in-None c =

@@ -1,7 +1,7 @@
 use Rattle.drv_compile.proofs.Done.{carried, nothing_carried}
 use Rattle.drv_compile.proofs.compiling.carried_out.Goals as goal
 
--- carried_out (src/compiling.rt): sets the variables for the children of what is prepared, says what is said first, and does it
+-- carried_out (src/compiling.rt). Sets the variables for the children of what is prepared, says what is said first, and does it.
 
 pub returns-in-Ok-clause-carries : goal.returns-in-Ok-clause-carries
 returns-in-Ok-clause-carries g c =

@@ -1,7 +1,7 @@
 use Rattle.drv_compile.proofs.Done.{no_bytes, no_pipe_after_text, nothing_closed, some_bytes, text_closed, text_unclosed}
 use Rattle.drv_compile.proofs.compiling.closed.Goals as goal
 
--- closed (src/compiling.rt): says a text after a work, if there is one
+-- closed (src/compiling.rt). Says a text after a work, if there is one.
 
 pub returns-then-is_empty-clause-closes : goal.returns-then-is_empty-clause-closes
 returns-then-is_empty-clause-closes g c =

@@ -1,7 +1,7 @@
 use Rattle.drv_compile.proofs.Done.{compiled_by_none}
 use Rattle.drv_compile.proofs.compiling.compile.Goals as goal
 
--- compile (src/compiling.rt): a call of `gdrv-cc` with these arguments (GCC manual, "Invoking GCC"; as `c99`, POSIX c99)
+-- compile (src/compiling.rt). A call of `gdrv-cc` with these arguments (GCC manual, "Invoking GCC"; as `c99`, POSIX c99).
 
 pub returns-in-Ok-clause-compiled : goal.returns-in-Ok-clause-compiled
 returns-in-Ok-clause-compiled g c = c.compile_settled.ensures.compiled _ _ c.in-Ok.ensures.settles

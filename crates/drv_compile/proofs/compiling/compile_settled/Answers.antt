@@ -3,7 +3,7 @@ use Rattle.drv_compile.proofs.Settled.{going_further}
 use Rattle.drv_compile.proofs.compiling.compile_settled.Goals as goal
 use Rattle.std.proofs.Common.{rules}
 
--- compile_settled (src/compiling.rt): a call over a table that has the folder of temporaries
+-- compile_settled (src/compiling.rt). A call over a table that has the folder of temporaries.
 
 pub returns-in-Ok-clause-compiled : goal.returns-in-Ok-clause-compiled
 returns-in-Ok-clause-compiled g c journal notes before =

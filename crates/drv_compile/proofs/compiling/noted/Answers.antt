@@ -4,8 +4,8 @@ use Rattle.drv_compile.proofs.compiling.noted.Goals.{else-lacks_program, then-la
 use Rattle.std.proofs.Common.{◌∙◌, ap, sym}
 use Rattle.std.specs.Prelude.{false, true}
 
--- noted (src/compiling.rt): says the hint if the work after the first `before` events did not find a program of the compiler, or else the
--- remark
+-- noted (src/compiling.rt). Says the hint if the work after the first `before` events did not find a program of the compiler, or else the
+-- remark.
 
 pub returns-clause-notes : goal.returns-clause-notes
 returns-clause-notes g c =

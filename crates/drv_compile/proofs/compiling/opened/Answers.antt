@@ -1,7 +1,7 @@
 use Rattle.drv_compile.proofs.Done.{no_bytes, no_pipe_after_text, nothing_opened, some_bytes, text_opened}
 use Rattle.drv_compile.proofs.compiling.opened.Goals as goal
 
--- opened (src/compiling.rt): says what is said before a work, if there is anything
+-- opened (src/compiling.rt). Says what is said before a work, if there is anything.
 
 pub returns-in_ok-say-clause-opens : goal.returns-in_ok-say-clause-opens
 returns-in_ok-say-clause-opens g c =

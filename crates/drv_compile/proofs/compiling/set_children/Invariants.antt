@@ -2,7 +2,7 @@ use Rattle.drv_compile.proofs.Done.{Setting}
 use Rattle.drv_compile.proofs.compiling.set_children.Given as goal
 use Rattle.std.proofs.Common.{◌≡◌, length}
 
--- the loops of set_children (src/compiling.rt): sets the variables of a line for children
+-- The loops of set_children (src/compiling.rt). Sets the variables of a line for children.
 
 abbrev pub invariant-loop-variable : goal.invariant-loop-variable
 invariant-loop-variable g l = record {

@@ -2,8 +2,8 @@ use Rattle.drv_compile.proofs.Decided.{decided_so}
 use Rattle.drv_compile.proofs.deciding.decided.Goals as goal
 use Rattle.drv_system.proofs.AskedCalls.{extends_before}
 
--- decided (src/deciding.rt): what the words of a line ask for, response files expanded and those of c99 turned into gcc's, where the spec
--- file of this program lies at `own`, if that is known
+-- decided (src/deciding.rt). What the words of a line ask for, response files expanded and those of c99 turned into gcc's, where the spec
+-- file of this program lies at `own`, if that is known.
 
 pub returns-clause-decision : goal.returns-clause-decision
 returns-clause-decision g c F e =

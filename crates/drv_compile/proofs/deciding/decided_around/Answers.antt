@@ -1,7 +1,7 @@
 use Rattle.drv_compile.proofs.Decided.{around_read}
 use Rattle.drv_compile.proofs.deciding.decided_around.Goals as goal
 
--- decided_around (src/deciding.rt): the decision over a compiler and where it looks
+-- decided_around (src/deciding.rt). The decision over a compiler and where it looks.
 
 pub returns-clause-decision : goal.returns-clause-decision
 returns-clause-decision g c F e =

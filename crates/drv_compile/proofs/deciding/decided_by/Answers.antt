@@ -2,7 +2,7 @@ use Rattle.drv_compile.proofs.Decided.{compiler_given}
 use Rattle.drv_compile.proofs.deciding.decided_by.Goals as goal
 use Rattle.drv_system.proofs.AskedCalls.{asked_further, extends_before}
 
--- decided_by (src/deciding.rt): the decision by the compiler that a text names, if it names one
+-- decided_by (src/deciding.rt). The decision by the compiler that a text names, if it names one.
 
 pub returns-clause-asks : goal.returns-clause-asks
 returns-clause-asks g c = asked_further (asked_further c.variable.ensures.asks c.variable-2.ensures.asks) c.decided_around.ensures.asks

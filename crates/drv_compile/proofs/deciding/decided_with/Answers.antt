@@ -2,7 +2,7 @@ use Rattle.drv_compile.proofs.Decided.{specs_given}
 use Rattle.drv_compile.proofs.deciding.decided_with.Goals as goal
 use Rattle.drv_system.proofs.AskedCalls.{extends_before}
 
--- decided_with (src/deciding.rt): the decision with a spec file, if there is one
+-- decided_with (src/deciding.rt). The decision with a spec file, if there is one.
 
 pub returns-clause-decision : goal.returns-clause-decision
 returns-clause-decision g c F e =

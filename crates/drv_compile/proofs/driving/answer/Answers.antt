@@ -6,7 +6,7 @@ use Rattle.drv_run.specs.declared.ending.Ending.TheVariants.{OutOfMemory}
 use Rattle.drv_system.specs.Known.{Is}
 use Rattle.std.proofs.Common.{◌≡◌, ◌⊎◌, Err, Option, subst}
 
--- answer (src/driving.rt): what the spec files of a line give it
+-- answer (src/driving.rt). What the spec files of a line give it.
 
 pub returns-in_ok-stop-in-Err-clause-answers : goal.returns-in_ok-stop-in-Err-clause-answers
 returns-in_ok-stop-in-Err-clause-answers g c F e =

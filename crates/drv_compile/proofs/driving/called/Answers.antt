@@ -4,7 +4,7 @@ use Rattle.drv_system.proofs.AskedCalls.{asked_further, extends_before}
 use Rattle.drv_system.specs.Known.{Is}
 use Rattle.std.proofs.Common.{◌∙◌, ap}
 
--- called (src/driving.rt): what the driver is called with for a line by itself, with the file that has its texts
+-- called (src/driving.rt). What the driver is called with for a line by itself, with the file that has its texts.
 
 pub returns-in_err-texts-clause-asks : goal.returns-in_err-texts-clause-asks
 returns-in_err-texts-clause-asks g c = asked_further c.written_beside.ensures.asks c.texts_asked.ensures.asks

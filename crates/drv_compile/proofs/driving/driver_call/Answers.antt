@@ -2,7 +2,7 @@ use Rattle.drv_compile.proofs.DriverCalls.{drives_by, undriven_answer, undriven_
 use Rattle.drv_compile.proofs.driving.driver_call.Goals as goal
 use Rattle.drv_system.proofs.AskedCalls.{asked_further, extends_before}
 
--- driver_call (src/driving.rt): what the driver is called with for a line, with the options that its spec files give it
+-- driver_call (src/driving.rt). What the driver is called with for a line, with the options that its spec files give it.
 
 pub returns-in_err-first-clause-drives : goal.returns-in_err-first-clause-drives
 returns-in_err-first-clause-drives g c F e =

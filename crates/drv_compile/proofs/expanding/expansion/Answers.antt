@@ -5,7 +5,7 @@ use Rattle.drv_compile.specs.Words.{stop_of, within_limit}
 use Rattle.std.proofs.Common.{◌≡◌, ◌∙◌, Err, Ok, ap, subst}
 use Rattle.std.specs.List.{each_same}
 
--- expansion (src/expanding.rt): arguments with their response files expanded
+-- expansion (src/expanding.rt). Arguments with their response files expanded.
 
 pub returns-in-Ok-clause-gives : goal.returns-in-Ok-clause-gives
 returns-in-Ok-clause-gives g c F e =

@@ -6,7 +6,7 @@ use Rattle.drv_system.proofs.AskedCalls.{asked_further, extends_before}
 use Rattle.drv_system.specs.Known.{Is}
 use Rattle.std.proofs.Common.{◌∙◌, ap, arith, sym}
 
--- first_unread (src/expanding.rt): the path of the first response file that words name and that can't be read
+-- first_unread (src/expanding.rt). The path of the first response file that words name and that can't be read.
 
 pub loop-word-preserved : goal.loop-word-preserved
 loop-word-preserved g c = record {

@@ -3,7 +3,7 @@ use Rattle.drv_compile.proofs.expanding.gcc_words.Goals as goal
 use Rattle.drv_compile.specs.Words.{stop_of}
 use Rattle.std.proofs.Common.{◌∙◌, ap}
 
--- gcc_words (src/expanding.rt): the words of gcc for those of the call's front
+-- gcc_words (src/expanding.rt). The words of gcc for those of the call's front.
 
 pub returns-in_ok-stop-in-Err : goal.returns-in_ok-stop-in-Err
 returns-in_ok-stop-in-Err c =

@@ -3,7 +3,7 @@ use Rattle.drv_compile.proofs.expanding.line_words.Goals as goal
 use Rattle.drv_system.proofs.AskedCalls.{extends_before}
 use Rattle.std.proofs.Common.{rules}
 
--- line_words (src/expanding.rt): the words of a call: response files expanded, and those of c99 turned into gcc's
+-- line_words (src/expanding.rt). The words of a call: response files expanded, and those of c99 turned into gcc's.
 
 pub returns-in_err-expanded-clause-gives : goal.returns-in_err-expanded-clause-gives
 returns-in_err-expanded-clause-gives g c F e =

@@ -3,7 +3,7 @@ use Rattle.drv_compile.specs.Texts.{unread_text}
 use Rattle.drv_system.specs.Known.{Is}
 use Rattle.std.proofs.Common.{◌∙◌, ap}
 
--- refuse_unread (src/expanding.rt): refuses words of which one names a response file that can't be read
+-- refuse_unread (src/expanding.rt). Refuses words of which one names a response file that can't be read.
 
 pub returns-clause-gives : goal.returns-clause-gives
 returns-clause-gives g c F e = (

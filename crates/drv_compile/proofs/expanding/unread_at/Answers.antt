@@ -3,7 +3,7 @@ use Rattle.drv_compile.proofs.expanding.unread_at.Goals as goal
 use Rattle.std.proofs.Common.{ap}
 use Rattle.std.specs.Option.{option_copied}
 
--- unread_at (src/expanding.rt): the path of a response file that is there and can't be read, if there is a path
+-- unread_at (src/expanding.rt). The path of a response file that is there and can't be read, if there is a path.
 
 pub returns-clause-path : goal.returns-clause-path
 returns-clause-path g c F e =

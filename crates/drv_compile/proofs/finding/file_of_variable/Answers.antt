@@ -2,7 +2,7 @@ use Rattle.drv_compile.proofs.Decided.{named_by_variable}
 use Rattle.drv_compile.proofs.finding.file_of_variable.Goals as goal
 use Rattle.std.specs.Option.{option_copied}
 
--- file_of_variable (src/finding.rt): the path of the spec file that a variable names, if it names one
+-- file_of_variable (src/finding.rt). The path of the spec file that a variable names, if it names one.
 
 pub returns-clause-path : goal.returns-clause-path
 returns-clause-path g c F e =

@@ -4,7 +4,7 @@ use Rattle.drv_system.proofs.Asking.{asks_extends, extends_then}
 use Rattle.std.proofs.Common.{◌∙◌, ap, sym}
 use Rattle.drv_system.specs.Known.{Is}
 
--- is_written (src/finding.rt): whether a file that `gdrv-write-specs` wrote is a plain file and whole
+-- is_written (src/finding.rt). Whether a file that `gdrv-write-specs` wrote is a plain file and whole.
 
 pub returns-then-is_plain-clause-is : goal.returns-then-is_plain-clause-is
 returns-then-is_plain-clause-is g c F e =

@@ -1,7 +1,7 @@
 use Rattle.drv_compile.proofs.Files.{plain_asked}
 use Rattle.drv_compile.proofs.finding.plain_at.Goals as goal
 
--- plain_at (src/finding.rt): the path, if it is a plain file
+-- plain_at (src/finding.rt). The path, if it is a plain file.
 
 pub returns-clause-path : goal.returns-clause-path
 returns-clause-path g c F e =

@@ -2,7 +2,8 @@ use Rattle.drv_compile.proofs.Files.{file_found_so}
 use Rattle.drv_compile.proofs.finding.spec_file.Goals as goal
 use Rattle.drv_system.proofs.AskedCalls.{extends_before}
 
--- spec_file (src/finding.rt): the path of the spec file that a variable names, or else of the one at its own place, if that is a plain file
+-- spec_file (src/finding.rt). The path of the spec file that a variable names, or else of the one at its own place, if that is a plain
+-- file.
 
 pub returns-clause-path : goal.returns-clause-path
 returns-clause-path g c F e =

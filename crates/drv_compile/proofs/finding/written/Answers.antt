@@ -3,7 +3,7 @@ use Rattle.drv_compile.proofs.finding.written.Goals as goal
 use Rattle.drv_system.proofs.Asking.{asks_extends, extends_then}
 use Rattle.std.proofs.Common.{◌∙◌, sym}
 
--- written (src/finding.rt): the lines before the mark of a file that `gdrv-write-specs` wrote, where it is a plain file and whole
+-- written (src/finding.rt). The lines before the mark of a file that `gdrv-write-specs` wrote, where it is a plain file and whole.
 
 pub returns-then-is_plain-clause-lines : goal.returns-then-is_plain-clause-lines
 returns-then-is_plain-clause-lines g c F e =

@@ -5,7 +5,7 @@ use Rattle.drv_system.proofs.Asking.{asks_extends, extends_then}
 use Rattle.drv_compile.specs.Inputs.{absent_by}
 use Rattle.std.proofs.Common.{◌++◌, ◌∙◌, ap, refl}
 
--- absent (src/inputs.rt): the text about the inputs that are not there
+-- absent (src/inputs.rt). The text about the inputs that are not there.
 
 pub loop-input-preserved : goal.loop-input-preserved
 loop-input-preserved g c = record {

@@ -6,7 +6,7 @@ use Rattle.drv_system.specs.Code.Asked.{Asked}
 use Rattle.drv_system.specs.Facts.{Facts}
 use Rattle.std.proofs.Common.{◌≡◌, drop}
 
--- the loops of absent (src/inputs.rt): the text about the inputs that are not there
+-- The loops of absent (src/inputs.rt). The text about the inputs that are not there.
 
 abbrev pub invariant-loop-input : goal.invariant-loop-input
 invariant-loop-input g l = record {

@@ -3,7 +3,7 @@ use Rattle.drv_compile.proofs.inputs.objection.Goals as goal
 use Rattle.drv_system.proofs.AskedCalls.{extends_before}
 use Rattle.std.proofs.Common.{◌∙◌, sym}
 
--- objection (src/inputs.rt): the text that refuses a line: about a variable that gcc's driver takes, or else about missing inputs
+-- objection (src/inputs.rt). The text that refuses a line: about a variable that gcc's driver takes, or else about missing inputs.
 
 pub returns-then-is_some-clause-text : goal.returns-then-is_some-clause-text
 returns-then-is_some-clause-text g c F e =

@@ -1,7 +1,7 @@
 use Rattle.drv_compile.proofs.Absent.{new_written, none_written, old_written}
 use Rattle.drv_compile.proofs.inputs.overwrites.Goals as goal
 
--- overwrites (src/inputs.rt): whether an output is an input, by whatever path (GCC, "gcc.cc", process_command)
+-- overwrites (src/inputs.rt). Whether an output is an input, by whatever path (GCC, "gcc.cc", process_command).
 
 pub returns-in_default : goal.returns-in_default
 returns-in_default g c = none_written c.args.inputs.now c.args.output.now _ c.in_default.is

@@ -2,7 +2,7 @@ use Rattle.drv_compile.proofs.Absent.{reaches_it, reaches_more, reaches_none}
 use Rattle.drv_compile.proofs.inputs.reaches.Goals as goal
 use Rattle.std.proofs.Common.{◌∙◌, arith, sym}
 
--- reaches (src/inputs.rt): whether an input leads to the file at a path
+-- reaches (src/inputs.rt). Whether an input leads to the file at a path.
 
 pub returns-then-is_at : goal.returns-then-is_at
 returns-then-is_at g c =

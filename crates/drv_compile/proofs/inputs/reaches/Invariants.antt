@@ -3,7 +3,7 @@ use Rattle.drv_compile.specs.Inputs.{Noted, Reaches}
 use Rattle.drv_compile.specs.declared.host.HostEvent.{HostEvent}
 use Rattle.std.proofs.Common.{Bool, List, ◌++◌, drop}
 
--- the loops of reaches (src/inputs.rt): whether an input leads to the file at a path
+-- The loops of reaches (src/inputs.rt). Whether an input leads to the file at a path.
 
 abbrev pub invariant-loop-input : goal.invariant-loop-input
 invariant-loop-input g l =

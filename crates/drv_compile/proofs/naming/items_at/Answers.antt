@@ -3,7 +3,7 @@ use Rattle.drv_compile.proofs.naming.items_at.Goals as goal
 use Rattle.drv_system.proofs.Asking.{asks_extends, extends_then}
 use Rattle.std.proofs.Common.{◌∙◌, sym}
 
--- items_at (src/naming.rt): the items of a line by the names of options in the file at a path, if that is a plain file and whole
+-- items_at (src/naming.rt). The items of a line by the names of options in the file at a path, if that is a plain file and whole.
 
 pub returns-then-is_plain-clause-items : goal.returns-then-is_plain-clause-items
 returns-then-is_plain-clause-items g c words is F e =

@@ -1,7 +1,7 @@
 use Rattle.drv_compile.proofs.Names.{items_known}
 use Rattle.drv_compile.proofs.naming.items_beside.Goals as goal
 
--- items_beside (src/naming.rt): the items of a line, which were read without names of options, by those of the compiler
+-- items_beside (src/naming.rt). The items of a line, which were read without names of options, by those of the compiler.
 
 pub returns-clause-items : goal.returns-clause-items
 returns-clause-items g c words is F e =

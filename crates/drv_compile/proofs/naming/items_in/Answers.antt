@@ -3,7 +3,7 @@ use Rattle.drv_compile.proofs.naming.items_in.Goals as goal
 use Rattle.std.proofs.Common.{ap}
 use Rattle.std.specs.Option.{option_copied}
 
--- items_in (src/naming.rt): the items of a line by the names of options in a file that was read, if that is whole
+-- items_in (src/naming.rt). The items of a line by the names of options in a file that was read, if that is whole.
 
 pub returns-in_ok-with_names-in-Some : goal.returns-in_ok-with_names-in-Some
 returns-in_ok-with_names-in-Some c words is =

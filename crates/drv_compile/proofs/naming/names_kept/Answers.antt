@@ -2,7 +2,7 @@ use Rattle.drv_compile.proofs.Names.{kept_so}
 use Rattle.drv_compile.proofs.naming.names_kept.Goals as goal
 use Rattle.std.proofs.Common.{◌∙◌, sym}
 
--- names_kept (src/naming.rt): the names of the compiler's options, which are known, if they are read again after this answer
+-- names_kept (src/naming.rt). The names of the compiler's options, which are known, if they are read again after this answer.
 
 pub returns-clause-names : goal.returns-clause-names
 returns-clause-names g c F e known some =

@@ -4,7 +4,7 @@ use Rattle.drv_compile.specs.Places.{texts_or}
 use Rattle.drv_system.proofs.AskedCalls.{extends_before}
 use Rattle.std.proofs.Common.{◌∙◌, ap}
 
--- texts_asked (src/parts.rt): the file that has the texts for a line with these items and stages: the spec file, or a part of it beside it
+-- texts_asked (src/parts.rt). The file that has the texts for a line with these items and stages: the spec file, or a part of it beside it.
 
 pub returns-clause-texts : goal.returns-clause-texts
 returns-clause-texts g c F e =

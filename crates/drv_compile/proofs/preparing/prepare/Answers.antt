@@ -3,7 +3,7 @@ use Rattle.drv_compile.proofs.Worded.{memory_stops}
 use Rattle.drv_compile.proofs.preparing.prepare.Goals as goal
 use Rattle.drv_system.proofs.AskedCalls.{asked_further, extends_before}
 
--- prepare (src/preparing.rt): what a call with these arguments does
+-- prepare (src/preparing.rt). What a call with these arguments does.
 
 pub returns-in_err-words-clause-comes : goal.returns-in_err-words-clause-comes
 returns-in_err-words-clause-comes g c =

@@ -4,7 +4,7 @@ use Rattle.drv_compile.specs.Texts.{gone_text}
 use Rattle.drv_system.proofs.AskedCalls.{asked_further, extends_before}
 use Rattle.std.proofs.Common.{◌∙◌, ap}
 
--- prepared_plan (src/preparing.rt): a line that nothing refuses, with what the driver is called with and its work
+-- prepared_plan (src/preparing.rt). A line that nothing refuses, with what the driver is called with and its work.
 
 pub returns-in_err-driven-clause-plans : goal.returns-in_err-driven-clause-plans
 returns-in_err-driven-clause-plans g c F e =

@@ -2,7 +2,7 @@ use Rattle.drv_compile.proofs.Prepared.{memory_noted, no_overwriting, not_overwr
 use Rattle.drv_compile.proofs.preparing.refuse_overwriting.Goals as goal
 use Rattle.std.proofs.Common.{rules}
 
--- refuse_overwriting (src/preparing.rt): refuses a line whose output is an input
+-- refuse_overwriting (src/preparing.rt). Refuses a line whose output is an input.
 
 pub returns-in_err-found : goal.returns-in_err-found
 returns-in_err-found g c = memory_noted _ _ _ c.from_residual.result _ _ c.in_err-found.ensures c.from_residual.ensures.1

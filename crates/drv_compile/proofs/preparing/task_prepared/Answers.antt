@@ -1,7 +1,7 @@
 use Rattle.drv_compile.proofs.Prepared.{compilation_done, none_noted, question_done}
 use Rattle.drv_compile.proofs.preparing.task_prepared.Goals as goal
 
--- task_prepared (src/preparing.rt): what a call does for a task
+-- task_prepared (src/preparing.rt). What a call does for a task.
 
 pub returns-in_ok-prepared-in-Question-clause-comes : goal.returns-in_ok-prepared-in-Question-clause-comes
 returns-in_ok-prepared-in-Question-clause-comes g c =

@@ -1,7 +1,7 @@
 use Rattle.drv_compile.proofs.Worded.{driver_told}
 use Rattle.drv_compile.proofs.preparing.work_or_stop.Goals as goal
 
--- work_or_stop (src/preparing.rt): the work of a line of the driver
+-- work_or_stop (src/preparing.rt). The work of a line of the driver.
 
 pub returns-in_ok-stop-in-Err-clause-works : goal.returns-in_ok-stop-in-Err-clause-works
 returns-in_ok-stop-in-Err-clause-works g c F e =

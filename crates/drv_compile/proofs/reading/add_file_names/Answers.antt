@@ -3,7 +3,7 @@ use Rattle.drv_compile.proofs.reading.add_file_names.Goals as goal
 use Rattle.drv_system.proofs.Asking.{asks_extends, asks_then, extends_then}
 use Rattle.std.proofs.Common.{refl}
 
--- add_file_names (src/reading.rt): adds the names in the spec file of this name, where it can be read
+-- add_file_names (src/reading.rt). Adds the names in the spec file of this name, where it can be read.
 
 pub returns-clause-asks : goal.returns-clause-asks
 returns-clause-asks g c = record { asks = asks_then c.find_file.ensures.asks c.read.ensures.asks; same_sys = refl; same_facts = refl }

@@ -2,7 +2,7 @@ use Rattle.drv_compile.proofs.Names.{file_more}
 use Rattle.drv_compile.proofs.reading.files_names.Goals as goal
 use Rattle.drv_system.proofs.AskedCalls.{asked_further, extends_before}
 
--- files_names (src/reading.rt): the names in spec files
+-- files_names (src/reading.rt). The names in spec files.
 
 pub loop-file-preserved : goal.loop-file-preserved
 loop-file-preserved g c = record {

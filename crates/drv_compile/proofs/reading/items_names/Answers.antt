@@ -3,7 +3,7 @@ use Rattle.drv_compile.proofs.reading.items_names.Goals as goal
 use Rattle.drv_system.proofs.AskedCalls.{asked_further, extends_before}
 use Rattle.std.proofs.Common.{◌∙◌, refl}
 
--- items_names (src/reading.rt): the names in the spec files of items of the driver's line
+-- items_names (src/reading.rt). The names in the spec files of items of the driver's line.
 
 pub returns-clause-asks : goal.returns-clause-asks
 returns-clause-asks g c = asked_further (record { asks = c.new.ensures.asks; same_sys = refl; same_facts = refl })

@@ -2,7 +2,7 @@ use Rattle.drv_compile.proofs.Names.{known_ended, known_refused}
 use Rattle.drv_compile.proofs.reading.known_answer.Goals as goal
 use Rattle.std.proofs.Common.{rules}
 
--- known_answer (src/reading.rt): the answer to a line whose words were read by the names of the compiler's options
+-- known_answer (src/reading.rt). The answer to a line whose words were read by the names of the compiler's options.
 
 pub returns-in_default : goal.returns-in_default
 returns-in_default g c =

@@ -2,8 +2,8 @@ use Rattle.drv_compile.proofs.Names.{read_named, read_unnamed}
 use Rattle.drv_compile.proofs.reading.read_by.Goals as goal
 use Rattle.drv_system.proofs.AskedCalls.{asked_further, extends_before}
 
--- read_by (src/reading.rt): the answer to a line of these items, which were read without names of options, by those of the compiler, if the
--- file that has them is whole
+-- read_by (src/reading.rt). The answer to a line of these items, which were read without names of options, by those of the compiler, if the
+-- file that has them is whole.
 
 pub returns-in_default-clause-reading : goal.returns-in_default-clause-reading
 returns-in_default-clause-reading g c words is F e =

@@ -3,8 +3,8 @@ use Rattle.drv_compile.proofs.Names.{line_known, line_unknown}
 use Rattle.drv_compile.proofs.reading.read_line.Goals as goal
 use Rattle.std.proofs.Common.{◌∙◌, [], ap, sym}
 
--- read_line (src/reading.rt): the answer to a line, over the files beside a spec file; none where that of the compiler's options is not
--- whole
+-- read_line (src/reading.rt). The answer to a line, over the files beside a spec file; none where that of the compiler's options is not
+-- whole.
 
 pub returns-then-has_unknown-clause-reading : goal.returns-then-has_unknown-clause-reading
 returns-then-has_unknown-clause-reading g c F e =

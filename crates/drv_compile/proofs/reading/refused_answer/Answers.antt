@@ -2,7 +2,7 @@ use Rattle.drv_compile.proofs.Names.{refused_again}
 use Rattle.drv_compile.proofs.reading.refused_answer.Goals as goal
 use Rattle.std.proofs.Common.{◌∙◌}
 
--- refused_answer (src/reading.rt): the answer to a line that is refused where its spec files name nothing
+-- refused_answer (src/reading.rt). The answer to a line that is refused where its spec files name nothing.
 
 pub returns-clause-answer : goal.returns-clause-answer
 returns-clause-answer g c known words is F e =

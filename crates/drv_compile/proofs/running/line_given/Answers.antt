@@ -4,7 +4,7 @@ use Rattle.drv_compile.proofs.running.line_given.Goals as goal
 use Rattle.drv_words.specs.Gives.{Gives}
 use Rattle.std.proofs.Common.{subst}
 
--- line_given (src/running.rt): the line that items give
+-- line_given (src/running.rt). The line that items give.
 
 pub returns-clause-line : goal.returns-clause-line
 returns-clause-line c = subst (λ items. Gives args_fault.Memory (λ line. line) c.line_of.result

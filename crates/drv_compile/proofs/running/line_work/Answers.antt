@@ -2,7 +2,7 @@ use Rattle.drv_compile.proofs.Ran.{many_end, planning_ends}
 use Rattle.drv_compile.proofs.running.line_work.Goals as goal
 use Rattle.std.proofs.Common.{refl}
 
--- line_work (src/running.rt): what a line with these specs asks for, if it doesn't name one output for several sources
+-- line_work (src/running.rt). What a line with these specs asks for, if it doesn't name one output for several sources.
 
 pub returns-in_err-refuse_several-clause-works : goal.returns-in_err-refuse_several-clause-works
 returns-in_err-refuse_several-clause-works g c F e =

@@ -2,7 +2,7 @@ use Rattle.drv_compile.proofs.running.specs_of.Goals as goal
 use Rattle.drv_compile.proofs.Ran.{suffixes_given}
 use Rattle.std.proofs.Common.{refl}
 
--- specs_of (src/running.rt): the specs of a line: what the files of `-specs=` make of the suffixes
+-- specs_of (src/running.rt). The specs of a line: what the files of `-specs=` make of the suffixes.
 
 pub returns-clause-loads : goal.returns-clause-loads
 returns-clause-loads g c F e = suffixes_given F c.args.settings.now c.in_ok-set.set c.load_specs.result c.in_ok-set.ensures

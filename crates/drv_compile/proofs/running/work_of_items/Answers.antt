@@ -2,8 +2,8 @@ use Rattle.drv_compile.proofs.Ran.{loading_ends, reading_ends, working_comes}
 use Rattle.drv_compile.proofs.running.work_of_items.Goals as goal
 use Rattle.drv_system.proofs.AskedCalls.{extends_before}
 
--- work_of_items (src/running.rt): what items of the driver's line ask for: the line judged, its spec files loaded, and its plan with what
--- is done with it
+-- work_of_items (src/running.rt). What items of the driver's line ask for: the line judged, its spec files loaded, and its plan with what
+-- is done with it.
 
 pub returns-in_err-line-clause-comes : goal.returns-in_err-line-clause-comes
 returns-in_err-line-clause-comes g c F e =

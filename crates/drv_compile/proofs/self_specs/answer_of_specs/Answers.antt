@@ -3,7 +3,7 @@ use Rattle.drv_compile.proofs.self_specs.answer_of_specs.Goals as goal
 use Rattle.drv_system.proofs.AskedCalls.{extends_before}
 use Rattle.std.proofs.Common.{◌∙◌}
 
--- answer_of_specs (src/self_specs.rt): the answer to a line that names spec files
+-- answer_of_specs (src/self_specs.rt). The answer to a line that names spec files.
 
 pub returns-in_err-worked-clause-answer : goal.returns-in_err-worked-clause-answer
 returns-in_err-worked-clause-answer g c F e =

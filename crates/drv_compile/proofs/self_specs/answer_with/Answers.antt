@@ -2,7 +2,7 @@ use Rattle.drv_compile.proofs.Given.{options_given}
 use Rattle.drv_compile.proofs.self_specs.answer_with.Goals as goal
 use Rattle.drv_system.proofs.AskedCalls.{extends_before}
 
--- answer_with (src/self_specs.rt): the answer to a line that is given options
+-- answer_with (src/self_specs.rt). The answer to a line that is given options.
 
 pub returns-clause-answer : goal.returns-clause-answer
 returns-clause-answer g c F e =

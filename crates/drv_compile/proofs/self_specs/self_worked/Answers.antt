@@ -7,7 +7,7 @@ use Rattle.drv_specs.specs.Sets.{text_of}
 use Rattle.drv_system.proofs.AskedCalls.{extends_before}
 use Rattle.std.proofs.Common.{codes, refl}
 
--- self_worked (src/self_specs.rt): what the spec files of a line of the driver give a line of these items
+-- self_worked (src/self_specs.rt). What the spec files of a line of the driver give a line of these items.
 
 pub returns-in_err-own-clause-works : goal.returns-in_err-own-clause-works
 returns-in_err-own-clause-works g c F e =

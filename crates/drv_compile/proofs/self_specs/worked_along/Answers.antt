@@ -5,7 +5,7 @@ use Rattle.drv_machine.specs.Outcome.{outcome}
 use Rattle.drv_plan.specs.Denoted.{of_text}
 use Rattle.drv_syntax.specs.Parsed.{tree_of}
 
--- worked_along (src/self_specs.rt): what the text gives a line whose `-B` folders are these prefixes
+-- worked_along (src/self_specs.rt). What the text gives a line whose `-B` folders are these prefixes.
 
 pub returns-clause-works : goal.returns-clause-works
 returns-clause-works g c F e =

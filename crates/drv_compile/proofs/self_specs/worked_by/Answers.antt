@@ -5,7 +5,7 @@ use Rattle.drv_compile.specs.SelfSpecs.{worked_by, worked_for}
 use Rattle.drv_specs.specs.Sets.{text_of}
 use Rattle.std.proofs.Common.{codes}
 
--- worked_by (src/self_specs.rt): what specs give a line of these items
+-- worked_by (src/self_specs.rt). What specs give a line of these items.
 
 pub returns-in-Some-clause-works : goal.returns-in-Some-clause-works
 returns-in-Some-clause-works g c F e =

@@ -4,7 +4,7 @@ use Rattle.drv_compile.proofs.self_specs.worked_for.Goals as goal
 use Rattle.drv_compile.specs.SelfSpecs.{worked_for}
 use Rattle.std.proofs.Common.{Ok, ap, refl}
 
--- worked_for (src/self_specs.rt): what the text gives a line of these items
+-- worked_for (src/self_specs.rt). What the text gives a line of these items.
 
 pub returns-in_err-line-clause-works : goal.returns-in_err-line-clause-works
 returns-in_err-line-clause-works g c F e =

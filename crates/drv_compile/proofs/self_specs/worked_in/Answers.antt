@@ -4,7 +4,7 @@ use Rattle.drv_machine.specs.Outcome.{outcome}
 use Rattle.drv_plan.specs.Denoted.{of_text}
 use Rattle.drv_syntax.specs.Parsed.{tree_of}
 
--- worked_in (src/self_specs.rt): what the text gives in a context
+-- worked_in (src/self_specs.rt). What the text gives in a context.
 
 pub returns-in_err-done-clause-works : goal.returns-in_err-done-clause-works
 returns-in_err-done-clause-works g c F e =

@@ -4,7 +4,7 @@ use Rattle.drv_compile.specs.SelfSpecs.{worked_along, worked_for}
 use Rattle.drv_system.proofs.AskedCalls.{asked_further, extends_before}
 use Rattle.std.proofs.Common.{Ok, refl}
 
--- worked_line (src/self_specs.rt): what the text gives a line
+-- worked_line (src/self_specs.rt). What the text gives a line.
 
 pub returns-clause-works : goal.returns-clause-works
 returns-clause-works g c F e =

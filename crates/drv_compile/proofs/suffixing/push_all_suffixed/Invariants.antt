@@ -3,7 +3,7 @@ use Rattle.drv_compile.specs.Suffixes.{with_suffix}
 use Rattle.std.specs.List.{flat_map}
 use Rattle.std.proofs.Common.{◌≡◌, ◌++◌, drop}
 
--- the loops of push_all_suffixed (src/suffixing.rt): adds the items of a line, the name of a program with this suffix
+-- The loops of push_all_suffixed (src/suffixing.rt). Adds the items of a line, the name of a program with this suffix.
 
 abbrev pub invariant-loop-item : goal.invariant-loop-item
 invariant-loop-item l = l.made ++ flat_map (with_suffix l.suffix) (drop l.item-index l.items) ≡ l.fn.made

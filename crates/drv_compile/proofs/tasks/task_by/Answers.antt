@@ -1,7 +1,7 @@
 use Rattle.drv_compile.proofs.Leading.{answer_asks, answer_refused, answer_runs}
 use Rattle.drv_compile.proofs.tasks.task_by.Goals as goal
 
--- task_by (src/tasks.rt): what a call does by what its line was read as
+-- task_by (src/tasks.rt). What a call does by what its line was read as.
 
 pub returns-in-Ask : goal.returns-in-Ask
 returns-in-Ask c = answer_asks c.args.specs c.args.around c.args.reading c.in-Ask.is

@@ -1,7 +1,7 @@
 use Rattle.drv_compile.proofs.Leading.{compiler_declined, damaged_declined}
 use Rattle.drv_compile.proofs.tasks.task_of.Goals as goal
 
--- task_of (src/tasks.rt): what a call does by what its words ask for
+-- task_of (src/tasks.rt). What a call does by what its words ask for.
 
 pub returns-in_ok-text-in-NoCompiler : goal.returns-in_ok-text-in-NoCompiler
 returns-in_ok-text-in-NoCompiler c =

@@ -2,7 +2,7 @@ use Rattle.drv_compile.proofs.Leading.{place_declined, specs_declined}
 use Rattle.drv_compile.proofs.tasks.without_specs.Goals as goal
 use Rattle.std.proofs.Common.{rules}
 
--- without_specs (src/tasks.rt): the text where there is no spec file
+-- without_specs (src/tasks.rt). The text where there is no spec file.
 
 pub returns-in-Some : goal.returns-in-Some
 returns-in-Some c =

@@ -2,7 +2,7 @@ use Rattle.drv_compile.proofs.Told.{told_all, told_more}
 use Rattle.drv_compile.proofs.telling.lines_told.Goals as goal
 use Rattle.std.proofs.Common.{arith}
 
--- lines_told (src/telling.rt): the text of refusals by these names of options: a line for each of them
+-- lines_told (src/telling.rt). The text of refusals by these names of options: a line for each of them.
 
 pub loop-refusal-preserved : goal.loop-refusal-preserved
 loop-refusal-preserved c =

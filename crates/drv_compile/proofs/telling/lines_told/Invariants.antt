@@ -2,7 +2,7 @@ use Rattle.drv_compile.proofs.telling.lines_told.Given as goal
 use Rattle.drv_compile.specs.Near.{AreTold}
 use Rattle.std.proofs.Common.{List, ◌++◌, drop, ℕ}
 
--- the loops of lines_told (src/telling.rt): the text of refusals by these names of options: a line for each of them
+-- The loops of lines_told (src/telling.rt). The text of refusals by these names of options: a line for each of them.
 
 abbrev pub invariant-loop-refusal : goal.invariant-loop-refusal
 invariant-loop-refusal l =

@@ -1,8 +1,8 @@
 use Rattle.drv_compile.proofs.Settled.{Choosing, Trying}
 use Rattle.drv_compile.proofs.temp_folder.chosen.Given as goal
 
--- the loops of chosen (src/temp_folder.rt): the first of names that is that of a folder in which files can be made, or else the folder of
--- the call
+-- The loops of chosen (src/temp_folder.rt). The first of names that is that of a folder in which files can be made, or else the folder of
+-- the call.
 
 abbrev pub invariant-loop-name : goal.invariant-loop-name
 invariant-loop-name g l = record {

@@ -1,7 +1,7 @@
 use Rattle.drv_compile.proofs.Settled.{folder_chosen, folder_tried, nothing_tried}
 use Rattle.drv_compile.proofs.temp_folder.folder_asked.Goals as goal
 
--- folder_asked (src/temp_folder.rt): the folder of temporaries (GCC, "libiberty/make-temp-file.c", choose_tmpdir)
+-- folder_asked (src/temp_folder.rt). The folder of temporaries (GCC, "libiberty/make-temp-file.c", choose_tmpdir).
 
 pub returns-in_err-names-clause-tries : goal.returns-in_err-names-clause-tries
 returns-in_err-names-clause-tries g c = nothing_tried _ _

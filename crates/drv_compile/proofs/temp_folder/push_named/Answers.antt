@@ -1,7 +1,7 @@
 use Rattle.drv_compile.proofs.Settled.{name_pushed}
 use Rattle.drv_compile.proofs.temp_folder.push_named.Goals as goal
 
--- push_named (src/temp_folder.rt): adds the value of a variable, if it is set
+-- push_named (src/temp_folder.rt). Adds the value of a variable, if it is set.
 
 pub returns-clause-names : goal.returns-clause-names
 returns-clause-names g c F e =

@@ -2,7 +2,7 @@ use Rattle.drv_compile.proofs.Settled.{names_pushed}
 use Rattle.drv_compile.proofs.temp_folder.push_names.Goals as goal
 use Rattle.drv_system.proofs.AskedCalls.{extends_before}
 
--- push_names (src/temp_folder.rt): adds the names that may be that of the folder
+-- push_names (src/temp_folder.rt). Adds the names that may be that of the folder.
 
 pub returns-clause-names : goal.returns-clause-names
 returns-clause-names g c F e =

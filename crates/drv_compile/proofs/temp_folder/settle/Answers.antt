@@ -2,7 +2,7 @@ use Rattle.drv_compile.proofs.Settled.{begun, nothing_begun, table_settled}
 use Rattle.drv_compile.proofs.temp_folder.settle.Goals as goal
 use Rattle.std.proofs.Common.{rules}
 
--- settle (src/temp_folder.rt): asks for the folder of temporaries, and puts it into a table that has no answer yet, as the value of TMPDIR
+-- settle (src/temp_folder.rt). Asks for the folder of temporaries, and puts it into a table that has no answer yet, as the value of TMPDIR.
 
 pub returns-in_err-name-clause-asks : goal.returns-in_err-name-clause-asks
 returns-in_err-name-clause-asks g c = nothing_begun _ _

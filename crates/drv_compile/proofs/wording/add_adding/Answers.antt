@@ -4,7 +4,7 @@ use Rattle.drv_compile.specs.Texts.{quoted}
 use Rattle.std.proofs.Common.{◌++◌, ◌∙◌, ap, codes}
 use Rattle.std.proofs.lemmas.Result.{on_ok_weaker}
 
--- add_adding (src/wording.rt): adds the command that asks the compiler for the words of options
+-- add_adding (src/wording.rt). Adds the command that asks the compiler for the words of options.
 
 pub returns : goal.returns
 returns c =

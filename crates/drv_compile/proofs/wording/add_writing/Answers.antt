@@ -4,7 +4,7 @@ use Rattle.drv_compile.specs.Texts.{quoted}
 use Rattle.std.proofs.Common.{◌++◌, ◌∙◌, ap, codes}
 use Rattle.std.proofs.lemmas.Result.{on_ok_weaker}
 
--- add_writing (src/wording.rt): adds the command that writes the spec file of a machine
+-- add_writing (src/wording.rt). Adds the command that writes the spec file of a machine.
 
 pub returns : goal.returns
 returns c =

@@ -2,7 +2,7 @@ use Rattle.drv_compile.proofs.wording.no_compiler_text.Goals as goal
 use Rattle.drv_compile.specs.Texts.{unwritten_text}
 use Rattle.std.proofs.Common.{◌≡◌, ◌∙◌, IfOk, codes, subst}
 
--- no_compiler_text (src/wording.rt): the text about a spec file beside which no compiler is named
+-- no_compiler_text (src/wording.rt). The text about a spec file beside which no compiler is named.
 
 pub returns : goal.returns
 returns c =

@@ -2,7 +2,7 @@ use Rattle.drv_compile.proofs.wording.unasked_text.Goals as goal
 use Rattle.drv_compile.specs.Texts.{adding, error_line, quoted}
 use Rattle.std.proofs.Common.{◌≡◌, ◌∙◌, ◌++◌, List, ap, append_assoc, codes, ℕ}
 
--- unasked_text (src/wording.rt): the text about options for a machine of which no words are known
+-- unasked_text (src/wording.rt). The text about options for a machine of which no words are known.
 
 lined : (name text more : List ℕ) → (((name ++ codes ": error: ") ++ text) ++ more) ++ codes "\n" ≡ error_line name (text ++ more)
 lined name text more = ap (λ line. line ++ codes "\n") (append_assoc (name ++ codes ": error: ") text more)

@@ -5,7 +5,7 @@ use Rattle.std.proofs.lemmas.Iterator.Consumers.{YieldsList-from_filter, count_f
 use Rattle.std.proofs.lemmas.Iterator.{YieldsList-from_slice}
 use Rattle.std.specs.Slice.Iter.{iter_rest}
 
--- count_busy (src/fleet.rt): how many jobs have something to do
+-- count_busy (src/fleet.rt). How many jobs have something to do.
 
 pub returns : goal.returns
 returns c =

@@ -4,7 +4,7 @@ use Rattle.drv_core.specs.Code.Fleet.{first_busy}
 use Rattle.std.proofs.Common.{◌+◌, ◌-◌, ◌∙◌, ap, drop, length, take}
 use Rattle.std.specs.Prelude.{unwrap_or}
 
--- first_busy (src/fleet.rt): the first job from `from` on that has something to do, or the number of jobs
+-- first_busy (src/fleet.rt). The first job from `from` on that has something to do, or the number of jobs.
 
 pub returns : goal.returns
 returns c =

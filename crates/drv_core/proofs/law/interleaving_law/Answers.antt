@@ -2,8 +2,8 @@ use Rattle.drv_core.proofs.Laws.OneByOne.{rearranges}
 use Rattle.drv_core.proofs.Laws.StartedEvents.{starts_the_same}
 use Rattle.drv_core.proofs.law.interleaving_law.Goals as goal
 
--- interleaving_law (src/law.rt): a law: every run with several sources in flight, taken source by source, is a run with one source at a
--- time and the same answers
+-- interleaving_law (src/law.rt). A law: every run with several sources in flight, taken source by source, is a run with one source at a
+-- time and the same answers.
 
 pub returns-clause-answers : goal.returns-clause-answers
 returns-clause-answers c = rearranges

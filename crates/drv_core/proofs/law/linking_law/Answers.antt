@@ -2,7 +2,7 @@ use Rattle.drv_core.proofs.Laws.Failed.{fails_where}
 use Rattle.drv_core.proofs.Laws.LinkRuns.{links_where}
 use Rattle.drv_core.proofs.law.linking_law.Goals as goal
 
--- linking_law (src/law.rt): a law: in the events of a whole run, the link claims or starts something exactly if every source succeeded
+-- linking_law (src/law.rt). A law: in the events of a whole run, the link claims or starts something exactly if every source succeeded.
 
 pub returns-clause-link : goal.returns-clause-link
 returns-clause-link c = links_where

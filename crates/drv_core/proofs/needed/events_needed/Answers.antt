@@ -6,7 +6,7 @@ use Rattle.std.proofs.Common.{◌≡◌, ◌+◌, ◌∙◌, None, ap, add-zero,
 use Rattle.std.specs.Option.{option_to_list}
 use Rattle.std.specs.List.{sum_by}
 
--- events_needed (src/needed.rt): the most events that a run of this plan can have
+-- events_needed (src/needed.rt). The most events that a run of this plan can have.
 
 only_jobs : (plan : Plan) → plan.link ≡ None → sum_by job_events plan.jobs ≡ needed plan
 only_jobs plan none =

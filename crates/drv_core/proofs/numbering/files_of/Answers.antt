@@ -1,7 +1,7 @@
 use Rattle.drv_core.proofs.numbering.files_of.Goals as goal
 use Rattle.std.proofs.Common.{[]}
 
--- files_of (src/numbering.rt): the files of all jobs of a plan
+-- files_of (src/numbering.rt). The files of all jobs of a plan.
 
 pub returns : goal.returns
 returns c = (c.in_ok-add_all.ensures [] c.new-numbering.ensures).files_are

@@ -2,7 +2,7 @@ use Rattle.drv_core.proofs.Contracts.Runs.{advanced, few_at, is_ready, room_at, 
 use Rattle.drv_core.proofs.run.advance.Goals as goal
 use Rattle.std.proofs.Common.{◌∙◌, sym}
 
--- advance (src/run.rt): takes the answer to the next step
+-- advance (src/run.rt). Takes the answer to the next step.
 
 pub asks-requires : goal.asks-requires
 asks-requires c = is_ready c.args.plan.now c.args.work.now c.requires.stands

@@ -1,7 +1,7 @@
 use Rattle.drv_core.proofs.Contracts.Runs.{turned_stands, turned_window}
 use Rattle.drv_core.proofs.run.turn.Goals as goal
 
--- turn (src/run.rt): goes on with the chosen source
+-- turn (src/run.rt). Goes on with the chosen source.
 
 pub returns-clause-stands : goal.returns-clause-stands
 returns-clause-stands c = turned_stands c.args.plan.now c.args.work.now c.choose.new.self c.args.choice c.requires.stands c.requires.choice

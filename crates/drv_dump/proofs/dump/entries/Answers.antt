@@ -2,7 +2,7 @@ use Rattle.drv_dump.proofs.Steps.{dump_refused, dump_taken, handed_on}
 use Rattle.drv_dump.proofs.dump.entries.Goals as goal
 use Rattle.std.proofs.Common.{refl}
 
--- entries (src/dump.rt): the texts of a dump, unread
+-- entries (src/dump.rt). The texts of a dump, unread.
 
 pub loop-at-preserved : goal.loop-at-preserved
 loop-at-preserved c =

@@ -4,7 +4,7 @@ use Rattle.drv_dump.specs.Dumps.{written_entry}
 use Rattle.drv_dump.specs.Passed.{or_refusal, passed_of}
 use Rattle.std.proofs.Common.{◌∙◌, ◌++◌, Ok, ap, codes, sym}
 
--- push_copy (src/passed.rt): adds the copy of an entry
+-- push_copy (src/passed.rt). Adds the copy of an entry.
 
 pub returns : goal.returns
 returns c =

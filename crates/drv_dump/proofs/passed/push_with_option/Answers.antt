@@ -1,7 +1,7 @@
 use Rattle.drv_dump.proofs.passed.push_with_option.Goals as goal
 use Rattle.drv_dump.proofs.Passing.{option_put}
 
--- push_with_option (src/passed.rt): adds the option, and a word
+-- push_with_option (src/passed.rt). Adds the option, and a word.
 
 pub returns : goal.returns
 returns c =

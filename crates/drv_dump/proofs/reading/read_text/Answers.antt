@@ -2,7 +2,7 @@ use Rattle.drv_dump.proofs.Steps.{byte_refused, byte_taken, handed_on}
 use Rattle.drv_dump.proofs.reading.read_text.Goals as goal
 use Rattle.std.proofs.Common.{refl}
 
--- read_text (src/reading.rt): the pieces of a spec text: their bytes, one after another, are the text
+-- read_text (src/reading.rt). The pieces of a spec text: their bytes, one after another, are the text.
 
 pub loop-at-preserved : goal.loop-at-preserved
 loop-at-preserved c =

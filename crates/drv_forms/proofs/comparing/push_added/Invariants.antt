@@ -4,7 +4,7 @@ use Rattle.drv_words.specs.Bytes.{plus}
 use Rattle.std.proofs.Common.{◌≡◌, ◌++◌, drop}
 use Rattle.std.specs.List.{flat_map}
 
--- the loops of push_added (src/comparing.rt): adds lines that only the second plan has
+-- The loops of push_added (src/comparing.rt). Adds lines that only the second plan has.
 
 abbrev pub invariant-loop-line : goal.invariant-loop-line
 invariant-loop-line l = l.text.items ++ flat_map (marked_line plus) (drop l.line-index l.lines) ≡ l.fn.text.items

@@ -3,7 +3,7 @@ use Rattle.drv_forms.specs.Difference.{word_text, words_of}
 use Rattle.std.proofs.Common.{◌≡◌, ◌++◌, drop}
 use Rattle.std.specs.List.{flat_map}
 
--- the loops of push_all_missing (src/comparing.rt): adds the words that another command has not
+-- The loops of push_all_missing (src/comparing.rt). Adds the words that another command has not.
 
 abbrev pub invariant-loop-word : goal.invariant-loop-word
 invariant-loop-word l =

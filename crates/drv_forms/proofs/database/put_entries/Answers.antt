@@ -2,7 +2,7 @@ use Rattle.drv_forms.proofs.Databases.{entries_next}
 use Rattle.drv_forms.proofs.database.put_entries.Goals as goal
 use Rattle.std.proofs.Common.{rules}
 
--- put_entries (src/database.rt): writes the entries of a plan as an array
+-- put_entries (src/database.rt). Writes the entries of a plan as an array.
 
 pub loop-job-preserved : goal.loop-job-preserved
 loop-job-preserved c =

@@ -6,7 +6,7 @@ use Rattle.json.specs.Tree.{items_tokens}
 use Rattle.std.proofs.Common.{◌≡◌, ◌∷◌, ◌++◌, drop}
 use Rattle.std.specs.List.{flat_map}
 
--- the loops of put_entries (src/database.rt): writes the entries of a plan as an array
+-- The loops of put_entries (src/database.rt). Writes the entries of a plan as an array.
 
 abbrev pub invariant-loop-job : goal.invariant-loop-job
 invariant-loop-job l =

@@ -6,7 +6,7 @@ use Rattle.json.specs.Token.{key}
 use Rattle.json.specs.Tree.{json_tokens, members_tokens}
 use Rattle.std.specs.Prelude.{codes}
 
--- put_made (src/database.rt): writes the members of a command and of its output, and ends the object
+-- put_made (src/database.rt). Writes the members of a command and of its output, and ends the object.
 
 pub returns : goal.returns
 returns c =

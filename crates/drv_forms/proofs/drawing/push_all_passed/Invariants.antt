@@ -2,7 +2,7 @@ use Rattle.drv_forms.proofs.drawing.push_all_passed.Given as goal
 use Rattle.drv_forms.specs.Picture.{all_passed}
 use Rattle.std.proofs.Common.{◌≡◌, ◌++◌, drop}
 
--- the loops of push_all_passed (src/drawing.rt): adds what goes to the link
+-- The loops of push_all_passed (src/drawing.rt). Adds what goes to the link.
 
 abbrev pub invariant-loop-job : goal.invariant-loop-job
 invariant-loop-job l = record {

@@ -2,7 +2,7 @@ use Rattle.drv_forms.proofs.drawing.push_jobs.Given as goal
 use Rattle.drv_forms.specs.Picture.{jobs_text}
 use Rattle.std.proofs.Common.{◌≡◌, ◌++◌, drop}
 
--- the loops of push_jobs (src/drawing.rt): adds the jobs of sources
+-- The loops of push_jobs (src/drawing.rt). Adds the jobs of sources.
 
 abbrev pub invariant-loop-job : goal.invariant-loop-job
 invariant-loop-job l = record {

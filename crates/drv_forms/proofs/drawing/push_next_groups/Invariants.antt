@@ -2,7 +2,7 @@ use Rattle.drv_forms.proofs.drawing.push_next_groups.Given as goal
 use Rattle.drv_forms.specs.Picture.{next_groups}
 use Rattle.std.proofs.Common.{◌≡◌, ◌++◌, drop}
 
--- the loops of push_next_groups (src/drawing.rt): adds the groups after the first one, whose last command has this number, and the output
+-- The loops of push_next_groups (src/drawing.rt). Adds the groups after the first one, whose last command has this number, and the output.
 
 abbrev pub invariant-loop-group : goal.invariant-loop-group
 invariant-loop-group l = record {

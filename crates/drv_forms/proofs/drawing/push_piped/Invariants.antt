@@ -2,7 +2,7 @@ use Rattle.drv_forms.proofs.drawing.push_piped.Given as goal
 use Rattle.drv_forms.specs.Picture.{piped_text}
 use Rattle.std.proofs.Common.{◌≡◌, ◌++◌, drop}
 
--- the loops of push_piped (src/drawing.rt): adds commands after the first of a group
+-- The loops of push_piped (src/drawing.rt). Adds commands after the first of a group.
 
 abbrev pub invariant-loop-command : goal.invariant-loop-command
 invariant-loop-command l = record {

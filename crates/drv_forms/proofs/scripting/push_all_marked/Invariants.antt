@@ -3,7 +3,7 @@ use Rattle.std.proofs.Common.{◌≡◌, ◌++◌, drop}
 use Rattle.std.specs.List.{flat_map}
 use Rattle.drv_forms.proofs.scripting.push_all_marked.Given as goal
 
--- the loops of push_all_marked (src/scripting.rt): adds marked files
+-- The loops of push_all_marked (src/scripting.rt). Adds marked files.
 
 abbrev pub invariant-loop-path : goal.invariant-loop-path
 invariant-loop-path l = l.text.items ++ flat_map marked_text (drop l.path-index l.paths) ≡ l.fn.text.items ++ flat_map marked_text l.paths

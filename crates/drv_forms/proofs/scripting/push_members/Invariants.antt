@@ -3,7 +3,7 @@ use Rattle.std.proofs.Common.{◌≡◌, ◌++◌, drop}
 use Rattle.std.specs.List.{flat_map}
 use Rattle.drv_forms.proofs.scripting.push_members.Given as goal
 
--- the loops of push_members (src/scripting.rt): adds the commands after the first of a pipe
+-- The loops of push_members (src/scripting.rt). Adds the commands after the first of a pipe.
 
 abbrev pub invariant-loop-command : goal.invariant-loop-command
 invariant-loop-command l = l.text.items ++ flat_map member_text (drop l.command-index l.commands) ≡ l.fn.text.items

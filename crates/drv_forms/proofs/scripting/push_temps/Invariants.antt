@@ -3,7 +3,7 @@ use Rattle.std.proofs.Common.{◌≡◌, ◌++◌, drop}
 use Rattle.std.specs.List.{flat_map}
 use Rattle.drv_forms.proofs.scripting.push_temps.Given as goal
 
--- the loops of push_temps (src/scripting.rt): adds the claims of temporaries
+-- The loops of push_temps (src/scripting.rt). Adds the claims of temporaries.
 
 abbrev pub invariant-loop-temp : goal.invariant-loop-temp
 invariant-loop-temp l = l.text.items ++ flat_map temp_text (drop l.temp-index l.temps) ≡ l.fn.text.items ++ flat_map temp_text l.temps

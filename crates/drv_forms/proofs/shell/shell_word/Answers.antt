@@ -4,8 +4,8 @@ use Rattle.std.proofs.Common.{◌≡◌, arith}
 use Rattle.std.proofs.lemmas.Grind.{common_steps}
 use Rattle.drv_forms.proofs.shell.shell_word.Goals as goal
 
--- shell_word (src/shell.rt): the text of one word in the shell's language, which the shell reads as that word, byte by byte: a word of
--- letters, digits and `./-_` stays as it is, any other is in single quotes
+-- shell_word (src/shell.rt). The text of one word in the shell's language, which the shell reads as that word, byte by byte: a word of
+-- letters, digits and `./-_` stays as it is, any other is in single quotes.
 
 pub returns-clause-read : goal.returns-clause-read
 returns-clause-read c =

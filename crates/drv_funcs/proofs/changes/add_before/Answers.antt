@@ -1,7 +1,7 @@
 use Rattle.drv_funcs.proofs.Ends.{ends_before}
 use Rattle.drv_funcs.proofs.changes.add_before.Goals as goal
 
--- add_before (src/changes.rt): a change comes before those that the ends are known of
+-- add_before (src/changes.rt). A change comes before those that the ends are known of.
 
 pub returns : goal.returns
 returns c changes are =

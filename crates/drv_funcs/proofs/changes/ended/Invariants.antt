@@ -3,7 +3,7 @@ use Rattle.drv_funcs.specs.Code.Changes.{end_in}
 use Rattle.std.proofs.Common.{◌≡◌, ◌++◌, drop}
 use Rattle.std.specs.List.{filter_map}
 
--- the loops of ended (src/changes.rt): the words with their ends in place of them
+-- The loops of ended (src/changes.rt). The words with their ends in place of them.
 
 abbrev pub invariant-loop-word : goal.invariant-loop-word
 invariant-loop-word l = l.ended ++ filter_map (end_in l.ends) (drop l.word-index l.words) ≡ filter_map (end_in l.ends) l.words

@@ -4,7 +4,7 @@ use Rattle.drv_funcs.specs.Outcome.{last, starred}
 use Rattle.drv_match.specs.Matching.{hits}
 use Rattle.std.proofs.Common.{◌≡◌, Some, rules}
 
--- value_of (src/comparing.rt): the rest of the last switch that the starred prefix hits
+-- value_of (src/comparing.rt). The rest of the last switch that the starred prefix hits.
 
 pub rest-rest-requires : goal.rest-rest-requires
 rest-rest-requires c =

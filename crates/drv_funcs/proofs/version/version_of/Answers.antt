@@ -6,7 +6,7 @@ use Rattle.std.proofs.Common.{◌≡◌, ◌<◌, ◌-◌, ◌∷◌, ◌++◌, 
 use Rattle.std.specs.Char.{is_ascii_digit}
 use Rattle.std.specs.Str.{byte}
 
--- version_of (src/version.rt): the numbers of a version, or `None` for another text
+-- version_of (src/version.rt). The numbers of a version, or `None` for another text.
 
 pub loop-byte-preserved : goal.loop-byte-preserved
 loop-byte-preserved c =

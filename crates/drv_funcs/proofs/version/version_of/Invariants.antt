@@ -4,7 +4,7 @@ use Rattle.drv_funcs.specs.Code.Reading.{read_on}
 use Rattle.drv_funcs.specs.Versions.{version}
 use Rattle.std.proofs.Common.{◌≡◌, ◌<◌, ◌≤◌, drop}
 
--- the loops of version_of (src/version.rt): the numbers of a version, or `None` for another text
+-- The loops of version_of (src/version.rt). The numbers of a version, or `None` for another text.
 
 abbrev pub invariant-loop-byte : goal.invariant-loop-byte
 invariant-loop-byte l = record {

@@ -3,7 +3,7 @@ use Rattle.drv_gcc.proofs.choices.push_clash.Goals as goal
 use Rattle.drv_gcc.specs.SpecFile.{clash, one_of}
 use Rattle.std.proofs.Common.{◌++◌, codes}
 
--- push_clash (src/choices.rt): adds the refusal of one option beside others
+-- push_clash (src/choices.rt). Adds the refusal of one option beside others.
 
 pub returns : goal.returns
 unfolding clash

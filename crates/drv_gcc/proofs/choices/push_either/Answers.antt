@@ -3,7 +3,7 @@ use Rattle.drv_gcc.proofs.choices.push_either.Goals as goal
 use Rattle.drv_gcc.specs.SpecFile.{either_words, native_words, usual_words}
 use Rattle.std.proofs.Common.{◌++◌, codes}
 
--- push_either (src/choices.rt): adds both
+-- push_either (src/choices.rt). Adds both.
 
 pub returns : goal.returns
 unfolding either_words

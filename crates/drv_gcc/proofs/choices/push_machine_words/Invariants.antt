@@ -3,7 +3,7 @@ use Rattle.drv_gcc.specs.SpecFile.{machine_text}
 use Rattle.std.specs.List.{flat_map}
 use Rattle.std.proofs.Common.{◌≡◌, ◌++◌, drop}
 
--- the loops of push_machine_words (src/choices.rt): adds the words for the machine
+-- The loops of push_machine_words (src/choices.rt). Adds the words for the machine.
 
 abbrev pub invariant-loop-it : goal.invariant-loop-it
 invariant-loop-it l = l.body ++ flat_map machine_text (drop l.it-index l.words) ≡ l.fn.body ++ flat_map machine_text l.words

@@ -3,7 +3,7 @@ use Rattle.drv_gcc.proofs.choices.push_native.Goals as goal
 use Rattle.drv_gcc.specs.SpecFile.{chosen, native_words}
 use Rattle.std.proofs.Common.{◌++◌, codes}
 
--- push_native (src/choices.rt): adds the words where the line asks for the machine of the call
+-- push_native (src/choices.rt). Adds the words where the line asks for the machine of the call.
 
 pub returns : goal.returns
 unfolding native_words

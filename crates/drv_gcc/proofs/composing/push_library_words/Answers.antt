@@ -4,7 +4,7 @@ use Rattle.drv_gcc.specs.SpecFile.{library_words, spec_word, then_blank}
 use Rattle.std.proofs.Common.{◌++◌, codes}
 use Rattle.std.specs.List.{flat_map}
 
--- push_library_words (src/composing.rt): adds words for folders of libraries
+-- push_library_words (src/composing.rt). Adds words for folders of libraries.
 
 pub returns : goal.returns
 unfolding library_words

@@ -3,7 +3,7 @@ use Rattle.drv_gcc.proofs.composing.push_line_root.Goals as goal
 use Rattle.drv_gcc.specs.SpecFile.{line_root, spec_word}
 use Rattle.std.proofs.Common.{◌++◌, codes}
 
--- push_line_root (src/composing.rt): adds the root of the line, or else that of the gcc
+-- push_line_root (src/composing.rt). Adds the root of the line, or else that of the gcc.
 
 pub returns : goal.returns
 unfolding line_root

@@ -3,7 +3,7 @@ use Rattle.drv_gcc.proofs.composing.push_rooted.Goals as goal
 use Rattle.drv_gcc.specs.SpecFile.{rooted_words}
 use Rattle.std.proofs.Common.{◌++◌, codes}
 
--- push_rooted (src/composing.rt): adds texts for lines with another root and without one
+-- push_rooted (src/composing.rt). Adds texts for lines with another root and without one.
 
 pub returns : goal.returns
 unfolding rooted_words

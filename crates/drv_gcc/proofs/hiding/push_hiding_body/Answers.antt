@@ -4,7 +4,7 @@ use Rattle.drv_gcc.specs.SpecFile.{hiding_body, there_tests}
 use Rattle.std.specs.List.{flat_map}
 use Rattle.std.proofs.Common.{◌++◌, codes}
 
--- push_hiding_body (src/hiding.rt): adds what such a line is refused for
+-- push_hiding_body (src/hiding.rt). Adds what such a line is refused for.
 
 pub returns : goal.returns
 unfolding hiding_body

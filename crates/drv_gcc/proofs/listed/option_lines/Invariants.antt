@@ -4,7 +4,7 @@ use Rattle.drv_words.specs.Bytes as byte
 use Rattle.std.specs.List.{flat_map}
 use Rattle.std.proofs.Common.{◌≡◌, [], ◌∷◌, ◌++◌, drop}
 
--- the loops of option_lines (src/listed.rt): the names by which options are known, a line each
+-- The loops of option_lines (src/listed.rt). The names by which options are known, a line each.
 
 abbrev pub invariant-loop-word : goal.invariant-loop-word
 invariant-loop-word l = l.lines ++ flat_map (λ word. known_by l.all word ++ byte.newline ∷ []) (drop l.word-index l.all)

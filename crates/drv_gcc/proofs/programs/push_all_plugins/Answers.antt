@@ -3,7 +3,7 @@ use Rattle.drv_gcc.proofs.programs.push_all_plugins.Goals as goal
 use Rattle.drv_gcc.specs.SpecFile.{entry, folder_of_plugins, or_nothing, plugin_texts}
 use Rattle.std.proofs.Common.{◌++◌, codes}
 
--- push_all_plugins (src/programs.rt): adds the texts of plugins
+-- push_all_plugins (src/programs.rt). Adds the texts of plugins.
 
 pub returns : goal.returns
 unfolding plugin_texts

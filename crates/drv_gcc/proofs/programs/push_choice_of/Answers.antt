@@ -3,7 +3,7 @@ use Rattle.drv_gcc.proofs.programs.push_choice_of.Goals as goal
 use Rattle.drv_gcc.specs.SpecFile.{looked_for, program_choice, spec_word}
 use Rattle.std.proofs.Common.{◌∙◌, ◌++◌, ap, codes}
 
--- push_choice_of (src/programs.rt): adds the name of a program for these lines, and its path for others
+-- push_choice_of (src/programs.rt). Adds the name of a program for these lines, and its path for others.
 
 pub returns : goal.returns
 unfolding program_choice

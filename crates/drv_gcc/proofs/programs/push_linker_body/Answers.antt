@@ -4,7 +4,7 @@ use Rattle.drv_gcc.specs.SpecFile.{linker_body, own_linker, program_choice}
 use Rattle.std.specs.List.{flat_map}
 use Rattle.std.proofs.Common.{◌++◌, codes}
 
--- push_linker_body (src/programs.rt): adds what chooses a linker
+-- push_linker_body (src/programs.rt). Adds what chooses a linker.
 
 pub returns : goal.returns
 unfolding linker_body

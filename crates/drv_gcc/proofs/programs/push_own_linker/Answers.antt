@@ -3,7 +3,7 @@ use Rattle.drv_gcc.proofs.programs.push_own_linker.Goals as goal
 use Rattle.drv_gcc.specs.SpecFile.{own_linker, spec_word}
 use Rattle.std.proofs.Common.{◌∙◌, ◌++◌, ap, codes}
 
--- push_own_linker (src/programs.rt): adds a linker of `-fuse-ld=`
+-- push_own_linker (src/programs.rt). Adds a linker of `-fuse-ld=`.
 
 pub returns : goal.returns
 unfolding own_linker

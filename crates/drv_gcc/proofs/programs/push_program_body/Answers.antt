@@ -3,7 +3,7 @@ use Rattle.drv_gcc.proofs.programs.push_program_body.Goals as goal
 use Rattle.drv_gcc.specs.SpecFile.{program_body, program_choice}
 use Rattle.std.proofs.Common.{◌++◌, codes}
 
--- push_program_body (src/programs.rt): adds what finds a program
+-- push_program_body (src/programs.rt). Adds what finds a program.
 
 pub returns : goal.returns
 unfolding program_body

@@ -3,7 +3,7 @@ use Rattle.drv_gcc.specs.SpecFile.{text_byte}
 use Rattle.std.specs.List.{flat_map}
 use Rattle.std.proofs.Common.{◌≡◌, ◌++◌, drop}
 
--- the loops of push_word (src/words.rt): adds a word as a spec text has it
+-- The loops of push_word (src/words.rt). Adds a word as a spec text has it.
 
 abbrev pub invariant-loop-byte : goal.invariant-loop-byte
 invariant-loop-byte l = l.text ++ flat_map text_byte (drop l.byte-index l.word) ≡ l.fn.text ++ flat_map text_byte l.word

@@ -5,7 +5,7 @@ use Rattle.drv_machine.specs.Atoms as atoms
 use Rattle.drv_machine.specs.Code.Running.{run}
 use Rattle.std.proofs.Common.{ap, arith, refl, sym, ◌∙◌}
 
--- first_true (src/asking.rt): what is found first among the tests from one place up to another
+-- first_true (src/asking.rt). What is found first among the tests from one place up to another.
 
 pub loop-at-init : goal.loop-at-init
 loop-at-init c = record {

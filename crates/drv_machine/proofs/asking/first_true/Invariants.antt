@@ -7,7 +7,7 @@ use Rattle.drv_syntax.specs.Tree.{Tests}
 use Rattle.drv_system.specs.Facts.{Facts}
 use Rattle.std.proofs.Common.{List, ◌-◌, ◌≤◌, ℕ}
 
--- the loops of first_true (src/asking.rt): what is found first among the tests from one place up to another
+-- The loops of first_true (src/asking.rt). What is found first among the tests from one place up to another.
 
 abbrev pub invariant-loop-at : goal.invariant-loop-at
 invariant-loop-at l = record {

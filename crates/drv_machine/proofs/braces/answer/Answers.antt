@@ -11,8 +11,8 @@ use Rattle.drv_syntax.specs.Parsed.{tree_of}
 use Rattle.drv_syntax.specs.Tokens.{tokens_of}
 use Rattle.std.proofs.Common.{Ok, arith, false, length, subst, true}
 
--- answer (src/braces.rt): a test by a function was answered: its X is reached or opened, or the tests after it are judged, and then the
--- alternatives after them
+-- answer (src/braces.rt). A test by a function was answered: its X is reached or opened, or the tests after it are judged, and then the
+-- alternatives after them.
 
 pub negated-requires : goal.negated-requires
 negated-requires c = c.requires.fits.2.in_list

@@ -15,8 +15,8 @@ use Rattle.drv_syntax.specs.Stars.{has_star}
 use Rattle.drv_syntax.specs.Tokens.{tokens_of}
 use Rattle.std.proofs.Common.{Ok, Some, ap, arith, length, subst, sym, ◌+◌, ◌∙◌}
 
--- choose (src/braces.rt): the first alternative with a true test, among those from one place up to another, is reached or opened; or the
--- default is; or the place after them is reached
+-- choose (src/braces.rt). The first alternative with a true test, among those from one place up to another, is reached or opened; or the
+-- default is; or the place after them is reached.
 
 pub token_at-next-requires : goal.token_at-next-requires
 token_at-next-requires c = front_in c.args.text.now c.loop-at.at c.args.end c.loop-at-test.true c.loop-at.invariant.spans

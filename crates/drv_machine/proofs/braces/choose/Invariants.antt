@@ -7,8 +7,8 @@ use Rattle.drv_syntax.specs.Tree.{Choices}
 use Rattle.drv_system.specs.Facts.{Facts}
 use Rattle.std.proofs.Common.{List, length, ◌-◌, ◌≡◌, ◌≤◌, ℕ}
 
--- the loops of choose (src/braces.rt): the first alternative with a true test, among those from one place up to another, is reached or
--- opened; or the default is; or the place after them is reached
+-- The loops of choose (src/braces.rt). The first alternative with a true test, among those from one place up to another, is reached or
+-- opened; or the default is; or the place after them is reached.
 
 abbrev pub invariant-loop-at : goal.invariant-loop-at
 invariant-loop-at l = record {

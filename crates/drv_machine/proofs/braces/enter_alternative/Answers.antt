@@ -2,8 +2,8 @@ use Rattle.drv_machine.proofs.ChoiceTurns.{each_entered, once_entered}
 use Rattle.drv_machine.proofs.braces.enter_alternative.Goals as goal
 use Rattle.drv_machine.specs.Code.Walking.{Went}
 
--- enter_alternative (src/braces.rt): an X by the test at a place, which is true: it is opened for each hit where X has a `%*` of its own,
--- as is said, else reached
+-- enter_alternative (src/braces.rt). An X by the test at a place, which is true: it is opened for each hit where X has a `%*` of its own,
+-- as is said, else reached.
 
 pub returns-then-is_for_each-clause-does : goal.returns-then-is_for_each-clause-does
 returns-then-is_for_each-clause-does c F negated asked items others given owns label stands b =

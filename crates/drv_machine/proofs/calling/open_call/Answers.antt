@@ -9,7 +9,7 @@ use Rattle.drv_machine.specs.Code.Walking.{Left, after_arguments}
 use Rattle.drv_machine.specs.declared.walk.Opened.TheVariants.{Call}
 use Rattle.std.proofs.Common.{ap, refl, rules, subst, sym, ◌+◌, ◌∙◌}
 
--- open_call (src/calling.rt): the arguments of the function item at a place are opened, which end where the next item begins
+-- open_call (src/calling.rt). The arguments of the function item at a place are opened, which end where the next item begins.
 
 pub returns-in_err-push-clause-does : goal.returns-in_err-push-clause-does
 returns-in_err-push-clause-does c F C text name items given within named stands b =

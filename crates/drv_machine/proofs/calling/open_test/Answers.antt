@@ -9,7 +9,7 @@ use Rattle.drv_machine.specs.declared.walk.Asking.{Asking}
 use Rattle.drv_machine.specs.declared.walk.Opened.TheVariants.{Asks}
 use Rattle.std.proofs.Common.{ap, arith, refl, rules, subst, sym, ◌+◌, ◌-◌, ◌∙◌}
 
--- open_test (src/calling.rt): the arguments of the function that a test asks are opened
+-- open_test (src/calling.rt). The arguments of the function that a test asks are opened.
 
 pub returns-in_err-push-clause-does : goal.returns-in_err-push-clause-does
 returns-in_err-push-clause-does c F C text items arguments kept given fits stands b =

@@ -1,8 +1,8 @@
 use Rattle.drv_machine.proofs.CutLines.{arguments_are, lines_are, stray_is}
 use Rattle.drv_machine.proofs.cut_laws.command_law.Goals as goal
 
--- command_law (src/cut_laws.rt): the law that a list of atoms in which no file begins is cut into the commands that the definitions over
--- the whole list say
+-- command_law (src/cut_laws.rt). The law that a list of atoms in which no file begins is cut into the commands that the definitions over
+-- the whole list say.
 
 pub returns-clause-lines : goal.returns-clause-lines
 returns-clause-lines c = lines_are

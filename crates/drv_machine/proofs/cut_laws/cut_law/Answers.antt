@@ -4,7 +4,7 @@ use Rattle.drv_machine.proofs.CutRuns.{each_found, output_is, removed_are}
 use Rattle.drv_machine.proofs.cut_laws.cut_law.Goals as goal
 use Rattle.drv_machine.specs.Cuts.{Failure, File}
 
--- cut_law (src/cut_laws.rt): the law that a list of atoms is cut as the definitions over the whole list say
+-- cut_law (src/cut_laws.rt). The law that a list of atoms is cut as the definitions over the whole list say.
 
 pub returns : goal.returns
 returns c = record {

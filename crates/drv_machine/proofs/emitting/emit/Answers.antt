@@ -6,7 +6,7 @@ use Rattle.drv_machine.specs.declared.fault.MachineFault.TheVariants.{Memory}
 use Rattle.drv_system.specs.Gives.{GivesKnown}
 use Rattle.std.proofs.Common.{ap, subst, ◌∙◌}
 
--- emit (src/emitting.rt): puts each switch that one of the patterns from one place up to another hits
+-- emit (src/emitting.rt). Puts each switch that one of the patterns from one place up to another hits.
 
 pub put_all-requires : goal.put_all-requires
 put_all-requires g c = all_in_line c.args.context.now c.switches.result.now c.in_ok-places.places c.as_slice-2.result.now

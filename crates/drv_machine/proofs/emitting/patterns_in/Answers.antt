@@ -3,7 +3,7 @@ use Rattle.drv_machine.proofs.Standing.{front_in, here, nearer}
 use Rattle.drv_machine.proofs.emitting.patterns_in.Goals as goal
 use Rattle.std.proofs.Common.{arith}
 
--- patterns_in (src/emitting.rt): the patterns from one place up to another
+-- patterns_in (src/emitting.rt). The patterns from one place up to another.
 
 pub pattern_at-requires : goal.pattern_at-requires
 pattern_at-requires c = front_in c.args.text.now c.loop-at.at c.args.end c.loop-at-test.true c.loop-at.invariant.spans

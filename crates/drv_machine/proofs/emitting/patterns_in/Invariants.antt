@@ -5,7 +5,7 @@ use Rattle.drv_syntax.specs.Labels.{pattern_nodes}
 use Rattle.drv_syntax.specs.Tree.{Pattern, Span}
 use Rattle.std.proofs.Common.{List, ◌-◌}
 
--- the loops of patterns_in (src/emitting.rt): the patterns from one place up to another
+-- The loops of patterns_in (src/emitting.rt). The patterns from one place up to another.
 
 abbrev pub invariant-loop-at : goal.invariant-loop-at
 invariant-loop-at l = record {

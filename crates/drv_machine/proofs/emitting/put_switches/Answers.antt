@@ -10,7 +10,7 @@ use Rattle.drv_system.proofs.Asking.{extends_refl}
 use Rattle.std.proofs.Common.{arith, get_or, length, rules, sym, ◌<◌, ◌∙◌}
 use Rattle.std.proofs.lemmas.List.Elements.{All-get_or}
 
--- put_switches (src/emitting.rt): puts the switches at these places
+-- put_switches (src/emitting.rt). Puts the switches at these places.
 
 pub put_switch-requires : goal.put_switch-requires
 put_switch-requires g c = All-get_or (λ place. place < length c.args.context.now.switches) c.args.places.now c.loop-place.place-index 0

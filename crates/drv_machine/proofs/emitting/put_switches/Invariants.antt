@@ -7,7 +7,7 @@ use Rattle.drv_system.specs.Code.Asked.{Asked}
 use Rattle.drv_system.specs.Facts.{Facts}
 use Rattle.std.proofs.Common.{◌≡◌, drop}
 
--- the loops of put_switches (src/emitting.rt): puts the switches at these places
+-- The loops of put_switches (src/emitting.rt). Puts the switches at these places.
 
 abbrev pub invariant-loop-place : goal.invariant-loop-place
 invariant-loop-place g l = record {

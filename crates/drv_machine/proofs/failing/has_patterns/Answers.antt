@@ -3,7 +3,7 @@ use Rattle.drv_machine.proofs.Standing.{front_in}
 use Rattle.drv_machine.proofs.failing.has_patterns.Goals as goal
 use Rattle.std.proofs.Common.{arith}
 
--- has_patterns (src/failing.rt): whether there are patterns from one place up to another, and no alternatives
+-- has_patterns (src/failing.rt). Whether there are patterns from one place up to another, and no alternatives.
 
 pub returns-then-start-end-clause-choices : goal.returns-then-start-end-clause-choices
 returns-then-start-end-clause-choices c t brace s = no_parts c.args.text.now c.args.start c.args.end c.if-start-end.true brace s

@@ -4,7 +4,7 @@ use Rattle.drv_machine.proofs.failing.open_failure.Goals as goal
 use Rattle.drv_machine.specs.Code.Opening.{opening_lifted}
 use Rattle.std.proofs.Common.{refl, rules}
 
--- open_failure (src/failing.rt): a `%W` whose inside ends at a place is opened
+-- open_failure (src/failing.rt). A `%W` whose inside ends at a place is opened.
 
 pub returns-in_err-push-clause-does : goal.returns-in_err-push-clause-does
 returns-in_err-push-clause-does c F C text brace given b =

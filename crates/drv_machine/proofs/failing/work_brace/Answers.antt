@@ -9,7 +9,7 @@ use Rattle.drv_syntax.specs.Labels.{brace_nodes}
 use Rattle.drv_syntax.specs.Tree.{Brace}
 use Rattle.std.proofs.Common.{ap, subst, sym}
 
--- work_brace (src/failing.rt): the part in braces from one place up to another is run, or reached
+-- work_brace (src/failing.rt). The part in braces from one place up to another is run, or reached.
 
 pub returns-then-has_patterns-clause-does : goal.returns-then-has_patterns-clause-does
 returns-then-has_patterns-clause-does g c F e brace given s b =

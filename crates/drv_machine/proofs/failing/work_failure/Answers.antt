@@ -1,7 +1,7 @@
 use Rattle.drv_machine.proofs.failing.work_failure.Goals as goal
 use Rattle.std.proofs.Common.{rules}
 
--- work_failure (src/failing.rt): a `%W` is opened, and its part from one place up to another is run, or reached
+-- work_failure (src/failing.rt). A `%W` is opened, and its part from one place up to another is run, or reached.
 
 pub returns-in_err-open_failure-clause-does : goal.returns-in_err-open_failure-clause-does
 returns-in_err-open_failure-clause-does g c F e brace given s b =

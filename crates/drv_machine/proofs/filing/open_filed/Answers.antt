@@ -4,7 +4,7 @@ use Rattle.drv_machine.proofs.filing.open_filed.Goals as goal
 use Rattle.drv_machine.specs.declared.walk.Walk.{Walk}
 use Rattle.std.proofs.Common.{ap, refl, rules}
 
--- open_filed (src/filing.rt): a `%@` whose inside ends at a place is opened; a file begins, if it makes one
+-- open_filed (src/filing.rt). A `%@` whose inside ends at a place is opened; a file begins, if it makes one.
 
 pub returns-then-not-starts_file-clause-does : goal.returns-then-not-starts_file-clause-does
 returns-then-not-starts_file-clause-does g c F e text brace given b =

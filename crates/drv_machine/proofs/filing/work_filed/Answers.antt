@@ -2,7 +2,7 @@ use Rattle.drv_machine.proofs.filing.work_filed.Goals as goal
 use Rattle.drv_system.proofs.AskedCalls.{asked_further, extends_before}
 use Rattle.std.proofs.Common.{rules}
 
--- work_filed (src/filing.rt): a `%@` is opened, and its part from one place up to another is run, or reached
+-- work_filed (src/filing.rt). A `%@` is opened, and its part from one place up to another is run, or reached.
 
 pub returns-in_err-open_filed-clause-does : goal.returns-in_err-open_filed-clause-does
 returns-in_err-open_filed-clause-does g c F e brace given s b =

@@ -6,7 +6,7 @@ use Rattle.drv_machine.specs.Code.Walking.{each_from, hit_end, levels_in}
 use Rattle.drv_machine.specs.Working.{Break, puts, word_of}
 use Rattle.std.proofs.Common.{Err, rules, ◌+◌, ◌∷◌}
 
--- close_hit (src/hits.rt): a working of an X for a hit ends: the switch's argument is put, and X is opened for the next one
+-- close_hit (src/hits.rt). A working of an X for a hit ends: the switch's argument is put, and X is opened for the next one.
 
 pub returns-in_err-put_argument-clause-does : goal.returns-in_err-put_argument-clause-does
 returns-in_err-put_argument-clause-does g c F e p items given fits b =

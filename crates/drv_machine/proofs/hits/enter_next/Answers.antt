@@ -5,7 +5,7 @@ use Rattle.drv_match.specs.Pattern.{Pattern}
 use Rattle.std.specs.Option.{IfSome}
 use Rattle.std.proofs.Common.{Ok, Option, ap, length, subst, ◌<◌, ◌∙◌, ◌≤◌, ℕ}
 
--- enter_next (src/hits.rt): an X for each hit from a switch on: it is opened for the next one, or the walk goes on after it
+-- enter_next (src/hits.rt). An X for each hit from a switch on: it is opened for the next one, or the walk goes on after it.
 
 pub returns-in-Some-clause-does : goal.returns-in-Some-clause-does
 returns-in-Some-clause-does c F p items given label stands b =

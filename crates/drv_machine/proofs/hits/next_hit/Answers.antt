@@ -1,7 +1,7 @@
 use Rattle.drv_machine.proofs.ChoiceSteps.{next_finds, next_within}
 use Rattle.drv_machine.proofs.hits.next_hit.Goals as goal
 
--- next_hit (src/hits.rt): the next switch from a place on that a pattern hits, if one does
+-- next_hit (src/hits.rt). The next switch from a place on that a pattern hits, if one does.
 
 pub returns-clause-within : goal.returns-clause-within
 returns-clause-within c = next_within c.args.context.now c.switches.result.now c.hidden.result.now c.args.pattern.now c.args.from

@@ -5,7 +5,7 @@ use Rattle.drv_machine.specs.Code.Walking.{weight}
 use Rattle.drv_machine.specs.declared.walk.Opened.TheVariants.{Hit}
 use Rattle.std.proofs.Common.{ap, arith, refl, rules}
 
--- open_hit (src/hits.rt): an X is opened for the hit at a place of the line
+-- open_hit (src/hits.rt). An X is opened for the hit at a place of the line.
 
 pub returns-in_err-push-clause-does : goal.returns-in_err-push-clause-does
 returns-in_err-push-clause-does c F C text p items s given fits long b =

@@ -10,8 +10,8 @@ use Rattle.drv_machine.specs.declared.fault.MachineFault.TheVariants.{UserError}
 use Rattle.drv_syntax.specs.declared.token.TokenKind.TheVariants as kinds
 use Rattle.std.proofs.Common.{[], ◌∷◌, ◌++◌, ap, arith, sym, ◌+◌, ◌∙◌}
 
--- work_item (src/items.rt): runs the item at a place, which is this token, and opens no part and has no alternatives; `star` is the value
--- of `%*`
+-- work_item (src/items.rt). Runs the item at a place, which is this token, and opens no part and has no alternatives; `star` is the value
+-- of `%*`.
 
 pub overflow_add-at : goal.overflow_add-at
 overflow_add-at g c = let later = stand_grows _ _ (c.args.at + 1) c.requires.spans.nodes c.args.token.next c.requires.spans.stands in

@@ -8,7 +8,7 @@ use Rattle.drv_syntax.specs.declared.token.Leaf.TheVariants as leaves
 use Rattle.drv_words.specs.FileNames.{base, stem}
 use Rattle.std.proofs.Common.{ap, refl, rules, sym, ◌∙◌}
 
--- work_leaf (src/items.rt): works a directive that is whole with its byte
+-- work_leaf (src/items.rt). Works a directive that is whole with its byte.
 
 pub returns-in_err-input_name-in-InputName-clause-does : goal.returns-in_err-input_name-in-InputName-clause-does
 returns-in_err-input_name-in-InputName-clause-does g c F e =

@@ -9,7 +9,7 @@ use Rattle.drv_syntax.specs.Parsed.{tree_of}
 use Rattle.std.proofs.Common.{Ok, ap, length, refl, rules}
 use Rattle.std.specs.Prelude.{Some, option_map}
 
--- open_text (src/named.rt): the text of a name is opened; one that isn't there gives nothing
+-- open_text (src/named.rt). The text of a name is opened; one that isn't there gives nothing.
 
 pub returns-in_default : goal.returns-in_default
 returns-in_default c F s given b =

@@ -4,7 +4,7 @@ use Rattle.drv_machine.proofs.tokens_at.tests_end.Goals as goal
 use Rattle.drv_syntax.specs.Labels.{Nodes}
 use Rattle.std.proofs.Common.{ap, arith}
 
--- tests_end (src/tokens_at.rt): the end of the tests that are first among parts
+-- tests_end (src/tokens_at.rt). The end of the tests that are first among parts.
 
 pub token_at-token-requires : goal.token_at-token-requires
 token_at-token-requires c = front_in c.args.tree.now c.loop-at.at c.args.end c.loop-at-test.true c.loop-at.invariant.spans

@@ -4,7 +4,7 @@ use Rattle.drv_syntax.specs.Labels.{Nodes}
 use Rattle.std.proofs.Common.{◌-◌}
 use Rattle.drv_machine.proofs.tokens_at.tests_end.Given as goal
 
--- the loops of tests_end (src/tokens_at.rt): the end of the tests that are first among parts
+-- The loops of tests_end (src/tokens_at.rt). The end of the tests that are first among parts.
 
 abbrev pub invariant-loop-at : goal.invariant-loop-at
 invariant-loop-at l = record {

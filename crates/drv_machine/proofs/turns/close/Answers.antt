@@ -12,7 +12,7 @@ use Rattle.drv_machine.specs.declared.walk.Opened.{Opened}
 use Rattle.drv_system.specs.Gives.{GivesKnown}
 use Rattle.std.proofs.Common.{◌≡◌, ◌∙◌, List, [], ◌∷◌, Ok, ap, arith, length, refl, rules, subst, sym, ℕ}
 
--- close (src/turns.rt): the innermost open part ends: what it was opened for is done, or done once more, in the part around it
+-- close (src/turns.rt). The innermost open part ends: what it was opened for is done, or done once more, in the part around it.
 
 pub close_hit-requires-clause-in_list : goal.close_hit-requires-clause-in_list
 close_hit-requires-clause-in_list g c =

@@ -7,7 +7,7 @@ use Rattle.drv_machine.specs.declared.fault.MachineFault.TheVariants.{Memory}
 use Rattle.drv_system.specs.Known.{Is}
 use Rattle.std.proofs.Common.{◌≡◌, ◌⊎◌, ◌∙◌, Err, List, Ok, rules, subst, ℕ}
 
--- close_test (src/turns.rt): the arguments of the function that a test asks end: the test is judged by what the function says
+-- close_test (src/turns.rt). The arguments of the function that a test asks end: the test is judged by what the function says.
 
 pub word-name-requires : goal.word-name-requires
 word-name-requires g c = c.requires.fits.2.in_list

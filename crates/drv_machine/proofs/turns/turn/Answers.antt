@@ -4,7 +4,7 @@ use Rattle.drv_machine.proofs.TurnSteps.{turn_function, turn_item, turn_plain, t
 use Rattle.drv_machine.proofs.turns.turn.Goals as goal
 use Rattle.std.proofs.Common.{Ok, arith, rules}
 
--- turn (src/turns.rt): works the item that is reached
+-- turn (src/turns.rt). Works the item that is reached.
 
 pub token_at-token-requires : goal.token_at-token-requires
 token_at-token-requires g c = at_place c.args.walk.now.text.now c.args.walk.now c.requires.lain c.requires.at_item

@@ -5,7 +5,7 @@ use Rattle.drv_system.proofs.AskedCalls.{asked_further, asked_none, extends_befo
 use Rattle.drv_system.proofs.Asking.{extends_refl}
 use Rattle.std.proofs.Common.{arith, rules, ◌∙◌}
 
--- work_items (src/turns.rt): works the items of a walk that are left, up to its end
+-- work_items (src/turns.rt). Works the items of a walk that are left, up to its end.
 
 pub loop-walk-init : goal.loop-walk-init
 loop-walk-init g c = record {

@@ -7,7 +7,7 @@ use Rattle.drv_system.specs.Code.Asked.{Asked}
 use Rattle.drv_system.specs.Facts.{Facts}
 use Rattle.std.proofs.Common.{length, ◌-◌, ◌≡◌}
 
--- the loops of work_items (src/turns.rt): works the items of a walk that are left, up to its end
+-- The loops of work_items (src/turns.rt). Works the items of a walk that are left, up to its end.
 
 abbrev pub invariant-loop-walk : goal.invariant-loop-walk
 invariant-loop-walk g l = record {

@@ -3,7 +3,7 @@ use Rattle.drv_machine.proofs.TurnSteps.{lain_after, plain_item, turn_plain, tur
 use Rattle.drv_machine.proofs.turns.work_plain.Goals as goal
 use Rattle.std.proofs.Common.{Ok, arith, rules, ◌∙◌}
 
--- work_plain (src/turns.rt): works the plain bytes from the place that is reached, up to another item or the end of the innermost part
+-- work_plain (src/turns.rt). Works the plain bytes from the place that is reached, up to another item or the end of the innermost part.
 
 pub token_at-token-requires : goal.token_at-token-requires
 token_at-token-requires c =

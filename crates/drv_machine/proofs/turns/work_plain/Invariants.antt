@@ -6,8 +6,8 @@ use Rattle.drv_machine.specs.Working.{Answer}
 use Rattle.drv_system.specs.Facts.{Facts}
 use Rattle.std.proofs.Common.{length, ◌-◌, ◌≡◌, ◌≤◌}
 
--- the loops of work_plain (src/turns.rt): works the plain bytes from the place that is reached, up to another item or the end of the
--- innermost part
+-- The loops of work_plain (src/turns.rt). Works the plain bytes from the place that is reached, up to another item or the end of the
+-- innermost part.
 
 abbrev pub invariant-loop-walk : goal.invariant-loop-walk
 invariant-loop-walk l = record {

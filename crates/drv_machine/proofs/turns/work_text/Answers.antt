@@ -9,7 +9,7 @@ use Rattle.drv_syntax.specs.Parsed.{tree_of}
 use Rattle.drv_system.specs.Facts.{no_facts}
 use Rattle.std.proofs.Common.{[], ap, length}
 
--- work_text (src/turns.rt): works a whole text
+-- work_text (src/turns.rt). Works a whole text.
 
 pub work_items-requires-clause-lain : goal.work_items-requires-clause-lain
 work_items-requires-clause-lain g c =

@@ -10,7 +10,7 @@ use Rattle.drv_system.proofs.AskedCalls.{asked_further, extends_before}
 use Rattle.drv_system.specs.Gives.{GivesKnown}
 use Rattle.std.proofs.Common.{ap, rules, subst, sym}
 
--- finish (src/whole.rt): works the whole text, and judges what was cut
+-- finish (src/whole.rt). Works the whole text, and judges what was cut.
 
 pub returns-in_err-work_whole-clause-does : goal.returns-in_err-work_whole-clause-does
 returns-in_err-work_whole-clause-does g c F e =

@@ -8,7 +8,7 @@ use Rattle.drv_system.proofs.AskedCalls.{asked_further, extends_before}
 use Rattle.drv_system.specs.Gives.{GivesKnown}
 use Rattle.std.proofs.Common.{[], rules, subst, sym, ◌∷◌}
 
--- work_whole (src/whole.rt): works the whole text, whose end ends its last command
+-- work_whole (src/whole.rt). Works the whole text, whose end ends its last command.
 
 pub returns-in_err-work_text-clause-does : goal.returns-in_err-work_text-clause-does
 returns-in_err-work_text-clause-does g c F e =

@@ -11,7 +11,7 @@ use Rattle.drv_system.specs.Gives.{GivesKnown}
 use Rattle.std.proofs.Common.{ap, false, length, subst, sym, ◌∙◌}
 use Rattle.std.proofs.lemmas.List.{length-map}
 
--- worked (src/whole.rt): a spec text worked to its end
+-- worked (src/whole.rt). A spec text worked to its end.
 
 pub finish-requires : goal.finish-requires
 finish-requires g c =

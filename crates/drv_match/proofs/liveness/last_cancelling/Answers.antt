@@ -4,7 +4,7 @@ use Rattle.drv_match.specs.Code.Indexed.{positive}
 use Rattle.drv_match.specs.Matching.{has_negative, is_level, negative}
 use Rattle.std.proofs.Common.{◌≡◌, None, Some, false, rules, true}
 
--- last_cancelling (src/liveness.rt): the place of the last switch that cancels this name, or 0 if there is none
+-- last_cancelling (src/liveness.rt). The place of the last switch that cancels this name, or 0 if there is none.
 
 pub returns-then-not-branch : goal.returns-then-not-branch
 returns-then-not-branch c =

@@ -4,7 +4,7 @@ use Rattle.std.proofs.Common.{◌∙◌, ◌-◌, ◌<◌, ap, arith, get_or, na
 use Rattle.std.proofs.lemmas.List.Sorted.{IsPartitionPoint-from_clause}
 use Rattle.std.specs.Cmp.Lexicographic.{pointwise}
 
--- last_named (src/liveness.rt): the place of the last switch of this name, or 0 if there is none
+-- last_named (src/liveness.rt). The place of the last switch of this name, or 0 if there is none.
 
 pub returns-then-end-eq0 : goal.returns-then-end-eq0
 returns-then-end-eq0 c = named_none c.args.names.now c.args.order.now c.args.name.now c.partition_point-end.result c.requires

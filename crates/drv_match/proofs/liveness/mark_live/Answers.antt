@@ -8,7 +8,7 @@ use Rattle.std.proofs.Common.{◌≡◌, ◌<◌, ◌+◌, ◌-◌, ◌∙◌, a
 use Rattle.std.specs.Cmp.Lexicographic.{pointwise}
 use Rattle.std.proofs.lemmas.Grind.{common_steps}
 
--- mark_live (src/liveness.rt): sets the flags of the live switches
+-- mark_live (src/liveness.rt). Sets the flags of the live switches.
 
 pub index_mut-requires : goal.index_mut-requires
 index_mut-requires c =

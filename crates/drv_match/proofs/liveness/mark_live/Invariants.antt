@@ -3,7 +3,7 @@ use Rattle.drv_match.specs.Matching.{cancels, is_live, name_at}
 use Rattle.drv_match.proofs.liveness.mark_live.Given as goal
 use Rattle.std.proofs.Common.{◌≡◌, ◌-◌, ◌<◌, false, get_or, length, ℕ}
 
--- the loops of mark_live (src/liveness.rt): sets the flags of the live switches
+-- The loops of mark_live (src/liveness.rt). Sets the flags of the live switches.
 
 abbrev pub invariant-loop-k : goal.invariant-loop-k
 invariant-loop-k l = record {

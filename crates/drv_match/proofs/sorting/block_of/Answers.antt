@@ -3,7 +3,7 @@ use Rattle.drv_match.proofs.sorting.block_of.Goals as goal
 use Rattle.std.proofs.Common.{rules}
 use Rattle.std.proofs.lemmas.List.Sorted.{IsPartitionPoint-from_clause}
 
--- block_of (src/sorting.rt): the block that the pattern names in the places by name: its start, and the end after it
+-- block_of (src/sorting.rt). The block that the pattern names in the places by name: its start, and the end after it.
 
 pub returns : goal.returns
 returns c =

@@ -7,7 +7,7 @@ use Rattle.std.proofs.lemmas.Result.{IfOk-at_ok}
 use Rattle.std.specs.List.{range_with_len}
 use Rattle.std.specs.Ordering.{is_lt}
 
--- places_by_name (src/sorting.rt): all places of these names, by name, then by place
+-- places_by_name (src/sorting.rt). All places of these names, by name, then by place.
 
 pub returns : goal.returns
 returns c =

@@ -5,7 +5,7 @@ use Rattle.std.proofs.lemmas.Iterator.Consumers.{YieldsList-from_filter, count_f
 use Rattle.std.proofs.lemmas.Iterator.{YieldsList-from_slice}
 use Rattle.std.specs.Slice.Iter.{iter_rest}
 
--- count_newlines (src/lines.rt): how many newlines there are
+-- count_newlines (src/lines.rt). How many newlines there are.
 
 pub returns-clause-is : goal.returns-clause-is
 returns-clause-is c =

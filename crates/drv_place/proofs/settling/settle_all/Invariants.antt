@@ -2,7 +2,7 @@ use Rattle.drv_place.proofs.settling.settle_all.Given as goal
 use Rattle.drv_place.specs.Settling.{marked_from, nothing}
 use Rattle.std.proofs.Common.{◌≡◌, drop}
 
--- the loops of settle_all (src/settling.rt): the bytes that are left of a text, and the place of each
+-- The loops of settle_all (src/settling.rt). The bytes that are left of a text, and the place of each.
 
 abbrev pub invariant-loop-byte : goal.invariant-loop-byte
 invariant-loop-byte l = record {

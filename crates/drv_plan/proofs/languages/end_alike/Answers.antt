@@ -2,7 +2,7 @@ use Rattle.drv_plan.proofs.Ends.{not_alike, some_there}
 use Rattle.drv_plan.proofs.languages.end_alike.Goals as goal
 use Rattle.std.proofs.Common.{◌-◌, get_or, length, refl}
 
--- end_alike (src/languages.rt): whether two texts have the same last byte, or one is empty
+-- end_alike (src/languages.rt). Whether two texts have the same last byte, or one is empty.
 
 pub returns : goal.returns
 returns c differ =

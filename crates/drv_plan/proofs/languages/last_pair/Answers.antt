@@ -5,7 +5,7 @@ use Rattle.drv_plan.specs.Code.Looking.{fits}
 use Rattle.drv_specs.specs.Sets.{is_no_text, worked_text}
 use Rattle.std.proofs.Common.{◌∙◌, None, Some, ap, if◌then◌else◌, option_and_then, sym}
 
--- last_pair (src/languages.rt): the meaning of the last pair whose key fits
+-- last_pair (src/languages.rt). The meaning of the last pair whose key fits.
 
 pub pair_meaning-requires : goal.pair_meaning-requires
 pair_meaning-requires c =

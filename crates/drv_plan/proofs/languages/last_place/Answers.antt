@@ -4,7 +4,7 @@ use Rattle.drv_plan.specs.Languages.{last_text}
 use Rattle.drv_plan.specs.Code.Looking.{fits}
 use Rattle.std.proofs.Common.{◌-◌, ◌∙◌, ap, arith, sym}
 
--- last_place (src/languages.rt): the index of the last pair whose key fits
+-- last_place (src/languages.rt). The index of the last pair whose key fits.
 
 pub returns-then-fits : goal.returns-then-fits
 returns-then-fits c =

@@ -3,7 +3,7 @@ use Rattle.drv_plan.specs.Languages.{last_text}
 use Rattle.drv_plan.specs.Code.Looking.{fits}
 use Rattle.std.proofs.Common.{◌≡◌, ◌≤◌, length, take}
 
--- the loops of last_place (src/languages.rt): the index of the last pair whose key fits
+-- The loops of last_place (src/languages.rt). The index of the last pair whose key fits.
 
 abbrev pub decreases-loop-left : goal.decreases-loop-left
 decreases-loop-left l = l.left

@@ -2,8 +2,8 @@ use Rattle.drv_plan.proofs.Reloaded.{denoted_doubled}
 use Rattle.drv_plan.proofs.laws.reload_law.Goals as goal
 use Rattle.drv_specs.specs.Dumping.{doubled}
 
--- reload_law (src/laws.rt): a law: loading the dump of a set over that set changes no plan, unless a named text begins with `+` and a
--- blank, since such a text would be read as an addition
+-- reload_law (src/laws.rt). A law: loading the dump of a set over that set changes no plan, unless a named text begins with `+` and a
+-- blank, since such a text would be read as an addition.
 
 pub returns : goal.returns
 returns c plain F prefixes =

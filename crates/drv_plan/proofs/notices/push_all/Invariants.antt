@@ -2,7 +2,7 @@ use Rattle.drv_plan.proofs.notices.push_all.Given as goal
 use Rattle.drv_plan.specs.Denoted.{between}
 use Rattle.std.proofs.Common.{◌≡◌, ◌++◌, drop, map}
 
--- the loops of push_all (src/notices.rt): adds each of these words, put between two texts
+-- The loops of push_all (src/notices.rt). Adds each of these words, put between two texts.
 
 abbrev pub invariant-loop-word : goal.invariant-loop-word
 invariant-loop-word l = l.list ++ map (between l.before l.after) (drop l.word-index l.words) ≡ l.fn.list

@@ -1,7 +1,7 @@
 use Rattle.drv_plan.proofs.Steps.{plan_finished}
 use Rattle.drv_plan.proofs.planning.finish.Goals as goal
 
--- finish (src/planning.rt): the plan, once all inputs are done
+-- finish (src/planning.rt). The plan, once all inputs are done.
 
 pub returns-clause-works : goal.returns-clause-works
 returns-clause-works g c F e =

@@ -3,7 +3,7 @@ use Rattle.drv_plan.proofs.planning.link_of.Goals as goal
 use Rattle.drv_plan.specs.Denoted.{with_link, with_text}
 use Rattle.std.proofs.Common.{Some, refl}
 
--- link_of (src/planning.rt): the link, if there is something to link and a text for it
+-- link_of (src/planning.rt). The link, if there is something to link and a text for it.
 
 pub returns-in-Some-clause-works : goal.returns-in-Some-clause-works
 returns-in-Some-clause-works g c F e =

@@ -5,8 +5,8 @@ use Rattle.drv_system.proofs.AskedCalls.{extends_before}
 use Rattle.drv_system.specs.Asking.{Extends}
 use Rattle.std.proofs.Common.{rules}
 
--- plan (src/planning.rt): the plan of a line with its specs: each source, with the text of its language, in the order of the line, and the
--- link, if there is one (GCC manual, "Overall Options" and "Spec Files")
+-- plan (src/planning.rt). The plan of a line with its specs: each source, with the text of its language, in the order of the line, and the
+-- link, if there is one (GCC manual, "Overall Options" and "Spec Files").
 
 pub returns-clause-plans : goal.returns-clause-plans
 returns-clause-plans g c F e =

@@ -3,7 +3,7 @@ use Rattle.drv_plan.proofs.planning.plan_inputs.Goals as goal
 use Rattle.drv_plan.specs.Denoted.{finished, then_by, with_inputs}
 use Rattle.drv_system.proofs.AskedCalls.{extends_before}
 
--- plan_inputs (src/planning.rt): the plan of the inputs after those that are done
+-- plan_inputs (src/planning.rt). The plan of the inputs after those that are done.
 
 pub returns-in_err-add_inputs-clause-works : goal.returns-in_err-add_inputs-clause-works
 returns-in_err-add_inputs-clause-works g c F e =

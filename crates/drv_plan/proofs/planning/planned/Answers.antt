@@ -2,7 +2,7 @@ use Rattle.drv_plan.proofs.Steps.{given_alike, plan_begun}
 use Rattle.drv_plan.proofs.planning.planned.Goals as goal
 use Rattle.drv_plan.specs.Denoted.{finished, planned, then_by, with_inputs}
 
--- planned (src/planning.rt): the plan of inputs, in this context
+-- planned (src/planning.rt). The plan of inputs, in this context.
 
 pub returns-clause-works : goal.returns-clause-works
 returns-clause-works g c F e =

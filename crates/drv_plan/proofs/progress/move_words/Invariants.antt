@@ -1,7 +1,7 @@
 use Rattle.drv_plan.proofs.progress.move_words.Given as goal
 use Rattle.std.proofs.Common.{◌≡◌, ◌++◌}
 
--- the loops of move_words (src/progress.rt): moves words to the end of a list
+-- The loops of move_words (src/progress.rt). Moves words to the end of a list.
 
 abbrev pub invariant-loop-word : goal.invariant-loop-word
 invariant-loop-word l = l.list ≡ l.initial.list ++ l.yielded

@@ -4,7 +4,7 @@ use Rattle.drv_plan.specs.Denoted.{with_file, with_source}
 use Rattle.drv_plan.specs.Languages.{Chosen}
 use Rattle.std.proofs.Common.{Ok, ap, ◌∙◌}
 
--- add_file (src/sources.rt): adds a file: runs its text, or leaves it to the linker
+-- add_file (src/sources.rt). Adds a file: runs its text, or leaves it to the linker.
 
 pub returns-clause-works : goal.returns-clause-works
 returns-clause-works g c F e =

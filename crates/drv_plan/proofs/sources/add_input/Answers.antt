@@ -4,7 +4,7 @@ use Rattle.drv_plan.proofs.sources.add_input.Goals as goal
 use Rattle.drv_plan.specs.Denoted.{with_file, with_input}
 use Rattle.std.proofs.Common.{Ok, rules}
 
--- add_input (src/sources.rt): adds an input: a file in its language, or a word for the link, which has none
+-- add_input (src/sources.rt). Adds an input: a file in its language, or a word for the link, which has none.
 
 pub returns-in_err-chosen-in-File-clause-apart : goal.returns-in_err-chosen-in-File-clause-apart
 returns-in_err-chosen-in-File-clause-apart g c =

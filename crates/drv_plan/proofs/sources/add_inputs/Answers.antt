@@ -3,7 +3,7 @@ use Rattle.drv_plan.proofs.sources.add_inputs.Goals as goal
 use Rattle.drv_plan.specs.Denoted.{with_inputs}
 use Rattle.drv_system.proofs.AskedCalls.{asked_further, extends_before}
 
--- add_inputs (src/sources.rt): adds the inputs of a line in order
+-- add_inputs (src/sources.rt). Adds the inputs of a line in order.
 
 pub returns-in_err-add_input-clause-works : goal.returns-in_err-add_input-clause-works
 returns-in_err-add_input-clause-works g c F e =

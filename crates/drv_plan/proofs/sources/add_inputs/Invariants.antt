@@ -5,7 +5,7 @@ use Rattle.drv_system.specs.Code.Asked.{Asked}
 use Rattle.drv_system.specs.Facts.{Facts}
 use Rattle.std.proofs.Common.{◌≡◌, drop}
 
--- the loops of add_inputs (src/sources.rt): adds the inputs of a line in order
+-- The loops of add_inputs (src/sources.rt). Adds the inputs of a line in order.
 
 abbrev pub invariant-loop-place : goal.invariant-loop-place
 invariant-loop-place g l = record {

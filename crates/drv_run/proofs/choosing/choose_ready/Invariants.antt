@@ -1,8 +1,8 @@
 use Rattle.drv_run.proofs.choosing.choose_ready.Given as goal
 use Rattle.std.proofs.Common.{◌≡◌, ◌≤◌}
 
--- the loops of choose_ready (src/choosing.rt): has the first source go on, of those that may, whose next step is no wait for a child that
--- has not ended
+-- The loops of choose_ready (src/choosing.rt). Has the first source go on, of those that may, whose next step is no wait for a child that
+-- has not ended.
 
 abbrev pub invariant-loop-choice : goal.invariant-loop-choice
 invariant-loop-choice g l = record {

@@ -2,8 +2,8 @@ use Rattle.drv_core.specs.Choices.{ChoicesAre}
 use Rattle.drv_run.proofs.choosing.choose_source.Given as goal
 use Rattle.std.proofs.Common.{◌≡◌, ◌≤◌}
 
--- the loops of choose_source (src/choosing.rt): has a source go on that need not wait, where several may; where each would wait, the one
--- whose child is the first to end
+-- The loops of choose_source (src/choosing.rt). Has a source go on that need not wait, where several may; where each would wait, the one
+-- whose child is the first to end.
 
 abbrev pub invariant-loop : goal.invariant-loop
 invariant-loop g l = record {

@@ -6,7 +6,7 @@ use Rattle.drv_system.proofs.AskedCalls.{asked_further}
 use Rattle.drv_system.proofs.Asking.{asks_extends, extends_then}
 use Rattle.std.proofs.Common.{refl}
 
--- load_files (src/deciding.rt): a set with files of specs loaded, in their order
+-- load_files (src/deciding.rt). A set with files of specs loaded, in their order.
 
 pub returns-in_err-loaded-clause-loads : goal.returns-in_err-loaded-clause-loads
 returns-in_err-loaded-clause-loads g c F e =

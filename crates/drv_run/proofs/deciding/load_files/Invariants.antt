@@ -5,7 +5,7 @@ use Rattle.drv_system.specs.Code.Asked.{Asked}
 use Rattle.drv_system.specs.Facts.{Facts}
 use Rattle.std.proofs.Common.{◌≡◌, drop}
 
--- the loops of load_files (src/deciding.rt): a set with files of specs loaded, in their order
+-- The loops of load_files (src/deciding.rt). A set with files of specs loaded, in their order.
 
 abbrev pub invariant-loop-name : goal.invariant-loop-name
 invariant-loop-name g l = record {

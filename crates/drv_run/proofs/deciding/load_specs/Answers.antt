@@ -5,7 +5,7 @@ use Rattle.drv_system.proofs.Asking.{asks_then}
 use Rattle.drv_system.specs.Asking.{Extends}
 use Rattle.std.proofs.Common.{rules}
 
--- load_specs (src/deciding.rt): the specs of a line over a set: what the files of `-specs=` make of it, in the line's order
+-- load_specs (src/deciding.rt). The specs of a line over a set: what the files of `-specs=` make of it, in the line's order.
 
 pub returns-clause-loads : goal.returns-clause-loads
 returns-clause-loads g c F e =

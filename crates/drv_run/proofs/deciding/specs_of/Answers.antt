@@ -2,7 +2,7 @@ use Rattle.drv_run.proofs.Files.{builtin_given}
 use Rattle.drv_run.proofs.deciding.specs_of.Goals as goal
 use Rattle.std.proofs.Common.{refl}
 
--- specs_of (src/deciding.rt): the specs of a line: the built-in ones, and what the files of `-specs=` make of them
+-- specs_of (src/deciding.rt). The specs of a line: the built-in ones, and what the files of `-specs=` make of them.
 
 pub returns-clause-loads : goal.returns-clause-loads
 returns-clause-loads g c F e = builtin_given F c.args.settings.now c.in_ok-set.set c.load_specs.result c.in_ok-set.ensures

@@ -4,8 +4,8 @@ use Rattle.drv_run.proofs.Steps.{few_window, work_dumped, work_planned, work_ref
 use Rattle.drv_run.proofs.deciding.work_of.Goals as goal
 use Rattle.drv_run.specs.Drives.{work_of}
 
--- work_of (src/deciding.rt): what a line with these specs asks for: their dump, or its plan with what is done with it (GCC manual, "Overall
--- Options", `-dumpspecs` and `-###`)
+-- work_of (src/deciding.rt). What a line with these specs asks for: their dump, or its plan with what is done with it (GCC manual, "Overall
+-- Options", `-dumpspecs` and `-###`).
 
 pub returns-then-line-clause-works : goal.returns-then-line-clause-works
 returns-then-line-clause-works g c F e = work_dumped F c.args.line.now c.args.set.now c.args.seed c.in_ok-dump.field-0 c.if-line.true

@@ -2,8 +2,8 @@ use Rattle.drv_run.proofs.Steps.{reading_ends, words_end}
 use Rattle.drv_system.proofs.AskedCalls.{extends_before}
 use Rattle.drv_run.proofs.deciding.work_of_args.Goals as goal
 
--- work_of_args (src/deciding.rt): what arguments ask for: the words of the line read, spec files loaded, and then the dump of the specs, or
--- the plan of the line with what is done with it
+-- work_of_args (src/deciding.rt). What arguments ask for: the words of the line read, spec files loaded, and then the dump of the specs, or
+-- the plan of the line with what is done with it.
 
 pub returns-in_err-words-clause-comes : goal.returns-in_err-words-clause-comes
 returns-in_err-words-clause-comes g c F e =

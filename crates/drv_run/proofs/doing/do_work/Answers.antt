@@ -1,7 +1,7 @@
 use Rattle.drv_run.proofs.Tellings.{no_pipe_after_dump, no_pipe_after_shown}
 use Rattle.drv_run.proofs.doing.do_work.Goals as goal
 
--- do_work (src/doing.rt): does a work, by a program of this name, and answers the exit status
+-- do_work (src/doing.rt). Does a work, by a program of this name, and answers the exit status.
 
 pub returns-in-Dump-clause-pipe : goal.returns-in-Dump-clause-pipe
 returns-in-Dump-clause-pipe g c =

@@ -1,7 +1,7 @@
 use Rattle.drv_run.proofs.Tellings.{no_pipe_after_announced, no_pipe_after_texts, plan_carried_out}
 use Rattle.drv_run.proofs.doing.run_plan.Goals as goal
 
--- run_plan (src/doing.rt): says the notices of a plan, and its commands if they are asked for, carries it out, and answers the exit status
+-- run_plan (src/doing.rt). Says the notices of a plan, and its commands if they are asked for, carries it out, and answers the exit status.
 
 pub execute-requires-clause-pipe : goal.execute-requires-clause-pipe
 execute-requires-clause-pipe g c =

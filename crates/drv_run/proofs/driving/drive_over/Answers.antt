@@ -2,8 +2,8 @@ use Rattle.drv_run.proofs.Endings.{drove_before, drove_with_work, keeps_before, 
 use Rattle.drv_run.proofs.driving.drive_over.Goals as goal
 use Rattle.std.proofs.Common.{rules}
 
--- drive_over (src/driving.rt): a call of the driver with these arguments (GCC manual, "Overall Options"; after a first argument `--c99`,
--- POSIX c99), over a table that has no answers yet
+-- drive_over (src/driving.rt). A call of the driver with these arguments (GCC manual, "Overall Options"; after a first argument `--c99`,
+-- POSIX c99), over a table that has no answers yet.
 
 pub returns-in-Ok-clause-drove : goal.returns-in-Ok-clause-drove
 returns-in-Ok-clause-drove g c =

@@ -6,8 +6,8 @@ use Rattle.drv_system.specs.Running.{run_of}
 use Rattle.drv_words.specs.Stepping.{can_make, fits}
 use Rattle.std.proofs.Common.{◌≡◌, subst, sym, true}
 
--- execute (src/executing.rt): carries out a plan, with at most `window` of its sources under way at once, and gives the exit status: 0, or
--- that of a failure where a command failed or something was not made or started
+-- execute (src/executing.rt). Carries out a plan, with at most `window` of its sources under way at once, and gives the exit status: 0, or
+-- that of a failure where a command failed or something was not made or started.
 
 pub returns-in-Done-clause-executed : goal.returns-in-Done-clause-executed
 returns-in-Done-clause-executed g c =

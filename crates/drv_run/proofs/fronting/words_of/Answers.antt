@@ -2,7 +2,7 @@ use Rattle.drv_run.proofs.LineWords.{expansion_stops, front_stops, words_given}
 use Rattle.drv_run.proofs.fronting.words_of.Goals as goal
 use Rattle.drv_run.specs.Code.Fronting.{is_of_c99}
 
--- words_of (src/fronting.rt): the words that arguments give
+-- words_of (src/fronting.rt). The words that arguments give.
 
 pub returns-in_err-expanded-clause-gives : goal.returns-in_err-expanded-clause-gives
 returns-in_err-expanded-clause-gives g c F e =

@@ -1,7 +1,7 @@
 use Rattle.drv_run.proofs.OneEnding.{driven_alone, driven_once, refused_for_one}
 use Rattle.drv_run.proofs.laws.one_ending.Goals as goal
 
--- one_ending (src/laws.rt): a law: arguments ask for one work, or they are refused for one reason, and never both
+-- one_ending (src/laws.rt). A law: arguments ask for one work, or they are refused for one reason, and never both.
 
 pub returns-clause-driven : goal.returns-clause-driven
 returns-clause-driven c = driven_once

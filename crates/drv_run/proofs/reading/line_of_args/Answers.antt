@@ -4,7 +4,7 @@ use Rattle.drv_run.proofs.reading.line_of_args.Goals as goal
 use Rattle.drv_run.specs.Drives.{stopped_by_args}
 use Rattle.std.proofs.Common.{Err, refl}
 
--- line_of_args (src/reading.rt): the line of arguments
+-- line_of_args (src/reading.rt). The line of arguments.
 
 pub returns-in_err-words-clause-comes : goal.returns-in_err-words-clause-comes
 returns-in_err-words-clause-comes g c F e =

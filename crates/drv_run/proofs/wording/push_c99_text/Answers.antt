@@ -1,6 +1,6 @@
 use Rattle.drv_run.proofs.wording.push_c99_text.Goals as goal
 
--- push_c99_text (src/wording.rt): adds the text of a fault of a line of `c99`
+-- push_c99_text (src/wording.rt). Adds the text of a fault of a line of `c99`.
 
 pub returns-in-Memory : goal.returns-in-Memory
 returns-in-Memory c = rw c.in-Memory.is c.extend_from_slice.ensures.ok

@@ -4,7 +4,7 @@ use Rattle.drv_search.specs.Search.{folders_under, options_for}
 use Rattle.drv_system.proofs.AskedCalls.{asked_further, extends_before}
 use Rattle.std.proofs.Common.{flat_map}
 
--- push_all (src/folders.rt): adds the options for the folders under prefixes
+-- push_all (src/folders.rt). Adds the options for the folders under prefixes.
 
 pub loop-prefix-preserved : goal.loop-prefix-preserved
 loop-prefix-preserved g c = record {

@@ -6,7 +6,7 @@ use Rattle.drv_system.specs.Facts.{Facts}
 use Rattle.std.proofs.Common.{◌≡◌, drop, flat_map}
 use Rattle.drv_search.proofs.folders.push_all.Given as goal
 
--- the loops of push_all (src/folders.rt): adds the options for the folders under prefixes
+-- The loops of push_all (src/folders.rt). Adds the options for the folders under prefixes.
 
 abbrev pub invariant-loop-prefix : goal.invariant-loop-prefix
 invariant-loop-prefix g l = record {

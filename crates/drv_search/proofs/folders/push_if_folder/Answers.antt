@@ -2,7 +2,7 @@ use Rattle.drv_search.proofs.Options.{no_option, one_option}
 use Rattle.drv_search.proofs.folders.push_if_folder.Goals as goal
 use Rattle.std.proofs.Common.{◌∙◌, sym}
 
--- push_if_folder (src/folders.rt): adds the option for a path, if it is a folder
+-- push_if_folder (src/folders.rt). Adds the option for a path, if it is a folder.
 
 pub returns-then-not-is_dir-clause-option : goal.returns-then-not-is_dir-clause-option
 returns-then-not-is_dir-clause-option g c F e =

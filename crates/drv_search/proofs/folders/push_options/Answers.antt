@@ -3,7 +3,7 @@ use Rattle.drv_system.proofs.AskedCalls.{extends_before}
 use Rattle.drv_search.proofs.folders.push_options.Goals as goal
 use Rattle.std.proofs.Common.{◌∙◌, sym}
 
--- push_options (src/folders.rt): adds the options for the folders under a prefix
+-- push_options (src/folders.rt). Adds the options for the folders under a prefix.
 
 pub returns-then-not-ends_with_slash-clause-options : goal.returns-then-not-ends_with_slash-clause-options
 returns-then-not-ends_with_slash-clause-options g c F e =

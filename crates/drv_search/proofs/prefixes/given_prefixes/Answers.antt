@@ -2,7 +2,7 @@ use Rattle.drv_search.proofs.Candidates.{prefix_more}
 use Rattle.drv_system.proofs.AskedCalls.{asked_further, extends_before}
 use Rattle.drv_search.proofs.prefixes.given_prefixes.Goals as goal
 
--- given_prefixes (src/prefixes.rt): the prefixes for the arguments of `-B`
+-- given_prefixes (src/prefixes.rt). The prefixes for the arguments of `-B`.
 
 pub loop-dir-preserved : goal.loop-dir-preserved
 loop-dir-preserved g c = record {

@@ -6,7 +6,7 @@ use Rattle.drv_system.specs.Facts.{Facts}
 use Rattle.std.proofs.Common.{◌≡◌, drop}
 use Rattle.drv_search.proofs.prefixes.given_prefixes.Given as goal
 
--- the loops of given_prefixes (src/prefixes.rt): the prefixes for the arguments of `-B`
+-- The loops of given_prefixes (src/prefixes.rt). The prefixes for the arguments of `-B`.
 
 abbrev pub invariant-loop-dir : goal.invariant-loop-dir
 invariant-loop-dir g l = record {

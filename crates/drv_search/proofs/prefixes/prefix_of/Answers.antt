@@ -3,7 +3,7 @@ use Rattle.drv_search.proofs.prefixes.prefix_of.Goals as goal
 use Rattle.drv_search.specs.Search.{is_prefix}
 use Rattle.std.proofs.Common.{◌∙◌, ap, sym}
 
--- prefix_of (src/prefixes.rt): the prefix for an argument of `-B`
+-- prefix_of (src/prefixes.rt). The prefix for an argument of `-B`.
 
 pub returns-clause-prefix : goal.returns-clause-prefix
 returns-clause-prefix g c F e = prefix_given F c.args.dir.now c.in_ok-kind.kind c.as_prefix.result (ap is_prefix (sym c.as_bytes.ensures)

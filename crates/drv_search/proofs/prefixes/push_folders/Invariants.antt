@@ -1,7 +1,7 @@
 use Rattle.std.proofs.Common.{◌≡◌, ◌++◌, drop, map}
 use Rattle.drv_search.proofs.prefixes.push_folders.Given as goal
 
--- the loops of push_folders (src/prefixes.rt): adds folders at the end
+-- The loops of push_folders (src/prefixes.rt). Adds folders at the end.
 
 abbrev pub invariant-loop-folder : goal.invariant-loop-folder
 invariant-loop-folder l = l.prefixes ++ map (λ folder. folder.now) (drop l.folder-index l.folders) ≡ l.fn.prefixes

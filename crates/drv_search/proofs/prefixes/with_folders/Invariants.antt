@@ -1,7 +1,7 @@
 use Rattle.std.proofs.Common.{◌≡◌, ◌++◌, drop}
 use Rattle.drv_search.proofs.prefixes.with_folders.Given as goal
 
--- the loops of with_folders (src/prefixes.rt): these prefixes, followed by the folders
+-- The loops of with_folders (src/prefixes.rt). These prefixes, followed by the folders.
 
 abbrev pub invariant-loop-prefix : goal.invariant-loop-prefix
 invariant-loop-prefix l = l.prefixes ++ drop l.prefix-index l.given ≡ l.given

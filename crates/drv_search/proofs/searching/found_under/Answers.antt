@@ -2,7 +2,7 @@ use Rattle.drv_search.proofs.Candidates.{under_second}
 use Rattle.drv_system.proofs.AskedCalls.{extends_before}
 use Rattle.drv_search.proofs.searching.found_under.Goals as goal
 
--- found_under (src/searching.rt): the file under one prefix: in the folder of the machine, or else in the prefix itself
+-- found_under (src/searching.rt). The file under one prefix: in the folder of the machine, or else in the prefix itself.
 
 pub returns-clause-hit : goal.returns-clause-hit
 returns-clause-hit g c F e =

@@ -3,7 +3,7 @@ use Rattle.drv_system.proofs.AskedCalls.{asked_further, extends_before}
 use Rattle.drv_search.proofs.searching.search.Goals as goal
 use Rattle.std.proofs.Common.{◌∙◌, sym}
 
--- search (src/searching.rt): the first file under these prefixes
+-- search (src/searching.rt). The first file under these prefixes.
 
 pub returns-in-Some-clause-hit : goal.returns-in-Some-clause-hit
 returns-in-Some-clause-hit g c F e =

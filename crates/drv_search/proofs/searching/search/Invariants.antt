@@ -5,7 +5,7 @@ use Rattle.drv_system.specs.Facts.{Facts}
 use Rattle.std.proofs.Common.{◌≡◌, drop}
 use Rattle.drv_search.proofs.searching.search.Given as goal
 
--- the loops of search (src/searching.rt): the first file under these prefixes
+-- The loops of search (src/searching.rt). The first file under these prefixes.
 
 abbrev pub invariant-loop-prefix : goal.invariant-loop-prefix
 invariant-loop-prefix g l = record {

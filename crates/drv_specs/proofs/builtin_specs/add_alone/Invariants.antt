@@ -4,7 +4,7 @@ use Rattle.drv_specs.specs.Code.Tables.{all_added, pair_shown}
 use Rattle.std.proofs.Common.{◌≡◌, drop, map}
 use Rattle.std.specs.List.{filter}
 
--- the loops of add_alone (src/builtin_specs.rt): adds those pairs of rows that have no text to run
+-- The loops of add_alone (src/builtin_specs.rt). Adds those pairs of rows that have no text to run.
 
 abbrev pub invariant-loop-row : goal.invariant-loop-row
 invariant-loop-row l = all_added l.entries (filter has_no_text (map pair_shown (drop l.row-index l.rows)))

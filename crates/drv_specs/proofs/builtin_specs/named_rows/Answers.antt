@@ -2,7 +2,7 @@ use Rattle.drv_specs.proofs.builtin_specs.named_rows.Goals as goal
 use Rattle.drv_specs.specs.Builtin.{builtin_named}
 use Rattle.std.proofs.Common.{refl}
 
--- named_rows (src/builtin_specs.rt): the named texts
+-- named_rows (src/builtin_specs.rt). The named texts.
 
 pub returns : goal.returns
 unfolding builtin_named

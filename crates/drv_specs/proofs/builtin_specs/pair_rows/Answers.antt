@@ -2,7 +2,7 @@ use Rattle.drv_specs.proofs.builtin_specs.pair_rows.Goals as goal
 use Rattle.drv_specs.specs.Builtin.{builtin_pairs}
 use Rattle.std.proofs.Common.{refl}
 
--- pair_rows (src/builtin_specs.rt): the suffixes and the languages
+-- pair_rows (src/builtin_specs.rt). The suffixes and the languages.
 
 pub returns : goal.returns
 unfolding builtin_pairs

@@ -3,7 +3,7 @@ use Rattle.drv_specs.proofs.bytes.without_blanks.Goals as goal
 use Rattle.drv_specs.specs.Blanks.{is_blank}
 use Rattle.std.proofs.Common.{length, refl}
 
--- without_blanks (src/bytes.rt): a text without the blanks at its front
+-- without_blanks (src/bytes.rt). A text without the blanks at its front.
 
 pub returns-clause-bytes : goal.returns-clause-bytes
 returns-clause-bytes c = front_by is_blank c.args.text.now c.following.result.now c.first_solid.result

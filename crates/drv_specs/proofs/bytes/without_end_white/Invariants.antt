@@ -3,7 +3,7 @@ use Rattle.drv_specs.specs.Lines.{without_end}
 use Rattle.std.proofs.Common.{◌≡◌, ◌≤◌, length, take}
 use Rattle.drv_specs.proofs.bytes.without_end_white.Given as goal
 
--- the loops of without_end_white (src/bytes.rt): a text without the white space at its end
+-- The loops of without_end_white (src/bytes.rt). A text without the white space at its end.
 
 abbrev pub invariant-loop-end : goal.invariant-loop-end
 invariant-loop-end l = record {

@@ -3,7 +3,7 @@ use Rattle.drv_specs.proofs.bytes.without_white.Goals as goal
 use Rattle.drv_specs.specs.Blanks.{is_white}
 use Rattle.std.proofs.Common.{length, refl}
 
--- without_white (src/bytes.rt): a text without the white space at its front
+-- without_white (src/bytes.rt). A text without the white space at its front.
 
 pub returns : goal.returns
 returns c = front_by is_white c.args.text.now c.following.result.now c.first_black.result

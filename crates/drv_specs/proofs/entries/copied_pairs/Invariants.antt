@@ -1,7 +1,7 @@
 use Rattle.std.proofs.Common.{◌≡◌, ◌++◌, drop}
 use Rattle.drv_specs.proofs.entries.copied_pairs.Given as goal
 
--- the loops of copied_pairs (src/entries.rt): copies of pairs
+-- The loops of copied_pairs (src/entries.rt). Copies of pairs.
 
 abbrev pub invariant-loop-key : goal.invariant-loop-key
 invariant-loop-key l = l.copies ++ drop l.key-index l.pairs ≡ l.pairs

@@ -1,7 +1,7 @@
 use Rattle.std.proofs.Common.{◌≡◌, ◌++◌, drop}
 use Rattle.drv_specs.proofs.entries.copied_texts.Given as goal
 
--- the loops of copied_texts (src/entries.rt): copies of texts
+-- The loops of copied_texts (src/entries.rt). Copies of texts.
 
 abbrev pub invariant-loop-text : goal.invariant-loop-text
 invariant-loop-text l = l.copies.items ++ drop l.text-index l.texts ≡ l.texts

@@ -1,7 +1,7 @@
 use Rattle.drv_specs.proofs.Keeping.{file_loaded_keeps, loaded_keeps}
 use Rattle.drv_specs.proofs.laws.loading_keeps.Goals as goal
 
--- loading_keeps (src/laws.rt): the law that what every set keeps is kept by loading a text or a file
+-- loading_keeps (src/laws.rt). The law that what every set keeps is kept by loading a text or a file.
 
 pub returns-clause-texts : goal.returns-clause-texts
 returns-clause-texts c = loaded_keeps

@@ -8,7 +8,7 @@ use Rattle.drv_words.specs.Bytes.{newline}
 use Rattle.std.proofs.Common.{◌≡◌, ◌+◌, ◌∷◌, ◌++◌, ◌∙◌, ap, arith, drop, flat_map, length, length-append, sym, take, true}
 use Rattle.std.proofs.lemmas.List.{append-nil}
 
--- cut_body (src/lines.rt): the lines up to the next one that is empty
+-- cut_body (src/lines.rt). The lines up to the next one that is empty.
 
 pub loop-line-preserved : goal.loop-line-preserved
 loop-line-preserved c =

@@ -5,7 +5,7 @@ use Rattle.drv_specs.specs.Code.Slices.{lines_from}
 use Rattle.std.proofs.Common.{◌∙◌, ap, false, sym, true}
 use Rattle.std.specs.Option.{option_map}
 
--- full_line (src/lines.rt): the next line and those after it, unless it is empty or has blanks alone, or there is none
+-- full_line (src/lines.rt). The next line and those after it, unless it is empty or has blanks alone, or there is none.
 
 pub returns-then-is_empty_line-clause-none : goal.returns-then-is_empty_line-clause-none
 returns-then-is_empty_line-clause-none c =

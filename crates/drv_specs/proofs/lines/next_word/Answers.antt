@@ -3,7 +3,7 @@ use Rattle.drv_specs.proofs.lines.next_word.Goals as goal
 use Rattle.drv_specs.specs.Lines.{words_of}
 use Rattle.std.proofs.Common.{◌∷◌, ◌∙◌, ap, sym, take}
 
--- next_word (src/lines.rt): a text's first word, cut at blanks, and what follows it
+-- next_word (src/lines.rt). A text's first word, cut at blanks, and what follows it.
 
 pub returns-then-not-has_byte-clause-none : goal.returns-then-not-has_byte-clause-none
 returns-then-not-has_byte-clause-none c = words_none c.args.text.now c.without_blanks-text.result.now c.without_blanks-text.ensures.bytes

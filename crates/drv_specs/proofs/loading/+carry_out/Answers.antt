@@ -7,7 +7,7 @@ use Rattle.drv_specs.specs.Code.Slices.{shown}
 use Rattle.drv_system.proofs.AskedCalls.{asked_further, extends_before}
 use Rattle.std.proofs.Common.{◌-◌, ap, arith, inr, refl}
 
--- carry_out (src/loading.rt): carries out the directives of a settled text, within which `levels` more files may be nested
+-- carry_out (src/loading.rt). Carries out the directives of a settled text, within which `levels` more files may be nested.
 
 pub returns-then-levels-eq0-clause-asks : goal.returns-then-levels-eq0-clause-asks
 returns-then-levels-eq0-clause-asks g n c = c.loop-directive.invariant.asks

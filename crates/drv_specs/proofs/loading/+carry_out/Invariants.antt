@@ -6,7 +6,7 @@ use Rattle.drv_system.specs.Facts.{Facts}
 use Rattle.std.proofs.Common.{◌≡◌, length}
 use Rattle.drv_specs.proofs.loading.+carry_out.Given as goal
 
--- the loops of carry_out (src/loading.rt): carries out the directives of a settled text, within which `levels` more files may be nested
+-- The loops of carry_out (src/loading.rt). Carries out the directives of a settled text, within which `levels` more files may be nested.
 
 abbrev pub invariant-loop-directive : goal.invariant-loop-directive
 invariant-loop-directive g l = record {

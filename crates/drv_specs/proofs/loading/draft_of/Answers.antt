@@ -4,7 +4,7 @@ use Rattle.drv_specs.specs.Directives.{read_settled}
 use Rattle.drv_specs.specs.Loading.{worked}
 use Rattle.std.proofs.Common.{ap}
 
--- draft_of (src/loading.rt): a copy of entries after the directives of a settled text, which may read `files` more files
+-- draft_of (src/loading.rt). A copy of entries after the directives of a settled text, which may read `files` more files.
 
 pub returns-clause-works : goal.returns-clause-works
 returns-clause-works g c F e =

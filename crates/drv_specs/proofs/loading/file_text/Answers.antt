@@ -4,7 +4,7 @@ use Rattle.drv_search.specs.Search.{file_found}
 use Rattle.drv_system.proofs.Asking.{asks_extends, asks_then, extends_then}
 use Rattle.std.proofs.Common.{◌∙◌, ap, refl, sym}
 
--- file_text (src/loading.rt): what is left of the text that a spec file gives
+-- file_text (src/loading.rt). What is left of the text that a spec file gives.
 
 pub returns-in_err-path-clause-asks : goal.returns-in_err-path-clause-asks
 returns-in_err-path-clause-asks g c = record { asks = c.find_file.ensures.asks; same_sys = refl; same_facts = refl }

@@ -4,7 +4,7 @@ use Rattle.drv_specs.specs.Directives.{read_settled}
 use Rattle.drv_specs.specs.Loading.{worked}
 use Rattle.std.proofs.Common.{refl}
 
--- worked_entries (src/loading.rt): entries after the directives of a settled text, which may read `files` more files
+-- worked_entries (src/loading.rt). Entries after the directives of a settled text, which may read `files` more files.
 
 pub returns-in_err-carry_out-clause-works : goal.returns-in_err-carry_out-clause-works
 returns-in_err-carry_out-clause-works g c F e =

@@ -4,7 +4,7 @@ use Rattle.drv_specs.specs.Code.Keyed.{texts_left}
 use Rattle.std.proofs.Common.{◌∙◌, None, ap, sym}
 use Rattle.std.specs.Option.{option_copied_mut}
 
--- clear_text (src/named_texts.rt): leaves the entry of a name without its text
+-- clear_text (src/named_texts.rt). Leaves the entry of a name without its text.
 
 pub returns-in-Some : goal.returns-in-Some
 returns-in-Some c = ap texts_left (c.get_mut.follows.holds None).0

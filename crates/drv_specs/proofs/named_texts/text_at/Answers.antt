@@ -4,7 +4,7 @@ use Rattle.std.proofs.Common.{◌∙◌, ap, is_some, sym}
 use Rattle.std.specs.Map.Iter.{deref_pair}
 use Rattle.std.specs.Option.{option_flatten, option_map}
 
--- text_at (src/named_texts.rt): the text of a name
+-- text_at (src/named_texts.rt). The text of a name.
 
 pub returns-in_default : goal.returns-in_default
 returns-in_default c = sym (unlisted c.args.name.now c.args.kept.now.entries

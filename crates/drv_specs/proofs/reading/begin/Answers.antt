@@ -6,7 +6,7 @@ use Rattle.std.proofs.Common.{◌≡◌, ◌+◌, ◌-◌, [], ◌∷◌, ◌∙
 use Rattle.std.specs.List.{position}
 use Rattle.std.specs.Option.{option_map}
 
--- begin (src/reading.rt): what the first line of a text begins, which has this number and is in no body
+-- begin (src/reading.rt). What the first line of a text begins, which has this number and is in no body.
 
 number_is : (n : ℕ) → n + 1 - 1 ≡ n
 number_is n = omega arith

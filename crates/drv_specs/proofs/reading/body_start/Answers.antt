@@ -4,7 +4,7 @@ use Rattle.drv_specs.specs.Lines.{lines_of}
 use Rattle.drv_specs.specs.Code.Slices.{bytes_from, lines_left, text_left}
 use Rattle.std.proofs.Common.{◌∙◌, sym}
 
--- body_start (src/reading.rt): where a body begins: after the colon of its line, or, where only blanks follow that, with the next line
+-- body_start (src/reading.rt). Where a body begins: after the colon of its line, or, where only blanks follow that, with the next line.
 
 pub returns-clause-body : goal.returns-clause-body
 returns-clause-body c =

@@ -6,7 +6,7 @@ use Rattle.drv_words.specs.Bytes.{newline}
 use Rattle.std.proofs.Common.{◌+◌, ◌-◌, [], ◌∷◌, ◌++◌, ◌∙◌, ap, sym, take}
 use Rattle.std.specs.List.{join_with_byte}
 
--- with_colon (src/reading.rt): what a line begins that may have a colon: `start` is the line without the blanks at its front
+-- with_colon (src/reading.rt). What a line begins that may have a colon: `start` is the line without the blanks at its front.
 
 pub returns-in_default-clause-directive : goal.returns-in_default-clause-directive
 returns-in_default-clause-directive c =

@@ -4,7 +4,7 @@ use Rattle.drv_specs.specs.Lines.{is_kept, joined_onto, settled}
 use Rattle.std.proofs.Common.{◌∙◌, ap, filter, fold, refl}
 use Rattle.std.specs.Prelude.{slice_index}
 
--- settled (src/settling.rt): what is left of a spec file's text
+-- settled (src/settling.rt). What is left of a spec file's text.
 
 pub loop-at-preserved : goal.loop-at-preserved
 loop-at-preserved c =

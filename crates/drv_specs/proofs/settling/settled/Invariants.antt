@@ -2,7 +2,7 @@ use Rattle.drv_specs.proofs.settling.settled.Given as goal
 use Rattle.drv_specs.specs.Lines.{is_kept, joined_onto, settled}
 use Rattle.std.proofs.Common.{◌≡◌, filter, fold, length}
 
--- the loops of settled (src/settling.rt): what is left of a spec file's text
+-- The loops of settled (src/settling.rt). What is left of a spec file's text.
 
 abbrev pub invariant-loop-at : goal.invariant-loop-at
 invariant-loop-at l = fold joined_onto l.left.items (filter is_kept l.rest) ≡ settled l.text

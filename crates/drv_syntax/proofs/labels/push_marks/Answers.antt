@@ -2,7 +2,7 @@ use Rattle.drv_syntax.proofs.MarkedWords.{marks_step}
 use Rattle.drv_syntax.proofs.labels.push_marks.Goals as goal
 use Rattle.std.proofs.Common.{arith, ◌∙◌}
 
--- push_marks (src/labels.rt): the marks of bytes that follow one another from this place on
+-- push_marks (src/labels.rt). The marks of bytes that follow one another from this place on.
 
 pub loop-byte-preserved : goal.loop-byte-preserved
 loop-byte-preserved c =

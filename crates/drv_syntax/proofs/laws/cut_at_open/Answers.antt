@@ -1,7 +1,7 @@
 use Rattle.drv_syntax.proofs.CutPlaces.{cut_at, cut_there}
 use Rattle.drv_syntax.proofs.laws.cut_at_open.Goals as goal
 
--- cut_at_open (src/laws.rt): a text that is cut short is cut at the place of what is open at its end, and at no other
+-- cut_at_open (src/laws.rt). A text that is cut short is cut at the place of what is open at its end, and at no other.
 
 pub returns-clause-cut : goal.returns-clause-cut
 returns-clause-cut c = cut_at

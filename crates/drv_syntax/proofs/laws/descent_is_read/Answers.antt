@@ -3,8 +3,8 @@ use Rattle.drv_syntax.proofs.laws.descent_is_read.Goals as goal
 use Rattle.drv_syntax.specs.Outcome.{descent}
 use Rattle.std.proofs.Common.{refl}
 
--- descent_is_read (src/laws.rt): the grammar as functions, one for each part of a text, makes of each text what is read of it: its tree,
--- that it is cut short, or the first byte that doesn't fit
+-- descent_is_read (src/laws.rt). The grammar as functions, one for each part of a text, makes of each text what is read of it: its tree,
+-- that it is cut short, or the first byte that doesn't fit.
 
 pub returns-clause-outcome : goal.returns-clause-outcome
 returns-clause-outcome c = λ text. refl

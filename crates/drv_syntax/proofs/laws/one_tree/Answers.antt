@@ -1,7 +1,7 @@
 use Rattle.drv_syntax.proofs.WholeRead.{only_tree}
 use Rattle.drv_syntax.proofs.laws.one_tree.Goals as goal
 
--- one_tree (src/laws.rt): a text has one tree at most
+-- one_tree (src/laws.rt). A text has one tree at most.
 
 pub returns : goal.returns
 returns c = only_tree

@@ -1,8 +1,8 @@
 use Rattle.drv_syntax.proofs.RefusalKinds as kinds
 use Rattle.drv_syntax.proofs.laws.parsed_by_grammar.Goals as goal
 
--- parsed_by_grammar (src/laws.rt): what a text is parsed to, by the grammar: its tree, the fault of its shortest prefix that is no front,
--- that it is cut short, with the place of what it leaves open, or that it is too long
+-- parsed_by_grammar (src/laws.rt). What a text is parsed to, by the grammar: its tree, the fault of its shortest prefix that is no front,
+-- that it is cut short, with the place of what it leaves open, or that it is too long.
 
 pub returns-clause-tree : goal.returns-clause-tree
 returns-clause-tree c = kinds.parsed_tree

@@ -1,7 +1,7 @@
 use Rattle.drv_syntax.proofs.MeantWhole as meant
 use Rattle.drv_syntax.proofs.laws.read_is_spelled.Goals as goal
 
--- read_is_spelled (src/laws.rt): what a text gives is a tree of it
+-- read_is_spelled (src/laws.rt). What a text gives is a tree of it.
 
 pub returns : goal.returns
 returns c = meant.read_is_spelled

@@ -1,8 +1,8 @@
 use Rattle.drv_syntax.proofs.WholeRead as whole
 use Rattle.drv_syntax.proofs.laws.refusal_kinds.Goals as goal
 
--- refusal_kinds (src/laws.rt): a text that ends in the byte that no longer fits is refused at that byte, whatever follows, by the fault of
--- its case
+-- refusal_kinds (src/laws.rt). A text that ends in the byte that no longer fits is refused at that byte, whatever follows, by the fault of
+-- its case.
 
 pub returns : goal.returns
 returns c = whole.refusal_kinds

@@ -1,7 +1,7 @@
 use Rattle.drv_syntax.proofs.Refusals.{refused_after}
 use Rattle.drv_syntax.proofs.laws.refused_after_front.Goals as goal
 
--- refused_after_front (src/laws.rt): a text that has a front, which with the next byte is none, is refused at that byte
+-- refused_after_front (src/laws.rt). A text that has a front, which with the next byte is none, is refused at that byte.
 
 pub returns : goal.returns
 returns c = refused_after

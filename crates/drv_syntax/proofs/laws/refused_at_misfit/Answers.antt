@@ -1,7 +1,7 @@
 use Rattle.drv_syntax.proofs.Misfits.{misfit_at, misfit_refused}
 use Rattle.drv_syntax.proofs.laws.refused_at_misfit.Goals as goal
 
--- refused_at_misfit (src/laws.rt): a text is refused at the byte after its longest prefix that is a front, and at no other
+-- refused_at_misfit (src/laws.rt). A text is refused at the byte after its longest prefix that is a front, and at no other.
 
 pub returns-clause-refused : goal.returns-clause-refused
 returns-clause-refused c = misfit_at

@@ -1,7 +1,7 @@
 use Rattle.drv_syntax.proofs.WholeRead as whole
 use Rattle.drv_syntax.proofs.laws.spelled_is_read.Goals as goal
 
--- spelled_is_read (src/laws.rt): a tree of a text is what the text gives
+-- spelled_is_read (src/laws.rt). A tree of a text is what the text gives.
 
 pub returns : goal.returns
 returns c = whole.spelled_is_read

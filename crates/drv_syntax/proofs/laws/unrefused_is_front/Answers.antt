@@ -1,7 +1,7 @@
 use Rattle.drv_syntax.proofs.MeantWhole as meant
 use Rattle.drv_syntax.proofs.laws.unrefused_is_front.Goals as goal
 
--- unrefused_is_front (src/laws.rt): a text that gives a tree, or is cut short, is a front
+-- unrefused_is_front (src/laws.rt). A text that gives a tree, or is cut short, is a front.
 
 pub returns : goal.returns
 returns c = meant.unrefused_is_front

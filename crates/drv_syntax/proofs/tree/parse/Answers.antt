@@ -3,7 +3,7 @@ use Rattle.drv_syntax.proofs.tree.parse.Goals as goal
 use Rattle.drv_syntax.specs.Code.Parts.{IsRead}
 use Rattle.std.proofs.Common.{arith, subst, sym}
 
--- parse (src/tree.rt): the tree of a text, or its first fault
+-- parse (src/tree.rt). The tree of a text, or its first fault.
 
 pub returns-in_err-read-clause-refused : goal.returns-in_err-read-clause-refused
 returns-in_err-read-clause-refused c =

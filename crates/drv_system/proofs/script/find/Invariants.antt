@@ -3,7 +3,7 @@ use Rattle.std.specs.Cmp.Lexicographic.{pointwise}
 use Rattle.std.specs.Map.{lookup}
 use Rattle.drv_system.proofs.script.find.Given as goal
 
--- the loops of find (src/script.rt): the first value of a key
+-- The loops of find (src/script.rt). The first value of a key.
 
 abbrev pub invariant-loop-item : goal.invariant-loop-item
 invariant-loop-item g l = lookup (pointwise nat_eq l.key) (drop l.item-index l.list) ≡ lookup (pointwise nat_eq l.key) l.fn.list

@@ -2,7 +2,7 @@ use Rattle.drv_why.proofs.fates.push_namings.Given as goal
 use Rattle.drv_why.specs.Fates.{namings_text}
 use Rattle.std.proofs.Common.{◌≡◌, ◌++◌, drop}
 
--- the loops of push_namings (src/fates.rt): adds the lines of the parts that have to do with a switch
+-- The loops of push_namings (src/fates.rt). Adds the lines of the parts that have to do with a switch.
 
 abbrev pub invariant-loop-naming : goal.invariant-loop-naming
 invariant-loop-naming l =

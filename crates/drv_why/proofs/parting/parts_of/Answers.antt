@@ -1,8 +1,8 @@
 use Rattle.drv_why.proofs.Parts.{fewer, next_part, next_place, some_left}
 use Rattle.drv_why.proofs.parting.parts_of.Goals as goal
 
--- parts_of (src/parting.rt): the parts of a line, in their order: an option and the next word, if that is its argument, or a word alone
--- (GCC manual, "Overall Options")
+-- parts_of (src/parting.rt). The parts of a line, in their order: an option and the next word, if that is its argument, or a word alone
+-- (GCC manual, "Overall Options").
 
 pub loop-first-smaller : goal.loop-first-smaller
 loop-first-smaller c =

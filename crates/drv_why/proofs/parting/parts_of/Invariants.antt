@@ -2,8 +2,8 @@ use Rattle.drv_why.proofs.parting.parts_of.Given as goal
 use Rattle.drv_why.specs.Parts.{parts_from, parts_of}
 use Rattle.std.proofs.Common.{◌≡◌, ◌++◌, ◌+◌, length}
 
--- the loops of parts_of (src/parting.rt): the parts of a line, in their order: an option and the next word, if that is its argument, or a
--- word alone (GCC manual, "Overall Options")
+-- The loops of parts_of (src/parting.rt). The parts of a line, in their order: an option and the next word, if that is its argument, or a
+-- word alone (GCC manual, "Overall Options").
 
 abbrev pub invariant-loop-first : goal.invariant-loop-first
 invariant-loop-first l = record {

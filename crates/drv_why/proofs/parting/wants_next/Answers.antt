@@ -1,8 +1,8 @@
 use Rattle.drv_why.proofs.Parts.{lacks, lacks_nothing}
 use Rattle.drv_why.proofs.parting.wants_next.Goals as goal
 
--- wants_next (src/parting.rt): whether a word is an option that takes the next word as its argument: a line of it alone is refused since
--- that is missing
+-- wants_next (src/parting.rt). Whether a word is an option that takes the next word as its argument: a line of it alone is refused since
+-- that is missing.
 
 pub returns-in-Ok : goal.returns-in-Ok
 returns-in-Ok c =

@@ -1,7 +1,7 @@
 use Rattle.drv_words.proofs.copies.copy_words.Given as goal
 use Rattle.std.proofs.Common.{◌≡◌, ◌++◌, drop}
 
--- the loops of copy_words (src/copies.rt): a list of copies of words
+-- The loops of copy_words (src/copies.rt). A list of copies of words.
 
 abbrev pub invariant-loop-word : goal.invariant-loop-word
 invariant-loop-word l = l.copies ++ drop l.word-index l.words ≡ l.words

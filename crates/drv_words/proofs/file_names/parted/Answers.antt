@@ -2,7 +2,7 @@ use Rattle.drv_words.proofs.LastOfAKind.{nowhere_after, parted_at, parted_nowher
 use Rattle.drv_words.proofs.file_names.parted.Goals as goal
 use Rattle.std.proofs.Common.{rules, sym}
 
--- parted (src/file_names.rt): the bytes before the last byte of a kind, and those after it, if there is one
+-- parted (src/file_names.rt). The bytes before the last byte of a kind, and those after it, if there is one.
 
 pub returns-in-Some : goal.returns-in-Some
 returns-in-Some c =

@@ -3,7 +3,7 @@ use Rattle.std.proofs.Common.{◌≡◌, length}
 use Rattle.std.specs.Cmp.Lexicographic.{slice_cmp}
 use Rattle.std.specs.Ordering.{nat_cmp}
 
--- the loops of order (src/ordering.rt): how a text is ordered beside another one, byte by byte
+-- The loops of order (src/ordering.rt). How a text is ordered beside another one, byte by byte.
 
 abbrev pub invariant-loop-front : goal.invariant-loop-front
 invariant-loop-front l = slice_cmp nat_cmp l.left l.right ≡ slice_cmp nat_cmp l.one l.other

@@ -2,7 +2,7 @@ use Rattle.drv_words.proofs.Ordered.{eight_ordered}
 use Rattle.drv_words.proofs.ordering.order_eight.Goals as goal
 use Rattle.std.proofs.Common.{◌∙◌, rules}
 
--- order_eight (src/ordering.rt): how eight bytes are ordered beside eight others: as the numbers that they spell are
+-- order_eight (src/ordering.rt). How eight bytes are ordered beside eight others: as the numbers that they spell are.
 
 pub returns : goal.returns
 returns c =

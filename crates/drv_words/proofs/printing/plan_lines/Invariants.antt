@@ -3,7 +3,7 @@ use Rattle.std.specs.List.{flat_map}
 use Rattle.drv_words.specs.Lines.{job_lines}
 use Rattle.drv_words.proofs.printing.plan_lines.Given as goal
 
--- the loops of plan_lines (src/printing.rt): the lines of a plan: the commands of its jobs in order, then those of the link
+-- The loops of plan_lines (src/printing.rt). The lines of a plan: the commands of its jobs in order, then those of the link.
 
 abbrev pub invariant-loop-job : goal.invariant-loop-job
 invariant-loop-job l = l.lines ++ flat_map job_lines (drop l.job-index l.job-items) ≡ flat_map job_lines l.job-items

@@ -2,7 +2,7 @@ use Rattle.std.proofs.Common.{◌≡◌, ◌++◌, drop}
 use Rattle.drv_words.specs.Lines.{group_lines}
 use Rattle.drv_words.proofs.printing.push_group.Given as goal
 
--- the loops of push_group (src/printing.rt): adds the lines of a group: each command but the last is piped
+-- The loops of push_group (src/printing.rt). Adds the lines of a group: each command but the last is piped.
 
 abbrev pub invariant-loop-index : goal.invariant-loop-index
 invariant-loop-index l = l.lines ++ group_lines (drop l.index l.commands) ≡ l.fn.lines ++ group_lines l.commands

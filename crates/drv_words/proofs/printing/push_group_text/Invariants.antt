@@ -3,7 +3,7 @@ use Rattle.drv_words.specs.Lines.{group_lines}
 use Rattle.drv_words.specs.Printed.{lines_text}
 use Rattle.drv_words.proofs.printing.push_group_text.Given as goal
 
--- the loops of push_group_text (src/printing.rt): adds the text of a group's lines
+-- The loops of push_group_text (src/printing.rt). Adds the text of a group's lines.
 
 abbrev pub invariant-loop-index : goal.invariant-loop-index
 invariant-loop-index l = l.text.items ++ lines_text (group_lines (drop l.index l.commands)) ≡ l.fn.text.items ++ lines_text

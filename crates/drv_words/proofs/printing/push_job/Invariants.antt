@@ -3,7 +3,7 @@ use Rattle.std.specs.List.{flat_map}
 use Rattle.drv_words.specs.Lines.{group_lines}
 use Rattle.drv_words.proofs.printing.push_job.Given as goal
 
--- the loops of push_job (src/printing.rt): adds the lines of a job, group after group
+-- The loops of push_job (src/printing.rt). Adds the lines of a job, group after group.
 
 abbrev pub invariant-loop-group : goal.invariant-loop-group
 invariant-loop-group l = l.lines ++ flat_map group_lines (drop l.group-index l.group-items) ≡ l.fn.lines

@@ -4,7 +4,7 @@ use Rattle.drv_words.specs.Lines.{group_lines}
 use Rattle.drv_words.specs.Printed.{lines_text}
 use Rattle.drv_words.proofs.printing.push_job_text.Given as goal
 
--- the loops of push_job_text (src/printing.rt): adds the text of a job's lines
+-- The loops of push_job_text (src/printing.rt). Adds the text of a job's lines.
 
 abbrev pub invariant-loop-group : goal.invariant-loop-group
 invariant-loop-group l = l.text.items ++ lines_text (flat_map group_lines (drop l.group-index l.group-items)) ≡ l.fn.text.items

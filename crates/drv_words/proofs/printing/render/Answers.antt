@@ -4,7 +4,7 @@ use Rattle.std.proofs.Common.{◌≡◌, arith}
 use Rattle.std.proofs.lemmas.Grind.{common_steps}
 use Rattle.drv_words.proofs.printing.render.Goals as goal
 
--- render (src/printing.rt): the text of lines
+-- render (src/printing.rt). The text of lines.
 
 pub returns-clause-shows : goal.returns-clause-shows
 returns-clause-shows c =

@@ -2,7 +2,7 @@ use Rattle.std.proofs.Common.{◌≡◌, ◌++◌, drop}
 use Rattle.drv_words.specs.Printed.{lines_text}
 use Rattle.drv_words.proofs.printing.render.Given as goal
 
--- the loops of render (src/printing.rt): the text of lines
+-- The loops of render (src/printing.rt). The text of lines.
 
 abbrev pub invariant-loop-line : goal.invariant-loop-line
 invariant-loop-line l = l.text.items ++ lines_text (drop l.line-index l.lines) ≡ lines_text l.lines

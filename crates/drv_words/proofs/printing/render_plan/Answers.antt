@@ -3,7 +3,7 @@ use Rattle.drv_words.specs.Lines.{lines_of}
 use Rattle.std.proofs.lemmas.Result.{IfOk-weaker}
 use Rattle.drv_words.proofs.printing.render_plan.Goals as goal
 
--- render_plan (src/printing.rt): the text of a plan's lines: what [`render`] returns for [`plan_lines`]
+-- render_plan (src/printing.rt). The text of a plan's lines: what [`render`] returns for [`plan_lines`].
 
 pub returns-clause-shows : goal.returns-clause-shows
 returns-clause-shows c = IfOk-weaker _ _ _ (λ text is. shown_text text (lines_of c.args.plan.now) is) c.plan_text.ensures

@@ -2,7 +2,7 @@ use Rattle.std.proofs.Common.{◌≡◌, ◌++◌, drop}
 use Rattle.drv_words.specs.Printed.{escaped}
 use Rattle.drv_words.proofs.quoting.push_escaped.Given as goal
 
--- the loops of push_escaped (src/quoting.rt): adds the text between the quotes
+-- The loops of push_escaped (src/quoting.rt). Adds the text between the quotes.
 
 abbrev pub invariant-loop-byte : goal.invariant-loop-byte
 invariant-loop-byte l = l.text.items ++ escaped (drop l.byte-index l.word) ≡ l.fn.text.items ++ escaped l.word

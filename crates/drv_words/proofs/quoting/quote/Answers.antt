@@ -4,7 +4,7 @@ use Rattle.std.proofs.Common.{◌≡◌, arith}
 use Rattle.std.proofs.lemmas.Grind.{common_steps}
 use Rattle.drv_words.proofs.quoting.quote.Goals as goal
 
--- quote (src/quoting.rt): the printed form of a word, as in a line of `-###`
+-- quote (src/quoting.rt). The printed form of a word, as in a line of `-###`.
 
 pub returns-clause-shows : goal.returns-clause-shows
 returns-clause-shows c = let is : c.from_vec.result ≡ quoted c.args.word.now = grind (arith, common_steps) in shown_word _ _ is

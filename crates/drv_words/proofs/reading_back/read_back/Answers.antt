@@ -3,7 +3,7 @@ use Rattle.drv_words.proofs.Soundness.{found_is_shown}
 use Rattle.std.proofs.lemmas.Result.{IfOk-weaker}
 use Rattle.drv_words.proofs.reading_back.read_back.Goals as goal
 
--- read_back (src/reading_back.rt): the lines that a text shows, or `None` unless [`render`](crate::render) gives exactly this text
+-- read_back (src/reading_back.rt). The lines that a text shows, or `None` unless [`render`](crate::render) gives exactly this text.
 
 pub returns-clause-shown : goal.returns-clause-shown
 returns-clause-shown c = IfOk-weaker _ _ _ (found_is_shown c.args.text.now) c.read_lines.ensures

@@ -2,7 +2,7 @@ use Rattle.std.proofs.Common.{◌≡◌, drop}
 use Rattle.drv_words.specs.Code.LineReader.{read, start}
 use Rattle.drv_words.proofs.reading_back.read_lines.Given as goal
 
--- the loops of read_lines (src/reading_back.rt): reads a whole text
+-- The loops of read_lines (src/reading_back.rt). Reads a whole text.
 
 abbrev pub invariant-loop-byte : goal.invariant-loop-byte
 invariant-loop-byte l = read l.reader (drop l.byte-index l.text) ≡ read start l.text

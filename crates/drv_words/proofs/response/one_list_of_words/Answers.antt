@@ -2,7 +2,7 @@ use Rattle.drv_words.proofs.Counting.{counted}
 use Rattle.drv_words.proofs.Splitting.{one_list, some_words}
 use Rattle.drv_words.proofs.response.one_list_of_words.Goals as goal
 
--- one_list_of_words (src/response.rt): a law: a text has exactly one list of words, and their number is that which `words_in` says
+-- one_list_of_words (src/response.rt). A law: a text has exactly one list of words, and their number is that which `words_in` says.
 
 pub returns-clause-some : goal.returns-clause-some
 returns-clause-some c = some_words

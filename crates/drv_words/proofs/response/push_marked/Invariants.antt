@@ -2,7 +2,7 @@ use Rattle.std.proofs.Common.{◌≡◌, ◌++◌, drop}
 use Rattle.drv_words.specs.Response.{marked}
 use Rattle.drv_words.proofs.response.push_marked.Given as goal
 
--- the loops of push_marked (src/response.rt): adds the bytes of a word, with a backslash before those that need one
+-- The loops of push_marked (src/response.rt). Adds the bytes of a word, with a backslash before those that need one.
 
 abbrev pub invariant-loop-byte : goal.invariant-loop-byte
 invariant-loop-byte l = l.text ++ marked (drop l.byte-index l.word) ≡ l.fn.text ++ marked l.word

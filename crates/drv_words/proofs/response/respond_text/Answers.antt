@@ -4,8 +4,8 @@ use Rattle.std.proofs.Common.{◌≡◌, arith}
 use Rattle.std.proofs.lemmas.Grind.{common_steps}
 use Rattle.drv_words.proofs.response.respond_text.Goals as goal
 
--- respond_text (src/response.rt): the response text of these words: a line for each, with a backslash before white space, quotes and
--- backslashes
+-- respond_text (src/response.rt). The response text of these words: a line for each, with a backslash before white space, quotes and
+-- backslashes.
 
 pub returns-clause-again : goal.returns-clause-again
 returns-clause-again c =

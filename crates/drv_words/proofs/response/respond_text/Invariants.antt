@@ -2,8 +2,8 @@ use Rattle.std.proofs.Common.{◌≡◌, ◌++◌, drop}
 use Rattle.drv_words.specs.Response.{response_text}
 use Rattle.drv_words.proofs.response.respond_text.Given as goal
 
--- the loops of respond_text (src/response.rt): the response text of these words: a line for each, with a backslash before white space,
--- quotes and backslashes
+-- The loops of respond_text (src/response.rt). The response text of these words: a line for each, with a backslash before white space,
+-- quotes and backslashes.
 
 abbrev pub invariant-loop-word : goal.invariant-loop-word
 invariant-loop-word l = l.text ++ response_text (drop l.word-index l.words) ≡ response_text l.words

@@ -3,7 +3,7 @@ use Rattle.std.proofs.Common.{arith, length, ap, sym}
 use Rattle.drv_words.proofs.response.split_front.Goals.{then-loop-splitter-test+else-saturating_sub-most, else-loop-splitter-test}
 use Rattle.drv_words.proofs.response.split_front.Goals as goal
 
--- split_front (src/response.rt): splits a text and appends its words to others, but goes no further than to one word more than `most`
+-- split_front (src/response.rt). Splits a text and appends its words to others, but goes no further than to one word more than `most`.
 
 pub returns-clause-more : goal.returns-clause-more
 returns-clause-more c more =

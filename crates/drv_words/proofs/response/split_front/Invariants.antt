@@ -2,8 +2,8 @@ use Rattle.std.proofs.Common.{◌≡◌, ◌≤◌, length}
 use Rattle.drv_words.specs.Code.Splitter.{following, words_of}
 use Rattle.drv_words.proofs.response.split_front.Given as goal
 
--- the loops of split_front (src/response.rt): splits a text and appends its words to others, but goes no further than to one word more than
--- `most`
+-- The loops of split_front (src/response.rt). Splits a text and appends its words to others, but goes no further than to one word more than
+-- `most`.
 
 abbrev pub decreases-loop-splitter : goal.decreases-loop-splitter
 decreases-loop-splitter l = length l.left

@@ -3,7 +3,7 @@ use Rattle.drv_words.specs.Code.Splitter.{following, words_of}
 use Rattle.std.proofs.Common.{◌∙◌, ap}
 use Rattle.drv_words.proofs.response.split_onto.Goals as goal
 
--- split_onto (src/response.rt): appends the words of a response file's text, as [`split`] returns them, to others
+-- split_onto (src/response.rt). Appends the words of a response file's text, as [`split`] returns them, to others.
 
 pub returns : goal.returns
 returns c =

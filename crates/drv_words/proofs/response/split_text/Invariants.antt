@@ -2,7 +2,7 @@ use Rattle.std.proofs.Common.{◌≡◌, length}
 use Rattle.drv_words.specs.Code.Splitter.{following, words_of}
 use Rattle.drv_words.proofs.response.split_text.Given as goal
 
--- the loops of split_text (src/response.rt): splits a whole text, and appends its words to others
+-- The loops of split_text (src/response.rt). Splits a whole text, and appends its words to others.
 
 abbrev pub decreases-loop-left : goal.decreases-loop-left
 decreases-loop-left l = length l.left

@@ -3,8 +3,8 @@ use Rattle.drv_words.specs.Response.{SplitsOnto}
 use Rattle.std.proofs.Common.{◌≡◌, ◌-◌, ◌∙◌, IsTrue, List, ap, arith, length, nat_le, subst, ℕ}
 use Rattle.drv_words.proofs.response.split_within.Goals as goal
 
--- split_within (src/response.rt): appends the words of a response file's text, as [`split`] returns them, to others, if the text has at
--- most `most` words
+-- split_within (src/response.rt). Appends the words of a response file's text, as [`split`] returns them, to others, if the text has at
+-- most `most` words.
 
 pub returns-clause-counts : goal.returns-clause-counts
 returns-clause-counts c =

@@ -3,7 +3,7 @@ use Rattle.gdrv.specs.Meant.{is_doubtful}
 use Rattle.std.proofs.Common.{◌≡◌, drop}
 use Rattle.std.specs.List.{list_any}
 
--- the loops of are_doubtful (src/meant.rt): whether a switch of these may be meant to be an option
+-- The loops of are_doubtful (src/meant.rt). Whether a switch of these may be meant to be an option.
 
 abbrev pub invariant-loop-switch : goal.invariant-loop-switch
 invariant-loop-switch l = list_any is_doubtful (drop l.switch-index l.switches) ≡ list_any is_doubtful l.switches

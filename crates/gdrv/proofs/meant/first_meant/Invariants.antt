@@ -3,7 +3,7 @@ use Rattle.gdrv.specs.Meant.{is_meant}
 use Rattle.std.proofs.Common.{◌≡◌, drop}
 use Rattle.std.specs.Prelude.{find, map}
 
--- the loops of first_meant (src/meant.rt): the first of these options that a word was meant to be
+-- The loops of first_meant (src/meant.rt). The first of these options that a word was meant to be.
 
 abbrev pub invariant-loop-option : goal.invariant-loop-option
 invariant-loop-option l =

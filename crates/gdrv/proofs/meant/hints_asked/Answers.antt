@@ -1,7 +1,7 @@
 use Rattle.drv_system.proofs.AskedCalls.{extends_before}
 use Rattle.gdrv.proofs.meant.hints_asked.Goals as goal
 
--- hints_asked (src/meant.rt): the lines about the words of a call
+-- hints_asked (src/meant.rt). The lines about the words of a call.
 
 pub returns-clause-hints : goal.returns-clause-hints
 returns-clause-hints g c F e =

@@ -2,7 +2,7 @@ use Rattle.gdrv.proofs.meant.is_near.Given as goal
 use Rattle.gdrv.specs.Meant.{is_near}
 use Rattle.std.proofs.Common.{◌≡◌, length}
 
--- the loops of is_near (src/meant.rt): whether one edit makes a word another one
+-- The loops of is_near (src/meant.rt). Whether one edit makes a word another one.
 
 abbrev pub invariant-loop-left : goal.invariant-loop-left
 invariant-loop-left l = is_near l.left l.right ≡ is_near l.word l.other

@@ -2,7 +2,7 @@ use Rattle.gdrv.proofs.Noted.{specs_builtin}
 use Rattle.gdrv.proofs.meant.specs_asked.Goals as goal
 use Rattle.std.proofs.Common.{refl}
 
--- specs_asked (src/meant.rt): the specs of a line: the built-in ones, and what the files of `-specs=` make of them
+-- specs_asked (src/meant.rt). The specs of a line: the built-in ones, and what the files of `-specs=` make of them.
 
 pub returns-clause-asks : goal.returns-clause-asks
 returns-clause-asks g c = record { asks = c.load_specs.ensures.asks; same_sys = refl; same_facts = refl }

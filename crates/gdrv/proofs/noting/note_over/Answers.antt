@@ -2,7 +2,7 @@ use Rattle.gdrv.proofs.Noted.{note_builtin}
 use Rattle.gdrv.proofs.noting.note_over.Goals as goal
 use Rattle.std.proofs.Common.{refl}
 
--- note_over (src/noting.rt): where the spec files of a line are refused, as a note
+-- note_over (src/noting.rt). Where the spec files of a line are refused, as a note.
 
 pub returns-clause-asks : goal.returns-clause-asks
 returns-clause-asks g c = record { asks = c.fault_note.ensures.asks; same_sys = refl; same_facts = refl }

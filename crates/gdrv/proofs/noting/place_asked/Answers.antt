@@ -1,7 +1,7 @@
 use Rattle.drv_system.proofs.AskedCalls.{extends_before}
 use Rattle.gdrv.proofs.noting.place_asked.Goals as goal
 
--- place_asked (src/noting.rt): where the spec files of a call are refused, as a note
+-- place_asked (src/noting.rt). Where the spec files of a call are refused, as a note.
 
 pub returns-clause-note : goal.returns-clause-note
 returns-clause-note g c F e =

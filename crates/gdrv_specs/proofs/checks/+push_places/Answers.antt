@@ -2,7 +2,7 @@ use Rattle.gdrv_specs.proofs.FilesChecked.{found_at, lost_at, places_lost, place
 use Rattle.gdrv_specs.proofs.checks.+push_places.Goals as goal
 use Rattle.std.proofs.Common.{◌∙◌, ◌<◌, ◌++◌, ◌∷◌, [], ap, arith}
 
--- push_places (src/checks.rt): where a source is included, where that source is included, and so on, up to a number of places
+-- push_places (src/checks.rt). Where a source is included, where that source is included, and so on, up to a number of places.
 
 pub returns-in_default-source_at : goal.returns-in_default-source_at
 returns-in_default-source_at t c =

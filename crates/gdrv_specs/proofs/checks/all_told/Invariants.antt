@@ -3,7 +3,7 @@ use Rattle.gdrv_specs.specs.Checks.{all_told, is_shown, told_of}
 use Rattle.std.proofs.Common.{◌≡◌, ◌++◌, drop}
 use Rattle.std.specs.Prelude.{filter, map}
 
--- the loops of all_told (src/checks.rt): what a check prints of all that it found
+-- The loops of all_told (src/checks.rt). What a check prints of all that it found.
 
 abbrev pub invariant-loop-finding : goal.invariant-loop-finding
 invariant-loop-finding l =

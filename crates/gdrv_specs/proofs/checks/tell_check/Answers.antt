@@ -1,8 +1,8 @@
 use Rattle.gdrv_specs.proofs.FilesChecked.{checks_after, checks_before}
 use Rattle.gdrv_specs.proofs.checks.tell_check.Goals as goal
 
--- tell_check (src/checks.rt): writes every fault of spec files to standard output and what is surely not meant, each with its place (GCC
--- manual, "Spec Files")
+-- tell_check (src/checks.rt). Writes every fault of spec files to standard output and what is surely not meant, each with its place (GCC
+-- manual, "Spec Files").
 
 pub returns-in-Ok : goal.returns-in-Ok
 returns-in-Ok g c =

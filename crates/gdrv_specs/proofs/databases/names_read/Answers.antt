@@ -5,7 +5,7 @@ use Rattle.gdrv_specs.specs.Databases.{input_name}
 use Rattle.std.proofs.Common.{◌∙◌, Err, ap, subst}
 use Rattle.std.specs.Prelude.{map}
 
--- names_read (src/databases.rt): the names of the inputs of a line
+-- names_read (src/databases.rt). The names of the inputs of a line.
 
 pub returns-in_err-line-clause-names : goal.returns-in_err-line-clause-names
 returns-in_err-line-clause-names g c F e =

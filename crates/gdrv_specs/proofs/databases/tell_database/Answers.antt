@@ -1,8 +1,8 @@
 use Rattle.gdrv_specs.proofs.LineNames.{tells_named, tells_stopped}
 use Rattle.gdrv_specs.proofs.databases.tell_database.Goals as goal
 
--- tell_database (src/databases.rt): writes the plan of a line of the driver to standard output as a compilation database, for sources in
--- this directory (Clang, "JSON Compilation Database Format Specification")
+-- tell_database (src/databases.rt). Writes the plan of a line of the driver to standard output as a compilation database, for sources in
+-- this directory (Clang, "JSON Compilation Database Format Specification").
 
 pub returns-in-Ok : goal.returns-in-Ok
 returns-in-Ok g c =

@@ -1,8 +1,8 @@
 use Rattle.gdrv_specs.proofs.Differences.{compares_after, compares_before}
 use Rattle.gdrv_specs.proofs.differing.tell_difference.Goals as goal
 
--- tell_difference (src/differing.rt): writes to standard output what differs between the plan of a line with one spec file and that with
--- another, or between the two sets of texts for a line with `-dumpspecs`
+-- tell_difference (src/differing.rt). Writes to standard output what differs between the plan of a line with one spec file and that with
+-- another, or between the two sets of texts for a line with `-dumpspecs`.
 
 pub returns-in-Ok : goal.returns-in-Ok
 returns-in-Ok g c =

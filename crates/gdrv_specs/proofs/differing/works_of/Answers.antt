@@ -2,7 +2,7 @@ use Rattle.drv_system.proofs.Asking.{asks_extends, asks_then, extends_then}
 use Rattle.gdrv_specs.proofs.Differences.{comes_both, ends_first, ends_second}
 use Rattle.gdrv_specs.proofs.differing.works_of.Goals as goal
 
--- works_of (src/differing.rt): what a line asks for with each of the two files
+-- works_of (src/differing.rt). What a line asks for with each of the two files.
 
 pub returns-in-Ok-work_with-clause-asks : goal.returns-in-Ok-work_with-clause-asks
 returns-in-Ok-work_with-clause-asks g c = asks_then c.work_with.ensures.asks c.work_with-in-Ok.ensures.asks

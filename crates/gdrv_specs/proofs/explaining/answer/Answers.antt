@@ -3,7 +3,7 @@ use Rattle.gdrv_specs.proofs.explaining.answer.Goals as goal
 use Rattle.std.proofs.Common.{ap, ◌∙◌}
 use Rattle.drv_why.specs.Parts.{without}
 
--- answer (src/explaining.rt): the text about a part
+-- answer (src/explaining.rt). The text about a part.
 
 pub returns-clause-answers : goal.returns-clause-answers
 returns-clause-answers g c F e =

@@ -3,7 +3,7 @@ use Rattle.gdrv_specs.proofs.Reasons.{all_answers, more_answers}
 use Rattle.gdrv_specs.proofs.explaining.answers.Goals as goal
 use Rattle.std.proofs.Common.{ap, ◌∙◌, ◌++◌}
 
--- answers (src/explaining.rt): the texts about parts, one after another
+-- answers (src/explaining.rt). The texts about parts, one after another.
 
 pub loop-part-preserved : goal.loop-part-preserved
 loop-part-preserved g c = record {

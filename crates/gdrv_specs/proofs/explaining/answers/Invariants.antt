@@ -4,7 +4,7 @@ use Rattle.gdrv_specs.proofs.explaining.answers.Given as goal
 use Rattle.gdrv_specs.specs.Reasons.{AnswersAll}
 use Rattle.std.proofs.Common.{◌++◌, List, drop, ℕ}
 
--- the loops of answers (src/explaining.rt): the texts about parts, one after another
+-- The loops of answers (src/explaining.rt). The texts about parts, one after another.
 
 abbrev pub invariant-loop-part : goal.invariant-loop-part
 invariant-loop-part g l = record {

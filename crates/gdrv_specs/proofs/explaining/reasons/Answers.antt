@@ -2,7 +2,7 @@ use Rattle.drv_system.proofs.Asking.{asks_extends, asks_then, extends_then}
 use Rattle.gdrv_specs.proofs.Reasons.{gives_text}
 use Rattle.gdrv_specs.proofs.explaining.reasons.Goals as goal
 
--- reasons (src/explaining.rt): the reasons of a line, or its ending in their place
+-- reasons (src/explaining.rt). The reasons of a line, or its ending in their place.
 
 pub returns-in-Ok-reasons_of_work-clause-asks : goal.returns-in-Ok-reasons_of_work-clause-asks
 returns-in-Ok-reasons_of_work-clause-asks g c = asks_then c.work_of_line.ensures.asks c.reasons_of_work.ensures.asks

@@ -1,8 +1,8 @@
 use Rattle.gdrv_specs.proofs.Reasons.{explains_after, explains_before}
 use Rattle.gdrv_specs.proofs.explaining.tell_why.Goals as goal
 
--- tell_why (src/explaining.rt): writes to standard output what each part of a line changes: what differs between the commands of the line
--- and those of the line without that part, or why that one is refused
+-- tell_why (src/explaining.rt). Writes to standard output what each part of a line changes: what differs between the commands of the line
+-- and those of the line without that part, or why that one is refused.
 
 pub returns-in-Ok : goal.returns-in-Ok
 returns-in-Ok g c =

@@ -2,7 +2,8 @@ use Rattle.gdrv_specs.proofs.Told.{tells_after, tells_before}
 use Rattle.gdrv_specs.proofs.planning.tell_plan.Goals as goal
 use Rattle.gdrv_specs.specs.Plans.{TellsOf}
 
--- tell_plan (src/planning.rt): writes the plan of a line of the driver in a form to standard output (GCC manual, "Overall Options", `-###`)
+-- tell_plan (src/planning.rt). Writes the plan of a line of the driver in a form to standard output (GCC manual, "Overall Options",
+-- `-###`).
 
 pub returns-in-Ok : goal.returns-in-Ok
 returns-in-Ok g c =

@@ -2,8 +2,8 @@ use Rattle.gdrv_specs.proofs.Told.{tells_after, tells_before}
 use Rattle.gdrv_specs.proofs.running.tell_after.Goals as goal
 use Rattle.gdrv_specs.specs.Runs.{AfterOf}
 
--- tell_after (src/running.rt): writes to standard output what a line of the driver would start, make and remove, and what it would leave,
--- where these words give some answers ahead and all else is well
+-- tell_after (src/running.rt). Writes to standard output what a line of the driver would start, make and remove, and what it would leave,
+-- where these words give some answers ahead and all else is well.
 
 pub returns-in-Ok : goal.returns-in-Ok
 returns-in-Ok g c =

@@ -2,7 +2,7 @@ use Rattle.drv_system.proofs.Asking.{asks_extends, asks_then, extends_then}
 use Rattle.gdrv_specs.proofs.SwitchesTold.{call_gives}
 use Rattle.gdrv_specs.proofs.switches.fates_of_call.Goals as goal
 
--- fates_of_call (src/switches.rt): the text about the switches of a call's line, or the call's ending in its place
+-- fates_of_call (src/switches.rt). The text about the switches of a call's line, or the call's ending in its place.
 
 pub returns-in-Ok-clause-asks : goal.returns-in-Ok-clause-asks
 returns-in-Ok-clause-asks g c = asks_then c.line_of_call.ensures.asks c.fates_of_line.ensures.asks

@@ -2,7 +2,7 @@ use Rattle.drv_system.proofs.Asking.{asks_extends, asks_then, extends_then}
 use Rattle.gdrv_specs.proofs.SwitchesTold.{line_told}
 use Rattle.gdrv_specs.proofs.switches.fates_of_line.Goals as goal
 
--- fates_of_line (src/switches.rt): the text about the switches of a line, or its ending in its place
+-- fates_of_line (src/switches.rt). The text about the switches of a line, or its ending in its place.
 
 pub returns-in-Ok-fates_of-clause-asks : goal.returns-in-Ok-fates_of-clause-asks
 returns-in-Ok-fates_of-clause-asks g c = asks_then c.set_of.ensures.asks c.fates_of.ensures.asks

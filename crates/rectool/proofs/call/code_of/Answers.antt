@@ -2,7 +2,7 @@ use Rattle.rectool.proofs.Calls.{accepted, refused}
 use Rattle.rectool.proofs.call.code_of.Goals as goal
 use Rattle.std.proofs.Common.{sym, ◌∙◌}
 
--- code_of (src/call.rt): the status of these digits, if all bytes are digits and the number is at most 255
+-- code_of (src/call.rt). The status of these digits, if all bytes are digits and the number is at most 255.
 
 pub returns-in_err-code : goal.returns-in_err-code
 returns-in_err-code c =

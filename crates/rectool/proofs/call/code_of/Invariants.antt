@@ -2,7 +2,7 @@ use Rattle.rectool.proofs.call.code_of.Given as goal
 use Rattle.rectool.specs.Call.{code_after}
 use Rattle.std.proofs.Common.{◌≡◌, ◌<◌, drop}
 
--- the loops of code_of (src/call.rt): the status of these digits, if all bytes are digits and the number is at most 255
+-- The loops of code_of (src/call.rt). The status of these digits, if all bytes are digits and the number is at most 255.
 
 abbrev pub invariant-loop-digit : goal.invariant-loop-digit
 invariant-loop-digit l = record {

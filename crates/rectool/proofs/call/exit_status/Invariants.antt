@@ -4,7 +4,7 @@ use Rattle.std.proofs.Common.{◌≡◌, Some, drop}
 use Rattle.std.specs.List.{filter_map, last_or}
 use Rattle.std.specs.Option.{unwrap_or}
 
--- the loops of exit_status (src/call.rt): the status that the last such word requests, or else 0
+-- The loops of exit_status (src/call.rt). The status that the last such word requests, or else 0.
 
 abbrev pub invariant-loop-word : goal.invariant-loop-word
 invariant-loop-word l = unwrap_or (last_or (Some l.status) (filter_map code_asked (drop l.word-index l.word-items))) 0

@@ -3,7 +3,7 @@ use Rattle.rectool.specs.Call.{after_output, file_named, output_file}
 use Rattle.std.proofs.Common.{◌≡◌, Some, drop}
 use Rattle.std.specs.Option.{option_copied, option_or}
 
--- the loops of output_file (src/call.rt): the file after the last `-o`
+-- The loops of output_file (src/call.rt). The file after the last `-o`.
 
 abbrev pub invariant-loop-index : goal.invariant-loop-index
 invariant-loop-index l = file_named (option_or (after_output (drop l.index l.operands)) (Some (option_copied l.following)))

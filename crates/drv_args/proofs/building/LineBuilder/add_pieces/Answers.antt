@@ -8,7 +8,7 @@ use Rattle.std.proofs.lemmas.Iterator.Splits.{YieldsList-from_slice_split}
 use Rattle.std.proofs.lemmas.List.{map-append}
 use Rattle.std.specs.Slice.Iter.{split_callee, split_done, split_rest}
 
--- add_pieces (src/building.rt): adds the pieces of a text between its commas for a tool, including empty ones
+-- add_pieces (src/building.rt). Adds the pieces of a text between its commas for a tool, including empty ones.
 
 pub loop-piece-init : goal.loop-piece-init
 loop-piece-init c = no_pieces c.args.tool c.args.self.now

@@ -3,7 +3,7 @@ use Rattle.std.proofs.Common.{◌≡◌, nat_eq, not, refl, rules}
 use Rattle.std.proofs.lemmas.Fn.{filter_same}
 use Rattle.std.specs.List.{filter}
 
--- end (src/fleet.rt): the source in progress has ended
+-- end (src/fleet.rt). The source in progress has ended.
 
 pub returns : goal.returns
 returns c =

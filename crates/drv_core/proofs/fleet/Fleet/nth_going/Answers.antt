@@ -9,7 +9,7 @@ use Rattle.std.specs.List.{filter}
 use Rattle.std.specs.Prelude.{unwrap_or}
 use Rattle.std.specs.Slice.Iter.{iter_rest}
 
--- nth_going (src/fleet.rt): the source of this number among those that have begun and may go on, or else the next one that begins
+-- nth_going (src/fleet.rt). The source of this number among those that have begun and may go on, or else the next one that begins.
 
 pub returns : goal.returns
 returns c =

@@ -5,7 +5,7 @@ use Rattle.drv_core.specs.Code.FleetView.{fleet_of}
 use Rattle.drv_words.specs.Places.{no_job}
 use Rattle.std.proofs.Common.{get_or}
 
--- take (src/fleet.rt): takes the answer to the next step
+-- take (src/fleet.rt). Takes the answer to the next step.
 
 pub returns-then-is_inside : goal.returns-then-is_inside
 returns-then-is_inside c = stays c.args.jobs.now (worked (get_or c.args.jobs.now c.args.self.now.current no_job) (fleet_of c.args.self.now)

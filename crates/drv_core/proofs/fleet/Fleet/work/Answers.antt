@@ -7,7 +7,7 @@ use Rattle.drv_words.specs.Places.{no_job}
 use Rattle.std.proofs.Common.{ap, ◌∙◌, get_or}
 use Rattle.std.proofs.lemmas.List.{get_or_read}
 
--- work (src/fleet.rt): the source in progress takes the answer
+-- work (src/fleet.rt). The source in progress takes the answer.
 
 pub returns-clause-fleet : goal.returns-clause-fleet
 returns-clause-fleet c = ap (λ w. record (fleet_of c.args.self.now) { sources = w })

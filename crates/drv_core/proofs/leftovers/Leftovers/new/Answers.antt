@@ -2,7 +2,7 @@ use Rattle.drv_core.proofs.Paths.Notes.{fresh_made}
 use Rattle.drv_core.proofs.leftovers.Leftovers.new.Goals as goal
 use Rattle.std.proofs.Common.{◌∙◌, length}
 
--- new (src/leftovers.rt): the files before the run: nothing was claimed or removed
+-- new (src/leftovers.rt). The files before the run: nothing was claimed or removed.
 
 pub returns : goal.returns
 returns c = fresh_made c.in_ok-files.files.items _ c.in_ok-gone.gone.items c.in_ok-claimed.claimed.items c.push.new.self.items c.len.result

@@ -4,7 +4,7 @@ use Rattle.drv_core.specs.Code.LeftoverView.{leftovers_of}
 use Rattle.drv_core.specs.Code.Leftovers.{sought}
 use Rattle.std.proofs.Common.{◌∙◌, ap}
 
--- seek (src/leftovers.rt): goes to the next file to be removed, from this number on, or past the last file
+-- seek (src/leftovers.rt). Goes to the next file to be removed, from this number on, or past the last file.
 
 pub returns : goal.returns
 returns c = ap (λ n. record (leftovers_of c.args.self.now) { at = n })

@@ -5,7 +5,7 @@ use Rattle.drv_core.specs.Code.Leftovers.{sought}
 use Rattle.std.proofs.Common.{◌+◌, ◌-◌, ◌∙◌, ap, drop, length, take}
 use Rattle.std.specs.Prelude.{unwrap_or}
 
--- sought (src/leftovers.rt): the number of the next file to be removed, from this one on
+-- sought (src/leftovers.rt). The number of the next file to be removed, from this one on.
 
 pub returns : goal.returns
 returns c =

@@ -4,7 +4,7 @@ use Rattle.drv_core.specs.Code.LeftoverFiles.{all_files, files_from, job_files}
 use Rattle.drv_core.specs.Code.NumberingView.{IsNoted}
 use Rattle.std.proofs.Common.{◌≡◌, ◌++◌, ◌∙◌, OnOk, ap, append_assoc, subst}
 
--- add_all (src/numbering.rt): adds the files of all jobs
+-- add_all (src/numbering.rt). Adds the files of all jobs.
 
 pub returns-in-Some : goal.returns-in-Some
 returns-in-Some c before h =

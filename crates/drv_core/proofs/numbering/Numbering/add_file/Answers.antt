@@ -3,7 +3,7 @@ use Rattle.drv_core.proofs.numbering.Numbering.add_file.Goals as goal
 use Rattle.drv_core.specs.Code.Numbering.{number_in}
 use Rattle.std.proofs.Common.{◌∙◌}
 
--- add_file (src/numbering.rt): adds a file with the number of the first file of its path
+-- add_file (src/numbering.rt). Adds a file with the number of the first file of its path.
 
 pub returns : goal.returns
 returns c before h = noted_file before c.args.self.now.files.items c.push.new.self.items (number_in c.args.self.now.known.entries

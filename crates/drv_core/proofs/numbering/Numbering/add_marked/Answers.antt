@@ -4,7 +4,7 @@ use Rattle.drv_core.specs.Outcomes.{marked_files}
 use Rattle.drv_words.specs.declared.steps.Place.TheVariants as place
 use Rattle.std.proofs.Common.{[], ◌∷◌, refl}
 
--- add_marked (src/numbering.rt): adds the marked files of a job
+-- add_marked (src/numbering.rt). Adds the marked files of a job.
 
 pub loop-index-init : goal.loop-index-init
 loop-index-init c before h = noting_starts before (marked_files c.args.number 0 c.as_slice-path-items.result.now) _ _ h

@@ -3,7 +3,7 @@ use Rattle.drv_core.proofs.numbering.Numbering.add_sources.Goals as goal
 use Rattle.drv_core.specs.Code.LeftoverFiles.{files_from, job_files}
 use Rattle.std.proofs.Common.{refl}
 
--- add_sources (src/numbering.rt): adds the files of the sources
+-- add_sources (src/numbering.rt). Adds the files of the sources.
 
 pub loop-number-init : goal.loop-number-init
 loop-number-init c before h = noting_starts before (files_from 0 c.args.jobs.now) _ _ h

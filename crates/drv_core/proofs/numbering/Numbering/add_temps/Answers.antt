@@ -4,7 +4,7 @@ use Rattle.drv_core.specs.Code.LeftoverFiles.{temp_files}
 use Rattle.drv_words.specs.declared.steps.Place.TheVariants as place
 use Rattle.std.proofs.Common.{[], ◌∷◌, refl}
 
--- add_temps (src/numbering.rt): adds the temporaries of a job
+-- add_temps (src/numbering.rt). Adds the temporaries of a job.
 
 pub loop-index-init : goal.loop-index-init
 loop-index-init c before h = noting_starts before (temp_files c.args.number 0 c.as_slice-temp-items.result.now) _ _ h

@@ -5,7 +5,7 @@ use Rattle.std.proofs.Common.{ap, nat_eq}
 use Rattle.std.specs.Cmp.Lexicographic.{pointwise}
 use Rattle.std.specs.Map.{lookup}
 
--- new (src/numbering.rt): no file
+-- new (src/numbering.rt). No file.
 
 pub returns : goal.returns
 returns c = noted_none c.new.result.items (number_in c.new-2.result.entries (λ k. k.now)) c.new.ensures.items

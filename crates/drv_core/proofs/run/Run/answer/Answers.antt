@@ -1,7 +1,7 @@
 use Rattle.drv_core.proofs.Contracts.Runs.{answered, answered_first}
 use Rattle.drv_core.proofs.run.Run.answer.Goals as goal
 
--- answer (src/run.rt): takes the answer to the step of `next`
+-- answer (src/run.rt). Takes the answer to the step of `next`.
 
 pub returns-clause-events : goal.returns-clause-events
 returns-clause-events c = answered c.self.inside.plan.now c.self.inside.pass_codes c.self.inside.work c.advance.new.work c.args.self.now

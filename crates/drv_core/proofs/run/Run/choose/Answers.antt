@@ -1,7 +1,7 @@
 use Rattle.drv_core.proofs.Contracts.Runs.{choice_of, turned_elsewhere, turned_events, turned_next}
 use Rattle.drv_core.proofs.run.Run.choose.Goals as goal
 
--- choose (src/run.rt): takes the next block from the source of this number among those that may go on, counted from 0 in plan order
+-- choose (src/run.rt). Takes the next block from the source of this number among those that may go on, counted from 0 in plan order.
 
 pub turn-requires-clause-choice : goal.turn-requires-clause-choice
 turn-requires-clause-choice c = choice_of c.self.inside.plan.now c.self.inside.pass_codes c.self.inside.work c.args.self.now c.args.choice

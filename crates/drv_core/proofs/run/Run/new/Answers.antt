@@ -1,7 +1,7 @@
 use Rattle.drv_core.proofs.Contracts.Runs.{begun, begun_first, no_events}
 use Rattle.drv_core.proofs.run.Run.new.Goals as goal
 
--- new (src/run.rt): the run before its first step
+-- new (src/run.rt). The run before its first step.
 
 pub invariant_of-result : goal.invariant_of-result
 invariant_of-result c = (begun c.args.plan.now c.in_ok-work.work c.args.window c.requires.some c.in_ok-work.ensures.filled

@@ -1,7 +1,7 @@
 use Rattle.drv_core.proofs.Contracts.Runs.{knows}
 use Rattle.drv_core.proofs.run.Run.next.Goals as goal
 
--- next (src/run.rt): the next step, or the status if the run is whole
+-- next (src/run.rt). The next step, or the status if the run is whole.
 
 pub returns-clause-beginning : goal.returns-clause-beginning
 returns-clause-beginning c = (knows c.self.inside.plan.now c.self.inside.pass_codes c.self.inside.work c.args.self.now c.look.result

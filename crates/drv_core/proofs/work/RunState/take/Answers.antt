@@ -4,7 +4,7 @@ use Rattle.drv_core.specs.Code.Course.{Sources}
 use Rattle.drv_core.specs.Code.RunStateView.{phase_of, run_state_of}
 use Rattle.std.proofs.Common.{ap}
 
--- take (src/work.rt): takes the answer to the next step
+-- take (src/work.rt). Takes the answer to the next step.
 
 pub returns-in-Sources : goal.returns-in-Sources
 returns-in-Sources c = in_part c.args.plan.now (run_state_of c.args.self.now) (run_state_of c.keep.new.self)

@@ -5,7 +5,7 @@ use Rattle.drv_core.specs.Code.RunState.{flown}
 use Rattle.drv_core.specs.Code.RunStateView.{run_state_of}
 use Rattle.std.proofs.Common.{◌∙◌, ap}
 
--- take_source (src/work.rt): the source in progress takes an answer
+-- take_source (src/work.rt). The source in progress takes an answer.
 
 pub returns : goal.returns
 returns c = c.leave_sources.ensures ∙ ap (λ f. flown (record (run_state_of c.args.self.now) { fleet = f }))

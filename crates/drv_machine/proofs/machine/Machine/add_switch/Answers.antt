@@ -8,7 +8,7 @@ use Rattle.drv_system.specs.Known.{Is}
 use Rattle.drv_words.specs.Bytes.{hyphen}
 use Rattle.std.proofs.Common.{◌∙◌, ◌++◌, List, [], ◌∷◌, Ok, ap, sym, ℕ}
 
--- add_switch (src/machine/whole_words.rt): the switch at a place and its argument are put, each as a whole word
+-- add_switch (src/machine/whole_words.rt). The switch at a place and its argument are put, each as a whole word.
 
 pub returns-in_default-clause-does : goal.returns-in_default-clause-does
 returns-in_default-clause-does c F =

@@ -2,7 +2,7 @@ use Rattle.drv_machine.proofs.Files.{file_begins, no_beginning}
 use Rattle.drv_machine.proofs.machine.Machine.begin_file.Goals as goal
 use Rattle.std.proofs.Common.{rules}
 
--- begin_file (src/machine/filing.rt): the open word ends, and the words after it are those of a file
+-- begin_file (src/machine/filing.rt). The open word ends, and the words after it are those of a file.
 
 pub returns-in_err-end_word-clause-does : goal.returns-in_err-end_word-clause-does
 returns-in_err-end_word-clause-does g c F e =

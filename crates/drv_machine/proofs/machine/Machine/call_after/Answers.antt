@@ -8,8 +8,8 @@ use Rattle.drv_system.proofs.AskedCalls.{asked_further, extends_before}
 use Rattle.drv_system.specs.Gives.{GivesKnown}
 use Rattle.std.proofs.Common.{ap, rules, subst, ◌≡◌, ◌∙◌}
 
--- call_after (src/machine/functions.rt): arguments have been cut, and what was cut before them goes on: what the function of a name gives
--- for them
+-- call_after (src/machine/functions.rt). Arguments have been cut, and what was cut before them goes on: what the function of a name gives
+-- for them.
 
 pub returns-in_err-end_word-clause-does : goal.returns-in_err-end_word-clause-does
 returns-in_err-end_word-clause-does g c F e =

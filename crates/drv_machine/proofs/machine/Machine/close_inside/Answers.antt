@@ -2,7 +2,7 @@ use Rattle.drv_machine.proofs.FailureFiles.{closed_none, closed_some}
 use Rattle.drv_machine.proofs.machine.Machine.close_inside.Goals as goal
 use Rattle.drv_machine.specs.contracts.machine.Machine.{the_view}
 
--- close_inside (src/machine/marking.rt): the innermost `%W` ends, and the last word that ended in it is a failure file
+-- close_inside (src/machine/marking.rt). The innermost `%W` ends, and the last word that ended in it is a failure file.
 
 pub returns-in_default-clause-does : goal.returns-in_default-clause-does
 returns-in_default-clause-does c F C =

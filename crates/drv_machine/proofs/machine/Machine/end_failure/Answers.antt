@@ -3,7 +3,7 @@ use Rattle.drv_machine.proofs.machine.Machine.end_failure.Goals as goal
 use Rattle.drv_machine.specs.Working.{Break, To}
 use Rattle.std.proofs.Common.{[], ◌∷◌, rules}
 
--- end_failure (src/machine/marking.rt): the open word ends, and with it the innermost `%W`
+-- end_failure (src/machine/marking.rt). The open word ends, and with it the innermost `%W`.
 
 pub returns-in_err-end_word-clause-does : goal.returns-in_err-end_word-clause-does
 returns-in_err-end_word-clause-does g c F e =

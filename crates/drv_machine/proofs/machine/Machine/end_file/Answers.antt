@@ -4,7 +4,7 @@ use Rattle.drv_machine.proofs.machine.Machine.end_file.Goals as goal
 use Rattle.drv_system.proofs.AskedCalls.{asked_further, extends_before}
 use Rattle.std.proofs.Common.{rules, ◌∙◌}
 
--- end_file (src/machine/filing.rt): the open word ends, and with it the file: its name is put, if it has words
+-- end_file (src/machine/filing.rt). The open word ends, and with it the file: its name is put, if it has words.
 
 pub returns-in_err-end_word-clause-does : goal.returns-in_err-end_word-clause-does
 returns-in_err-end_word-clause-does g c F e =

@@ -3,7 +3,7 @@ use Rattle.drv_machine.proofs.machine.Machine.end_line.Goals as goal
 use Rattle.drv_machine.specs.Working.{Break, End}
 use Rattle.std.proofs.Common.{[], ◌∷◌, rules}
 
--- end_line (src/machine.rt): the open word and its command end; a command without a word is dropped
+-- end_line (src/machine.rt). The open word and its command end; a command without a word is dropped.
 
 pub returns-in_err-end_word-clause-does : goal.returns-in_err-end_word-clause-does
 returns-in_err-end_word-clause-does g c F e =

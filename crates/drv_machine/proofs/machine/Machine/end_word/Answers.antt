@@ -5,7 +5,7 @@ use Rattle.drv_machine.specs.Code.Running.{Machine}
 use Rattle.drv_system.specs.Known.{Is}
 use Rattle.std.proofs.Common.{Ok, Some, ap, sym, ◌∙◌}
 
--- end_word (src/machine/marking.rt): the open word, if there is one, ends: as it is, or as the path of a library file or a linker script
+-- end_word (src/machine/marking.rt). The open word, if there is one, ends: as it is, or as the path of a library file or a linker script.
 
 pub returns-then-not-self-clause-does : goal.returns-then-not-self-clause-does
 returns-then-not-self-clause-does g c F e =

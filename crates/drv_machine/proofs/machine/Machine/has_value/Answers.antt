@@ -2,7 +2,7 @@ use Rattle.drv_machine.proofs.Functions.{holds_as, holds_failed}
 use Rattle.drv_machine.proofs.machine.Machine.has_value.Goals as goal
 use Rattle.std.proofs.Common.{rules, sym}
 
--- has_value (src/machine/functions.rt): arguments have been cut, and what was cut before them goes on: whether the function has a value
+-- has_value (src/machine/functions.rt). Arguments have been cut, and what was cut before them goes on: whether the function has a value.
 
 pub returns-in_err-given-clause-does : goal.returns-in_err-given-clause-does
 returns-in_err-given-clause-does g c F e =

@@ -2,7 +2,7 @@ use Rattle.drv_machine.proofs.Cutter.{begun_with}
 use Rattle.drv_machine.proofs.machine.Machine.new.Goals as goal
 use Rattle.std.proofs.Common.{◌∙◌}
 
--- new (src/machine.rt): nothing is cut, hidden or counted; options, numbers and outputs go on from the texts before
+-- new (src/machine.rt). Nothing is cut, hidden or counted; options, numbers and outputs go on from the texts before.
 
 pub returns : goal.returns
 returns c F =

@@ -2,7 +2,7 @@ use Rattle.drv_machine.proofs.Cutter.{pipe_failed, pipe_put}
 use Rattle.drv_machine.proofs.machine.Machine.pipe.Goals as goal
 use Rattle.std.proofs.Common.{rules}
 
--- pipe (src/machine.rt): the open word ends, and its command with a pipe
+-- pipe (src/machine.rt). The open word ends, and its command with a pipe.
 
 pub returns-in_err-end_word-clause-does : goal.returns-in_err-end_word-clause-does
 returns-in_err-end_word-clause-does g c F e =

@@ -8,7 +8,7 @@ use Rattle.drv_system.proofs.AskedCalls.{asked_further, extends_before}
 use Rattle.std.proofs.Common.{arith, rules, sym, ◌∙◌}
 use Rattle.std.specs.List.{flat_map}
 
--- put_all_broken (src/machine/lists.rt): lists of bytes are put, with a break after each
+-- put_all_broken (src/machine/lists.rt). Lists of bytes are put, with a break after each.
 
 pub loop-word-preserved : goal.loop-word-preserved
 loop-word-preserved g c = record {

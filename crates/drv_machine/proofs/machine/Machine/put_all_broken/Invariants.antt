@@ -7,7 +7,7 @@ use Rattle.drv_system.specs.Code.Asked.{Asked}
 use Rattle.drv_system.specs.Facts.{Facts}
 use Rattle.std.proofs.Common.{drop, flat_map, length, ◌≡◌}
 
--- the loops of put_all_broken (src/machine/lists.rt): lists of bytes are put, with a break after each
+-- The loops of put_all_broken (src/machine/lists.rt). Lists of bytes are put, with a break after each.
 
 abbrev pub invariant-loop-word : goal.invariant-loop-word
 invariant-loop-word g l = record {

@@ -4,7 +4,7 @@ use Rattle.drv_machine.specs.Working.{Break, words}
 use Rattle.drv_system.proofs.AskedCalls.{asked_further, extends_before}
 use Rattle.std.proofs.Common.{[], ◌∷◌}
 
--- put_apart (src/machine/lists.rt): whole words are put after a break
+-- put_apart (src/machine/lists.rt). Whole words are put after a break.
 
 pub returns-clause-does : goal.returns-clause-does
 returns-clause-does g c F e = put_last F c.args.context.now c.args.self.now c.end_word.new.self c.put_words.new.self (Break ∷ [])

@@ -5,7 +5,7 @@ use Rattle.drv_machine.specs.Working.{Break, Put, word_of}
 use Rattle.drv_system.proofs.AskedCalls.{asked_further, extends_before}
 use Rattle.std.proofs.Common.{◌∙◌, Some, [], ◌∷◌, ap, map, rules, sym}
 
--- put_argument (src/machine.rt): the open word ends, and the argument of the switch at a place, if it has one, is a word after it
+-- put_argument (src/machine.rt). The open word ends, and the argument of the switch at a place, if it has one, is a word after it.
 
 pub returns-in_err-end_word-clause-does : goal.returns-in_err-end_word-clause-does
 returns-in_err-end_word-clause-does g c F e =

@@ -3,7 +3,7 @@ use Rattle.drv_machine.proofs.machine.Machine.put_broken.Goals as goal
 use Rattle.drv_machine.specs.Working.{Break, Put}
 use Rattle.std.proofs.Common.{[], ◌∷◌, map, rules}
 
--- put_broken (src/machine/lists.rt): bytes are put, with a break after them
+-- put_broken (src/machine/lists.rt). Bytes are put, with a break after them.
 
 pub returns-in_err-put-clause-does : goal.returns-in_err-put-clause-does
 returns-in_err-put-clause-does g c F e =

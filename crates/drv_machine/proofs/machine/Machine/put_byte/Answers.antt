@@ -3,7 +3,7 @@ use Rattle.drv_machine.proofs.machine.Machine.put_byte.Goals as goal
 use Rattle.drv_machine.specs.contracts.machine.Machine.{the_view}
 use Rattle.std.proofs.Common.{◌∙◌, ◌++◌, ◌∷◌, [], ap, refl, sym}
 
--- put_byte (src/machine.rt): a byte goes into the open word, or opens one
+-- put_byte (src/machine.rt). A byte goes into the open word, or opens one.
 
 pub returns-clause-does : goal.returns-clause-does
 returns-clause-does c F C = rw (← c.self.view_is)

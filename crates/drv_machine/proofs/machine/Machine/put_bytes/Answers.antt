@@ -2,7 +2,7 @@ use Rattle.drv_machine.proofs.Cutter.{bytes_put}
 use Rattle.drv_machine.proofs.machine.Machine.put_bytes.Goals as goal
 use Rattle.std.proofs.Common.{◌∙◌, ◌++◌, ap, sym}
 
--- put_bytes (src/machine.rt): bytes go into the open word, or open one; no bytes change nothing
+-- put_bytes (src/machine.rt). Bytes go into the open word, or open one; no bytes change nothing.
 
 pub returns-clause-does : goal.returns-clause-does
 returns-clause-does c F C = rw (← c.self.view_is)

@@ -6,7 +6,7 @@ use Rattle.drv_system.proofs.AskedCalls.{asked_further, extends_before}
 use Rattle.drv_words.specs.Bytes.{at_sign}
 use Rattle.std.proofs.Common.{[], map, refl, rules, sym, ◌++◌, ◌∙◌, ◌∷◌}
 
--- put_file (src/machine/filing.rt): the name of a file with these words is put, if there are any
+-- put_file (src/machine/filing.rt). The name of a file with these words is put, if there are any.
 
 pub returns-then-is_empty-clause-does : goal.returns-then-is_empty-clause-does
 returns-then-is_empty-clause-does g c F e = none_filed F c.args.context.now c.args.self.now c.args.words.now

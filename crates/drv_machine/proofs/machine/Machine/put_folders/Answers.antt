@@ -9,7 +9,7 @@ use Rattle.drv_system.proofs.AskedCalls.{extends_before}
 use Rattle.std.proofs.Common.{ap, sym, ◌∙◌}
 use Rattle.std.specs.List.{flat_map}
 
--- put_folders (src/machine/lists.rt): the options for the folders of libraries are put
+-- put_folders (src/machine/lists.rt). The options for the folders of libraries are put.
 
 pub returns-clause-does : goal.returns-clause-does
 returns-clause-does g c F e =

@@ -5,7 +5,7 @@ use Rattle.drv_machine.specs.Working.{bytes}
 use Rattle.drv_system.specs.Known.{Is}
 use Rattle.std.proofs.Common.{◌≡◌, Ok, OnOk, ap, subst, sym}
 
--- put_item (src/machine.rt): the bytes of an item go into the open word, or open one: mostly one byte, which has a shorter path
+-- put_item (src/machine.rt). The bytes of an item go into the open word, or open one: mostly one byte, which has a shorter path.
 
 pub returns-then-bytes-eq1-clause-does : goal.returns-then-bytes-eq1-clause-does
 returns-then-bytes-eq1-clause-does c F C =

@@ -3,7 +3,7 @@ use Rattle.drv_machine.proofs.Outputs.{outputs_put}
 use Rattle.drv_machine.proofs.machine.Machine.put_outputs.Goals as goal
 use Rattle.std.proofs.Common.{sym, ◌∙◌}
 
--- put_outputs (src/machine/lists.rt): the outputs of the jobs so far are put, each as a word of its own
+-- put_outputs (src/machine/lists.rt). The outputs of the jobs so far are put, each as a word of its own.
 
 pub returns-clause-does : goal.returns-clause-does
 returns-clause-does g c F e =

@@ -8,8 +8,8 @@ use Rattle.drv_match.specs.Matching.{name_at}
 use Rattle.drv_words.specs.Bytes.{hyphen}
 use Rattle.std.proofs.Common.{◌++◌, ◌∙◌, [], ◌∷◌, ap, map, refl, rules, sym}
 
--- put_switch (src/machine.rt): the switch at a place as the line has it, its first `-` and its argument included; it ends the word that it
--- is in
+-- put_switch (src/machine.rt). The switch at a place as the line has it, its first `-` and its argument included; it ends the word that it
+-- is in.
 
 pub returns-in_err-put-clause-does : goal.returns-in_err-put-clause-does
 returns-in_err-put-clause-does g c F e =

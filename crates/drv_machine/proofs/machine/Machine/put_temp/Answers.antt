@@ -3,8 +3,8 @@ use Rattle.drv_machine.proofs.Steps.{gives_as}
 use Rattle.drv_machine.proofs.machine.Machine.put_temp.Goals as goal
 use Rattle.std.proofs.Common.{sym, ◌∙◌}
 
--- put_temp (src/machine/naming.rt): the name of a temporary with this suffix is put; where commands are piped, `-` or nothing may take its
--- place
+-- put_temp (src/machine/naming.rt). The name of a temporary with this suffix is put; where commands are piped, `-` or nothing may take its
+-- place.
 
 pub returns-in-PipedOut-clause-does : goal.returns-in-PipedOut-clause-does
 returns-in-PipedOut-clause-does g c F e =

@@ -2,8 +2,8 @@ use Rattle.drv_machine.proofs.Functions.{value_failed, value_none, value_put}
 use Rattle.drv_machine.proofs.machine.Machine.put_value.Goals as goal
 use Rattle.std.proofs.Common.{rules}
 
--- put_value (src/machine/functions.rt): arguments have been cut, and what was cut before them goes on: the function's value is put, if it
--- has one
+-- put_value (src/machine/functions.rt). Arguments have been cut, and what was cut before them goes on: the function's value is put, if it
+-- has one.
 
 pub returns-in_err-word-clause-does : goal.returns-in_err-word-clause-does
 returns-in_err-word-clause-does g c F e =

@@ -4,7 +4,7 @@ use Rattle.drv_machine.specs.Atoms.{broken_word}
 use Rattle.drv_machine.specs.Working.{Open}
 use Rattle.std.proofs.Common.{[], ◌∷◌}
 
--- put_word (src/machine/lists.rt): a whole word is put, with an opening before it and a break after it
+-- put_word (src/machine/lists.rt). A whole word is put, with an opening before it and a break after it.
 
 pub returns-clause-does : goal.returns-clause-does
 returns-clause-does g c F e =

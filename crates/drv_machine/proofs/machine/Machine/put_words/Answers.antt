@@ -8,7 +8,7 @@ use Rattle.drv_system.proofs.AskedCalls.{asked_further, extends_before}
 use Rattle.std.proofs.Common.{arith, rules, sym, ◌∙◌}
 use Rattle.std.specs.List.{flat_map}
 
--- put_words (src/machine/lists.rt): whole words are put
+-- put_words (src/machine/lists.rt). Whole words are put.
 
 pub loop-word-preserved : goal.loop-word-preserved
 loop-word-preserved g c = record {

@@ -6,7 +6,7 @@ use Rattle.drv_system.specs.Code.Asked.{Asked}
 use Rattle.drv_system.specs.Facts.{Facts}
 use Rattle.std.proofs.Common.{drop, length, ◌≡◌}
 
--- the loops of put_words (src/machine/lists.rt): whole words are put
+-- The loops of put_words (src/machine/lists.rt). Whole words are put.
 
 abbrev pub invariant-loop-word : goal.invariant-loop-word
 invariant-loop-word g l = record {

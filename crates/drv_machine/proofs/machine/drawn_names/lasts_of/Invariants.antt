@@ -2,7 +2,7 @@ use Rattle.drv_machine.proofs.machine.drawn_names.lasts_of.Given as goal
 use Rattle.drv_machine.specs.Code.Held.{Lasts}
 use Rattle.std.proofs.Common.{take}
 
--- the loops of lasts_of (src/machine/drawn_names.rt): the paths of the last of these names
+-- The loops of lasts_of (src/machine/drawn_names.rt). The paths of the last of these names.
 
 abbrev pub invariant-loop-name : goal.invariant-loop-name
 invariant-loop-name l = Lasts l.lasts (take l.name-index l.names)

@@ -1,7 +1,7 @@
 use Rattle.drv_machine.proofs.Draws.{path_noted}
 use Rattle.drv_machine.proofs.machine.drawn_names.note_path.Goals as goal
 
--- note_path (src/machine/drawn_names.rt): the path of a name is the last one of its suffix
+-- note_path (src/machine/drawn_names.rt). The path of a name is the last one of its suffix.
 
 pub returns : goal.returns
 returns c =

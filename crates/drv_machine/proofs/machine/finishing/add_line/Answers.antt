@@ -5,7 +5,7 @@ use Rattle.drv_words.specs.declared.plan.Command.{Command}
 use Rattle.std.proofs.Common.{◌++◌, ◌∙◌, ap, sym}
 use Rattle.std.specs.Global.{Vec}
 
--- add_line (src/machine/finishing.rt): the command of one line more joins those of the group that is begun
+-- add_line (src/machine/finishing.rt). The command of one line more joins those of the group that is begun.
 
 pub returns-then-is_joined-clause-added : goal.returns-then-is_joined-clause-added
 returns-then-is_joined-clause-added g c F e lines =

@@ -7,7 +7,7 @@ use Rattle.std.proofs.lemmas.Iterator.Adapters.{YieldsList-from_vec}
 use Rattle.std.proofs.lemmas.Iterator.Consumers.{YieldsList-end}
 use Rattle.std.proofs.lemmas.List.{map-id}
 
--- groups_of (src/machine/finishing.rt): the groups of commands: with `-pipe` piped commands form one, otherwise each command is one
+-- groups_of (src/machine/finishing.rt). The groups of commands: with `-pipe` piped commands form one, otherwise each command is one.
 
 pub loop-line-init : goal.loop-line-init
 loop-line-init g c = record {

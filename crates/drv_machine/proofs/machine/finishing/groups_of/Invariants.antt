@@ -7,8 +7,8 @@ use Rattle.drv_system.specs.Code.Asked.{Asked}
 use Rattle.drv_system.specs.Facts.{Facts}
 use Rattle.std.proofs.Common.{List, ◌≡◌, ◌++◌}
 
--- the loops of groups_of (src/machine/finishing.rt): the groups of commands: with `-pipe` piped commands form one, otherwise each command
--- is one
+-- The loops of groups_of (src/machine/finishing.rt). The groups of commands: with `-pipe` piped commands form one, otherwise each command
+-- is one.
 
 abbrev pub invariant-loop-line : goal.invariant-loop-line
 invariant-loop-line g l = record {

@@ -4,7 +4,7 @@ use Rattle.std.proofs.Common.{drop, length, ◌≡◌}
 use Rattle.std.specs.List.{list_any}
 use Rattle.std.specs.Prelude.{nat_lt}
 
--- the loops of has_long_pipe (src/machine/finishing.rt): whether a group has too many commands
+-- The loops of has_long_pipe (src/machine/finishing.rt). Whether a group has too many commands.
 
 abbrev pub invariant-loop-group : goal.invariant-loop-group
 invariant-loop-group l = list_any (λ group. nat_lt most_piped (length group)) (drop l.group-index l.groups)

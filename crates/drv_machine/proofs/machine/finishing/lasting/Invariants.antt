@@ -4,7 +4,7 @@ use Rattle.std.proofs.Common.{map, ◌≡◌}
 use Rattle.std.specs.List.{filter}
 use Rattle.std.specs.Prelude.{not}
 
--- the loops of lasting (src/machine/finishing.rt): files, each once, and without the job's own temporaries
+-- The loops of lasting (src/machine/finishing.rt). Files, each once, and without the job's own temporaries.
 
 abbrev pub invariant-loop-file : goal.invariant-loop-file
 invariant-loop-file l = record {

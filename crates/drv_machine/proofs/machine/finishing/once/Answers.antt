@@ -6,7 +6,7 @@ use Rattle.std.proofs.lemmas.Iterator.Consumers.{YieldsList-end}
 use Rattle.std.proofs.lemmas.List.{map-id}
 use Rattle.std.proofs.Common.{arith, [], ◌∷◌, ◌≡◌, ◌∙◌, ap, append-nil, append_assoc, sym}
 
--- once (src/machine/finishing.rt): files, each once
+-- once (src/machine/finishing.rt). Files, each once.
 
 pub loop-file-init : goal.loop-file-init
 loop-file-init c rest = none_kept c.new-kept.result (once rest) (c.new-kept.ensures ∙ c.new.ensures)

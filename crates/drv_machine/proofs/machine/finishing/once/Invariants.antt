@@ -3,7 +3,7 @@ use Rattle.drv_machine.proofs.machine.finishing.once.Given as goal
 use Rattle.drv_machine.specs.Outcome.{once}
 use Rattle.std.proofs.Common.{List, ◌≡◌, ◌++◌, ℕ}
 
--- the loops of once (src/machine/finishing.rt): files, each once
+-- The loops of once (src/machine/finishing.rt). Files, each once.
 
 abbrev pub invariant-loop-file : goal.invariant-loop-file
 invariant-loop-file l = (rest : List (List ℕ)) → once (l.yielded ++ rest) ≡ l.kept ++ others_than l.kept (once rest)

@@ -2,7 +2,7 @@ use Rattle.drv_machine.proofs.Indexes.{next_indexed}
 use Rattle.drv_machine.proofs.machine.indexed.index_of.Goals as goal
 use Rattle.std.proofs.Common.{arith}
 
--- index_of (src/machine/indexed.rt): the words of a list, in order
+-- index_of (src/machine/indexed.rt). The words of a list, in order.
 
 pub loop-word-preserved : goal.loop-word-preserved
 loop-word-preserved c other =

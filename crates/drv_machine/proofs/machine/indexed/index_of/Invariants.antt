@@ -5,7 +5,7 @@ use Rattle.std.specs.BTreeSet.{contains}
 use Rattle.std.specs.Cmp.Lexicographic.{slice_cmp}
 use Rattle.std.specs.Ordering.{nat_cmp}
 
--- the loops of index_of (src/machine/indexed.rt): the words of a list, in order
+-- The loops of index_of (src/machine/indexed.rt). The words of a list, in order.
 
 abbrev pub invariant-loop-word : goal.invariant-loop-word
 invariant-loop-word l = (other : List ℕ) → (contains (slice_cmp nat_cmp) l.index other || is_among (drop l.word-index l.words) other)

@@ -2,7 +2,7 @@ use Rattle.drv_machine.proofs.machine.lists.is_among.Given as goal
 use Rattle.drv_machine.specs.Working.{is_among}
 use Rattle.std.proofs.Common.{drop, ◌≡◌}
 
--- the loops of is_among (src/machine/lists.rt): whether a word is among these
+-- The loops of is_among (src/machine/lists.rt). Whether a word is among these.
 
 abbrev pub invariant-loop-other : goal.invariant-loop-other
 invariant-loop-other l = is_among (drop l.other-index l.list) l.word ≡ is_among l.list l.word

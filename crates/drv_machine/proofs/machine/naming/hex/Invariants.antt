@@ -2,7 +2,7 @@ use Rattle.drv_machine.proofs.machine.naming.hex.Given as goal
 use Rattle.drv_machine.specs.Temps.{hex}
 use Rattle.std.proofs.Common.{drop, length, ◌≡◌, ◌++◌, ◌≤◌}
 
--- the loops of hex (src/machine/naming.rt): a number in base 16, with eight digits
+-- The loops of hex (src/machine/naming.rt). A number in base 16, with eight digits.
 
 abbrev pub invariant-loop-at : goal.invariant-loop-at
 invariant-loop-at l = record {

@@ -2,7 +2,7 @@ use Rattle.drv_machine.proofs.Draws.{drawn_at}
 use Rattle.drv_machine.proofs.machine.naming.last_drawn.Goals as goal
 use Rattle.std.proofs.Common.{arith, sym, ◌-◌, ◌∙◌}
 
--- last_drawn (src/machine/naming.rt): the last of these names that was drawn so with this suffix
+-- last_drawn (src/machine/naming.rt). The last of these names that was drawn so with this suffix.
 
 pub returns-then-is_drawn : goal.returns-then-is_drawn
 returns-then-is_drawn c =

@@ -3,7 +3,7 @@ use Rattle.drv_machine.specs.Temps.{last_drawn}
 use Rattle.std.proofs.Common.{drop, length, ◌≡◌, ◌≤◌}
 use Rattle.std.specs.Prelude.{None}
 
--- the loops of last_drawn (src/machine/naming.rt): the last of these names that was drawn so with this suffix
+-- The loops of last_drawn (src/machine/naming.rt). The last of these names that was drawn so with this suffix.
 
 abbrev pub invariant-loop-i : goal.invariant-loop-i
 invariant-loop-i l = record {

@@ -4,7 +4,7 @@ use Rattle.drv_system.specs.Facts.{variable_of}
 use Rattle.std.proofs.Common.{ap, codes, sym, ◌++◌, ◌∙◌}
 use Rattle.std.specs.Option.{option_copied}
 
--- temp_name (src/machine/naming.rt): the name of a temporary with this seed, number and suffix
+-- temp_name (src/machine/naming.rt). The name of a temporary with this seed, number and suffix.
 
 pub returns-clause-name : goal.returns-clause-name
 returns-clause-name g c F e =

@@ -5,7 +5,7 @@ use Rattle.drv_machine.specs.Code.Walking.{Left}
 use Rattle.drv_machine.specs.declared.walk.Walk.{Walk}
 use Rattle.std.proofs.Common.{ap, arith, subst, sym, ◌<◌, ℕ}
 
--- skip (src/walk.rt): passes over other alternatives than the one that was run
+-- skip (src/walk.rt). Passes over other alternatives than the one that was run.
 
 pub token_at-token-requires : goal.token_at-token-requires
 token_at-token-requires c =

@@ -3,7 +3,7 @@ use Rattle.drv_machine.specs.Code.Walking.{Lies}
 use Rattle.drv_syntax.specs.Tree.{Items}
 use Rattle.std.proofs.Common.{◌-◌, ◌≡◌}
 
--- the loops of skip (src/walk.rt): passes over other alternatives than the one that was run
+-- The loops of skip (src/walk.rt). Passes over other alternatives than the one that was run.
 
 abbrev pub invariant-loop-self : goal.invariant-loop-self
 invariant-loop-self l = record {

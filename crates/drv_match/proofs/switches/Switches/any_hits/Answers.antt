@@ -4,7 +4,7 @@ use Rattle.drv_match.specs.Matching.{any_hits}
 use Rattle.std.proofs.Common.{All, IfOk, List, drop, length, refl, subst, sym, take, ℕ, ◌≡◌, ◌<◌, ◌-◌, ◌∙◌, ◌∷◌}
 use Rattle.std.proofs.lemmas.Result.{IfOk-weaker}
 
--- any_hits (src/switches.rt): the places of the switches that one of these patterns hits, in order
+-- any_hits (src/switches.rt). The places of the switches that one of these patterns hits, in order.
 
 pub returns-in_default-clause-places : goal.returns-in_default-clause-places
 returns-in_default-clause-places c =

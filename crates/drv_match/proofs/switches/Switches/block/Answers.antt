@@ -1,7 +1,7 @@
 use Rattle.drv_match.proofs.ByName.{block_of_any}
 use Rattle.drv_match.proofs.switches.Switches.block.Goals as goal
 
--- block (src/switches.rt): the block that a pattern names in the order: its start, and the end after it
+-- block (src/switches.rt). The block that a pattern names in the order: its start, and the end after it.
 
 pub returns : goal.returns
 returns c = λ order o. block_of_any c.args.self.now c.self.inside.names order c.deref.result.now _ c.args.pattern.now _ _ c.self.view_is

@@ -3,7 +3,7 @@ use Rattle.drv_match.proofs.switches.Switches.from_first_hit.Goals as goal
 use Rattle.std.proofs.Common.{◌∙◌, ap, length}
 use Rattle.std.specs.Prelude.{unwrap_or}
 
--- from_first_hit (src/switches.rt): these patterns, from the first one on that hits a switch
+-- from_first_hit (src/switches.rt). These patterns, from the first one on that hits a switch.
 
 pub returns : goal.returns
 returns c = from_place c.args.self.now c.args.hidden.now c.args.patterns.now c.unwrap_or.result

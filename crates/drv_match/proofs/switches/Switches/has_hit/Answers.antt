@@ -6,7 +6,7 @@ use Rattle.std.proofs.lemmas.Iterator.{YieldsList-from_slice}
 use Rattle.std.proofs.lemmas.Iterator.Adapters.{serves_from_places}
 use Rattle.std.proofs.lemmas.Iterator.Search.{any_from_yields_List}
 
--- has_hit (src/switches.rt): whether a pattern hits any switch
+-- has_hit (src/switches.rt). Whether a pattern hits any switch.
 
 pub any-requires-clause-callable : goal.any-requires-clause-callable
 any-requires-clause-callable c =

@@ -2,7 +2,7 @@ use Rattle.drv_match.proofs.Parts.{hide_done, named_hidden, named_within}
 use Rattle.drv_match.proofs.switches.Switches.hide.Goals as goal
 use Rattle.std.proofs.Common.{◌∙◌, arith}
 
--- hide (src/switches.rt): hides every switch that a pattern names, live or not
+-- hide (src/switches.rt). Hides every switch that a pattern names, live or not.
 
 pub add-requires : goal.add-requires
 add-requires c = rw c.loop-place.invariant.as_many (named_within c.args.self.now c.args.pattern.now c.named_places-named.result.now

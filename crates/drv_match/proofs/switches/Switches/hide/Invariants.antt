@@ -2,7 +2,7 @@ use Rattle.drv_match.proofs.Parts.{all_hidden}
 use Rattle.drv_match.proofs.switches.Switches.hide.Given as goal
 use Rattle.std.proofs.Common.{◌≡◌, drop, length}
 
--- the loops of hide (src/switches.rt): hides every switch that a pattern names, live or not
+-- The loops of hide (src/switches.rt). Hides every switch that a pattern names, live or not.
 
 abbrev pub invariant-loop-place : goal.invariant-loop-place
 invariant-loop-place l = record {

@@ -4,7 +4,7 @@ use Rattle.drv_match.specs.Matching.{is_broad}
 use Rattle.std.proofs.Common.{◌∙◌, arith}
 use Rattle.std.proofs.lemmas.List.Sorted.{IsNonDecreasingBy-from_sort}
 
--- hits (src/switches.rt): the places of the switches that a pattern hits, in order
+-- hits (src/switches.rt). The places of the switches that a pattern hits, in order.
 
 pub counts-requires-clause-in_range : goal.counts-requires-clause-in_range
 counts-requires-clause-in_range c = named_within c.args.self.now c.args.pattern.now c.named_places-named.result.now

@@ -3,7 +3,7 @@ use Rattle.drv_match.proofs.Parts.{named_within}
 use Rattle.drv_match.proofs.switches.Switches.mark_hits.Goals as goal
 use Rattle.std.proofs.Common.{arith}
 
--- mark_hits (src/switches.rt): sets the flags of the places that a pattern hits
+-- mark_hits (src/switches.rt). Sets the flags of the places that a pattern hits.
 
 pub counts-requires-clause-in_range : goal.counts-requires-clause-in_range
 counts-requires-clause-in_range c = named_within c.args.self.now c.args.pattern.now c.named_places-named.result.now

@@ -2,7 +2,7 @@ use Rattle.drv_match.proofs.Merging.{marking}
 use Rattle.drv_match.proofs.switches.Switches.mark_hits.Given as goal
 use Rattle.std.proofs.Common.{◌≡◌, drop, length}
 
--- the loops of mark_hits (src/switches.rt): sets the flags of the places that a pattern hits
+-- The loops of mark_hits (src/switches.rt). Sets the flags of the places that a pattern hits.
 
 abbrev pub invariant-loop-place : goal.invariant-loop-place
 invariant-loop-place l = record {

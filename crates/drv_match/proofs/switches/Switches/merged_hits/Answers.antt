@@ -3,7 +3,7 @@ use Rattle.drv_match.proofs.switches.Switches.merged_hits.Goals as goal
 use Rattle.std.proofs.Common.{ap, arith, false, length, sym, ◌<◌, ◌∙◌, ◌∷◌, ◌++◌}
 use Rattle.std.proofs.lemmas.List.{get_or_read}
 
--- merged_hits (src/switches.rt): the places that one of these patterns hits, in order, by a flag for each place
+-- merged_hits (src/switches.rt). The places that one of these patterns hits, in order, by a flag for each place.
 
 pub loop-place-init : goal.loop-place-init
 loop-place-init c =

@@ -3,7 +3,7 @@ use Rattle.drv_match.proofs.switches.Switches.merged_hits.Given as goal
 use Rattle.drv_match.specs.Matching.{any_hits}
 use Rattle.std.proofs.Common.{◌≡◌, ◌∷◌, ◌++◌, drop, length}
 
--- the loops of merged_hits (src/switches.rt): the places that one of these patterns hits, in order, by a flag for each place
+-- The loops of merged_hits (src/switches.rt). The places that one of these patterns hits, in order, by a flag for each place.
 
 abbrev pub invariant-loop-pattern : goal.invariant-loop-pattern
 invariant-loop-pattern l = record {

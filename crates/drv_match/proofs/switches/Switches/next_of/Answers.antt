@@ -2,7 +2,7 @@ use Rattle.drv_match.proofs.Merging.{is_next, is_none}
 use Rattle.drv_match.proofs.switches.Switches.next_of.Goals as goal
 use Rattle.std.proofs.Common.{arith}
 
--- next_of (src/switches.rt): the first place of a hit from one place on, among these places that the pattern names
+-- next_of (src/switches.rt). The first place of a hit from one place on, among these places that the pattern names.
 
 pub returns-then-next-len : goal.returns-then-next-len
 returns-then-next-len c =

@@ -4,7 +4,7 @@ use Rattle.drv_match.specs.Matching.{is_hit}
 use Rattle.std.proofs.Common.{◌≡◌, false, rules, tests, true}
 use Rattle.std.proofs.lemmas.Iterator.{first_from_Range}
 
--- next_on_line (src/switches.rt): the first place of a hit from one place on, in the order of the line
+-- next_on_line (src/switches.rt). The first place of a hit from one place on, in the order of the line.
 
 pub returns : goal.returns
 returns c =

@@ -2,7 +2,7 @@ use Rattle.drv_plan.proofs.Steps.{refusal_given, source_refused, source_worked}
 use Rattle.drv_plan.proofs.progress.Progress.add_source.Goals as goal
 use Rattle.drv_plan.specs.Denoted.{with_source}
 
--- add_source (src/progress.rt): runs the text of the source at this place of the line, and adds its job
+-- add_source (src/progress.rt). Runs the text of the source at this place of the line, and adds its job.
 
 pub returns-in_err-job-clause-works : goal.returns-in_err-job-clause-works
 returns-in_err-job-clause-works g c F e =

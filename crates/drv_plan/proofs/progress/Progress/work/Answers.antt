@@ -2,7 +2,7 @@ use Rattle.drv_plan.proofs.Steps.{text_worked}
 use Rattle.drv_plan.proofs.progress.Progress.work.Goals as goal
 use Rattle.std.proofs.Common.{◌∙◌}
 
--- work (src/progress.rt): runs a text in the context, and keeps what goes on to the next one
+-- work (src/progress.rt). Runs a text in the context, and keeps what goes on to the next one.
 
 pub returns-clause-works : goal.returns-clause-works
 returns-clause-works g c F e =

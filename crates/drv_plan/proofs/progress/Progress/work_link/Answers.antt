@@ -3,7 +3,7 @@ use Rattle.drv_plan.proofs.progress.Progress.work_link.Goals as goal
 use Rattle.drv_plan.specs.Denoted.{for_link, worked}
 use Rattle.std.proofs.Common.{ap}
 
--- work_link (src/progress.rt): runs the text of the link, which takes all outputs
+-- work_link (src/progress.rt). Runs the text of the link, which takes all outputs.
 
 pub returns-clause-works : goal.returns-clause-works
 returns-clause-works g c F e =

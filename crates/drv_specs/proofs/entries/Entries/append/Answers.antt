@@ -1,7 +1,7 @@
 use Rattle.drv_specs.proofs.Appending.{appended_puts}
 use Rattle.drv_specs.proofs.entries.Entries.append.Goals as goal
 
--- append (src/changing.rt): adds to a text
+-- append (src/changing.rt). Adds to a text.
 
 pub returns : goal.returns
 returns c =

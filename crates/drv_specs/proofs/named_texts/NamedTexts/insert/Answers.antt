@@ -3,7 +3,7 @@ use Rattle.drv_specs.proofs.named_texts.NamedTexts.insert.Goals as goal
 use Rattle.std.proofs.Common.{◌∙◌, Some, ap, sym}
 use Rattle.std.specs.Option.{option_flatten}
 
--- insert (src/named_texts.rt): puts a text under a name: a name that is there keeps its place, a new one goes last
+-- insert (src/named_texts.rt). Puts a text under a name: a name that is there keeps its place, a new one goes last.
 
 pub returns-in-None-clause-old : goal.returns-in-None-clause-old
 returns-in-None-clause-old c =

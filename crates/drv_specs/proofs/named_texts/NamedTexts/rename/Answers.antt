@@ -5,8 +5,8 @@ use Rattle.std.specs.Cmp.Lexicographic.{pointwise}
 use Rattle.std.specs.Map.{lookup}
 use Rattle.std.specs.Option.{option_copied}
 
--- rename (src/named_texts.rt): gives a text a new name, in its place: under the new name it goes last, and from there to the place of the
--- old one
+-- rename (src/named_texts.rt). Gives a text a new name, in its place: under the new name it goes last, and from there to the place of the
+-- old one.
 
 pub returns-in_default : goal.returns-in_default
 returns-in_default c = unnamed c.args.old.now c.args.new.now c.args.self.now

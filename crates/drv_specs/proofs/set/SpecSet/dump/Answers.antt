@@ -6,8 +6,8 @@ use Rattle.drv_specs.specs.Sets.{Set, no_specs}
 use Rattle.drv_system.specs.Known.{Is}
 use Rattle.std.proofs.Common.{◌≡◌, IfOk, Ok, subst, sym}
 
--- dump (src/dumping.rt): the text of the set: its named texts and then its pairs, each with its name and a colon on a line before it and an
--- empty line after it (GCC manual, "-dumpspecs")
+-- dump (src/dumping.rt). The text of the set: its named texts and then its pairs, each with its name and a colon on a line before it and an
+-- empty line after it (GCC manual, "-dumpspecs").
 
 pub returns-clause-reloads : goal.returns-clause-reloads
 returns-clause-reloads c plain F prefixes =

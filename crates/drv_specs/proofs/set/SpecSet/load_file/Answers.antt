@@ -10,7 +10,7 @@ use Rattle.drv_system.specs.Asking.{Extends}
 use Rattle.drv_system.specs.Known.{Is}
 use Rattle.std.proofs.Common.{◌≡◌, ◌⊎◌, ◌∙◌, Err, ap, rules, subst}
 
--- load_file (src/loading.rt): carries out the directives of the file of this name, found as libraries are
+-- load_file (src/loading.rt). Carries out the directives of the file of this name, found as libraries are.
 
 pub returns-in_err-text-clause-asks : goal.returns-in_err-text-clause-asks
 returns-in_err-text-clause-asks g c = let asks = c.file_text.ensures.asks.asks in search rules

@@ -6,8 +6,8 @@ use Rattle.drv_specs.specs.Sets.{Set}
 use Rattle.drv_system.specs.Known.{Is}
 use Rattle.std.proofs.Common.{◌≡◌, Ok, subst, sym}
 
--- reloads_over_itself (src/laws.rt): the law that the dump of this set, loaded over the set, changes no named text and gives each pair once
--- more, unless a named text begins with `+` and a blank
+-- reloads_over_itself (src/laws.rt). The law that the dump of this set, loaded over the set, changes no named text and gives each pair once
+-- more, unless a named text begins with `+` and a blank.
 
 pub returns : goal.returns
 returns c plain F prefixes =

@@ -10,8 +10,8 @@ use Rattle.drv_system.specs.Asking.{Extends}
 use Rattle.drv_system.specs.Known.{Is}
 use Rattle.std.proofs.Common.{◌≡◌, ◌⊎◌, ◌∙◌, Err, ap, rules, subst}
 
--- with_file (src/loading.rt): the set with the directives of the file of this name carried out, as `load_file` does; no copy of the set is
--- made
+-- with_file (src/loading.rt). The set with the directives of the file of this name carried out, as `load_file` does; no copy of the set is
+-- made.
 
 pub returns-in_err-text-clause-asks : goal.returns-in_err-text-clause-asks
 returns-in_err-text-clause-asks g c = let asks = c.file_text.ensures.asks.asks in search rules

@@ -2,8 +2,8 @@ use Rattle.drv_specs.proofs.Keeping.{settled_keeps}
 use Rattle.drv_system.proofs.Asking.{extends_refl}
 use Rattle.drv_specs.proofs.set.SpecSet.work.Goals as goal
 
--- work (src/loading.rt): carries out the directives of a settled text, which may read `files` more files, on a copy that then takes the
--- place of the set
+-- work (src/loading.rt). Carries out the directives of a settled text, which may read `files` more files, on a copy that then takes the
+-- place of the set.
 
 pub invariant_of-self : goal.invariant_of-self
 invariant_of-self g c =

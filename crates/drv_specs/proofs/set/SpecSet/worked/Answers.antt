@@ -2,7 +2,7 @@ use Rattle.drv_specs.proofs.Keeping.{settled_keeps}
 use Rattle.drv_specs.proofs.set.SpecSet.worked.Goals as goal
 use Rattle.drv_system.proofs.Asking.{extends_refl}
 
--- worked (src/loading.rt): the set after the directives of a settled text, which may read `files` more files
+-- worked (src/loading.rt). The set after the directives of a settled text, which may read `files` more files.
 
 pub invariant_of-result : goal.invariant_of-result
 invariant_of-result g c =

@@ -4,7 +4,7 @@ use Rattle.drv_syntax.specs.Code.Writing.{front_size, seen}
 use Rattle.std.proofs.Common.{[], ◌∙◌, ap, inr, sym}
 use Rattle.std.specs.Prelude.{Err}
 
--- function (src/descent/functions.rt): a function's name, and its parenthesis
+-- function (src/descent/functions.rt). A function's name, and its parenthesis.
 
 pub returns-in_default : goal.returns-in_default
 returns-in_default c =

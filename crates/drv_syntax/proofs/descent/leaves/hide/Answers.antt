@@ -3,7 +3,7 @@ use Rattle.drv_syntax.proofs.descent.leaves.hide.Goals as goal
 use Rattle.drv_syntax.specs.Code.Writing.{seen, spelled}
 use Rattle.std.proofs.Common.{◌∙◌}
 
--- hide (src/descent/leaves.rt): `%<` or `%>`, after the byte
+-- hide (src/descent/leaves.rt). `%<` or `%>`, after the byte.
 
 pub returns : goal.returns
 returns c =

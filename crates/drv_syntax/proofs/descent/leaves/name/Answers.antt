@@ -7,7 +7,7 @@ use Rattle.std.proofs.Common.{◌∙◌, ◌≤◌, ap, arith, inr, length, subs
 use Rattle.std.specs.List.{prefix_len}
 use Rattle.std.specs.Prelude.{Err}
 
--- name (src/descent/leaves.rt): `%(`, after the bracket
+-- name (src/descent/leaves.rt). `%(`, after the bracket.
 
 pub returns-then-size-gt255 : goal.returns-then-size-gt255
 returns-then-size-gt255 c =

@@ -5,7 +5,7 @@ use Rattle.drv_syntax.specs.Code.Writing.{at_rest, is_empty, seen, spelled}
 use Rattle.std.proofs.Common.{◌∙◌, ap, inr, sym}
 use Rattle.std.specs.Prelude.{Err}
 
--- option (src/descent/leaves.rt): `%x`, after the letter
+-- option (src/descent/leaves.rt). `%x`, after the letter.
 
 pub returns-in_default-2 : goal.returns-in_default-2
 returns-in_default-2 c =

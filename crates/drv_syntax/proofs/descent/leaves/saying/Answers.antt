@@ -6,7 +6,7 @@ use Rattle.drv_syntax.specs.declared.fault.SyntaxFault.TheVariants.{Unclosed}
 use Rattle.std.proofs.Common.{◌∙◌, ap, inr, sym}
 use Rattle.std.specs.Prelude.{Err, Ok}
 
--- saying (src/descent/leaves.rt): `%e` or `%n`, after the letter
+-- saying (src/descent/leaves.rt). `%e` or `%n`, after the letter.
 
 pub returns-in_default : goal.returns-in_default
 returns-in_default c =

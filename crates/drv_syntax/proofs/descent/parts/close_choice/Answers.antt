@@ -2,7 +2,7 @@ use Rattle.drv_syntax.proofs.Wrote.{owned_of}
 use Rattle.drv_syntax.proofs.descent.parts.close_choice.Goals as goal
 use Rattle.drv_syntax.specs.Code.Writing.{seen}
 
--- close_choice (src/descent/parts.rt): an alternative ends, whose X ends so without the white space at its end
+-- close_choice (src/descent/parts.rt). An alternative ends, whose X ends so without the white space at its end.
 
 pub returns : goal.returns
 returns c =

@@ -4,7 +4,7 @@ use Rattle.drv_syntax.specs.Code.Writing.{is_empty, seen, spelled}
 use Rattle.std.proofs.Common.{◌∙◌, ap, inr, sym}
 use Rattle.std.specs.Prelude.{Err}
 
--- pattern (src/descent/patterns.rt): a pattern
+-- pattern (src/descent/patterns.rt). A pattern.
 
 pub returns-in_default : goal.returns-in_default
 returns-in_default c =

@@ -8,7 +8,7 @@ use Rattle.drv_syntax.specs.Tree.{pattern}
 use Rattle.std.proofs.Common.{◌∙◌, ◌<◌, ap, inr, length, subst, sym}
 use Rattle.std.specs.Prelude.{Err}
 
--- patterns (src/descent/patterns.rt): patterns after an ampersand, with the brace that closes them
+-- patterns (src/descent/patterns.rt). Patterns after an ampersand, with the brace that closes them.
 
 pub returns-in_err-p : goal.returns-in_err-p
 returns-in_err-p c =

@@ -4,7 +4,7 @@ use Rattle.drv_syntax.proofs.descent.reading.read.Goals as goal
 use Rattle.drv_syntax.specs.Code.Writing.{seen}
 use Rattle.std.specs.Prelude.{false}
 
--- read (src/descent/reading.rt): the parts of a text, of which those of its first bytes, so many, are these
+-- read (src/descent/reading.rt). The parts of a text, of which those of its first bytes, so many, are these.
 
 pub returns-in_err-items : goal.returns-in_err-items
 returns-in_err-items c =

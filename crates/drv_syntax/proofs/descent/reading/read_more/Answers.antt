@@ -1,7 +1,7 @@
 use Rattle.drv_syntax.proofs.GivenParts.{gives_err}
 use Rattle.drv_syntax.proofs.descent.reading.read_more.Goals as goal
 
--- read_more (src/descent/reading.rt): the tokens and the labels of a text, of which those of its first bytes, so many, are these
+-- read_more (src/descent/reading.rt). The tokens and the labels of a text, of which those of its first bytes, so many, are these.
 
 pub returns-in_err-r : goal.returns-in_err-r
 returns-in_err-r c =

@@ -3,7 +3,7 @@ use Rattle.drv_syntax.proofs.WholeGiven.{from_start}
 use Rattle.drv_syntax.proofs.descent.reading.read_text.Goals as goal
 use Rattle.std.proofs.Common.{◌∙◌, sym}
 
--- read_text (src/descent/reading.rt): the tokens and the labels of a text
+-- read_text (src/descent/reading.rt). The tokens and the labels of a text.
 
 pub returns-in_err-tokens : goal.returns-in_err-tokens
 returns-in_err-tokens c =

@@ -5,7 +5,7 @@ use Rattle.drv_syntax.specs.Code.Writing.{is_empty, seen, spelled}
 use Rattle.std.proofs.Common.{◌∙◌, ap, inr, sym}
 use Rattle.std.specs.Prelude.{Err}
 
--- marked (src/descent/tests.rt): what a test asks that begins with this mark, after it
+-- marked (src/descent/tests.rt). What a test asks that begins with this mark, after it.
 
 pub returns-in_default : goal.returns-in_default
 returns-in_default c =

@@ -6,7 +6,7 @@ use Rattle.drv_syntax.specs.Contexts.{top}
 use Rattle.drv_syntax.specs.Descent.{no_lists}
 use Rattle.std.proofs.Common.{◌∙◌, sym}
 
--- plain_operand (src/descent/tests.rt): what a test asks that doesn't ask for a function's result, or a pattern
+-- plain_operand (src/descent/tests.rt). What a test asks that doesn't ask for a function's result, or a pattern.
 
 pub returns-in_err-o : goal.returns-in_err-o
 returns-in_err-o c =

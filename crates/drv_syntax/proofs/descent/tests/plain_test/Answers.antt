@@ -5,7 +5,7 @@ use Rattle.drv_syntax.specs.Code.Writing.{seen}
 use Rattle.drv_syntax.specs.Contexts.{top}
 use Rattle.drv_syntax.specs.Descent.{no_lists}
 
--- plain_test (src/descent/tests.rt): a test that doesn't ask for a function's result, or a pattern, after its front
+-- plain_test (src/descent/tests.rt). A test that doesn't ask for a function's result, or a pattern, after its front.
 
 pub returns : goal.returns
 returns c =

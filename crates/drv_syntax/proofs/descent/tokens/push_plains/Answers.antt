@@ -2,7 +2,7 @@ use Rattle.drv_syntax.proofs.PlainTokens.{tokens_step}
 use Rattle.drv_syntax.proofs.descent.tokens.push_plains.Goals as goal
 use Rattle.std.proofs.Common.{arith, ◌∙◌}
 
--- push_plains (src/descent/tokens.rt): the tokens of plain bytes, the first of them at this place
+-- push_plains (src/descent/tokens.rt). The tokens of plain bytes, the first of them at this place.
 
 pub loop-byte-preserved : goal.loop-byte-preserved
 loop-byte-preserved c =

@@ -4,8 +4,8 @@ use Rattle.drv_syntax.specs.Code.Writing.{seen}
 use Rattle.drv_syntax.specs.Code.Left.{first_of, second_of}
 use Rattle.std.proofs.Common.{◌∙◌, ap, sym}
 
--- escaped (src/descent/words.rt): more of a run of bytes of the class and of escapes, after this part of it; nothing where the text ends in
--- an escape
+-- escaped (src/descent/words.rt). More of a run of bytes of the class and of escapes, after this part of it; nothing where the text ends in
+-- an escape.
 
 pub loop-b-preserved-then-b-eq92 : goal.loop-b-preserved-then-b-eq92
 loop-b-preserved-then-b-eq92 c =

@@ -7,7 +7,7 @@ use Rattle.std.proofs.Common.{◌∙◌, ap, sym}
 use Rattle.std.specs.List.{prefix_len}
 use Rattle.std.specs.Prelude.{Ok}
 
--- quoted (src/descent/words.rt): the longest run of bytes of the class and of escapes; nothing where the text ends in an escape
+-- quoted (src/descent/words.rt). The longest run of bytes of the class and of escapes; nothing where the text ends in an escape.
 
 pub returns-then-not-begins : goal.returns-then-not-begins
 returns-then-not-begins c =

@@ -1,7 +1,7 @@
 use Rattle.drv_syntax.proofs.MarkedWords.{within_at}
 use Rattle.drv_syntax.proofs.lent.LentLabels.word.Goals as goal
 
--- word (src/lent.rt): the word of the one at this place
+-- word (src/lent.rt). The word of the one at this place.
 
 pub slice_bounds-result-count : goal.slice_bounds-result-count
 slice_bounds-result-count c =

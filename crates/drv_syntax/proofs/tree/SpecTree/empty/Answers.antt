@@ -1,7 +1,7 @@
 use Rattle.drv_syntax.proofs.Kept.{nothing_kept}
 use Rattle.drv_syntax.proofs.tree.SpecTree.empty.Goals as goal
 
--- empty (src/tree.rt): the tree of a text without bytes
+-- empty (src/tree.rt). The tree of a text without bytes.
 
 pub invariant_of-result : goal.invariant_of-result
 invariant_of-result c =

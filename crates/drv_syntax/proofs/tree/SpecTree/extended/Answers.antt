@@ -4,7 +4,7 @@ use Rattle.drv_syntax.proofs.tree.SpecTree.extended.Goals as goal
 use Rattle.drv_syntax.specs.Code.Ending.{ending_in, goes_on}
 use Rattle.std.proofs.Common.{◌∙◌, ◌++◌, ap, arith, inr, length, length-append, sym}
 
--- extended (src/tree.rt): the tree of the text with more after it, or its first fault
+-- extended (src/tree.rt). The tree of the text with more after it, or its first fault.
 
 pub returns-in_err-read-clause-tree : goal.returns-in_err-read-clause-tree
 returns-in_err-read-clause-tree c =

@@ -6,7 +6,7 @@ use Rattle.std.specs.Cmp.Lexicographic.{pointwise}
 use Rattle.std.specs.Map.{lookup}
 use Rattle.std.specs.Prelude.{cond}
 
--- kind (src/facts.rt): the kind of a path: the table's answer, or else the system's, which the table keeps
+-- kind (src/facts.rt). The kind of a path: the table's answer, or else the system's, which the table keeps.
 
 pub invariant_of-self-2 : goal.invariant_of-self-2
 invariant_of-self-2 g c =

@@ -2,7 +2,7 @@ use Rattle.drv_system.proofs.AnswerMaps.{absent, place_answers, place_cleared, p
 use Rattle.drv_system.proofs.Consulting.{consulted, consults_asks, not_consulted}
 use Rattle.drv_system.proofs.facts.FactTable.read.Goals as goal
 
--- read (src/facts.rt): asks for the bytes of a file, unless the table knows them
+-- read (src/facts.rt). Asks for the bytes of a file, unless the table knows them.
 
 pub fill_place-requires : goal.fill_place-requires
 fill_place-requires g c = place_made _ _ _ _ c.in_ok-make_place.ensures.ok

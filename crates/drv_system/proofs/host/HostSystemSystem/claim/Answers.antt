@@ -2,7 +2,7 @@ use Rattle.drv_system.proofs.Holding.{holds_step}
 use Rattle.std.proofs.Common.{refl}
 use Rattle.drv_system.proofs.host.HostSystemSystem.claim.Goals as goal
 
--- claim (src/system.rt): makes a new file for a temporary of the plan, and writes its contents
+-- claim (src/system.rt). Makes a new file for a temporary of the plan, and writes its contents.
 
 pub invariant_of-self : goal.invariant_of-self
 invariant_of-self c = holds_step _ _ c.self.invariant c.push_reserved.ensures.items refl tt refl

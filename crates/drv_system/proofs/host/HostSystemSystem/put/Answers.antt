@@ -2,7 +2,7 @@ use Rattle.drv_system.proofs.Holding.{holds_beside, holds_same}
 use Rattle.std.proofs.Common.{refl}
 use Rattle.drv_system.proofs.host.HostSystemSystem.put.Goals as goal
 
--- put (src/system.rt): writes a text to standard output
+-- put (src/system.rt). Writes a text to standard output.
 
 pub invariant_of-self-2 : goal.invariant_of-self-2
 invariant_of-self-2 c = holds_beside _ (holds_same c.self.invariant c.reserve.ensures.items refl refl)

@@ -2,7 +2,7 @@ use Rattle.drv_system.proofs.Holding.{holds_step}
 use Rattle.std.proofs.Common.{refl}
 use Rattle.drv_system.proofs.host.HostSystemSystem.remove.Goals as goal
 
--- remove (src/system.rt): removes a file of the plan
+-- remove (src/system.rt). Removes a file of the plan.
 
 pub invariant_of-self : goal.invariant_of-self
 invariant_of-self c = holds_step _ _ c.self.invariant c.push_reserved.ensures.items refl tt refl

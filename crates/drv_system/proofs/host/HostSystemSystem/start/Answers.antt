@@ -5,7 +5,7 @@ use Rattle.drv_system.proofs.host.HostSystemSystem.start.Goals as goal
 use Rattle.drv_system.proofs.host.HostSystemSystem.start.Goals.{else-to_pipe, then-to_pipe}
 use Rattle.drv_system.specs.Code.Output.{is_pipe}
 
--- start (src/system.rt): starts a command of the plan
+-- start (src/system.rt). Starts a command of the plan.
 
 pub invariant_of-self : goal.invariant_of-self
 invariant_of-self c = holds_step _ _ c.self.invariant c.push_reserved.ensures.items refl tt refl

@@ -3,7 +3,7 @@ use Rattle.std.proofs.Common.{◌+◌, ◌<◌, ap, arith, length, take}
 use Rattle.std.proofs.lemmas.Grind.{common_steps}
 use Rattle.drv_system.proofs.reading.OpenFile.read_within.Goals as goal
 
--- read_within (src/reading.rt): reads to the end, by at most `most` reads, the first one into a room of this size
+-- read_within (src/reading.rt). Reads to the end, by at most `most` reads, the first one into a room of this size.
 
 pub returns-in-Ok-eq0-clause-read : goal.returns-in-Ok-eq0-clause-read
 returns-in-Ok-eq0-clause-read g c = whole _ _ _ _ _

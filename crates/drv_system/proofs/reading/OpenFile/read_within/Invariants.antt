@@ -2,7 +2,7 @@ use Rattle.std.proofs.Common.{◌≡◌, ◌<◌, ◌≤◌, length}
 use Rattle.std.specs.Io.KnownBytes.{Consumes}
 use Rattle.drv_system.proofs.reading.OpenFile.read_within.Given as goal
 
--- the loops of read_within (src/reading.rt): reads to the end, by at most `most` reads, the first one into a room of this size
+-- The loops of read_within (src/reading.rt). Reads to the end, by at most `most` reads, the first one into a room of this size.
 
 abbrev pub invariant-loop : goal.invariant-loop
 invariant-loop g l = record {

@@ -2,7 +2,7 @@ use Rattle.drv_system.proofs.Holding.{numbered_step}
 use Rattle.std.proofs.Common.{refl}
 use Rattle.drv_system.proofs.script.ScriptSystemSystem.close_pipe.Goals as goal
 
--- close_pipe (src/system.rt): closes the pending pipe
+-- close_pipe (src/system.rt). Closes the pending pipe.
 
 pub invariant_of-self : goal.invariant_of-self
 invariant_of-self c = numbered_step _ _ c.self.invariant c.push_reserved.ensures.items refl tt

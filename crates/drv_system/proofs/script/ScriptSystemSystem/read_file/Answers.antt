@@ -2,7 +2,7 @@ use Rattle.drv_system.proofs.Holding.{numbered_beside}
 use Rattle.std.proofs.Common.{refl}
 use Rattle.drv_system.proofs.script.ScriptSystemSystem.read_file.Goals as goal
 
--- read_file (src/system.rt): reads the whole file at a path: at most 16,777,216 bytes
+-- read_file (src/system.rt). Reads the whole file at a path: at most 16,777,216 bytes.
 
 pub invariant_of-self-2 : goal.invariant_of-self-2
 invariant_of-self-2 c = numbered_beside _ c.self.invariant c.in_ok-note_read.ensures.event refl refl

@@ -2,7 +2,7 @@ use Rattle.drv_system.proofs.Holding.{numbered_beside}
 use Rattle.std.proofs.Common.{refl}
 use Rattle.drv_system.proofs.script.ScriptSystemSystem.say.Goals as goal
 
--- say (src/system.rt): writes a text to standard error
+-- say (src/system.rt). Writes a text to standard error.
 
 pub invariant_of-self-2 : goal.invariant_of-self-2
 invariant_of-self-2 c = numbered_beside _ c.self.invariant c.in_ok-note_said.ensures.event refl refl

@@ -1,8 +1,8 @@
 use Rattle.drv_words.proofs.Runs.{run_goes, word_goes}
 use Rattle.drv_words.proofs.response.Splitter.take_run.Goals as goal
 
--- take_run (src/response.rt): takes a run of plain bytes at the front of a text outside quotes, with the white space after it if that ends
--- a word
+-- take_run (src/response.rt). Takes a run of plain bytes at the front of a text outside quotes, with the white space after it if that ends
+-- a word.
 
 pub returns-in_ok-push-in-len1-up-clause-goes : goal.returns-in_ok-push-in-len1-up-clause-goes
 returns-in_ok-push-in-len1-up-clause-goes c =

@@ -3,7 +3,7 @@ use Rattle.drv_system.specs.Running.{run_of}
 use Rattle.drv_words.specs.Stepping.{pending_from, pipe_pending}
 use Rattle.std.proofs.Common.{◌≡◌, drop}
 
--- the loops of is_pipe_pending (src/steps/journal.rt): whether a pipe is pending
+-- The loops of is_pipe_pending (src/steps/journal.rt). Whether a pipe is pending.
 
 abbrev pub invariant-loop-event : goal.invariant-loop-event
 invariant-loop-event l = pending_from l.pending (run_of (drop l.event-index l.journal)) ≡ pipe_pending (run_of l.fn.journal)

@@ -3,7 +3,7 @@ use Rattle.drv_machine.proofs.machine.indexed.IndexedWords.add.Goals as goal
 use Rattle.drv_machine.specs.Working.{is_among}
 use Rattle.std.proofs.Common.{ap, sym, ◌∙◌}
 
--- add (src/machine/indexed.rt): a word goes to the end, unless it is in the list
+-- add (src/machine/indexed.rt). A word goes to the end, unless it is in the list.
 
 pub invariant_of-self-2 : goal.invariant_of-self-2
 invariant_of-self-2 c =

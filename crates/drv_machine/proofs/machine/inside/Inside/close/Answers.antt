@@ -1,7 +1,7 @@
 use Rattle.drv_machine.proofs.FailureFiles.{ends_fresh, ends_last}
 use Rattle.drv_machine.proofs.machine.inside.Inside.close.Goals as goal
 
--- close (src/machine/inside.rt): the innermost one ends, if one is open: the last word that ended in it, if one did
+-- close (src/machine/inside.rt). The innermost one ends, if one is open: the last word that ended in it, if one did.
 
 pub returns-then-fresh-eq0 : goal.returns-then-fresh-eq0
 returns-then-fresh-eq0 c = rw (← c.self.view_is) (ends_last c.self.inside.last c.in_ok-last.last c.self.inside.count c.self.inside.fresh

@@ -3,7 +3,7 @@ use Rattle.drv_machine.proofs.machine.inside.Inside.end_word.Goals as goal
 use Rattle.drv_machine.specs.Code.Held.{ended_in}
 use Rattle.std.proofs.Common.{ap, ◌∙◌}
 
--- end_word (src/machine/inside.rt): a word has ended in all of them
+-- end_word (src/machine/inside.rt). A word has ended in all of them.
 
 pub returns : goal.returns
 returns c = rw (← c.self.view_is)
