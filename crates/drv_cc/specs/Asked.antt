@@ -38,7 +38,8 @@ only_preprocesses items = (has (codes "-E") items || has (codes "-M") items) || 
 abbrev pub sets_unjudged : List Item → Bool
 sets_unjudged items = has (codes "--param=") items && (only_preprocesses items || not (is_some (sources compiled items)))
 
--- two formats of records that exclude each other ("opts.cc", set_debug_level: "conflicts with prior selection"): CTF or BTF may be beside DWARF
+-- two formats of records that exclude each other ("opts.cc", set_debug_level: "conflicts with prior selection"): CTF or BTF may be beside
+-- DWARF
 abbrev pub is_stabs : Item → Bool
 is_stabs i = is_among (texts (codes "-gstabs -gstabs+")) i.name
 

@@ -230,8 +230,8 @@ base_by items (Some name) = own_base items name
 abbrev pub source_base : List Item → Option (List ℕ)
 source_base items = base_by items (given_base items)
 
--- the name of a source's side files: that name without its end; the output's where there is one and no link, and no empty name is given; else
--- its own
+-- the name of a source's side files: that name without its end; the output's where there is one and no link, and no empty name is given;
+-- else its own
 abbrev pub stem_by : Bool → Option (List ℕ) → List ℕ → List ℕ
 stem_by true (Some output) name = stem output
 stem_by true None name = stem name

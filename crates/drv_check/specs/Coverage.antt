@@ -3,7 +3,8 @@ use Rattle.drv_match.specs.Pattern.{Pattern}
 use Rattle.drv_syntax.specs.Labels.{Label}
 use Rattle.std.specs.Prelude.{Bool, List, if◌then◌else◌, length, nat_lt, not, ℕ}
 
--- What a test of a switch asks of a line (GCC manual, "Spec Files", %{S:X}): whether it hits one of its switches, some of which may be hidden.
+-- What a test of a switch asks of a line (GCC manual, "Spec Files", %{S:X}): whether it hits one of its switches, some of which may be
+-- hidden.
 
 abbrev pub pattern_of : Label → Pattern
 pattern_of label = record { name = label.word; star = label.starred }

@@ -6,8 +6,8 @@ use Rattle.std.specs.Cmp.Lexicographic.{pointwise}
 use Rattle.std.specs.List.{flat_map, list_any}
 use Rattle.std.specs.Prelude.{Bool, List, [], ◌∷◌, ◌++◌, codes, if◌then◌else◌, nat_eq, ℕ}
 
--- What differs between two dumps of spec sets (GCC manual, "Spec Files", -dumpspecs; its form is this project's profile): the directives that
--- the first one alone has, and then those that the second one alone has, each line after a mark.
+-- What differs between two dumps of spec sets (GCC manual, "Spec Files", -dumpspecs; its form is this project's profile): the directives
+-- that the first one alone has, and then those that the second one alone has, each line after a mark.
 
 abbrev pub marked_line : List ℕ → List ℕ → List ℕ
 marked_line mark line = mark ++ line ++ newline ∷ []

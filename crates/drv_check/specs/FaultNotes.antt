@@ -16,8 +16,8 @@ use Rattle.drv_system.specs.Facts.{Facts}
 use Rattle.drv_system.specs.Known.{◌>>=◌, Is, Known, Unasked}
 use Rattle.std.specs.Prelude.{◌≡◌, Err, List, [], ◌++◌, None, Ok, Option, Result, Some, codes, find, slice_get, ℕ}
 
--- Where files are refused that are loaded over a set, each over what the earlier ones made, as a note (GNU coding standards, "Formatting Error
--- Messages"; its words are this project's profile). It is the place of the first fault, which is the driver's refusal: the law
+-- Where files are refused that are loaded over a set, each over what the earlier ones made, as a note (GNU coding standards, "Formatting
+-- Error Messages"; its words are this project's profile). It is the place of the first fault, which is the driver's refusal: the law
 -- `noted_fault_is_refusal`. A file that isn't there and that no file includes has no place.
 
 abbrev pub first_fault : List Finding → Option Finding

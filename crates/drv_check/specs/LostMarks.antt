@@ -6,8 +6,8 @@ use Rattle.drv_syntax.specs.declared.token.TokenKind.TheVariants as kinds
 use Rattle.drv_syntax.specs.declared.token.TokenKind.{TokenKind}
 use Rattle.std.specs.Prelude.{◌+◌, ◌==◌, ◌&&◌, Bool, List, [], ◌∷◌, ◌++◌, None, Option, Some, false, if◌then◌else◌, true, ℕ}
 
--- A directive that marks a word, where there is none (GCC manual, "Spec Files", %d, %s, %w; that it is a warning is this project's profile). It
--- marks the word that it is in or that begins right after it, so with white space on both sides it does nothing.
+-- A directive that marks a word, where there is none (GCC manual, "Spec Files", %d, %s, %w; that it is a warning is this project's
+-- profile). It marks the word that it is in or that begins right after it, so with white space on both sides it does nothing.
 
 abbrev pub is_mark : TokenKind → Bool
 is_mark (kinds.Leaf leaf.Removed) = true

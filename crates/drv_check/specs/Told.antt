@@ -9,8 +9,8 @@ use Rattle.json.specs.Tree.{json_tokens}
 use Rattle.std.specs.List.{flat_map}
 use Rattle.std.specs.Prelude.{Bool, List, [], ◌∷◌, ◌++◌, None, Option, Some, codes, decimal, if◌then◌else◌, ℕ}
 
--- What a check prints of findings: text (GNU coding standards, "Formatting Error Messages"), or JSON (RFC 8259; the names of members are this
--- project's profile).
+-- What a check prints of findings: text (GNU coding standards, "Formatting Error Messages"), or JSON (RFC 8259; the names of members are
+-- this project's profile).
 
 abbrev pub place_text : Place → List ℕ
 place_text place = place.file ++ codes ":" ++ decimal place.line ++ codes ":" ++ decimal place.column

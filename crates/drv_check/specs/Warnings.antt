@@ -13,8 +13,8 @@ use Rattle.std.specs.Prelude.{length, nat_eq, not, take, ℕ}
 
 -- What is legal in a piece and surely not meant, each at a byte of the piece (this project's profile).
 
--- An addition to a text that isn't there. gcc has a text self_spec without bytes, which the front gdrv-cc runs (GCC, "gcc.cc", static_specs,
--- do_self_spec).
+-- An addition to a text that isn't there. gcc has a text self_spec without bytes, which the front gdrv-cc runs (GCC, "gcc.cc",
+-- static_specs, do_self_spec).
 
 abbrev pub is_self_spec : Option (List ℕ) → Bool
 is_self_spec None = false

@@ -94,8 +94,8 @@ pub data Fails (F : Facts) (calling : Calling) (chain : Toolchain) (call : Call)
       → Drives F chain call given driven → Stops F driven.line seed (Refused refusal)
       → Fails F calling chain call given seed events (told_refusal calling.name refusal)
 
--- What arguments ask for, with what the host was asked: a question to the compiler, a line that is carried out, or a refusal. `own` is where
--- the spec file of this program lies, if that is known.
+-- What arguments ask for, with what the host was asked: a question to the compiler, a line that is carried out, or a refusal. `own` is
+-- where the spec file of this program lies, if that is known.
 pub data Comes (F : Facts) (calling : Calling) (own : Option (List ℕ)) (args : List (List ℕ)) (seed : ℕ) : List HostEvent → Prepared
     → Type 0 where
   asks : {words : Expanded} {decision : Decision} {specs compiler : List ℕ} → Words F calling args words
@@ -124,9 +124,9 @@ pub data Refuses (F : Facts) (calling : Calling) (own : Option (List ℕ)) (args
       → decided F own words.words ≡ Is decision → Leads decision (Compilation chain call)
       → Fails F calling chain call words seed events text → Refuses F calling own args seed events text
 
--- After a run that did not find a program of a source, or the compiler of a question, the call says the hint, and after another its remark, if
--- it has one. A line may choose a linker that is not there (GCC manual, "Link Options", -fuse-ld=), or a wrapper (-wrapper): the hint is about
--- neither. Where memory lacked for a text, the outcome says so.
+-- After a run that did not find a program of a source, or the compiler of a question, the call says the hint, and after another its remark,
+-- if it has one. A line may choose a linker that is not there (GCC manual, "Link Options", -fuse-ld=), or a wrapper (-wrapper): the hint is
+-- about neither. Where memory lacked for a text, the outcome says so.
 abbrev pub is_missing : Answer → Bool
 is_missing (answer.Start (start.NotStarted NotFound)) = true
 is_missing _ = false
@@ -174,8 +174,8 @@ pub data Opens : List ℕ → List Event → Type 0 where
   spoken : {b : ℕ} {text : List ℕ} {told : TellAnswer} → Opens (b ∷ text) (Say (b ∷ text) told ∷ [])
 
 -- What a call did after its questions, with so many events before that. It said the text of its refusal, with the status 1. Or it set the
--- variables for its children, said what is said first, did its work as `drive` does it, and said the hint or its remark. Or it lacked memory,
--- and made and started nothing.
+-- variables for its children, said what is said first, did its work as `drive` does it, and said the hint or its remark. Or it lacked
+-- memory, and made and started nothing.
 pub data Ends (F : Facts) (at : ℕ) (calling : Calling) (own : Option (List ℕ)) (args : List (List ℕ)) (seed : ℕ)
     : Outcome → List HostEvent → List HostEvent → List Event → Type 0 where
   refused : {asked : List HostEvent} {text : List ℕ} {told : TellAnswer} → Refuses F calling own args seed asked text

@@ -33,8 +33,8 @@ objection_by F name inputs (Some value) = Is (variable_text name)
 abbrev pub objection : Facts → List ℕ → List (List ℕ) → Known (List ℕ)
 objection F name inputs = asked (variable_of F (codes "GCC_EXEC_PREFIX")) >>= λ value. objection_by F name inputs value
 
--- Whether an output is an input, by whatever path (canonical_filename_eq): where a file is there, the path that each input leads to is asked
--- for, up to the first that is that of the output.
+-- Whether an output is an input, by whatever path (canonical_filename_eq): where a file is there, the path that each input leads to is
+-- asked for, up to the first that is that of the output.
 abbrev pub is_at : List ℕ → Option (List ℕ) → Bool
 is_at path None = false
 is_at path (Some found) = pointwise nat_eq found path

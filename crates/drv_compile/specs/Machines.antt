@@ -27,8 +27,8 @@ key_of items = flat_map key_word items
 abbrev pub row_beginning : List Item → List ℕ
 row_beginning items = codes "machine" ++ key_of items ++ codes "\t"
 
--- A word of a row is a switch; one for a folder of the row's libraries is a prefix too, and files are looked for there first (GCC, "gcc.cc",
--- for_each_path).
+-- A word of a row is a switch; one for a folder of the row's libraries is a prefix too, and files are looked for there first (GCC,
+-- "gcc.cc", for_each_path).
 abbrev pub folder_option : List ℕ
 folder_option = codes "--gdrv-in="
 

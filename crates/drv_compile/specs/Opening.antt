@@ -10,8 +10,8 @@ use Rattle.drv_system.specs.Known.{◌>>=◌, Is, Known}
 use Rattle.std.specs.List.{list_any}
 use Rattle.std.specs.Prelude.{Bool, List, [], ◌∷◌, false, if◌then◌else◌, true, ℕ}
 
--- What is said before the work of a line whose commands are shown: what the compiler says of itself, and the switches of a link (GCC manual,
--- "Overall Options", -v and -###; GCC, "gcc.cc", driver::maybe_print_and_exit).
+-- What is said before the work of a line whose commands are shown: what the compiler says of itself, and the switches of a link (GCC
+-- manual, "Overall Options", -v and -###; GCC, "gcc.cc", driver::maybe_print_and_exit).
 
 abbrev pub shows : Effect → Bool
 shows (effect.TurnsOn setting.Verbose) = true

@@ -19,8 +19,8 @@ use Rattle.drv_system.specs.Facts.{Facts}
 use Rattle.drv_system.specs.Known.{Is, Known}
 use Rattle.std.specs.Prelude.{◌≡◌, ◌&&◌, Bool, Err, Ok, Option, Result, Some, count_by, false, is_some, nat_lt, true, ℕ}
 
--- What items of the driver's line ask for: the definitions of `drive`, over facts that an earlier part of the call has asked for (GCC manual,
--- "Overall Options"). The items give the line: no words of them are read.
+-- What items of the driver's line ask for: the definitions of `drive`, over facts that an earlier part of the call has asked for (GCC
+-- manual, "Overall Options"). The items give the line: no words of them are read.
 
 abbrev pub line_given : DriverLine → Result Line ArgsFault
 line_given given = line_judged given.from_file given.items

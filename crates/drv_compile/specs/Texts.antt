@@ -111,8 +111,8 @@ abbrev pub gone_text : List ℕ → List ℕ → List ℕ → List ℕ
 gone_text name specs machine = name ++ codes ": note: the spec file may be for a gcc that is gone: " ++ writing specs machine
     ++ codes " again\n"
 
--- Where the only word of a line is --help or --version, the compiler's answer gets a line in the name of this program: before it, or after it
--- (GCC manual, "Overall Options").
+-- Where the only word of a line is --help or --version, the compiler's answer gets a line in the name of this program: before it, or after
+-- it (GCC manual, "Overall Options").
 abbrev pub if_only : List ℕ → List (List ℕ) → List ℕ → List ℕ
 if_only word [] text = []
 if_only word (w ∷ []) text = if is w word then text else []

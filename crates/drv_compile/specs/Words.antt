@@ -21,8 +21,8 @@ use Rattle.drv_system.specs.declared.event.ReadAnswer.TheVariants.{Failed, Missi
 use Rattle.drv_system.specs.declared.event.ReadAnswer.{ReadAnswer}
 use Rattle.std.specs.Prelude.{◌≡◌, Bool, Err, List, [], ◌∷◌, ◌++◌, None, Ok, Option, Result, Some, codes, ℕ}
 
--- The words of a call, over facts: response files expanded, of which none may be there and not be readable, and the words of c99 turned into
--- gcc's (GCC manual, "Overall Options", @file; POSIX, c99).
+-- The words of a call, over facts: response files expanded, of which none may be there and not be readable, and the words of c99 turned
+-- into gcc's (GCC manual, "Overall Options", @file; POSIX, c99).
 
 -- the path of a response file that a word still names, since it can't be read
 abbrev pub if_unread : List ℕ → ReadAnswer → Option (List ℕ)
@@ -62,8 +62,8 @@ pub record Words (F : Facts) (calling : Calling) (args : List (List ℕ)) (words
   pub readable : first_unread F expanded.words ≡ Is None
   pub fronts : fronted calling.front expanded ≡ Ok words
 
--- The text of a refusal of the driver: that of c99 has its name in its text. No spec file of this program is for another language than C and
--- assembler, so none is said to be not installed.
+-- The text of a refusal of the driver: that of c99 has its name in its text. No spec file of this program is for another language than C
+-- and assembler, so none is said to be not installed.
 abbrev pub told_refusal : List ℕ → Refusal → List ℕ
 told_refusal name (refusal.C99 fault) = refusal_text (refusal.C99 fault) ++ codes "\n"
 told_refusal name (refusal.Args fault) = error_line name (refusal_text (refusal.Args fault))

@@ -2,8 +2,8 @@ use Rattle.drv_args.specs.declared.items.Item.{Item}
 use Rattle.std.specs.List.{starts_with}
 use Rattle.std.specs.Prelude.{List, [], ◌∷◌, codes, drop, if◌then◌else◌, length, nat_eq, ℕ}
 
--- The wrapper of a line: the program under which each of its commands is started (GCC manual, "Overall Options", -wrapper). The front has an
--- item for each word of it, of which the first is the program; a line without such items has no wrapper.
+-- The wrapper of a line: the program under which each of its commands is started (GCC manual, "Overall Options", -wrapper). The front has
+-- an item for each word of it, of which the first is the program; a line without such items has no wrapper.
 
 abbrev pub wrapper_mark : List ℕ
 wrapper_mark = codes "--gdrv-wrapper="

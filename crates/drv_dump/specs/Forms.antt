@@ -57,8 +57,8 @@ first_at (form ∷ forms) text = if starts_with nat_eq text (of_gcc form) then S
 abbrev pub form_at : List ℕ → Option WholeForm
 form_at text = first_at whole_forms text
 
--- Directives in other words, and those that this driver lacks. gcc itself hands the files of a link on in a response file where its line had
--- one (%o, close_at_file); here a text says so.
+-- Directives in other words, and those that this driver lacks. gcc itself hands the files of a link on in a response file where its line
+-- had one (%o, close_at_file); here a text says so.
 abbrev pub directives : List (List ℕ × List ℕ)
 directives =
     (codes "%I", codes "%(include_words)") ∷ (codes "%D", codes "%(link_folders)") ∷ (codes "%M", codes "%(multilib_folder)")

@@ -9,8 +9,8 @@ use Rattle.json.specs.Tree.{json_tokens}
 use Rattle.std.specs.List.{flat_map}
 use Rattle.std.specs.Prelude.{List, [], ◌∷◌, ◌++◌, None, Option, Some, codes, option_and_then, slice_get, ℕ}
 
--- A plan as a compilation database (Clang, "JSON Compilation Database Format Specification"): an entry for each source. It has the folder that
--- its words are relative to, its name, its first command, which reads it, and its output, if that has a name.
+-- A plan as a compilation database (Clang, "JSON Compilation Database Format Specification"): an entry for each source. It has the folder
+-- that its words are relative to, its name, its first command, which reads it, and its output, if that has a name.
 
 pub record Entry : Type 0 where
   pub file : List ℕ

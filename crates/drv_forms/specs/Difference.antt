@@ -8,9 +8,9 @@ use Rattle.std.specs.Cmp.Lexicographic.{pointwise}
 use Rattle.std.specs.List.{flat_map, list_any}
 use Rattle.std.specs.Prelude.{Bool, List, [], ◌∷◌, ◌++◌, if◌then◌else◌, nat_eq, ℕ}
 
--- What differs between two plans, as text (POSIX XCU 4 "diff": - precedes a line of the first, and + one of the second). The lines of both, as
--- they are printed, are compared one by one in their order. The words that only one of two lines has follow them: those of the first after <,
--- those of the second after >.
+-- What differs between two plans, as text (POSIX XCU 4 "diff": - precedes a line of the first, and + one of the second). The lines of both,
+-- as they are printed, are compared one by one in their order. The words that only one of two lines has follow them: those of the first
+-- after <, those of the second after >.
 
 abbrev pub words_of : Command → List (List ℕ)
 words_of command = command.program ∷ command.words

@@ -10,7 +10,8 @@ use Rattle.std.specs.Prelude.{◌+◌, ◌-◌, ◌==◌, List, [], ◌∷◌, �
 -- place in the plan. An edge with a bar is a pipe. Any other edge leads to what comes next: from a group to the next one, from a job to
 -- its output, and from that to the link.
 
--- between double quotes: a quote and a backslash are put after a backslash, and an ampersand, which begins a name of a character, by its name
+-- between double quotes: a quote and a backslash are put after a backslash, and an ampersand, which begins a name of a character, by its
+-- name
 abbrev pub quoted_byte : ℕ → List ℕ
 quoted_byte b =
     if b == byte.double_quote then codes "\\\""

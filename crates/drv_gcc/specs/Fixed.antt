@@ -1,8 +1,8 @@
 use Rattle.drv_dump.specs.Dumps.{written_entry}
 use Rattle.std.specs.Prelude.{List, ◌++◌, codes, ℕ}
 
--- What no dump has: how gcc compiles and assembles a source of each language (gcc.cc, default_compilers), and where files go whose names the
--- front of gdrv-cc hands on. These texts are the same for every gcc.
+-- What no dump has: how gcc compiles and assembles a source of each language (gcc.cc, default_compilers), and where files go whose names
+-- the front of gdrv-cc hands on. These texts are the same for every gcc.
 
 -- texts that a dump may replace
 unfoldable pub first_texts : List ℕ

@@ -1,7 +1,7 @@
 use Rattle.std.specs.Prelude.{◌/◌, List, [], ◌∷◌, drop, length, take, ℕ}
 
--- Words of which a program refuses some are found by asking it of many at once: where it refuses these, one of them is found, and of several
--- each half is asked.
+-- Words of which a program refuses some are found by asking it of many at once: where it refuses these, one of them is found, and of
+-- several each half is asked.
 
 abbrev pub alone : List (List ℕ) → List (List ℕ)
 alone (word ∷ []) = word ∷ []

@@ -4,7 +4,8 @@ use Rattle.std.specs.List.{ends_with, starts_with}
 use Rattle.std.specs.Prelude.{◌&&◌, ◌||◌, Bool, List, [], ◌∷◌, codes, false, if◌then◌else◌, nat_eq, true, ℕ}
 
 -- Two drivers plan the same: the same programs, each with the same words in the same order (GCC manual, "Overall Options", -###). A
--- temporary file has another name in each call. collect2 runs the linker, which this driver starts itself; that of a target may have its name.
+-- temporary file has another name in each call. collect2 runs the linker, which this driver starts itself; that of a target may have its
+-- name.
 
 abbrev pub temporary : List ℕ
 temporary = codes "temporary"

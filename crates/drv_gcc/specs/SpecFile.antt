@@ -114,9 +114,9 @@ rooted_words plain below = codes "%{-sysroot=*:" ++ below ++ codes ";:" ++ plain
 unfoldable pub folder_texts : Toolchain → List ℕ
 folder_texts gcc = own_text gcc.folders ++ headers_text gcc.include_words ++ libraries_text gcc.link_folders
 
--- A program where gcc finds it (GCC, "find_a_program"): along the -B of the line and COMPILER_PATH, and else in a folder of its own or along PATH;
--- or at the one place with which gcc was built (DEFAULT_ASSEMBLER). The words of -wrapper are followed by its plain name where it is in none of
--- those folders.
+-- A program where gcc finds it (GCC, "find_a_program"): along the -B of the line and COMPILER_PATH, and else in a folder of its own or
+-- along PATH; or at the one place with which gcc was built (DEFAULT_ASSEMBLER). The words of -wrapper are followed by its plain name where
+-- it is in none of those folders.
 unfoldable pub looked_for : Finding → List ℕ
 looked_for Own = codes "-gdrv-dirs|-gdrv-path=*"
 looked_for Along = codes "-gdrv-dirs|-gdrv-path=*|-gdrv-wrapper=*"
@@ -202,7 +202,8 @@ hiding_body texts =
 unfoldable pub hiding_text : List NamedText → List ℕ
 hiding_text texts = entry (codes "hiding_folders") (hiding_body texts)
 
--- A word that gcc adds to a compilation for its machine (DRIVER_SELF_SPECS, OPTION_DEFAULT_SPECS), unless one of these tests of the line holds.
+-- A word that gcc adds to a compilation for its machine (DRIVER_SELF_SPECS, OPTION_DEFAULT_SPECS), unless one of these tests of the line
+-- holds.
 
 abbrev pub one_of : List (List ℕ) → List ℕ
 one_of [] = codes "-gdrv-none"

@@ -20,9 +20,11 @@ use Rattle.drv_system.specs.Facts.{Facts}
 use Rattle.drv_system.specs.Known.{Is, Unasked}
 use Rattle.std.proofs.Common.{◌≡◌, ◌⊎◌, ◌<◌, ◌+◌, ◌-◌, ◌++◌, ◌∙◌, Err, List, [], ◌∷◌, Ok, ap, false, inl, inr, length, refl, sym, ℕ}
 
--- For `call`s in a text: the arguments of a function are cut by the law of a text, in a cut of their own.
+-- For calls of functions in a text (calling.rt): the arguments are cut by the law of a text, in a cut of their own (`aside`), while the cut
+-- around them waits in `outer`. `after_arguments` is their end: their words, and then what they are for.
 
 module _ (F : Facts) (C : Context) where
+  -- the definition cuts the arguments from nothing and keeps the cut around them: so does the code, with a break at their end
   arguments_done : (s : Machine) (work : Worked (Unit {0}))
       → done F C s.cut (words_of F C s.world work) ≡ (done F C nothing_cut (follow work (λ u. puts (Break ∷ []))) >>- back_at F C s.cut)
   arguments_done s (Goes atoms u v) = by (all_taken F C nothing_cut (atoms ++ Break ∷ []))
@@ -47,15 +49,17 @@ module _ (F : Facts) (C : Context) where
       by (Is (Err other)) = refl
       by Unasked = refl
 
-  -- what was cut is put aside
+  -- the state with nothing cut, while arguments are processed
   abbrev pub aside : Machine → Machine
   aside s = record s { cut = nothing_cut }
 
+  -- a step whose atoms are arguments is processed with nothing cut, and the cut around it is put back after their end
   arguments_run : (s : Machine) (step : Step (Unit {0}))
       → run F C s (arguments F C step) ≡ (run F C (aside s) (step >> puts (Break ∷ [])) >>- back_at F C s.cut)
   arguments_run s step = arguments_done s (step s.world)
 
-  -- and what the words are used for follows
+  -- a step for arguments, then what is done with their words (`go`), then what follows (`k`): worked with nothing cut up to the end of the
+  -- arguments
   pub arguments_then : {X Y : Type 0} (s : Machine) (inner : Step (Unit {0})) (go : List (List ℕ) → Step X) (k : X × Machine → Answer Y)
       → (run F C s (arguments F C inner >>= go) >>- k) ≡ (run F C (aside s) inner >>- λ r. after_arguments F C s.cut go r.1 >>- k)
   arguments_then s inner go k =
@@ -68,7 +72,7 @@ module _ (F : Facts) (C : Context) where
       (λ r. run F C r.1 (go r.0)))
       ∙ then_then (run F C (aside s) inner) (λ r. (run F C r.1 (puts (Break ∷ [])) >>- back_at F C s.cut) >>- λ q. run F C q.1 (go q.0)) k
 
-  -- words that were cut, and the function called
+  -- at the end of arguments the code ends the last word, takes the words, and puts the cut around them back
   pub after_is : {X : Type 0} (outer : Cut) (go : List (List ℕ) → Step X) (s t u : Machine)
       → run F C s (puts (Break ∷ [])) ≡ Is (Ok (tt, t)) → u ≡ record t { cut = outer }
       → run F C u (go t.cut.line.words) ≡ after_arguments F C outer go s
@@ -76,13 +80,14 @@ module _ (F : Facts) (C : Context) where
       ap (λ (m : Machine). run F C m (go t.cut.line.words)) is
       ∙ sym (ap (λ x. (x >>- back_at F C outer) >>- λ r. run F C r.1 (go r.0)) went)
 
+  -- where the end of the last word is refused, so is the call
   pub after_fails : {X : Type 0} (outer : Cut) (go : List (List ℕ) → Step X) (s : Machine) (fault : MachineFault)
       → (fault ≡ Memory) ⊎ (run F C s (puts (Break ∷ [])) ≡ Is (Err fault))
       → (fault ≡ Memory) ⊎ (after_arguments F C outer go s ≡ Is (Err fault))
   after_fails outer go s fault (inl memory) = inl memory
   after_fails outer go s fault (inr e) = inr (ap (λ x. (x >>- back_at F C outer) >>- λ r. run F C r.1 (go r.0)) e)
 
-  -- a value, and then what is made of it
+  -- what is made of the function's value may follow outside
   pub after_then : {X Y : Type 0} (outer : Cut) (go : List (List ℕ) → Step X) (f : X → Step Y) (s : Machine)
       → after_arguments F C outer (λ args. go args >>= f) s ≡ (after_arguments F C outer go s >>- λ r. run F C r.1 (f r.0))
   after_then outer go f s = by (run F C s (puts (Break ∷ [])) >>- back_at F C outer)
@@ -93,7 +98,7 @@ module _ (F : Facts) (C : Context) where
       by (Is (Err fault)) = refl
       by Unasked = refl
 
--- the arguments of an item are opened
+-- an item calls a function: its arguments are opened, as the part of the frame that the code makes
 module _ (F : Facts) (C : Context) (text : List ℕ) (w : Walk) (s : Machine) (next : ℕ) (name : List ℕ) (items : Items)
     (given : Answer (Unit {0} × Machine))
     (b : Following F C text w next (λ levels star. item_step F C (tree.Function name items) levels star) s given) where
@@ -106,11 +111,12 @@ module _ (F : Facts) (C : Context) (text : List ℕ) (w : Walk) (s : Machine) (n
   abbrev kept : Kept
   kept = record nothing_kept { name = name }
 
-  -- by the frame that the code makes: what it says is all that is used of it
+  -- of the frame o only these properties are used
   module _ (o : Opened) (fits : OpenedFits text C o (tree.pattern [] false) tree.none kept) (around_is : text_around text o ≡ text)
       (back_is : back_of o ≡ next)
       (closes : (levels : Levels) (star : List ℕ) (r : Machine)
       → closing F C levels star o (tree.pattern [] false) tree.none kept r ≡ after_arguments F C s.cut (value_step F C name) r) where
+    -- the part that is opened for the arguments: its frame, and what is left of the item's part
     abbrev around : Around
     around = record {
       frame = record { opened = o; end = w.end; star = w.star };
@@ -121,12 +127,14 @@ module _ (F : Facts) (C : Context) (text : List ℕ) (w : Walk) (s : Machine) (n
       rest = b.rest;
     }
 
+    -- the call's value, and then what follows it, is what follows the part
     ends_as : (x : Answer (Unit {0} × Machine)) → (x >>- λ r. ends F C (around ∷ b.arounds) r.1)
         ≡ (x >>- λ r. after_arguments F C s.cut (value_step F C name) r.1 >>- k)
     ends_as (Is (Ok r)) = ap (λ a. a >>- k) (closes (levels_in F C b.arounds) (star_of C w.star) r.1)
     ends_as (Is (Err fault)) = refl
     ends_as Unasked = refl
 
+    -- the walk enters the arguments, with nothing cut
     pub call_opened : length w.frames < 64 → (start : ℕ) → Stands text start (nodes_of items) next → (v : Walk) → v.at ≡ start
         → v.end ≡ next → v.star ≡ w.star → v.frames ≡ w.frames ++ record { opened = o; end = w.end; star = w.star } ∷ []
         → Left F C text v (aside F C s) given
@@ -140,7 +148,7 @@ module _ (F : Facts) (C : Context) (text : List ℕ) (w : Walk) (s : Machine) (n
 
 -- the arguments of a function that a test asks are opened
 module _ (F : Facts) (C : Context) where
-  -- steps one after another, from the left or from the right
+  -- steps one after another may be joined from the left or from the right
   assoc_run : {X Y Z : Type 0} (s : Machine) (a : Step X) (f : X → Step Y) (g : Y → Step Z)
       → run F C s ((a >>= f) >>= g) ≡ run F C s (a >>= λ x. f x >>= g)
   assoc_run s a f g =
@@ -150,6 +158,7 @@ module _ (F : Facts) (C : Context) where
       (λ r. sym (run_then F C r.1 (f r.0) g))
       ∙ sym (run_then F C s a (λ x. f x >>= g))
 
+-- a test calls a function: its arguments are opened, as the part of the frame that the code makes
 module _ (F : Facts) (C : Context) (text : List ℕ) (w : Walk) (s : Machine) (end : ℕ) (items inner_items : Items) (kept : Kept)
     (given : Answer (Unit {0} × Machine))
     (b : Following F C text w end (λ levels star. arguments_of F C inner_items kept.name levels star
@@ -160,20 +169,23 @@ module _ (F : Facts) (C : Context) (text : List ℕ) (w : Walk) (s : Machine) (e
   abbrev asked_inside : Levels → Step (Unit {0})
   asked_inside inside = items_step F C inner_items inside (star_of C w.star)
 
-  -- the whole test, where so many parts may be opened
+  -- the whole test, where these parts may still be opened
   abbrev asked_whole : Levels → Step (Unit {0})
   asked_whole levels =
       arguments_of F C inner_items kept.name levels (star_of C w.star)
       >>= judged F C kept.negated kept.asked kept.tests (levels_in F C b.arounds) (star_of C w.star)
       >>= found_step F C items kept.choices (levels_in F C b.arounds) (star_of C w.star)
 
+  -- what the words of its arguments decide
   abbrev on_words : List (List ℕ) → Step (Unit {0})
   on_words args = asked_on F C items kept (levels_in F C b.arounds) (star_of C w.star) args
 
+  -- of the frame o only these properties are used
   module _ (o : Opened) (fits : OpenedFits text C o (tree.pattern [] false) items kept) (around_is : text_around text o ≡ text)
       (back_is : back_of o ≡ end)
       (closes : (r : Machine) → closing F C (levels_in F C b.arounds) (star_of C w.star) o (tree.pattern [] false) items kept r
       ≡ after_arguments F C s.cut on_words r) where
+    -- the part that is opened for the arguments of a test
     abbrev ask_around : Around
     ask_around = record {
       frame = record { opened = o; end = w.end; star = w.star };
@@ -184,13 +196,14 @@ module _ (F : Facts) (C : Context) (text : List ℕ) (w : Walk) (s : Machine) (e
       rest = b.rest;
     }
 
+    -- the test's decision, and then what follows it, is what follows the part
     ask_ends : (x : Answer (Unit {0} × Machine)) → (x >>- λ r. ends F C (ask_around ∷ b.arounds) r.1)
         ≡ (x >>- λ r. after_arguments F C s.cut on_words r.1 >>- ask_k)
     ask_ends (Is (Ok r)) = ap (λ a. a >>- ask_k) (closes r.1)
     ask_ends (Is (Err fault)) = refl
     ask_ends Unasked = refl
 
-    -- from the left to the right
+    -- the steps of a test joined from the right, as the frame has them
     ask_right : (step : Step (Unit {0}))
         → run F C s (arguments F C step >>= has_value F C kept.name
         >>= judged F C kept.negated kept.asked kept.tests (levels_in F C b.arounds) (star_of C w.star)
@@ -204,6 +217,7 @@ module _ (F : Facts) (C : Context) (text : List ℕ) (w : Walk) (s : Machine) (e
         (λ holds. judged F C kept.negated kept.asked kept.tests (levels_in F C b.arounds) (star_of C w.star) holds
         >>= found_step F C items kept.choices (levels_in F C b.arounds) (star_of C w.star))
 
+    -- the walk enters the arguments of a test, with nothing cut
     pub ask_opened : length w.frames < 64 → (start next : ℕ) → Stands text start (nodes_of inner_items) next → (v : Walk) → v.at ≡ start
         → v.end ≡ next → v.star ≡ w.star → v.frames ≡ w.frames ++ record { opened = o; end = w.end; star = w.star } ∷ []
         → Left F C text v (aside F C s) given

@@ -31,8 +31,11 @@ use Rattle.std.proofs.lemmas.Option.{slice_get_within}
 use Rattle.std.specs.List.{range_with_len}
 use Rattle.std.specs.Option.{IfSome}
 
--- For `choose`: the alternatives of a brace are judged one after another, as the definition does.
+-- For `choose` (braces.rt), which goes over the alternatives of a brace: it judges each by its tests as the definition does. It works the X
+-- once or for each hit, and its jump to the next switch that is hit leaves out only switches that give nothing. X is what an alternative
+-- has after its colon; a hit is a switch of the line that the test's pattern names.
 
+-- the first of the alternatives at a place, and the others
 pub record FrontChoice (text : List ℕ) (at : ℕ) (choices : Choices) (end : ℕ) : Type 0 where
   pub span : Span
   pub tests : Tests
@@ -41,29 +44,32 @@ pub record FrontChoice (text : List ℕ) (at : ℕ) (choices : Choices) (end : �
   pub is : choices ≡ tree.choice span tests items others
   pub first : First text at kinds.Alternative (alternative_label items) (both (test_nodes tests) (nodes_of items)) (choice_nodes others) end
 
+-- before the end there is one
 pub front_choice : (text : List ℕ) (at : ℕ) (choices : Choices) (end : ℕ) → at < end → Stands text at (choice_nodes choices) end
     → FrontChoice text at choices end
 front_choice text at tree.no_choice end h e = absurd (omega (arith, h, e))
 front_choice text at (tree.choice span tests items others) end h s =
     record { span = span; tests = tests; items = items; others = others; is = refl; first = first_of s }
 
+-- at the end there is none
 pub no_choices_left : (text : List ℕ) (at : ℕ) (choices : Choices) (end : ℕ) → end ≤ at → Stands text at (choice_nodes choices) end
     → choices ≡ tree.no_choice
 no_choices_left text at tree.no_choice end h s = refl
 no_choices_left text at (tree.choice span tests items others) end h (next, part, within, following) =
     absurd (omega (arith, h, part.later, stand_grows _ _ next (choice_nodes others) end following))
 
--- the items of an alternative follow its tests
+-- the items of an alternative are what follows its tests
 pub tests_after : (tests : Tests) (items : Items) → after_tests (both (test_nodes tests) (nodes_of items)) ≡ nodes_of items
 tests_after tree.no_test tree.none = refl
 tests_after tree.no_test (tree.more span item items) = rw (item_no_test item) refl
 tests_after (tree.test span negated asked tests) items = tests_after tests items
 
--- an X by the first of its tests that is true, and the alternatives after it
+-- what an alternative gives by the test that was found true, or else the alternatives after it
 abbrev pub by_found : Facts → Context → Items → Choices → Levels → List ℕ → Option Asked → Step (Unit {0})
 by_found F C items others levels star found = worked F C found (has_star items)
     (λ rest inside. items_step F C items inside rest) levels star (choices_step F C others levels star)
 
+-- the first alternative, and those after it, by its tests
 tested : (F : Facts) (C : Context) (text : List ℕ) (at end : ℕ) (span : Span) (tests : Tests) (items : Items) (others : Choices)
     (levels : Levels) (star : List ℕ) → (end ≡ at → ⊥) → Stands text at (test_nodes tests) end
     → choices_step F C (tree.choice span tests items others) levels star
@@ -71,28 +77,33 @@ tested : (F : Facts) (C : Context) (text : List ℕ) (at end : ℕ) (span : Span
 tested F C text at end span tree.no_test items others levels star some s = absurd (some (sym s))
 tested F C text at end span (tree.test place negated asked tests) items others levels star some s = refl
 
--- the alternatives that are left at a place, and the state that was there and that is
+-- the invariant of the loop over alternatives: those at `at`, worked from the present state, give what all gave from the state before
 abbrev pub ChoicesLeft : Facts → Context → List ℕ → Machine → Machine → ℕ → ℕ → Choices → Levels → List ℕ → Type 0
 ChoicesLeft F C text s t at end choices levels star =
     PartsLeft choice_nodes text at end (λ rest. run F C t (choices_step F C rest levels star)
     ≡ run F C s (choices_step F C choices levels star))
 
+-- an alternative is left at place `at`: s is the state before the loop, t the present one
 module _ (F : Facts) (C : Context) (text : List ℕ) (s t : Machine) (at end : ℕ) (h : at < end) (choices : Choices) (levels : Levels)
     (star : List ℕ) (left : ChoicesLeft F C text s t at end choices levels star) where
+  -- by the alternatives that are left
   from_rest : (f : FrontChoice text at left.rest end)
       → run F C s (choices_step F C choices levels star)
       ≡ run F C t (choices_step F C (tree.choice f.span f.tests f.items f.others) levels star)
   from_rest f = sym left.same ∙ ap (λ xs. run F C t (choices_step F C xs levels star)) f.is
 
+  -- its token
   module _ (token : Token) (there : slice_get (tokens_of (tree_of text)) at ≡ Some token) where
-    -- the alternatives after the first one
+    -- the alternatives after the first one follow its token
     pub others_there : (choices : Choices) × Stands text token.next (choice_nodes choices) end
     others_there =
         let f = front_choice text at left.rest end h left.stands in
         (f.others, stands_after f.first token there)
 
+    -- where its tests end and its items begin (`middle`), as the loop over its parts has found
     module _ (middle : ℕ) (first : (nodes : Nodes) → Stands text (at + 1) nodes token.next → Stands text (at + 1) (tests_in nodes) middle)
         (after_first : (nodes : Nodes) → Stands text (at + 1) nodes token.next → Stands text middle (after_tests nodes) token.next) where
+      -- the tests of an alternative go up to `middle`, and its items follow
       inside : (f : FrontChoice text at left.rest end) → Stands text (at + 1) (both (test_nodes f.tests) (nodes_of f.items)) token.next
       inside f = stands_within f.first token there
 
@@ -104,25 +115,29 @@ module _ (F : Facts) (C : Context) (text : List ℕ) (s t : Machine) (at end : �
       items_there f = subst (λ (xs : Nodes). Stands text middle xs token.next) (tests_after f.tests f.items)
           (after_first (both (test_nodes f.tests) (nodes_of f.items)) (inside f))
 
-      -- the default
+      -- an alternative without tests is the default: its items are processed
       default_is : (f : FrontChoice text at left.rest end) → middle ≡ at + 1
           → run F C s (choices_step F C choices levels star) ≡ run F C t (items_step F C f.items levels star)
       default_is f e = from_rest f ∙ ap (λ ts. run F C t (choices_step F C (tree.choice f.span ts f.items f.others) levels star))
           (no_tests_left text (at + 1) f.tests middle (omega (arith, e)) (tests_there f))
 
+      -- an alternative without tests is processed as its items: P is what the caller proves of that
       pub as_default : (P : Answer (Unit {0} × Machine) → Type 0) → middle ≡ at + 1
           → ((items : Items) → Stands text middle (nodes_of items) token.next → P (run F C t (items_step F C items levels star)))
           → P (run F C s (choices_step F C choices levels star))
       as_default P e working = let f = front_choice text at left.rest end h left.stands in
           subst P (sym (default_is f e)) (working f.items (items_there f))
 
+      -- it has a test
       module _ (some : middle ≡ at + 1 → ⊥) where
+        -- an alternative with tests, by the first that is true
         with_tests : (f : FrontChoice text at left.rest end)
             → run F C s (choices_step F C choices levels star)
             ≡ run F C t (first_true F C f.tests levels star >>= by_found F C f.items f.others levels star)
         with_tests f = from_rest f ∙ ap (run F C t) (tested F C text (at + 1) middle f.span f.tests f.items f.others levels star some
             (tests_there f))
 
+        -- where its tests are refused, the brace gives that refusal
         pub tests_fail : (fault : MachineFault) → ((tests : Tests) → Stands text (at + 1) (test_nodes tests) middle
             → (fault ≡ Memory) ⊎ (run F C t (first_true F C tests levels star) ≡ Is (Err fault)))
             → (fault ≡ Memory) ⊎ (run F C s (choices_step F C choices levels star) ≡ Is (Err fault))
@@ -137,6 +152,7 @@ module _ (F : Facts) (C : Context) (text : List ℕ) (s t : Machine) (at end : �
             by (inr e) = inr (with_tests f ∙ then_err F C t (first_true F C f.tests levels star)
                 (by_found F C f.items f.others levels star) fault e)
 
+        -- where none is true, the loop goes on with the next alternative
         pub none_true : (u : Machine) → ((tests : Tests) → Stands text (at + 1) (test_nodes tests) middle
             → run F C t (first_true F C tests levels star) ≡ Is (Ok (None, u)))
             → ChoicesLeft F C text s u token.next end choices levels star
@@ -148,6 +164,7 @@ module _ (F : Facts) (C : Context) (text : List ℕ) (s t : Machine) (at end : �
                   (by_found F C f.items f.others levels star) None u (none f.tests (tests_there f)));
             }
 
+        -- where one is true, its X is processed: P is what the caller proves of that
         pub one_true : (u : Machine) (test : ℕ) (P : Answer (Unit {0} × Machine) → Type 0)
             → ((tests : Tests) → Stands text (at + 1) (test_nodes tests) middle
             → TrueTest F C text t u test (first_true F C tests levels star))
@@ -164,7 +181,7 @@ module _ (F : Facts) (C : Context) (text : List ℕ) (s t : Machine) (at end : �
             (working g.negated g.asked f.items (choices_step F C f.others levels star)
             (ap (λ (l : Label). l.holds_star) f.first.part.label_is) g.label_is (items_there f))
 
-        -- a test by a function comes first: its arguments are opened, with what follows them
+        -- where a test by a function is first: its arguments are processed, and what they decide is kept in `kept` (`Asking` of walk.rt)
         pub one_asked : (u : Machine) (test : ℕ) (at_test : Token) (is : slice_get (tokens_of (tree_of text)) test ≡ Some at_test)
             (own : Bool) (owns : own ≡ (label_at (tree_of text) at).holds_star) (P : Answer (Unit {0} × Machine) → Type 0)
             → ((tests : Tests) → Stands text (at + 1) (test_nodes tests) middle → AskedTest F C text middle t u test tests levels star)
@@ -205,13 +222,14 @@ module _ (F : Facts) (C : Context) (text : List ℕ) (s t : Machine) (at end : �
             })
             (subst (λ (k : ℕ). Stands text (test + 1) (nodes_of g.arguments) k) (sym next) g.within))
 
+-- where no alternative is left, none gave anything
 pub choices_end : (F : Facts) (C : Context) (text : List ℕ) (s t : Machine) (at end : ℕ) → end ≤ at
     → (choices : Choices) (levels : Levels) (star : List ℕ) → ChoicesLeft F C text s t at end choices levels star
     → run F C s (choices_step F C choices levels star) ≡ Is (Ok (tt, t))
 choices_end F C text s t at end h choices levels star left = sym left.same
     ∙ ap (λ xs. run F C t (choices_step F C xs levels star)) (no_choices_left text at left.rest end h left.stands)
 
--- X once, or for each hit
+-- an X is processed once unless its test asks for a switch and it has a %* of its own
 once_is : (F : Facts) (C : Context) (negated : Bool) (asked : Asked) (own : Bool) (X : List ℕ → Levels → Step (Unit {0})) (levels : Levels)
     (star : List ℕ) (others : Step (Unit {0})) → asks_switch (test_label negated asked) && own ≡ false
     → worked F C (Some asked) own X levels star others ≡ X star levels
@@ -221,12 +239,14 @@ once_is F C negated (tree.HasSuffix word) own X levels star others e = refl
 once_is F C negated (tree.HasLanguage word) own X levels star others e = refl
 once_is F C negated (tree.HasResult name items) own X levels star others e = refl
 
+-- an X that is processed for each hit, by the pattern of its test
 pub record ForEach (F : Facts) (C : Context) (negated : Bool) (asked : Asked) (own : Bool) (X : List ℕ → Levels → Step (Unit {0}))
     (levels : Levels) (star : List ℕ) (others : Step (Unit {0})) : Type 0 where
   pub pattern : Pattern
   pub labelled_as : labelled (test_label negated asked) ≡ matching pattern
   pub is : worked F C (Some asked) own X levels star others ≡ each_hit F C pattern X levels (places F C)
 
+-- then it is such an X
 each_is : (F : Facts) (C : Context) (negated : Bool) (asked : Asked) (own : Bool) (X : List ℕ → Levels → Step (Unit {0})) (levels : Levels)
     (star : List ℕ) (others : Step (Unit {0})) → asks_switch (test_label negated asked) && own ≡ true
     → ForEach F C negated asked own X levels star others
@@ -237,17 +257,21 @@ each_is F C negated (tree.HasSuffix word) own X levels star others e = absurd cc
 each_is F C negated (tree.HasLanguage word) own X levels star others e = absurd cc
 each_is F C negated (tree.HasResult name items) own X levels star others e = absurd cc
 
+-- an X whose test was found true: `own` is whether it has a %* of its own, and b and c are what the code computes of that and of the test
 module _ (F : Facts) (C : Context) (text : List ℕ) (s : Machine) (test middle end : ℕ) (negated : Bool) (asked : Asked) (items : Items)
     (levels : Levels) (star : List ℕ) (others : Step (Unit {0}))
     (label : label_at (tree_of text) test ≡ test_label negated asked) (own : Bool) (owns : own ≡ has_star items) (b c : Bool)
     (is : b ≡ (asks_switch (label_at (tree_of text) test) && own)) (e : b ≡ c) where
+  -- what the code reads of the test and of the X is what the definition asks
   own_is : asks_switch (test_label negated asked) && has_star items ≡ c
   own_is = ap (λ o. asks_switch (test_label negated asked) && o) (sym owns) ∙ ap (λ l. asks_switch l && own) (sym label) ∙ sym is ∙ e
 
+  -- an X that the code works once is processed once by the definition
   pub work_once : c ≡ false → worked F C (Some asked) (has_star items) (λ rest inside. items_step F C items inside rest) levels star others
       ≡ items_step F C items levels star
   work_once f = once_is F C negated asked (has_star items) (λ rest inside. items_step F C items inside rest) levels star others (own_is ∙ f)
 
+  -- an X that the code works for each hit is processed for each hit by the definition
   pub work_for_each : c ≡ true → ForEach F C negated asked (has_star items)
       (λ rest inside. items_step F C items inside rest) levels star others
   work_for_each f = each_is F C negated asked (has_star items) (λ rest inside. items_step F C items inside rest) levels star others
@@ -258,6 +282,7 @@ module _ (F : Facts) (C : Context) (p : Pattern) (items : Items) where
   abbrev each : Levels → List ℕ → Step (Unit {0})
   each levels is = each_hit F C p (λ rest inside. items_step F C items inside rest) levels is
 
+  -- the switches from a place of the line on are the one there and those after it
   each_step : (levels : Levels) (i : ℕ) → i < length C.switches
       → each_from F C p items levels i ≡ each levels (i ∷ range_with_len (i + 1) (length C.switches - (i + 1)))
   each_step levels i h = by (length C.switches - i) (length C.switches - (i + 1)) (omega (arith, h))
@@ -265,12 +290,14 @@ module _ (F : Facts) (C : Context) (p : Pattern) (items : Items) where
       by : (n m : ℕ) → n ≡ suc m → each levels (range_with_len i n) ≡ each levels (i ∷ range_with_len (i + 1) m)
       by n m e = ap (λ k. each levels (range_with_len i k)) e
 
-  -- what a switch gives
+  -- what one switch gives: X and its argument if it is hit, else nothing
   abbrev one : Levels → ℕ → Bool → Step (Unit {0})
   one levels i hit = if hit then hit_step F C p items levels i else nothing
 
+  -- the switch at place i, and whether the pattern hits it, as the code computes it
   module _ (levels : Levels) (s : Machine) (i : ℕ) (h : i < length C.switches) (hit : Bool)
       (e : hit ≡ is_hit (names C) s.world.hidden (matching p) i) where
+    -- the switch at this place, by whether it is hit
     at_switch : run F C s (each_from F C p items levels i) ≡ run F C s (one levels i hit >> each_from F C p items levels (i + 1))
     at_switch =
         ap (run F C s) (each_step levels i h)
@@ -278,14 +305,17 @@ module _ (F : Facts) (C : Context) (p : Pattern) (items : Items) where
         (is_hit (names C) s.world.hidden (matching p) i) s refl
         ∙ ap (λ b. run F C s (one levels i b >> each_from F C p items levels (i + 1))) (sym e)
 
+    -- a switch that is not hit gives nothing
     pub no_hit : hit ≡ false → run F C s (each_from F C p items levels i) ≡ run F C s (each_from F C p items levels (i + 1))
     no_hit f = at_switch ∙ ap (λ b. run F C s (one levels i b >> each_from F C p items levels (i + 1))) f
         ∙ then_ok F C s nothing (λ u. each_from F C p items levels (i + 1)) tt s refl
 
+    -- a switch that is hit gives X and its argument, and then what the switches after it give
     pub at_hit : hit ≡ true → run F C s (each_from F C p items levels i)
         ≡ run F C s (hit_step F C p items levels i >> each_from F C p items levels (i + 1))
     at_hit f = at_switch ∙ ap (λ b. run F C s (one levels i b >> each_from F C p items levels (i + 1))) f
 
+  -- past the last switch there is nothing
   pub each_end : (levels : Levels) (s : Machine) (i : ℕ) → length C.switches ≤ i
       → run F C s (each_from F C p items levels i) ≡ Is (Ok (tt, s))
   each_end levels s i h = by (length C.switches - i) (omega (arith, h))
@@ -293,6 +323,7 @@ module _ (F : Facts) (C : Context) (p : Pattern) (items : Items) where
       by : (n : ℕ) → n ≡ 0 → run F C s (each levels (range_with_len i n)) ≡ Is (Ok (tt, s))
       by n e = ap (λ k. run F C s (each levels (range_with_len i k))) e
 
+  -- the hits of all switches are the hits from the first switch on
   pub each_all : (levels : Levels) → each_hit F C p (λ rest inside. items_step F C items inside rest) levels (places F C)
       ≡ each_from F C p items levels 0
   each_all levels = by (length C.switches - 0) (length C.switches) (omega arith)
@@ -300,6 +331,7 @@ module _ (F : Facts) (C : Context) (p : Pattern) (items : Items) where
       by : (n m : ℕ) → n ≡ m → each levels (range_with_len 0 m) ≡ each levels (range_with_len 0 n)
       by n m e = ap (λ k. each levels (range_with_len 0 k)) (sym e)
 
+-- whether a switch is hit, by the code's own list of names and flags
 pub hit_in : (C : Context) (all : List (List ℕ)) (hidden flags : List Bool) (q : switches.Pattern) (p : Pattern) (i : ℕ) (b : Bool)
     → b ≡ is_hit all hidden q i → all ≡ names C → hidden ≡ flags → q ≡ matching p → b ≡ is_hit (names C) flags (matching p) i
 hit_in C all hidden flags q p i b e a h m = e ∙ ap (λ xs. is_hit xs hidden q i) a ∙ ap (λ xs. is_hit (names C) xs q i) h
@@ -307,6 +339,7 @@ hit_in C all hidden flags q p i b e a h m = e ∙ ap (λ xs. is_hit xs hidden q 
 
 -- the next switch that is hit
 
+-- the next switch that is hit is one of the line, from this place on
 pub next_within : (C : Context) (all : List (List ℕ)) (hidden : List Bool) (q : switches.Pattern) (from : ℕ) (found : Option ℕ)
     → all ≡ names C → IsNextHit all hidden q from found → IfSome found (λ i. (from ≤ i) × (i < length C.switches))
 next_within C all hidden q from None ns n = tt
@@ -315,8 +348,9 @@ next_within C all hidden q from (Some i) ns n = (
   subst (λ (k : ℕ). i < k) (ap (λ xs. length xs) ns ∙ length-map C.switches (λ switch. switch.name)) n.1,
 )
 
+-- the code's search for the next switch that is hit
 module _ (F : Facts) (C : Context) (p : Pattern) (items : Items) (levels : Levels) (s : Machine) where
-  -- switches that aren't hit are passed over
+  -- switches that are not hit are passed over
   passed_over : (k from to : ℕ) → to ≡ from + k → ((i : ℕ) → from ≤ i → i < to
       → (i < length C.switches) × (is_hit (names C) s.world.hidden (matching p) i ≡ false))
       → run F C s (each_from F C p items levels from) ≡ run F C s (each_from F C p items levels to)
@@ -326,6 +360,7 @@ module _ (F : Facts) (C : Context) (p : Pattern) (items : Items) (levels : Level
       no_hit F C p items levels s from here.0 false (sym here.1) refl
       ∙ passed_over k (from + 1) to (omega (arith, e)) (λ i low high. none i (omega (arith, low)) high)
 
+  -- the next hit that the code finds is that of the definition
   pub next_finds : (all : List (List ℕ)) (hidden : List Bool) (q : switches.Pattern) (from : ℕ) (found : Option ℕ) → all ≡ names C
       → hidden ≡ s.world.hidden → q ≡ matching p → IsNextHit all hidden q from found → NextHit F C s p items levels from found
   next_finds all hidden q from found ns hs ms n = by found n

@@ -22,25 +22,30 @@ use Rattle.drv_system.specs.Facts.{Facts}
 use Rattle.drv_system.specs.Known.{Is}
 use Rattle.std.proofs.Common.{◌≡◌, ◌⊎◌, ◌&&◌, ◌<◌, ◌≤◌, ◌+◌, ◌∙◌, Bool, Err, List, Ok, Some, ap, false, refl, slice_get, true, ℕ}
 
--- For `choose` and `enter_alternative`: the walk goes into the alternative that the definition takes.
+-- For `choose` and `enter_alternative` (braces.rt): the walk goes into the alternative that the definition takes. ChoiceSteps says what the
+-- brace gives from a state; here that is put before what is left of the walk (`Following`, `Left`).
 
+-- the walk is at a brace with alternatives, of which those from place `at` on are left: s is the state before the loop, t the present one
 module _ (F : Facts) (C : Context) (text : List ℕ) (w : Walk) (s t : Machine) (at end : ℕ) (choices : Choices)
     (given : Answer (Unit {0} × Machine)) (b : Following F C text w end (λ levels star. choices_step F C choices levels star) s given)
     (left : (levels : Levels) (star : List ℕ) → ChoicesLeft F C text s t at end choices levels star) where
-  -- none is left
+  -- no alternative is left: the walk goes on after the brace
   pub none_chosen : end ≤ at → Left F C text (record w { at = end }) t given
   none_chosen h =
       leaf F C text w s given end (λ levels star. choices_step F C choices levels star) b (Ok tt) t
       (choices_end F C text s t at end h choices (levels_in F C b.arounds) (star_of C w.star)
       (left (levels_in F C b.arounds) (star_of C w.star)))
 
+  -- an alternative is left: its token, and where its tests end and its items begin (`middle`)
   module _ (h : at < end) (token : Token) (there : slice_get (tokens_of (tree_of text)) at ≡ Some token) (middle : ℕ)
       (first : (nodes : Nodes) → Stands text (at + 1) nodes token.next → Stands text (at + 1) (tests_in nodes) middle)
       (after_first : (nodes : Nodes) → Stands text (at + 1) nodes token.next → Stands text middle (after_tests nodes) token.next) where
+    -- the alternatives after the one that is entered are passed over
     skips : Skips text token.next end
     skips = others_there F C text s t at end h choices (levels_in F C b.arounds) (star_of C w.star)
         (left (levels_in F C b.arounds) (star_of C w.star)) token there
 
+    -- an alternative without tests: the walk enters its items
     pub default_chosen : middle ≡ at + 1 → Left F C text (record w { at = middle }) t given
     default_chosen e =
         as_default F C text s t at end h choices (levels_in F C b.arounds) (star_of C w.star)
@@ -53,7 +58,9 @@ module _ (F : Facts) (C : Context) (text : List ℕ) (w : Walk) (s t : Machine) 
         (λ levels star. items_step F C items levels star) t same))
         b.same
 
+    -- it has a test
     module _ (some : middle ≡ at + 1 → ⊥) where
+      -- where the tests are refused, so is the text
       pub tests_refused : (fault : MachineFault)
           → ((tests : Tests) (levels : Levels) (star : List ℕ) → Stands text (at + 1) (test_nodes tests) middle
           → (fault ≡ Memory) ⊎ (run F C t (first_true F C tests levels star) ≡ Is (Err fault)))
@@ -64,6 +71,7 @@ module _ (F : Facts) (C : Context) (text : List ℕ) (w : Walk) (s t : Machine) 
           (left (levels_in F C b.arounds) (star_of C w.star)) token there middle first after_first some fault
           (λ tests stands. stopped tests (levels_in F C b.arounds) (star_of C w.star) stands))
 
+      -- a test is true: its X is processed; P is what the caller proves of that
       pub one_chosen : (u : Machine) (test : ℕ) (P : Type 0)
           → ((tests : Tests) (levels : Levels) (star : List ℕ) → Stands text (at + 1) (test_nodes tests) middle
           → TrueTest F C text t u test (first_true F C tests levels star))
@@ -84,6 +92,7 @@ module _ (F : Facts) (C : Context) (text : List ℕ) (w : Walk) (s t : Machine) 
           same))
           b.same
 
+      -- a test by a function is first: its arguments are processed, and `kept` waits meanwhile
       pub asked_chosen : (u : Machine) (test : ℕ) (at_test : Token) → slice_get (tokens_of (tree_of text)) test ≡ Some at_test
           → (own : Bool) → own ≡ (label_at (tree_of text) at).holds_star → (P : Type 0)
           → ((tests : Tests) (levels : Levels) (star : List ℕ) → Stands text (at + 1) (test_nodes tests) middle
@@ -114,6 +123,7 @@ module _ (F : Facts) (C : Context) (text : List ℕ) (w : Walk) (s : Machine) (t
     (λ rest inside. items_step F C items inside rest) levels star others) s given) (own : Bool) (owns : own ≡ has_star items)
     (each : Bool)
     (is : each ≡ (asks_switch (label_at (tree_of text) test) && own)) where
+  -- an X that is processed once: the walk enters its items
   pub once_entered : each ≡ false → Left F C text (record w { at = start }) s given
   once_entered e =
       entered F C text w s given items start end stands
@@ -122,6 +132,7 @@ module _ (F : Facts) (C : Context) (text : List ℕ) (w : Walk) (s : Machine) (t
       (ap (run F C s) (work_once F C text s test start end negated asked items (levels_in F C b.arounds)
       (star_of C w.star) others label own owns each false is e refl)))
 
+  -- an X that is processed for each hit: the walk goes over the switches of the line; P is what the caller proves of that
   pub each_entered : each ≡ true → (P : Type 0) → ((p : Pattern) → labelled (label_at (tree_of text) test) ≡ matching p
       → Following F C text w end (λ levels star. each_from F C p items levels 0) s given → P) → P
   each_entered e P enter =

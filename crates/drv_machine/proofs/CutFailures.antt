@@ -12,7 +12,9 @@ use Rattle.std.proofs.Common.{subst, suc, sym, true, zero, ℕ}
 use Rattle.std.specs.List.{flat_map, list_any}
 use Rattle.std.specs.Prelude.{◌&&◌, if◌then◌else◌}
 
--- For cut_law: the failure files of a list of atoms.
+-- For cut_law: the failure files of a list of atoms, which are removed if the command fails: each word that is marked as an output, and of
+-- each %W the last word that ended in it. The cut keeps that word for each open %W (`inside`), and the definition looks back over the atoms
+-- (`last_in`): the lemmas join the two.
 
 -- for each %W that is open the last word that ended in it, the innermost first, of the atoms before, the nearest first
 abbrev ended_parts : Bool → List Atom → List (Option (List Atom)) → List (Option (List Atom))
@@ -23,6 +25,7 @@ abbrev without_first : {X : Type 0} → List X → List X
 without_first [] = []
 without_first (x ∷ xs) = xs
 
+-- for each %W that is open after these atoms the last word that ended in it
 abbrev open_parts : List Atom → List (Option (List Atom))
 open_parts [] = []
 open_parts (From ∷ before) = None ∷ open_parts before
@@ -31,6 +34,7 @@ open_parts (Break ∷ before) = ended_parts (is_word_before before) (run_before 
 open_parts (Piped ∷ before) = ended_parts (is_word_before before) (run_before before) (open_parts before)
 open_parts (atom ∷ before) = open_parts before
 
+-- the item at a place, if the list has one
 abbrev at_place : {X : Type 0} → List X → ℕ → Option X
 at_place [] n = None
 at_place (x ∷ xs) zero = Some x
@@ -44,6 +48,7 @@ after_first : {X : Type 0} (xs : List X) (n : ℕ) → at_place (without_first x
 after_first [] n = refl
 after_first (x ∷ xs) n = refl
 
+-- a word that ends is the last one at each place
 all_same : (run : List Atom) (parts : List (Option (List Atom))) (n : ℕ) (begun : Bool) (last : Option (List Atom))
     → at_place parts n ≡ part_at begun last
     → at_place (map (λ before. Some run) parts) n ≡ part_at begun (Some run)
@@ -53,6 +58,7 @@ all_same run (p ∷ parts) zero true last e = refl
 all_same run (p ∷ parts) zero false last e = absurd cc
 all_same run (p ∷ parts) (suc n) begun last e = all_same run parts n begun last e
 
+-- after the end of a word, looking back finds that word, or the one found before where the run was no word
 ended_at : (n : ℕ) (before : List Atom) → at_place (open_parts before) n ≡ part_at (has_begun n before) (last_in n before)
     → at_place (ended_parts (is_word_before before) (run_before before) (open_parts before)) n
     ≡ part_at (has_begun n before) (if is_word_before before then Some (run_before before) else last_in n before)
@@ -63,6 +69,7 @@ ended_at n before e = by (is_word_before before)
     by true = all_same (run_before before) (open_parts before) n (has_begun n before) (last_in n before) e
     by false = e
 
+-- the word that is kept for the n-th open %W is the one that looking back over the atoms finds
 parts_are : (n : ℕ) (before : List Atom) → at_place (open_parts before) n ≡ part_at (has_begun n before) (last_in n before)
 parts_are n [] = refl
 parts_are zero (From ∷ before) = refl
@@ -93,6 +100,7 @@ abbrev first_file : List (Option (List Atom)) → List (List Atom)
 first_file [] = []
 first_file (last ∷ parts) = list_of last
 
+-- the failure file at the end of the innermost %W is that of the first place
 file_of_first : (parts : List (Option (List Atom))) (begun : Bool) (last : Option (List Atom)) → at_place parts zero ≡ part_at begun last
     → (if begun then list_of last else []) ≡ first_file parts
 file_of_first [] true last e = absurd cc
@@ -104,10 +112,11 @@ part_file : (before : List Atom) → (if has_begun zero before then list_of (las
 part_file before = file_of_first (open_parts before) (has_begun zero before) (last_in zero before) (parts_are zero before)
 
 module _ (F : Facts) (C : Context) where
-  -- these words are found, and follow those before
+  -- the files after are those before, and then the paths that were found for these words
   abbrev After : List (List Atom) → List (List ℕ) → List (List ℕ) → Type 0
   After found before after = (names : List (List ℕ)) × (each (path_of F C) found ≡ Is (Ok names)) × (after ≡ before ++ names)
 
+  -- one more word, which was found as this path
   after_one : (word : List Atom) (found : List (List Atom)) (before after : List (List ℕ)) (name : List ℕ) → path_of F C word ≡ Is (Ok name)
       → After found (before ++ name ∷ []) after → After (word ∷ found) before after
   after_one word found before after name is (names, all, same) = (
@@ -117,13 +126,14 @@ module _ (F : Facts) (C : Context) where
     same ∙ append_assoc before (name ∷ []) names,
   )
 
+  -- one more word if it is marked, which was found as this path
   after_if : (marked : Bool) (word : List Atom) (found : List (List Atom)) (before after : List (List ℕ)) (name : List ℕ)
       → path_of F C word ≡ Is (Ok name)
       → After found (before ++ (if marked then name ∷ [] else [])) after → After ((if marked then word ∷ [] else []) ++ found) before after
   after_if true word found before after name is rest = after_one word found before after name is rest
   after_if false word found before after name is rest = subst (λ (b : List (List ℕ)). After found b after) (append-nil before) rest
 
-  -- last words and their names
+  -- for each open %W the last word that ended in it, as atoms and as the path that was found
   pub data Named : List (Option (List Atom)) → List (Option (List ℕ)) → Type 0 where
     no_part : Named [] []
     fresh : {parts : List (Option (List Atom))} {inside : List (Option (List ℕ))} → Named parts inside
@@ -131,6 +141,7 @@ module _ (F : Facts) (C : Context) where
     named : {parts : List (Option (List Atom))} {inside : List (Option (List ℕ))} {word : List Atom} {name : List ℕ}
         → path_of F C word ≡ Is (Ok name) → Named parts inside → Named (Some word ∷ parts) (Some name ∷ inside)
 
+  -- a word that ends is the last one in each open %W, as atoms and as its path
   all_named : {parts : List (Option (List Atom))} {inside : List (Option (List ℕ))} (word : List Atom) (name : List ℕ)
       → path_of F C word ≡ Is (Ok name) → Named parts inside
       → Named (map (λ before. Some word) parts) (map (λ before. Some name) inside)
@@ -138,12 +149,13 @@ module _ (F : Facts) (C : Context) where
   all_named word name is (fresh rest) = named is (all_named word name is rest)
   all_named word name is (named e rest) = named is (all_named word name is rest)
 
-  -- a %W has ended
+  -- the cut after the end of a %W: its last word's path is a failure file, if a word ended in it
   abbrev Closed : List (Option (List Atom)) → Cut → Cut → Type 0
   Closed parts c d = Named (without_first parts) d.inside
       × ((found : List (List Atom)) (after : List (List ℕ)) → After found d.on_failure after
       → After (first_file parts ++ found) c.on_failure after)
 
+  -- the end of a %W adds its last word's path to the failure files, if a word ended in it
   closes : {parts : List (Option (List Atom))} {inside : List (Option (List ℕ))} (c : Cut) → Named parts inside
       → Closed parts (record c { inside = inside }) (inside_done inside (record c { inside = inside }))
   closes c no_part = (no_part, λ found after rest. rest)
@@ -151,10 +163,11 @@ module _ (F : Facts) (C : Context) where
   closes c (named {word = word} {name = name} is rest) =
       (rest, λ found after following. after_one word found c.on_failure after name is following)
 
+  -- the failure files of the places from here on
   abbrev failures : List Atom → List Atom → List (List Atom)
   failures before atoms = flat_map failure_at (places_after before atoms)
 
-  -- atoms that end neither
+  -- a cut with the same failure files and open %W as another goes on as that one does
   same_as : (c x d : Cut) (before atoms : List Atom) → x.on_failure ≡ c.on_failure → x.inside ≡ c.inside
       → (Named (open_parts before) x.inside → After (failures before atoms) x.on_failure d.on_failure) → Named (open_parts before) c.inside
       → After (failures before atoms) c.on_failure d.on_failure
@@ -162,7 +175,7 @@ module _ (F : Facts) (C : Context) where
       subst (λ (b : List (List ℕ)). After (failures before atoms) b d.on_failure) files
       (goes (subst (λ (i : List (Option (List ℕ))). Named (open_parts before) i) (sym inside) st))
 
-  -- a run ends, without a word or with one
+  -- a run without a word ends: it is no failure file, and no word of an open %W
   bare_ends : (run before : List Atom) (files after : List (List ℕ)) (inside : List (Option (List ℕ))) (found : List (List Atom))
       → run_before before ≡ run → list_any opens_word run ≡ false → Named (open_parts before) inside
       → (Named (ended_parts (is_word_before before) (run_before before) (open_parts before)) inside → After found files after)
@@ -174,6 +187,7 @@ module _ (F : Facts) (C : Context) where
       subst (λ (b : Bool). After ((if b && list_any is_output (run_before before) then run_before before ∷ [] else []) ++ found) files
       after) (sym no_word) following
 
+  -- a word that ends is a failure file if it is marked as an output, and is the last one for each open %W
   word_ends : (run before : List Atom) (files after : List (List ℕ)) (inside : List (Option (List ℕ))) (found : List (List Atom))
       (name : List ℕ) → run_before before ≡ run → list_any opens_word run ≡ true
       → path_of F C run ≡ Is (Ok name) → Named (open_parts before) inside
@@ -191,6 +205,7 @@ module _ (F : Facts) (C : Context) where
       (subst (λ (b : Bool). After ((if b && list_any is_output run then run ∷ [] else []) ++ found) files after) (sym word)
       (after_if (list_any is_output run) run found files after name is following))
 
+  -- the end of a %W adds its failure file before those of the atoms after it
   part_ends : (before atoms : List Atom) (c d : Cut) → Closed (open_parts before) c (inside_done c.inside c)
       → (Named (without_first (open_parts before)) (inside_done c.inside c).inside
       → After (failures (To ∷ before) atoms) (inside_done c.inside c).on_failure d.on_failure)
@@ -200,6 +215,7 @@ module _ (F : Facts) (C : Context) where
       subst (λ (files : List (List Atom)). After (files ++ failures (To ∷ before) atoms) c.on_failure d.on_failure) (sym (part_file before))
       (ahead (failures (To ∷ before) atoms) d.on_failure (goes inner))
 
+  -- the failure files of a cut grow by those of its atoms, over a `Course` from any run on
   pub failed_after : {run atoms : List Atom} {c d : Cut} → Course F C run c atoms d → (before : List Atom) → run_before before ≡ run
       → Named (open_parts before) c.inside → After (failures before atoms) c.on_failure d.on_failure
   failed_after (over {c = c}) before e st = ([], refl, sym (append-nil c.on_failure))
@@ -236,6 +252,7 @@ module _ (F : Facts) (C : Context) where
       (same_as x (pipe_ended x) d (Piped ∷ before) atoms (ap (λ (y : Cut). y.on_failure) (pipe_kept x))
       (ap (λ (y : Cut). y.inside) (pipe_kept x)) (failed_after rest (Piped ∷ before) refl))
 
+  -- the failure files of a whole list that is cut
   pub failures_are : (atoms : List Atom) (c : Cut) → all_taken F C nothing_cut atoms ≡ Is (Ok c)
       → each (path_of F C) (failure_files atoms) ≡ Is (Ok c.on_failure)
   failures_are atoms c e = by (failed_after (course F C [] nothing_cut atoms c refl e) [] refl no_part)

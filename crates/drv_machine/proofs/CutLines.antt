@@ -14,7 +14,9 @@ use Rattle.std.proofs.Common.{refl, subst, sym, true, ℕ}
 use Rattle.std.specs.List.{cons_option, filter_map, list_any}
 use Rattle.std.specs.Prelude.{if◌then◌else◌, not, option_to_list}
 
--- For command_law: the commands and the stray pipes of a list of atoms without a file.
+-- For command_law: the commands and the stray pipes of a list of atoms without a file. A piece of a command is a word that has ended, part
+-- of a word, or a pipe; a pipe is stray if its command has no word before it, or has more than ends of words after it. The lemmas go over
+-- the list run by run (`Course` of Runs) and compare the open command's pieces with the cut.
 
 or_true : (a : Bool) → (a || true) ≡ true
 or_true true = refl
@@ -24,11 +26,12 @@ or_assoc : (a b c : Bool) → ((a || b) || c) ≡ (a || (b || c))
 or_assoc true b c = refl
 or_assoc false b c = refl
 
+-- a truth value or false is that value
 pub or_none : (a : Bool) → (a || false) ≡ a
 or_none true = refl
 or_none false = refl
 
--- one more piece of a command
+-- a word at the end of a command makes no pipe of it stray: only what precedes a pipe, and parts and pipes after it, do
 word_strays : (pieces : List Piece) (w : Run) → is_stray (pieces ++ Word w ∷ []) ≡ is_stray pieces
 word_strays pieces w = rw (lacks pieces, more pieces) refl
   where
@@ -44,6 +47,7 @@ word_strays pieces w = rw (lacks pieces, more pieces) refl
     more (Part ∷ ps) = more ps
     more (Pipe ∷ ps) = any_after (λ piece. not (is_end_of_word piece)) ps (Word w)
 
+-- after one more part or pipe a command has more after a pipe if it had so, or has a pipe
 more_after : (pieces : List Piece) (p : Piece) → is_end_of_word p ≡ false
     → has_more (pieces ++ p ∷ []) ≡ (has_more pieces || list_any is_pipe pieces)
 more_after [] (Word w) e = absurd cc
@@ -55,6 +59,7 @@ more_after (Pipe ∷ ps) p e =
     any_after (λ piece. not (is_end_of_word piece)) ps p ∙ ap (λ b. not b || list_any (λ piece. not (is_end_of_word piece)) ps) e
     ∙ sym (or_true (list_any (λ piece. not (is_end_of_word piece)) ps))
 
+-- part of a word at the end of a command is stray if the command has a pipe
 part_strays : (pieces : List Piece) → is_stray (pieces ++ Part ∷ []) ≡ (is_stray pieces || list_any is_pipe pieces)
 part_strays pieces = rw (lacks pieces, more_after pieces Part refl)
     (sym (or_assoc (lacks_word pieces) (has_more pieces) (list_any is_pipe pieces)))
@@ -65,16 +70,19 @@ part_strays pieces = rw (lacks pieces, more_after pieces Part refl)
     lacks (Part ∷ ps) = lacks ps
     lacks (Pipe ∷ ps) = refl
 
+-- a pipe at the end of a command lacks a word if no word ended before
 lacks_after : (pieces : List Piece) → lacks_word (pieces ++ Pipe ∷ []) ≡ (lacks_word pieces || not (list_any is_end_of_word pieces))
 lacks_after [] = refl
 lacks_after (Word v ∷ ps) = refl
 lacks_after (Part ∷ ps) = lacks_after ps
 lacks_after (Pipe ∷ ps) = refl
 
+-- whether a command is stray with one more pipe at its end, by its pieces before
 pipe_strays : (pieces : List Piece) → is_stray (pieces ++ Pipe ∷ [])
     ≡ ((lacks_word pieces || not (list_any is_end_of_word pieces)) || (has_more pieces || list_any is_pipe pieces))
 pipe_strays pieces = rw (lacks_after pieces, more_after pieces Pipe refl) refl
 
+-- whether a pipe is stray after one more, where a word ended before
 pipe_or_stray : (s stray lacks more piped : Bool) → stray ≡ (s || (lacks || more))
     → (stray || piped) ≡ (s || ((lacks || false) || (more || piped)))
 pipe_or_stray s stray lacks more piped e = ap (λ b. b || piped) e ∙ by s lacks more
@@ -84,26 +92,31 @@ pipe_or_stray s stray lacks more piped e = ap (λ b. b || piped) e ∙ by s lack
     by false true more = refl
     by false false more = refl
 
+-- a command is stray where one of its pipes lacks a word
 stray_for_want : (s lacks rest : Bool) → true ≡ (s || ((lacks || true) || rest))
 stray_for_want true lacks rest = refl
 stray_for_want false true rest = refl
 stray_for_want false false rest = refl
 
--- what commands are made of in a cut
+-- the fields of a cut that its commands are made of: the command around a file, the open command, those that have ended, and whether a pipe
+-- is stray
 pub record Lined : Type 0 where
   pub outer : Option CutLine
   pub line : CutLine
   pub lines : List NamedLine
   pub stray : Bool
 
+-- the fields of a cut that its commands are made of
 abbrev pub lined : Cut → Lined
 lined c = record { outer = c.outer; line = c.line; lines = c.lines; stray = c.stray }
 
+-- the end of a %W changes no command
 pub inside_lined : (c : Cut) (inside : List (Option (List ℕ))) → lined (inside_done inside c) ≡ lined c
 inside_lined c [] = refl
 inside_lined c (None ∷ outer) = refl
 inside_lined c (Some last ∷ outer) = refl
 
+-- where no file is open the end of one changes no command
 file_lined : (c : Cut) (outer : Option CutLine) → outer ≡ None
     → lined (file_done (record c { outer = outer })) ≡ lined (record c { outer = outer })
 file_lined c None e = refl
@@ -112,6 +125,7 @@ file_lined c (Some line) e = absurd cc
 abbrev one_if : CutLine → List NamedLine
 one_if line = option_to_list (named_line line)
 
+-- the end of a command adds it to the commands that have ended, if it has a word
 end_lined : (c : Cut) (outer : Option CutLine) → outer ≡ None
     → lined (line_ended (record c { outer = outer })) ≡ record {
       outer = None;
@@ -123,11 +137,12 @@ end_lined : (c : Cut) (outer : Option CutLine) → outer ≡ None
 end_lined c None e = refl
 end_lined c (Some line) e = absurd cc
 
+-- whether there is no word
 abbrev pub is_nil : List (List ℕ) → Bool
 is_nil [] = true
 is_nil (word ∷ words) = false
 
--- a pipe after these words
+-- a pipe after these words of a command is the pipe of it, and stray without a word or after another pipe
 pipe_done_lined : (c : Cut) (words : List (List ℕ))
     → lined (pipe_done (record c { outer = None; line = record { words = words; piped = c.line.piped } }))
     ≡ record {
@@ -140,6 +155,7 @@ pipe_done_lined : (c : Cut) (words : List (List ℕ))
 pipe_done_lined c [] = refl
 pipe_done_lined c (w ∷ ws) = refl
 
+-- a pipe makes the open command a piped one, where no file is open; it is stray without a word or after another pipe
 pipe_lined : (c : Cut) (outer : Option CutLine) → outer ≡ None → lined (pipe_ended (record c { outer = outer }))
     ≡ record {
       outer = None;
@@ -165,6 +181,7 @@ abbrev as_piped : CutLine → Answer CutLine
 as_piped line = Is (Ok (record { words = line.words; piped = true }))
 
 module _ (F : Facts) (C : Context) where
+  -- one more word adds its texts to the words of a command
   word_line : (pieces : List Piece) (w : Run) → line_of F C (pieces ++ Word w ∷ [])
       ≡ (line_of F C pieces >>- λ l. texts F C w >>- λ ts. with_more l ts)
   word_line [] w = by (texts F C w)
@@ -201,12 +218,14 @@ module _ (F : Facts) (C : Context) where
       by (Is (Err fault)) t = refl
       by Unasked t = refl
 
+  -- part of a word adds nothing to a command
   part_line : (pieces : List Piece) → line_of F C (pieces ++ Part ∷ []) ≡ line_of F C pieces
   part_line [] = refl
   part_line (Word v ∷ ps) = ap (λ (a : Answer CutLine). texts F C v >>- λ ws. a >>- λ line. ahead ws line) (part_line ps)
   part_line (Part ∷ ps) = part_line ps
   part_line (Pipe ∷ ps) = ap (λ (a : Answer CutLine). a >>- λ line. as_piped line) (part_line ps)
 
+  -- one more pipe makes a command piped
   pipe_line : (pieces : List Piece) → line_of F C (pieces ++ Pipe ∷ []) ≡ (line_of F C pieces >>- λ l. as_piped l)
   pipe_line [] = refl
   pipe_line (Word v ∷ ps) =
@@ -223,7 +242,7 @@ module _ (F : Facts) (C : Context) where
   pipe_line (Part ∷ ps) = pipe_line ps
   pipe_line (Pipe ∷ ps) = ap (λ (a : Answer CutLine). a >>- λ line. as_piped line) (pipe_line ps)
 
--- a command of these pieces is open in a cut
+-- the open command of a cut has these pieces: its words, whether it is piped, and whether a pipe so far is stray (`s`: in a command before)
 pub record LineKept (F : Facts) (C : Context) (pieces : List Piece) (s : Bool) (l : Lined) : Type 0 where
   pub outside : l.outer ≡ None
   pub line : line_of F C pieces ≡ Is (Ok l.line)
@@ -231,9 +250,11 @@ pub record LineKept (F : Facts) (C : Context) (pieces : List Piece) (s : Bool) (
   pub piped : l.line.piped ≡ list_any is_pipe pieces
   pub stray : l.stray ≡ (s || is_stray pieces)
 
+-- the commands of a cut after one more word with these texts
 abbrev pub with_texts : Lined → List (List ℕ) → Lined
 with_texts l ts = record l { line = record { words = l.line.words ++ ts; piped = l.line.piped } }
 
+-- the commands of a cut after a pipe, which is stray without a word before it, or after another pipe
 abbrev pub with_pipe : Lined → Lined
 with_pipe l = record {
   outer = None;
@@ -243,6 +264,7 @@ with_pipe l = record {
       then true else l.stray || l.line.piped;
 }
 
+-- whether a command is stray after one more pipe, with a word before it or not
 want_or_pipe : (n s stray lacks more some : Bool) → stray ≡ (s || (lacks || more))
     → (if n then true else stray || some) ≡ (s || ((lacks || n) || (more || some)))
 want_or_pipe true s stray lacks more some e = stray_for_want s lacks (more || some)
@@ -259,6 +281,7 @@ word_pieces : (run atoms : List Atom) → list_any opens_word run ≡ true
     → word_of (record { atoms = run; following = atoms }) ≡ Word (record { atoms = run; following = atoms }) ∷ []
 word_pieces run atoms e = rw e refl
 
+-- the commands that have ended, with this one first
 one_more : (line : CutLine) (found : List CutLine) → one_if line ++ filter_map named_line found ≡ filter_map named_line (line ∷ found)
 one_more line found = by (named_line line)
   where
@@ -267,6 +290,7 @@ one_more line found = by (named_line line)
     by (Some kept) = refl
 
 module _ (F : Facts) (C : Context) where
+  -- `LineKept` after part of a word
   stands_part : (ps : List Piece) (s : Bool) (l : Lined) → LineKept F C ps s l
       → LineKept F C (ps ++ Part ∷ []) s (record l { stray = l.stray || l.line.piped })
   stands_part ps s l st = record {
@@ -278,6 +302,7 @@ module _ (F : Facts) (C : Context) where
         ∙ or_assoc s (is_stray ps) (list_any is_pipe ps) ∙ ap (λ b. s || b) (sym (part_strays ps));
   }
 
+  -- `LineKept` after a word that was found as these texts
   stands_word : (ps : List Piece) (s : Bool) (l : Lined) (w : Run) (ts : List (List ℕ)) → LineKept F C ps s l → texts F C w ≡ Is (Ok ts)
       → is_nil ts ≡ false
       → LineKept F C (ps ++ Word w ∷ []) s (with_texts l ts)
@@ -290,6 +315,7 @@ module _ (F : Facts) (C : Context) where
     stray = st.stray ∙ ap (λ b. s || b) (sym (word_strays ps w));
   }
 
+  -- `LineKept` after a pipe
   stands_pipe : (ps : List Piece) (s : Bool) (l : Lined) → LineKept F C ps s l → LineKept F C (ps ++ Pipe ∷ []) s (with_pipe l)
   stands_pipe ps s l st = record {
     outside = refl;
@@ -305,11 +331,13 @@ module _ (F : Facts) (C : Context) where
   stands_nil : (ps : List Piece) (s : Bool) (l : Lined) → LineKept F C ps s l → LineKept F C (ps ++ []) s l
   stands_nil ps s l st = subst (λ (p : List Piece). LineKept F C p s l) (sym (append-nil ps)) st
 
+  -- `LineKept` after a run that is no word
   stands_bare : (ps : List Piece) (s : Bool) (l : Lined) (run atoms : List Atom) → list_any opens_word run ≡ false → LineKept F C ps s l
       → LineKept F C (ps ++ word_of (record { atoms = run; following = atoms })) s l
   stands_bare ps s l run atoms e st = subst (λ (p : List Piece). LineKept F C (ps ++ p) s l) (sym (bare_pieces run atoms e))
       (stands_nil ps s l st)
 
+  -- `LineKept` after a run that is a word, which was found as this path
   stands_full : (ps : List Piece) (s : Bool) (c : Cut) (run atoms : List Atom) (name : List ℕ) → list_any opens_word run ≡ true
       → path F C (record { atoms = run; following = atoms }) ≡ Is (Ok name)
       → LineKept F C ps s (lined c) → LineKept F C (ps ++ word_of (record { atoms = run; following = atoms })) s
@@ -321,11 +349,14 @@ module _ (F : Facts) (C : Context) where
       (ap (λ (a : Answer (List ℕ)). a >>- λ n. Is (Ok (if list_any is_script run then script_option ∷ n ∷ [] else n ∷ []))) is)
       (script_or_not (list_any is_script run) name))
 
+  -- of a cut at its end: these commands (`cs`), after those that had ended before, and the open command (`o`) are its own, and it has a
+  -- stray pipe if they have
   abbrev Commanded : List (List Piece) → List Piece → Bool → List NamedLine → Cut → Type 0
   Commanded cs o s before d =
       (found : List CutLine) × (each (line_of F C) cs ≡ Is (Ok found)) × (d.lines ≡ before ++ filter_map named_line found)
       × (d.stray ≡ (s || (list_any is_stray cs || is_stray o))) × (line_of F C o ≡ Is (Ok d.line))
 
+  -- a command that ends comes before those after it
   end_more : (ps : List Piece) (s : Bool) (line : CutLine) (before : List NamedLine) (cs : List (List Piece)) (o : List Piece) (d : Cut)
       → line_of F C ps ≡ Is (Ok line)
       → Commanded cs o (s || is_stray ps) (before ++ one_if line) d → Commanded (ps ∷ cs) o s before d
@@ -340,7 +371,7 @@ module _ (F : Facts) (C : Context) where
     last,
   )
 
-  -- a cut that is alike in its commands goes on alike
+  -- `Commanded` depends on a cut's commands alone
   goes_alike : (x c : Cut) (run atoms : List Atom) (ps : List Piece) (s : Bool) (d : Cut) → lined x ≡ lined c
       → (LineKept F C ps s (lined x) → Commanded (commands run ps atoms) (open_command run ps atoms) s x.lines d)
       → LineKept F C ps s (lined c)
@@ -349,7 +380,7 @@ module _ (F : Facts) (C : Context) where
       subst (λ (l : Lined). Commanded (commands run ps atoms) (open_command run ps atoms) s l.lines d) same
       (goes (subst (λ (l : Lined). LineKept F C ps s l) (sym same) st))
 
-  -- a pipe after a run
+  -- a run that a pipe ends, with a word or without
   pipe_after : (c d : Cut) (run atoms : List Atom) (ps : List Piece) (s : Bool) → c.outer ≡ None
       → (LineKept F C ((ps ++ word_of (record { atoms = run; following = atoms })) ++ Pipe ∷ []) s (lined (pipe_ended c))
       → Commanded (commands run ps (Piped ∷ atoms)) (open_command run ps (Piped ∷ atoms)) s (pipe_ended c).lines d)
@@ -362,6 +393,8 @@ module _ (F : Facts) (C : Context) where
       (sym (pipe_lined c c.outer outside))
       (stands_pipe (ps ++ word_of (record { atoms = run; following = atoms })) s (lined c) st)))
 
+  -- a list of atoms that is cut gives the commands, stray pipes and open command that the definitions over the list give: over a `Course`,
+  -- from any run on
   pub commanded : {run atoms : List Atom} {c d : Cut} → Course F C run c atoms d → (ps : List Piece) (s : Bool)
       → list_any begins_file atoms ≡ false → LineKept F C ps s (lined c)
       → Commanded (commands run ps atoms) (open_command run ps atoms) s c.lines d
@@ -399,6 +432,7 @@ module _ (F : Facts) (C : Context) where
       (commanded rest ((ps ++ word_of (record { atoms = run; following = atoms })) ++ Pipe ∷ []) s f)
       (stands_full ps s c run atoms name e is st)
 
+  -- of a whole list: its commands, whether a pipe is stray, and the words of its last command
   pub commands_are : (atoms : List Atom) (c : Cut) → list_any begins_file atoms ≡ false → all_taken F C nothing_cut atoms ≡ Is (Ok c)
       → (lines F C atoms ≡ Is (Ok c.lines)) × (has_stray_pipe atoms ≡ c.stray) × (line_of F C (open_command [] [] atoms) ≡ Is (Ok c.line))
   commands_are atoms c f e = by (commanded (course F C [] nothing_cut atoms c refl e) [] false f
@@ -414,10 +448,12 @@ module _ (F : Facts) (C : Context) where
         last,
       )
 
+  -- a list of atoms without a file is cut into the commands that the definition says
   pub lines_are : (atoms : List Atom) (c : Cut) → list_any begins_file atoms ≡ false → all_taken F C nothing_cut atoms ≡ Is (Ok c)
       → lines F C atoms ≡ Is (Ok c.lines)
   lines_are atoms c f e = (commands_are atoms c f e).0
 
+  -- a list of atoms without a file has a stray pipe in the cut exactly if the definition says so
   pub stray_is : (atoms : List Atom) (c : Cut) → list_any begins_file atoms ≡ false → all_taken F C nothing_cut atoms ≡ Is (Ok c)
       → has_stray_pipe atoms ≡ c.stray
   stray_is atoms c f e = (commands_are atoms c f e).1
@@ -425,13 +461,16 @@ module _ (F : Facts) (C : Context) where
   abbrev last_words : List Atom → Answer (List (List ℕ))
   last_words atoms = line_of F C (open_command [] [] (atoms ++ Break ∷ [])) >>- λ line. Is (Ok line.words)
 
+  -- a refused answer is no list of words, and nor is a missing one
   refused_words : {X : Type 0} (a : Answer (List (List ℕ))) (found : List (List ℕ)) (fault : MachineFault) → a ≡ Is (Err fault)
       → a ≡ Is (Ok found) → X
   refused_words a found fault is e = absurd cc
 
+  -- a missing answer is no list of words
   no_words : {X : Type 0} (a : Answer (List (List ℕ))) (found : List (List ℕ)) → a ≡ Unasked → a ≡ Is (Ok found) → X
   no_words a found is e = absurd cc
 
+  -- the words of a function's arguments are those of the last command, once a break has ended its last word
   pub arguments_are : (atoms : List Atom) (found : List (List ℕ)) → list_any begins_file atoms ≡ false
       → argument_words F C atoms ≡ Is (Ok found) → last_words atoms ≡ Is (Ok found)
   arguments_are atoms found f e = by (all_taken F C nothing_cut (atoms ++ Break ∷ [])) refl e

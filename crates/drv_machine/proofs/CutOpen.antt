@@ -8,12 +8,15 @@ use Rattle.drv_system.specs.Known.{Is}
 use Rattle.std.proofs.Common.{◌≡◌, ◌∙◌, List, [], ◌∷◌, None, Ok, Option, Some, ap, false, length, map, refl, suc, ℕ}
 use Rattle.std.specs.Prelude.{option_and_then, option_to_list}
 
--- For cut_law: a cut has as many %W and files open as the list of its atoms.
+-- For cut_law: a cut has as many %W and files open as the list of its atoms. `open_following` counts them over the list and gives None
+-- where one ends that is not open, or a file begins in another.
 
+-- how many %W are open in a cut, or files (one at most)
 abbrev pub open_parts : Enclosed → Cut → ℕ
 open_parts Failure c = length c.inside
 open_parts File c = length (option_to_list c.outer)
 
+-- the end of a %W closes one, in the cut as in the count
 to_parts : (inside : List (Option (List ℕ))) (c : Cut) (rest : ℕ → Option ℕ) (n : ℕ)
     → option_and_then rest (open_after To Failure (length inside)) ≡ Some n
     → rest (length (inside_done inside c).inside) ≡ Some n
@@ -21,11 +24,13 @@ to_parts [] c rest n is = absurd cc
 to_parts (None ∷ outer) c rest n is = is
 to_parts (Some last ∷ outer) c rest n is = is
 
+-- the end of a %W leaves a file open or not
 to_outside : (inside : List (Option (List ℕ))) (c : Cut) → (inside_done inside c).outer ≡ c.outer
 to_outside [] c = refl
 to_outside (None ∷ outer) c = refl
 to_outside (Some last ∷ outer) c = refl
 
+-- the end of a command closes neither
 end_parts : (enclosed : Enclosed) (c : Cut) (outer : Option CutLine)
     → open_parts enclosed (line_ended (record c { outer = outer })) ≡ open_parts enclosed (record c { outer = outer })
 end_parts Failure c None = refl
@@ -33,6 +38,7 @@ end_parts Failure c (Some line) = refl
 end_parts File c None = refl
 end_parts File c (Some line) = refl
 
+-- a pipe after these words closes neither
 pipe_words : (enclosed : Enclosed) (c : Cut) (words : List (List ℕ))
     → open_parts enclosed (pipe_done (record c { line = record { words = words; piped = c.line.piped } })) ≡ open_parts enclosed c
 pipe_words Failure c [] = refl
@@ -40,17 +46,20 @@ pipe_words Failure c (w ∷ ws) = refl
 pipe_words File c [] = refl
 pipe_words File c (w ∷ ws) = refl
 
+-- the end of a command with a pipe closes neither
 pipe_parts : (enclosed : Enclosed) (c : Cut) (outer : Option CutLine)
     → open_parts enclosed (pipe_ended (record c { outer = outer })) ≡ open_parts enclosed (record c { outer = outer })
 pipe_parts enclosed c None = pipe_words enclosed (record c { outer = None }) c.line.words
 pipe_parts Failure c (Some line) = refl
 pipe_parts File c (Some line) = refl
 
+-- where a file begins, one is open
 file_from : (outer : Option CutLine) (line : CutLine) (rest : ℕ → Option ℕ) (n : ℕ)
     → option_and_then rest (open_after FileFrom File (length (option_to_list outer))) ≡ Some n → rest 1 ≡ Some n
 file_from None line rest n is = is
 file_from (Some l) line rest n is = absurd cc
 
+-- the end of a file closes it, in the cut as in the count
 file_to : (c : Cut) (outer : Option CutLine) (rest : ℕ → Option ℕ) (n : ℕ)
     → option_and_then rest (open_after FileTo File (length (option_to_list outer))) ≡ Some n
     → rest (open_parts File (file_done (record c { outer = outer }))) ≡ Some n
@@ -61,6 +70,7 @@ file_inside : (c : Cut) (outer : Option CutLine) → (file_done (record c { oute
 file_inside c None = refl
 file_inside c (Some line) = refl
 
+-- an atom that ends no word changes the number in the cut as in the count
 moved_open : (c : Cut) (atom : Atom) (enclosed : Enclosed) (rest : ℕ → Option ℕ) (n : ℕ) → ends_word atom ≡ false
     → option_and_then rest (open_after atom enclosed (open_parts enclosed c)) ≡ Some n → rest (open_parts enclosed (moved c atom)) ≡ Some n
 moved_open c (Put b) Failure rest n e is = is
@@ -91,15 +101,18 @@ map_long : {X Y : Type 0} (f : X → Y) (xs : List X) → length (map f xs) ≡ 
 map_long f [] = refl
 map_long f (x ∷ xs) = ap suc (map_long f xs)
 
+-- the end of a word closes neither
 word_parts : (enclosed : Enclosed) (c : Cut) (run : List Atom) (name : List ℕ)
     → open_parts enclosed (with_word c (opened_by run) name) ≡ open_parts enclosed c
 word_parts Failure c run name = map_long (λ before. Some name) c.inside
 word_parts File c run name = refl
 
 module _ (F : Facts) (C : Context) where
+  -- where no atom is left, the number that is counted is the cut's
   at_end : (c : Cut) (enclosed : Enclosed) (n : ℕ) → Some (open_parts enclosed c) ≡ Some n → open_parts enclosed c ≡ n
   at_end c enclosed n is = cc
 
+  -- a cut at the end of a `Course` has as many %W and files open as its atoms count, from any number on
   open_as : {run atoms : List Atom} {c d : Cut} → Course F C run c atoms d → (enclosed : Enclosed) (n : ℕ)
       → open_following atoms enclosed (open_parts enclosed c) ≡ Some n → open_parts enclosed d ≡ n
   open_as (over {c = c}) enclosed n is = at_end c enclosed n is
@@ -119,6 +132,7 @@ module _ (F : Facts) (C : Context) where
       → open_following atoms enclosed (open_parts enclosed nothing_cut) ≡ Some n → open_parts enclosed c ≡ n
   begun_open atoms c went = open_as (course F C [] nothing_cut atoms c refl went)
 
+  -- a list that is cut from nothing has as many %W and files open at its end as its atoms count
   pub open_are : (atoms : List Atom) (c : Cut) (enclosed : Enclosed) (n : ℕ) → all_taken F C nothing_cut atoms ≡ Is (Ok c)
       → open_following atoms enclosed 0 ≡ Some n → open_parts enclosed c ≡ n
   open_are atoms c Failure n went is = begun_open atoms c went Failure n is

@@ -10,8 +10,9 @@ use Rattle.std.proofs.Common.{◌≡◌, List, [], ◌∷◌, codes, false, refl
 use Rattle.std.specs.List.{flat_map}
 use Rattle.std.specs.Prelude.{None, Ok, Option, Some}
 
--- Examples of lists of atoms, which the prover computes from the definitions over a whole list. The expected values were derived by hand
--- from the profile.
+-- Examples, which the prover computes, of the definitions over a whole list of atoms (specs/Cuts): commands, words, stray pipes, outputs,
+-- removed files and failure files. The expected values were derived by hand from the profile. An example's comment is its text; %w marks an
+-- output, %d a removed file, %V no output, %W a failure file.
 
 abbrev letter_a : ℕ
 letter_a = 97
@@ -19,7 +20,7 @@ letter_a = 97
 abbrev letter_b : ℕ
 letter_b = 98
 
--- whether a pipe is stray: |, a|b, a|| and a|%V
+-- a pipe is stray without a word before it, or with something after it: |, a|b, a|| and a|%V
 no_word_before : has_stray_pipe (Piped ∷ Break ∷ End ∷ []) ≡ true
 no_word_before = refl
 
@@ -33,6 +34,7 @@ nothing_after : has_stray_pipe (Put letter_a ∷ Piped ∷ Without ∷ Break ∷
 nothing_after = refl
 
 module _ (F : Facts) where
+  -- what the definitions find in a list: its commands, words, output, removed files and failure files
   abbrev lines_are : List Atom → Answer (List NamedLine)
   lines_are atoms = lines F (linking []) atoms
 
@@ -48,28 +50,28 @@ module _ (F : Facts) where
   abbrev failures_are : List Atom → Answer (List (List ℕ))
   failures_are atoms = each (path_of F (linking [])) (failure_files atoms)
 
-  -- ab b, an empty word, and one that has not ended
+  -- a word ends at a break or pipe: ab b, an empty word, and one that has not ended
   maximal : words_are (Put letter_a ∷ Put letter_b ∷ Break ∷ Break ∷ Put letter_b ∷ Piped ∷ Open ∷ Break ∷ End ∷ Put letter_a ∷ [])
       ≡ Is (Ok (codes "ab" ∷ codes "b" ∷ [] ∷ []))
   maximal = refl
 
-  -- a%w b%w
+  -- a%w b%w: the last word that is marked is the output
   last_marked : output_is (Put letter_a ∷ Marked AsOutput ∷ Break ∷ Put letter_b ∷ Marked AsOutput ∷ Break ∷ [])
       ≡ Is (Ok (Some (codes "b")))
   last_marked = refl
 
-  -- a%w b%V%w, and a %w%Vb
+  -- a%w b%V%w, whose %V bars both words, and a %w%Vb, whose word begins after it
   barred : output_is (Put letter_a ∷ Marked AsOutput ∷ Break ∷ Put letter_b ∷ Without ∷ Marked AsOutput ∷ Break ∷ []) ≡ Is (Ok None)
   barred = refl
 
   begins_after : output_is (Put letter_a ∷ Break ∷ Marked AsOutput ∷ Without ∷ Put letter_b ∷ Break ∷ []) ≡ Is (Ok (Some (codes "b")))
   begins_after = refl
 
-  -- a%w b%V, whose last word has not ended
+  -- a%w b%V, whose last word has not ended: its %V bars the first
   barred_at_end : output_is (Put letter_a ∷ Marked AsOutput ∷ Break ∷ Put letter_b ∷ Without ∷ []) ≡ Is (Ok None)
   barred_at_end = refl
 
-  -- a%d b %d
+  -- a%d b %d: the last mark has no word
   removed_once : removed_are (Put letter_a ∷ Marked AsRemoved ∷ Break ∷ Put letter_b ∷ Break ∷ Marked AsRemoved ∷ Break ∷ [])
       ≡ Is (Ok (codes "a" ∷ []))
   removed_once = refl
@@ -102,12 +104,12 @@ module _ (F : Facts) where
   never_began : failures_are (Put letter_a ∷ Break ∷ To ∷ []) ≡ Is (Ok [])
   never_began = refl
 
-  -- a | and b, with an empty line between them; and a, of which the command ends before the word does
+  -- a | and b, with an empty command between them; and a, whose command ends before the word does
   two_commands : lines_are (Put letter_a ∷ Piped ∷ Break ∷ End ∷ Break ∷ End ∷ Put letter_b ∷ Break ∷ End ∷ [])
       ≡ Is (Ok (record { name = codes "a"; words = []; piped = true } ∷ record { name = codes "b"; words = []; piped = false } ∷ []))
   two_commands = refl
 
-  -- a%@{b}a|, of which a file is made
+  -- a%@{b}a|, of which a file is made: the file is a break
   around_file : lines_are (flat_map without_file (Bare (Put letter_a) ∷ Filed (Put letter_b ∷ []) ∷ Bare (Put letter_a) ∷ Bare Piped
       ∷ Bare End ∷ []))
       ≡ Is (Ok (record { name = codes "a"; words = codes "a" ∷ []; piped = true } ∷ []))

@@ -15,18 +15,22 @@ use Rattle.std.proofs.lemmas.List.Folds.{list_any-append}
 use Rattle.std.specs.List.{filter, list_any}
 use Rattle.std.specs.Prelude.{◌&&◌, if◌then◌else◌, not}
 
--- For cut_law: the output and the removed files of a list of atoms, and the look-up of its first words.
+-- For cut_law: the output and the removed files of a list of atoms, and the look-up of its words. A run is the atoms between two ends of a
+-- word; it is a word if it opens one. A `Course` (Runs) goes over the runs of a list that is cut to its end.
 
+-- the end of a %W leaves the removed files
 inside_removed : (c : Cut) (inside : List (Option (List ℕ))) → (inside_done inside c).removed ≡ c.removed
 inside_removed c [] = refl
 inside_removed c (None ∷ outer) = refl
 inside_removed c (Some last ∷ outer) = refl
 
+-- the end of a %W leaves the output
 inside_output : (c : Cut) (inside : List (Option (List ℕ))) → (inside_done inside c).output ≡ c.output
 inside_output c [] = refl
 inside_output c (None ∷ outer) = refl
 inside_output c (Some last ∷ outer) = refl
 
+-- an atom that ends no word leaves the removed files
 moved_removed : (c : Cut) (atom : Atom) → (moved c atom).removed ≡ c.removed
 moved_removed c (Put b) = refl
 moved_removed c Open = refl
@@ -40,6 +44,7 @@ moved_removed c To = inside_removed c c.inside
 moved_removed c FileFrom = refl
 moved_removed c FileTo = ap (λ (x : Cut). x.removed) (file_kept c)
 
+-- none where a %V bars it, or else this word
 abbrev unless : Bool → Option (List ℕ) → Option (List ℕ)
 unless bar before = if bar then None else before
 
@@ -47,6 +52,7 @@ unless_none : (bar : Bool) → unless bar None ≡ None
 unless_none true = refl
 unless_none false = refl
 
+-- an atom that ends no word leaves the output, or takes it away if it is a %V
 moved_output : (c : Cut) (atom : Atom) (bar : Bool) → unless bar (moved c atom).output ≡ unless (is_bar atom || bar) c.output
 moved_output c (Put b) bar = refl
 moved_output c Open bar = refl
@@ -61,7 +67,7 @@ moved_output c To bar = ap (unless bar) (inside_output c c.inside)
 moved_output c FileFrom bar = refl
 moved_output c FileTo bar = ap (λ (x : Cut). unless bar x.output) (file_kept c)
 
--- a %V after the beginning of a word is in it or after it
+-- a word is barred by a %V in it after its beginning, or by one after it
 barred_or_after : (run atoms : List Atom) → list_any opens_word run ≡ true
     → is_barred (run ++ atoms) ≡ (is_barred run || list_any is_bar atoms)
 barred_or_after [] atoms e = absurd cc
@@ -75,13 +81,14 @@ barred_or_after (x ∷ run) atoms e = by (opens_word x) refl e (barred_or_after 
     by false is some next = next some
 
 module _ (F : Facts) (C : Context) where
-  -- these words are found, and follow those before
+  -- the files after are those before, and then the paths that were found for these words
   abbrev After : List Run → List (List ℕ) → List (List ℕ) → Type 0
   After found before after = (names : List (List ℕ)) × (each (path F C) found ≡ Is (Ok names)) × (after ≡ before ++ names)
 
   after_none : (before : List (List ℕ)) → After [] before before
   after_none before = ([], refl, sym (append-nil before))
 
+  -- one more word that is found as this path
   after_more : (w : Run) (found : List Run) (before after : List (List ℕ)) (name : List ℕ) → path F C w ≡ Is (Ok name)
       → After found (before ++ name ∷ []) after → After (w ∷ found) before after
   after_more w found before after name is (names, all, same) = (
@@ -91,6 +98,7 @@ module _ (F : Facts) (C : Context) where
     same ∙ append_assoc before (name ∷ []) names,
   )
 
+  -- one more word that counts only if it is marked, and is found as this path
   after_if : (marked : Bool) (w : Run) (found : List Run) (before after : List (List ℕ)) (name : List ℕ) → path F C w ≡ Is (Ok name)
       → After found (before ++ (if marked then name ∷ [] else [])) after → After (if marked then w ∷ found else found) before after
   after_if true w found before after name is following = after_more w found before after name is following
@@ -99,6 +107,7 @@ module _ (F : Facts) (C : Context) where
   abbrev marked_removed : List Run → List Run
   marked_removed found = filter is_removed_word found
 
+  -- the removed files of a cut grow by the words that are marked so, over a `Course` from any run on
   pub removed_after : {run atoms : List Atom} {c d : Cut} → Course F C run c atoms d
       → After (marked_removed (words_after run atoms)) c.removed d.removed
   removed_after (over {c = c}) = after_none c.removed
@@ -123,7 +132,7 @@ module _ (F : Facts) (C : Context) where
       (subst (λ (b : List (List ℕ)). After (marked_removed (words_after [] atoms)) b d.removed)
       (ap (λ (x : Cut). x.removed) (pipe_kept (with_word c (opened_by run) name))) (removed_after rest)))
 
-  -- the last one, or what was the output before
+  -- the path of the last of these words, or else the output before
   abbrev or_before : Option Run → Option (List ℕ) → Answer (Option (List ℕ))
   or_before None before = Is (Ok before)
   or_before (Some w) before = path F C w >>- λ name. Is (Ok (Some name))
@@ -132,6 +141,7 @@ module _ (F : Facts) (C : Context) where
   or_none None bar = ap (λ (n : Option (List ℕ)). Is (Ok n)) (unless_none bar)
   or_none (Some w) bar = refl
 
+  -- one more word before the others: it is the output if it is marked, begins after the last %V, and no later word is one
   last_more : (o barred bar : Bool) (w : Run) (found : List Run) (before : Option (List ℕ)) (name : List ℕ) → path F C w ≡ Is (Ok name)
       → or_before (last_of (if o && not (barred || bar) then w ∷ found else found)) (unless bar before)
       ≡ or_before (last_of found) (unless bar (if o && not barred then Some name else before))
@@ -144,9 +154,11 @@ module _ (F : Facts) (C : Context) where
       by None e = rw e (ap (λ (a : Answer (List ℕ)). a >>- λ n. Is (Ok (Some n))) is)
       by (Some later) e = rw e refl
 
+  -- the words that may be the output
   abbrev outputs : List Run → List Run
   outputs found = filter may_be_output found
 
+  -- a break ends a word, which may be the output
   word_last : (run atoms : List Atom) (c : Cut) (name : List ℕ) → list_any opens_word run ≡ true
       → path F C (record { atoms = run; following = atoms }) ≡ Is (Ok name)
       → or_before (last_of (outputs (words_after run (Break ∷ atoms)))) (unless (list_any is_bar atoms) c.output)
@@ -159,6 +171,7 @@ module _ (F : Facts) (C : Context) where
       ∙ last_more (list_any is_output run) (is_barred run) (list_any is_bar atoms) (record { atoms = run; following = atoms })
       (outputs (words_after [] atoms)) c.output name is
 
+  -- the output of a cut is the last word that may be one, or what it was before where no %V follows
   pub output_after : {run atoms : List Atom} {c d : Cut} → Course F C run c atoms d
       → or_before (last_of (outputs (words_after run atoms))) (unless (list_any is_bar atoms) c.output) ≡ Is (Ok d.output)
   output_after over = refl
@@ -180,10 +193,12 @@ module _ (F : Facts) (C : Context) where
       ∙ ap (λ (x : Cut). or_before (last_of (outputs (words_after [] atoms))) (unless (list_any is_bar atoms) x.output))
       (sym (pipe_kept (with_word c (opened_by run) name))) ∙ output_after rest
 
+  -- a value made of an answer is there exactly if the answer is
   whether_then : {X Y : Type 0} (a : Answer X) (f : X → Y) → whether (a >>- λ x. Is (Ok (f x))) ≡ whether a
   whether_then a f = then_then a (λ x. Is (Ok (f x))) (λ y. Is (Ok tt))
 
-  -- at the end of a run
+  -- at the end of a run a cut goes on, or stops, as the look-up of the run's path, where it is a word, and of the words after it does; `k`
+  -- is what a pipe does after the break
   run_ends : (run atoms : List Atom) (c : Cut) (k : Cut → Cut)
       → ((n : List ℕ) → whether (all_taken F C (k (with_word c (opened_by run) n)) atoms)
       ≡ whether (each (path F C) (words_after [] atoms)))
@@ -210,7 +225,8 @@ module _ (F : Facts) (C : Context) where
           sym (ap (λ (found : List Run). whether (each (path F C) found)) (word_ends run atoms b)
           ∙ ap (λ (a : Answer (List ℕ)). whether (a >>- λ y. each (path F C) (words_after [] atoms) >>- λ ys. Is (Ok (y ∷ ys)))) n)
 
-  -- a cut goes through, or stops, as its words are found
+  -- a cut goes to its end, or stops by a refusal or for lack of an answer, as the look-up of its words in their order does: nothing but the
+  -- end of a word stops it
   pub found_alike : (run : List Atom) (c : Cut) (atoms : List Atom) → open_in c ≡ opened_by run
       → whether (all_taken F C c atoms) ≡ whether (each (path F C) (words_after run atoms))
   found_alike run c [] e = refl
@@ -240,13 +256,16 @@ module _ (F : Facts) (C : Context) where
   found_alike run c (FileFrom ∷ atoms) e = found_alike (run ++ FileFrom ∷ []) (moved c FileFrom) atoms (moves_on c run FileFrom refl e)
   found_alike run c (FileTo ∷ atoms) e = found_alike (run ++ FileTo ∷ []) (moved c FileTo) atoms (moves_on c run FileTo refl e)
 
+  -- a list is cut to its end from nothing, or stops, as the look-up of its words does
   pub each_found : (atoms : List Atom) → whether (all_taken F C nothing_cut atoms) ≡ whether (each (path F C) (words atoms))
   each_found atoms = found_alike [] nothing_cut atoms refl
 
+  -- the output of a list that is cut is that of the definition
   pub output_is : (atoms : List Atom) (c : Cut) → all_taken F C nothing_cut atoms ≡ Is (Ok c)
       → if_any (path F C) (output atoms) ≡ Is (Ok c.output)
   output_is atoms c e = sym (or_none (output atoms) (list_any is_bar atoms)) ∙ output_after (course F C [] nothing_cut atoms c refl e)
 
+  -- the removed files of a list that is cut are those of the definition
   pub removed_are : (atoms : List Atom) (c : Cut) → all_taken F C nothing_cut atoms ≡ Is (Ok c)
       → each (path F C) (removed atoms) ≡ Is (Ok c.removed)
   removed_are atoms c e = by (removed_after (course F C [] nothing_cut atoms c refl e))

@@ -12,13 +12,14 @@ use Rattle.std.proofs.Common.{◌≡◌, ◌++◌, Option, List, [], ◌∷◌, 
 use Rattle.std.proofs.lemmas.Fmt.{decimal_digit}
 use Rattle.std.specs.Prelude.{Err, None, Ok, Some}
 
--- Examples of texts, which the prover computes: names of temporaries, marks, lists, pipes and searches. The expected values were derived by
--- hand from the manual and the profile.
+-- Examples of texts, which the prover computes: names of temporaries, marks, lists, pipes and searches. `words_of F C text` is the words of
+-- each command of the text, worked with the answers F. The expected values were derived by hand from the manual and the profile.
 
--- no TMPDIR
+-- an environment without TMPDIR
 abbrev untouched : Facts
 untouched = record no_facts { variables = (codes "TMPDIR", None) ∷ [] }
 
+-- the job of a text
 abbrev job_of : Facts → Context → List ℕ → Answer Job
 job_of F C text = worked F C text >>- λ o. Is (Ok o.job)
 
@@ -33,6 +34,7 @@ names_drawn = rw (
   decimal_digit 4 (omega arith),
 ) refl
 
+-- the paths of a job's temporaries
 abbrev paths_of : Facts → List ℕ → Answer (List (List ℕ))
 paths_of F text = job_of F (on [] (codes "a.c")) text >>- λ job. Is (Ok (map (λ temp. temp.path) job.temps))
 
@@ -46,7 +48,7 @@ next_number : (worked untouched (record (on [] (codes "a.c")) { number = 7 }) (c
     ≡ Is (Ok 9)
 next_number = rw (decimal_digit 7 (omega arith), decimal_digit 8 (omega arith)) refl
 
--- the folder is TMPDIR, if it has a value; a slash at its end is not doubled, and none is taken away
+-- the folder of temporaries is TMPDIR, if it has a value; a slash at its end is not doubled, and none is taken away
 abbrev in_folder : Option (List ℕ) → Facts
 in_folder value = record no_facts { variables = (codes "TMPDIR", value) ∷ [] }
 
@@ -65,14 +67,15 @@ folder_with_two = rw (decimal_digit 1 (omega arith)) refl
 empty_folder : words_of (in_folder (Some [])) (on [] (codes "a.c")) (codes "%g.s") ≡ Is (Ok ((codes "/tmp/cc0000002a_1.s" ∷ []) ∷ []))
 empty_folder = rw (decimal_digit 1 (omega arith)) refl
 
--- without the answer there is no name
+-- without the answer to TMPDIR no name is drawn
 unasked_folder : words_of no_facts (on [] (codes "a.c")) (codes "%g.s") ≡ Unasked
 unasked_folder = refl
 
+-- a line with -pipe
 abbrev piping : Context
 piping = record (on (alone (codes "pipe") ∷ []) (codes "a.c")) { is_piping = true }
 
--- %| and %m
+-- with -pipe %| is a hyphen and %m nothing; without it they are the name of %g
 piped_names : words_of no_facts piping (codes "cc1 -o %|.s |\nas %m.s")
     ≡ Is (Ok ((codes "cc1" ∷ codes "-o" ∷ codes "-" ∷ codes "as" ∷ []) ∷ []))
 piped_names = refl
@@ -81,7 +84,7 @@ unpiped_names : words_of untouched (on [] (codes "a.c")) (codes "cc1 -o %|.s |\n
     ≡ Is (Ok ((codes "cc1" ∷ codes "-o" ∷ codes "/tmp/cc0000002a_1.s" ∷ []) ∷ (codes "as" ∷ codes "/tmp/cc0000002a_1.s" ∷ []) ∷ []))
 unpiped_names = rw (decimal_digit 1 (omega arith)) refl
 
--- with -pipe piped commands are one group, also where the switch is hidden
+-- with -pipe the commands that pipes join are one group, also where the switch is hidden
 abbrev sizes : Context → List ℕ → Answer (List ℕ)
 sizes C text = job_of no_facts C text >>- λ job. Is (Ok (map length job.groups))
 
@@ -115,7 +118,7 @@ stray_mark = refl
 no_stray : sizes piping (codes "c |%V%x{-q}%nhi\n\nd") ≡ Is (Ok (2 ∷ []))
 no_stray = refl
 
--- marks
+-- what a job leaves: its output, the files to be removed, and its failure files
 abbrev left : Context → List ℕ → Answer (Option (List ℕ) × List (List ℕ) × List (List ℕ))
 left C text = job_of untouched C text >>- λ job. Is (Ok (job.output, job.marked, job.on_failure))
 
@@ -150,7 +153,7 @@ mark_waits = refl
 mark_ends : left (on [] (codes "a.c")) (codes "a %w b") ≡ Is (Ok (None, [], []))
 mark_ends = refl
 
--- lists
+-- lists: the options of %x, the pieces of the line for assembler and preprocessor, and the outputs
 options_once : words_of no_facts (linking []) (codes "%x{-lq} %x{-lq} %x{-lr} %X") ≡ Is (Ok ((codes "-lq" ∷ codes "-lr" ∷ []) ∷ []))
 options_once = refl
 
@@ -172,7 +175,7 @@ outputs = refl
 outputs_in_link_alone : words_of no_facts (on [] (codes "a.c")) (codes "prog %o") ≡ Is (Err NotInLink)
 outputs_in_link_alone = refl
 
--- notices and errors
+-- the text of %n is a notice, also within a word; that of %e refuses the text
 notice : (worked no_facts (on [] (codes "a.c")) (codes "%nhello\nprog") >>- λ o. Is (Ok o.notices)) ≡ Is (Ok (codes "note: hello" ∷ []))
 notice = refl
 
@@ -182,7 +185,7 @@ notice_ends_no_word = refl
 error : words_of no_facts (on (alone (codes "a") ∷ []) (codes "a.c")) (codes "%{a:%eno good}") ≡ Is (Err (UserError (codes "no good")))
 error = refl
 
--- searches
+-- searches: a program, a file that %s marks, and a linker script that %T marks
 abbrev prefixes : Prefixes
 prefixes = record { programs = codes "d/" ∷ []; libraries = codes "d/" ∷ [] }
 
@@ -220,7 +223,7 @@ script_marked = refl
 script_missing : words_of there searching (codes "/ld y.ld%T b") ≡ Is (Err (Search (ScriptMissing (codes "y.ld"))))
 script_missing = refl
 
--- it is judged at the end of its word
+-- a linker script is looked up at the end of its word, so that a refusal before that counts first
 script_judged_late : words_of there searching (codes "%Ty.ld%eno") ≡ Is (Err (UserError (codes "no")))
 script_judged_late = refl
 

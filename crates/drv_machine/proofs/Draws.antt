@@ -22,12 +22,14 @@ use Rattle.std.specs.Fmt.{decimal}
 use Rattle.std.specs.Ordering.{nat_cmp}
 use Rattle.std.specs.Prelude.{cond, if◌then◌else◌, nat_eq}
 
--- For `put_temp`: the names of temporaries, and which were given before.
+-- For `put_temp` (machine/naming.rt): the names of temporaries (%g, %u, %U, %| and %m), and which were drawn before. A drawing is `Once`,
+-- one name for each suffix (%g), or `Anew`, a new name (%u); %U takes the last of those. The code keeps the last path of each suffix in a
+-- map once it has many.
 
 regroup : (a b c d e f : List ℕ) → (((((([] ++ a) ++ b) ++ c) ++ d) ++ e) ++ f) ≡ a ++ b ++ c ++ d ++ e ++ f
 regroup a b c d e f = simp append_assoc
 
--- a name in its parts, one put after the other
+-- a name is made of its parts: the folder, cc, the seed in base 16, the number and the suffix
 pub temp_named : (F : Facts) (dir : Option (List ℕ)) (seed number : ℕ) (suffix p0 p1 p2 p3 p4 p5 p6 : List ℕ)
     → variable_of F (codes "TMPDIR") ≡ Some dir
     → p0 ≡ [] → p1 ≡ p0 ++ folder dir → p2 ≡ p1 ++ codes "cc" → p3 ≡ p2 ++ hex 8 seed → p4 ≡ p3 ++ codes "_" → p5 ≡ p4 ++ decimal number
@@ -41,18 +43,20 @@ temp_named F dir seed number suffix p0 p1 p2 p3 p4 p5 p6 known e0 e1 e2 e3 e4 e5
     (e2 ∙ ap (λ p. p ++ codes "cc") (e1 ∙ ap (λ p. p ++ folder dir) e0)))))
     ∙ regroup (folder dir) (codes "cc") (hex 8 seed) (codes "_") (decimal number) suffix))
 
+-- names that are drawn in this way, with this suffix
 module _ (drawing : Drawing) (suffix : List ℕ) where
+  -- a name that was drawn so is the last one, if no later one was
   drawn_here : (name : Drawn) (later : List Drawn) → last_drawn drawing suffix later ≡ None → is_drawn drawing suffix name ≡ true
       → last_drawn drawing suffix (name ∷ later) ≡ Some name.path
   drawn_here name later none is = rw (none, is) refl
 
-  -- whatever was drawn before
+  -- the last one drawn later is the last one of all
   drawn_after : (front later : List Drawn) (path : List ℕ) → last_drawn drawing suffix later ≡ Some path
       → last_drawn drawing suffix (front ++ later) ≡ Some path
   drawn_after [] later path is = is
   drawn_after (name ∷ front) later path is = rw (drawn_after front later path is) refl
 
-  -- the last one is at this place
+  -- the code looks from the end: the first name it finds that was drawn so is the last one
   pub drawn_at : (drawn : List Drawn) (i next : ℕ) (name : Drawn) (path : List ℕ) → i < length drawn → next ≡ i + 1
       → name ≡ get_or drawn i name → last_drawn drawing suffix (drop next drawn) ≡ None → is_drawn drawing suffix name ≡ true
       → path ≡ name.path
@@ -64,7 +68,7 @@ module _ (drawing : Drawing) (suffix : List ℕ) where
       ap Some same ∙ sym (drawn_after (take i drawn) (drop i drawn) name.path here)
       ∙ ap (last_drawn drawing suffix) (take-append-drop i drawn)
 
-  -- one name more was drawn
+  -- the last name after one more was drawn
   last_more : (name : Drawn) (names : List Drawn) → last_drawn drawing suffix (names ++ name ∷ [])
       ≡ (if is_drawn drawing suffix name then Some name.path else last_drawn drawing suffix names)
   last_more name [] = refl
@@ -78,7 +82,7 @@ module _ (drawing : Drawing) (suffix : List ℕ) where
       by true is more = rw (more, is) refl
       by false is more = rw (more, is) refl
 
--- the path of a name was kept as the last one of its suffix
+-- a map with the new name's path has the last paths of that drawing
 by_path : (drawing : Drawing) (paths after : BTreeMap (List ℕ) (List ℕ)) (name : Drawn) (names : List Drawn)
     → is_same name.drawing drawing ≡ true → NotesPath paths after name
     → ((suffix : List ℕ) → get (slice_cmp nat_cmp) paths suffix ≡ last_drawn drawing suffix names)
@@ -87,13 +91,14 @@ by_path drawing paths after name names alike notes lasts suffix =
     notes suffix ∙ ap (λ p. if pointwise nat_eq name.suffix suffix then Some name.path else p) (lasts suffix)
     ∙ sym (last_more drawing suffix name names ∙ rw alike refl)
 
--- and nothing of those that are drawn otherwise
+-- a map of the other drawing has them unchanged
 by_other : (drawing : Drawing) (paths : BTreeMap (List ℕ) (List ℕ)) (name : Drawn) (names : List Drawn)
     → is_same name.drawing drawing ≡ false
     → ((suffix : List ℕ) → get (slice_cmp nat_cmp) paths suffix ≡ last_drawn drawing suffix names)
     → (suffix : List ℕ) → get (slice_cmp nat_cmp) paths suffix ≡ last_drawn drawing suffix (names ++ name ∷ [])
 by_other drawing paths name names apart lasts suffix = lasts suffix ∙ sym (last_more drawing suffix name names ∙ rw apart refl)
 
+-- after one more name of %g both maps have the last paths: that of %g has the new one
 pub once_noted : (lasts : LastPaths) (after : BTreeMap (List ℕ) (List ℕ)) (name : Drawn) (names : List Drawn) → name.drawing ≡ Once
     → NotesPath lasts.once after name → Lasts lasts names
     → Lasts (record { once = after; anew = lasts.anew }) (names ++ name ∷ [])
@@ -101,6 +106,7 @@ once_noted lasts after name names is notes kept Once =
     by_path Once lasts.once after name names (ap (λ d. is_same d Once) is) notes (kept Once)
 once_noted lasts after name names is notes kept Anew = by_other Anew lasts.anew name names (ap (λ d. is_same d Anew) is) (kept Anew)
 
+-- after one more name of %u both maps have the last paths: that of %u has the new one
 pub anew_noted : (lasts : LastPaths) (after : BTreeMap (List ℕ) (List ℕ)) (name : Drawn) (names : List Drawn) → name.drawing ≡ Anew
     → NotesPath lasts.anew after name → Lasts lasts names
     → Lasts (record { once = lasts.once; anew = after }) (names ++ name ∷ [])
@@ -108,7 +114,7 @@ anew_noted lasts after name names is notes kept Anew =
     by_path Anew lasts.anew after name names (ap (λ d. is_same d Anew) is) notes (kept Anew)
 anew_noted lasts after name names is notes kept Once = by_other Once lasts.once name names (ap (λ d. is_same d Once) is) (kept Once)
 
--- the path went into the map
+-- a map into which the path was put notes it
 pub path_noted : (paths after : BTreeMap (List ℕ) (List ℕ)) (name : Drawn) (suffix path : List ℕ) → suffix ≡ name.suffix → path ≡ name.path
     → ((other : List ℕ) → get (slice_cmp nat_cmp) after other
     ≡ cond (is_at (slice_cmp nat_cmp suffix) other) (Some path) (get (slice_cmp nat_cmp) paths other))

@@ -10,17 +10,20 @@ use Rattle.std.proofs.Common.{if◌then◌else◌, length, map, refl, sym, true,
 use Rattle.std.proofs.lemmas.List.{length-append, length-replicate}
 use Rattle.std.specs.Prelude.{None, Some, is_some, not, replicate}
 
--- For `end_word`: what the end of a word adds to the cut.
+-- For `end_word` (machine/marking.rt): what the end of a word adds to the cut. It goes to the words of the command, and by its marks to the
+-- removed files, the failure files and the output; a word that is marked as a file or a script is looked up first.
 
+-- a word is open exactly if the flag says so
 pub is_open_word : (is_open : Bool) (bytes : List ℕ) → is_some (open_word is_open bytes) ≡ is_open
 is_open_word true bytes = refl
 is_open_word false bytes = refl
 
--- the same word in all of them
+-- a list whose items are all replaced by y is y as many times
 map_same : {X Y : Type 0} (y : Y) (xs : List X) → map (λ x. y) xs ≡ replicate (length xs) y
 map_same y [] = refl
 map_same y (x ∷ xs) = ap (λ ys. y ∷ ys) (map_same y xs)
 
+-- a word that ends is the last one in each open %W
 pub all_ended : (last word : List ℕ) (count fresh : ℕ) → fresh ≤ count
     → ended_in word count 0 ≡ map (λ before. Some word) (ended_in last count fresh)
 all_ended last word count fresh h = sym (map_same (Some word) (ended_in last count fresh) ∙ ap (λ k. replicate k (Some word)) long)
@@ -33,7 +36,7 @@ all_ended last word count fresh h = sym (map_same (Some word) (ended_in last cou
         let following = length-replicate (count - fresh) (Some last) in
         omega (arith, all, front, following, h)
 
--- one word more, in steps
+-- the end of a word, in the steps of the code: removed files, failure files, output, open %W, words
 abbrev removed_kept : List ℕ → Machine → Machine
 removed_kept word s = record s { cut = record s.cut { removed = s.cut.removed ++ (if s.cut.marks.removed then word ∷ [] else []) } }
 
@@ -52,6 +55,7 @@ word_pushed word s = record s { cut = record s.cut { line = record { words = s.c
 abbrev word_closed : Machine → Machine
 word_closed s = record s { cut = record s.cut { word = None; marks = no_marks; barred = false } }
 
+-- the six steps of the code are `word_done`
 pub word_finished : (word : List ℕ) (s a b c d e f : Machine) → a ≡ removed_kept word s → b ≡ failure_kept word a → c ≡ output_kept word b
     → d ≡ inside_kept word c → e ≡ word_pushed word d → f ≡ word_closed e
     → f ≡ record s { cut = word_done s.cut (word ∷ []) word }
@@ -59,7 +63,7 @@ word_finished word s a b c d e f ea eb ec ed ee ef =
     ef ∙ ap word_closed (ee ∙ ap (word_pushed word) (ed
     ∙ ap (inside_kept word) (ec ∙ ap (output_kept word) (eb ∙ ap (failure_kept word) ea))))
 
--- a script's path is put after its option
+-- the path of a linker script is put after the option --script
 pub script_finished : (path option : List ℕ) (s a b : Machine) → option ≡ script_option → a ≡ word_pushed option s
     → b ≡ record a { cut = word_done a.cut (path ∷ []) path }
     → b ≡ record s { cut = word_done s.cut (script_option ∷ path ∷ []) path }
@@ -70,21 +74,25 @@ script_finished path option s a b eo ea eb =
           { line = record { words = ws; piped = s.cut.line.piped } };
     }) (append_assoc s.cut.line.words (script_option ∷ []) (path ∷ []))
 
+-- the end of a word in a state
 module _ (F : Facts) (C : Context) (s : Machine) where
-  -- no word is open
+  -- a break where no word is open drops the marks
   pub none_ends : s.cut.word ≡ None → run F C s (puts (Break ∷ [])) ≡ Is (Ok (tt, word_closed s))
   none_ends e =
       let f : Option (List ℕ) → Answer (Unit {0} × Machine) =
       λ o. run F C (record s { cut = record s.cut { word = o } }) (puts (Break ∷ [])) in
       ap f e
 
+  -- a word is open
   module _ (word : List ℕ) (e : s.cut.word ≡ Some word) where
+    -- the end of the word that is open, with these marks
     abbrev ended : Bool → Bool → Answer (Unit {0} × Machine)
     ended script file = run F C (record s {
       cut = record s.cut
           { word = Some word; marks = record s.cut.marks { script = script; file = file } };
     }) (puts (Break ∷ []))
 
+    -- a break is the end of the open word, with the marks of the state
     at_break : (script file : Bool) → s.cut.marks.script ≡ script → s.cut.marks.file ≡ file
         → run F C s (puts (Break ∷ [])) ≡ ended script file
     at_break script file a b =
@@ -94,6 +102,7 @@ module _ (F : Facts) (C : Context) (s : Machine) where
         ap (λ o. f o s.cut.marks.script s.cut.marks.file) e ∙ ap (λ x. f (Some word) x s.cut.marks.file) a
         ∙ ap (λ y. f (Some word) script y) b
 
+    -- a word without a mark that looks it up ends as itself
     pub plain_ends : s.cut.marks.script ≡ false → s.cut.marks.file ≡ false
         → run F C s (puts (Break ∷ [])) ≡ Is (Ok (tt, record s { cut = word_done s.cut (word ∷ []) word }))
     plain_ends a b = at_break false false a b
@@ -101,16 +110,19 @@ module _ (F : Facts) (C : Context) (s : Machine) where
     abbrev following : Cut → Answer (Unit {0} × Machine)
     following d = Is (Ok (tt, record s { cut = d }))
 
+    -- what a look-up gives ends the word in the state as it does in the cut
     after : (words : List ℕ → List (List ℕ)) (x : Answer (List ℕ))
         → (((x >>- λ path. Is (Ok (word_done s.cut (words path) path))) >>- λ d. Is (Ok d)) >>- following) ≡ word_found s words x
     after words (Is (Ok path)) = refl
     after words (Is (Err fault)) = refl
     after words Unasked = refl
 
+    -- a word that is marked as a file ends as the path that was found
     pub file_ends : s.cut.marks.script ≡ false → s.cut.marks.file ≡ true
         → run F C s (puts (Break ∷ [])) ≡ word_found s (λ path. path ∷ []) (found_file F C word)
     file_ends a b = at_break false true a b ∙ after (λ path. path ∷ []) (found_file F C word)
 
+    -- a word that is marked as a linker script ends as --script and the path that was found
     pub script_ends : s.cut.marks.script ≡ true → run F C s (puts (Break ∷ []))
         ≡ word_found s (λ path. script_option ∷ path ∷ []) (found_script F C word)
     script_ends a = at_break true s.cut.marks.file a refl ∙ after (λ path. script_option ∷ path ∷ []) (found_script F C word)

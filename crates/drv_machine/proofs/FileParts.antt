@@ -22,8 +22,10 @@ use Rattle.std.proofs.Common.{◌≡◌, ◌⊎◌, ◌<◌, ◌+◌, ◌-◌, �
 use Rattle.std.proofs.Common.{length, refl, sym, true, ℕ}
 use Rattle.std.specs.Prelude.{IfErr, OnOk}
 
--- For `%@{..}`: it is opened as a file if the line came from one, or else as a brace.
+-- For `%@{..}` (filing.rt), which is opened as a file of its words if words of the line came from a response file, and else means what its
+-- braces mean.
 
+-- the item that is reached is a %@
 module _ (F : Facts) (C : Context) (text : List ℕ) (w : Walk) (s : Machine) (end : ℕ) (brace : Brace) (given : Answer (Unit {0} × Machine))
     (b : Following F C text w end (λ levels star. item_step F C (tree.ArgumentsFile brace) levels star) s given) where
   abbrev k : Unit {0} × Machine → Answer (Unit {0} × Machine)
@@ -32,13 +34,14 @@ module _ (F : Facts) (C : Context) (text : List ℕ) (w : Walk) (s : Machine) (e
   abbrev inner : Levels → Step (Unit {0})
   inner inside = brace_step F C brace inside (star_of C w.star)
 
+  -- the frame that the code makes for it
   abbrev frame : Opened → Frame
   frame o = record { opened = o; end = w.end; star = w.star }
 
   abbrev chosen : Bool → Levels → Step (Unit {0})
   chosen starts inside = if starts then file_step F C (inner inside) else inner inside
 
-  -- the step at the depth of the part
+  -- the braces, at the depth of the part and as a file or not, followed by the rest of the walk, give the defined answer
   given_as : (starts : Bool) → starts ≡ starts_file F C s.world → length w.frames < 64
       → (run F C s (chosen starts (levels_left F C (most_open - (length b.arounds + 1)))) >>- k) ≡ given
   given_as starts is h =
@@ -49,7 +52,7 @@ module _ (F : Facts) (C : Context) (text : List ℕ) (w : Walk) (s : Machine) (e
       ∙ ap (λ starts. run F C s (chosen starts (levels_left F C (most_open - (length b.arounds + 1))))) (sym is)))
       ∙ b.same
 
-  -- no file
+  -- no file: the braces follow, and nothing at their end
   pub inside_opened : (starts : Bool) → starts ≡ starts_file F C s.world → starts ≡ false → length w.frames < 64 → (v : Walk) → v.end ≡ end
       → v.star ≡ w.star → v.frames ≡ w.frames ++ frame (Inside end) ∷ []
       → Following F C text v end (λ levels star. brace_step F C brace levels star) s given
@@ -60,6 +63,7 @@ module _ (F : Facts) (C : Context) (text : List ℕ) (w : Walk) (s : Machine) (e
       (sym (ap (λ starts. run F C s (chosen starts (levels_left F C (most_open - (length b.arounds + 1)))) >>- k) none)
       ∙ given_as starts is h)
 
+  -- braces that make no file are opened, or the stack refuses the frame
   pub inside_reached : (starts : Bool) → starts ≡ starts_file F C s.world → starts ≡ false
       → (result : Result (Unit {0}) MachineFault) (v : Walk)
       → OnOk result (v ≡ record w { end = end; frames = w.frames ++ frame (Inside end) ∷ [] }) → OnOk result (length w.frames < 64)
@@ -69,7 +73,9 @@ module _ (F : Facts) (C : Context) (text : List ℕ) (w : Walk) (s : Machine) (e
       inside_opened starts is none h v (ap (λ (x : Walk). x.end) same) (ap (λ (x : Walk). x.star) same) (ap (λ (x : Walk). x.frames) same)
   inside_reached starts is none (Err fault) v same h full = too_deep F C text w s given end _ b refl fault full
 
+  -- it makes a file of its words
   module _ (starts : Bool) (is : starts ≡ starts_file F C s.world) (some : starts ≡ true) (h : length w.frames < 64) where
+    -- the beginning of a file, its braces, its end, and the rest of the walk give the defined answer
     file_given : ((file_from F C s >>- λ r. run F C r.1 (inner (levels_left F C (most_open - (length b.arounds + 1)))))
         >>- λ q. file_end F C q.1 >>- k) ≡ given
     file_given =
@@ -79,6 +85,7 @@ module _ (F : Facts) (C : Context) (text : List ℕ) (w : Walk) (s : Machine) (e
         (λ q. file_end F C q.1) k)
         ∙ given_as starts is h
 
+    -- after the beginning of the file its braces follow, and its end after them
     file_opened : (t : Machine) → file_from F C s ≡ Is (Ok (tt, t)) → (v : Walk) → v.end ≡ end → v.star ≡ w.star
         → v.frames ≡ w.frames ++ frame (File end) ∷ []
         → Following F C text v end (λ levels star. brace_step F C brace levels star) t given
@@ -89,7 +96,7 @@ module _ (F : Facts) (C : Context) (text : List ℕ) (w : Walk) (s : Machine) (e
         (sym (ap (λ x. (x >>- λ r. run F C r.1 (inner (levels_left F C (most_open - (length b.arounds + 1))))) >>- λ q. file_end F C q.1
         >>- k) went) ∙ file_given)
 
-    -- its beginning is cut, or refused
+    -- braces that make a file are opened, or the beginning is refused
     pub file_reached : (result : Result (Unit {0}) MachineFault) (t : Machine) → GivesKnown Memory (λ u. (tt, t)) result (file_from F C s)
         → (v : Walk) → v.end ≡ end → v.star ≡ w.star → v.frames ≡ w.frames ++ frame (File end) ∷ []
         → Reaches F C text v end (λ levels star. brace_step F C brace levels star) t given result

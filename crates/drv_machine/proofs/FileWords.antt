@@ -11,18 +11,22 @@ use Rattle.std.proofs.Common.{◌≡◌, ◌∙◌, ◌++◌, Bool, List, [], �
 use Rattle.std.specs.Option.{unwrap_or}
 use Rattle.std.specs.Prelude.{is_some, option_map}
 
--- For `%@{..}`: the words of a file depend on the open word, its marks and the words so far, and on nothing else that was cut before.
+-- For `%@{..}`, which makes a file of its words: these depend on the open word, its marks and the words of the file so far (`Seen`), and on
+-- nothing else that was cut before. So the words that the code cuts in the middle of a text are those that the definition cuts from nothing
+-- (`file_words_as`).
 
+-- what the words of a file depend on
 pub record Seen : Type 0 where
   pub word : Option (List ℕ)
   pub marks : Marking
   pub barred : Bool
   pub line : Option CutLine
 
+-- what is seen of a cut
 abbrev pub seen : Cut → Seen
 seen c = record { word = c.word; marks = c.marks; barred = c.barred; line = option_map (λ outer. c.line) c.outer }
 
--- a file has begun
+-- a file has begun in a cut: it has no word yet, and no open one
 abbrev pub Begun : Cut → Type 0
 Begun c = seen c ≡ seen (file_begun nothing_cut)
 
@@ -35,17 +39,19 @@ with_words words l = record { words = l.words ++ words; piped = l.piped }
 abbrev word_seen : Seen → List (List ℕ) → Seen
 word_seen v words = record { word = None; marks = no_marks; barred = false; line = option_map (with_words words) v.line }
 
+-- the words of the file so far are among what is seen
 words_seen : (outer : Option CutLine) (line : CutLine)
     → unwrap_or (option_map (λ (l : CutLine). l.words) (option_map (λ (o : CutLine). line) outer)) []
     ≡ unwrap_or (option_map (λ (o : CutLine). line.words) outer) []
 words_seen None line = refl
 words_seen (Some o) line = refl
 
--- an end of a command, a pipe and the end of a %W are not seen
+-- the end of a command, a pipe and the end of a %W change nothing that is seen, where a file is open
 end_unseen : (c : Cut) (outer : Option CutLine) → seen (line_ended (record c { outer = outer })) ≡ seen (record c { outer = outer })
 end_unseen c None = refl
 end_unseen c (Some line) = refl
 
+-- outside of files a pipe is not seen
 piped_or_not : (c : Cut) (words : List (List ℕ)) (piped : Bool)
     → seen (pipe_done (record c { line = record { words = words; piped = piped }; outer = None }))
     ≡ seen (record c { line = record { words = words; piped = piped }; outer = None })
@@ -56,6 +62,7 @@ pipe_unseen : (c : Cut) (outer : Option CutLine) → seen (pipe_ended (record c 
 pipe_unseen c None = piped_or_not c c.line.words c.line.piped
 pipe_unseen c (Some line) = refl
 
+-- the end of a %W is not seen
 inside_unseen : (inside : List (Option (List ℕ))) (c : Cut) → seen (inside_done inside c) ≡ seen c
 inside_unseen [] c = refl
 inside_unseen (None ∷ outer) c = refl
@@ -65,12 +72,14 @@ file_unseen : (c : Cut) (outer : Option CutLine) → seen (file_done (record c {
 file_unseen c None = refl
 file_unseen c (Some line) = refl
 
+-- the end of a word with these texts, as it is seen
 word_done_seen : (c : Cut) (words : List (List ℕ)) (last : List ℕ) (outer : Option CutLine)
     → seen (word_done (record c { outer = outer }) words last) ≡ word_seen (seen (record c { outer = outer })) words
 word_done_seen c words last None = refl
 word_done_seen c words last (Some line) = refl
 
 module _ (F : Facts) (C : Context) where
+  -- the end of a word, as far as it is seen
   abbrev broken_seen : Seen → Answer Seen
   broken_seen v = by v.word v.marks.script v.marks.file
     where
@@ -80,6 +89,7 @@ module _ (F : Facts) (C : Context) where
       by (Some word) false true = found_file F C word >>- λ path. Is (Ok (word_seen v (path ∷ [])))
       by (Some word) false false = Is (Ok (word_seen v (word ∷ [])))
 
+  -- one atom, as far as it is seen
   abbrev taken_seen : Seen → Atom → Answer Seen
   taken_seen v (Put b) = Is (Ok (record v { word = Some (unwrap_or v.word [] ++ b ∷ []) }))
   taken_seen v Open = Is (Ok (record v { word = Some (unwrap_or v.word [] ++ []) }))
@@ -97,7 +107,7 @@ module _ (F : Facts) (C : Context) where
   all_seen v [] = Is (Ok v)
   all_seen v (atom ∷ atoms) = taken_seen v atom >>- λ u. all_seen u atoms
 
-  -- the marks of a word that ends
+  -- the end of a word does to what is seen what `broken_seen` says, by the word's marks
   broken_as : (c : Cut) (word : Option (List ℕ)) (script file : Bool)
       → (broken F C (record c { word = word; marks = record c.marks { script = script; file = file } }) >>- λ d. Is (Ok (seen d)))
       ≡ broken_seen (seen (record c { word = word; marks = record c.marks { script = script; file = file } }))
@@ -130,6 +140,7 @@ module _ (F : Facts) (C : Context) where
   broken_is : (c : Cut) → (broken F C c >>- λ d. Is (Ok (seen d))) ≡ broken_seen (seen c)
   broken_is c = broken_as c c.word c.marks.script c.marks.file
 
+  -- an atom does to what is seen what `taken_seen` says
   taken_is : (c : Cut) (atom : Atom) → (taken F C c atom >>- λ d. Is (Ok (seen d))) ≡ taken_seen (seen c) atom
   taken_is c (Put b) = refl
   taken_is c Open = refl
@@ -147,6 +158,7 @@ module _ (F : Facts) (C : Context) where
   taken_is c FileFrom = refl
   taken_is c FileTo = ap (λ v. Is (Ok v)) (file_unseen c c.outer)
 
+  -- a list of atoms does to what is seen what `all_seen` says
   all_is : (c : Cut) (atoms : List Atom) → (all_taken F C c atoms >>- λ d. Is (Ok (seen d))) ≡ all_seen (seen c) atoms
   all_is c [] = refl
   all_is c (atom ∷ atoms) =
@@ -156,6 +168,7 @@ module _ (F : Facts) (C : Context) where
       ∙ sym (then_then (taken F C c atom) (λ d. Is (Ok (seen d))) (λ v. all_seen v atoms))
       ∙ ap (λ x. x >>- λ v. all_seen v atoms) (taken_is c atom)
 
+  -- the words of a file after these atoms depend on what was seen before
   words_are : (c : Cut) (atoms : List Atom) → (all_taken F C c atoms >>- λ d. Is (Ok (words_in_file d)))
       ≡ (all_seen (seen c) atoms >>- λ v. Is (Ok (seen_words v)))
   words_are c atoms =
@@ -164,6 +177,7 @@ module _ (F : Facts) (C : Context) where
       (λ d. ap (λ ws. Is (Ok ws)) (words_seen d.outer d.line)))
       ∙ ap (λ x. x >>- λ v. Is (Ok (seen_words v))) (all_is c atoms)
 
+  -- the words of a file, cut from any cut that begins one
   pub file_words_as : (c : Cut) → Begun c → (atoms : List Atom)
       → file_words F C atoms ≡ (all_taken F C c (atoms ++ Break ∷ []) >>- λ d. Is (Ok (words_in_file d)))
   file_words_as c e atoms =
@@ -171,7 +185,7 @@ module _ (F : Facts) (C : Context) where
       ∙ ap (λ v. all_seen v (atoms ++ Break ∷ []) >>- λ u. Is (Ok (seen_words u))) (sym e)
       ∙ sym (words_are c (atoms ++ Break ∷ []))
 
-  -- after a break one may begin
+  -- after the end of a word a file may begin, whatever the word was: what holds of such cuts holds after it
   begun_as : {Y : Type 0} (c : Cut) (word : Option (List ℕ)) (script file : Bool) (f g : Cut → Answer Y)
       → ((d : Cut) → Begun (file_begun d) → f d ≡ g d)
       → (broken F C (record c { word = word; marks = record c.marks { script = script; file = file } }) >>- f)
@@ -201,6 +215,7 @@ module _ (F : Facts) (C : Context) where
   begun_as c (Some word) false false f g e = e (word_done
       (record c { word = Some word; marks = record c.marks { script = false; file = false } }) (word ∷ []) word) refl
 
+  -- after a break a file may begin, whatever the word before: what holds of each cut in which one may, holds after the break
   pub after_break : {Y : Type 0} (c : Cut) (f g : Cut → Answer Y) → ((d : Cut) → Begun (file_begun d) → f d ≡ g d)
       → (broken F C c >>- f) ≡ (broken F C c >>- g)
   after_break c f g e = begun_as c c.word c.marks.script c.marks.file f g e

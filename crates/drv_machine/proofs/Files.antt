@@ -20,22 +20,26 @@ use Rattle.std.proofs.Common.{refl, suc, sym, true, ℕ}
 use Rattle.std.proofs.lemmas.Bool.Decides.{nat_tests}
 use Rattle.std.specs.Prelude.{◌==◌}
 
--- For `%@{..}`: what its beginning and its end do to the cut.
+-- For `%@{..}` where it makes a file of its words (filing.rt): what its beginning and its end do to the cut, and that `file_step` of the
+-- definition is that beginning, the braces and that end (`filed_runs`).
 
--- the word that names a file
+-- puts the word @PATH that names the file
 abbrev named_path : List ℕ → Step (Unit {0})
 named_path path = puts (Put at_sign ∷ map Put path ++ Break ∷ [])
 
+-- the beginning and the end of a file
 module _ (F : Facts) (C : Context) (s : Machine) where
+  -- the beginning: a break, and then the words are those of the file
   pub file_begins : (t u : Machine) → run F C s (puts (Break ∷ [])) ≡ Is (Ok (tt, t)) → u ≡ into_file t → file_from F C s ≡ Is (Ok (tt, u))
   file_begins t u went is = ap (λ x. x >>- λ r. Is (Ok (tt, into_file r.1))) went ∙ ap (λ (m : Machine). Is (Ok (tt, m))) (sym is)
 
+  -- where the break is refused, so is the beginning
   pub no_beginning : (fault : MachineFault) → (fault ≡ Memory) ⊎ (run F C s (puts (Break ∷ [])) ≡ Is (Err fault))
       → (fault ≡ Memory) ⊎ (file_from F C s ≡ Is (Err fault))
   no_beginning fault (inl memory) = inl memory
   no_beginning fault (inr e) = inr (ap (λ x. x >>- λ r. Is (Ok (tt, into_file r.1))) e)
 
-  -- the words that were cut, and the command that goes on
+  -- the end: a break, the words of the file are taken, and the file is named in the command around it
   pub file_ends : (t u : Machine) (words : List (List ℕ)) → run F C s (puts (Break ∷ [])) ≡ Is (Ok (tt, t)) → words ≡ words_in_file t.cut
       → u ≡ out_of_file t → run F C u (named_file F C words) ≡ file_end F C s
   file_ends t u words went same is =
@@ -43,16 +47,19 @@ module _ (F : Facts) (C : Context) (s : Machine) where
       ∙ ap (λ (ws : List (List ℕ)). run F C (out_of_file t) (named_file F C ws)) same
       ∙ sym (ap (λ x. x >>- λ r. run F C (out_of_file r.1) (named_file F C (words_in_file r.1.cut))) went)
 
+  -- where the break is refused, so is the end
   pub no_end : (fault : MachineFault) → (fault ≡ Memory) ⊎ (run F C s (puts (Break ∷ [])) ≡ Is (Err fault))
       → (fault ≡ Memory) ⊎ (file_end F C s ≡ Is (Err fault))
   no_end fault (inl memory) = inl memory
   no_end fault (inr e) = inr (ap (λ x. x >>- λ r. run F C (out_of_file r.1) (named_file F C (words_in_file r.1.cut))) e)
 
+-- a length that is not zero
 pub some_there : (n : ℕ) → (suc n == 0) ≡ false
 some_there n = grind (arith, nat_tests)
 
--- and it is named, if it has words
+-- the name of a file of these words is put
 module _ (F : Facts) (C : Context) (s : Machine) (words : List (List ℕ)) where
+  -- a file without words has no name
   pub none_filed : true ≡ (length words == 0) → run F C s (named_file F C words) ≡ Is (Ok (tt, s))
   none_filed none = by words none
     where
@@ -60,7 +67,9 @@ module _ (F : Facts) (C : Context) (s : Machine) (words : List (List ℕ)) where
       by [] e = refl
       by (w ∷ ws) e = absurd (let never : true ≡ false = e ∙ some_there (length ws) in cc)
 
+  -- the file has words, and these contents
   module _ (some : false ≡ (length words == 0)) (contents : List ℕ) (same : contents ≡ response_text words) where
+    -- a file with words is named: a name is drawn, and the word @NAME is put
     drawn_then : run F C s (named_file F C words) ≡ run F C s (draw_with F C contents Anew (codes ".args") >>= named_path)
     drawn_then = by words some same
       where
@@ -69,12 +78,14 @@ module _ (F : Facts) (C : Context) (s : Machine) (words : List (List ℕ)) where
         by [] e is = absurd (let never : false ≡ true = e in cc)
         by (w ∷ ws) e is = ap (λ text. run F C s (draw_with F C text Anew (codes ".args") >>= named_path)) (sym is)
 
+    -- after the name was drawn, its word is put
     pub file_drawn : (path bytes : List ℕ) (t : Machine) → bytes ≡ path
         → run F C s (draw_with F C contents Anew (codes ".args")) ≡ Is (Ok (path, t))
         → run F C t (puts (Put at_sign ∷ map Put bytes ++ Break ∷ [])) ≡ run F C s (named_file F C words)
     file_drawn path bytes t same_bytes e = ap (λ p. run F C t (named_path p)) same_bytes
         ∙ sym (drawn_then ∙ then_ok F C s (draw_with F C contents Anew (codes ".args")) named_path path t e)
 
+    -- where no name can be drawn, the end is refused
     pub not_drawn : (fault : MachineFault) → (fault ≡ Memory) ⊎ (run F C s (draw_with F C contents Anew (codes ".args")) ≡ Is (Err fault))
         → (fault ≡ Memory) ⊎ (run F C s (named_file F C words) ≡ Is (Err fault))
     not_drawn fault e = fails_as (run F C s (draw_with F C contents Anew (codes ".args") >>= named_path)) (run F C s (named_file F C words))
@@ -88,10 +99,11 @@ module _ (F : Facts) (C : Context) where
   abbrev ended : World → Cut → Answer (Unit {0} × Machine)
   ended v d = Is (Ok (tt, record { cut = d; world = v }))
 
-  -- the file is named after its words
+  -- the file is named after its words, in the command around it
   abbrev names_file : World → Cut → Answer (Unit {0} × Machine)
   names_file v d = done F C (file_done d) (named_file F C (words_in_file d) (outside v))
 
+  -- the file is named after the words that were cut, as after those that the definition cuts
   named_after : (v : World) (atoms : List Atom) (x : Answer Cut) → file_words F C atoms ≡ (x >>- λ d. Is (Ok (words_in_file d)))
       → (x >>- λ d. done F C (file_done d) ((needs (file_words F C atoms) >>= named_file F C) (outside v))) ≡ (x >>- names_file v)
   named_after v atoms (Is (Ok d)) e =
@@ -100,7 +112,7 @@ module _ (F : Facts) (C : Context) where
   named_after v atoms (Is (Err fault)) e = refl
   named_after v atoms Unasked e = refl
 
-  -- words that end in the file, and its end
+  -- the definition cuts the words of the file from nothing; the code cuts them where the text is: both give the same
   words_filed : (v : World) (atoms : List Atom) (b : Cut) → Begun b
       → (all_taken F C b (atoms ++ Break ∷ FileTo ∷ []) >>- λ d. done F C d ((needs (file_words F C atoms) >>= named_file F C) (outside v)))
       ≡ ((all_taken F C b atoms >>- ended v) >>- λ q. file_end F C q.1)
@@ -120,6 +132,7 @@ module _ (F : Facts) (C : Context) where
       (λ r. run F C (out_of_file r.1) (named_file F C (words_in_file r.1.cut)))))
       ∙ sym (then_then (all_taken F C b atoms) (ended v) (λ q. file_end F C q.1))
 
+  -- what the definition gives of a %@ is its beginning, its braces and its end
   filed_done : (c : Cut) (work : Worked (Unit {0})) → done F C c (filed F C work)
       ≡ (broken F C c >>- λ d. done F C (file_begun d) work >>- λ q. file_end F C q.1)
   filed_done c (Goes atoms u v) =
@@ -140,7 +153,7 @@ module _ (F : Facts) (C : Context) where
       (λ d. done F C (file_begun d) (Waits atoms) >>- λ q. file_end F C q.1)
       (λ d. sym (then_then (all_taken F C (file_begun d) atoms) (λ e. Unasked) (λ q. file_end F C q.1)))
 
-  -- the whole part, as it is run
+  -- the step of a %@ that makes a file, as it is run, is its beginning, its braces and its end
   pub filed_runs : (s : Machine) (step : Step (Unit {0}))
       → run F C s (file_step F C step) ≡ ((file_from F C s >>- λ r. run F C r.1 step) >>- λ q. file_end F C q.1)
   filed_runs s step = filed_done s.cut (step (record s.world { is_in_file = true })) ∙ by (broken F C s.cut)

@@ -18,9 +18,10 @@ use Rattle.std.specs.Cmp.Lexicographic.{pointwise, same_text}
 use Rattle.std.specs.List.{filter, list_any}
 use Rattle.std.specs.Prelude.{nat_eq, nat_lt, not}
 
--- For the end of `run`: the job of a text is made of its finished cut.
+-- For the end of `run` (whole.rt): the job of a text is made of its finished cut. A loop puts the commands into groups (`grouped`: groups
+-- that have ended, and commands of one that is begun), and others keep each file once and leave out the job's own temporaries.
 
--- the last command counts
+-- the last command of a list, by its index, says whether the list ends with a pipe
 ends_piped_from : (lines : List NamedLine) (n : ℕ) (last : NamedLine) → length lines ≡ suc n → last ≡ get_or lines n last
     → last.piped ≡ ends_piped lines
 ends_piped_from [] n last long is = absurd (omega (arith, long))
@@ -29,6 +30,7 @@ ends_piped_from (line ∷ []) (suc n) last long is = absurd (omega (arith, long)
 ends_piped_from (line ∷ other ∷ lines) zero last long is = absurd (omega (arith, long))
 ends_piped_from (line ∷ other ∷ lines) (suc n) last long is = ends_piped_from (other ∷ lines) n last (omega (arith, long)) is
 
+-- the last command, by the length of the list, as the code looks at it, says whether the list ends with a pipe
 pub ends_piped_last : (lines : List NamedLine) (last : NamedLine) → 1 ≤ length lines → last ≡ get_or lines (length lines - 1) last
     → last.piped ≡ ends_piped lines
 ends_piped_last lines last some is = ends_piped_from lines (length lines - 1) last (omega (arith, some)) is
@@ -37,6 +39,7 @@ joined : (begun : List Command) (c : Command) (gs : List (List Command)) → ahe
 joined [] c gs = refl
 joined (d ∷ begun) c gs = ap (add_command true d) (joined begun c gs)
 
+-- a command that ends the group that is begun
 alone : (begun : List Command) (c : Command) (gs : List (List Command)) → ahead begun ((c ∷ []) ∷ gs) ≡ made (begun ++ c ∷ []) ++ gs
 alone [] c gs = refl
 alone (d ∷ begun) c gs = ap (add_command true d) (alone begun c gs) ∙ by (begun ++ c ∷ []) refl
@@ -45,11 +48,13 @@ alone (d ∷ begun) c gs = ap (add_command true d) (alone begun c gs) ∙ by (be
     by [] e = absurd (let n = ap (λ xs. length xs) e in let m = length-append begun (c ∷ []) in omega (arith, n, m))
     by (x ∷ all) e = refl
 
+-- commands of a group that is begun, with no group after them, are that group
 pub nothing_ahead : (begun : List Command) → ahead begun [] ≡ made begun
 nothing_ahead [] = refl
 nothing_ahead (c ∷ []) = refl
 nothing_ahead (c ∷ d ∷ begun) = ap (add_command true c) (nothing_ahead (d ∷ begun))
 
+-- before the first command nothing is grouped
 pub grouped_none : (done : List (List Command)) (begun : List Command) (a : Answer (List (List Command))) → done ≡ [] → begun ≡ []
     → a ≡ grouped done begun a
 grouped_none done begun a e f = rw (e, f) (by a)
@@ -60,7 +65,7 @@ grouped_none done begun a e f = rw (e, f) (by a)
     by Unasked = refl
 
 module _ (F : Facts) (C : Context) where
-  -- one line more, whose command is joined to the next one, or ends its group
+  -- a command that a pipe follows, with -pipe, joins the group that is begun
   pub one_joined : (done : List (List Command)) (begun after : List Command) (line : NamedLine) (c : Command) (lines : List NamedLine)
       → (C.is_piping && line.piped) ≡ true → command F C line ≡ Is (Ok c) → after ≡ begun ++ c ∷ []
       → grouped done begun (groups F C (line ∷ lines)) ≡ grouped done after (groups F C lines)
@@ -72,6 +77,7 @@ module _ (F : Facts) (C : Context) where
       by (Is (Err fault)) = refl
       by Unasked = refl
 
+  -- another command ends its group
   pub one_ended : (done new : List (List Command)) (begun all after : List Command) (line : NamedLine) (c : Command)
       (lines : List NamedLine)
       → (C.is_piping && line.piped) ≡ false → command F C line ≡ Is (Ok c) → all ≡ begun ++ c ∷ [] → new ≡ done ++ made all → after ≡ []
@@ -85,15 +91,19 @@ module _ (F : Facts) (C : Context) where
       by (Is (Err fault)) = refl
       by Unasked = refl
 
+  -- after the last command the group that is begun ends
   pub all_grouped : (done new : List (List Command)) (begun : List Command) → new ≡ done ++ made begun
       → grouped done begun (groups F C []) ≡ Is (Ok new)
   all_grouped done new begun e = ap (λ gs. Is (Ok gs)) (ap (λ gs. done ++ gs) (nothing_ahead begun) ∙ sym e)
 
+  -- a cut whose pipes are right, with the groups of its commands
   module _ (w : World) (c : Cut) (commands : List (List Command)) (well : (c.stray || ends_piped c.lines) ≡ false)
       (are : groups F C c.lines ≡ Is (Ok commands)) where
+    -- a group with more than the most piped commands is refused
     pub finished_long : list_any (λ group. nat_lt most_piped (length group)) commands ≡ true → finished F C w c ≡ Is (Err PipeTooLong)
     finished_long long = rw (well, are, long) refl
 
+    -- without one the job is made of the groups
     pub finished_well : list_any (λ group. nat_lt most_piped (length group)) commands ≡ false
         → finished F C w c ≡ Is (Ok (record {
           job = job w c commands;
@@ -106,27 +116,31 @@ module _ (F : Facts) (C : Context) where
         }))
     finished_well short = rw (well, are, short) refl
 
--- Files, each once.
+-- Files, each once: `kept` are those that the loop has kept, `others_than kept` those that it has still to keep.
 
 abbrev without : List ℕ → List (List ℕ) → List (List ℕ)
 without file files = filter (λ other. not (pointwise nat_eq file other)) files
 
--- those that are not among these
+-- the files that are not among the ones that are kept
 abbrev pub others_than : List (List ℕ) → List (List ℕ) → List (List ℕ)
 others_than kept files = filter (λ file. not (is_among kept file)) files
 
+-- where no file was kept, all are others
 all_others : (files : List (List ℕ)) → others_than [] files ≡ files
 all_others [] = refl
 all_others (file ∷ files) = ap (λ fs. file ∷ fs) (all_others files)
 
+-- before the first file none is kept
 pub none_kept : (kept files : List (List ℕ)) → kept ≡ [] → files ≡ kept ++ others_than kept files
 none_kept kept files e = rw (e) (sym (all_others files))
 
+-- filters by tests that agree leave the same
 filter_same : {A : Type 0} (f g : A → Bool) (xs : List A) → ((x : A) → f x ≡ g x) → filter f xs ≡ filter g xs
 filter_same f g [] e = refl
 filter_same f g (x ∷ xs) e = ap (λ b. if b then x ∷ filter f xs else filter f xs) (e x)
     ∙ ap (λ ys. if g x then x ∷ ys else ys) (filter_same f g xs e)
 
+-- two filters, one after the other, are one
 filter_twice : {A : Type 0} (f g : A → Bool) (xs : List A) → filter f (filter g xs) ≡ filter (λ y. g y && f y) xs
 filter_twice f g [] = refl
 filter_twice {A = A} f g (x ∷ xs) = by (g x) (filter_twice f g xs)
@@ -137,7 +151,7 @@ filter_twice {A = A} f g (x ∷ xs) = by (g x) (filter_twice f g xs)
     by true others = ap (λ (ys : List A). if f x then x ∷ ys else ys) others
     by false others = others
 
--- a file that was kept before
+-- to leave out a file that was kept, and then all that were kept, is to leave out those
 kept_before : (kept : List (List ℕ)) (file other : List ℕ) → is_among kept file ≡ true
     → (not (pointwise nat_eq file other) && not (is_among kept other)) ≡ not (is_among kept other)
 kept_before kept file other among = by (pointwise nat_eq file other) refl
@@ -146,6 +160,7 @@ kept_before kept file other among = by (pointwise nat_eq file other) refl
     by false e = refl
     by true e = sym (ap not (ap (is_among kept) (sym (same_text file other (sym e))) ∙ among))
 
+-- a file that was kept before is not kept again
 pub again : (kept : List (List ℕ)) (file : List ℕ) (files : List (List ℕ)) → is_among kept file ≡ true
     → kept ++ others_than kept (once (file ∷ files)) ≡ kept ++ others_than kept (once files)
 again kept file files among =
@@ -155,7 +170,7 @@ again kept file files among =
     ∙ filter_same (λ f. not (pointwise nat_eq file f) && not (is_among kept f)) (λ f. not (is_among kept f)) (once files)
     (λ f. kept_before kept file f among))
 
--- or that is new
+-- a file that is new is left out from now on
 among_more : (kept : List (List ℕ)) (file other : List ℕ)
     → (not (pointwise nat_eq file other) && not (is_among kept other)) ≡ not (is_among (kept ++ file ∷ []) other)
 among_more [] file other = ap (λ b. not b && true) (nat_list_eq_equiv.symm file other) ∙ by (pointwise nat_eq other file)
@@ -175,6 +190,7 @@ among_more (k ∷ kept) file other = by (pointwise nat_eq other k) (pointwise na
         and_false false = refl
     by false b c e = e
 
+-- a file that was not kept before goes to the end of those that are kept
 pub one_new : (kept new : List (List ℕ)) (file : List ℕ) (files : List (List ℕ)) → is_among kept file ≡ false → new ≡ kept ++ file ∷ []
     → kept ++ others_than kept (once (file ∷ files)) ≡ new ++ others_than new (once files)
 one_new kept new file files among e =
@@ -186,6 +202,7 @@ one_new kept new file files among e =
     ∙ sym (append_assoc kept (file ∷ []) (others_than (kept ++ file ∷ []) (once files)))
     ∙ ap (λ ks. ks ++ others_than ks (once files)) (sym e)
 
+-- the loop's list with the next file, if that is new, and the files that are left make the same list as before
 pub one_added : (kept new : List (List ℕ)) (file : List ℕ) (files : List (List ℕ)) → new ≡ added file kept
     → kept ++ others_than kept (once (file ∷ files)) ≡ new ++ others_than new (once files)
 one_added kept new file files e = by (is_among kept file) refl
@@ -195,15 +212,17 @@ one_added kept new file files e = by (is_among kept file) refl
         (sym (e ∙ ap (λ b. if b then kept else kept ++ file ∷ []) among))
     by false among = one_new kept new file files among (e ∙ ap (λ b. if b then kept else kept ++ file ∷ []) among)
 
+-- after the last file none is left
 pub all_once : (kept : List (List ℕ)) → kept ++ others_than kept (once []) ≡ kept
 all_once kept = append-nil kept
 
--- and those that stay
+-- a filter keeps one more item that passes, at its end
 pub one_stays : (f : List ℕ → Bool) (files new : List (List ℕ)) (file : List ℕ) (before : List (List ℕ)) → f file ≡ true
     → new ≡ filter f before ++ file ∷ [] → new ≡ filter f (before ++ file ∷ [])
 one_stays f files new file before stays e = e ∙ sym
     (filter-append f before (file ∷ []) ∙ ap (λ b. filter f before ++ (if b then file ∷ [] else [])) stays)
 
+-- a filter leaves out one more item that does not pass
 pub one_goes : (f : List ℕ → Bool) (kept : List (List ℕ)) (file : List ℕ) (before : List (List ℕ)) → f file ≡ false → kept ≡ filter f before
     → kept ≡ filter f (before ++ file ∷ [])
 one_goes f kept file before goes e = e ∙ sym (filter-append f before (file ∷ [])

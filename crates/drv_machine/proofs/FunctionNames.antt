@@ -10,8 +10,9 @@ use Rattle.std.specs.Cmp.Lexicographic.{pointwise}
 use Rattle.std.specs.Map.{lookup}
 use Rattle.std.specs.Prelude.{Bool, Some, cond, false, if◌then◌else◌, is_some, map, nat_eq, true, ℕ}
 
--- For function_names: the names of functions in the grammar are those of the functions.
+-- For `function_names` (grammar.rt), which lists what may follow `%:`: the grammar knows exactly the names of the functions.
 
+-- a name is one of a table's names exactly if it has a row
 among : {X : Type 0} (name : List ℕ) (rows : List (List ℕ × X))
     → any_of (is_same name) (map (λ row. row.0) rows) ≡ is_some (lookup (pointwise nat_eq name) rows)
 among name [] = refl
@@ -24,9 +25,11 @@ among name (row ∷ rows) = ap (λ t. if t then true else any_of (is_same name) 
     by true e = refl
     by false e = e
 
+-- a name is one of the grammar exactly if a function has it
 pub is_function_known : (name : List ℕ) → is_function name ≡ is_some (function_of name)
 is_function_known name = among name funcs.functions
 
+-- the name of each function denotes it
 pub name_of_denotes : (function : Function) → function_of (name_of function) ≡ Some function
 name_of_denotes Getenv = refl
 name_of_denotes IfExists = refl

@@ -10,13 +10,15 @@ use Rattle.std.specs.Cmp.Lexicographic.{pointwise, slice_cmp, texts_ties}
 use Rattle.std.specs.Ordering.{nat_cmp}
 use Rattle.std.specs.Prelude.{cond, nat_eq}
 
--- For `IndexedWords`: the index finds a word exactly if the list has it.
+-- For `IndexedWords` (machine/indexed.rt), a list of words with an index that is made when the list is long: the index finds a word exactly
+-- if the list has it.
 
 -- the index has one word more
 abbrev pub Grows : BTreeSet (List ℕ) → BTreeSet (List ℕ) → List ℕ → Type 0
 Grows index new word = (other : List ℕ) → contains (slice_cmp nat_cmp) new other
     ≡ cond (is_at (slice_cmp nat_cmp word) other) true (contains (slice_cmp nat_cmp) index other)
 
+-- the index compares words byte by byte
 same_word : (word other : List ℕ) → is_at (slice_cmp nat_cmp word) other ≡ pointwise nat_eq other word
 same_word word other = sym (texts_ties word other) ∙ nat_list_eq_equiv.symm word other
 
@@ -24,7 +26,7 @@ grown : (index new : BTreeSet (List ℕ)) (word other : List ℕ) → Grows inde
     → contains (slice_cmp nat_cmp) new other ≡ cond (pointwise nat_eq other word) true (contains (slice_cmp nat_cmp) index other)
 grown index new word other grows = grows other ∙ ap (λ b. cond b true (contains (slice_cmp nat_cmp) index other)) (same_word word other)
 
--- going over a list
+-- the invariant of the loop that makes the index: a word is in the index or in what is left exactly if it is in the list
 pub next_indexed : (index new : BTreeSet (List ℕ)) (words : List (List ℕ)) (i : ℕ) (item copy : List ℕ) → i < length words
     → item ≡ get_or words i item → copy ≡ item → Grows index new copy
     → (other : List ℕ) → (contains (slice_cmp nat_cmp) index other || is_among (drop i words) other) ≡ is_among words other
@@ -43,7 +45,7 @@ next_indexed index new words i item copy h is same grows other left =
     moved false true c = refl
     moved false false c = refl
 
--- a word more of a list and its index
+-- a word that is added to the list and to its index
 pub indexed_more : (index new : BTreeSet (List ℕ)) (words longer : List (List ℕ)) (word copy : List ℕ) → Indexes index words → copy ≡ word
     → Grows index new copy → longer ≡ words ++ word ∷ [] → Indexes new longer
 indexed_more index new words longer word copy indexes same grows is other =

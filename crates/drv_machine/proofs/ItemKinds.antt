@@ -12,12 +12,14 @@ use Rattle.drv_syntax.specs.declared.token.TokenKind.{TokenKind}
 use Rattle.drv_system.specs.Facts.{Facts}
 use Rattle.std.proofs.Common.{◌≡◌, Bool, List, ap, false, refl, true, ℕ}
 
--- For the walk: what an item means, by the kind of its token.
+-- For the walk: what an item means, by the kind and the label of its token (`kind_step`), which is how the code looks at it. The lemmas
+-- NAME_item give the item of a token of that kind.
 
+-- the pattern of a label is what the pattern matches
 pub labelled_is : (p : Pattern) → labelled (pattern_label p) ≡ matching p
 labelled_is (tree.pattern word star) = refl
 
--- what the braces of an item mean, or the text of a name
+-- what the part in an item means: its braces, or the text of a name
 abbrev pub inner_step : Facts → Context → Item → Levels → List ℕ → Step (Unit {0})
 inner_step F C (tree.NamedText name) levels star = named F C (tree_named F C name) levels
 inner_step F C (tree.BuiltinText name) levels star = named F C (tree_named F C name) levels
@@ -27,6 +29,7 @@ inner_step F C (tree.Function name items) levels star = item_step F C (tree.Func
 inner_step F C (tree.Braces brace) levels star = brace_step F C brace levels star
 inner_step F C _ levels star = nothing
 
+-- an item means what its token's kind and label say
 pub item_by_kind : (F : Facts) (C : Context) (item : Item) (levels : Levels) (star : List ℕ)
     → item_step F C item levels star ≡ kind_step F C (kind_of item) (label_of item) star (inner_step F C item levels star)
 item_by_kind F C (tree.Plain b) levels star = refl
@@ -49,7 +52,7 @@ item_by_kind F C tree.Star levels star = refl
 item_by_kind F C (tree.FailureFile brace) levels star = refl
 item_by_kind F C (tree.ArgumentsFile brace) levels star = refl
 
--- a named text, by its label
+-- a named text `%(NAME)` is the text of its label's name
 pub text_item : (F : Facts) (C : Context) (item : Item) (levels : Levels) (star : List ℕ) → kind_of item ≡ kinds.NamedText
     → item_step F C item levels star ≡ named F C (tree_named F C (label_of item).word) levels
 text_item F C (tree.NamedText name) levels star e = refl
@@ -57,6 +60,7 @@ text_item F C (tree.Braces (tree.Emit patterns)) levels star e = absurd cc
 text_item F C (tree.Braces (tree.Choose choices)) levels star e = absurd cc
 text_item F C _ levels star e = absurd cc
 
+-- so is a letter such as %a: the text of the name that the letter has
 pub builtin_item : (F : Facts) (C : Context) (item : Item) (levels : Levels) (star : List ℕ) → kind_of item ≡ kinds.BuiltinText
     → item_step F C item levels star ≡ named F C (tree_named F C (label_of item).word) levels
 builtin_item F C (tree.BuiltinText name) levels star e = refl
@@ -64,21 +68,21 @@ builtin_item F C (tree.Braces (tree.Emit patterns)) levels star e = absurd cc
 builtin_item F C (tree.Braces (tree.Choose choices)) levels star e = absurd cc
 builtin_item F C _ levels star e = absurd cc
 
--- a %W
+-- an item of the kind of a %W is a %W of some braces
 pub failure_item : (item : Item) → kind_of item ≡ kinds.FailureFile → (brace : Brace) × (item ≡ tree.FailureFile brace)
 failure_item (tree.FailureFile brace) e = (brace, refl)
 failure_item (tree.Braces (tree.Emit patterns)) e = absurd cc
 failure_item (tree.Braces (tree.Choose choices)) e = absurd cc
 failure_item _ e = absurd cc
 
--- a %@
+-- an item of the kind of a %@ is a %@ of some braces
 pub filed_item : (item : Item) → kind_of item ≡ kinds.ArgumentsFile → (brace : Brace) × (item ≡ tree.ArgumentsFile brace)
 filed_item (tree.ArgumentsFile brace) e = (brace, refl)
 filed_item (tree.Braces (tree.Emit patterns)) e = absurd cc
 filed_item (tree.Braces (tree.Choose choices)) e = absurd cc
 filed_item _ e = absurd cc
 
--- a function
+-- an item of the kind of a function is a function of some arguments
 pub function_item : (item : Item) → kind_of item ≡ kinds.Function → (name : List ℕ) × (items : Items) × (item ≡ tree.Function name items)
 function_item (tree.Function name items) e = (name, items, refl)
 function_item (tree.Braces (tree.Emit patterns)) e = absurd cc
@@ -92,6 +96,7 @@ is_part kinds.Test = true
 is_part kinds.Pattern = true
 is_part _ = false
 
+-- no item's token is a part of another item: a pattern, a test or an alternative
 item_no_part : (item : Item) → is_part (kind_of item) ≡ false
 item_no_part (tree.Plain b) = refl
 item_no_part (tree.Escape b) = refl
@@ -121,11 +126,11 @@ item_no_test item = by (kind_of item) (item_no_part item)
     by kinds.Test e = absurd cc
     by _ e = refl
 
--- nor an alternative
+-- no item is an alternative
 pub item_no_alternative : (item : Item) → kind_of item ≡ kinds.Alternative → ⊥
 item_no_alternative item e = let f = item_no_part item in let g : is_part (kind_of item) ≡ true = ap is_part e in cc
 
--- the tests of an alternative, and its items after them
+-- of an alternative's tests and items, the tests are the first parts
 pub tests_first : (tests : Tests) (items : Items) → tests_in (both (test_nodes tests) (nodes_of items)) ≡ test_nodes tests
 tests_first tree.no_test tree.none = refl
 tests_first tree.no_test (tree.more span item items) = rw (item_no_test item) refl

@@ -30,12 +30,16 @@ use Rattle.std.proofs.Common.{◌≡◌, ◌⊎◌, ◌+◌, ◌∙◌, Bool, Er
 use Rattle.std.proofs.Common.{slice_get, subst, sym, true, ℕ}
 use Rattle.std.proofs.lemmas.Option.{slice_get_within}
 
--- For tests by a function: the answer is known after the arguments.
+-- For tests by a function (`close_test` of turns.rt and `answer` of braces.rt): the walk learns the answer at the end of the function's
+-- arguments, and then judges this test, those after it and the alternatives after them. `Kept` is what waits meanwhile: the test, the tests
+-- and the alternatives after it; `Asking` is the same as places of the list.
 
+-- a test by a function: the X that it asks for, and what waits for its answer
 module _ (F : Facts) (C : Context) (text : List ℕ) (w : Walk) (items : Items) (kept : Kept) (given : Answer (Unit {0} × Machine)) where
   -- the arguments have ended, and the function was called
   module _ (end : ℕ) (outer : Cut) (s : Machine) (a : After F C text w end
       (λ levels star t. after_arguments F C outer (asked_on F C items kept levels star) t) s given) where
+    -- the end of the arguments gives whether the function has a value, and then what that decides
     answer_is : after_arguments F C outer (asked_on F C items kept (levels_in F C a.arounds) (star_of C w.star)) s
         ≡ (after_arguments F C outer (has_value F C kept.name) s
         >>- λ r. run F C r.1 (judged F C kept.negated kept.asked kept.tests (levels_in F C a.arounds) (star_of C w.star) r.0
@@ -44,6 +48,7 @@ module _ (F : Facts) (C : Context) (text : List ℕ) (w : Walk) (items : Items) 
         after_then F C outer (has_value F C kept.name) (λ holds. judged F C kept.negated kept.asked kept.tests (levels_in F C a.arounds)
         (star_of C w.star) holds >>= found_step F C items kept.choices (levels_in F C a.arounds) (star_of C w.star)) s
 
+    -- the function was called: what its answer decides follows
     pub answered : (holds : Bool) (t : Machine) → after_arguments F C outer (has_value F C kept.name) s ≡ Is (Ok (holds, t))
         → Following F C text w end (λ levels star. judged F C kept.negated kept.asked kept.tests levels star holds
         >>= found_step F C items kept.choices levels star) t given
@@ -59,6 +64,7 @@ module _ (F : Facts) (C : Context) (text : List ℕ) (w : Walk) (items : Items) 
           ∙ a.same;
     }
 
+    -- where the call is refused, so is the text
     pub answer_refused : (fault : MachineFault) → (fault ≡ Memory)
         ⊎ (after_arguments F C outer (has_value F C kept.name) s ≡ Is (Err fault)) → (fault ≡ Memory) ⊎ (given ≡ Is (Err fault))
     answer_refused fault (inl memory) = inl memory
@@ -71,6 +77,7 @@ module _ (F : Facts) (C : Context) (text : List ℕ) (w : Walk) (items : Items) 
   module _ (asking : Asking) (fits : AskFits text asking items kept) (holds : Bool) (s : Machine)
       (b : Following F C text w asking.end (λ levels star. judged F C kept.negated kept.asked kept.tests levels star holds
       >>= found_step F C items kept.choices levels star) s given) where
+    -- a test that is true, its ! considered: its X is processed
     pub answer_true : turned kept.negated holds ≡ true
         → Following F C text w asking.next (λ levels star. worked F C (Some kept.asked) (has_star items)
         (λ rest inside. items_step F C items inside rest) levels star
@@ -87,6 +94,7 @@ module _ (F : Facts) (C : Context) (text : List ℕ) (w : Walk) (items : Items) 
         ∙ then_ok F C s (give (Some kept.asked)) (found_step F C items kept.choices (levels_in F C b.arounds) (star_of C w.star))
         (Some kept.asked) s refl)) ∙ b.same)
 
+    -- one that is false: the tests after it are judged
     pub answer_false : turned kept.negated holds ≡ false
         → Following F C text w asking.end (λ levels star. first_true F C kept.tests levels star
         >>= found_step F C items kept.choices levels star) s given
@@ -101,9 +109,11 @@ module _ (F : Facts) (C : Context) (text : List ℕ) (w : Walk) (items : Items) 
     -- the tests after it
     module _ (c : Following F C text w asking.end (λ levels star. first_true F C kept.tests levels star
         >>= found_step F C items kept.choices levels star) s given) where
+      -- the alternatives after the X of the test
       abbrev others : Step (Unit {0})
       others = choices_step F C kept.choices (levels_in F C c.arounds) (star_of C w.star)
 
+      -- one of the later tests is true: P is what the caller proves of the X that it asks for
       pub later_true : (u : Machine) (test : ℕ) → ((levels : Levels) (star : List ℕ)
           → TrueTest F C text s u test (first_true F C kept.tests levels star)) → (P : Type 0)
           → ((negated : Bool) (asked : Asked) (others : Step (Unit {0})) → label_at (tree_of text) test ≡ test_label negated asked
@@ -119,6 +129,7 @@ module _ (F : Facts) (C : Context) (text : List ℕ) (w : Walk) (items : Items) 
           (sym (then_ok F C s (first_true F C kept.tests (levels_in F C c.arounds) (star_of C w.star))
           (found_step F C items kept.choices (levels_in F C c.arounds) (star_of C w.star)) (Some t.asked) u t.gives)) ∙ c.same))
 
+      -- none of them is true: the alternatives after it follow
       pub none_later : (u : Machine) → ((levels : Levels) (star : List ℕ)
           → run F C s (first_true F C kept.tests levels star) ≡ Is (Ok (None, u)))
           → Following F C text w asking.end (λ levels star. choices_step F C kept.choices levels star) u given
@@ -129,6 +140,7 @@ module _ (F : Facts) (C : Context) (text : List ℕ) (w : Walk) (items : Items) 
           (found_step F C items kept.choices (levels_in F C c.arounds) (star_of C w.star)) None u
           (none (levels_in F C c.arounds) (star_of C w.star)))
 
+      -- where they are refused, so is the text
       pub later_refused : (fault : MachineFault) → ((levels : Levels) (star : List ℕ)
           → (fault ≡ Memory) ⊎ (run F C s (first_true F C kept.tests levels star) ≡ Is (Err fault)))
           → (fault ≡ Memory) ⊎ (given ≡ Is (Err fault))
@@ -139,7 +151,7 @@ module _ (F : Facts) (C : Context) (text : List ℕ) (w : Walk) (items : Items) 
           (found_step F C items kept.choices (levels_in F C c.arounds) (star_of C w.star)) fault
           (stopped (levels_in F C c.arounds) (star_of C w.star)))
 
-      -- one of them is by a function too
+      -- one of them is by a function too: its arguments are processed, and `later` is kept meanwhile
       pub later_asks : (u : Machine) (test : ℕ) (at_test : Token) → slice_get (tokens_of (tree_of text)) test ≡ Some at_test
           → ((levels : Levels) (star : List ℕ) → AskedTest F C text asking.start s u test kept.tests levels star) → (P : Type 0)
           → ((arguments : Items) (later : Kept) → AskFits text (record asking { test = test; from = at_test.next }) items later

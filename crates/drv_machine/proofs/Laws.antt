@@ -10,19 +10,23 @@ use Rattle.drv_system.specs.Known.{Is, Unasked}
 use Rattle.std.proofs.Common.{◌≡◌, ◌∙◌, ◌++◌, List, [], ◌∷◌, ap, refl, sym}
 use Rattle.std.specs.Prelude.{Err, Ok}
 
--- For all of the walk: parts of a text one after another give what the first and then the second gives.
+-- For all of the walk: steps one after another give what the first and then the second gives. So a list of atoms may be cut in parts, and
+-- `outcome`, which cuts the whole list at its end, is what cutting it as it comes gives (`outcome_runs`).
 
+-- answers one after another may be joined from the left or from the right
 pub then_then : {X Y Z : Type 0} (a : Answer X) (f : X → Answer Y) (g : Y → Answer Z) → ((a >>- f) >>- g) ≡ (a >>- λ x. f x >>- g)
 then_then (Is (Ok x)) f g = refl
 then_then (Is (Err fault)) f g = refl
 then_then Unasked f g = refl
 
+-- what follows an answer may be replaced by what is the same for each value
 pub then_same : {X Y : Type 0} (a : Answer X) (f g : X → Answer Y) → ((x : X) → f x ≡ g x) → (a >>- f) ≡ (a >>- g)
 then_same (Is (Ok x)) f g e = e x
 then_same (Is (Err fault)) f g e = refl
 then_same Unasked f g e = refl
 
 module _ (F : Facts) (C : Context) where
+  -- two lists of atoms are cut one after the other
   pub all_taken-append : (c : Cut) (xs ys : List Atom) → all_taken F C c (xs ++ ys) ≡ (all_taken F C c xs >>- λ d. all_taken F C d ys)
   all_taken-append c [] ys = refl
   all_taken-append c (x ∷ xs) ys =
@@ -34,12 +38,14 @@ module _ (F : Facts) (C : Context) where
       → (all_taken F C c (xs ++ ys) >>- last) ≡ (all_taken F C c xs >>- λ d. all_taken F C d ys >>- last)
   further c xs ys last = ap (λ a. a >>- last) (all_taken-append c xs ys) ∙ then_then (all_taken F C c xs) (λ d. all_taken F C d ys) last
 
+  -- atoms, and then work that goes on, are cut one after the other
   pub done-following : {Y : Type 0} (c : Cut) (xs : List Atom) (work : Worked Y)
       → done F C c (following xs work) ≡ (all_taken F C c xs >>- λ d. done F C d work)
   done-following c xs (Goes ys y w) = further c xs ys (λ d. Is (Ok (y, record { cut = d; world = w })))
   done-following c xs (Refuses ys fault) = further c xs ys (λ d. Is (Err fault))
   done-following c xs (Waits ys) = further c xs ys (λ d. Unasked)
 
+  -- work and then a step that looks at its value, over a cut
   done-follow : {X Y : Type 0} (c : Cut) (work : Worked X) (f : X → Step Y)
       → done F C c (follow work f) ≡ (done F C c work >>- λ r. run F C r.1 (f r.0))
   done-follow c (Goes xs x w) f = done-following c xs (f x w)
@@ -47,18 +53,19 @@ module _ (F : Facts) (C : Context) where
   done-follow c (Refuses xs fault) f = sym (then_then (all_taken F C c xs) (λ d. Is (Err fault)) (λ r. run F C r.1 (f r.0)))
   done-follow c (Waits xs) f = sym (then_then (all_taken F C c xs) (λ d. Unasked) (λ r. run F C r.1 (f r.0)))
 
-  -- one part and then another
+  -- a step and then another, which looks at its value
   pub run_then : {X Y : Type 0} (s : Machine) (a : Step X) (f : X → Step Y)
       → run F C s (a >>= f) ≡ (run F C s a >>- λ r. run F C r.1 (f r.0))
   run_then s a f = done-follow s.cut (a s.world) f
 
+  -- the cut of a whole text is its work run from nothing cut, and finished
   cut_done : (work : Worked Unit) → cut F C work ≡ (done F C nothing_cut work >>- λ r. finished F C r.1.world r.1.cut)
   cut_done (Goes xs u w) = sym (then_then (all_taken F C nothing_cut xs) (λ d. Is (Ok (u, record { cut = d; world = w })))
       (λ r. finished F C r.1.world r.1.cut))
   cut_done (Refuses xs fault) = sym (then_then (all_taken F C nothing_cut xs) (λ d. Is (Err fault)) (λ r. finished F C r.1.world r.1.cut))
   cut_done (Waits xs) = sym (then_then (all_taken F C nothing_cut xs) (λ d. Unasked) (λ r. finished F C r.1.world r.1.cut))
 
-  -- the whole text, streamed
+  -- the definition's outcome of a whole text is what the code's streaming gives
   pub outcome_runs : (items : Items)
       → outcome F C items ≡ (run F C (begun F C) (whole_text F C items) >>- λ r. finished F C r.1.world r.1.cut)
   outcome_runs items = cut_done (atoms F C items)

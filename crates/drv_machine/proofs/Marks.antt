@@ -15,8 +15,9 @@ use Rattle.drv_system.specs.Known.{Is, Unasked}
 use Rattle.std.proofs.Common.{◌≡◌, List, [], ◌∷◌, ◌++◌, codes, false, refl, true, ℕ}
 use Rattle.std.specs.Prelude.{Bool, Err, None, Ok, Option, Result, Some}
 
--- Examples that no text shows, which the prover computes: marks on words, the limits, named texts and arguments. The expected values were
--- derived by hand from the profile.
+-- Examples, which the prover computes, of atoms and limits that no short text reaches: marks on words, the limits of items and of open
+-- parts, named texts and arguments. The expected values were derived by hand from the profile. An example's comment is its text; %w marks
+-- an output, %V no output, %W a failure file.
 
 -- the tree of a text
 abbrev tree : List ℕ → Items
@@ -26,6 +27,7 @@ tree text = by (parsed text)
     by (Ok items) = items
     by (Err fault) = none  -- no text of these
 
+-- a line with the switch -ma alone
 abbrev one_switch : Context
 one_switch = linking (alone (codes "ma") ∷ [])
 
@@ -49,44 +51,44 @@ module _ (F : Facts) where
   abbrev left_behind : List Atom → Answer (Option (List ℕ) × List (List ℕ))
   left_behind atoms = all_taken F one_switch nothing_cut (atoms ++ Break ∷ End ∷ []) >>- λ c. Is (Ok (c.output, c.on_failure))
 
-  -- a%w b
+  -- a%w b: the output is also a failure file
   output : left_behind (Put letter_a ∷ Marked AsOutput ∷ Break ∷ Put letter_b ∷ []) ≡ Is (Ok (Some (codes "a"), codes "a" ∷ []))
   output = refl
 
-  -- a %wb
+  -- a %wb: a mark without an open word waits for the next
   output_waits : left_behind (Put letter_a ∷ Break ∷ Marked AsOutput ∷ Put letter_b ∷ []) ≡ Is (Ok (Some (codes "b"), codes "b" ∷ []))
   output_waits = refl
 
-  -- a %w b
+  -- a %w b: a break drops the mark
   mark_dropped : left_behind (Put letter_a ∷ Break ∷ Marked AsOutput ∷ Break ∷ Put letter_b ∷ []) ≡ Is (Ok (None, []))
   mark_dropped = refl
 
-  -- a%w%V b and a%V%w b
+  -- a%w%V b and a%V%w b: a %V in a word bars it as the output, not as a failure file
   no_output_after : left_behind (Put letter_a ∷ Marked AsOutput ∷ Without ∷ Break ∷ Put letter_b ∷ []) ≡ Is (Ok (None, codes "a" ∷ []))
   no_output_after = refl
 
   no_output_before : left_behind (Put letter_a ∷ Without ∷ Marked AsOutput ∷ Break ∷ Put letter_b ∷ []) ≡ Is (Ok (None, codes "a" ∷ []))
   no_output_before = refl
 
-  -- %V a%w
+  -- %V a%w: a word after the %V may be the output
   output_later : left_behind (Without ∷ Break ∷ Put letter_a ∷ Marked AsOutput ∷ []) ≡ Is (Ok (Some (codes "a"), codes "a" ∷ []))
   output_later = refl
 
-  -- a%W{b}, and with nothing in it
+  -- a%W{b}, and with nothing in it: the last word that ended in the %W is a failure file
   failure_file : left_behind (Put letter_a ∷ From ∷ Put letter_b ∷ Break ∷ To ∷ []) ≡ Is (Ok (None, codes "ab" ∷ []))
   failure_file = refl
 
   failure_file_empty : left_behind (Put letter_a ∷ From ∷ Break ∷ To ∷ []) ≡ Is (Ok (None, codes "a" ∷ []))
   failure_file_empty = refl
 
-  -- a word that ends inside two
+  -- a word that ends inside two %W
   failure_file_twice : left_behind (From ∷ From ∷ Put letter_a ∷ Break ∷ To ∷ Break ∷ To ∷ []) ≡ Is (Ok (None, codes "a" ∷ codes "a" ∷ []))
   failure_file_twice = refl
 
   failure_file_none : left_behind (Put letter_a ∷ Break ∷ From ∷ Break ∷ To ∷ []) ≡ Is (Ok (None, []))
   failure_file_none = refl
 
-  -- a mark is after a pipe, and a %V isn't
+  -- whether a pipe is stray: a mark may not follow a pipe, a %V may
   abbrev is_stray : List Atom → Answer Bool
   is_stray atoms = all_taken F one_switch nothing_cut atoms >>- λ c. Is (Ok c.stray)
 
@@ -96,7 +98,7 @@ module _ (F : Facts) where
   no_stray : is_stray (Put letter_a ∷ Piped ∷ Without ∷ From ∷ Break ∷ To ∷ Break ∷ End ∷ []) ≡ Is (Ok false)
   no_stray = refl
 
-  -- arguments
+  -- the words of a function's arguments, also an empty one
   arguments : argument_words F one_switch (Put letter_a ∷ Put letter_b ∷ Break ∷ Open ∷ Break ∷ Put letter_c ∷ [])
       ≡ Is (Ok (codes "ab" ∷ [] ∷ codes "c" ∷ []))
   arguments = refl
@@ -109,13 +111,13 @@ module _ (F : Facts) where
       ≡ codes "x" ∷ codes "-ma" ∷ codes "y" ∷ []
   arguments_of_text = refl
 
-  -- how far a part got: its atoms, and the items reached or what stops it
+  -- how far a part was processed: its atoms, and the number of items reached or what stopped it
   abbrev ends : Worked Unit → List Atom × Answer ℕ
   ends (Goes atoms u w) = (atoms, Is (Ok w.items))
   ends (Refuses atoms fault) = (atoms, Is (Err fault))
   ends (Waits atoms) = (atoms, Unasked)
 
-  -- the last item that is reached, and one more
+  -- the last item that is allowed, and one more
   abbrev from_item : ℕ → World
   from_item n = record (start F one_switch) { items = n }
 
@@ -125,7 +127,7 @@ module _ (F : Facts) where
   one_item_more : ends (items_step F one_switch (tree (codes "xy")) [] [] (from_item 999999)) ≡ (Put letter_x ∷ [], Is (Err TooManySteps))
   one_item_more = refl
 
-  -- a %* opens its X, and so does a named text; the limit of items comes first
+  -- an X with a %* opens a part, and so does a named text; the limit of items counts before that of parts
   abbrev starred : Items
   starred = tree (codes "a%{m*:%*}")
 
@@ -150,7 +152,7 @@ module _ (F : Facts) where
   named_missing : ends (named F one_switch None (levels_left F one_switch 2) (from_item 0)) ≡ ([], Is (Ok 0))
   named_missing = refl
 
-  -- a %* in the arguments of a test belongs to the X around its braces
+  -- a %* in the arguments of a test is that of the X around its braces
   abbrev asked_with_star : Items
   asked_with_star = tree (codes "%{m*:%{%:getenv(H %*):y}}")
 
@@ -161,6 +163,6 @@ module _ (F : Facts) where
       ≡ ([], Is (Err SpecTooDeep))
   star_in_test_open = refl
 
-  -- an X without a %* of its own opens nothing
+  -- an X without a %* of its own opens no part
   no_star : ends (items_step F one_switch (tree (codes "%{m*:y}")) [] [] (from_item 0)) ≡ (Put letter_y ∷ [], Is (Ok 2))
   no_star = refl

@@ -15,14 +15,15 @@ use Rattle.drv_system.specs.Facts.{Facts}
 use Rattle.std.proofs.Common.{◌≡◌, ◌<◌, ◌++◌, ◌∙◌, List, [], ◌∷◌, None, Option, Some, ap, false, length, refl, sym, ℕ}
 use Rattle.std.specs.Prelude.{option_map}
 
--- For `%(NAME)`: a named text is opened.
+-- For `%(NAME)` and letters such as %a (named.rt): the text of a name is opened as a part; a name without a text gives nothing.
 
--- what was found of a name
+-- where the code finds no text for a name, the context has none
 pub none_named : {R : Type 0} (now : R → List ℕ) (found : Option R) (text : Option (List ℕ)) → option_map now found ≡ text → found ≡ None
     → text ≡ None
 none_named now None text e n = sym e
 none_named now (Some r) text e n = absurd cc
 
+-- where the code finds a text for a name, the context has that text
 pub some_named : {R : Type 0} (now : R → List ℕ) (found : Option R) (text : Option (List ℕ)) (r : R) → option_map now found ≡ text
     → found ≡ Some r → text ≡ Some (now r)
 some_named now (Some x) text r e n = sym e ∙ ap (λ y. Some (now y)) (some_same x r n)
@@ -37,6 +38,7 @@ module _ (F : Facts) (C : Context) (w : Walk) (at : ℕ) (inside : List ℕ) (s 
   abbrev frame : Frame
   frame = record { opened = Text w.text at; end = w.end; star = w.star }
 
+  -- the walk enters the whole text, and goes on after the item at its end
   pub text_opened : length w.frames < 64 → (end : ℕ) → end ≡ length (tokens_of (tree_of inside)) → (v : Walk) → v.at ≡ 0 → v.end ≡ end
       → v.star ≡ None → v.frames ≡ w.frames ++ frame ∷ []
       → Left F C inside v s given

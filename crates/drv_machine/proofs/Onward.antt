@@ -35,7 +35,10 @@ use Rattle.drv_system.specs.Known.{Is}
 use Rattle.std.proofs.Common.{◌≡◌, ◌⊎◌, ◌<◌, ◌≤◌, ◌+◌, ◌-◌, ◌++◌, ◌∙◌, Err, List, [], ◌∷◌, Ok, OnOk, Option, Result, Some, ap, arith, drop}
 use Rattle.std.proofs.Common.{inl, inr, length, length-append, refl, slice_get, subst, suc, sym, ℕ}
 
--- For `Left`, which joins the walk and the definitions: the rest of a walk, and what follows the open parts.
+-- For `Left` (specs/Code/Walking), which joins the walk and the definitions: the rest of a walk, and then what follows the end of each open
+-- part (`ends`), give the defined answer. The lemmas say how it goes on when an item is processed (`leaf`), when a part is opened
+-- (`items_opened`, `step_opened`) and when one is closed (`closes`). A frame is an open part on the code's stack, an `Around` the same for
+-- the proof.
 
 -- a list with one more at its end
 abbrev head_or : {A : Type 0} → A → List A → A
@@ -50,6 +53,7 @@ no_last : {A : Type 0} (xs : List A) (x : A) → [] ≡ xs ++ x ∷ [] → ⊥
 no_last [] x e = cc
 no_last (y ∷ ys) x e = cc
 
+-- two lists that are the same with one more item each have that item and the rest in common
 last_same : {A : Type 0} (xs ys : List A) (x y : A) → xs ++ x ∷ [] ≡ ys ++ y ∷ [] → (xs ≡ ys) × (x ≡ y)
 last_same [] [] x y e = (refl, ap (head_or x) e)
 last_same [] (v ∷ vs) x y e = absurd (no_last vs y (ap tail_of e))
@@ -57,8 +61,7 @@ last_same (z ∷ zs) [] x y e = absurd (no_last zs x (sym (ap tail_of e)))
 last_same (z ∷ zs) (v ∷ vs) x y e =
     let r = last_same zs vs x y (ap tail_of e) in (ap (λ h. h ∷ zs) (ap (head_or z) e) ∙ ap (λ t. v ∷ t) r.0, r.1)
 
--- whether as many parts are open as may be
--- how many parts are open
+-- as many frames are on the stack as parts are open
 pub framed_long : (text : List ℕ) (C : Context) (frames : List Frame) (arounds : List Around) → Framed text C frames arounds
     → length frames ≡ length arounds
 framed_long text C frames [] e = ap (λ fs. length fs) e
@@ -67,7 +70,7 @@ framed_long text C frames (a ∷ others) (outer, e, fits, framed) =
     let m : length frames ≡ length (outer ++ a.frame ∷ []) = ap (λ fs. length fs) e in
     omega (arith, n, m, length-append outer (a.frame ∷ []))
 
--- the innermost part is closed
+-- what the innermost open part was, after its frame was taken from the stack
 pub record Popped (text : List ℕ) (C : Context) (arounds : List Around) (frame : Frame) (frames : List Frame) : Type 0 where
   pub around : Around
   pub others : List Around
@@ -76,6 +79,7 @@ pub record Popped (text : List ℕ) (C : Context) (arounds : List Around) (frame
   pub fits : Fits text C around
   pub framed : Framed (text_around text frame.opened) C frames others
 
+-- the frame that was last belongs to the innermost part
 pub popped : (text : List ℕ) (C : Context) (frames : List Frame) (arounds : List Around) (outer : List Frame) (frame : Frame)
     → Framed text C frames arounds → frames ≡ outer ++ frame ∷ [] → Popped text C arounds frame outer
 popped text C frames [] outer frame e s = absurd (no_last outer frame (sym e ∙ s))
@@ -90,6 +94,7 @@ popped text C frames (a ∷ others) outer frame (inner, e, fits, framed) s =
           (subst (λ fs. Framed (text_around text a.frame.opened) C fs others) r.0 framed);
     }
 
+-- where no frame is left, no part is open
 pub none_open : (text : List ℕ) (C : Context) (frames : List Frame) (arounds : List Around) → Framed text C frames arounds
     → length frames ≡ 0 → arounds ≡ []
 none_open text C frames [] e h = refl
@@ -97,7 +102,7 @@ none_open text C frames (a ∷ others) (outer, e, fits, framed) h =
     let m : length frames ≡ length (outer ++ a.frame ∷ []) = ap (λ fs. length fs) e in
     absurd (omega (arith, h, m, length-append outer (a.frame ∷ [])))
 
--- the weight of one more frame
+-- the weight of the stack grows by that of the frame that is pushed (what makes `settle` end)
 pub weight_one : (size : ℕ) (frames : List Frame) (frame : Frame)
     → weight size (frames ++ frame ∷ []) ≡ weight size frames + hits_left size frame.opened
 weight_one size [] frame = omega arith
@@ -105,21 +110,22 @@ weight_one size (f ∷ frames)
     frame = let e : weight size (frames ++ frame ∷ []) ≡ weight size frames + hits_left size frame.opened = weight_one size frames frame in
     omega (arith, e)
 
--- a part that was opened once is lighter by its end
+-- a part that opens nothing at its end makes the stack lighter
 pub once_lighter : {X : Type 0} (result : Result X MachineFault) (a b : ℕ) → 0 < b → OnOk result (a < a + b)
 once_lighter (Ok x) a b h = omega arith
 once_lighter (Err fault) a b h = tt
 
--- the same by another name of the text
+-- `Went` with another name for the same text
 pub went_in : (F : Facts) (C : Context) (text other : List ℕ) (w : Walk) (s : Machine) (given : Answer (Unit {0} × Machine))
     (result : Result (Unit {0}) MachineFault) → other ≡ text → Went F C text w s given result → Went F C other w s given result
 went_in F C text other w s given result e went = subst (λ (t : List ℕ). Went F C t w s given result) (sym e) went
 
+-- `Left` with another name for the same text
 pub left_in : (F : Facts) (C : Context) (text other : List ℕ) (w : Walk) (s : Machine) (given : Answer (Unit {0} × Machine)) → other ≡ text
     → Left F C text w s given → Left F C other w s given
 left_in F C text other w s given e left = subst (λ (t : List ℕ). Left F C t w s given) (sym e) left
 
--- and by a walk that has the same open parts around it
+-- `Following` for another walk with the same end, %* and frames
 pub after_in : (F : Facts) (C : Context) (text : List ℕ) (w v : Walk) (at : ℕ) (step : Levels → List ℕ → Step (Unit {0})) (s : Machine)
     (given : Answer (Unit {0} × Machine)) → v.end ≡ w.end → v.star ≡ w.star → v.frames ≡ w.frames
     → Following F C text w at step s given → Following F C text v at step s given
@@ -132,17 +138,18 @@ after_in F C text w v at step s given end_is star_is frames_is b = record {
       ∙ b.same;
 }
 
--- the end of a part that is a step
+-- the end of a part that is a step, as `Following`
 pub as_after : (F : Facts) (C : Context) (text : List ℕ) (w : Walk) (at : ℕ) (step : Levels → List ℕ → Step (Unit {0})) (s : Machine)
     (given : Answer (Unit {0} × Machine)) → After F C text w at (λ levels star t. run F C t (step levels star)) s given
     → Following F C text w at step s given
 as_after F C text w at step s given a = record { rest = a.rest; arounds = a.arounds; lies = a.lies; framed = a.framed; same = a.same }
 
 module _ (F : Facts) (C : Context) where
-  -- what may still be opened
+  -- with 64 parts open none may be opened, and with fewer one more may be
   no_level : (n : ℕ) → n ≡ 64 → levels_left F C (most_open - n) ≡ []
   no_level n e = ap (λ k. levels_left F C (most_open - k)) e
 
+  -- where fewer than 64 parts are open, one more may be opened, and one less in it
   one_level : (n : ℕ) → n < 64 → levels_left F C (most_open - n)
       ≡ ◌∷◌ (λ xs. items_step F C xs (levels_left F C (most_open - (n + 1))) []) (levels_left F C (most_open - (n + 1)))
   one_level n h = by (most_open - n) (most_open - (n + 1)) (omega (arith, h))
@@ -150,7 +157,7 @@ module _ (F : Facts) (C : Context) where
       by : (k m : ℕ) → k ≡ suc m → levels_left F C k ≡ ◌∷◌ (λ xs. items_step F C xs (levels_left F C m) []) (levels_left F C m)
       by k m e = ap (levels_left F C) e
 
-  -- three steps
+  -- three steps one after another
   pub three : (s : Machine) (a b d : Step (Unit {0})) (k : Unit {0} × Machine → Answer (Unit {0} × Machine))
       → (run F C s ((a >> b) >> d) >>- k) ≡ (run F C s a >>- λ r. run F C r.1 (b >> d) >>- k)
   three s a b d k =
@@ -160,7 +167,7 @@ module _ (F : Facts) (C : Context) where
       ∙ then_same (run F C s a) (λ r. (run F C r.1 b >>- λ q. run F C q.1 d) >>- k) (λ r. run F C r.1 (b >> d) >>- k)
       (λ r. ap (λ x. x >>- k) (sym (run_then F C r.1 b (λ u. d))))
 
-  -- items of two lists
+  -- the items of two lists are those of the first and then those of the second
   joined_runs : (xs ys : Items) (levels : Levels) (star : List ℕ) (s : Machine)
       → run F C s (items_step F C (joined xs ys) levels star)
       ≡ (run F C s (items_step F C xs levels star) >>- λ r. run F C r.1 (items_step F C ys levels star))
@@ -175,7 +182,7 @@ module _ (F : Facts) (C : Context) where
       ∙ ap (λ x. x >>- λ q. run F C q.1 (items_step F C ys levels star))
       (sym (run_then F C s (counted >> item_step F C item levels star) (λ u. items_step F C xs levels star)))
 
-  -- an item that was counted
+  -- items are processed as the first one, after its count, and then the others
   item_next : (span : Span) (item : Item) (others : Items) (levels : Levels) (star : List ℕ) (s u : Machine)
       (k : Unit {0} × Machine → Answer (Unit {0} × Machine)) → run F C s counted ≡ Is (Ok (tt, u))
       → (run F C s (items_step F C (tree.more span item others) levels star) >>- k)
@@ -186,8 +193,9 @@ module _ (F : Facts) (C : Context) where
       ∙ ap (λ x. x >>- k) (run_then F C u (item_step F C item levels star) (λ v. items_step F C others levels star))
       ∙ then_then (run F C u (item_step F C item levels star)) (λ r. run F C r.1 (items_step F C others levels star)) k
 
+  -- the rest of walk w, worked from state s, gives `given`
   module _ (text : List ℕ) (w : Walk) (s : Machine) (given : Answer (Unit {0} × Machine)) where
-    -- the item that is reached, after its count
+    -- the item that is reached was counted: the item, and then what is left after it, give the defined answer
     pub after_item : (left : Left F C text w s given) (r : Reached text w.at left.rest w.end) (u : Machine)
         → run F C s counted ≡ Is (Ok (tt, u)) → Following F C text w r.next (λ levels star. item_step F C r.item levels star) u given
     after_item left r u e = record {
@@ -200,6 +208,7 @@ module _ (F : Facts) (C : Context) where
           ∙ ap (λ xs. onward F C w.star xs left.arounds s) (sym r.is) ∙ left.same;
     }
 
+    -- where the item that is reached can't be counted, the defined answer is that refusal
     pub count_stops : (left : Left F C text w s given) → Reached text w.at left.rest w.end → (fault : MachineFault)
         → (fault ≡ Memory) ⊎ (run F C s counted ≡ Is (Err fault)) → (fault ≡ Memory) ⊎ (given ≡ Is (Err fault))
     count_stops left r fault (inl memory) = inl memory
@@ -210,13 +219,14 @@ module _ (F : Facts) (C : Context) where
         ∙ ap (λ x. x >>- λ q. run F C q.1 (item_step F C r.item (levels_in F C left.arounds) (star_of C w.star) >> items_step F C r.others
         (levels_in F C left.arounds) (star_of C w.star)) >>- λ p. ends F C left.arounds p.1) e)
 
-    -- nothing is left of the innermost part
+    -- at the end of the innermost part what follows the open parts gives the defined answer
     pub part_ended : (left : Left F C text w s given) → w.end ≤ w.at → ends F C left.arounds s ≡ given
     part_ended left h = ap (λ xs. onward F C w.star xs left.arounds s) (sym (nothing_left text w.at left.rest w.end h left.lies))
         ∙ left.same
 
+    -- a step is processed, and then the rest of the walk from place `at` on
     module _ (at : ℕ) (step : Levels → List ℕ → Step (Unit {0})) (b : Following F C text w at step s given) where
-      -- a step that was run, or refused
+      -- a step was processed: the walk goes on after it; or it was refused, and so is the text
       pub leaf : (result : Result (Unit {0}) MachineFault) (t : Machine)
           → GivesKnown Memory (λ u. (tt, t)) result (run F C s (step (levels_in F C b.arounds) (star_of C w.star)))
           → Went F C text (record w { at = at }) t given result
@@ -230,7 +240,8 @@ module _ (F : Facts) (C : Context) where
       leaf (Err fault) t (inl memory) = inl memory
       leaf (Err fault) t (inr e) = inr (sym b.same ∙ ap (λ x. x >>- λ r. onward F C w.star b.rest b.arounds r.1) e)
 
-      -- another step from another place on
+      -- another step from another state, which with what is left gives the same, may take its place, also with alternatives to be passed
+      -- over before
       pub after_as : (front : ℕ) → Skips text front at → (other : Levels → List ℕ → Step (Unit {0})) (t : Machine)
           → ((run F C t (other (levels_in F C b.arounds) (star_of C w.star)) >>- λ r. onward F C w.star b.rest b.arounds r.1) ≡ given)
           → Following F C text w front other t given
@@ -243,6 +254,7 @@ module _ (F : Facts) (C : Context) where
         same = e;
       }
 
+      -- a step that does the same may take its place
       pub same_step : (other : Levels → List ℕ → Step (Unit {0})) (t : Machine)
           → run F C s (step (levels_in F C b.arounds) (star_of C w.star)) ≡ run F C t (other (levels_in F C b.arounds) (star_of C w.star))
           → Following F C text w at other t given
@@ -254,7 +266,7 @@ module _ (F : Facts) (C : Context) where
         same = ap (λ x. x >>- λ r. onward F C w.star b.rest b.arounds r.1) (sym e) ∙ b.same;
       }
 
-    -- the end of a part that was done, or refused
+    -- the end of a part was processed, or refused
     pub after_leaf : (at : ℕ) (f : Levels → List ℕ → Machine → Answer (Unit {0} × Machine)) (a : After F C text w at f s given)
         (result : Result (Unit {0}) MachineFault) (t : Machine)
         → GivesKnown Memory (λ u. (tt, t)) result (f (levels_in F C a.arounds) (star_of C w.star) s)
@@ -269,7 +281,7 @@ module _ (F : Facts) (C : Context) where
     after_leaf at f a (Err fault) t (inl memory) = inl memory
     after_leaf at f a (Err fault) t (inr e) = inr (sym a.same ∙ ap (λ x. x >>- λ r. onward F C w.star a.rest a.arounds r.1) e)
 
-    -- items are reached
+    -- the step is the items at a place: the walk enters them, with no frame
     pub entered : (items : Items) (start at : ℕ) → Stands text start (nodes_of items) at
         → Following F C text w at (λ levels star. items_step F C items levels star) s given
         → Left F C text (record w { at = start }) s given
@@ -285,9 +297,9 @@ module _ (F : Facts) (C : Context) where
           ∙ b.same;
     }
 
-    -- a part that a step opens
+    -- a step opens a part: a frame goes on the stack
     module _ (at : ℕ) (step : Levels → List ℕ → Step (Unit {0})) (b : Following F C text w at step s given) where
-      -- where as many are open as may be
+      -- where 64 parts are open the step that opens one is refused, and so is the text
       full : run F C s (step [] (star_of C w.star)) ≡ Is (Err SpecTooDeep) → length w.frames ≡ 64 → given ≡ Is (Err SpecTooDeep)
       full deep h =
           sym b.same
@@ -295,21 +307,24 @@ module _ (F : Facts) (C : Context) where
           (no_level (length b.arounds) (sym (framed_long text C w.frames b.arounds b.framed) ∙ h))
           ∙ ap (λ x. x >>- λ r. onward F C w.star b.rest b.arounds r.1) deep
 
+      -- where the stack refuses a frame, for 64 open parts or lack of memory, so is the text
       pub too_deep : run F C s (step [] (star_of C w.star)) ≡ Is (Err SpecTooDeep) → (fault : MachineFault)
           → (fault ≡ Memory) ⊎ ((fault ≡ SpecTooDeep) × (length w.frames ≡ 64)) → (fault ≡ Memory) ⊎ (given ≡ Is (Err fault))
       too_deep deep fault (inl memory) = inl memory
       too_deep deep fault (inr most) = inr (full deep most.1 ∙ ap (λ f. Is (Err f)) (sym most.0))
 
-      -- where one more may be
+      -- where fewer are, one more may be
       pub one_deeper : length w.frames < 64
           → levels_in F C b.arounds ≡ ◌∷◌ (λ xs. items_step F C xs (levels_left F C (most_open - (length b.arounds + 1))) [])
           (levels_left F C (most_open - (length b.arounds + 1)))
       one_deeper h = one_level (length b.arounds) (omega (arith, framed_long text C w.frames b.arounds b.framed, h))
 
+      -- a part with these items was opened: v is the walk in it, t the state
       module _ (inside : List ℕ) (o : Opened) (p : Pattern) (items : Items) (kept : Kept) (fits : OpenedFits inside C o p items kept)
           (around_is : text_around inside o ≡ text) (back_is : back_of o ≡ at) (v : Walk)
           (frames_is : v.frames ≡ w.frames ++ record { opened = o; end = w.end; star = w.star } ∷ []) (star : Option Rest)
           (star_is : v.star ≡ star) (t : Machine) where
+        -- the part that is opened, as what is around the new innermost one
         abbrev around : Around
         around = record {
           frame = record { opened = o; end = w.end; star = w.star };
@@ -320,6 +335,7 @@ module _ (F : Facts) (C : Context) where
               b.rest;
         }
 
+        -- with it the open parts are those of the stack
         framed_in : Framed inside C v.frames (around ∷ b.arounds)
         framed_in = (
           w.frames,
@@ -335,7 +351,7 @@ module _ (F : Facts) (C : Context) where
         deeper : levels_in F C (around ∷ b.arounds) ≡ levels_left F C (most_open - (length b.arounds + 1))
         deeper = let one : length (around ∷ b.arounds) ≡ length b.arounds + 1 = omega arith in ap (λ n. levels_left F C (most_open - n)) one
 
-        -- items that are in it
+        -- the part is entered at its items, and its end follows them
         pub items_opened : (rest : Items) (start next : ℕ) → Stands inside start (nodes_of rest) next → v.at ≡ start → v.end ≡ next
             → (run F C t (items_step F C rest (levels_left F C (most_open - (length b.arounds + 1))) (star_of C star))
             >>- λ r. ends F C (around ∷ b.arounds) r.1) ≡ given → Left F C inside v t given
@@ -351,7 +367,7 @@ module _ (F : Facts) (C : Context) where
               ∙ gives;
         }
 
-        -- or a step, and nothing after it
+        -- the part begins with a step, and its end follows that
         pub step_opened : (inner : Levels → List ℕ → Step (Unit {0})) → v.end ≡ at
             → (run F C t (inner (levels_left F C (most_open - (length b.arounds + 1))) (star_of C star))
             >>- λ r. ends F C (around ∷ b.arounds) r.1) ≡ given → Following F C inside v at inner t given
@@ -366,7 +382,7 @@ module _ (F : Facts) (C : Context) where
               ∙ ap (λ levels. run F C t (inner levels (star_of C star)) >>- λ r. ends F C (around ∷ b.arounds) r.1) deeper ∙ gives;
         }
 
-    -- an X for a switch that is hit
+    -- an X is opened for a switch that is hit, and the switches after it follow its end
     module _ (each : Each) (switch size : ℕ) (p : Pattern) (items : Items) (fits : HitFits text C each switch p items)
         (long : size ≡ length (matching p).name)
         (b : Following F C text w each.end (λ levels star. hit_step F C p items levels switch >> each_from F C p items levels (switch + 1))
@@ -383,6 +399,7 @@ module _ (F : Facts) (C : Context) where
       abbrev hit_around : Around
       hit_around = record { frame = frame; pattern = p; items = items; kept = nothing_kept; rest = b.rest }
 
+      -- the items of X, its end and the rest of the walk give the defined answer
       hit_given : length w.frames < 64 → (run F C s (work size) >>- λ r. ends F C (hit_around ∷ b.arounds) r.1) ≡ given
       hit_given h =
           ap (λ m. run F C s (work m) >>- λ r. ends F C (hit_around ∷ b.arounds) r.1) long
@@ -391,6 +408,7 @@ module _ (F : Facts) (C : Context) where
           ∙ sym (ap (λ levels. run F C s (hit_step F C p items levels switch >> each_from F C p items (levels_in F C b.arounds)
           (switch + 1)) >>- k) (one_deeper each.end _ b h)) ∙ b.same
 
+      -- the walk enters the items of X
       pub opened_left : length w.frames < 64 → (v : Walk) → v.at ≡ each.start → v.end ≡ each.end
           → v.star ≡ Some (record { switch = switch; size = size }) → v.frames ≡ w.frames ++ frame ∷ []
           → Left F C text v s given
@@ -398,7 +416,7 @@ module _ (F : Facts) (C : Context) where
           items_opened each.end _ b text (Hit each switch) p items nothing_kept fits refl refl v frames_is
           (Some (record { switch = switch; size = size })) star_is s items each.start each.end fits.stands at_is end_is (hit_given h)
 
-    -- what a part was opened for, after its end
+    -- the innermost part has ended: what its end gives, and then the part around it, give the defined answer
     pub closes : (left : Left F C text w s given) → w.end ≤ w.at
         → (frame : Frame) (outer : List Frame) (o : Popped text C left.arounds frame outer) (v : Walk) → v.end ≡ frame.end
         → v.star ≡ frame.star → v.frames ≡ outer
@@ -422,14 +440,16 @@ module _ (F : Facts) (C : Context) where
               ∙ part_ended left h;
         }
 
--- the item at a place, as the code works it
+-- the item at a place does what its token's kind and label say
 module _ (F : Facts) (C : Context) (text : List ℕ) (at next : ℕ) (levels : Levels) (star : List ℕ) (item : Item)
     (part : PartAt (tokens_of (tree_of text)) (labels_of (tree_of text)) at (kind_of item) (label_of item) next)
     (within : Stands text (at + 1) (inner_nodes item) next) (token : Token)
     (there : slice_get (tokens_of (tree_of text)) at ≡ Some token) where
+  -- the token has the item's kind
   pub kind_there : token.kind ≡ kind_of item
   kind_there = ap (λ (x : Token). x.kind) (some_same token part.token (sym there ∙ part.there)) ∙ part.kind_is
 
+  -- the parts in it mean what the item's braces mean
   pub means_there : Means F C text token.kind (at + 1) token.next levels star (inner_step F C item levels star)
   means_there =
       subst (λ (k : TokenKind). Means F C text k (at + 1) token.next levels star (inner_step F C item levels star)) (sym kind_there)
@@ -437,6 +457,7 @@ module _ (F : Facts) (C : Context) (text : List ℕ) (at next : ℕ) (levels : L
       (subst (λ (k : ℕ). Stands text (at + 1) (inner_nodes item) k)
       (sym (next_at text at token (kind_of item) (label_of item) next there part)) within))
 
+  -- the step by kind and label is that of the item
   pub step_there : kind_step F C token.kind (label_at (tree_of text) at) star (inner_step F C item levels star)
       ≡ item_step F C item levels star
   step_there =
@@ -444,18 +465,19 @@ module _ (F : Facts) (C : Context) (text : List ℕ) (at next : ℕ) (levels : L
       ∙ ap (λ l. kind_step F C (kind_of item) l star (inner_step F C item levels star)) part.label_is
       ∙ sym (item_by_kind F C item levels star)
 
-  -- a named text
+  -- a named text, by its label
   pub text_there : token.kind ≡ kinds.NamedText → item_step F C item levels star
       ≡ named F C (tree_named F C (label_at (tree_of text) at).word) levels
   text_there e = text_item F C item levels star (sym kind_there ∙ e)
       ∙ ap (λ (l : Label). named F C (tree_named F C l.word) levels) (sym part.label_is)
 
+  -- a letter such as %a, by its label
   pub builtin_there : token.kind ≡ kinds.BuiltinText
       → item_step F C item levels star ≡ named F C (tree_named F C (label_at (tree_of text) at).word) levels
   builtin_there e = builtin_item F C item levels star (sym kind_there ∙ e)
       ∙ ap (λ (l : Label). named F C (tree_named F C l.word) levels) (sym part.label_is)
 
-  -- a brace with alternatives
+  -- a brace with alternatives: those are the parts in it
   pub choices_there : token.kind ≡ kinds.Choose → (choices : Choices) × Stands text (at + 1) (choice_nodes choices) token.next
       × (item_step F C item levels star ≡ choices_step F C choices levels star)
   choices_there e =

@@ -15,21 +15,23 @@ use Rattle.std.proofs.Common.{◌≡◌, ◌++◌, List, [], ◌∷◌, arith, c
 use Rattle.std.proofs.lemmas.Fmt.{decimal_digit}
 use Rattle.std.specs.Prelude.{Err, None, Ok, Some}
 
--- Examples of texts, which the prover computes: rows that open a part. The expected values were derived by hand from the manual and the
--- profile.
+-- Examples of texts, which the prover computes: rows of the table that open a part (named texts, %W, functions, %@). `words_of C text` is
+-- the words of each command of the text, `cost_of` the number of items worked. The expected values were derived by hand from the manual and
+-- the profile.
 
--- with these named texts
+-- a context with these named texts
 abbrev named : List (List ℕ × List ℕ) → Context → Context
 named list C = record C { texts = list }
 
+-- the job of a text
 abbrev job_of : Facts → Context → List ℕ → Answer Job
 job_of F C text = worked F C text >>- λ o. Is (Ok o.job)
 
--- what a link's text leaves of the outputs
+-- the outputs after the text of a link
 abbrev outputs_of : Facts → List (List ℕ) → List ℕ → Answer (List (List ℕ))
 outputs_of F outputs text = worked F (record (linking []) { outputs = outputs }) text >>- λ o. Is (Ok o.outs)
 
--- each name names the next one, up to the last
+-- named texts d1, d2 and so on, each of which is %( ) with the name of the next
 abbrev chained : List (List ℕ × List ℕ)
 chained =
     (codes "d1", codes "%(d2)") ∷ (codes "d2", codes "%(d3)") ∷ (codes "d3", codes "%(d4)") ∷ (codes "d4", codes "%(d5)")
@@ -50,13 +52,14 @@ chained =
     ∷ (codes "d61", codes "%(d62)") ∷ (codes "d62", codes "%(d63)") ∷ (codes "d63", codes "%(d64)") ∷ []
 
 module _ (F : Facts) where
+  -- the words of each command, and the items worked
   abbrev words_of : Context → List ℕ → Answer (List (List (List ℕ)))
   words_of C text = texts.words_of F C text
 
   abbrev cost_of : Context → List ℕ → Answer ℕ
   cost_of C text = texts.cost_of F C text
 
-  -- a named text is run in the place of its name; a missing one gives nothing
+  -- a named text is processed in the place of its name; a missing one gives nothing
   named_text : words_of (named ((codes "n", codes "b c") ∷ []) (linking [])) (codes "a%(n)d %(m)")
       ≡ Is (Ok ((codes "ab" ∷ codes "cd" ∷ []) ∷ []))
   named_text = refl
@@ -129,7 +132,7 @@ module _ (F : Facts) where
       ≡ Is (Err SpecTooDeep)
   too_deep_test = refl
 
-  -- %W: the last word that ended since it began, also one that began before
+  -- the failure files of a text: of a %W the last word that ended since it began, also one that began before
   abbrev failing : List ℕ → Answer (List (List ℕ))
   failing text = job_of F (linking (with (codes "o") (codes "x") ∷ alone (codes "a") ∷ [])) text >>- λ job. Is (Ok job.on_failure)
 
@@ -155,6 +158,7 @@ module _ (F : Facts) where
       ≡ Is (Ok ((codes "c" ∷ codes "-o" ∷ codes "x" ∷ codes "d" ∷ []) ∷ []))
   failure_words = refl
 
+  -- a %W in an X with a %*
   failure_star : words_of (linking (alone (codes "ma") ∷ alone (codes "mb") ∷ [])) (codes "c %W{m*:x%*}d")
       ≡ Is (Ok ((codes "c" ∷ codes "xa" ∷ codes "xb" ∷ codes "d" ∷ []) ∷ []))
   failure_star = refl
@@ -232,7 +236,7 @@ module _ (F : Facts) where
   outputs_outside : words_of (on [] (codes "a.o")) (codes "prog %o") ≡ Is (Err NotInLink)
   outputs_outside = refl
 
--- a variable's value
+-- an environment where HERE has a value, and NONE is not set
 abbrev here : Facts
 here = record no_facts { variables = (codes "HERE", Some (codes "/opt")) ∷ (codes "NONE", None) ∷ [] }
 
@@ -245,7 +249,7 @@ no_variable = refl
 unasked_variable : texts.words_of here (linking []) (codes "%:getenv(OTHER /x)") ≡ Unasked
 unasked_variable = refl
 
--- a path that is not there, and one that is no path
+-- facts for %:if-exists: a path that is not absolute, and one that is not there
 abbrev there : Facts
 there = record no_facts { kinds = (codes "x", Plain) ∷ (codes "/x", Missing) ∷ [] }
 
@@ -255,7 +259,7 @@ not_absolute = refl
 not_there : texts.words_of there (linking []) (codes "%:if-exists-then-else(/x yes no)") ≡ Is (Ok ((codes "no" ∷ []) ∷ []))
 not_there = refl
 
--- %@ where words of the line come from a file
+-- an environment without TMPDIR; with words of the line from a response file %@ makes a file
 abbrev untouched : Facts
 untouched = record no_facts { variables = (codes "TMPDIR", None) ∷ [] }
 

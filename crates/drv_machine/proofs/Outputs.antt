@@ -11,14 +11,17 @@ use Rattle.drv_system.specs.Gives.{GivesKnown}
 use Rattle.drv_system.specs.Known.{Is, Unasked}
 use Rattle.std.proofs.Common.{◌≡◌, ◌∙◌, Err, List, [], ◌∷◌, None, Ok, Result, ap, inl, inr, refl, subst, sym, ℕ}
 
--- For `%o`: the outputs are taken out of the machine while their words are put, and given back after that.
+-- For `%o` (machine/lists.rt): the outputs are taken out of the machine while their words are put, and given back after that, which no atom
+-- sees.
 
+-- the state with these outputs
 abbrev pub holding : List (List ℕ) → Machine → Machine
 holding outputs s = record s { world = record s.world { outputs = outputs } }
 
 abbrev given_back : List (List ℕ) → Unit {0} × Machine → Answer (Unit {0} × Machine)
 given_back outputs r = Is (Ok (tt, holding outputs r.1))
 
+-- atoms are put without the outputs, which are given back
 held : (F : Facts) (C : Context) (s : Machine) (atoms : List Atom) (outputs : List (List ℕ))
     → run F C (holding outputs s) (puts atoms) ≡ (run F C (holding [] s) (puts atoms) >>- given_back outputs)
 held F C s atoms outputs = by (all_taken F C s.cut atoms)
@@ -31,7 +34,7 @@ held F C s atoms outputs = by (all_taken F C s.cut atoms)
     by (Is (Err fault)) = refl
     by Unasked = refl
 
--- what is put meanwhile is put as if they had stayed
+-- atoms are put the same whatever the outputs are
 pub put_held : (F : Facts) (C : Context) (s t : Machine) (atoms : List Atom) (outputs : List (List ℕ))
     (result : Result (Unit {0}) MachineFault)
     → GivesKnown Memory (λ u. (tt, t)) result (run F C (holding [] s) (puts atoms))
@@ -40,6 +43,7 @@ put_held F C s t atoms outputs (Ok u) is = held F C s atoms outputs ∙ ap (λ a
 put_held F C s t atoms outputs (Err e) (inl memory) = inl memory
 put_held F C s t atoms outputs (Err e) (inr is) = inr (held F C s atoms outputs ∙ ap (λ a. a >>- given_back outputs) is)
 
+-- the words that are put while the outputs are taken out are those that %o puts
 pub outputs_put : (F : Facts) (C : Context) (s m t u : Machine) (outs list : List (List ℕ)) (result : Result (Unit {0}) MachineFault)
     → C.input ≡ None → outs ≡ s.world.outputs → list ≡ outs → m ≡ holding [] s → u ≡ holding outs t
     → GivesKnown Memory (λ v. (tt, t)) result (run F C m (puts (Break ∷ words list)))

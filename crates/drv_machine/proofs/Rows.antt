@@ -9,10 +9,12 @@ use Rattle.drv_system.specs.Known.{Is}
 use Rattle.std.proofs.Common.{◌≡◌, List, [], ◌∷◌, codes, refl, ℕ}
 use Rattle.std.specs.Prelude.{Err, None, Ok}
 
--- Examples of texts, which the prover parses, runs and cuts. The expected words were derived by hand from the manual and the profile, and
--- hold for all facts.
+-- Examples of texts, which the prover parses, works and cuts: the rows of the table that open no part. `words_of C text` is the words of
+-- each command of the text, `cost_of` the number of items worked; `on` and `linking` (WorkedTexts) make the line's switches. The expected
+-- words were derived by hand from the manual and the profile, and hold for all facts.
 
 module _ (F : Facts) where
+  -- the words of each command of a text, and the items that it cost
   abbrev words_of : Context → List ℕ → Answer (List (List (List ℕ)))
   words_of C text = texts.words_of F C text
 
@@ -37,7 +39,7 @@ module _ (F : Facts) where
       ≡ Is (Ok ((codes "-bar" ∷ codes "-baz" ∷ codes "-boggle" ∷ []) ∷ []))
   suffix_d_switch = refl
 
-  -- cancelled switches
+  -- switches that a later one cancels are hit no more
   cancelled : words_of (on (alone (codes "fno-x") ∷ alone (codes "fx") ∷ alone (codes "O1") ∷ alone (codes "O2") ∷ []) (codes "a.c"))
       (codes "%{fno-x:A} %{fx:B} %{O*} %{f*} %{O1:C}")
       ≡ Is (Ok ((codes "B" ∷ codes "-O1" ∷ codes "-O2" ∷ codes "-fno-x" ∷ codes "-fx" ∷ []) ∷ []))
@@ -55,7 +57,7 @@ module _ (F : Facts) where
       ≡ Is (Ok ((codes "--script=a/memory.ld" ∷ codes "--script=b/memory.ld" ∷ []) ∷ []))
   star_twice = refl
 
-  -- a %* of inner braces makes no X around them worked for each hit
+  -- a %* of inner braces does not make the X around them one for each hit
   star_inside : words_of (on (alone (codes "a1") ∷ alone (codes "a2") ∷ alone (codes "b3") ∷ []) (codes "a.c")) (codes "%{a*:<%{b*:%*}>}")
       ≡ Is (Ok ((codes "<3" ∷ codes ">" ∷ []) ∷ []))
   star_inside = refl
@@ -158,7 +160,7 @@ module _ (F : Facts) where
   choices : words_of (on (alone (codes "b") ∷ []) []) (codes "%{a:A;b:B;b:C;:D}%{a:A;:D}") ≡ Is (Ok ((codes "BD" ∷ []) ∷ []))
   choices = refl
 
-  -- the item of a brace counts, and those of the X each time they are run; white space at an end of an X isn't there
+  -- the item of a brace counts, and those of its X each time it is processed; white space at the ends of an X is no item
   cost : cost_of (on (alone (codes "ma") ∷ alone (codes "mb") ∷ []) []) (codes "%{m*:x%* } %{q:yyy}") ≡ Is (Ok 7)
   cost = refl
 

@@ -15,9 +15,11 @@ use Rattle.std.specs.Option.{unwrap_or}
 use Rattle.std.proofs.lemmas.Grind.{flat_map-append}
 use Rattle.std.specs.Prelude.{◌&&◌, if◌then◌else◌, is_some, map, not}
 
--- For the laws of the cut: how it goes over the runs of atoms between breaks.
+-- For the laws of the cut (CutRuns, CutLines, CutFailures, CutFiles): how a cut goes over the runs of a list of atoms. A run is the atoms
+-- between two ends of a word (a break or a pipe); it is a word if it opens one. `Course` is the induction that those files share: one case
+-- for an atom in a run, and one for each kind of end.
 
--- what a run has opened
+-- what is open after the atoms of a run: whether a word is, its bytes and marks, and whether a %V bars it
 pub record Opened : Type 0 where
   pub begun : Bool
   pub bytes : List ℕ
@@ -27,6 +29,7 @@ pub record Opened : Type 0 where
   pub script : Bool
   pub barred : Bool
 
+-- what the atoms of a run have opened
 abbrev pub opened_by : List Atom → Opened
 opened_by run = record {
   begun = list_any opens_word run;
@@ -38,6 +41,7 @@ opened_by run = record {
   barred = is_barred run;
 }
 
+-- what is open in a cut
 abbrev pub open_in : Cut → Opened
 open_in c = record {
   begun = is_some c.word;
@@ -53,7 +57,7 @@ abbrev with_byte : List ℕ → Atom → List ℕ
 with_byte bytes (Put b) = bytes ++ b ∷ []
 with_byte bytes atom = bytes
 
--- one more atom of the run
+-- what is open after one atom more
 abbrev further : Opened → Atom → Opened
 further o atom = record {
   begun = opens_word atom || o.begun;
@@ -65,21 +69,25 @@ further o atom = record {
   barred = if is_bar atom then o.begun else o.barred;
 }
 
+-- the order of two values of || doesn't matter
 either_way : (a b : Bool) → (a || b) ≡ (b || a)
 either_way true true = refl
 either_way true false = refl
 either_way false true = refl
 either_way false false = refl
 
+-- two values of || may change places
 around : (a b c : Bool) → (a || (b || c)) ≡ (b || (a || c))
 around true true c = refl
 around true false c = refl
 around false b c = refl
 
+-- whether any of a list with one more has a property
 pub any_after : {X : Type 0} (p : X → Bool) (xs : List X) (x : X) → list_any p (xs ++ x ∷ []) ≡ (p x || list_any p xs)
 any_after p [] x = refl
 any_after p (y ∷ ys) x = ap (λ b. p y || b) (any_after p ys x) ∙ around (p y) (p x) (list_any p ys)
 
+-- the bytes of a run with one atom more
 bytes_after : (run : List Atom) (atom : Atom) → flat_map byte_of (run ++ atom ∷ []) ≡ with_byte (flat_map byte_of run) atom
 bytes_after run atom = flat_map-append byte_of run (atom ∷ []) ∙ by atom
   where
@@ -104,6 +112,7 @@ yes_either_way : (b c : Bool) → (b || c) ≡ (if b then true else c)
 yes_either_way true c = refl
 yes_either_way false c = refl
 
+-- a run with one atom more is barred by a %V after its word began
 barred_after : (run : List Atom) (atom : Atom) → is_barred (run ++ atom ∷ [])
     ≡ (if is_bar atom then list_any opens_word run else is_barred run)
 barred_after [] atom = same_either_way (opens_word atom) false ∙ sym (same_either_way (is_bar atom) false)
@@ -115,6 +124,7 @@ barred_after (x ∷ run) atom = by (opens_word x) (barred_after run atom)
     by true e = any_after is_bar run atom ∙ yes_either_way (is_bar atom) (list_any is_bar run)
     by false e = e
 
+-- `opened_by` of a run with one atom more
 opened_further : (run : List Atom) (atom : Atom) → opened_by (run ++ atom ∷ []) ≡ further (opened_by run) atom
 opened_further run atom =
     rw (
@@ -127,7 +137,7 @@ opened_further run atom =
       barred_after run atom,
     ) refl
 
--- an atom that ends no word
+-- what an atom that ends no word does to a cut
 abbrev pub moved : Cut → Atom → Cut
 moved c (Put b) = in_word c (b ∷ [])
 moved c Open = in_word c []
@@ -141,7 +151,7 @@ moved c To = inside_done c.inside c
 moved c FileFrom = file_begun c
 moved c FileTo = file_done c
 
--- what ends of commands, pipes and files leave as it is
+-- a cut without its commands: what is left unchanged by the ends of commands, pipes and files
 abbrev pub unlined : Cut → Cut
 unlined c = record c { line = no_line; lines = []; stray = false; outer = None }
 
@@ -149,6 +159,7 @@ line_unlined : (c : Cut) (outer : Option CutLine) → unlined (line_ended (recor
 line_unlined c None = refl
 line_unlined c (Some line) = refl
 
+-- a pipe after these words changes only the commands
 pipe_done_unlined : (c : Cut) (words : List (List ℕ))
     → unlined (pipe_done (record c { line = record { words = words; piped = c.line.piped } })) ≡ unlined c
 pipe_done_unlined c [] = refl
@@ -158,9 +169,11 @@ pipe_unlined : (c : Cut) (outer : Option CutLine) → unlined (pipe_ended (recor
 pipe_unlined c None = pipe_done_unlined (record c { outer = None }) c.line.words
 pipe_unlined c (Some line) = refl
 
+-- a pipe changes only the commands of a cut
 pub pipe_kept : (c : Cut) → unlined (pipe_ended c) ≡ unlined c
 pipe_kept c = pipe_unlined c c.outer
 
+-- the end of a command changes only the commands of a cut
 pub end_kept : (c : Cut) → unlined (line_ended c) ≡ unlined c
 end_kept c = line_unlined c c.outer
 
@@ -168,14 +181,17 @@ file_unlined : (c : Cut) (outer : Option CutLine) → unlined (file_done (record
 file_unlined c None = refl
 file_unlined c (Some line) = refl
 
+-- the end of a file changes only the commands of a cut
 pub file_kept : (c : Cut) → unlined (file_done c) ≡ unlined c
 file_kept c = file_unlined c c.outer
 
+-- the end of a %W opens and closes no word
 inside_opens : (c : Cut) (inside : List (Option (List ℕ))) → open_in (inside_done inside c) ≡ open_in c
 inside_opens c [] = refl
 inside_opens c (None ∷ outer) = refl
 inside_opens c (Some last ∷ outer) = refl
 
+-- an atom that ends no word changes what is open in a cut as `further` says
 moved_further : (c : Cut) (atom : Atom) → ends_word atom ≡ false → open_in (moved c atom) ≡ further (open_in c) atom
 moved_further c (Put b) e = refl
 moved_further c Open e = ap (λ bytes. record (open_in c) { begun = true; bytes = bytes }) (append-nil (unwrap_or c.word []))
@@ -192,10 +208,11 @@ moved_further c To e = inside_opens c c.inside
 moved_further c FileFrom e = refl
 moved_further c FileTo e = ap open_in (file_kept c)
 
--- a run ends without a word, or with one
+-- the cut after a run that is no word
 abbrev pub bare : Cut → Cut
 bare c = record c { word = None; marks = no_marks; barred = false }
 
+-- the cut after a run that is a word, which was found as this path
 abbrev pub with_word : Cut → Opened → List ℕ → Cut
 with_word c o name = record c {
   word = None;
@@ -208,29 +225,35 @@ with_word c o name = record c {
   inside = map (λ before. Some name) c.inside;
 }
 
--- the words where an atom is no end of one, and at an end
+-- the words of a list whose first atom continues the run
 pub words_moved : (run atoms : List Atom) (atom : Atom) → ends_word atom ≡ false
     → words_after run (atom ∷ atoms) ≡ words_after (run ++ atom ∷ []) atoms
 words_moved run atoms atom e = rw e refl
 
+-- a break ends a run that is no word: the words are those of the list after it
 pub bare_ends : (run atoms : List Atom) → list_any opens_word run ≡ false → words_after run (Break ∷ atoms) ≡ words_after [] atoms
 bare_ends run atoms e = rw e refl
 
+-- a break ends a run that is a word: the words are that run, and those of the list after it
 pub word_ends : (run atoms : List Atom) → list_any opens_word run ≡ true
     → words_after run (Break ∷ atoms) ≡ record { atoms = run; following = atoms } ∷ words_after [] atoms
 word_ends run atoms e = rw e refl
 
 module _ (F : Facts) (C : Context) where
+  -- the path of a word that is open, by its marks
   abbrev pub name_of : Opened → Answer (List ℕ)
   name_of o = if o.script then found_script F C o.bytes else if o.file then found_file F C o.bytes else Is (Ok o.bytes)
 
+  -- the cut after a run: `begun` says whether it is a word
   abbrev pub ended_as : Cut → Opened → Bool → Answer (List ℕ) → Answer Cut
   ended_as c o true name = name >>- λ n. Is (Ok (with_word c o n))
   ended_as c o false name = Is (Ok (bare c))
 
+  -- the cut after a run that has opened this
   abbrev pub ended : Cut → Opened → Answer Cut
   ended c o = ended_as c o o.begun (name_of o)
 
+  -- the end of a word, by the marks that look a path up
   broken_as : (c : Cut) (word : Option (List ℕ)) (script file : Bool)
       → broken F C (record c { word = word; marks = record c.marks { script = script; file = file } })
       ≡ ended c (open_in (record c { word = word; marks = record c.marks { script = script; file = file } }))
@@ -239,14 +262,16 @@ module _ (F : Facts) (C : Context) where
   broken_as c (Some word) false true = refl
   broken_as c (Some word) false false = refl
 
+  -- a break is the end of the run that is open
   pub broken_is : (c : Cut) → broken F C c ≡ ended c (open_in c)
   broken_is c = broken_as c c.word c.marks.script c.marks.file
 
+-- what is open in the cut is what the run opens, also after one atom more
 pub moves_on : (c : Cut) (run : List Atom) (atom : Atom) → ends_word atom ≡ false → open_in c ≡ opened_by run
     → open_in (moved c atom) ≡ opened_by (run ++ atom ∷ [])
 moves_on c run atom ends e = moved_further c atom ends ∙ ap (λ o. further o atom) e ∙ sym (opened_further run atom)
 
--- a list of atoms that is cut, run by run
+-- A list of atoms that is cut to its end, run by run: the run so far and the cut, the atoms left, and the cut at the end.
 pub data Course (F : Facts) (C : Context) : List Atom → Cut → List Atom → Cut → Type 0 where
   over : {run : List Atom} {c : Cut} → Course F C run c [] c
   moves : {run atoms : List Atom} {c d : Cut} (atom : Atom) → ends_word atom ≡ false → Course F C (run ++ atom ∷ []) (moved c atom) atoms d
@@ -269,7 +294,7 @@ module _ (F : Facts) (C : Context) where
   waits : {X : Type 0} (a : Answer Cut) (d : Cut) → a ≡ Unasked → a ≡ Is (Ok d) → X
   waits a d e went = absurd cc
 
-  -- a cut that goes through
+  -- a cut that goes to its end is a `Course`
   pub course : (run : List Atom) (c : Cut) (atoms : List Atom) (d : Cut) → open_in c ≡ opened_by run → all_taken F C c atoms ≡ Is (Ok d)
       → Course F C run c atoms d
   course run c [] d e went = let same : c ≡ d = cc in subst (λ (x : Cut). Course F C run c [] x) same over

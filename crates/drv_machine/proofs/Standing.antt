@@ -13,13 +13,16 @@ use Rattle.std.proofs.Common.{get_or, if◌then◌else◌, length, length-append
 use Rattle.std.proofs.lemmas.Option.{slice_get_within}
 use Rattle.std.proofs.Math.Seq.{get_or-append_seam}
 
--- For the walk: where the parts of a tree are in its flat list of tokens.
+-- For the walk over a text (`walk.rt`, `turns.rt`): where the parts of a tree are in the flat list of tokens that the code goes over. A
+-- place is an index of that list. `Stands` says that these parts are the tokens from one place up to another, `Spans` that some whole parts
+-- are, and `Passed` is the invariant of the loop over the tests of an alternative.
 
--- parts in a list of tokens, between what precedes and what follows them
+-- the item after a list is at the place that is the list's length
 slice_seam : {A : Type 0} (xs : List A) (y : A) (ys : List A) → slice_get (xs ++ y ∷ ys) (length xs) ≡ Some y
 slice_seam [] y ys = refl
 slice_seam (x ∷ xs) y ys = slice_seam xs y ys
 
+-- a tree has as many labels as its flat list has tokens
 same_size : (nodes : Nodes) (n : ℕ) → length (labels nodes) ≡ length (flat n nodes)
 same_size no_node n = refl
 same_size (node kind label span inner others) n =
@@ -34,7 +37,9 @@ same_size (node kind label span inner others) n =
       length-append (flat (n + 1) inner) (flat (n + 1 + length (flat (n + 1) inner)) others),
     )
 
+-- in any list of tokens, with its labels
 module _ (tokens : List Token) (marks : List Label) where
+  -- the first token of a flat list, put between others, is the part at its place
   first_part : (n : ℕ) (here : Token) (label : Label) (ts before following : List Token) (ls front back : List Label)
       → tokens ≡ before ++ (here ∷ (ts ++ following)) → marks ≡ front ++ (label ∷ (ls ++ back))
       → length before ≡ n → length front ≡ n → n < here.next → PartAt tokens marks n here.kind label here.next
@@ -49,6 +54,7 @@ module _ (tokens : List Token) (marks : List Label) where
     later = g;
   }
 
+  -- the flat list of a tree, put between other tokens, has the tree's parts at its own place (`whole_stands` takes the whole list)
   pub stand : (n : ℕ) (nodes : Nodes) (before following : List Token) (front back : List Label)
       → tokens ≡ before ++ (flat n nodes ++ following) → marks ≡ front ++ (labels nodes ++ back)
       → length before ≡ n → length front ≡ n → Stand tokens marks n nodes (n + length (flat n nodes))
@@ -78,13 +84,13 @@ module _ (tokens : List Token) (marks : List Label) where
             (omega (arith, f, same_size inner (n + 1), length-append front (label ∷ labels inner)))),
       )
 
-  -- places grow
+  -- parts end at or after the place where they begin
   pub stand_grows : (at : ℕ) (nodes : Nodes) (end : ℕ) → Stand tokens marks at nodes end → at ≤ end
   stand_grows at no_node end e = omega (arith, e)
   stand_grows at (node kind label span inner others) end (next, part, within, rest) =
       omega (arith, part.later, stand_grows next others end rest)
 
-  -- parts beside others
+  -- of two lists of parts, one after the other, the second begins where the first ends
   pub stand_both : (at : ℕ) (xs ys : Nodes) (end : ℕ) → Stand tokens marks at (both xs ys) end
       → (middle : ℕ) × Stand tokens marks at xs middle × Stand tokens marks middle ys end
   stand_both at no_node ys end s = (at, refl, s)
@@ -92,7 +98,7 @@ module _ (tokens : List Token) (marks : List Label) where
       let found = stand_both next xs ys end rest in
       (found.0, (next, part, within, found.1), found.2)
 
--- the whole tree
+-- the parts of a text's whole tree are its tokens, from the first to the last
 pub whole_stands : (text : List ℕ) → Stands text 0 (nodes_of (tree_of text)) (length (tokens_of (tree_of text)))
 whole_stands text =
     subst (λ (k : ℕ). Stands text 0 (nodes_of (tree_of text)) k)
@@ -103,16 +109,19 @@ whole_stands text =
     by : (k : ℕ) → 0 + k ≡ k
     by k = omega arith
 
--- Going over tests: what is left, from the place that is reached.
+-- the invariant of the loop over an alternative's tests: the parts that are left at the place reached, that their tests complete those
+-- since the start, and that the parts after the tests are the same
 pub record Passed (text : List ℕ) (start at : ℕ) (nodes : Nodes) (end : ℕ) : Type 0 where
   pub rest : Nodes
   pub stands : Stands text at rest end
   pub joins : (x : ℕ) → Stands text at (tests_in rest) x → Stands text start (tests_in nodes) x
   pub same : after_tests rest ≡ after_tests nodes
 
+-- before the first test all parts are left
 pub passed_none : (text : List ℕ) (start : ℕ) (nodes : Nodes) (end : ℕ) → Stands text start nodes end → Passed text start start nodes end
 passed_none text start nodes end s = record { rest = nodes; stands = s; joins = λ x t. t; same = refl }
 
+-- two values are the same if `Some` of them are
 pub some_same : {X : Type 0} (a b : X) → Some a ≡ Some b → a ≡ b
 some_same {X = X} a b e = ap (λ (o : Option X). unwrap_or o a) e
 
@@ -122,25 +131,26 @@ pub next_at : (text : List ℕ) (at : ℕ) (token : Token) (kind : TokenKind) (l
     → PartAt (tokens_of (tree_of text)) (labels_of (tree_of text)) at kind label next → token.next ≡ next
 next_at text at token kind label next e part = ap (λ (t : Token). t.next) (some_same token part.token (sym e ∙ part.there)) ∙ part.next_is
 
--- the parts that are left at a place, and what holds of them
+-- the parts that are left at a place in a loop over parts, and what holds of them
 pub record PartsLeft {X : Type 0} (nodes : X → Nodes) (text : List ℕ) (at end : ℕ) (Same : X → Type 0) : Type 0 where
   pub rest : X
   pub stands : Stands text at (nodes rest) end
   pub same : Same rest
 
--- a first part, and what follows it
+-- a part at a place, with those in it, and the parts that follow it
 pub record First (text : List ℕ) (at : ℕ) (kind : TokenKind) (label : Label) (inner others : Nodes) (end : ℕ) : Type 0 where
   pub next : ℕ
   pub part : PartAt (tokens_of (tree_of text)) (labels_of (tree_of text)) at kind label next
   pub within : Stands text (at + 1) inner next
   pub following : Stands text next others end
 
+-- the tuple that `Stand` is for a first part, as a record
 pub first_of : {text : List ℕ} {at : ℕ} {kind : TokenKind} {label : Label} {inner others : Nodes} {end : ℕ}
     → (next : ℕ) × PartAt (tokens_of (tree_of text)) (labels_of (tree_of text)) at kind label next × Stands text (at + 1) inner next
     × Stands text next others end → First text at kind label inner others end
 first_of (next, part, within, following) = record { next = next; part = part; within = within; following = following }
 
--- by the token that is there
+-- the token at the place of a first part has the part's kind and end, its inner parts go up to that end, and the other parts follow
 module _ {text : List ℕ} {at : ℕ} {kind : TokenKind} {label : Label} {inner others : Nodes} {end : ℕ}
     (f : First text at kind label inner others end) (token : Token) (there : slice_get (tokens_of (tree_of text)) at ≡ Some token) where
   pub first_kind : token.kind ≡ kind
@@ -165,6 +175,7 @@ pub record Front (text : List ℕ) (at : ℕ) (nodes : Nodes) (end : ℕ) : Type
   pub is : nodes ≡ node kind label span inner others
   pub first : First text at kind label inner others end
 
+-- parts that do not end at this place have a first part here
 pub front : (text : List ℕ) (at : ℕ) (nodes : Nodes) (end : ℕ) → at < end → Stands text at nodes end → Front text at nodes end
 front text at no_node end h e = absurd (omega (arith, h, e))
 front text at (node kind label span inner others) end h s =
@@ -178,7 +189,9 @@ pub record Here (text : List ℕ) (at : ℕ) (token : Token) (end : ℕ) : Type 
   pub within : Spans text (at + 1) token.next
   pub following : Spans text token.next end
 
+-- at a place before the end of some parts, with the token there
 module _ (text : List ℕ) (at end : ℕ) (h : at < end) (token : Token) (e : slice_get (tokens_of (tree_of text)) at ≡ Some token) where
+  -- at a place before the end of whole parts the token is in the list, and the parts in it and those after it are whole
   pub here : Spans text at end → Here text at token end
   here s =
       let f = front text at s.nodes end h s.stands in
@@ -190,11 +203,13 @@ module _ (text : List ℕ) (at end : ℕ) (h : at < end) (token : Token) (e : sl
         following = record { nodes = f.others; stands = stands_after f.first token e };
       }
 
-  -- the parts after it are nearer to the end
+  -- the parts after a token are nearer to the end than the token, so the loop ends
   pub nearer : Spans text at end → end - token.next < end - at
   nearer s = let p = here s in omega (arith, p.later, p.in_parts)
 
+  -- the loop over the tests of an alternative has reached that place
   module _ (start : ℕ) (nodes : Nodes) (p : Passed text start at nodes end) where
+    -- a token that is a test: the loop goes on after it
     pub passed_step : is_test token.kind ≡ true → Passed text start token.next nodes end
     passed_step t =
         let f = front text at p.rest end h p.stands in
@@ -210,6 +225,7 @@ module _ (text : List ℕ) (at end : ℕ) (h : at < end) (token : Token) (e : sl
               ∙ sym (ap after_tests f.is) ∙ p.same;
         }
 
+    -- a token that is no test: the tests end here, and what follows them begins
     pub passed_stop : is_test token.kind ≡ false → Stands text start (tests_in nodes) at × Stands text at (after_tests nodes) end
     passed_stop t =
         let f = front text at p.rest end h p.stands in
@@ -221,23 +237,27 @@ module _ (text : List ℕ) (at end : ℕ) (h : at < end) (token : Token) (e : sl
               ∙ sym (ap after_tests f.is) ∙ p.same) p.stands,
         )
 
--- at the end nothing is left
+-- parts that go up to a place at or before their beginning are none
 pub none_left : (text : List ℕ) (at end : ℕ) (nodes : Nodes) → end ≤ at → Stands text at nodes end → nodes ≡ no_node
 none_left text at end no_node h s = refl
 none_left text at end (node kind label span inner others) h (next, part, within, following) =
     absurd (omega (arith, h, part.later, stand_grows _ _ next others end following))
 
+-- a kind that is not `Test` is none for `is_test`
 pub not_test : (kind : TokenKind) → (kind ≡ kinds.Test → ⊥) → is_test kind ≡ false
 not_test kinds.Test h = absurd (h refl)
 not_test _ h = refl
 
+-- a place before the end of whole parts is one of the list
 pub front_in : (text : List ℕ) (at end : ℕ) → at < end → Spans text at end → at < length (tokens_of (tree_of text))
 front_in text at end h s = let f = front text at s.nodes end h s.stands in
     slice_get_within (tokens_of (tree_of text)) at f.first.part.token f.first.part.there
 
+-- parts that go from a place up to one at or before it end where they begin
 at_end : (text : List ℕ) (at end : ℕ) (nodes : Nodes) → end ≤ at → Stands text at nodes end → at ≡ end
 at_end text at end nodes h s = omega (arith, h, stand_grows _ _ at nodes end s)
 
+-- where the loop has reached the end of the parts, the tests end there
 pub passed_end : (text : List ℕ) (start at : ℕ) (nodes : Nodes) (end : ℕ) → end ≤ at → Passed text start at nodes end
     → Stands text start (tests_in nodes) at × Stands text at (after_tests nodes) end
 passed_end text start at nodes end h p =
@@ -246,5 +266,6 @@ passed_end text start at nodes end h p =
       subst (λ (xs : Nodes). Stands text at xs end) (sym (ap after_tests none) ∙ p.same) (at_end text at end p.rest h p.stands),
     )
 
+-- `whole_stands` with the number of tokens by another name
 pub whole_there : (text : List ℕ) (end : ℕ) → end ≡ length (tokens_of (tree_of text)) → Stands text 0 (nodes_of (tree_of text)) end
 whole_there text end e = subst (λ (k : ℕ). Stands text 0 (nodes_of (tree_of text)) k) (sym e) (whole_stands text)

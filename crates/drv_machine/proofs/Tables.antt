@@ -8,17 +8,19 @@ use Rattle.drv_system.specs.Known.{Is}
 use Rattle.std.proofs.Common.{◌≡◌, List, [], ◌∷◌, codes, refl, ℕ}
 use Rattle.std.specs.Prelude.{Err, Ok}
 
--- Examples of texts, which the prover computes: what tests ask, how switches are put and commands are cut, and what texts cost. The
--- expected words were derived by hand from the manual and the profile.
+-- Examples of texts, which the prover computes: what the tests of braces ask, how switches are put, how commands are cut, and what texts
+-- cost. `words_of C text` is the words of each command of the text, `cost_of` the number of items worked; `linking` and `on` (WorkedTexts)
+-- make the line's switches. The expected words were derived by hand from the manual and the profile.
 
 module _ (F : Facts) where
+  -- the words of each command of a text, and the items that it cost
   abbrev words_of : Context → List ℕ → Answer (List (List (List ℕ)))
   words_of C text = texts.words_of F C text
 
   abbrev cost_of : Context → List ℕ → Answer ℕ
   cost_of C text = texts.cost_of F C text
 
-  -- what tests ask
+  -- What tests ask: %{S:X}, %{!S:X}, %{S*:X}, %{.S:X}, %{,S:X}, S|T and S&T, alternatives and the default.
   tests_6 : words_of (linking (alone (codes "c") ∷ [])) (codes "%{c:A;d:B;:C}") ≡ Is (Ok ((codes "A" ∷ []) ∷ []))
   tests_6 = refl
 

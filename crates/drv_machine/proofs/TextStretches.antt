@@ -48,7 +48,8 @@ use Rattle.std.specs.List.{filter, flat_map, list_any}
 use Rattle.std.specs.Option.{unwrap_or}
 use Rattle.std.specs.Prelude.{◌&&◌, ◌+◌, ⊤, codes, drop, if◌then◌else◌, is_some, length, nat_lt, not, option_and_then}
 
--- For text_law: the atoms of a text open and close files and %W in pairs, and no file is in another.
+-- For text_law: the atoms of a text open and close %W and the files of %@ in pairs, and no file is in another. `Well` says it of a step: in
+-- a file it stays in it, and outside it leaves none open. NAME_bare: these atoms bound neither; NAME_well: the step NAME is `Well`.
 
 abbrev bounds_any : Atom → Bool
 bounds_any From = true
@@ -144,14 +145,12 @@ even_bare (atom ∷ atoms) e count =
     let each = first_bare (bounds_any atom) (list_any bounds_any atoms) e in
     ap (then_open atoms Failure) (opens_no_failure atom count each.0) ∙ even_bare atoms each.1 count
 
--- what a %W and a file enclose
 even_failure : (atoms : List Atom) → Even atoms → Even (From ∷ atoms ++ Break ∷ To ∷ [])
 even_failure atoms e count = open_append atoms (Break ∷ To ∷ []) Failure (suc count) ∙ ap (then_open (Break ∷ To ∷ []) Failure) (e (suc count))
 
 even_file : (atoms : List Atom) → Even atoms → Even (Break ∷ FileFrom ∷ atoms ++ Break ∷ FileTo ∷ [])
 even_file atoms e count = open_append atoms (Break ∷ FileTo ∷ []) Failure count ∙ ap (then_open (Break ∷ FileTo ∷ []) Failure) (e count)
 
--- files that are open
 opens_no_file : (atom : Atom) (count : ℕ) → bounds_file atom ≡ false → open_after atom File count ≡ Some count
 opens_no_file FileFrom count e = absurd cc
 opens_no_file FileTo count e = absurd cc
@@ -257,7 +256,7 @@ fits_failure b atoms e = (
 stops_failure : (b : Bool) (atoms : List Atom) → Stops b atoms → Stops b (From ∷ atoms)
 stops_failure b atoms e = (halted_append b (From ∷ []) atoms (shaped_bare b (From ∷ []) refl) e.0, λ count. e.1 (suc count))
 
--- work, in a file or not: it stays there
+-- what a step gives, in a file or not: its atoms are paired, and it ends where it began
 abbrev WellDone : {X : Type 0} → Bool → Worked X → Type 0
 WellDone b (Goes atoms x v) = Fits b atoms × (v.is_in_file ≡ b)
 WellDone b (Refuses atoms fault) = Stops b atoms
@@ -300,7 +299,6 @@ needs_well Unasked = record { stays = λ w b i. stops_here b }
 refuse_well : {X : Type 0} (fault : MachineFault) → Well (refuse {X = X} fault)
 refuse_well fault = record { stays = λ w b i. stops_here b }
 
--- a look, and atoms of what is seen
 look_puts_well : (f : World → List Atom) → ((w : World) → None-bounds (f w)) → Well (look f >>= puts)
 look_puts_well f e = record { stays = λ w b i. (fits_bare b (f w) (e w), i) }
 
@@ -316,7 +314,7 @@ if_well : {X : Type 0} (c : Bool) {one other : Step X} → Well one → Well oth
 if_well true e f = e
 if_well false e f = f
 
--- parts that are opened
+-- what items mean in each part that may still be opened is `Well`
 abbrev WellLevels : Levels → Type 0
 WellLevels [] = ⊤
 WellLevels (deeper ∷ inside) = ((items : Items) → Well (deeper items)) × WellLevels inside
@@ -327,7 +325,6 @@ opened_well : {X : Type 0} (levels : Levels) (part : (Items → Step (Unit {0}))
 opened_well [] part e goes = refuse_well fault.SpecTooDeep
 opened_well (deeper ∷ inside) part e goes = goes deeper inside e.0 e.1
 
--- a %W
 failure_well : (step : Step (Unit {0})) → Well step → Well (puts (From ∷ []) >> step >> puts (Break ∷ To ∷ []))
 failure_well step e = record { stays = λ w b i. by b (step w) (e.stays w b i) }
   where
@@ -418,7 +415,7 @@ module _ (F : Facts) (C : Context) where
   named_file_well (word ∷ list) = then_well (draw_well (response_text (word ∷ list)) Anew (codes ".args"))
       (λ path. puts_well (map Put (at_sign ∷ path) ++ Break ∷ []) (broken_bare (at_sign ∷ path)))
 
-  -- a file
+  -- a file of %@ is a whole stretch
   one_file : (atoms : List Atom) → Unfiled atoms → Stretched (Break ∷ FileFrom ∷ atoms ++ Break ∷ FileTo ∷ [])
   one_file atoms e = record {
     stretches = Filed atoms ∷ [];
@@ -483,6 +480,7 @@ module _ (F : Facts) (C : Context) where
   worked_well (Some (HasResult name items)) true X levels star others e goes f = goes star levels e
   worked_well (Some (HasResult name items)) false X levels star others e goes f = goes star levels e
 
+  -- each row of the table is `Well`, and so is what its braces, tests and named texts give
   leaf_well : (leaf : Leaf) → Well (leaf_step F C leaf)
   leaf_well Percent = puts_well (Put percent ∷ []) refl
   leaf_well InputName = then_well (input_well F C C.input) (λ name. bytes_well name)
@@ -574,6 +572,7 @@ module _ (F : Facts) (C : Context) where
   goes_stretched (Refuses ys fault) xs w e is = absurd cc
   goes_stretched (Waits ys) xs w e is = absurd cc
 
+  -- the atoms of a text that is run to its end are a list of atoms and whole files
   pub are_stretched : (items : Items) (xs : List Atom) (w : World) → atoms F C items ≡ Goes xs tt w → Stretched xs
   are_stretched items xs w e = goes_stretched (atoms F C items) xs w ((text_well items most_open).stays (start F C) false refl) e
 
@@ -590,6 +589,7 @@ module _ (F : Facts) (C : Context) where
   balanced_as b (Refuses atoms fault) e = λ enclosed. stops_as b atoms e enclosed
   balanced_as b (Waits atoms) e = λ enclosed. stops_as b atoms e enclosed
 
+  -- what is open is closed: for a whole text, and for the items of a part
   pub text_balanced : (items : Items) → Balanced (atoms F C items)
   text_balanced items = balanced_as false (atoms F C items) ((text_well items most_open).stays (start F C) false refl)
 

@@ -20,13 +20,14 @@ use Rattle.std.proofs.Common.{◌≡◌, ◌∙◌, ◌||◌, Bool, Err, List, O
 use Rattle.std.specs.List.{flat_map, list_any}
 use Rattle.std.specs.Prelude.{if◌then◌else◌, nat_lt}
 
--- For text_law: the job of a text is that of its list of atoms.
+-- For text_law: the job of a text is that of its list of atoms. `Told` (specs/Told) says by definitions over the whole list what output,
+-- marked files, failure files and groups the job has.
 
 neither : (a b : Bool) → (a || b) ≡ false → a ≡ false
 neither true b e = absurd cc
 neither false b e = refl
 
--- after the whole text no pipe is stray, and the groups are those of the commands
+-- after the whole text no pipe is stray, and the job is made of the groups of its commands
 pub record Ended (F : Facts) (C : Context) (w : World) (c : Cut) (o : Outcome) : Type 0 where
   pub none_stray : c.stray ≡ false
   pub commands : List (List Command)
@@ -34,6 +35,7 @@ pub record Ended (F : Facts) (C : Context) (w : World) (c : Cut) (o : Outcome) :
   pub job_is : o.job ≡ job w c commands
 
 module _ (F : Facts) (C : Context) where
+  -- the outcome with the job of these groups
   abbrev made_of : World → Cut → List (List Command) → Outcome
   made_of w c commands = record {
     job = job w c commands;
@@ -45,6 +47,7 @@ module _ (F : Facts) (C : Context) where
     cost = w.items;
   }
 
+  -- a cut without a stray pipe, and without a pipe that is too long, gives the job of its groups
   not_too_long : (w : World) (c : Cut) (o : Outcome) → c.stray ≡ false → Came (groups F C c.lines)
       (λ commands. if list_any (λ group. nat_lt most_piped (length group)) commands then Is (Err PipeTooLong)
       else Is (Ok (made_of w c commands))) o → Ended F C w c o
@@ -55,6 +58,7 @@ module _ (F : Facts) (C : Context) where
       by false f = let same : made_of w c commands ≡ o = cc in
           record { none_stray = n; commands = commands; groups_are = is; job_is = ap (λ (x : Outcome). x.job) (sym same) }
 
+  -- a finished cut that gives a job is such
   ended_as : (w : World) (c : Cut) (o : Outcome) → finished F C w c ≡ Is (Ok o) → Ended F C w c o
   ended_as w c o e = by (c.stray || ends_piped c.lines) refl e
     where
@@ -69,6 +73,7 @@ module _ (F : Facts) (C : Context) where
           (came (groups F C c.lines) (λ commands. if list_any (λ group. nat_lt most_piped (length group)) commands then Is (Err PipeTooLong)
           else Is (Ok (made_of w c commands))) o f)
 
+  -- what the list says of the job: CutRuns, CutFailures and CutFiles, each for its fields
   told_as : (items : Items) (o : Outcome) (list : List Atom) (w : World) (c : Cut) → atoms F C items ≡ Goes list tt w
       → all_taken F C nothing_cut list ≡ Is (Ok c) → Stretched list → Ended F C w c o → Told F C items o
   told_as items o list w c gives cut_is made ended =
@@ -91,6 +96,7 @@ module _ (F : Facts) (C : Context) where
       → Came (all_taken F C nothing_cut list) (λ c. finished F C w c) o → Told F C items o
   told_from items o list w gives (c, is, e) = told_as items o list w c gives is (are_stretched F C items list w gives) (ended_as w c o e)
 
+  -- a text that gives a job was processed to its end, by how its work ended
   told_by : (items : Items) (o : Outcome) (work : Worked (Unit {0})) → atoms F C items ≡ work → cut F C work ≡ Is (Ok o) → Told F C items o
   told_by items o (Goes list u w) gives e = told_from items o list w gives
       (came (all_taken F C nothing_cut list) (λ c. finished F C w c) o e)
@@ -103,5 +109,6 @@ module _ (F : Facts) (C : Context) where
       by : Came (all_taken F C nothing_cut list) (λ c. Unasked) o → Told F C items o
       by (c, is, f) = absurd cc
 
+  -- a text that gives a job is processed to its end, and its list says the job
   pub told : (items : Items) (o : Outcome) → outcome F C items ≡ Is (Ok o) → Told F C items o
   told items o e = told_by items o (atoms F C items) refl e

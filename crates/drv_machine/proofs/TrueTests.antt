@@ -21,9 +21,10 @@ use Rattle.std.proofs.Common.{◌≡◌, ◌⊎◌, ◌<◌, ◌≤◌, ◌+◌,
 use Rattle.std.proofs.Common.{slice_get, subst, sym, true, ℕ}
 use mathlib.Core.Bool.{beq}
 
--- For `first_true`: the tests of an alternative are judged one after another.
+-- For `first_true` (asking.rt): the tests of an alternative are judged one after another, up to the first that is true, or that is by a
+-- function, whose arguments must be processed first (`AskedTest`). `TestsLeft` is the invariant of that loop.
 
--- a test that is by no function
+-- a test that is not by a function is answered at once, by its label
 pub asked_is : (F : Facts) (C : Context) (negated : Bool) (asked : Asked) (levels : Levels) (star : List ℕ)
     → is_call (test_label negated asked) ≡ false → truth F C asked levels star ≡ asked_step C (test_label negated asked)
 asked_is F C negated (tree.HasSwitch (tree.pattern word starred)) levels star e = refl
@@ -31,7 +32,7 @@ asked_is F C negated (tree.HasSuffix word) levels star e = refl
 asked_is F C negated (tree.HasLanguage word) levels star e = refl
 asked_is F C negated (tree.HasResult name items) levels star e = absurd cc
 
--- and one that is
+-- a test whose label says so is by a function
 result_asked : (negated : Bool) (asked : Asked) → is_call (test_label negated asked) ≡ true
     → (name : List ℕ) × (items : Items) × (asked ≡ tree.HasResult name items)
 result_asked negated (tree.HasSwitch (tree.pattern word starred)) e = absurd cc
@@ -39,6 +40,7 @@ result_asked negated (tree.HasSuffix word) e = absurd cc
 result_asked negated (tree.HasLanguage word) e = absurd cc
 result_asked negated (tree.HasResult name items) e = (name, items, refl)
 
+-- the first of the tests at a place, and the others
 pub record FrontTest (text : List ℕ) (at : ℕ) (tests : Tests) (end : ℕ) : Type 0 where
   pub span : Span
   pub negated : Bool
@@ -47,85 +49,100 @@ pub record FrontTest (text : List ℕ) (at : ℕ) (tests : Tests) (end : ℕ) : 
   pub is : tests ≡ tree.test span negated asked others
   pub first : First text at kinds.Test (test_label negated asked) (asked_nodes asked) (test_nodes others) end
 
+-- before the end there is one
 pub front_test : (text : List ℕ) (at : ℕ) (tests : Tests) (end : ℕ) → at < end → Stands text at (test_nodes tests) end
     → FrontTest text at tests end
 front_test text at tree.no_test end h e = absurd (omega (arith, h, e))
 front_test text at (tree.test span negated asked others) end h s =
     record { span = span; negated = negated; asked = asked; others = others; is = refl; first = first_of s }
 
+-- at the end there is none
 pub no_tests_left : (text : List ℕ) (at : ℕ) (tests : Tests) (end : ℕ) → end ≤ at → Stands text at (test_nodes tests) end
     → tests ≡ tree.no_test
 no_tests_left text at tree.no_test end h s = refl
 no_tests_left text at (tree.test span negated asked others) end h (next, part, within, following) =
     absurd (omega (arith, h, part.later, stand_grows _ _ next (test_nodes others) end following))
 
+-- a test that is not by a function, and those after it
 module _ (F : Facts) (C : Context) (s u : Machine) (span : Span) (negated : Bool) (asked : Asked) (others : Tests) (levels : Levels)
     (star : List ℕ) (plain : is_call (test_label negated asked) ≡ false) where
+  -- a test that is answered, and those after it if it is false
   test_answers : (holds : Bool) → run F C s (asked_step C (test_label negated asked)) ≡ Is (Ok (holds, u))
       → run F C s (first_true F C (tree.test span negated asked others) levels star)
       ≡ run F C u (judged F C negated asked others levels star holds)
   test_answers holds e = then_ok F C s (truth F C asked levels star) (judged F C negated asked others levels star) holds u
       (ap (run F C s) (asked_is F C negated asked levels star plain) ∙ e)
 
+  -- a test that is not by a function, and is refused, refuses the tests
   pub test_refuses : (fault : MachineFault) → run F C s (asked_step C (test_label negated asked)) ≡ Is (Err fault)
       → run F C s (first_true F C (tree.test span negated asked others) levels star) ≡ Is (Err fault)
   test_refuses fault e = then_err F C s (truth F C asked levels star) (judged F C negated asked others levels star) fault
       (ap (run F C s) (asked_is F C negated asked levels star plain) ∙ e)
 
+  -- a test that is true is the first true one of the tests from it on
   pub test_is_true : (holds : Bool) → run F C s (asked_step C (test_label negated asked)) ≡ Is (Ok (holds, u)) → turned negated holds ≡ true
       → run F C s (first_true F C (tree.test span negated asked others) levels star) ≡ Is (Ok (Some asked, u))
   test_is_true holds e t = test_answers holds e ∙ ap (λ b. run F C u (if b then give (Some asked) else first_true F C others levels star)) t
 
+  -- where a test is false, the first true one is that of the tests after it
   pub test_is_false : (holds : Bool) → run F C s (asked_step C (test_label negated asked)) ≡ Is (Ok (holds, u))
       → turned negated holds ≡ false
       → run F C s (first_true F C (tree.test span negated asked others) levels star) ≡ run F C u (first_true F C others levels star)
   test_is_false holds e t = test_answers holds e ∙ ap
       (λ b. run F C u (if b then give (Some asked) else first_true F C others levels star)) t
 
+-- an answer that is turned round differs from the one that isn't
 turned_is : (holds negated : Bool) → turned negated holds ≡ not (beq holds negated)
 turned_is true true = refl
 turned_is true false = refl
 turned_is false true = refl
 turned_is false false = refl
 
+-- a test's label says whether it has a !
 negated_is : (negated : Bool) (asked : Asked) → (test_label negated asked).negated ≡ negated
 negated_is negated (tree.HasSwitch (tree.pattern word starred)) = refl
 negated_is negated (tree.HasSuffix word) = refl
 negated_is negated (tree.HasLanguage word) = refl
 negated_is negated (tree.HasResult name items) = refl
 
+-- whether a test is true, its ! considered, as the code computes it
 pub negated_kept : (kept : Bool) (asked : Asked) (text : List ℕ) (at : ℕ) (holds negated b : Bool)
     → negated ≡ (label_at (tree_of text) at).negated → label_at (tree_of text) at ≡ test_label kept asked → not (beq holds negated) ≡ b
     → turned kept holds ≡ b
 negated_kept kept asked text at holds negated b n label e =
     ap (λ m. turned m holds) (sym (negated_is kept asked) ∙ ap (λ (l : Label). l.negated) (sym label) ∙ sym n) ∙ turned_is holds negated ∙ e
 
--- the tests that are left at a place, and the state that was there and that is
+-- the invariant of the loop over tests: those at `at`, judged from the present state, give what all gave from the state before
 abbrev pub TestsLeft : Facts → Context → List ℕ → Machine → Machine → ℕ → ℕ → Tests → Levels → List ℕ → Type 0
 TestsLeft F C text s t at end tests levels star = PartsLeft test_nodes text at end
     (λ rest. run F C t (first_true F C rest levels star) ≡ run F C s (first_true F C tests levels star))
 
+-- a test is left at place `at`: s is the state before the loop, v the present one
 module _ (F : Facts) (C : Context) (text : List ℕ) (s v : Machine) (at end : ℕ) (h : at < end) (tests : Tests) (levels : Levels)
     (star : List ℕ) (left : TestsLeft F C text s v at end tests levels star) where
+  -- whether the first test is true, its ! considered, as the code computes it
   turned_at : (f : FrontTest text at left.rest end) (holds negated b : Bool) → negated ≡ (label_at (tree_of text) at).negated
       → not (beq holds negated) ≡ b → turned f.negated holds ≡ b
   turned_at f holds negated b n e =
       ap (λ m. turned m holds) (sym (negated_is f.negated f.asked) ∙ ap (λ (l : Label). l.negated) (sym f.first.part.label_is) ∙ sym n)
       ∙ turned_is holds negated ∙ e
 
+  -- the answer of the first test, by its label
   asks_at : (f : FrontTest text at left.rest end) (given : Answer (Bool × Machine))
       → run F C v (asked_step C (label_at (tree_of text) at)) ≡ given → run F C v (asked_step C (test_label f.negated f.asked)) ≡ given
   asks_at f given e = ap (λ l. run F C v (asked_step C l)) (sym f.first.part.label_is) ∙ e
 
+  -- by the tests that are left
   from_rest : (f : FrontTest text at left.rest end) → run F C s (first_true F C tests levels star)
       ≡ run F C v (first_true F C (tree.test f.span f.negated f.asked f.others) levels star)
   from_rest f = sym left.same ∙ ap (λ ts. run F C v (first_true F C ts levels star)) f.is
 
+  -- whether the first test is by a function, by its label
   plain_at : (f : FrontTest text at left.rest end) (b : Bool) → is_call (label_at (tree_of text) at) ≡ b
       → is_call (test_label f.negated f.asked) ≡ b
   plain_at f b e = ap is_call (sym f.first.part.label_is) ∙ e
 
-  -- here is a test by a function
+  -- here is a test by a function: the loop stops at it
   pub found_asks : is_call (label_at (tree_of text) at) ≡ true → AskedTest F C text end s v at tests levels star
   found_asks e =
       let f = front_test text at left.rest end h left.stands in
@@ -142,6 +159,7 @@ module _ (F : Facts) (C : Context) (text : List ℕ) (s v : Machine) (at end : �
         gives = from_rest f ∙ ap (λ (a : Asked). run F C v (first_true F C (tree.test f.span f.negated a f.others) levels star)) r.2;
       }
 
+  -- here is a test that is true: the loop stops at it
   pub found_true : (plain : is_call (label_at (tree_of text) at) ≡ false) (u : Machine) (holds negated : Bool)
       → negated ≡ (label_at (tree_of text) at).negated → run F C v (asked_step C (label_at (tree_of text) at)) ≡ Is (Ok (holds, u))
       → not (beq holds negated) ≡ true → TrueTest F C text s u at (first_true F C tests levels star)
@@ -154,6 +172,7 @@ module _ (F : Facts) (C : Context) (text : List ℕ) (s v : Machine) (at end : �
             (asks_at f (Is (Ok (holds, u))) e) (turned_at f holds negated true n t);
       }
 
+  -- here is one that is false: the loop goes on after it
   pub found_false : (plain : is_call (label_at (tree_of text) at) ≡ false) (u : Machine) (holds negated : Bool)
       → negated ≡ (label_at (tree_of text) at).negated → run F C v (asked_step C (label_at (tree_of text) at)) ≡ Is (Ok (holds, u))
       → not (beq holds negated) ≡ false → (token : Token) → slice_get (tokens_of (tree_of text)) at ≡ Some token
@@ -166,6 +185,7 @@ module _ (F : Facts) (C : Context) (text : List ℕ) (s v : Machine) (at end : �
             (asks_at f (Is (Ok (holds, u))) e) (turned_at f holds negated false n t));
       }
 
+  -- where the test at this place is refused, so are the tests
   pub found_refusal : (plain : is_call (label_at (tree_of text) at) ≡ false) (fault : MachineFault)
       → (fault ≡ Memory) ⊎ (run F C v (asked_step C (label_at (tree_of text) at)) ≡ Is (Err fault))
       → (fault ≡ Memory) ⊎ (run F C s (first_true F C tests levels star) ≡ Is (Err fault))

@@ -31,9 +31,11 @@ use Rattle.std.proofs.Common.{refl, slice_get, subst, suc, sym, zero, ℕ}
 use Rattle.std.proofs.lemmas.Bool.{false≢true}
 use Rattle.std.specs.Prelude.{◌↔◌, IsSome}
 
--- For `turn`: one turn of the loop keeps `Left`, or ends in the defined refusal.
+-- For `turn`, `settle` and `close` (turns.rt): one turn of the loop, which works one item, keeps `Left`, or ends in the refusal that is
+-- defined. `Left F C text w s given`: the rest of walk w, worked from state s, gives `given`. `Following` says the same of a step and the
+-- rest after it, `After` of the end of an open part.
 
--- the walk has gone on in the innermost part
+-- a walk that moved on in the innermost part, over alternatives that are not worked, still has the same left
 pub left_at : (F : Facts) (C : Context) (text : List ℕ) (w : Walk) (at : ℕ) (s : Machine) (given : Answer (Unit {0} × Machine))
     → ((rest : Items) → Lies text w.at rest w.end → Lies text at rest w.end) → Left F C text w s given
     → Left F C text (record w { at = at }) s given
@@ -46,7 +48,7 @@ left_at F C text w at s given lies left = record {
   same = left.same;
 }
 
--- the token that is reached is of an item
+-- a token before the end of the innermost part that is no alternative belongs to an item
 pub at_item : (text : List ℕ) (w : Walk) (token : Token) → w.at < w.end → slice_get (tokens_of (tree_of text)) w.at ≡ Some token
     → (token.kind ≡ kinds.Alternative → ⊥) → AtItem text w
 at_item text w token h there never = record {
@@ -54,20 +56,23 @@ at_item text w token h there never = record {
   no_alternative = λ other e k. never (ap (λ (t : Token). t.kind) (some_same token other (sym there ∙ e)) ∙ k);
 }
 
--- a plain byte is an item
+-- a token of a plain byte before the end of the innermost part belongs to an item
 pub plain_item : (text : List ℕ) (w : Walk) (token : Token) → w.at < w.end → slice_get (tokens_of (tree_of text)) w.at ≡ Some token
     → token.kind ≡ kinds.Plain → AtItem text w
 plain_item text w token h there plain = at_item text w token h there (λ k. let z : kinds.Plain ≡ kinds.Alternative = sym plain ∙ k in cc)
 
--- the same by another name of the text
+-- `AtItem` with another name for the same text
 pub item_in : (text other : List ℕ) (w : Walk) → other ≡ text → AtItem text w → AtItem other w
 item_in text other w e item = subst (λ (t : List ℕ). AtItem t w) (sym e) item
 
+-- the item that is reached is a token of the list
 pub at_place : (text : List ℕ) (w : Walk) → Lain text w → AtItem text w → w.at < length (tokens_of (tree_of text))
 at_place text w lain item = place_in text w.at lain.rest w.end item.before_end lain.lies
 
+-- the walk has reached an item, with this token
 module _ (text : List ℕ) (w : Walk) (item : AtItem text w) (token : Token)
     (there : slice_get (tokens_of (tree_of text)) w.at ≡ Some token) where
+  -- the parts inside the item that is reached are whole parts
   pub inner_there : Lain text w → Spans text (w.at + 1) token.next
   inner_there lain =
       let r = reached text w.at lain.rest w.end item.before_end item.no_alternative lain.lies in
@@ -77,10 +82,11 @@ module _ (text : List ℕ) (w : Walk) (item : AtItem text w) (token : Token)
             (sym (next_at text w.at token (kind_of r.item) (label_of r.item) r.next there r.part)) r.within;
       }
 
+  -- the end of the item that is reached is after its beginning
   pub inner_later : Lain text w → w.at + 1 ≤ token.next
   inner_later lain = let inner = inner_there lain in stand_grows _ _ (w.at + 1) inner.nodes token.next inner.stands
 
-  -- what lies after it
+  -- the parts after the item are items of the innermost part
   pub lain_after : Lain text w → Lain text (record w { at = token.next })
   lain_after lain =
       let r = reached text w.at lain.rest w.end item.before_end item.no_alternative lain.lies in
@@ -90,22 +96,27 @@ module _ (text : List ℕ) (w : Walk) (item : AtItem text w) (token : Token)
             (sym (next_at text w.at token (kind_of r.item) (label_of r.item) r.next there r.part)) r.following;
       }
 
+  -- what is left of the walk gives `given`
   module _ (F : Facts) (C : Context) (s : Machine) (given : Answer (Unit {0} × Machine)) (left : Left F C text w s given) where
+    -- the item that is reached, and what `Left` says is left after it
     pub front : Reached text w.at left.rest w.end
     front = reached text w.at left.rest w.end item.before_end item.no_alternative left.lies
 
+    -- where the item can't be counted (the text has too many) the text gives that refusal
     pub turn_uncounted : (fault : MachineFault) → (fault ≡ Memory) ⊎ (run F C s counted ≡ Is (Err fault))
         → (fault ≡ Memory) ⊎ (given ≡ Is (Err fault))
     turn_uncounted fault stopped = count_stops F C text w s given left front fault stopped
 
+    -- the item was counted
     module _ (u : Machine) (e : run F C s counted ≡ Is (Ok (tt, u))) where
+      -- after its count the item, and then what is left after it, give the same
       pub counted_item : Following F C text w token.next (λ levels star. item_step F C front.item levels star) u given
       counted_item =
           subst (λ (k : ℕ). Following F C text w k (λ levels star. item_step F C front.item levels star) u given)
           (sym (next_at text w.at token (kind_of front.item) (label_of front.item) front.next there front.part))
           (after_item F C text w s given left front u e)
 
-      -- an item that opens no part
+      -- an item that opens no part was processed, or refused, by its token's kind: the walk goes on after it
       pub turn_item : (result : Result (Unit {0}) MachineFault) (t : Machine)
           → ((levels : Levels) (inner : Step (Unit {0})) → Means F C text token.kind (w.at + 1) token.next levels (star_of C w.star) inner
           → GivesKnown Memory (λ x. (tt, t)) result (run F C u
@@ -121,7 +132,7 @@ module _ (text : List ℕ) (w : Walk) (item : AtItem text w) (token : Token)
           (means_there F C text w.at front.next (levels_in F C counted_item.arounds)
           (star_of C w.star) front.item front.part front.within token there)))
 
-      -- a plain byte
+      -- a plain byte was put, or refused: the walk goes on after it
       pub turn_plain : token.kind ≡ kinds.Plain → (word : List ℕ) → word ≡ (label_at (tree_of text) w.at).word
           → (result : Result (Unit {0}) MachineFault) (t : Machine)
           → GivesKnown Memory (λ x. (tt, t)) result (run F C u (bytes word)) → Went F C text (record w { at = token.next }) t given result
@@ -131,7 +142,7 @@ module _ (text : List ℕ) (w : Walk) (item : AtItem text w) (token : Token)
           (run F C u (kind_step F C kind (label_at (tree_of text) w.at) (star_of C w.star) inner))) (sym k)
           (subst (λ (n : List ℕ). GivesKnown Memory (λ x. (tt, t)) result (run F C u (bytes n))) is put))
 
-      -- a named text, from the place after it
+      -- an item that is a named text opens the text of its name, and then what is left follows
       text_after : (name : List ℕ) → name ≡ (label_at (tree_of text) w.at).word
           → item_step F C front.item (levels_in F C counted_item.arounds) (star_of C w.star)
           ≡ named F C (tree_named F C (label_at (tree_of text) w.at).word) (levels_in F C counted_item.arounds)
@@ -144,29 +155,33 @@ module _ (text : List ℕ) (w : Walk) (item : AtItem text w) (token : Token)
           (same_step F C text w u given token.next (λ levels star. item_step F C front.item levels star) counted_item
           (λ levels star. named F C (tree_named F C (label_at (tree_of text) w.at).word) levels) u (ap (run F C u) step)))
 
+      -- an item whose token says so is `%(NAME)`: the text of the name is opened
       pub turn_text : token.kind ≡ kinds.NamedText → (name : List ℕ) → name ≡ (label_at (tree_of text) w.at).word
           → Following F C text (record w { at = token.next }) token.next (λ levels star. named F C (tree_named F C name) levels) u given
       turn_text k name is =
           text_after name is (text_there F C text w.at front.next (levels_in F C counted_item.arounds)
           (star_of C w.star) front.item front.part front.within token there k)
 
+      -- an item whose token says so is a letter such as %a: the text of its name is opened
       pub turn_builtin : token.kind ≡ kinds.BuiltinText → (name : List ℕ) → name ≡ (label_at (tree_of text) w.at).word
           → Following F C text (record w { at = token.next }) token.next (λ levels star. named F C (tree_named F C name) levels) u given
       turn_builtin k name is =
           text_after name is (builtin_there F C text w.at front.next (levels_in F C counted_item.arounds)
           (star_of C w.star) front.item front.part front.within token there k)
 
-      -- what is inside the item
+      -- the parts inside the item are its braces, tests or items, up to the end of its token
       inside_there : Stands text (w.at + 1) (inner_nodes front.item) token.next
       inside_there =
           subst (λ (k : ℕ). Stands text (w.at + 1) (inner_nodes front.item) k)
           (sym (next_at text w.at token (kind_of front.item) (label_of front.item) front.next there front.part)) front.within
 
+      -- the kind of the token is the item's
       item_kind : token.kind ≡ kind_of front.item
       item_kind = kind_there F C text w.at front.next (levels_in F C counted_item.arounds)
           (star_of C w.star) front.item front.part front.within token there
 
-      -- a %W
+      -- the items that open a part, by the kind of the token: a %W. P is what the caller proves from the braces of the item and what
+      -- follows it
       pub turn_failure : token.kind ≡ kinds.FailureFile → (P : Type 0)
           → ((brace : Brace) → Stands text (w.at + 1) (brace_nodes brace) token.next
           → Following F C text w token.next (λ levels star. item_step F C (tree.FailureFile brace) levels star) u given → P) → P
@@ -175,7 +190,7 @@ module _ (text : List ℕ) (w : Walk) (item : AtItem text w) (token : Token)
           opening f.0 (subst (λ (x : Item). Stands text (w.at + 1) (inner_nodes x) token.next) f.1 inside_there)
           (subst (λ (x : Item). Following F C text w token.next (λ levels star. item_step F C x levels star) u given) f.1 counted_item)
 
-      -- a %@
+      -- a %@: P is what the caller proves from the braces of the item and what follows it
       pub turn_filed : token.kind ≡ kinds.ArgumentsFile → (P : Type 0)
           → ((brace : Brace) → Stands text (w.at + 1) (brace_nodes brace) token.next
           → Following F C text w token.next (λ levels star. item_step F C (tree.ArgumentsFile brace) levels star) u given → P) → P
@@ -184,7 +199,7 @@ module _ (text : List ℕ) (w : Walk) (item : AtItem text w) (token : Token)
           opening f.0 (subst (λ (x : Item). Stands text (w.at + 1) (inner_nodes x) token.next) f.1 inside_there)
           (subst (λ (x : Item). Following F C text w token.next (λ levels star. item_step F C x levels star) u given) f.1 counted_item)
 
-      -- a function
+      -- a function: P is what the caller proves from its arguments and what follows it
       pub turn_function : token.kind ≡ kinds.Function → (P : Type 0)
           → ((name : List ℕ) (items : Items) → (label_at (tree_of text) w.at).word ≡ name
           → Stands text (w.at + 1) (nodes_of items) token.next
@@ -195,7 +210,7 @@ module _ (text : List ℕ) (w : Walk) (item : AtItem text w) (token : Token)
           (subst (λ (x : Item). Stands text (w.at + 1) (inner_nodes x) token.next) f.2 inside_there)
           (subst (λ (x : Item). Following F C text w token.next (λ levels star. item_step F C x levels star) u given) f.2 counted_item)
 
-      -- a brace with alternatives
+      -- a brace with alternatives: P is what the caller proves from them and what follows the brace
       pub turn_choose : token.kind ≡ kinds.Choose → (P : Type 0)
           → ((choices : Choices) → Stands text (w.at + 1) (choice_nodes choices) token.next
           → Following F C text w token.next (λ levels star. choices_step F C choices levels star) u given → P) → P
@@ -206,20 +221,25 @@ module _ (text : List ℕ) (w : Walk) (item : AtItem text w) (token : Token)
           (same_step F C text w u given token.next (λ levels star. item_step F C front.item levels star) counted_item
           (λ levels star. choices_step F C ch.0 levels star) u (ap (run F C u) ch.2))
 
--- an open part has ended
+-- the innermost part has ended, and its frame was taken from the stack
 module _ (text : List ℕ) (w : Walk) (h : w.end ≤ w.at) (frame : Frame) (outer : List Frame)
     (popped_is : w.frames ≡ outer ++ frame ∷ []) where
+  -- what is left of the walk gives `given`
   module _ (F : Facts) (C : Context) (s : Machine) (given : Answer (Unit {0} × Machine)) (left : Left F C text w s given) where
+    -- the frame that was taken belongs to the innermost part
     inner : Popped text C left.arounds frame outer
     inner = popped text C w.frames left.arounds outer frame left.framed popped_is
 
+    -- the text has what the innermost part was opened for
     abbrev opened_fits : OpenedFits text C frame.opened inner.around.pattern inner.around.items inner.around.kept
     opened_fits = subst (λ (x : Frame). OpenedFits text C x.opened inner.around.pattern inner.around.items inner.around.kept) inner.frame_is
         inner.fits.opened
 
+    -- what `close` requires of the frame
     pub can_close : (p : Pattern) × (items : Items) × (kept : Kept) × OpenedFits text C frame.opened p items kept
     can_close = (inner.around.pattern, inner.around.items, inner.around.kept, opened_fits)
 
+    -- what follows the end of the part, in the part around it: P is what the caller proves from it
     pub closed : (v : Walk) → v.end ≡ frame.end → v.star ≡ frame.star → v.frames ≡ outer → (P : Type 0)
         → ((p : Pattern) (items : Items) (kept : Kept) → OpenedFits text C frame.opened p items kept
         → After F C (text_around text frame.opened) v (back_of frame.opened)
@@ -228,32 +248,37 @@ module _ (text : List ℕ) (w : Walk) (h : w.end ≤ w.at) (frame : Frame) (oute
         following inner.around.pattern inner.around.items inner.around.kept opened_fits
         (closes F C text w s given left h frame outer inner v e f g)
 
--- the walk is at its end
+-- a walk at the end of the whole text, with no part open, gives its state
 pub walk_ended : (F : Facts) (C : Context) (text : List ℕ) (w : Walk) (s : Machine) (given : Answer (Unit {0} × Machine)) → w.end ≤ w.at
     → length w.frames ≡ 0 → Left F C text w s given → given ≡ Is (Ok (tt, s))
 walk_ended F C text w s given h n left =
     sym (part_ended F C text w s given left h) ∙ ap (λ list. ends F C list s) (none_open text C w.frames left.arounds left.framed n)
 
--- items and open parts that lie in a text are what is left of something
+-- `settle` requires only that items and frames lie in the text: so the rest of the walk gives something (`given_of`)
 module _ (F : Facts) (C : Context) (text : List ℕ) (w : Walk) (s : Machine) where
+  -- what the rest of the walk gives
   abbrev pub given_of : Lain text w → HasFrames C text w → Answer (Unit {0} × Machine)
   given_of lain framed = onward F C w.star lain.rest framed.arounds s
 
+  -- items and frames that lie in the text are what is left of a walk that gives `given_of`
   pub as_left : (lain : Lain text w) (framed : HasFrames C text w) → Left F C text w s (given_of lain framed)
   as_left lain framed = record { rest = lain.rest; arounds = framed.arounds; lies = lain.lies; framed = framed.framed; same = refl }
 
+  -- what is left of a walk lies in the text: its items
   pub lain_of : (given : Answer (Unit {0} × Machine)) → Left F C text w s given → Lain text w
   lain_of given left = record { rest = left.rest; lies = left.lies }
 
+  -- and its frames
   pub framed_of : (given : Answer (Unit {0} × Machine)) → Left F C text w s given → HasFrames C text w
   framed_of given left = record { arounds = left.arounds; framed = left.framed }
 
+  -- nothing follows a whole text
   nothing_after : (a : Answer (Unit {0} × Machine)) → (a >>- λ r. Is (Ok (tt, r.1))) ≡ a
   nothing_after (Is (Ok r)) = refl
   nothing_after (Is (Err fault)) = refl
   nothing_after Unasked = refl
 
-  -- a walk over a whole text
+  -- at the start of a whole text, what is left is the whole text
   pub started : (items : Items) (end : ℕ) → Stands text 0 (nodes_of items) end → w.at ≡ 0 → w.end ≡ end → w.star ≡ None → w.frames ≡ []
       → Left F C text w s (run F C s (items_step F C items (levels_left F C most_open) []))
   started items end stands at_is end_is star_is frames_is = record {
@@ -266,7 +291,7 @@ module _ (F : Facts) (C : Context) (text : List ℕ) (w : Walk) (s : Machine) wh
         ∙ nothing_after (run F C s (items_step F C items (levels_left F C most_open) []));
   }
 
--- no frame was there
+-- a stack without a frame gives none
 pub none_popped : (result : Option Frame) (n : ℕ) → (IsSome result ↔ (0 < n)) → result ≡ None → n ≡ 0
 none_popped result zero v e = refl
 none_popped result (suc n) v e = let some : IsSome {T = Frame} None = subst (λ (o : Option Frame). IsSome o) e (v.1 (omega arith)) in

@@ -17,12 +17,14 @@ use Rattle.std.proofs.Common.{ℕ}
 use Rattle.std.specs.Option.{unwrap_or}
 use Rattle.std.specs.Prelude.{None}
 
--- For `add_switch`: a word that is put whole has the same cut as its bytes one by one.
+-- For `add_switch` (machine/whole_words.rt), which adds a word to the command as a whole: the cut is the same as if its bytes were put one
+-- by one, where no word is open and no mark looks up the next (`IsBetweenWords`).
 
--- after one no word is open
+-- after a word that was added whole no word is open, and no mark waits
 pub between_again : (s : Machine) (word : List ℕ) → IsBetweenWords (word_added s word).cut
 between_again s word = (refl, refl, refl)
 
+-- a word is put whole, in a state
 module _ (F : Facts) (C : Context) (s : Machine) where
   abbrev opened : List ℕ → Machine
   opened word = record s { cut = record (touched s.cut) { word = Some word } }
@@ -31,6 +33,7 @@ module _ (F : Facts) (C : Context) (s : Machine) where
       → run F C (opened word) (puts (Break ∷ [])) ≡ Is (Ok (tt, word_added s word))
   ends word script file = plain_ends F C (opened word) word refl script file
 
+  -- between words, some bytes and a break add a word
   pub broken_added : (b : ℕ) (bs : List ℕ) → IsBetweenWords s.cut
       → run F C s (puts (map Put (b ∷ bs) ++ Break ∷ [])) ≡ Is (Ok (tt, word_added s (b ∷ bs)))
   broken_added b bs between =
@@ -42,6 +45,7 @@ module _ (F : Facts) (C : Context) (s : Machine) where
   abbrev again : List ℕ → Machine
   again word = record s { cut = record (touched (touched s.cut)) { word = Some word } }
 
+  -- between words, an opening, bytes and a break add a word, also an empty one
   pub whole_added : (word : List ℕ) → IsBetweenWords s.cut
       → run F C s (puts (Open ∷ map Put word ++ Break ∷ [])) ≡ Is (Ok (tt, word_added s word))
   whole_added [] between = put_then F C s (opened []) (Open ∷ []) (Break ∷ []) begins ∙ ends [] between.1 between.2
@@ -67,7 +71,7 @@ module _ (F : Facts) (C : Context) (s : Machine) where
           ∙ ap (λ stray. Is (Ok (tt, record (word_added s (b ∷ bs)) { cut = record (word_added s (b ∷ bs)).cut { stray = stray } })))
           (or_again s.cut.stray s.cut.line.piped)
 
-  -- a switch and its argument
+  -- a switch without an argument adds one word
   pub switch_alone : (i : ℕ) (name word : List ℕ) → IsBetweenWords s.cut → name ≡ name_at (names C) i → word ≡ hyphen ∷ name
       → argument C i ≡ None
       → run F C s (puts (switch_atoms F C i)) ≡ Is (Ok (tt, word_added s word))
@@ -75,6 +79,7 @@ module _ (F : Facts) (C : Context) (s : Machine) where
       sym (ap (λ atoms. run F C s (puts atoms)) (switch_is F C name None i named (sym none)))
       ∙ broken_added hyphen name between ∙ ap (λ w. Is (Ok (tt, word_added s w))) (sym is)
 
+  -- one with an argument adds a word, and then the argument
   pub switch_with : (i : ℕ) (name word given : List ℕ) → IsBetweenWords s.cut → name ≡ name_at (names C) i → word ≡ hyphen ∷ name
       → argument C i ≡ Some given
       → run F C s (puts (switch_atoms F C i)) ≡ run F C (word_added s word) (puts (Open ∷ map Put given ++ Break ∷ []))

@@ -21,7 +21,7 @@ use Rattle.std.proofs.Common.{◌≡◌, ◌⊎◌, ◌∙◌, Err, List, ap, re
 
 -- For `work_item` and `work_leaf`: the item at a place, by its kind, does what the definition says.
 
--- what the braces of an item mean is there
+-- the part in an item is what the braces of its kind mean
 pub item_means : (F : Facts) (C : Context) (text : List ℕ) (at end : ℕ) (levels : Levels) (star : List ℕ) (item : Item)
     → Stands text at (inner_nodes item) end
     → Means F C text (kind_of item) at end levels star (inner_step F C item levels star)
@@ -45,17 +45,19 @@ item_means F C text at end levels star tree.Star s = tt
 item_means F C text at end levels star (tree.FailureFile brace) s = tt
 item_means F C text at end levels star (tree.ArgumentsFile brace) s = tt
 
+-- the step of a kind, with another name for the same kind: for each arm of the code's match
 pub by_kind : (F : Facts) (C : Context) (s : Machine) (kind k : TokenKind) (text : List ℕ) (at : ℕ) (star : List ℕ)
     (inner : Step (Unit {0})) → kind ≡ k
     → run F C s (kind_step F C k (label_at (tree_of text) at) star inner)
     ≡ run F C s (kind_step F C kind (label_at (tree_of text) at) star inner)
 by_kind F C s kind k text at star inner e = ap (λ x. run F C s (kind_step F C x (label_at (tree_of text) at) star inner)) (sym e)
 
+-- the step of a directive, with another name for the same directive
 pub by_leaf : (F : Facts) (C : Context) (s : Machine) (leaf l : Leaf) → leaf ≡ l
     → run F C s (leaf_step F C l) ≡ run F C s (leaf_step F C leaf)
 by_leaf F C s leaf l e = ap (λ x. run F C s (leaf_step F C x)) (sym e)
 
--- what is made of the input's name, where there is none
+-- a directive that uses the input's name is refused where the text has no input
 pub leaf_unnamed : (F : Facts) (C : Context) (s : Machine) (leaf l : Leaf) → leaf ≡ l → (f : List ℕ → Step (Unit {0}))
     → leaf_step F C l ≡ (input_name F C >>= f) → (fault : MachineFault)
     → (fault ≡ Memory) ⊎ (run F C s (input_name F C) ≡ Is (Err fault))

@@ -135,7 +135,9 @@ fn close<'w, S: System>(
     }
 }
 
-/// Closes the open parts that have ended. Whether an item is left.
+/// Closes the open parts that have ended, and says whether an item is left to be processed. The end of
+/// a part may open another, as the end of an X does for the next hit. Alternatives that are not
+/// worked are passed over.
 fn settle<S: System>(
     context: &Context<'_>,
     walk: &mut Walk<'_>,

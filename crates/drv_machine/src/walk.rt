@@ -32,8 +32,10 @@ pub(crate) struct Each {
     pub(crate) end: usize,
 }
 
-/// A test by a function: its place, and where the tests after it begin; where the X begins that it
-/// asks for, and where that ends, and whether it has a `%*` of its own; and where the braces end.
+/// A test by a function, kept while the function's arguments are processed: its answer is known at
+/// their end, and says whether its X is processed, or the tests and alternatives after it are judged.
+/// It holds the places for that: of the test, and where the tests after it begin; where its X
+/// begins and ends, and whether X has a `%*` of its own; and where the braces end.
 #[derive(Clone, Copy, Debug, Default)]
 pub(crate) struct Asking {
     pub(crate) test: usize,

@@ -15,7 +15,8 @@ use Rattle.std.specs.Ordering.{is_eq, is_gt, is_lt, nat_cmp, ordering_reverse, o
 use Rattle.std.specs.Prelude.{nat_le}
 use Rattle.std.specs.declared.cmp.Ordering.TheVariants.{Less, Equal, Greater}
 
--- For the look-up of a pattern: in the order of names, the names that begin with the pattern's name are next to each other.
+-- For the look-up of a pattern (sorting.rt): in the order of names, the names that begin with the pattern's name are next to each other, so
+-- two binary searches find where they begin and end (`block_found`).
 
 -- a name comes before another
 abbrev before : List ℕ → List ℕ → Bool
@@ -81,7 +82,7 @@ before_prefix (p ∷ least) (x ∷ name) e = by (nat_cmp x p) refl (before_prefi
         rw (ih rest) (and-false (p == x))
     by Greater is ih = absurd (let clash : false ≡ true = (rw is refl) ∙ e in cc)
 
--- up to these bytes, as a test
+-- a name comes before these bytes, or is them, exactly if it is not greater
 upto_bytes : (name least : List ℕ) → (before name least || pointwise nat_eq name least) ≡ not (is_gt (slice_cmp nat_cmp name least))
 upto_bytes name least = rw (texts_ties name least) (by (slice_cmp nat_cmp name least))
   where
@@ -94,6 +95,7 @@ opposite : (t : Bool) → not t ≡ true → t ≡ false
 opposite true e = absurd cc
 opposite false e = refl
 
+-- of two names the other way round neither is greater
 turned : (o : Ordering) → is_lt o ≡ false → is_gt (ordering_reverse o) ≡ false
 turned Less e = absurd cc
 turned Equal e = refl
@@ -102,12 +104,14 @@ turned Greater e = refl
 no_more : (a b : List ℕ) → before b a ≡ false → is_gt (slice_cmp nat_cmp a b) ≡ false
 no_more a b up = rw (nat_list_cmp_total.antisymm a b) (turned (slice_cmp nat_cmp b a) up)
 
+-- a name before one that is these bytes, or before them, is such a name
 exact_down : (least a b : List ℕ) → before b a ≡ false → (before b least || pointwise nat_eq b least) ≡ true
     → (before a least || pointwise nat_eq a least) ≡ true
 exact_down least a b up so =
     let low : is_gt (slice_cmp nat_cmp b least) ≡ false = opposite _ (sym (upto_bytes b least) ∙ so) in
     upto_bytes a least ∙ ap not (upto nat_list_cmp_total a b least (no_more a b up) low)
 
+-- a name that comes before these bytes is not these bytes
 before_exact : (least name : List ℕ) → before name least ≡ true → pointwise nat_eq name least ≡ false
 before_exact least name e = texts_ties name least ∙ by (slice_cmp nat_cmp name least) e
   where
@@ -116,7 +120,7 @@ before_exact least name e = texts_ties name least ∙ by (slice_cmp nat_cmp name
     by Equal e = absurd cc
     by Greater e = absurd cc
 
--- the same for a pattern
+-- a name before one that the pattern names, or that comes before the pattern's name, is itself such a name
 pub named_down : (pattern : Pattern) (a b : List ℕ) → before b a ≡ false → (before b pattern.name || is_named pattern b) ≡ true
     → (before a pattern.name || is_named pattern a) ≡ true
 named_down pattern a b up so = by pattern.star so
@@ -126,6 +130,7 @@ named_down pattern a b up so = by pattern.star so
     by true so = prefix_down pattern.name a b up so
     by false so = exact_down pattern.name a b up so
 
+-- a name that comes before the pattern's name isn't named by it
 pub before_named : (pattern : Pattern) (name : List ℕ) → before name pattern.name ≡ true → is_named pattern name ≡ false
 before_named pattern name e = by pattern.star
   where
@@ -133,6 +138,7 @@ before_named pattern name e = by pattern.star
     by true = before_prefix pattern.name name e
     by false = before_exact pattern.name name e
 
+-- a name before one that comes before these bytes comes before them too
 pub before_down : (least a b : List ℕ) → before b a ≡ false → before b least ≡ true → before a least ≡ true
 before_down least a b up so = by (before a least) refl
   where
@@ -142,18 +148,21 @@ before_down least a b up so = by (before a least) refl
 
 -- Two binary searches find the block.
 
--- the tests of the first search and of the second
+-- what the first search asks of a place: whether its name comes before the pattern's
 abbrev pub asks_start : List (List ℕ) → Pattern → ℕ → Bool
 asks_start names pattern i = before (name_at names i) pattern.name
 
+-- what the second asks: whether it does, or the pattern names it
 abbrev pub asks_end : List (List ℕ) → Pattern → ℕ → Bool
 asks_end names pattern i = before (name_at names i) pattern.name || is_named pattern (name_at names i)
 
+-- in the order of names the places that come before the pattern's name are first
 pub start_parts : (names : List (List ℕ)) (order : List ℕ) (pattern : Pattern) → IsOrder names order
     → IsPartitionedBy (asks_start names pattern) order
 start_parts names order pattern o = λ i j d below within so. before_down pattern.name (name_at names (get_or order i d))
     (name_at names (get_or order j d)) (far_names names order o i j d below within) so
 
+-- in the order of names the places that come before it or are named by the pattern are first
 pub end_parts : (names : List (List ℕ)) (order : List ℕ) (pattern : Pattern) → IsOrder names order
     → IsPartitionedBy (asks_end names pattern) order
 end_parts names order pattern o = λ i j d below within so. named_down pattern (name_at names (get_or order i d))
@@ -171,6 +180,7 @@ alone : (t u : Bool) → t ≡ false → (t || u) ≡ true → u ≡ true
 alone true u e so = absurd cc
 alone false u e so = so
 
+-- between the ends of both searches are the places that the pattern names
 pub block_found : (names : List (List ℕ)) (order : List ℕ) (pattern : Pattern) (start end : ℕ) → start ≤ length order → end ≤ length order
     → IsPartitionPoint (λ i. asks_start names pattern i ≡ true) (λ i. asks_start names pattern i ≡ false) order start
     → IsPartitionPoint (λ i. asks_end names pattern i ≡ true) (λ i. asks_end names pattern i ≡ false) order end

@@ -16,15 +16,18 @@ use Rattle.std.specs.List.Sorted.{IsPermutation, IsSortedBy, IsStableBy, ties}
 use Rattle.std.specs.Ordering.{is_lt, nat_cmp, ordering_reverse, ordering_then}
 use Rattle.std.specs.declared.cmp.Ordering.TheVariants.{Less, Equal, Greater}
 
--- For the look-up of a pattern: the places of a line, ordered by name and then by place.
+-- For the look-up of a pattern: the places of a line, ordered by name and then by place (`IsOrder`). A stable sort by name makes that
+-- order, it has each place once, and there is only one such order.
 
 -- the name at one place comes before the name at another
 abbrev pub is_before : List (List ℕ) → ℕ → ℕ → Bool
 is_before names i j = is_lt (slice_cmp nat_cmp (name_at names i) (name_at names j))
 
+-- the comparison of places by name alone is an order to sort by
 pub names_rank : (names : List (List ℕ)) → IsStrictWeakOrder (is_before names)
 names_rank names = ranks_by nat_list_cmp_total (name_at names)
 
+-- the comparison of places by name, and then by place, is an order to sort by
 pub places_rank : (names : List (List ℕ)) → IsStrictWeakOrder (λ i j. is_lt (by_name names i j))
 places_rank names = ranks_by (then_total (on_total (name_at names) nat_list_cmp_total) nat_cmp_total) (λ i. i)
 
@@ -32,11 +35,13 @@ no_less : (t : Bool) → is_lt (cond t Equal Greater) ≡ false
 no_less true = refl
 no_less false = refl
 
+-- where names don't decide, places do
 by_both : (o : Ordering) (a b : ℕ) → is_lt o ≡ false → (o ≡ Equal → nat_lt a b ≡ false) → is_lt (ordering_then o (nat_cmp a b)) ≡ false
 by_both Less a b up tie = up
 by_both Equal a b up tie = rw (tie refl) (no_less (a == b))
 by_both Greater a b up tie = refl
 
+-- the places of a range ascend
 rising : (n : ℕ) → IsSortedBy (λ i j. nat_lt i j) (range_with_len 0 n)
 rising n = λ k d low high.
     let within : k + 1 < n = omega (arith, length-range_with_len 0 n) in
@@ -45,7 +50,7 @@ rising n = λ k d low high.
 tied : (names : List (List ℕ)) (i j : ℕ) → slice_cmp nat_cmp (name_at names j) (name_at names i) ≡ Equal → ties (is_before names) i j ≡ true
 tied names i j equal = rw (equal, tied_back nat_list_cmp_total (name_at names j) (name_at names i) equal) refl
 
--- a stable sort by name of all places
+-- a stable sort by name of all places gives the order by name and place
 pub in_order : (names : List (List ℕ)) (places order : List ℕ) → places ≡ range_with_len 0 (length names) → IsPermutation places order
     → IsSortedBy (is_before names) order → IsStableBy (is_before names) places order → IsOrder names order
 in_order names places order all moved up kept = record {
@@ -62,17 +67,19 @@ far : (names : List (List ℕ)) (order : List ℕ) → IsOrder names order → (
     → is_lt (by_name names (get_or order k d) (get_or order j d)) ≡ false
 far names order o j k d below within = sorted_far (λ i j. is_lt (by_name names i j)) (places_rank names) order o.sorted j k d below within
 
+-- an order by two parts is one by the first
 first_part : (o p : Ordering) → is_lt (ordering_then o p) ≡ false → is_lt o ≡ false
 first_part Less p e = e
 first_part Equal p e = refl
 first_part Greater p e = refl
 
+-- where the first parts are equal it is one by the second
 second_part : (o p : Ordering) → o ≡ Equal → is_lt (ordering_then o p) ≡ false → is_lt p ≡ false
 second_part Less p equal e = absurd cc
 second_part Equal p equal e = e
 second_part Greater p equal e = absurd cc
 
--- no later name comes before an earlier one
+-- no later name of the order comes before an earlier one, however far apart they are
 pub far_names : (names : List (List ℕ)) (order : List ℕ) → IsOrder names order → (j k d : ℕ) → j ≤ k → k < length order
     → is_before names (get_or order k d) (get_or order j d) ≡ false
 far_names names order o j k d below within = first_part _ _ (far names order o j k d below within)
@@ -80,16 +87,18 @@ far_names names order o j k d below within = first_part _ _ (far names order o j
 at_most : (a b : ℕ) → is_lt (nat_cmp b a) ≡ false → a ≤ b
 at_most a b e = grind (arith, nat_tests)
 
--- places with the same name ascend
+-- places with the same name ascend in the order, however far apart they are
 pub far_places : (names : List (List ℕ)) (order : List ℕ) → IsOrder names order → (j k d : ℕ) → j ≤ k → k < length order
     → slice_cmp nat_cmp (name_at names (get_or order k d)) (name_at names (get_or order j d)) ≡ Equal → get_or order j d ≤ get_or order k d
 far_places names order o j k d below within equal = at_most _ _ (second_part _ _ equal (far names order o j k d below within))
 
 -- The order has each place once.
 
+-- an order has as many places as the line
 pub length_order : (names : List (List ℕ)) (order : List ℕ) → IsOrder names order → length order ≡ length names
 length_order names order o = length_permutation _ order o.places ∙ length-range_with_len 0 (length names)
 
+-- each of them is a place of the line
 pub in_range : (names : List (List ℕ)) (order : List ℕ) → IsOrder names order → (k d : ℕ) → k < length order
     → get_or order k d < length names
 in_range names order o k d within = All-permutation (λ i. i < length names) (range_with_len 0 (length names)) order o.places
@@ -100,6 +109,7 @@ in_range names order o k d within = All-permutation (λ i. i < length names) (ra
         let in' : k < length names = omega (arith, length-range_with_len 0 (length names)) in
         rw (get_or-range_with_len 0 (length names) k d in') (omega (arith, in'))
 
+-- each place of the line is in the order
 pub has_place : (names : List (List ℕ)) (order : List ℕ) → IsOrder names order → (i : ℕ) → i < length names → Contains order i
 has_place names order o i within = Contains-permutation (range_with_len 0 (length names)) order i o.places here
   where
@@ -112,6 +122,7 @@ has_place names order o i within = Contains-permutation (range_with_len 0 (lengt
 
 -- There is only one such order.
 
+-- places of which neither comes before the other, by name and by place, are the same
 levels : (o : Ordering) (a b : ℕ) → is_lt (ordering_then o (nat_cmp a b)) ≡ false → is_lt (ordering_then (ordering_reverse o) (nat_cmp b a))
     ≡ false → a ≡ b
 levels Less a b e e' = absurd cc
@@ -122,6 +133,7 @@ one_place : (names : List (List ℕ)) (i j : ℕ) → is_lt (by_name names i j) 
 one_place names i j e e' = levels (slice_cmp nat_cmp (name_at names i) (name_at names j)) i j e
     (ap (λ o. is_lt (ordering_then o (nat_cmp j i))) (sym (nat_list_cmp_total.antisymm (name_at names j) (name_at names i))) ∙ e')
 
+-- two such orders of a line are the same
 pub only_order : (names : List (List ℕ)) (one other : List ℕ) → IsOrder names one → IsOrder names other → one ≡ other
 only_order names one other o o' = same_order (λ i j. is_lt (by_name names i j)) (one_place names) one other
     (λ i j below within. far names one o i j 0 below within) (λ i j below within. far names other o' i j 0 below within)

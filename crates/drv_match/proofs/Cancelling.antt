@@ -79,7 +79,7 @@ as_positive (b ∷ other) (a ∷ x ∷ y ∷ z ∷ rest) h = by (b == a) refl
         (tests (x == byte "n") (y == byte "o") (z == byte "-"))
     by false e = rw (e, and-false) (sym (apart (x == byte "n" && y == byte "o" && z == byte "-") e))
 
--- what cancels a level
+-- a level is cancelled by any level, and by nothing else
 pub level_cancels : (other name : List ℕ) → is_level name ≡ true → cancels other name ≡ is_level other
 level_cancels other name e = rw (e, level_alone name e, no_negative other name (level_alone name e)) (by (is_level other))
   where
@@ -87,10 +87,11 @@ level_cancels other name e = rw (e, level_alone name e, no_negative other name (
     by true = refl
     by false = refl
 
--- what cancels any other name
+-- a name with a negative form is cancelled by that, or by its positive form if it is a negative one
 pub other_cancels : (other name : List ℕ) → is_level name ≡ false → has_negative name ≡ true
     → cancels other name ≡ (pointwise nat_eq (negative name) other || is_this (positive name) other)
 other_cancels other name e h = rw (e, and-false, h, as_positive other name h) refl
 
+-- a name without a negative form, and no level, is cancelled by none
 pub none_cancels : (other name : List ℕ) → is_level name ≡ false → has_negative name ≡ false → cancels other name ≡ false
 none_cancels other name e h = rw (e, and-false, h, no_negative other name h) refl

@@ -20,7 +20,8 @@ use Rattle.std.specs.List.Sorted.{IsPartitionPoint, IsPartitionedBy}
 use Rattle.std.specs.Ordering.{is_eq, is_gt, is_le, is_lt, nat_cmp, ordering_reverse}
 use Rattle.std.specs.declared.cmp.Ordering.TheVariants.{Less, Equal, Greater}
 
--- For liveness: the last name that passes a test.
+-- For liveness (liveness.rt): a switch is live if no later one cancels it, so the code looks for the last name that cancels it (`IsLast`).
+-- For a level that is the last level. Else it is the last place of the negative or the positive form, found in the order of names.
 
 -- two equal tests have the same last name
 pub last_same : (f g : List ℕ → Bool) (names : List (List ℕ)) (place : ℕ) → ((name : List ℕ) → f name ≡ g name) → IsLast g names place
@@ -31,6 +32,7 @@ last_same f g names place same last = record {
   passes = λ some. same (name_at names place) ∙ last.passes some;
 }
 
+-- a test that no name passes has no last name, which the code shows as place 0
 pub no_last : (f : List ℕ → Bool) (names : List (List ℕ)) → ((name : List ℕ) → f name ≡ false) → IsLast f names 0
 no_last f names none = record {
   none_after = λ i following within. none (name_at names i);
@@ -50,7 +52,7 @@ or_right : (t u : Bool) → u ≡ true → (t || u) ≡ true
 or_right true u e = refl
 or_right false u e = e
 
--- the last name that passes one of two tests
+-- the last name that passes one of two tests is the later of their last ones
 pub last_either : (f g : List ℕ → Bool) (names : List (List ℕ)) (one other place : ℕ) → place ≡ max one other → IsLast f names one
     → IsLast g names other → IsLast (λ name. f name || g name) names place
 last_either f g names one other place is last last' = by (nat_le one other) refl
@@ -77,20 +79,24 @@ last_either f g names one other place is last last' = by (nat_le one other) refl
 
 -- The last name that cancels a name.
 
+-- a level is cancelled last by the last level
 pub level_last : (names : List (List ℕ)) (name : List ℕ) (place : ℕ) → is_level name ≡ true → IsLast is_level names place
     → IsLast (λ later. cancels later name) names place
 level_last names name place e last = last_same (λ later. cancels later name) is_level names place (λ later. level_cancels later name e) last
 
+-- a name without a negative form, and no level, is cancelled by none
 pub none_last : (names : List (List ℕ)) (name : List ℕ) → is_level name ≡ false → has_negative name ≡ false
     → IsLast (λ later. cancels later name) names 0
 none_last names name e h = no_last (λ later. cancels later name) names (λ later. none_cancels later name e h)
 
+-- a name is cancelled last by its negative form, if it isn't one itself
 pub negative_last : (names : List (List ℕ)) (name form : List ℕ) (place : ℕ) → is_level name ≡ false → has_negative name ≡ true
     → positive name ≡ None → form ≡ negative name → IsLast (pointwise nat_eq form) names place
     → IsLast (λ later. cancels later name) names place
 negative_last names name form place e h alone is last = last_same (λ later. cancels later name) (pointwise nat_eq form) names place
     (λ later. other_cancels later name e h ∙ rw (alone, ← is) (or-false (pointwise nat_eq form later))) last
 
+-- a name that has a negative and a positive form is cancelled last by the later of these
 pub both_last : (names : List (List ℕ)) (name form form' : List ℕ) (one other place : ℕ) → is_level name ≡ false → has_negative name ≡ true
     → positive name ≡ Some form' → form ≡ negative name → IsLast (pointwise nat_eq form) names one
     → IsLast (pointwise nat_eq form') names other → place ≡ max one other → IsLast (λ later. cancels later name) names place
@@ -100,6 +106,7 @@ both_last names name form form' one other place e h found is last last' greatest
 
 -- A switch is live if its place is not before the last switch that cancels it.
 
+-- a switch is live if its place is not before the last one that cancels it
 pub live_from : (names : List (List ℕ)) (place first : ℕ) → place < length names
     → IsLast (λ later. cancels later (name_at names place)) names first → nat_le first place ≡ is_live names place
 live_from names place first within last = by (nat_le first place) refl
@@ -126,19 +133,23 @@ live_from names place first within last = by (nat_le first place) refl
 
 -- The last place of a name, looked up in the order.
 
+-- whether the name at a place is this one or comes before it
 abbrev pub is_upto : List (List ℕ) → List ℕ → ℕ → Bool
 is_upto names name i = is_le (slice_cmp nat_cmp (name_at names i) name)
 
+-- what is at most is not greater
 not_greater : (o : Ordering) → is_le o ≡ true → is_gt o ≡ false
 not_greater Less e = refl
 not_greater Equal e = refl
 not_greater Greater e = absurd cc
 
+-- what is not greater is at most
 at_most : (o : Ordering) → is_gt o ≡ false → is_le o ≡ true
 at_most Less e = refl
 at_most Equal e = refl
 at_most Greater e = absurd cc
 
+-- the other way round, what is not less is not greater
 turned : (o : Ordering) → is_lt o ≡ false → is_gt (ordering_reverse o) ≡ false
 turned Less e = absurd cc
 turned Equal e = refl
@@ -150,15 +161,18 @@ earlier : (names : List (List ℕ)) (order : List ℕ) → IsOrder names order �
 earlier names order o j k d below within = ap is_gt (nat_list_cmp_total.antisymm (name_at names (get_or order j d))
     (name_at names (get_or order k d))) ∙ turned _ (far_names names order o j k d below within)
 
+-- in the order of names such places come first
 pub upto_parts : (names : List (List ℕ)) (order : List ℕ) (name : List ℕ) → IsOrder names order → IsPartitionedBy (is_upto names name) order
 upto_parts names order name o = λ i j d below within so. at_most _ (upto nat_list_cmp_total (name_at names (get_or order i d))
     (name_at names (get_or order j d)) name (earlier names order o i j d below within) (not_greater _ so))
 
+-- what is equal is at most
 equal_upto : (o : Ordering) → is_eq o ≡ true → is_le o ≡ false → ⊥
 equal_upto Less e e' = absurd cc
 equal_upto Equal e e' = absurd cc
 equal_upto Greater e e' = absurd cc
 
+-- the answer of a comparison by the test for equality
 is_equal : (o : Ordering) → is_eq o ≡ true → o ≡ Equal
 is_equal Less e = absurd cc
 is_equal Equal e = refl
@@ -255,16 +269,18 @@ named_last names order name end place o high point some is = by (pointwise nat_e
 
 -- All flags, one entry of the order after the other.
 
+-- two lists of bytes that compare as equal are the same
 pub same_bytes : (xs ys : List ℕ) → pointwise nat_eq xs ys ≡ true → xs ≡ ys
 same_bytes xs ys e = exact_bytes xs ys (is_equal _ (sym (texts_ties xs ys) ∙ e))
 
--- an entry with the name of the entry before it
+-- a name that is that of the entry before is cancelled last by the same one
 pub known_again : (names : List (List ℕ)) (before name : List ℕ) (first place : ℕ) → IsLast (λ later. cancels later before) names first
     → pointwise nat_eq name before ≡ true → name ≡ name_at names place → IsLast (λ later. cancels later (name_at names place)) names first
 known_again names before name first place last same at =
     let one : before ≡ name_at names place = sym (same_bytes name before same) ∙ at in
     rw (← one) last
 
+-- one step of the loop over the order: the flag of its next place is set right
 pub flags_next : (names : List (List ℕ)) (order : List ℕ) (flags after : List Bool) (k first : ℕ) → length flags ≡ length names
     → get_or order k 0 < length names → ((j : ℕ) → j < k → get_or flags (get_or order j 0) false ≡ is_live names (get_or order j 0))
     → IsLast (λ later. cancels later (name_at names (get_or order k 0))) names first
@@ -289,6 +305,7 @@ flags_next names order flags after k first same within told last is j below = rw
         rw (get_or-set_other flags (get_or order k 0) (get_or order j 0) (nat_le first (get_or order k 0)) false
         (λ place. absurd (let clash : true ≡ false = sym (nat_eq_equiv.refl (get_or order j 0)) ∙ ap (λ m. get_or order j 0 == m) place ∙ e in cc))) (told j lower)
 
+-- at its end all flags are right
 pub flags_all : (names : List (List ℕ)) (order : List ℕ) (flags : List Bool) (k : ℕ) → IsOrder names order → length flags ≡ length names
     → length order ≤ k → ((j : ℕ) → j < k → get_or flags (get_or order j 0) false ≡ is_live names (get_or order j 0))
     → IsLiveness names flags
@@ -302,16 +319,19 @@ flags_all names order flags k o same whole told = record {
 
 -- the one of two that a test chose
 
+-- a choice by a test that is true is the place
 pub chosen : (test : List ℕ → Bool) (names : List (List ℕ)) (place : ℕ) (t : Bool) → t ≡ true → IsLast test names (if t then place else 0)
     → IsLast test names place
 chosen test names place true e last = last
 chosen test names place false e last = absurd cc
 
+-- a choice by a test that is false is 0: no name passes
 pub passed : (test : List ℕ → Bool) (names : List (List ℕ)) (place : ℕ) (t : Bool) → t ≡ false → IsLast test names (if t then place else 0)
     → IsLast test names 0
 passed test names place true e last = absurd cc
 passed test names place false e last = last
 
+-- a value whose `not` is false is true
 pub unturned : (t : Bool) → not t ≡ false → t ≡ true
 unturned true e = refl
 unturned false e = absurd cc

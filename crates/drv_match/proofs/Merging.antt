@@ -18,8 +18,11 @@ use Rattle.std.proofs.lemmas.List.Sums.{prefix_len-le-length}
 use Rattle.std.specs.List.{list_any, position, position_or_len, range_with_len}
 use Rattle.std.specs.Prelude.{unwrap_or}
 
--- For any_hits and next_hit: the places that one of several patterns hits, and the next place that one pattern hits.
+-- For any_hits and next_hit (switches.rt). A place is the index of a switch on the line; a pattern hits it if it names the switch, and the
+-- switch is neither hidden nor cancelled (`is_hit`). For several patterns the code marks a flag for each place that is hit, and then reads
+-- the flags in order; for the next hit of one pattern it keeps the least place of a hit so far (`LeastOf`).
 
+-- tests that agree on a range leave the same of it
 range_same : (f g : ℕ → Bool) (start n : ℕ) → ((i : ℕ) → start ≤ i → i < start + n → f i ≡ g i)
     → filter f (range_with_len start n) ≡ filter g (range_with_len start n)
 range_same f g start zero same = refl
@@ -30,11 +33,13 @@ range_same f g start (suc n) same =
     ap (λ b. if b then start ∷ filter f (range_with_len (start + 1) n) else filter f (range_with_len (start + 1) n)) here
     ∙ ap (λ is. if g start then start ∷ is else is) rest
 
+-- the numbers that a filter leaves of a range are in the range
 below : (f : ℕ → Bool) (n : ℕ) → All (λ i. i < n) (filter f (range_with_len 0 n))
 below f n = All-filter f (λ i. i < n) (range_with_len 0 n) (All-from_all_within (λ i. i < n) (range_with_len 0 n) (λ k d low high.
     let within : k < n = omega (arith, length-range_with_len 0 n, high) in
     rw (get_or-range_with_len 0 n k d within) (omega (arith, within))))
 
+-- all items of a list are the list
 take_whole : {A : Type 0} (n : ℕ) (xs : List A) → length xs ≤ n → take n xs ≡ xs
 take_whole zero [] some = refl
 take_whole zero (x ∷ xs) some = absurd (omega (arith, some))
@@ -45,35 +50,41 @@ none_of : (start n : ℕ) → filter (λ i. false) (range_with_len start n) ≡ 
 none_of start zero = refl
 none_of start (suc n) = none_of (start + 1) n
 
+-- fewer than one pattern are none
 pub no_patterns : (patterns : List Pattern) → length patterns < 1 → patterns ≡ []
 no_patterns [] few = refl
 no_patterns (p ∷ patterns) few = absurd (omega (arith, few))
 
+-- a list of patterns with length 0 has none
 pub is_none_left : (patterns : List Pattern) → (length patterns == 0) ≡ true → patterns ≡ []
 is_none_left [] e = refl
 is_none_left (p ∷ patterns) e = absurd (omega (arith, eqb-true (suc (length patterns)) 0 e))
 
+-- a list of patterns is its first one and those after it
 pub front_is : (patterns : List Pattern) (first : Pattern) → 1 ≤ length patterns → first ≡ get_or patterns 0 first
     → patterns ≡ first ∷ take (length patterns - 1) (drop 1 patterns)
 front_is [] first some is = absurd (omega (arith, some))
 front_is (p ∷ patterns) first some is = ap (λ q. q ∷ patterns) (sym is)
     ∙ ap (λ ps. first ∷ ps) (sym (take_whole (length (p ∷ patterns) - 1) patterns (omega arith)))
 
+-- the names of a line's switches, and which of them are hidden
 module _ (names : List (List ℕ)) (hidden : List Bool) where
+  -- patterns that hit the same switches hit the same places
   pub all_same : (some others : List Pattern) → SameHits names hidden some others
       → any_hits names hidden some ≡ any_hits names hidden others
   all_same some others same = range_same (is_any_hit names hidden some) (is_any_hit names hidden others) 0 (length names)
       (λ i low high. same i (omega (arith, high)))
 
-  -- if no pattern is left that hits, no place is hit
+  -- where no pattern is left that hits, no place is hit
   pub none_hit : (left patterns : List Pattern) → left ≡ [] → SameHits names hidden left patterns → [] ≡ any_hits names hidden patterns
   none_hit left patterns none same = sym (none_of 0 (length names)) ∙ ap (any_hits names hidden) (sym none) ∙ all_same left patterns same
 
+  -- the places that are hit are places of the line
   pub any_within : (patterns : List Pattern) (places : List ℕ) → places ≡ any_hits names hidden patterns
       → All (λ i. i < length names) places
   any_within patterns places is = rw is (below (is_any_hit names hidden patterns) (length names))
 
-  -- the first pattern that hits a switch, and the patterns after it
+  -- The code leaves out patterns without a hit: the first pattern that has one, and those that are left after it, hit the same as all.
   pub front_same : (left patterns : List Pattern) (first : Pattern) (others rest : List Pattern) → SameHits names hidden left patterns
       → left ≡ first ∷ rest → SameHits names hidden others rest → SameHits names hidden (first ∷ others) patterns
   front_same left patterns first others rest same is following = λ i within.
@@ -91,6 +102,7 @@ module _ (names : List (List ℕ)) (hidden : List Bool) where
       by true u e = refl
       by false u e = sym e
 
+  -- where no number of a range passes, none of them does
   not_in : (test : ℕ → Bool) (n i : ℕ) → list_any test (range_with_len 0 n) ≡ false → i < n → test i ≡ false
   not_in test n i none within = by (test i) refl
     where
@@ -102,7 +114,7 @@ module _ (names : List (List ℕ)) (hidden : List Bool) where
           list_any_at test (range_with_len 0 n) i 0 (rw (length-range_with_len 0 n) within) (ap test there ∙ e) in
           sym found ∙ none
 
-  -- a pattern without a hit hits no place
+  -- a pattern whose list of hits is empty hits no place
   pub hits_none : (pattern : Pattern) (i : ℕ) → nat_lt 0 (length (hits names hidden pattern)) ≡ false → i < length names
       → is_hit names hidden pattern i ≡ false
   hits_none pattern i none within = not_in (is_hit names hidden pattern) (length names) i (any_filter (is_hit names hidden pattern)
@@ -111,7 +123,7 @@ module _ (names : List (List ℕ)) (hidden : List Bool) where
   abbrev has_hit : Pattern → Bool
   has_hit pattern = nat_lt 0 (length (hits names hidden pattern))
 
-  -- the patterns from the first hit on hit the same as all
+  -- the patterns from the first one with a hit on hit the same as all
   pub from_first : (patterns : List Pattern) → SameHits names hidden (drop (position_or_len has_hit patterns) patterns) patterns
   from_first [] i low = refl
   from_first (p ∷ patterns) i low = by (has_hit p) refl (from_first patterns i low)
@@ -126,6 +138,7 @@ module _ (names : List (List ℕ)) (hidden : List Bool) where
           ap (λ m. is_any_hit names hidden (drop m (p ∷ patterns)) i) (let e : 1 + n ≡ suc n = omega arith in e)
           ∙ rest ∙ sym (ap (λ t. t || is_any_hit names hidden patterns i) (hits_none p i is low))
 
+  -- the index of the first pattern with a hit, or the length
   or_length : (patterns : List Pattern) → unwrap_or (position has_hit patterns) (length patterns) ≡ position_or_len has_hit patterns
   or_length patterns = by (nat_lt n (length patterns)) refl
     where
@@ -138,9 +151,11 @@ module _ (names : List (List ℕ)) (hidden : List Bool) where
           let at_least : length patterns ≤ n = grind (arith, nat_tests, is) in
           omega (arith, at_least, prefix_len-le-length (λ p. not (has_hit p)) patterns)
 
+  -- the index of the first pattern with a hit, or the length, is at most the length
   pub place_within : (patterns : List Pattern) → unwrap_or (position has_hit patterns) (length patterns) ≤ length patterns
   place_within patterns = omega (arith, or_length patterns, prefix_len-le-length (λ p. not (has_hit p)) patterns)
 
+  -- the patterns from the first one with a hit on, by the index that the code computes, hit the same as all
   pub from_place : (patterns : List Pattern) (at : ℕ) → at ≡ unwrap_or (position has_hit patterns) (length patterns)
       → SameHits names hidden (take (length patterns - at) (drop at patterns)) patterns
   from_place patterns at is i low =
@@ -149,7 +164,7 @@ module _ (names : List (List ℕ)) (hidden : List Bool) where
       ∙ ap (λ n. drop n patterns) (is ∙ or_length patterns))
       ∙ from_first patterns i low
 
-  -- the first place that is hit, from one place on
+  -- the first place that is hit from `from` on, by a search of the line, is the next hit
   pub next_found : (pattern : Pattern) (from end : ℕ) (found : Option ℕ) → end ≡ length names
       → MatchOption found ((k : ℕ) → from ≤ k → k < end → is_hit names hidden pattern k ≡ false)
       (λ i. (from ≤ i) × (i < end) × (is_hit names hidden pattern i ≡ true) × ((k : ℕ) → from ≤ k → k < i
@@ -158,7 +173,7 @@ module _ (names : List (List ℕ)) (hidden : List Bool) where
   next_found pattern from end None is none = λ i low high. none i low (omega (arith, is, high))
   next_found pattern from end (Some next) is (low, high, hit, before) = (low, omega (arith, is, high), hit, before)
 
-  -- the place itself is hit
+  -- a place that is hit is the next hit from itself on
   pub next_itself : (pattern : Pattern) (from end : ℕ) → end ≡ length names → from < end
       → is_hit names hidden pattern from ≡ true → IsNextHit names hidden pattern from (Some from)
   next_itself pattern from end is within hit =
@@ -166,6 +181,7 @@ module _ (names : List (List ℕ)) (hidden : List Bool) where
 
   -- Flags for the places that are hit.
 
+  -- some item of a filtered list passes exactly if some item passes both tests
   any_kept : (test other : ℕ → Bool) (xs : List ℕ) → list_any other (filter test xs) ≡ list_any (λ x. test x && other x) xs
   any_kept test other [] = refl
   any_kept test other (x ∷ xs) = by (test x) (any_kept test other xs)
@@ -175,7 +191,7 @@ module _ (names : List (List ℕ)) (hidden : List Bool) where
       by true ih = ap (λ u. other x || u) ih
       by false ih = ih
 
-  -- a named place counts exactly if it is hit
+  -- a place is hit exactly if it is one of the named places that count: neither hidden nor cancelled
   hit_among : (pattern : Pattern) (named : List ℕ) (i : ℕ) → AreNamed names pattern named → i < length names
       → list_any (nat_eq i) (filter (counts names hidden (is_broad pattern)) named) ≡ is_hit names hidden pattern i
   hit_among pattern named i n within =
@@ -192,10 +208,11 @@ module _ (names : List (List ℕ)) (hidden : List Bool) where
       by true = refl
       by false = refl
 
-  -- the flags after these places are marked
+  -- the flags after the named places that count are marked
   abbrev pub marking : Pattern → List ℕ → List Bool → List Bool
   marking pattern places flags = all_hidden (filter (counts names hidden (is_broad pattern)) places) flags
 
+  -- one step of the loop that marks: a named place that counts gets its flag
   pub mark_next : (pattern : Pattern) (flags after whole : List Bool) (named : List ℕ) (k : ℕ) → k < length named
       → counts names hidden (is_broad pattern) (get_or named k 0) ≡ true → after ≡ set flags (get_or named k 0) true
       → marking pattern (drop k named) flags ≡ whole → marking pattern (drop (k + 1) named) after ≡ whole
@@ -204,6 +221,7 @@ module _ (names : List (List ℕ)) (hidden : List Bool) where
       step : marking pattern (drop (k + 1) named) (set flags (get_or named k 0) true) ≡ marking pattern (drop k named) flags
       step = rw (drop_more named k 0 within, hit) refl
 
+  -- one step of the loop that marks: a named place that doesn't count is passed
   pub mark_pass : (pattern : Pattern) (flags whole : List Bool) (named : List ℕ) (k : ℕ) → k < length named
       → counts names hidden (is_broad pattern) (get_or named k 0) ≡ false
       → marking pattern (drop k named) flags ≡ whole → marking pattern (drop (k + 1) named) flags ≡ whole
@@ -212,6 +230,7 @@ module _ (names : List (List ℕ)) (hidden : List Bool) where
       step : marking pattern (drop (k + 1) named) flags ≡ marking pattern (drop k named) flags
       step = rw (drop_more named k 0 within, missed) refl
 
+  -- at its end a flag is set if it was before, or the pattern hits the place
   pub mark_done : (pattern : Pattern) (flags before : List Bool) (named : List ℕ) (k i : ℕ) → AreNamed names pattern named
       → length before ≡ length names → length named ≤ k → marking pattern (drop k named) flags ≡ marking pattern named before
       → i < length names → get_or flags i false ≡ (get_or before i false || is_hit names hidden pattern i)
@@ -223,11 +242,12 @@ module _ (names : List (List ℕ)) (hidden : List Bool) where
       whole : flags ≡ marking pattern (drop k named) flags
       whole = rw (drop_all k named past) refl
 
-  -- the flags of some patterns, and then of those that are left
+  -- the flags, and the hits of the patterns that are left, are the hits of all
   abbrev pub Flagged : List Bool → List Pattern → List Pattern → Type 0
   Flagged flags left all = (i : ℕ) → i < length names → (get_or flags i false || is_any_hit names hidden left i)
       ≡ is_any_hit names hidden all i
 
+  -- after the first pattern was marked, over flags of which none was set
   pub flag_first : (flags before : List Bool) (first : Pattern) (others : List Pattern)
       → ((i : ℕ) → i < length names → get_or before i false ≡ false)
       → ((i : ℕ) → i < length names → get_or flags i false ≡ (get_or before i false || is_hit names hidden first i))
@@ -239,6 +259,7 @@ module _ (names : List (List ℕ)) (hidden : List Bool) where
   or_in true u v = refl
   or_in false u v = refl
 
+  -- after the next one was marked
   pub flag_next : (flags after : List Bool) (patterns all : List Pattern) (k : ℕ) (pattern : Pattern) → k < length patterns
       → pattern ≡ get_or patterns k pattern
       → ((i : ℕ) → i < length names → get_or after i false ≡ (get_or flags i false || is_hit names hidden pattern i))
@@ -250,10 +271,11 @@ module _ (names : List (List ℕ)) (hidden : List Bool) where
       (sym (drop_more patterns k pattern low ∙ ap (λ p. p ∷ drop (k + 1) patterns) (sym is)))
       ∙ flagged i within
 
-  -- the places whose flags are set
+  -- the places from here on whose flags are set
   abbrev pub flagged_from : List Bool → ℕ → List ℕ
   flagged_from flags place = filter (λ i. get_or flags i false) (range_with_len place (length names - place))
 
+  -- after all patterns were marked, these are the places that one of them hits
   pub flagged_all : (flags : List Bool) (patterns all : List Pattern) (k : ℕ) → length patterns ≤ k → Flagged flags (drop k patterns) all
       → flagged_from flags 0 ≡ any_hits names hidden all
   flagged_all flags patterns all k past flagged =
@@ -267,6 +289,7 @@ module _ (names : List (List ℕ)) (hidden : List Bool) where
       by n e = ap (λ m. filter (λ i. get_or flags i false) (range_with_len 0 m)) e ∙ range_same (λ i. get_or flags i false)
           (is_any_hit names hidden all) 0 (length names) (λ i low high. at i (omega (arith, high)))
 
+  -- a range is its first number and the rest
   range_more : (place : ℕ) → place < length names → range_with_len place (length names - place) ≡ place ∷ range_with_len (place + 1)
       (length names - (place + 1))
   range_more place within = by (length names - place) (length names - (place + 1)) (omega (arith, within))
@@ -274,6 +297,7 @@ module _ (names : List (List ℕ)) (hidden : List Bool) where
       by : (n m : ℕ) → n ≡ suc m → range_with_len place n ≡ place ∷ range_with_len (place + 1) m
       by n m e = ap (range_with_len place) e
 
+  -- one step of the loop that reads the flags: a place whose flag is set is added
   pub place_kept : (flags : List Bool) (places after whole : List ℕ) (place : ℕ) → place < length names → get_or flags place false ≡ true
       → after ≡ places ++ place ∷ [] → places ++ flagged_from flags place ≡ whole → after ++ flagged_from flags (place + 1) ≡ whole
   place_kept flags places after whole place within hit is done =
@@ -281,12 +305,14 @@ module _ (names : List (List ℕ)) (hidden : List Bool) where
       ∙ ap (λ ps. places ++ ps) (ap (λ b. if b then place ∷ flagged_from flags (place + 1) else flagged_from flags (place + 1)) (sym hit)
       ∙ ap (filter (λ i. get_or flags i false)) (sym (range_more place within))) ∙ done
 
+  -- one step of the loop that reads the flags: a place whose flag is not set is passed
   pub place_passed : (flags : List Bool) (places whole : List ℕ) (place : ℕ) → place < length names → get_or flags place false ≡ false
       → places ++ flagged_from flags place ≡ whole → places ++ flagged_from flags (place + 1) ≡ whole
   place_passed flags places whole place within missed done =
       ap (λ ps. places ++ ps) (ap (λ b. if b then place ∷ flagged_from flags (place + 1) else flagged_from flags (place + 1)) (sym missed)
       ∙ ap (filter (λ i. get_or flags i false)) (sym (range_more place within))) ∙ done
 
+  -- at its end the places are complete
   pub places_done : (flags : List Bool) (places whole : List ℕ) (place : ℕ) → length names ≤ place
       → places ++ flagged_from flags place ≡ whole → places ≡ whole
   places_done flags places whole place past done = by (length names - place) (omega (arith, past)) done
@@ -296,14 +322,16 @@ module _ (names : List (List ℕ)) (hidden : List Bool) where
 
   -- The next place.
 
+  -- the next hit of a pattern, from a place on
   module _ (pattern : Pattern) (from : ℕ) where
-    -- so far, it is the first place of a hit from one place on
+    -- the least place from `from` on that is hit, of the first k named places; the length of the line if none is
     pub record LeastOf (named : List ℕ) (k next : ℕ) : Type 0 where
       pub within : next ≤ length names
       pub is : next < length names → (from ≤ next) × (is_hit names hidden pattern next ≡ true)
       pub least : (j : ℕ) → j < k → from ≤ get_or named j 0 → is_hit names hidden pattern (get_or named j 0) ≡ true
           → next ≤ get_or named j 0
 
+    -- of no named places there is none
     pub least_none : (named : List ℕ) (n : ℕ) → n ≡ length names → LeastOf named 0 n
     least_none named n e = record {
       within = omega (arith, e);
@@ -311,6 +339,7 @@ module _ (names : List (List ℕ)) (hidden : List Bool) where
       least = λ j below from_here hit. absurd (omega (arith, below));
     }
 
+    -- a place that is hit counts
     counted_hit : (i : ℕ) → is_hit names hidden pattern i ≡ true → counts names hidden (is_broad pattern) i ≡ true
     counted_hit i hit = by (is_named pattern (name_at names i)) (counts names hidden (is_broad pattern) i)
         (sym (named_first names hidden pattern i) ∙ hit)
@@ -323,6 +352,7 @@ module _ (names : List (List ℕ)) (hidden : List Bool) where
         → is_hit names hidden pattern i ≡ true
     hit_counted i name count = named_first names hidden pattern i ∙ ap (λ t. t && counts names hidden (is_broad pattern) i) name ∙ count
 
+    -- a place that is hit is named
     named_hit : (i : ℕ) → is_hit names hidden pattern i ≡ true → is_named pattern (name_at names i) ≡ true
     named_hit i hit = by (is_named pattern (name_at names i)) (counts names hidden (is_broad pattern) i)
         (sym (named_first names hidden pattern i) ∙ hit)
@@ -331,6 +361,7 @@ module _ (names : List (List ℕ)) (hidden : List Bool) where
         by true u e = refl
         by false u e = absurd cc
 
+    -- a place in a list has an index there
     any_placed : (i : ℕ) (xs : List ℕ) → list_any (nat_eq i) xs ≡ true → (j : ℕ) × (j < length xs) × (get_or xs j 0 ≡ i)
     any_placed i [] e = absurd cc
     any_placed i (x ∷ xs) e = by (i == x) refl e (any_placed i xs)
@@ -348,12 +379,14 @@ module _ (names : List (List ℕ)) (hidden : List Bool) where
         any_placed i named (ap (list_any (nat_eq i)) n.part ∙ block_has names n.order pattern n.start n.end i n.in_order n.block within
         ∙ named_hit i hit)
 
+    -- the least place so far is at most each named place that is hit
     next_least : (i j : ℕ) (named : List ℕ) (k next : ℕ) → LeastOf named k next → j < k → get_or named j 0 ≡ i → from ≤ i
         → is_hit names hidden pattern i ≡ true → next ≤ i
     next_least i j named k next l below is low hit =
         let bound : next ≤ get_or named j 0 = l.least j below (omega (arith, is, low)) (ap (is_hit names hidden pattern) is ∙ hit) in
         omega (arith, is, bound)
 
+    -- no place before the least is hit
     none_before : (named : List ℕ) → AreNamed names pattern named → (k next : ℕ) → length named ≤ k → LeastOf named k next → (i : ℕ)
         → from ≤ i → i < next → is_hit names hidden pattern i ≡ false
     none_before named n k next past l i low high = by (is_hit names hidden pattern i) refl
@@ -366,17 +399,19 @@ module _ (names : List (List ℕ)) (hidden : List Bool) where
             let bound : next ≤ i = next_least i at.0 named k next l (omega (arith, at.1, past)) at.2 low e in
             absurd (omega (arith, bound, high))
 
+    -- after all named places the least one is the next hit
     pub is_next : (named : List ℕ) → AreNamed names pattern named → (k next n : ℕ) → length named ≤ k → n ≡ length names
         → LeastOf named k next → next < n → IsNextHit names hidden pattern from (Some next)
     is_next named a k next n past e l below =
         let within : next < length names = omega (arith, e, below) in
         ((l.is within).0, within, (l.is within).1, none_before named a k next past l)
 
+    -- if no named place from `from` on is hit, the pattern hits none
     pub is_none : (named : List ℕ) → AreNamed names pattern named → (k next n : ℕ) → length named ≤ k → n ≡ length names
         → LeastOf named k next → n ≤ next → IsNextHit names hidden pattern from None
     is_none named a k next n past e l above = λ i low high. none_before named a k next past l i low (omega (arith, e, above, high))
 
-    -- every place of the block is named
+    -- each place of the list is named by the pattern
     is_one_named : (named : List ℕ) → AreNamed names pattern named → (k : ℕ) → k < length named
         → is_named pattern (name_at names (get_or named k 0)) ≡ true
     is_one_named named a k below =
@@ -385,6 +420,7 @@ module _ (names : List (List ℕ)) (hidden : List Bool) where
         ∙ ap (list_any (nat_eq (get_or named k 0))) (sym a.part)
         ∙ list_any_at (nat_eq (get_or named k 0)) named k 0 below (nat_eq_equiv.refl (get_or named k 0))
 
+    -- what holds of the items before k, and of k, holds of all up to it
     at_last : (P : ℕ → Type 0) (k j : ℕ) → j < k + 1 → (j < k → P j) → P k → P j
     at_last P k j below before last = by (j == k) refl
       where
@@ -392,7 +428,7 @@ module _ (names : List (List ℕ)) (hidden : List Bool) where
         by true e = subst P (sym (eqb-true j k e)) last
         by false e = let less : j < k = grind (arith, nat_tests) in before less
 
-    -- a place that comes before the others
+    -- one step of that loop: a place that counts, and is less than the least so far, is the least
     pub least_first : (named : List ℕ) → AreNamed names pattern named → (k next after : ℕ) → k < length named → from ≤ get_or named k 0
         → get_or named k 0 < next → counts names hidden (is_broad pattern) (get_or named k 0) ≡ true → after ≡ get_or named k 0
         → LeastOf named k next → LeastOf named (k + 1) after
@@ -405,7 +441,7 @@ module _ (names : List (List ℕ)) (hidden : List Bool) where
           (λ from_here so. omega arith) low' hit;
     })
 
-    -- a place that doesn't
+    -- any other place leaves it as it is
     pub least_stays : (named : List ℕ) (k next : ℕ) → (from ≤ get_or named k 0 → counts names hidden (is_broad pattern) (get_or named k 0)
         ≡ true → next ≤ get_or named k 0) → LeastOf named k next → LeastOf named (k + 1) next
     least_stays named k next stays l = record {

@@ -19,7 +19,8 @@ use Rattle.std.proofs.lemmas.List.Sorted.{list_any-IsPermutation}
 use Rattle.std.specs.List.{AllWithin, list_any, range_with_len}
 use Rattle.std.specs.List.Sorted.{IsNonDecreasing, IsPermutation}
 
--- For hits: the places that a pattern hits are in its block.
+-- For hits (switches.rt): the places that a pattern hits are in its block, the part of the places by name in which it names the switch. Of
+-- the block's places those count that are neither hidden nor cancelled (`counts`); sorted, they are the hits.
 
 -- in a list, a test holds exactly from a start to an end
 record IsPart (test : ℕ → Bool) (xs : List ℕ) (start end : ℕ) : Type 0 where
@@ -27,6 +28,7 @@ record IsPart (test : ℕ → Bool) (xs : List ℕ) (start end : ℕ) : Type 0 w
   inside : AllWithin (λ x. test x ≡ true) xs start end
   following : AllWithin (λ x. test x ≡ false) xs end (length xs)
 
+-- a filter by two tests, the first of which holds on a part of the list alone, is the second's filter of that part
 part_filter : (test other : ℕ → Bool) (xs : List ℕ) (start end : ℕ) → start ≤ end → end ≤ length xs → IsPart test xs start end
     → filter (λ x. test x && other x) xs ≡ filter other (take (end - start) (drop start xs))
 part_filter test other [] zero zero low high p = refl
@@ -60,7 +62,7 @@ part_filter test other (x ∷ xs) (suc start) (suc end) low high p =
     let size : suc end - suc start ≡ end - start = omega arith in
     rw (no, size) (part_filter test other xs start end (omega (arith, low)) (omega (arith, high)) rest)
 
--- the same for whether any item passes
+-- some item passes exactly if the filter leaves one
 pub any_filter : (test : ℕ → Bool) (xs : List ℕ) → list_any test xs ≡ nat_lt 0 (length (filter test xs))
 any_filter test [] = refl
 any_filter test (x ∷ xs) = by (test x) refl (any_filter test xs)
@@ -74,10 +76,11 @@ filter_same : (f g : ℕ → Bool) → ((x : ℕ) → f x ≡ g x) → (xs : Lis
 filter_same f g same [] = refl
 filter_same f g same (x ∷ xs) = rw (same x, filter_same f g same xs) refl
 
--- which of the places that a pattern names count
+-- whether a place that a pattern names counts: it isn't hidden, and it isn't cancelled or the pattern is broad
 abbrev pub counts : List (List ℕ) → List Bool → Bool → ℕ → Bool
 counts names hidden broad i = not (get_or hidden i false) && (broad || is_live names i)
 
+-- a place is hit if the pattern names it and it counts
 pub named_first : (names : List (List ℕ)) (hidden : List Bool) (pattern : Pattern) (i : ℕ)
     → is_hit names hidden pattern i ≡ (is_named pattern (name_at names i) && counts names hidden (is_broad pattern) i)
 named_first names hidden pattern i = by (not (get_or hidden i false)) (is_named pattern (name_at names i))
@@ -92,7 +95,7 @@ as_part : (names : List (List ℕ)) (order : List ℕ) (pattern : Pattern) (star
     → IsPart (λ i. is_named pattern (name_at names i)) order start end
 as_part names order pattern start end b = record { before = b.before; inside = b.named; following = b.following }
 
--- the hits in the whole order are those in the block
+-- the hits among all places by name are those of the block that count
 pub order_hits : (names : List (List ℕ)) (order : List ℕ) (hidden : List Bool) (pattern : Pattern) (start end : ℕ)
     → IsBlock names order pattern start end → filter (is_hit names hidden pattern) order ≡ filter (counts names hidden (is_broad pattern))
     (take (end - start) (drop start order))
@@ -102,6 +105,7 @@ order_hits names order hidden pattern start end b =
     ∙ part_filter (λ i. is_named pattern (name_at names i)) (counts names hidden (is_broad pattern)) order start end b.ascends b.within
     (as_part names order pattern start end b)
 
+-- the numbers of a range don't decrease
 range_rises : (n : ℕ) → IsNonDecreasing (range_with_len 0 n)
 range_rises n = λ i j d low high.
     let within : j < n = omega (arith, length-range_with_len 0 n, high) in
@@ -135,15 +139,17 @@ any_hit names order hidden pattern start end o b =
 
 -- Hiding places one by one.
 
--- the flags with these places hidden too
+-- the flags after these places are hidden too
 abbrev pub all_hidden : List ℕ → List Bool → List Bool
 all_hidden [] hidden = hidden
 all_hidden (i ∷ places) hidden = all_hidden places (set hidden i true)
 
+-- hiding places leaves as many flags
 pub hidden_length : (places : List ℕ) (hidden : List Bool) → length (all_hidden places hidden) ≡ length hidden
 hidden_length [] hidden = refl
 hidden_length (i ∷ places) hidden = hidden_length places (set hidden i true) ∙ length-set hidden i true
 
+-- after places are hidden a flag is set if it was before, or its place is one of these
 pub hidden_at : (places : List ℕ) (hidden : List Bool) (i : ℕ) → i < length hidden → get_or (all_hidden places hidden) i false
     ≡ (get_or hidden i false || list_any (nat_eq i) places)
 hidden_at [] hidden i within = sym (or-false (get_or hidden i false))
@@ -164,6 +170,7 @@ any_same : (f g : ℕ → Bool) → ((x : ℕ) → f x ≡ g x) → (xs : List �
 any_same f g same [] = refl
 any_same f g same (x ∷ xs) = rw (same x, any_same f g same xs) refl
 
+-- whether a list has this place, and it passes a test
 pub at_place : (test : ℕ → Bool) (i : ℕ) (xs : List ℕ) → list_any (λ x. test x && nat_eq i x) xs ≡ (test i && list_any (nat_eq i) xs)
 at_place test i [] = by (test i)
   where
@@ -186,6 +193,7 @@ at_place test i (x ∷ xs) = by (i == x) (test i) refl refl (at_place test i xs)
         rw (no, is) (ih ∙ rw is refl)
     by false u e is ih = rw e (second (test x) ih)
 
+-- a place is in the block exactly if the pattern names it
 pub block_has : (names : List (List ℕ)) (order : List ℕ) (pattern : Pattern) (start end i : ℕ) → IsOrder names order
     → IsBlock names order pattern start end → i < length names → list_any (nat_eq i) (take (end - start) (drop start order))
     ≡ is_named pattern (name_at names i)
@@ -204,12 +212,14 @@ block_has names order pattern start end i o b within =
     all_of true = refl
     all_of false = refl
 
+-- hiding what a pattern names leaves as many flags
 hidden_by-length : (pattern : Pattern) (names : List (List ℕ)) (hidden : List Bool) → length hidden ≡ length names
     → length (hidden_by pattern names hidden) ≡ length names
 hidden_by-length pattern [] hidden same = refl
 hidden_by-length pattern (name ∷ names) [] same = absurd (omega (arith, same))
 hidden_by-length pattern (name ∷ names) (h ∷ hidden) same = ap suc (hidden_by-length pattern names hidden (omega (arith, same)))
 
+-- after what a pattern names is hidden a flag is set if it was before, or the pattern names the switch
 hidden_by-at : (pattern : Pattern) (names : List (List ℕ)) (hidden : List Bool) (i : ℕ) → length hidden ≡ length names → i < length names
     → get_or (hidden_by pattern names hidden) i false ≡ (get_or hidden i false || is_named pattern (name_at names i))
 hidden_by-at pattern [] hidden i same within = absurd (omega (arith, within))
@@ -218,6 +228,7 @@ hidden_by-at pattern (name ∷ names) (h ∷ hidden) zero same within = refl
 hidden_by-at pattern (name ∷ names) (h ∷ hidden) (suc i) same within = hidden_by-at pattern names hidden i (omega (arith, same))
     (omega (arith, within))
 
+-- two lists of flags that agree at each place are the same
 same_flags : (xs ys : List Bool) → length xs ≡ length ys → ((i : ℕ) → i < length xs → get_or xs i false ≡ get_or ys i false) → xs ≡ ys
 same_flags [] [] same at = refl
 same_flags [] (y ∷ ys) same at = absurd (omega (arith, same))
@@ -251,28 +262,33 @@ block_within names order pattern start end o b k within = All-get_or (λ i. i < 
 
 -- The same for the places that a pattern names.
 
+-- the places that a pattern names are places of the line
 pub named_within : (names : List (List ℕ)) (pattern : Pattern) (places : List ℕ) → AreNamed names pattern places → (k : ℕ)
     → k < length places → get_or places k 0 < length names
 named_within names pattern places n k within = rw n.part (block_within names n.order pattern n.start n.end n.in_order n.block k
     (rw (← n.part) within))
 
+-- each item of the list of the places that a pattern names is a place of the line
 pub named_place : (names : List (List ℕ)) (pattern : Pattern) (places : List ℕ) → AreNamed names pattern places → (k x : ℕ)
     → k < length places → x ≡ get_or places k x → x < length names
 named_place names pattern places n k x within is =
     let at : x ≡ get_or places k 0 = is ∙ get_or_default places k x 0 within in
     rw at (named_within names pattern places n k within)
 
+-- the places that the pattern names and that count, sorted, are its hits
 pub named_hits : (names : List (List ℕ)) (named found places : List ℕ) (hidden : List Bool) (pattern : Pattern)
     → AreNamed names pattern named → found ≡ filter (counts names hidden (is_broad pattern)) named → IsPermutation found places
     → IsNonDecreasing places → places ≡ hits names hidden pattern
 named_hits names named found places hidden pattern n is moved up = hits_sorted names n.order found places hidden pattern n.start n.end
     n.in_order n.block (is ∙ ap (filter (counts names hidden (is_broad pattern))) n.part) moved up
 
+-- some named place counts exactly if the pattern has a hit
 pub named_any : (names : List (List ℕ)) (named : List ℕ) (hidden : List Bool) (pattern : Pattern) → AreNamed names pattern named
     → list_any (counts names hidden (is_broad pattern)) named ≡ nat_lt 0 (length (hits names hidden pattern))
 named_any names named hidden pattern n = ap (list_any (counts names hidden (is_broad pattern))) n.part
     ∙ any_hit names n.order hidden pattern n.start n.end n.in_order n.block
 
+-- hiding the named places hides what the pattern names
 pub named_hidden : (names : List (List ℕ)) (named : List ℕ) (hidden : List Bool) (pattern : Pattern) → AreNamed names pattern named
     → length hidden ≡ length names → all_hidden named hidden ≡ hidden_by pattern names hidden
 named_hidden names named hidden pattern n same = ap (λ places. all_hidden places hidden) n.part ∙ hidden_block names n.order hidden pattern
@@ -280,7 +296,7 @@ named_hidden names named hidden pattern n same = ap (λ places. all_hidden place
 
 -- One step of a loop over places.
 
--- the place at i counts and is added
+-- one step of a loop over places: the one at i counts and is added
 pub count_next : (test : ℕ → Bool) (places after whole xs : List ℕ) (i : ℕ) → i < length xs → test (get_or xs i 0) ≡ true
     → after ≡ places ++ get_or xs i 0 ∷ [] → places ++ filter test (drop i xs) ≡ whole → after ++ filter test (drop (i + 1) xs) ≡ whole
 count_next test places after whole xs i below hit is done = rw (is, append_assoc) (step ∙ done)
@@ -288,7 +304,7 @@ count_next test places after whole xs i below hit is done = rw (is, append_assoc
     step : places ++ (get_or xs i 0 ∷ filter test (drop (i + 1) xs)) ≡ places ++ filter test (drop i xs)
     step = rw (drop_more xs i 0 below, hit) refl
 
--- the place at i doesn't count
+-- one step of a loop over places: the one at i doesn't count and is passed
 pub pass_next : (test : ℕ → Bool) (places whole xs : List ℕ) (i : ℕ) → i < length xs → test (get_or xs i 0) ≡ false
     → places ++ filter test (drop i xs) ≡ whole → places ++ filter test (drop (i + 1) xs) ≡ whole
 pass_next test places whole xs i below passed done = step ∙ done
@@ -296,6 +312,7 @@ pass_next test places whole xs i below passed done = step ∙ done
     step : places ++ filter test (drop (i + 1) xs) ≡ places ++ filter test (drop i xs)
     step = rw (drop_more xs i 0 below, passed) refl
 
+-- a loop that asks whether a place counts ends at the first one
 pub any_here : (test : ℕ → Bool) (whole : Bool) (xs : List ℕ) (i : ℕ) → i < length xs → test (get_or xs i 0) ≡ true
     → list_any test (drop i xs) ≡ whole → true ≡ whole
 any_here test whole xs i below hit done = step ∙ done
@@ -303,6 +320,7 @@ any_here test whole xs i below hit done = step ∙ done
     step : true ≡ list_any test (drop i xs)
     step = rw (drop_more xs i 0 below, hit) refl
 
+-- a loop that asks whether a place counts goes on after one that doesn't
 pub any_next : (test : ℕ → Bool) (whole : Bool) (xs : List ℕ) (i : ℕ) → i < length xs → test (get_or xs i 0) ≡ false
     → list_any test (drop i xs) ≡ whole → list_any test (drop (i + 1) xs) ≡ whole
 any_next test whole xs i below passed done = step ∙ done
@@ -310,6 +328,7 @@ any_next test whole xs i below passed done = step ∙ done
     step : list_any test (drop (i + 1) xs) ≡ list_any test (drop i xs)
     step = rw (drop_more xs i 0 below, passed) refl
 
+-- one step of the loop that hides places
 pub hide_next : (hidden after whole : List Bool) (xs : List ℕ) (i : ℕ) → i < length xs → after ≡ set hidden (get_or xs i 0) true
     → all_hidden (drop i xs) hidden ≡ whole → all_hidden (drop (i + 1) xs) after ≡ whole
 hide_next hidden after whole xs i below is done = rw is (step ∙ done)
@@ -319,6 +338,7 @@ hide_next hidden after whole xs i below is done = rw is (step ∙ done)
 
 -- A loop over places is done.
 
+-- at the end of the loop the places that count are complete
 pub counted : (test : ℕ → Bool) (found xs : List ℕ) (i : ℕ) → length xs ≤ i → found ++ filter test (drop i xs) ≡ filter test xs
     → found ≡ filter test xs
 counted test found xs i whole done = step ∙ done
@@ -326,6 +346,7 @@ counted test found xs i whole done = step ∙ done
     step : found ≡ found ++ filter test (drop i xs)
     step = rw (drop_all i xs whole) (sym (append-nil found))
 
+-- at the end of the loop all places are hidden
 pub hide_done : (hidden whole : List Bool) (xs : List ℕ) (i : ℕ) → length xs ≤ i → all_hidden (drop i xs) hidden ≡ whole → hidden ≡ whole
 hide_done hidden whole xs i past done = step ∙ done
   where

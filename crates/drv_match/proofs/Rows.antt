@@ -5,7 +5,8 @@ use Rattle.std.proofs.Common.{◌≡◌, Bool, List, [], ◌∷◌, arith, codes
 use Rattle.std.specs.List.Sorted.{IsSorted}
 use Rattle.std.specs.List.{AllWithin}
 
--- Examples of lines, which the prover computes.
+-- Examples of lines, which the prover computes: places that a pattern hits, the order of names with a pattern's block, and which switches
+-- are cancelled.
 
 abbrev starred : List ℕ → Pattern
 starred name = record { name = name; star = true }
@@ -51,6 +52,7 @@ ascending (suc (suc zero)) d low high = refl
 ascending (suc (suc (suc zero))) d low high = refl
 ascending (suc (suc (suc (suc k)))) d low high = absurd (omega (arith, high))
 
+-- the places by name are the order that the definition asks for
 in_order : IsOrder line places
 in_order = record {
   places = record {

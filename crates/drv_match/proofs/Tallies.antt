@@ -8,7 +8,8 @@ use Rattle.std.proofs.lemmas.List.Sums.{sum_by-cons}
 use Rattle.std.specs.List.{sum_by}
 use Rattle.std.specs.List.Sorted.{IsNonDecreasing, IsPermutation}
 
--- For the order of names: two ordered lists with the same numbers, equally often, are the same list.
+-- For the order of names: two ordered lists with the same numbers, equally often, are the same list. So any two sorts of the places agree
+-- (`only_order`).
 
 abbrev one_if : Bool → ℕ
 one_if true = 1
@@ -23,9 +24,11 @@ as_sum : (n : ℕ) (xs : List ℕ) → tally n xs ≡ sum_by (λ x. one_if (n ==
 as_sum n [] = refl
 as_sum n (x ∷ xs) = ap (λ t. one_if (n == x) + t) (as_sum n xs) ∙ sym (sum_by-cons (λ x. one_if (n == x)) x xs)
 
+-- a permutation has each number equally often
 pub tally_permutation : (n : ℕ) (xs ys : List ℕ) → IsPermutation xs ys → tally n xs ≡ tally n ys
 tally_permutation n xs ys moved = as_sum n xs ∙ sym (sum_by-IsPermutation (λ x. one_if (n == x)) xs ys moved) ∙ sym (as_sum n ys)
 
+-- a filter keeps the numbers that pass as often as they were there
 pub tally_filter : (test : ℕ → Bool) (n : ℕ) (xs : List ℕ) → tally n (filter test xs) ≡ (if test n then tally n xs else 0)
 tally_filter test n [] = by (test n)
   where
@@ -78,6 +81,7 @@ first_least lt n x xs up some = let r = placed n (x ∷ xs) some in ap (λ z. lt
 later : (lt : ℕ → ℕ → Bool) (x : ℕ) (xs : List ℕ) → Ascends lt (x ∷ xs) → Ascends lt xs
 later lt x xs up = λ i j below within. up (suc i) (suc j) (omega (arith, below)) (omega (arith, within))
 
+-- two ordered lists with equal tallies are the same, where numbers of which none comes before the other are equal
 pub same_order : (lt : ℕ → ℕ → Bool) → ((x y : ℕ) → lt x y ≡ false → lt y x ≡ false → x ≡ y) → (xs ys : List ℕ) → Ascends lt xs
     → Ascends lt ys → ((n : ℕ) → tally n xs ≡ tally n ys) → xs ≡ ys
 same_order lt one [] [] up up' same = refl
@@ -94,7 +98,7 @@ same_order lt one (x ∷ xs) (y ∷ ys) up up' same =
     cancelled : (n a b : ℕ) → a ≡ b → a + tally n xs ≡ b + tally n ys → tally n xs ≡ tally n ys
     cancelled n a b e both = omega (arith, e, both)
 
--- the same for numbers that don't decrease
+-- two lists that don't decrease, with equal tallies, are the same
 pub same_rising : (xs ys : List ℕ) → IsNonDecreasing xs → IsNonDecreasing ys → ((n : ℕ) → tally n xs ≡ tally n ys) → xs ≡ ys
 same_rising xs ys up up' same = same_order (λ x y. nat_lt x y) level xs ys (ascends xs up) (ascends ys up') same
   where

@@ -9,6 +9,7 @@ use Rattle.std.specs.Prelude.{nat_eq, nat_lt, not}
 
 -- For the look-up of suffixes: if a text ends with another, both have the same last byte.
 
+-- a text that ends with another has the same last byte
 last_is : (text end : List ℕ) → 0 < length end → ends_with nat_eq text end ≡ true
     → get_or text (length text - 1) 0 ≡ get_or end (length end - 1) 0
 last_is text end some ends =
@@ -19,6 +20,7 @@ last_is text end some ends =
     ap (λ n. get_or text n 0) place ∙ sym (get_or-drop (length text - length end) text (length end - 1) 0)
     ∙ ap (λ t. get_or t (length end - 1) 0) (sym is)
 
+-- a text whose last byte is another does not end with this one
 pub not_alike : (text end : List ℕ) (last wanted : ℕ) → 0 < length end → last ≡ get_or text (length text - 1) 0
     → wanted ≡ get_or end (length end - 1) 0
     → (last == wanted) ≡ false → ends_with nat_eq text end ≡ false
@@ -28,10 +30,11 @@ not_alike text end last wanted some last_at wanted_at differ = by (ends_with nat
     by false e = e
     by true e = absurd (let z : true ≡ false = sym ((Decides-eqb last wanted).1 (last_at ∙ last_is text end some e ∙ sym wanted_at)) ∙ differ in cc)
 
+-- a length that is not 0
 pub some_there : (n : ℕ) (empty : Bool) → empty ≡ (n == 0) → empty ≡ false → 0 < n
 some_there n empty tests is = grind (arith, nat_tests)
 
--- so a key with another end is not a suffix
+-- a key with which a name doesn't end is not its suffix
 pub is_no_suffix : (name key : List ℕ) → ends_with nat_eq name key ≡ false → false ≡ is_suffix_of name key
 is_no_suffix name key differ = sym (by (begins_with_at key) (nat_lt (length key) (length name)) (ends_with nat_eq name key) differ)
   where

@@ -8,7 +8,8 @@ use Rattle.drv_specs.specs.Sets.{Set, no_specs}
 use Rattle.std.proofs.Common.{◌≡◌, ◌++◌, Err, List, [], ◌∷◌, None, Ok, Option, Result, Some, refl, ℕ}
 use Rattle.std.specs.Prelude.{codes}
 
--- Examples of the languages of inputs, which the prover computes. Built-in texts of languages are recognized by their first bytes.
+-- Examples of the languages of inputs, which the prover computes: by -x, else by the last suffix pair that fits the name. `shown` is the
+-- language chosen; built-in texts of languages are recognized by their first bytes.
 
 abbrev file : List ℕ → Input
 file name = File name None
@@ -269,7 +270,7 @@ later_counts : shown (chosen_for (of_pairs ((codes ".tar.q", codes "#long") ∷ 
 unfolding builtin_named builtin_pairs
 later_counts = refl
 
--- and the longer suffix counts if it comes later
+-- the longer suffix counts if it comes later
 later_counts_again : shown (chosen_for (of_pairs ((codes ".q", codes "#short") ∷ (codes ".tar.q", codes "#long") ∷ []))
     (file (codes "f.tar.q"))) ≡ Absent (codes "long")
 unfolding builtin_named builtin_pairs
@@ -290,7 +291,7 @@ text_of_a_suffix : shown (chosen_for (of_pairs ((codes ".q", codes "prog %i") �
 unfolding builtin_named builtin_pairs
 text_of_a_suffix = refl
 
--- and with an empty text
+-- a suffix with an empty text
 empty_text_of_a_suffix : shown (chosen_for (of_pairs ((codes ".q", []) ∷ [])) (file (codes "f.q"))) ≡ InText []
 unfolding builtin_named builtin_pairs
 empty_text_of_a_suffix = refl

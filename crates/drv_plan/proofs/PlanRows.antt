@@ -17,14 +17,17 @@ use Rattle.std.proofs.Common.{◌≡◌, Err, List, [], ◌∷◌, None, Ok, Opt
 use Rattle.std.specs.Fmt.{digits}
 use Rattle.std.specs.Prelude.{codes}
 
--- Examples of plans, which the prover computes. No name is searched for, and TMPDIR is unset.
+-- Examples of plans, which the prover computes from `denoted`: jobs in the order of the inputs, the link, notices, and the first refusal.
+-- No name is searched for, and TMPDIR is unset.
 
 abbrev facts : Facts
 facts = record no_facts { variables = (codes "TMPDIR", None) ∷ [] }
 
+-- no folder is searched
 abbrev pub no_prefixes : Prefixes
 no_prefixes = record { programs = []; libraries = [] }
 
+-- a line of these switches and inputs
 abbrev pub line_of : List Switch → List Input → Line
 line_of switches inputs = record {
   switches = switches;
@@ -49,6 +52,7 @@ line_of switches inputs = record {
 abbrev plan : Set → List Switch → List Input → Planned Plan
 plan set switches inputs = planned facts set inputs (context_of (line_of switches inputs) set no_prefixes 42)
 
+-- an input file without -x
 abbrev pub file : List ℕ → Input
 file name = File name None
 
@@ -56,9 +60,11 @@ file name = File name None
 abbrev pub command : List ℕ → List (List ℕ) → List Command
 command program words = record { program = program; words = words } ∷ []
 
+-- temporaries without contents
 abbrev pub temps_of : List (List ℕ) → List Temp
 temps_of paths = map (λ path. record { path = path; contents = [] }) paths
 
+-- a job of this source, with these commands, temporaries and output
 abbrev pub job : Option ℕ → List (List Command) → List (List ℕ) → Option (List ℕ) → Job
 job source groups temps output = record {
   source = source;

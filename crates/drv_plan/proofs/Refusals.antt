@@ -16,6 +16,7 @@ use Rattle.std.specs.Prelude.{◌≢◌, IfErr, codes, if◌then◌else◌}
 abbrev Refused : {X : Type 0} → Result X PlanFault → Type 0
 Refused given = (fault : MachineFault) → given ≢ Err (Machine fault)
 
+-- a language that a pair names is refused by no text
 no_text_in : (language : List ℕ) (pair : Option PairText) → Refused (in_language language pair)
 no_text_in language None fault e = absurd cc
 no_text_in language (Some (Alias other)) fault e = absurd cc
@@ -29,29 +30,33 @@ no_text_chosen (Err refusal) none fault e = let same : refusal ≡ Machine fault
 no_text_by : (set : Set) (language : List ℕ) → Refused (chosen (by_language set language))
 no_text_by set language = no_text_chosen (by_language set language) (no_text_in language (last_pair set (is_of_language language)))
 
+-- a file with this suffix's pair is refused by no text
 no_text_with : (set : Set) (pair : Option PairText) → Refused (with_suffix set pair)
 no_text_with set None fault e = absurd cc
 no_text_with set (Some (Alias language)) fault e = no_text_by set language fault e
 no_text_with set (Some (Missing compiler)) fault e = absurd cc
 no_text_with set (Some (Worked text)) fault e = absurd cc
 
+-- a file, or standard input, is refused by no text
 no_text_for : (set : Set) (name : List ℕ) (standard : Bool)
     → Refused (if standard then chosen (by_language set (codes "c")) else by_suffix set name)
 no_text_for set name true = no_text_by set (codes "c")
 no_text_for set name false = no_text_with set (last_pair set (is_suffix_of name))
 
+-- the language of an input is found or refused, but not by a text's refusal
 pub no_text : (set : Set) (input : Input) → Refused (chosen_for set input)
 no_text set (File name (Some language)) fault e = no_text_by set language fault e
 no_text set (File name None) fault e = no_text_for set name (is_standard_input name) fault e
 no_text set (Library word) fault e = absurd cc
 no_text set (LinkWord word) fault e = absurd cc
 
--- so the refusal is not the machine's lack of memory
+-- the refusal of a language is not the machine's lack of memory
 pub no_want : (set : Set) (input : Input) (refusal : PlanFault) → (refusal ≡ Memory) ⊎ (chosen_for set input ≡ Err refusal)
     → refusal ≢ Machine machine.Memory
 no_want set input refusal (inl memory) e = absurd (let no : Memory ≡ Machine machine.Memory = sym memory ∙ e in cc)
 no_want set input refusal (inr refuses) e = no_text set input machine.Memory (refuses ∙ ap (λ f. Err f) e)
 
+-- a refusal of the code's look-up of a language is not the machine's lack of memory
 pub language_apart : {X : Type 0} (view : X → Option Chosen) (result : Result X PlanFault) (set : Set) (input : Input)
     → Gives Memory view result (chosen_for set input)
     → IfErr result (λ refusal. refusal ≢ Machine machine.Memory)

@@ -17,7 +17,8 @@ use Rattle.std.proofs.Common.{ℕ}
 use Rattle.std.specs.Option.{option_map}
 use Rattle.std.specs.Prelude.{codes}
 
--- For reload_law: a set whose list of pairs is repeated gives the same plans.
+-- For reload_law: a set whose list of pairs is repeated, as a dump loaded over its set gives, gives the same plans: of the pairs that fit a
+-- name the last one counts.
 
 -- the later of two, if there is one
 abbrev or_first : Option (List ℕ) → Option (List ℕ) → Option (List ℕ)
@@ -32,6 +33,7 @@ or_same : (later : Option (List ℕ)) → or_first later later ≡ later
 or_same None = refl
 or_same (Some later) = refl
 
+-- the later of two, with one more before
 before_first : (later first : Option (List ℕ)) (hit : Bool) (text : List ℕ) → or_before (or_first later first) hit text ≡ or_first later
     (or_before first hit text)
 before_first None first hit text = refl
@@ -54,6 +56,7 @@ pair_doubled set fits = ap (option_map pair_meaning) (last_doubled fits set.pair
 by_language_doubled : (set : Set) (language : List ℕ) → by_language (doubled set) language ≡ by_language set language
 by_language_doubled set language = ap (in_language language) (pair_doubled set (is_of_language language))
 
+-- a suffix has the same meaning in the doubled set
 with_suffix_doubled : (set : Set) (pair : Option PairText) → with_suffix (doubled set) pair ≡ with_suffix set pair
 with_suffix_doubled set None = refl
 with_suffix_doubled set (Some (Alias language)) = ap chosen (by_language_doubled set language)
@@ -68,6 +71,7 @@ either_alike : {X : Type 0} (hit : Bool) (a a' b b' : X) → a ≡ a' → b ≡ 
 either_alike true a a' b b' first second = first
 either_alike false a a' b b' first second = second
 
+-- an input has the same language if the list of pairs is repeated
 pub language_doubled : (set : Set) (input : Input) → chosen_for (doubled set) input ≡ chosen_for set input
 language_doubled set (File name (Some language)) = ap chosen (by_language_doubled set language)
 language_doubled set (File name None) =
@@ -84,12 +88,14 @@ then_alike Unasked next next' same = refl
 then_alike (Is (Ok x)) next next' same = same x
 then_alike (Is (Err fault)) next next' same = refl
 
+-- an input gives the same in the doubled set
 input_doubled : (F : Facts) (set : Set) (place : ℕ) (input : Input) (g : Progress) → with_input F (doubled set) place input g
     ≡ with_input F set place input g
 input_doubled F set place (File name language) g = ap (λ r. with_file F place name r g) (language_doubled set (File name language))
 input_doubled F set place (Library word) g = refl
 input_doubled F set place (LinkWord word) g = refl
 
+-- all inputs give the same in the doubled set
 inputs_doubled : (F : Facts) (set : Set) (place : ℕ) (inputs : List Input) (g : Progress) → with_inputs F (doubled set) place inputs g
     ≡ with_inputs F set place inputs g
 inputs_doubled F set place [] g = refl
@@ -101,11 +107,13 @@ inputs_doubled F set place (input ∷ inputs) g =
 planned_doubled : (F : Facts) (set : Set) (inputs : List Input) (C : Context) → planned F (doubled set) inputs C ≡ planned F set inputs C
 planned_doubled F set inputs C = ap (λ step. then_by step (λ g. finished F set g)) (inputs_doubled F set 0 inputs (begun C))
 
+-- what follows an answer may be replaced by what is the same for each value
 known_alike : {X Y : Type 0} (known : Known X) (next next' : X → Known Y) → ((x : X) → next x ≡ next' x)
     → (known >>= next) ≡ (known >>= next')
 known_alike Unasked next next' same = refl
 known_alike (Is x) next next' same = same x
 
+-- a line has the same plan if the set's list of pairs is repeated
 pub denoted_doubled : (F : Facts) (line : Line) (set : Set) (seed : ℕ) → denoted F line (doubled set) seed ≡ denoted F line set seed
 denoted_doubled F line set seed =
     known_alike (prefixes_of F line.settings.prefixes) (λ prefixes. planned F (doubled set) line.inputs

@@ -26,7 +26,9 @@ use Rattle.std.proofs.Common.{false, if◌then◌else◌, length, refl, subst, s
 use Rattle.std.specs.List.{flat_map}
 use Rattle.std.specs.Prelude.{◌==◌, codes}
 
--- For plan_law: the defined plan is the one that the outcomes of its texts give.
+-- For plan_law: the defined plan is the one that the outcomes of its texts give (`IsPlanOf`, specs/Plans). A part is what an input gives: a
+-- text to be processed, an object file, or a word for the linker. `Ran` says what the outcomes of some parts make of the progress before
+-- them.
 
 -- the progress after a text
 abbrev state : Context → Option Outcome → Option Source → List (List ℕ) → List Job → List (List ℕ) → List (List ℕ) → Progress
@@ -38,7 +40,7 @@ state C before input notices jobs words names = record {
   passed_on = names;
 }
 
--- the progress after these parts too, with their results
+-- what these parts, with the outcomes of their texts, make of the progress before them
 record Ran (F : Facts) (C : Context) (before : Option Outcome) (ps : List Part) (notices : List (List ℕ)) (jobs : List Job)
     (words names : List (List ℕ)) (g : Progress) : Type 0 where
   outcomes : List Outcome
@@ -47,6 +49,7 @@ record Ran (F : Facts) (C : Context) (before : Option Outcome) (ps : List Part) 
   is : g ≡ state C (last before outcomes) input (notices ++ flat_map (λ o. o.notices) outcomes) (jobs ++ jobs_of ps outcomes)
       (words ++ link_words ps outcomes) (names ++ objects ps)
 
+-- progress by the same lists is the same
 same_state : (C : Context) (b : Option Outcome) (i : Option Source) {ns ns' : List (List ℕ)} {js js' : List Job}
     {ws ws' zs zs' : List (List ℕ)}
     → ns ≡ ns' → js ≡ js' → ws ≡ ws' → zs ≡ zs' → state C b i ns js ws zs ≡ state C b i ns' js' ws' zs'
@@ -63,6 +66,7 @@ Follows F C ps next g = (before : Option Outcome) (input : Option Source) (notic
     (words names : List (List ℕ))
     → next (state C before input notices jobs words names) ≡ Is (Ok g) → Ran F C before ps notices jobs words names g
 
+-- a word for the linker, and the parts after it
 a_word : (F : Facts) (C : Context) (before : Option Outcome) (word : List ℕ) (ps : List Part) (notices : List (List ℕ)) (jobs : List Job)
     (words names : List (List ℕ)) (g : Progress)
     → Ran F C before ps notices jobs (words ++ word ∷ []) names g → Ran F C before (Word word ∷ ps) notices jobs words names g
@@ -73,6 +77,7 @@ a_word F C before word ps notices jobs words names g r = record {
   is = r.is ∙ same_state C (last before r.outcomes) r.input refl refl (append_assoc words (word ∷ []) (link_words ps r.outcomes)) refl;
 }
 
+-- a file of the linker, and the parts after it
 an_object : (F : Facts) (C : Context) (before : Option Outcome) (name : List ℕ) (ps : List Part) (notices : List (List ℕ)) (jobs : List Job)
     (words names : List (List ℕ)) (g : Progress)
     → Ran F C before ps notices jobs (words ++ name ∷ []) (names ++ name ∷ []) g
@@ -85,6 +90,7 @@ an_object F C before name ps notices jobs words names g r = record {
       (append_assoc names (name ∷ []) (objects ps));
 }
 
+-- a file of any kind, and the parts after it
 a_file : (F : Facts) (C : Context) (before : Option Outcome) (input : Option Source) (place : ℕ) (name : List ℕ)
     (r : Result (Option Chosen) PlanFault) (ps : List Part) (next : Progress → Planned Progress) (notices : List (List ℕ)) (jobs : List Job)
     (words names : List (List ℕ)) (g : Progress)
@@ -120,6 +126,7 @@ a_file F C before input place name (Ok (Some c)) ps next notices jobs words name
               (append_assoc words (output_list o.job.output) (link_words ps r.outcomes)) refl;
         }
 
+-- all inputs of a line, as parts with the outcomes of their texts
 ran : (F : Facts) (C : Context) (set : Set) (place : ℕ) (inputs : List Input) (g : Progress)
     → Follows F C (parts set place inputs) (λ p. with_inputs F set place inputs p) g
 ran F C set place [] g before input notices jobs words names e = record {
@@ -144,12 +151,14 @@ ran F C set place (LinkWord word ∷ inputs) g before input notices jobs words n
 
 -- the link
 
+-- what the end of the plan makes of the progress: its jobs, link and notices
 record Ends (F : Facts) (C : Context) (text : Option (List ℕ)) (g : Progress) (plan : Plan) : Type 0 where
   jobs_are : plan.jobs ≡ g.jobs
   link_notices : List (List ℕ)
   link_is : LinkIs F (record g.context { input = None; outputs = g.outputs }) text plan.link link_notices
   notices_are : plan.notices ≡ g.notices ++ link_notices ++ unused plan.link g.passed_on
 
+-- without a link the plan has the jobs and the notices so far
 with_no_link : (F : Facts) (C : Context) (g : Progress) → Ends F C None g (plan_of (None, g))
 with_no_link F C g = record {
   jobs_are = refl;
@@ -159,6 +168,7 @@ with_no_link F C g = record {
       (sym (append-nil g.notices));
 }
 
+-- the link, and the end of the plan
 ended : (F : Facts) (C : Context) (text : Option (List ℕ)) (g : Progress) (plan : Plan)
     → then_by (with_text F text g) (λ done. Is (Ok (plan_of done))) ≡ Is (Ok plan) → Ends F C text g plan
 ended F C None g plan e = let at : plan_of (None, g) ≡ plan = cc in subst (λ p. Ends F C None g p) at (with_no_link F C g)
@@ -179,6 +189,7 @@ ended F C (Some text) g plan e = by (outcome F (record g.context { input = None;
           notices_are = refl;
         })
 
+-- the link, by the text that is looked up for it
 with_link_is : (F : Facts) (set : Set) (g : Progress) → with_link F set g ≡ with_text F (link_text set g.outputs) g
 with_link_is F set g = by (length g.outputs == 0)
   where
@@ -189,6 +200,7 @@ with_link_is F set g = by (length g.outputs == 0)
 
 -- a line
 
+-- a plan that the definition gives for known prefixes
 over : (F : Facts) (line : Line) (set : Set) (seed : ℕ) (plan : Plan) (prefixes : Prefixes)
     → prefixes_of F line.settings.prefixes ≡ Is prefixes → planned F set line.inputs (context_of line set prefixes seed) ≡ Is (Ok plan)
     → IsPlanOf F line set seed plan
@@ -222,6 +234,7 @@ over F line set seed plan prefixes known e = by (with_inputs F set 0 line.inputs
               notices_are = x.notices_are;
             }
 
+-- a plan that the definition gives is the one of its texts' outcomes
 pub is_plan_of : (F : Facts) (line : Line) (set : Set) (seed : ℕ) (plan : Plan) → denoted F line set seed ≡ Is (Ok plan)
     → IsPlanOf F line set seed plan
 is_plan_of F line set seed plan e = by (prefixes_of F line.settings.prefixes) refl e

@@ -4,12 +4,14 @@ use Rattle.std.proofs.Common.{◌≡◌, ◌<◌, subst, sym, ℕ}
 
 -- For `choose_source`: choosing a source changes no event, and each number below the choices can be chosen.
 
+-- the number of choices depends on the plan, the window and the events alone
 pub choices_kept : (r s : Run) (n : ℕ) → ChoicesAre r.plan r.window r.events n → s.plan ≡ r.plan → s.window ≡ r.window → s.events ≡ r.events
     → ChoicesAre s.plan s.window s.events n
 choices_kept r s n are plan window events =
     subst (λ p. ChoicesAre p s.window s.events n) (sym plan)
     (subst (λ w. ChoicesAre r.plan w s.events n) (sym window) (subst (λ e. ChoicesAre r.plan r.window e n) (sym events) are))
 
+-- a number below the choices can be chosen
 one : (s : Run) (n k : ℕ) → ChoicesAre s.plan s.window s.events n → k < n → IsChoice s.plan s.window s.events k
 one s n k are lt = record {
   counted = λ b. subst (λ m. k < m) (are.counted b) lt;
@@ -17,6 +19,7 @@ one s n k are lt = record {
       λ none. subst (λ m. k < m) (are.elsewhere none) lt;
 }
 
+-- a number below it can be chosen
 pub is_choice : (r s : Run) (n k : ℕ) → ChoicesAre r.plan r.window r.events n → s.plan ≡ r.plan → s.window ≡ r.window → s.events ≡ r.events
     → k < n → IsChoice s.plan s.window s.events k
 is_choice r s n k are plan window events lt = one s n k (choices_kept r s n are plan window events) lt

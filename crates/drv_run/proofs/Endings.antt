@@ -14,18 +14,20 @@ use Rattle.drv_words.specs.Stepping.{pipe_pending}
 use Rattle.std.proofs.Common.{◌≡◌, ◌∙◌, ◌++◌, Err, List, Ok, [], ap, codes, false, refl, subst, sym, ℕ}
 use Rattle.std.proofs.lemmas.List.{append-nil}
 
--- For `drive`: each way to end is one that the contract has.
+-- For `drive`: each way to end is one that the contract has (`Drove`): before its work is done, for a refusal or lack of memory; with its
+-- work done; or for lack of memory in its work.
 
 -- the answers to the questions of a call that began with an empty table
 known : {journal journal' : List Event} {F F' : Facts} → F ≡ no_facts → (asks : Asks journal journal' F F') → F' ≡ learn no_facts asks.asked
 known empty asks = asks.facts_grow ∙ ap (λ G. learn G asks.asked) empty
 
+-- a call that ends before its work says nothing after its questions
 ends_before : (F : Facts) (args : List (List ℕ)) (seed : ℕ) (ending : Ending) → Comes F args seed (Err ending) → Ends F args seed ending []
 ends_before F args seed (Done status) comes = absurd comes
 ends_before F args seed (Refused refusal) comes = (comes, refl)
 ends_before F args seed OutOfMemory comes = tt
 
--- before its work is done
+-- a call that ended before its work was done has an ending of the contract
 pub drove_before : {journal journal' : List Event} {F F' : Facts} (args : List (List ℕ)) (seed : ℕ) (ending : Ending) → F ≡ no_facts
     → Asks journal journal' F F' → ((G : Facts) → Extends F' G → Comes G args seed (Err ending)) → Drove journal journal' args seed ending
 drove_before {journal} {F' = F'} args seed ending empty asks comes = record {
@@ -37,7 +39,7 @@ drove_before {journal} {F' = F'} args seed ending empty asks comes = record {
       (subst (λ G. Comes G args seed (Err ending)) (known empty asks) (comes F' (extends_refl F')));
 }
 
--- with its work done
+-- a call whose work is done
 drove_done : {journal journal' journal'' : List Event} {F F' : Facts} {args : List (List ℕ)} {seed status : ℕ} {work : Work} → F ≡ no_facts
     → Asks journal journal' F F' → ((G : Facts) → Extends F' G → Comes G args seed (Ok work))
     → DoesWork (codes "gdrv") journal' journal'' work status
@@ -50,7 +52,7 @@ drove_done {F' = F'} {args = args} {seed = seed} {work = work} empty asks comes 
   ends = (work, subst (λ G. Drives G args seed work) (known empty asks) (comes F' (extends_refl F')), does.2);
 }
 
--- and where memory is wanted for it
+-- a call that lacked memory for its work: it only said something
 drove_short : {journal journal' journal'' : List Event} {F F' : Facts} {args : List (List ℕ)} {seed : ℕ} → F ≡ no_facts
     → Asks journal journal' F F' → OnlySays journal' journal'' → Drove journal journal'' args seed OutOfMemory
 drove_short empty asks only = record {
@@ -61,7 +63,7 @@ drove_short empty asks only = record {
   ends = only.2;
 }
 
--- however its work ends it
+-- a call that had a work, however that ended, has an ending of the contract
 pub drove_with_work : {journal journal' journal'' : List Event} {F F' : Facts} (args : List (List ℕ)) (seed : ℕ) (work : Work)
     (ending : Ending) → F ≡ no_facts
     → Asks journal journal' F F' → ((G : Facts) → Extends F' G → Comes G args seed (Ok work)) → EndsWork journal' journal'' work ending
@@ -72,6 +74,7 @@ drove_with_work args seed work OutOfMemory empty asks comes only = drove_short e
 
 -- what the table keeps
 
+-- a call that ended before its work ended by the answers in its table
 pub keeps_before : (F : Facts) (args : List (List ℕ)) (seed : ℕ) (ending : Ending)
     → ((G : Facts) → Extends F G → Comes G args seed (Err ending)) → Keeps F args seed ending
 keeps_before F args seed ending comes = by ending (comes F (extends_refl F))
@@ -81,18 +84,21 @@ keeps_before F args seed ending comes = by ending (comes F (extends_refl F))
     by (Refused refusal) comes = comes
     by OutOfMemory comes = tt
 
+-- a call with a work, however that ended, ended by the answers in its table
 pub keeps_with_work : (journal journal' : List Event) (F : Facts) (args : List (List ℕ)) (seed : ℕ) (work : Work) (ending : Ending)
     → ((G : Facts) → Extends F G → Comes G args seed (Ok work)) → EndsWork journal journal' work ending → Keeps F args seed ending
 keeps_with_work journal journal' F args seed work (Done status) comes does = (work, comes F (extends_refl F))
 keeps_with_work journal journal' F args seed work (Refused refusal) comes does = absurd does
 keeps_with_work journal journal' F args seed work OutOfMemory comes only = tt
 
+-- the end of a work is no lack of memory under another name
 pub work_ends_apart : (journal journal' : List Event) (work : Work) (ending : Ending) → EndsWork journal journal' work ending
     → IsApart ending
 work_ends_apart journal journal' work (Done status) does = tt
 work_ends_apart journal journal' work (Refused refusal) does = absurd does
 work_ends_apart journal journal' work OutOfMemory only = tt
 
+-- questions leave no pipe pending
 pub no_pipe_after_questions : {journal journal' : List Event} {F F' : Facts} → Asks journal journal' F F'
     → pipe_pending (run_of journal) ≡ false → pipe_pending (run_of journal') ≡ false
 no_pipe_after_questions {journal} {F = F} asks before =

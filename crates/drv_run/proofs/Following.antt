@@ -22,12 +22,15 @@ use Rattle.std.proofs.Common.{refl, ap, sym, subst, ◌∙◌}
 use Rattle.std.specs.List.{list_any}
 use Rattle.std.specs.Prelude.{◌≡◌, ◌≤◌, ◌&&◌, ◌||◌, Bool, List, [], ◌∷◌, ◌++◌, false, length, map, not, true, ℕ}
 
--- For `execute`: after a journal without a pending pipe, a run's events allow the same steps and answers as alone.
+-- For `execute`: after a journal without a pending pipe, a run's events allow the same steps and answers as alone. The journal holds the
+-- questions and messages of a call beside the events of its run (`run_of`).
 
+-- the events of a run are those that the journal has of it
 pub run_is : (events : List RunEvent) → run_of (map Run events) ≡ events
 run_is [] = refl
 run_is (e ∷ events) = ap (λ rest. e ∷ rest) (run_is events)
 
+-- the run's events follow those that the journal had
 pub run_after : (journal : List Event) (events : List RunEvent) → run_of (journal ++ map Run events) ≡ run_of journal ++ events
 run_after journal events = run_of-append journal (map Run events) ∙ ap (λ rest. run_of journal ++ rest) (run_is events)
 
@@ -35,12 +38,14 @@ and_parts : (a b : Bool) → (a && b) ≡ true → (a ≡ true) × (b ≡ true)
 and_parts true b e = (refl, e)
 and_parts false b e = absurd cc
 
+-- two booleans that compare as equal are the same
 same : (a b : Bool) → same_bool a b ≡ true → a ≡ b
 same true true e = refl
 same true false e = absurd cc
 same false true e = absurd cc
 same false false e = refl
 
+-- a step that can be made in the run alone can be made after the journal
 pub can_after : (plan : Plan) (journal : List Event) (events : List RunEvent) (s : Step) → pipe_pending (run_of journal) ≡ false
     → can_make plan events s ≡ true → CanMake plan (journal ++ map Run events) s
 can_after plan journal events (step.Claim p) none can = can
@@ -61,6 +66,7 @@ can_after plan journal events (step.Report n) none can = can
 
 -- a number that is new after both is new after the run's own events
 
+-- a child's number that is new after all events is new after the later ones
 new_rest : (id : ℕ) (before events : List RunEvent) → is_new id (before ++ events) ≡ true → is_new id events ≡ true
 new_rest id [] events is = is
 new_rest id (e ∷ before) events is = new_rest id before events
@@ -74,6 +80,7 @@ start_rest : (before events : List RunEvent) (x : StartAnswer) → fits_start (b
 start_rest before events (start.Started id) is = new_rest id before events is
 start_rest before events (start.NotStarted why) is = is
 
+-- an answer that fits after all events fits after the later ones
 fits_rest : (before events : List RunEvent) (s : Step) (a : Answer) → fits (before ++ events) s a ≡ true → fits events s a ≡ true
 fits_rest before events (step.Claim p) (answer.Claim x) is = is
 fits_rest before events (step.Start p from_pipe to_pipe) (answer.Start x) is = start_rest before events x is
@@ -83,6 +90,7 @@ fits_rest before events (step.Remove p) (answer.Remove x) is = is
 fits_rest before events (step.Report n) (answer.Reported told) is = is
 fits_rest before events s a is = absurd cc
 
+-- an answer that fits after the journal fits in the run alone
 pub fits_after : (journal : List Event) (events : List RunEvent) (s : Step) (a : Answer)
     → fits (run_of (journal ++ map Run events)) s a ≡ true → fits events s a ≡ true
 fits_after journal events s a is = fits_rest (run_of journal) events s a (subst (λ run. fits run s a ≡ true) (run_after journal events) is)
@@ -94,7 +102,7 @@ pub closed_after : (journal journal' : List Event) (events : List RunEvent) → 
 closed_after journal journal' events grows none closed = ap (λ j. pipe_pending (run_of j)) grows
     ∙ ap pipe_pending (run_after journal events) ∙ pending_of_rest (run_of journal) events none ∙ closed
 
--- a whole run, in the words of a caller
+-- a whole run after a journal is a plan carried out, as a caller sees it
 pub executed : (plan p : Plan) (pass_codes q : FailureStatus) (N n : ℕ) (journal journal' : List Event) (status : ℕ)
     (events : List RunEvent)
     → journal' ≡ journal ++ map Run events → p ≡ plan → q ≡ pass_codes → n ≡ N → length events ≤ needed p → (w : IsWhole p n events)

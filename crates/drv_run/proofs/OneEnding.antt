@@ -17,11 +17,13 @@ use Rattle.drv_system.specs.Facts.{Facts}
 use Rattle.drv_system.specs.Known.{Is}
 use Rattle.std.proofs.Common.{◌≡◌, ◌∙◌, Bool, Err, List, Ok, Result, ap, nat_lt, sym, ℕ}
 
--- For one_ending: arguments ask for one work or are refused for one reason, and never both.
+-- For one_ending: arguments ask for one work or are refused for one reason, and never both. The lemmas go step by step: words, line, specs,
+-- work; each step has one result.
 
 abbrev expanded_by : (words : List (List ℕ)) (from_file : Bool) → Expanded
 expanded_by words from_file = record { words = words; from_file = from_file }
 
+-- words expand to one list
 one_expanded : (F : Facts) (args : List (List ℕ)) (a b : Expanded) → Expands F 2000 args (Ok a) → Expands F 2000 args (Ok b) → a ≡ b
 one_expanded F args a b (left, responds, is) (left', responds', is') =
     let same = responds_once F 2000 left left' args a.words b.words responds responds' in
@@ -43,12 +45,13 @@ one_reading : (F : Facts) (args : List (List ℕ)) (a b : Expanded) (x y : Resul
     → Words F args a → Words F args b → line_read a ≡ x → line_read b ≡ y → x ≡ y
 one_reading F args a b x y gives gives' reads reads' = sym reads ∙ ap line_read (one_words F args a b gives gives') ∙ reads'
 
+-- words are read as one line
 one_line : (F : Facts) (args : List (List ℕ)) (a b : Expanded) (l m : Line)
     → Words F args a → Words F args b → line_read a ≡ Ok l → line_read b ≡ Ok m → l ≡ m
 one_line F args a b l m gives gives' reads
     reads' = let same : Ok l ≡ Ok m = one_reading F args a b (Ok l) (Ok m) gives gives' reads reads' in cc
 
--- what a line that is read loads
+-- one line loads one set, or is refused for one reason
 one_loading : (F : Facts) (args : List (List ℕ)) (a b : Expanded) (l m : Line) (x y : Result Set SpecsFault)
     → Words F args a → Words F args b → line_read a ≡ Ok l → line_read b ≡ Ok m → specs_of F l.settings ≡ Is x
     → specs_of F m.settings ≡ Is y → x ≡ y
@@ -56,7 +59,7 @@ one_loading F args a b l m x y gives gives' reads reads' loads loads' =
     let lines : l ≡ m = one_line F args a b l m gives gives' reads reads' in
     let e : Is x ≡ Is y = sym loads ∙ ap (λ line. specs_of F line.settings) lines ∙ loads' in cc
 
--- and what is done for it
+-- one line with one set of specs asks for one work
 one_work : (F : Facts) (args : List (List ℕ)) (seed : ℕ) (a b : Expanded) (l m : Line) (s t : Set) (x y : Result Work PlanFault)
     → Words F args a → Words F args b → line_read a ≡ Ok l → line_read b ≡ Ok m → specs_of F l.settings ≡ Is (Ok s)
     → specs_of F m.settings ≡ Is (Ok t)
@@ -67,6 +70,7 @@ one_work F args seed a b l m s t x y gives gives' reads reads' loads loads' work
     let same : s ≡ t = cc in
     let e : Is x ≡ Is y = sym works ∙ ap (λ line. work_of F line s seed) lines ∙ ap (λ set. work_of F m set seed) same ∙ works' in cc
 
+-- arguments ask for one work
 pub driven_once : (F : Facts) (args : List (List ℕ)) (seed : ℕ) (a b : Work) → Drives F args seed a → Drives F args seed b → a ≡ b
 driven_once F args seed a b d e =
     let same : Ok a ≡ Ok b = one_work F args seed d.words e.words d.line e.line d.set e.set (Ok a)
@@ -93,13 +97,14 @@ not_read_twice : (F : Facts) (args : List (List ℕ)) (a b : Expanded) (line : L
 not_read_twice F args a b line fault gives gives' reads reads' =
     let same : Ok line ≡ Err fault = one_reading F args a b (Ok line) (Err fault) gives gives' reads reads' in cc
 
--- and specs that are loaded aren't refused
+-- specs that are loaded are not refused
 not_loaded_twice : (F : Facts) (args : List (List ℕ)) (a b : Expanded) (l m : Line) (set : Set) (fault : SpecsFault)
     → Words F args a → Words F args b → line_read a ≡ Ok l → line_read b ≡ Ok m → specs_of F l.settings ≡ Is (Ok set)
     → specs_of F m.settings ≡ Is (Err fault) → ⊥
 not_loaded_twice F args a b l m set fault gives gives' reads reads' loads loads' =
     let same : Ok set ≡ Err fault = one_loading F args a b l m (Ok set) (Err fault) gives gives' reads reads' loads loads' in cc
 
+-- arguments that ask for a work are not refused
 pub driven_alone : (F : Facts) (args : List (List ℕ)) (seed : ℕ) (work : Work) (refusal : Refusal) → Drives F args seed work
     → Refuses F args seed refusal → ⊥
 driven_alone F args seed work (Args fault) d (not_expanded refused) = not_worded F args d.words fault d.gives refused
@@ -113,6 +118,7 @@ driven_alone F args seed work (NoPlan fault) d (not_planned {words = w} {line = 
     let same : Ok work ≡ Err fault = one_work F args seed d.words w d.line line d.set set (Ok work)
     (Err fault) d.gives gives d.reads reads d.loads loads d.works works in cc
 
+-- arguments are refused for one reason
 pub refused_for_one : (F : Facts) (args : List (List ℕ)) (seed : ℕ) (r s : Refusal) → Refuses F args seed r → Refuses F args seed s → r ≡ s
 refused_for_one F args seed (Args f) (Args g) (not_expanded refused) (not_expanded refused') =
     ap Args (refused_once F 2000 (after_c99 args) f g refused refused')

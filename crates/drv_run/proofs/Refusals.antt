@@ -13,8 +13,9 @@ use Rattle.drv_words.specs.declared.plan.Plan.{Plan}
 use Rattle.std.proofs.Common.{◌≡◌, ◌∙◌, ◌++◌, [], List, ap, ℕ}
 use Rattle.std.proofs.lemmas.List.{append-nil}
 
--- For refused_does_nothing and shown_starts_nothing: such a call makes no step of a run.
+-- For refused_does_nothing and shown_starts_nothing: a call that is refused, or whose plan is only shown (-###), makes no step of a run.
 
+-- a call that is refused asked, and did nothing else
 pub does_nothing : (journal later : List Event) (args : List (List ℕ)) (seed : ℕ) (refusal : Refusal)
     → Drove journal later args seed (Refused refusal) → OnlyAsked journal later
 does_nothing journal later args seed refusal d = record {
@@ -29,5 +30,6 @@ does_nothing journal later args seed refusal d = record {
     grows : later ≡ journal ++ d.asked
     grows = d.journal_grows ∙ ap (λ said. journal ++ d.asked ++ said) d.ends.1 ∙ append-nil (journal ++ d.asked)
 
+-- a plan that is shown makes no step of a run
 pub makes_no_step : (name : List ℕ) (plan : Plan) (status : ℕ) (said : List Event) → Does name (Show plan) status said → run_of said ≡ []
 makes_no_step name plan status said shows = none_ran said (announces_only name Commands plan said (status, shows))

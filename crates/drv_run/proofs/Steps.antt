@@ -30,7 +30,8 @@ use Rattle.drv_words.specs.declared.plan.Plan.{Plan}
 use Rattle.std.proofs.Common.{◌≡◌, ◌≤◌, ◌⊎◌, ◌∙◌, Bool, Err, IsErrAnd, List, Ok, Result, ap, false, inl, inr, subst, sym, true, ℕ}
 use Rattle.std.specs.Prelude.{if◌then◌else◌}
 
--- For `work_of`: the fault of each step is the refusal of the call.
+-- For `work_of`: the fault of each step (words, line, specs, plan) is the refusal of the call, and lack of memory in any of them ends it
+-- out of memory.
 
 -- a call that ends without work
 ended_as : (F : Facts) (args : List (List ℕ)) (seed : ℕ) (ending : Ending) (result : Result Work Ending) → IsErrAnd result (λ e. e ≡ ending)
@@ -38,7 +39,7 @@ ended_as : (F : Facts) (args : List (List ℕ)) (seed : ℕ) (ending : Ending) (
 ended_as F args seed ending (Ok work) is comes = absurd is
 ended_as F args seed ending (Err e) is comes = subst (λ e'. Comes F args seed (Err e')) (sym is) comes
 
--- without words
+-- a call without words ends as `words_of` says
 without_words : (F : Facts) (args : List (List ℕ)) (seed : ℕ) (ending : Ending) → GivesWords F args (Err ending)
     → Comes F args seed (Err ending)
 without_words F args seed (Done status) gives = absurd gives
@@ -48,11 +49,12 @@ without_words F args seed (Refused (NoFront fault)) (expanded, expands, fronts) 
 without_words F args seed (Refused (NoSpecs fault)) gives = absurd gives
 without_words F args seed (Refused (NoPlan fault)) gives = absurd gives
 
+-- without words the call ends so
 pub words_end : (F : Facts) (args : List (List ℕ)) (seed : ℕ) (ending : Ending) (result : Result Work Ending)
     → IsErrAnd result (λ e. e ≡ ending) → GivesWords F args (Err ending) → Comes F args seed result
 words_end F args seed ending result is gives = ended_as F args seed ending result is (without_words F args seed ending gives)
 
--- a refusal that a definition has
+-- a refusal of response files or of the line, as the definition has it, ends the call
 refused_args : (F : Facts) (args : List (List ℕ)) (seed : ℕ) (fault : ArgsFault) → Refuses F args seed (Args fault)
     → Comes F args seed (Err (stopped_by_args fault))
 refused_args F args seed args_fault.Memory refused = tt
@@ -66,6 +68,7 @@ refused_args F args seed args_fault.StdinNeedsLanguage refused = refused
 refused_args F args seed args_fault.OutputWithMany refused = refused
 refused_args F args seed (args_fault.OutputIsInput input) refused = refused
 
+-- the plan's refusal is the call's
 refused_plan : (given : Known (Result Work PlanFault)) (fault : PlanFault) → given ≡ Is (Err fault)
     → ComesOfSpecs given (Err (stopped_by_plan fault))
 refused_plan given plan_fault.Memory refused = tt
@@ -88,6 +91,7 @@ refused_plan given (plan_fault.Machine (machine_fault.Funcs (funcs_fault.BadOper
 refused_plan given (plan_fault.UnknownLanguage name) refused = refused
 refused_plan given (plan_fault.NotInstalled name) refused = refused
 
+-- the refusal of a spec file is the call's
 refused_specs : (F : Facts) (args : List (List ℕ)) (seed : ℕ) (fault : SpecsFault) → Refuses F args seed (NoSpecs fault)
     → Comes F args seed (Err (stopped_by_specs fault))
 refused_specs F args seed specs_fault.Memory refused = tt
@@ -117,6 +121,7 @@ by_args : (F : Facts) (args : List (List ℕ)) (seed : ℕ) (fault : ArgsFault) 
 by_args F args seed fault (inl memory) = subst (λ f. Comes F args seed (Err (stopped_by_args f))) (sym memory) tt
 by_args F args seed fault (inr refused) = refused_args F args seed fault refused
 
+-- a fault of a spec file is lack of memory, or the call's refusal
 by_specs : (F : Facts) (args : List (List ℕ)) (seed : ℕ) (fault : SpecsFault)
     → (fault ≡ specs_fault.Memory) ⊎ Refuses F args seed (NoSpecs fault) → Comes F args seed (Err (stopped_by_specs fault))
 by_specs F args seed fault (inl memory) = subst (λ f. Comes F args seed (Err (stopped_by_specs f))) (sym memory) tt
@@ -124,6 +129,7 @@ by_specs F args seed fault (inr refused) = refused_specs F args seed fault refus
 
 -- the steps after the words
 
+-- a line that can't be read ends the call
 pub reading_ends : (F : Facts) (args : List (List ℕ)) (seed : ℕ) (words : Expanded) (fault : ArgsFault) (result : Result Work Ending)
     → IsErrAnd result (λ e. e ≡ stopped_by_args fault) → Words F args words → (fault ≡ args_fault.Memory) ⊎ (line_read words ≡ Err fault)
     → Comes F args seed result
@@ -132,6 +138,7 @@ reading_ends F args seed words fault result is gives (inl memory) =
 reading_ends F args seed words fault result is gives (inr reads) =
     ended_as F args seed (stopped_by_args fault) result is (by_args F args seed fault (inr (not_read gives reads)))
 
+-- specs that can't be loaded end it
 pub loading_ends : (F : Facts) (args : List (List ℕ)) (seed : ℕ) (words : Expanded) (line : Line) (fault : SpecsFault)
     (result : Result Work Ending)
     → IsErrAnd result (λ e. e ≡ stopped_by_specs fault) → Words F args words → line_read words ≡ Ok line
@@ -141,6 +148,7 @@ loading_ends F args seed words line fault result is gives reads (inl memory) =
 loading_ends F args seed words line fault result is gives reads (inr loads) =
     ended_as F args seed (stopped_by_specs fault) result is (by_specs F args seed fault (inr (not_loaded gives reads loads)))
 
+-- with line and specs, what the work gives is what the call gives
 pub line_comes : (F : Facts) (args : List (List ℕ)) (seed : ℕ) (words : Expanded) (line : Line) (set : Set) (result : Result Work Ending)
     → Words F args words → line_read words ≡ Ok line → specs_of F line.settings ≡ Is (Ok set)
     → ComesOfSpecs (work_of F line set seed) result → Comes F args seed result
@@ -153,7 +161,7 @@ line_comes F args seed words line set (Err (Refused (NoFront fault))) gives read
 line_comes F args seed words line set (Err (Refused (NoSpecs fault))) gives reads loads works = absurd works
 line_comes F args seed words line set (Err (Refused (NoPlan fault))) gives reads loads works = not_planned gives reads loads works
 
--- a fault of the plan that is lack of memory, or what is given
+-- a fault of the plan ends the call: as lack of memory, or as the plan's refusal
 pub planning_ends : (given : Known (Result Work PlanFault)) (fault : PlanFault) (result : Result Work Ending)
     → IsErrAnd result (λ e. e ≡ stopped_by_plan fault) → (fault ≡ plan_fault.Memory) ⊎ (given ≡ Is (Err fault)) → ComesOfSpecs given result
 planning_ends given fault (Ok work) is refused = absurd is
@@ -163,22 +171,25 @@ planning_ends given fault (Err ending) is (inr refused) =
 
 -- what is done for a line
 
+-- with -dumpspecs the work is the dump
 pub work_dumped : (F : Facts) (line : Line) (set : Set) (seed : ℕ) (text : List ℕ) → line.settings.dump ≡ true → text ≡ dumped set
     → work_of F line set seed ≡ Is (Ok (Dump text))
 work_dumped F line set seed text dumps is = rw dumps (ap (λ t. Is (Ok (Dump t))) (sym is))
 
+-- without -dumpspecs the work is that of the plan
 pub work_planned : (F : Facts) (line : Line) (set : Set) (seed : ℕ) (plan : Plan) (work : Work) → line.settings.dump ≡ false
     → planned F line set seed ≡ Is (Ok plan)
     → work ≡ work_with line.settings plan → work_of F line set seed ≡ Is (Ok work)
 work_planned F line set seed plan work dumps plans is = rw dumps (ap (worked line.settings) plans ∙ ap (λ w. Is (Ok w)) (sym is))
 
+-- without -dumpspecs the plan's refusal is the work's
 pub work_refused : (F : Facts) (line : Line) (set : Set) (seed : ℕ) (fault : PlanFault) → line.settings.dump ≡ false
     → (fault ≡ plan_fault.Memory) ⊎ (planned F line set seed ≡ Is (Err fault))
     → (fault ≡ plan_fault.Memory) ⊎ (work_of F line set seed ≡ Is (Err fault))
 work_refused F line set seed fault dumps (inl memory) = inl memory
 work_refused F line set seed fault dumps (inr refused) = inr (rw dumps (ap (worked line.settings) refused))
 
--- with as many sources under way as the line says
+-- a work has as many sources under way as the line says, at least 1 and at most 64
 pub few_window : (settings : Settings) (plan : Plan) (work : Work) → (1 ≤ settings.jobs) × (settings.jobs ≤ 64)
     → work ≡ work_with settings plan → HasWindow work
 few_window settings plan work few is = subst (λ w. HasWindow w) (sym is) (by settings.dry)

@@ -18,12 +18,14 @@ use Rattle.std.proofs.Common.{◌≡◌, ◌∙◌, Bool, Err, IfOk, List, [], �
 use Rattle.std.proofs.Common.{sym, true, ℕ}
 use Rattle.std.proofs.lemmas.List.{append-nil}
 
--- For `do_work`: the texts that a call prints, and the run after them.
+-- For `do_work`: the texts that a call prints (notices, and with -v the commands), and the run after them. Only a run makes steps, so
+-- questions and texts leave no pipe pending.
 
 said_only : (text : List ℕ) (status : ℕ) (said : List Event) → Says text status said → AreSaid said
 said_only [] status said is = subst (λ events. AreSaid events) (sym is.1) tt
 said_only (b ∷ text) status said is = subst (λ events. AreSaid events) (sym is.1) tt
 
+-- two lists of texts are texts alone
 said_both : (first second : List Event) → AreSaid first → AreSaid second → AreSaid (first ++ second)
 said_both [] second a b = b
 said_both (Say text answer ∷ first) second a b = said_both first second a b
@@ -33,6 +35,7 @@ said_both (Variable name value ∷ first) second a b = absurd a
 said_both (Put text answer ∷ first) second a b = absurd a
 said_both (Run e ∷ first) second a b = absurd a
 
+-- what is said before a plan is carried out is texts alone
 pub announces_only : (name : List ℕ) (telling : Telling) (plan : Plan) (said : List Event) → Announces name telling plan said → AreSaid said
 announces_only name Commands plan said (status, shows) =
     subst (λ events. AreSaid events) (sym shows.joined)
@@ -42,6 +45,7 @@ announces_only name Notices plan said (status, says) = said_only (notices_text n
 
 -- what is said, and then the run
 
+-- the texts, and then the run, are the plan carried out
 pub plan_carried_out : (name : List ℕ) (journal journal' journal'' : List Event) (plan : Plan) (manner : Manner) (status : ℕ)
     → AnnouncesPlan name journal journal' manner.telling plan → Executed plan manner.pass_codes manner.window journal' journal'' status
     → DoesWork name journal journal'' (CarryOut plan manner) status
@@ -68,6 +72,7 @@ plan_carried_out name journal journal' journal'' plan manner status announces ex
 
 -- no step of a run is among questions and texts, so no pipe is pending after them that was not before
 
+-- no step of a run is among texts
 pub none_ran : (said : List Event) → AreSaid said → run_of said ≡ []
 none_ran [] is = refl
 none_ran (Say text answer ∷ said) is = none_ran said is
@@ -77,6 +82,7 @@ none_ran (Variable name value ∷ said) is = absurd is
 none_ran (Put text answer ∷ said) is = absurd is
 none_ran (Run e ∷ said) is = absurd is
 
+-- no step of a run is among questions
 pub none_ran_asking : (asked : List Event) → AreQuestions asked → run_of asked ≡ []
 none_ran_asking [] is = refl
 none_ran_asking (Read path answer ∷ asked) is = none_ran_asking asked is.1
@@ -86,15 +92,18 @@ none_ran_asking (Say text answer ∷ asked) is = absurd is.0
 none_ran_asking (Put text answer ∷ asked) is = absurd is.0
 none_ran_asking (Run e ∷ asked) is = absurd is.0
 
+-- events without a step of a run leave a pipe pending or not
 pipe_stays : (journal events : List Event) → run_of events ≡ [] → pipe_pending (run_of journal) ≡ false
     → pipe_pending (run_of (journal ++ events)) ≡ false
 pipe_stays journal events none before =
     ap pipe_pending (run_of-append journal events ∙ ap (λ run. run_of journal ++ run) none ∙ append-nil (run_of journal)) ∙ before
 
+-- where no pipe was pending, none is after questions
 pub pipe_after_questions : (journal asked : List Event) → AreQuestions asked → pipe_pending (run_of journal) ≡ false
     → pipe_pending (run_of (journal ++ asked)) ≡ false
 pipe_after_questions journal asked are before = pipe_stays journal asked (none_ran_asking asked are) before
 
+-- where no pipe was pending, none is after what is said of a plan
 pub no_pipe_after_announced : (name : List ℕ) (journal journal' : List Event) (telling : Telling) (plan : Plan)
     → AnnouncesPlan name journal journal' telling plan → pipe_pending (run_of journal) ≡ false → pipe_pending (run_of journal') ≡ false
 no_pipe_after_announced name journal journal' telling plan announces before =
@@ -103,11 +112,13 @@ no_pipe_after_announced name journal journal' telling plan announces before =
 
 -- nor after texts, and a work that runs nothing
 
+-- where no pipe was pending, none is after texts
 pub no_pipe_after_texts : (journal journal' : List Event) → OnlySays journal journal' → pipe_pending (run_of journal) ≡ false
     → pipe_pending (run_of journal') ≡ false
 no_pipe_after_texts journal journal' only before = ap (λ after. pipe_pending (run_of after)) only.1
     ∙ pipe_stays journal only.0 (none_ran only.0 only.2) before
 
+-- where no pipe was pending, none is after a dump
 pub no_pipe_after_dump : {E : Type 0} (name : List ℕ) (journal journal' : List Event) (text : List ℕ) (result : Result ℕ E)
     → IfOk result (λ status. DoesWork name journal journal' (Dump text) status)
     → OnErr result (OnlySays journal journal') → pipe_pending (run_of journal) ≡ false → pipe_pending (run_of journal') ≡ false
@@ -115,6 +126,7 @@ no_pipe_after_dump name journal journal' text (Ok status) does only before = ap 
     ∙ pipe_stays journal does.0 (ap run_of does.2.1) before
 no_pipe_after_dump name journal journal' text (Err e) does only before = no_pipe_after_texts journal journal' only before
 
+-- where no pipe was pending, none is after a plan that is shown
 pub no_pipe_after_shown : {E : Type 0} (name : List ℕ) (journal journal' : List Event) (plan : Plan) (result : Result ℕ E)
     → IfOk result (λ status. ShowsPlan name journal journal' plan status)
     → OnErr result (OnlySays journal journal') → pipe_pending (run_of journal) ≡ false → pipe_pending (run_of journal') ≡ false

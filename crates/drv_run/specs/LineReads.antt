@@ -6,8 +6,8 @@ use Rattle.drv_run.specs.declared.ending.Ending.{Ending}
 use Rattle.drv_system.specs.Facts.{Facts}
 use Rattle.std.specs.Prelude.{◌≡◌, Err, List, Ok, Result, ℕ}
 
--- The line of a call (GCC manual, "Overall Options"): the words that its arguments give, read. What hasn't a line is refused so whatever its
--- seed.
+-- The line of a call (GCC manual, "Overall Options"): the words that its arguments give, read. What hasn't a line is refused so whatever
+-- its seed.
 
 abbrev pub ReadsLine : Facts → List (List ℕ) → Line → Type 0
 ReadsLine F args line = (words : Expanded) × Words F args words × (line_read words ≡ Ok line)

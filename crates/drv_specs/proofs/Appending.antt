@@ -8,8 +8,10 @@ use Rattle.std.specs.Cmp.Lexicographic.{nat_list_eq_equiv, pointwise}
 use Rattle.std.specs.List.{list_all}
 use Rattle.std.specs.Prelude.{Ok, Option, Result, if◌then◌else◌, nat_eq}
 
--- For `append`: a text that is taken out of the map, changed and put back.
+-- For `append` (a body that begins with + and a blank): the code takes the text out of the map, changes it and puts it back, which gives
+-- what one put gives.
 
+-- a name that is put twice has the second text
 entry_twice : (name text other : List ℕ) (es : List (List ℕ × List ℕ))
     → insert_entry (pointwise nat_eq) (insert_entry (pointwise nat_eq) es name other) name text
     ≡ insert_entry (pointwise nat_eq) es name text
@@ -24,13 +26,14 @@ entry_twice name text other (e ∷ es) = by (pointwise nat_eq name e.0) refl (en
     by true is later = rw (is, is) refl
     by false is later = rw (is, is) (ap (λ rest. e ∷ rest) later)
 
+-- in a set, a name that is put twice has the second text
 pub named_twice : (set : Set) (name text other : List ℕ) → with_named (with_named set name other) name text ≡ with_named set name text
 named_twice set name text other = ap (λ (named : List (List ℕ × List ℕ)). named_as named) (entry_twice name text other set.named)
   where
     named_as : List (List ℕ × List ℕ) → Set
     named_as named = record set { named = named }
 
--- what an append gives, by what was taken, and by what is put back
+-- an append: the text of the name is taken, what is added goes to its end, and the text is put back
 pub appended_puts : (set mid new : Set) (name addition text : List ℕ) (old : Option (List ℕ)) → false ≡ list_all is_white addition
     → old ≡ text_of set name → mid ≡ with_named set name []
     → ((s : Set) → by_tree name s (parsed (appended_text old addition)) ≡ Ok s) → text ≡ appended_text old addition

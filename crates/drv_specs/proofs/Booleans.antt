@@ -2,18 +2,22 @@ use Rattle.std.proofs.Common.{◌≡◌, ◌∙◌, ◌==◌, ◌&&◌, Bool, ap
 
 -- For all lemmas of this crate: tests that hold together.
 
+-- the first part of a true && is true
 pub and_first : (a b : Bool) → (a && b) ≡ true → a ≡ true
 and_first true b both = refl
 and_first false b both = both
 
+-- the second part of a true && is true
 pub and_second : (a b : Bool) → (a && b) ≡ true → b ≡ true
 and_second true b both = both
 and_second false b both = absurd cc
 
+-- a value whose `not` is true is false
 pub not_true : (a : Bool) → not a ≡ true → a ≡ false
 not_true true is = absurd cc
 not_true false is = refl
 
+-- the `not` of a false value is true
 pub not_false : (a : Bool) → a ≡ false → not a ≡ true
 not_false a is = ap not is
 

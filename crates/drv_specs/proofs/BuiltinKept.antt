@@ -14,7 +14,8 @@ use Rattle.std.proofs.Common.{◌≡◌, ◌∙◌, ◌∷◌, [], Bool, List, O
 use Rattle.std.specs.List.{IsDistinct, filter}
 use Rattle.std.specs.Prelude.{cond}
 
--- For the invariant of `SpecSet`: the empty set and the built-in one have it.
+-- For the invariant of `SpecSet` (`Kept`): the empty set and the built-in one have it. The built-in set is what loading its own dump gives,
+-- which the prover computes, and loading keeps the invariant.
 
 empty_kept : Kept no_specs
 unfolding IsDistinct
@@ -27,11 +28,13 @@ dump_settled : is_settled false (dumped builtin_specs) ≡ true
 unfolding builtin_named builtin_pairs
 dump_settled = refl
 
+-- the built-in set's dump, carried out over the empty set, gives the built-in set
 dump_carried : all_carried (including no_facts nowhere 15) (record { set = no_specs; files = most_files })
     (read_lines false 1 (lines_of (dumped builtin_specs))) ≡ Is (Ok (record { set = builtin_specs; files = most_files }))
 unfolding builtin_named builtin_pairs
 dump_carried = refl
 
+-- the built-in set's dump, loaded into the empty set, gives the built-in set
 dump_loads : loaded no_facts nowhere no_specs (dumped builtin_specs) ≡ Is (Ok builtin_specs)
 unfolding loaded
 dump_loads =
@@ -44,6 +47,7 @@ builtin_kept = loaded_keeps no_facts nowhere no_specs builtin_specs (dumped buil
 
 -- the pairs that have no text to run among others
 
+-- what holds of each item holds of each that a filter leaves
 each_filter : {X : Type 0} (P : X → Type 0) (test : X → Bool) (xs : List X) → Each P xs → Each P (filter test xs)
 each_filter P test [] each = tt
 each_filter P test (x ∷ xs) each = by (test x) (each_filter P test xs each.1)
@@ -56,11 +60,14 @@ suffixes_kept : Kept suffixes
 unfolding IsDistinct
 suffixes_kept = record { named = tt; pairs = each_filter IsPair has_no_text builtin_pairs builtin_kept.pairs; distinct = tt }
 
+-- the built-in pairs without texts alone have the invariant
 pub kept_suffixes : (set : Set) → set ≡ suffixes → Kept set
 kept_suffixes set is = subst Kept (sym is) suffixes_kept
 
+-- the empty set has the invariant
 pub kept_empty : (set : Set) → set ≡ no_specs → Kept set
 kept_empty set is = subst Kept (sym is) empty_kept
 
+-- the built-in set has the invariant
 pub kept_builtin : (set : Set) → set ≡ builtin_specs → Kept set
 kept_builtin set is = subst Kept (sym is) builtin_kept

@@ -21,7 +21,9 @@ use Rattle.drv_words.specs.Gives.{Gives}
 use Rattle.std.proofs.Common.{◌≡◌, ◌⊎◌, ◌∙◌, Bor, IsErrAnd, Option, List, ◌∷◌, ◌++◌, Err, Ok, Result, Some, ap, inl, inr, refl, subst, suc}
 use Rattle.std.proofs.Common.{sym, zero, ℕ}
 
--- For `load` and `load_file`: directives are carried out one after another, those of included files too.
+-- For `load` and `load_file` (loading.rt): directives are carried out one after another, those of included files in the place of the
+-- %include. `files` is how many files may still be read, `levels` how deep they may still be within one another; `whole` is what the
+-- definition gives of all directives.
 
 -- a directive that reads no file
 abbrev pub ReadsNoFile : Directive → Type 0
@@ -31,9 +33,11 @@ ReadsNoFile (Rename old new) = Unit {0}
 ReadsNoFile (Include missing name) = ⊥
 ReadsNoFile (Bad n) = Unit {0}
 
+-- a set, and how many files may still be read
 abbrev pub state : Set → ℕ → Carried
 state set files = record { set = set; files = files }
 
+-- a directive that reads no file changes the set, and the rest follow
 pub change_more : (inc : Including) (set set' : Set) (files : ℕ) (directive : Directive) (rest : List Directive) → ReadsNoFile directive
     → change set directive ≡ Ok set'
     → all_carried inc (state set files) (directive ∷ rest) ≡ all_carried inc (state set' files) rest
@@ -43,6 +47,7 @@ change_more inc set set' files (Rename old new) rest none is = ap (λ r. then_by
 change_more inc set set' files (Include missing name) rest none is = absurd none
 change_more inc set set' files (Bad n) rest none is = absurd cc
 
+-- where a directive that reads no file is refused, so is the whole
 pub change_refused : (inc : Including) (set : Set) (files : ℕ) (directive : Directive) (rest : List Directive) (fault : SpecsFault)
     → ReadsNoFile directive → change set directive ≡ Err fault
     → all_carried inc (state set files) (directive ∷ rest) ≡ Is (Err fault)
@@ -52,17 +57,21 @@ change_refused inc set files (Rename old new) rest fault none is = ap (λ r. the
 change_refused inc set files (Include missing name) rest fault none is = absurd none
 change_refused inc set files (Bad n) rest fault none is = let same : BadLine n ≡ fault = cc in ap (λ f. Is (Err f)) same
 
+-- an %include of this file, before these directives
 module _ (F : Facts) (prefixes : Prefixes) (set : Set) (missing : IfMissing) (name : List ℕ) (rest : List Directive) where
+  -- an %include is refused where no deeper one is allowed
   pub include_deep : (files : ℕ) → all_carried (including F prefixes zero) (state set files) (Include missing name ∷ rest)
       ≡ Is (Err IncludeTooDeep)
   unfolding including
   include_deep files = refl
 
+  -- an %include is refused where no file may be read any more
   pub include_many : (levels : ℕ) → all_carried (including F prefixes (suc levels)) (state set zero) (Include missing name ∷ rest)
       ≡ Is (Err TooManyIncludes)
   unfolding including
   include_many levels = refl
 
+  -- an allowed %include gives the file's text, found and read, then its directives, and then the rest
   pub include_is : (levels files : ℕ) → all_carried (including F prefixes (suc levels)) (state set (suc files))
       (Include missing name ∷ rest)
       ≡ then_by (then_by (file_text F prefixes missing name)
@@ -71,6 +80,7 @@ module _ (F : Facts) (prefixes : Prefixes) (set : Set) (missing : IfMissing) (na
   unfolding including
   include_is levels files = refl
 
+  -- where the file of an %include can't be read, the whole is refused
   pub include_unread : (levels files : ℕ) (fault : SpecsFault) → file_text F prefixes missing name ≡ Is (Err fault)
       → all_carried (including F prefixes (suc levels)) (state set (suc files)) (Include missing name ∷ rest) ≡ Is (Err fault)
   include_unread levels files fault is =
@@ -78,6 +88,7 @@ module _ (F : Facts) (prefixes : Prefixes) (set : Set) (missing : IfMissing) (na
       ∙ ap (λ known. then_by (then_by known (λ text. all_carried (including F prefixes levels) (state set files) (directives_of text)))
       (λ c'. all_carried (including F prefixes (suc levels)) c' rest)) is
 
+  -- where the file of an %include is read, its directives give this, and the rest follow
   pub include_worked : (levels files : ℕ) (text : List ℕ) (given : Known (Result Carried SpecsFault))
       → file_text F prefixes missing name ≡ Is (Ok text)
       → all_carried (including F prefixes levels) (state set files) (directives_of text) ≡ given
@@ -96,13 +107,14 @@ unread_file Unasked fault is = absurd cc
 unread_file (Is (Ok text)) fault is = absurd cc
 unread_file (Is (Err fault')) fault is = is
 
+-- the text of a file, settled
 pub read_file : (given : Known (Result (List ℕ) SpecsFault)) (left : List ℕ) → (given >>= λ g. Is (read_left g)) ≡ Is (Ok left)
     → (text : List ℕ) × ((given ≡ Is (Ok text)) × (left ≡ settled text))
 read_file Unasked left is = absurd cc
 read_file (Is (Ok text)) left is = (text, (refl, let same : left ≡ settled text = cc in same))
 read_file (Is (Err fault)) left is = absurd cc
 
--- what is left of the text of a file that was asked for
+-- the text of a file that was found and asked for, settled, or the refusal to read it
 pub text_given : (X : Type 0) (view : X → List ℕ) (F G : Facts) (prefixes : Prefixes) (missing : IfMissing) (name path : List ℕ)
     (answer : ReadAnswer) (result : Result X SpecsFault)
     → file_found F prefixes name ≡ Is path → Extends G F → read_of G path ≡ Some answer
@@ -121,7 +133,7 @@ text_given X view F G prefixes missing name path answer result found e known giv
     by (Err fault) (inl memory) = inl memory
     by (Err fault) (inr is') = inr (is ∙ ap Is is')
 
--- a refusal that is handed on
+-- a refusal of a step is that of the call
 pub refusal_given : {X Y : Type 0} (fault : SpecsFault) (result : Result X SpecsFault) (view : X → Y)
     (defined : Known (Result Y SpecsFault))
     → IsErrAnd result (λ e. e ≡ fault) → (fault ≡ Memory) ⊎ (defined ≡ Is (Err fault)) → GivesKnown Memory view result defined
@@ -129,6 +141,7 @@ refusal_given fault (Ok x) view defined is refused = absurd is
 refusal_given fault (Err e) view defined is (inl memory) = inl (is ∙ memory)
 refusal_given fault (Err e) view defined is (inr refused) = inr (refused ∙ ap (λ f. Is (Err f)) (sym is))
 
+-- a directive of the code that is no %include reads no file
 pub reads_no_file : (directive : code.Directive) → ((missing : IfMissing) (file : Bor (List ℕ)) → directive ≡ lent.Include missing file → ⊥)
     → ReadsNoFile (shown directive)
 reads_no_file (lent.Text name body) not = tt
@@ -137,7 +150,7 @@ reads_no_file (lent.Rename old new) not = tt
 reads_no_file (lent.Include missing file) not = not missing file refl
 reads_no_file (lent.Bad n) not = tt
 
--- a directive that was taken
+-- the next directive was taken: the others are left
 pub taken : (old new : List Directive) (result : Option code.Directive) (directive : code.Directive) (is : Directive)
     → old ≡ found result ++ new → result ≡ Some directive → shown directive ≡ is → old ≡ is ∷ new
 taken old new result directive is whole some same = whole ∙ ap (λ r. found r ++ new) some ∙ ap (λ d. d ∷ new) same
@@ -149,10 +162,12 @@ module _ (F : Facts) (prefixes : Prefixes) (set : Set) (files levels : ℕ) (lef
   at_next : whole ≡ all_carried (including F prefixes levels) (state set files) (directive ∷ rest)
   at_next = sym so_far ∙ ap (all_carried (including F prefixes levels) (state set files)) taken
 
+  -- the loop: the next directive changed the set, and the rest are left
   pub changed_more : (set' : Set) → ReadsNoFile directive → change set directive ≡ Ok set'
       → all_carried (including F prefixes levels) (state set' files) rest ≡ whole
   changed_more set' none is = sym (at_next ∙ change_more (including F prefixes levels) set set' files directive rest none is)
 
+  -- the loop: the next directive is refused, and so is the whole
   pub changed_refused : (fault : SpecsFault) → ReadsNoFile directive → (fault ≡ Memory) ⊎ (change set directive ≡ Err fault)
       → (fault ≡ Memory) ⊎ (whole ≡ Is (Err fault))
   changed_refused fault none (inl memory) = inl memory
@@ -165,22 +180,26 @@ module _ (F : Facts) (prefixes : Prefixes) (set : Set) (files levels : ℕ) (lef
   at_include : whole ≡ all_carried (including F prefixes levels) (state set files) (Include missing name ∷ rest)
   at_include = sym so_far ∙ ap (all_carried (including F prefixes levels) (state set files)) taken
 
+  -- the loop at an %include that is too deep: the whole is refused
   pub deep_refused : levels ≡ 0 → whole ≡ Is (Err IncludeTooDeep)
   deep_refused none = at_include ∙ ap (λ n. all_carried (including F prefixes n) (state set files) (Include missing name ∷ rest)) none
       ∙ include_deep F prefixes set missing name rest files
 
+  -- the loop at an %include where no file may be read any more: the whole is refused
   pub many_refused : (fewer : ℕ) → levels ≡ suc fewer → files ≡ 0 → whole ≡ Is (Err TooManyIncludes)
   many_refused fewer some none =
       at_include ∙ ap (λ n. all_carried (including F prefixes n) (state set files) (Include missing name ∷ rest)) some
       ∙ ap (λ n. all_carried (including F prefixes (suc fewer)) (state set n) (Include missing name ∷ rest)) none
       ∙ include_many F prefixes set missing name rest fewer
 
+  -- the whole, where the next directive is an allowed %include
   at_file : (fewer : ℕ) (others : ℕ) → levels ≡ suc fewer → files ≡ suc others
       → whole ≡ all_carried (including F prefixes (suc fewer)) (state set (suc others)) (Include missing name ∷ rest)
   at_file fewer others some some' =
       at_include ∙ ap (λ n. all_carried (including F prefixes n) (state set files) (Include missing name ∷ rest)) some
       ∙ ap (λ n. all_carried (including F prefixes (suc fewer)) (state set n) (Include missing name ∷ rest)) some'
 
+  -- the loop at an %include whose file can't be read: the whole is refused
   pub unread_refused : (fewer others : ℕ) → levels ≡ suc fewer → files ≡ suc others → (fault : SpecsFault)
       → (fault ≡ Memory) ⊎ (settled_file F prefixes missing name ≡ Is (Err fault)) → (fault ≡ Memory) ⊎ (whole ≡ Is (Err fault))
   unread_refused fewer others some some' fault (inl memory) = inl memory
@@ -188,6 +207,7 @@ module _ (F : Facts) (prefixes : Prefixes) (set : Set) (files levels : ℕ) (lef
       inr (at_file fewer others some some' ∙ include_unread F prefixes set missing name rest fewer others fault
       (unread_file (file_text F prefixes missing name) fault unread))
 
+  -- the whole, where the file of that %include was read
   at_worked : (fewer others : ℕ) → levels ≡ suc fewer → files ≡ suc others
       → (left' bytes : List ℕ) (given : Known (Result Carried SpecsFault))
       → settled_file F prefixes missing name ≡ Is (Ok left') → bytes ≡ left'
@@ -200,6 +220,7 @@ module _ (F : Facts) (prefixes : Prefixes) (set : Set) (files levels : ℕ) (lef
       (ap (λ t. all_carried (including F prefixes fewer) (state set others) (read_settled t)) (sym (same ∙ file.1.1)) ∙ worked)
       ∙ ap (λ n. then_by given (λ c'. all_carried (including F prefixes n) c' rest)) (sym some)
 
+  -- the loop at an %include whose directives are refused: so is the whole
   pub worked_refused : (fewer others : ℕ) → levels ≡ suc fewer → files ≡ suc others → (left' bytes : List ℕ) (fault : SpecsFault)
       → settled_file F prefixes missing name ≡ Is (Ok left') → bytes ≡ left'
       → (fault ≡ Memory) ⊎ (all_carried (including F prefixes fewer) (state set others) (read_settled bytes) ≡ Is (Err fault))
@@ -208,6 +229,7 @@ module _ (F : Facts) (prefixes : Prefixes) (set : Set) (files levels : ℕ) (lef
   worked_refused fewer others some some' left' bytes fault read same (inr worked) =
       inr (at_worked fewer others some some' left' bytes (Is (Err fault)) read same worked)
 
+  -- the loop at an %include whose directives are carried out: it goes on with the set that they give
   pub worked_more : (fewer others : ℕ) → levels ≡ suc fewer → files ≡ suc others → (left' bytes : List ℕ) (c' : Carried)
       → settled_file F prefixes missing name ≡ Is (Ok left') → bytes ≡ left'
       → all_carried (including F prefixes fewer) (state set others) (read_settled bytes) ≡ Is (Ok c')
@@ -217,15 +239,18 @@ module _ (F : Facts) (prefixes : Prefixes) (set : Set) (files levels : ℕ) (lef
 
 -- directives worked on a draft that is the set
 module _ (F : Facts) (prefixes : Prefixes) (draft set : Set) (same : draft ≡ set) (files : ℕ) (directives : List Directive) where
+  -- directives that are carried out on a draft give what they give on the set
   worked_as : (given : Known (Result Carried SpecsFault)) → all_carried (including F prefixes 15) (state draft files) directives ≡ given
       → worked F prefixes set files directives ≡ then_by given set_in
   worked_as given is = ap (λ s. then_by (all_carried (including F prefixes 15) (state s files) directives) set_in) (sym same)
       ∙ ap (λ known. then_by known set_in) is
 
+  -- the directives were carried out: the whole gives their set
   pub worked_given : (c : Carried) → all_carried (including F prefixes 15) (state draft files) directives ≡ Is (Ok c)
       → worked F prefixes set files directives ≡ Is (Ok c.set)
   worked_given c is = worked_as (Is (Ok c)) is
 
+  -- the directives are refused, and so is the whole
   pub worked_fails : (fault : SpecsFault) → (fault ≡ Memory)
       ⊎ (all_carried (including F prefixes 15) (state draft files) directives ≡ Is (Err fault))
       → (fault ≡ Memory) ⊎ (worked F prefixes set files directives ≡ Is (Err fault))
@@ -234,12 +259,14 @@ module _ (F : Facts) (prefixes : Prefixes) (draft set : Set) (same : draft ≡ s
 
 -- a file, by what is left of its text
 module _ (F : Facts) (prefixes : Prefixes) (set : Set) (name : List ℕ) where
+  -- a file that is loaded is an %include of it, in which 1,999 more files may be read
   file_is : file_loaded F prefixes set name
       ≡ then_by (then_by (file_text F prefixes Refuse name)
       (λ text. all_carried (including F prefixes 15) (state set 1999) (directives_of text))) set_in
   unfolding file_loaded including
   file_is = refl
 
+  -- a file that is loaded is its settled text, carried out
   pub file_read : (left bytes : List ℕ) → settled_file F prefixes Refuse name ≡ Is (Ok left) → bytes ≡ left
       → worked F prefixes set 1999 (read_settled bytes) ≡ file_loaded F prefixes set name
   file_read left bytes read same =
@@ -248,6 +275,7 @@ module _ (F : Facts) (prefixes : Prefixes) (set : Set) (name : List ℕ) where
       ∙ sym (file_is ∙ ap (λ known. then_by (then_by known (λ t. all_carried (including F prefixes 15) (state set 1999) (directives_of t)))
       set_in) file.1.0)
 
+  -- a file that can't be read is not loaded
   pub file_unread : (fault : SpecsFault) → (fault ≡ Memory) ⊎ (settled_file F prefixes Refuse name ≡ Is (Err fault))
       → (fault ≡ Memory) ⊎ (file_loaded F prefixes set name ≡ Is (Err fault))
   file_unread fault (inl memory) = inl memory
@@ -255,7 +283,7 @@ module _ (F : Facts) (prefixes : Prefixes) (set : Set) (name : List ℕ) where
       inr (file_is ∙ ap (λ known. then_by (then_by known (λ t. all_carried (including F prefixes 15) (state set 1999) (directives_of t)))
       set_in) (unread_file (file_text F prefixes Refuse name) fault unread))
 
--- a result that answers what is the same
+-- what a result gives of one definition it gives of an equal one
 pub given_alike : {X Y : Type 0} (view : X → Y) (result : Result X SpecsFault) (a b : Known (Result Y SpecsFault)) → a ≡ b
     → GivesKnown Memory view result a → GivesKnown Memory view result b
 given_alike view result a b same given = subst (GivesKnown Memory view result) same given

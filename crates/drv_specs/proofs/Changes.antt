@@ -22,11 +22,15 @@ use Rattle.std.specs.Cmp.Lexicographic.{nat_list_eq_equiv, pointwise}
 use Rattle.std.specs.List.{AllByRecursion, IsDistinct, list_all}
 use Rattle.std.specs.Map.{keys_of, lookup, remove_entry, set_key}
 
--- For loading_keeps: the change of each directive keeps the invariant of a set.
+-- For loading_keeps (laws.rt): the change of each directive keeps the invariant of a set (`Kept`). Names, texts and keys have the form of
+-- those of a spec file, the names are distinct, and each text that is processed has a tree. A body is what follows the colon of a
+-- directive. An entry is a name and its text.
 
 -- Entries of a list that is put into, taken from, or renamed in.
 
+-- entries whose name passes a test
 module _ (eq : List ℕ → Bool) where
+  -- what holds of each entry holds of each one that is left, renamed, or put
   removed_keeps : (es : List (List ℕ × List ℕ)) → Each IsNamed es → Each IsNamed (remove_entry eq es)
   removed_keeps [] kept = tt
   removed_keeps (e ∷ es) kept = by (eq e.0) (removed_keeps es kept.1)
@@ -35,6 +39,7 @@ module _ (eq : List ℕ → Bool) where
       by true later = kept.1
       by false later = (kept.0, later)
 
+  -- what holds of each entry holds after a rename
   renamed_keeps : (new : List ℕ) (es : List (List ℕ × List ℕ)) → is_name new ≡ true → Each IsNamed es → Each IsNamed (set_key eq es new)
   renamed_keeps new [] name kept = tt
   renamed_keeps new (e ∷ es) name kept = by (eq e.0) (renamed_keeps new es name kept.1)
@@ -43,6 +48,7 @@ module _ (eq : List ℕ → Bool) where
       by true later = (record { name = name; text = kept.0.text; tree = kept.0.tree }, kept.1)
       by false later = (kept.0, later)
 
+  -- a text that is found by its name has the form of a text
   found_text : (es : List (List ℕ × List ℕ)) (text : List ℕ) → Each IsNamed es → lookup eq es ≡ Some text → is_text text ≡ true
   found_text [] text kept is = absurd cc
   found_text (e ∷ es) text kept is = by (eq e.0) is (found_text es text kept.1)
@@ -52,6 +58,7 @@ module _ (eq : List ℕ → Bool) where
       by true is' later = let same : e.1 ≡ text = cc in ap is_text (sym same) ∙ kept.0.text
       by false is' later = later is'
 
+-- what holds of each entry holds after one is put
 inserted_keeps : (name text : List ℕ) (es : List (List ℕ × List ℕ)) → IsNamed (name, text) → Each IsNamed es
     → Each IsNamed (insert_entry (pointwise nat_eq) es name text)
 inserted_keeps name text [] new kept = (new, tt)
@@ -67,6 +74,7 @@ inserted_keeps name text (e ∷ es) new kept = by (pointwise nat_eq name e.0) (i
 abbrev Apart : List ℕ → List (List ℕ × List ℕ) → Type 0
 Apart name es = AllByRecursion (λ other. pointwise nat_eq name other ≡ false) (keys_of es)
 
+-- a name that no entry has is still apart where one is removed
 apart_less : (eq : List ℕ → Bool) (name : List ℕ) (es : List (List ℕ × List ℕ)) → Apart name es → Apart name (remove_entry eq es)
 apart_less eq name [] apart = tt
 apart_less eq name (e ∷ es) apart = by (eq e.0) (apart_less eq name es apart.1)
@@ -75,6 +83,7 @@ apart_less eq name (e ∷ es) apart = by (eq e.0) (apart_less eq name es apart.1
     by true later = apart.1
     by false later = (apart.0, later)
 
+-- names stay distinct where an entry is removed
 distinct_less : (eq : List ℕ → Bool) (es : List (List ℕ × List ℕ)) → IsDistinct (pointwise nat_eq) (keys_of es)
     → IsDistinct (pointwise nat_eq) (keys_of (remove_entry eq es))
 unfolding IsDistinct
@@ -86,6 +95,7 @@ distinct_less eq (e ∷ es) distinct = by (eq e.0) (distinct_less eq es distinct
     by true later = distinct.1
     by false later = (apart_less eq e.0 es distinct.0, later)
 
+-- a name is still apart from the others where one with another name is put
 apart_more : (other name text : List ℕ) (es : List (List ℕ × List ℕ)) → pointwise nat_eq other name ≡ false → Apart other es
     → Apart other (insert_entry (pointwise nat_eq) es name text)
 apart_more other name text [] differ apart = (differ, tt)
@@ -96,6 +106,7 @@ apart_more other name text (e ∷ es) differ apart = by (pointwise nat_eq name e
     by true later = apart
     by false later = (apart.0, later)
 
+-- names stay distinct where an entry is put
 distinct_more : (name text : List ℕ) (es : List (List ℕ × List ℕ)) → IsDistinct (pointwise nat_eq) (keys_of es)
     → IsDistinct (pointwise nat_eq) (keys_of (insert_entry (pointwise nat_eq) es name text))
 unfolding IsDistinct
@@ -108,6 +119,7 @@ distinct_more name text (e ∷ es) distinct = by (pointwise nat_eq name e.0) ref
     by true hit later = distinct
     by false hit later = (apart_more e.0 name text es (nat_list_eq_equiv.symm e.0 name ∙ hit) distinct.0, later)
 
+-- a name is still apart where an entry gets another name
 apart_renamed : (eq : List ℕ → Bool) (other new : List ℕ) (es : List (List ℕ × List ℕ)) → pointwise nat_eq other new ≡ false
     → Apart other es → Apart other (set_key eq es new)
 apart_renamed eq other new [] differ apart = tt
@@ -117,6 +129,7 @@ apart_renamed eq other new (e ∷ es) differ apart = by (eq e.0) (apart_renamed 
     by true later = (differ, apart.1)
     by false later = (apart.0, later)
 
+-- a name that is not found is apart
 absent_apart : (new : List ℕ) (es : List (List ℕ × List ℕ)) → lookup (pointwise nat_eq new) es ≡ None → Apart new es
 absent_apart new [] none = tt
 absent_apart new (e ∷ es) none = by (pointwise nat_eq new e.0) refl none (absent_apart new es)
@@ -126,6 +139,7 @@ absent_apart new (e ∷ es) none = by (pointwise nat_eq new e.0) refl none (abse
     by true is none' later = absurd cc
     by false is none' later = (is, later none')
 
+-- names stay distinct where an entry gets a new name
 distinct_renamed : (eq : List ℕ → Bool) (new : List ℕ) (es : List (List ℕ × List ℕ)) → Apart new es
     → IsDistinct (pointwise nat_eq) (keys_of es) → IsDistinct (pointwise nat_eq) (keys_of (set_key eq es new))
 unfolding IsDistinct
@@ -139,6 +153,7 @@ distinct_renamed eq new (e ∷ es) apart distinct = by (eq e.0) (distinct_rename
 
 -- Named texts.
 
+-- a text that is put, by the answer of its parse, keeps the invariant
 put_by : (set : Set) (name text : List ℕ) (set' : Set) (given : Result Items SyntaxFault) → is_name name ≡ true → is_text text ≡ true
     → parsed text ≡ given → by_tree name (with_named set name text) given ≡ Ok set' → Kept set → Kept set'
 put_by set name text set' (Err fault) names body tree is kept = absurd cc
@@ -150,11 +165,12 @@ put_by set name text set' (Ok items) names body tree is kept =
       distinct = distinct_more name text set.named kept.distinct;
     })
 
+-- a text that is put keeps the invariant, if it has the form of a body
 put_keeps : (set : Set) (name text : List ℕ) (set' : Set) → is_name name ≡ true → is_text text ≡ true → put set name text ≡ Ok set'
     → Kept set → Kept set'
 put_keeps set name text set' names body is kept = put_by set name text set' (parsed text) names body refl is kept
 
--- a body with another after it, and one without the white space at its front
+-- a body with another after it is a body
 body_append : (old addition : List ℕ) (seen back : Bool) → is_body seen back old ≡ true → is_body true false addition ≡ true
     → is_body seen back (old ++ addition) ≡ true
 body_append [] addition true false is later = later
@@ -164,6 +180,7 @@ body_append (b ∷ old) addition seen back is later =
     ap (λ c. c && is_body (sees seen b) (ends_with_backslash (b ∷ [])) (old ++ addition)) (and_first (fits seen back b) _ is)
     ∙ body_append old addition (sees seen b) (ends_with_backslash (b ∷ [])) (and_second (fits seen back b) _ is) later
 
+-- a byte that is no white space fits at any place of a line
 solid_fits : (b : ℕ) (seen back : Bool) → fits seen back b ≡ true → is_white b ≡ false
     → (fits false false b ≡ true) × (sees false b ≡ sees seen b)
 solid_fits b seen back fit white = by (is_blank b) refl (b == newline) refl
@@ -183,6 +200,7 @@ solid_fits b seen back fit white = by (is_blank b) refl (b == newline) refl
         or_true true = refl
         or_true false = refl
 
+-- a body without the white space at its front is a body, if it has other bytes
 body_fronted : (text : List ℕ) (seen back : Bool) → list_all is_white text ≡ false → is_body seen back text ≡ true
     → is_text (without_front is_white text) ≡ true
 body_fronted [] seen back white is = absurd cc
@@ -201,12 +219,14 @@ body_fronted (b ∷ text) seen back white is = by (is_white b) refl white (body_
         ap (λ c. c && is_body (sees false b) (ends_with_backslash (b ∷ [])) text) solid.0
         ∙ ap (λ s. is_body s (ends_with_backslash (b ∷ [])) text) solid.1 ∙ later
 
+-- what is appended to has the form of a text
 appended_body : (found : Option (List ℕ)) (addition : List ℕ) → ((text : List ℕ) → found ≡ Some text → is_text text ≡ true)
     → is_body true false addition ≡ true → list_all is_white addition ≡ false
     → is_text (appended_text found addition) ≡ true
 appended_body None addition good body white = body_fronted addition true false white body
 appended_body (Some text) addition good body white = body_append text addition false false (good text refl) body
 
+-- a text that is appended keeps the invariant
 append_keeps : (set : Set) (name addition : List ℕ) (set' : Set) → is_name name ≡ true → is_body true false addition ≡ true
     → append set name addition ≡ Ok set' → Kept set → Kept set'
 append_keeps set name addition set' names body is kept = by (list_all is_white addition) refl is
@@ -219,13 +239,14 @@ append_keeps set name addition set' names body is kept = by (list_all is_white a
         (appended_body (text_of set name) addition (λ text found. found_text (pointwise nat_eq name) set.named text kept.named found) body
         white) is' kept
 
--- a body that has a byte appends or is put
+-- a body that has a byte is appended or put
 pub filled_body : (set : Set) (name : List ℕ) (b : ℕ) (text : List ℕ)
     → with_body set name (b ∷ text) ≡ (if appends (b ∷ text) then append set name text else put set name (b ∷ text))
 filled_body set name b text =
     ap (λ t. if t then Ok (deleted set name) else if appends (b ∷ text) then append set name text else put set name (b ∷ text))
     (eqb-suc-zero (length text))
 
+-- what a body does to a name keeps the invariant: it deletes the text, is appended, or is put
 body_keeps : (set : Set) (name body : List ℕ) (set' : Set) → is_name name ≡ true → (body ≡ []) ⊎ (is_text body ≡ true)
     → with_body set name body ≡ Ok set' → Kept set → Kept set'
 body_keeps set name [] set' names good is kept =
@@ -249,12 +270,13 @@ body_keeps set name (b ∷ c ∷ text) set' names (inr body) is kept =
         append_keeps set name (c ∷ text) set' names whole is' kept
     by false adds is' = put_keeps set name (b ∷ c ∷ text) set' names body is' kept
 
--- a body that no backslash ends
+-- a directive's body that no backslash ends is empty, or has the form of a text
 whole_body : (body : List ℕ) → IsBody body → ends_with_backslash body ≡ false → (body ≡ []) ⊎ (is_text body ≡ true)
 whole_body body (inl none) ends = inl none
 whole_body body (inr (inl last)) ends = absurd (let wrong : true ≡ false = sym last ∙ ends in cc)
 whole_body body (inr (inr good)) ends = inr good
 
+-- the directive of a named text keeps the invariant
 pub text_keeps : (set : Set) (name body : List ℕ) (set' : Set) → IsBody body → with_text set name body ≡ Ok set' → Kept set → Kept set'
 text_keeps set name body set' good is kept = by (is_name name) refl (ends_with_backslash body) refl is
   where
@@ -267,6 +289,7 @@ text_keeps set name body set' good is kept = by (is_name name) refl (ends_with_b
 
 -- Names.
 
+-- the directive %rename keeps the invariant
 pub name_keeps : (set : Set) (old new : List ℕ) (set' : Set) → with_name set old new ≡ Ok set' → Kept set → Kept set'
 name_keeps set old new set' is kept = by (is_name old) (is_name new) refl (is_some (text_of set old)) (pointwise nat_eq old new)
     (text_of set new) refl is
@@ -301,6 +324,7 @@ record Ended (text : List ℕ) : Type 0 where
   solid : is_white last ≡ false
   soft : (end ≡ []) ⊎ (ends_with_backslash text ≡ false)
 
+-- a text with white space at its front, and the byte after that
 record Fronts (text : List ℕ) : Type 0 where
   first : ℕ
   rest : List ℕ
@@ -310,6 +334,7 @@ record Fronts (text : List ℕ) : Type 0 where
   solid : is_white first ≡ false
   soft : (white ≡ []) ⊎ ((b : ℕ) × ((more : List ℕ) × ((white ≡ b ∷ more) × (is_white b ≡ true))))
 
+-- a text without the white space at its front is empty, or begins with a byte that is none
 front_split : (text : List ℕ) → (without_front is_white text ≡ []) ⊎ Fronts text
 front_split [] = inl refl
 front_split (b ∷ text) = by (is_white b) refl (front_split text)
@@ -344,6 +369,7 @@ white_ends b white = by (ends_with_backslash (b ∷ [])) refl
     by false e = e
     by true e = absurd (let wrong : true ≡ false = sym white ∙ ap is_white (sym (eqb-true backslash b (and_first (nat_eq backslash b) true e))) in cc)
 
+-- a text without the white space at its end is empty, or ends with a byte that is none
 ended : (text : List ℕ) → (without_end is_white text ≡ []) ⊎ Ended text
 ended text = by (front_split (reverse text))
   where
@@ -373,6 +399,7 @@ ended text = by (front_split (reverse text))
             ∙ ends_far (reverse found.rest) found.first (reverse some.1.0 ++ some.0 ∷ [])
             ∙ ends_last (found.first ∷ reverse some.1.0) some.0 ∙ white_ends some.0 some.1.1.1)
 
+-- a byte that is no white space is seen in its line
 last_sees : (b : ℕ) (seen back : Bool) → fits seen back b ≡ true → is_white b ≡ false → sees seen b ≡ true
 last_sees b seen back fit white = by (is_blank b) refl (b == newline) refl
   where
@@ -386,7 +413,7 @@ last_sees b seen back fit white = by (is_blank b) refl (b == newline) refl
         or_true true = refl
         or_true false = refl
 
--- a body that is cut after a byte
+-- a body that is cut after a byte, which is no white space and no backslash, is a body
 body_cut : (front : List ℕ) (last : ℕ) (end : List ℕ) (seen back : Bool) → is_body seen back (front ++ last ∷ end) ≡ true
     → is_white last ≡ false → ends_with_backslash (last ∷ []) ≡ false
     → is_body seen back (front ++ last ∷ []) ≡ true
@@ -402,6 +429,7 @@ some_byte : (front : List ℕ) (last : ℕ) (end : List ℕ) → has_byte (front
 some_byte [] last end = refl
 some_byte (b ∷ front) last end = refl
 
+-- a body without the white space at its end has still the form of a text, or is empty
 ended_body : (body : List ℕ) → IsBody body → (without_end is_white body ≡ []) ⊎ Ended body
     → ends_with_backslash (without_end is_white body) ≡ false
     → (without_end is_white body ≡ []) ⊎ (is_text (without_end is_white body) ≡ true)
@@ -417,6 +445,7 @@ ended_body body (inr (inr good)) (inr e) ends =
     inr (ap is_text e.is ∙ body_cut e.front e.last e.end false false (ap is_text (sym e.whole) ∙ good) e.solid
     (sym (ends_last e.front e.last) ∙ ap ends_with_backslash (sym e.is) ∙ ends))
 
+-- the body of a pair without the white space that it loses is empty or a text
 pair_good : (body : List ℕ) → IsBody body → ends_with_backslash (pair_text body) ≡ false
     → (pair_text body ≡ []) ⊎ (is_text (pair_text body) ≡ true)
 pair_good body good = by (is_no_text (without_end is_white body))
@@ -426,6 +455,7 @@ pair_good body good = by (is_no_text (without_end is_white body))
     by true ends = ended_body body good (ended body) ends
     by false ends = whole_body body good ends
 
+-- a text loses its white space at the end once
 end_same : (text : List ℕ) → (without_end is_white text ≡ []) ⊎ Ended text
     → without_end is_white (without_end is_white text) ≡ without_end is_white text
 end_same text (inl none) = ap (without_end is_white) none ∙ sym none
@@ -439,6 +469,7 @@ either_same : {X : Type 0} (c : Bool) (x : X) → (if c then x else x) ≡ x
 either_same true x = refl
 either_same false x = refl
 
+-- the body of a pair loses its white space at the end once
 pair_same : (body : List ℕ) → pair_text (pair_text body) ≡ pair_text body
 pair_same body = by (is_no_text (without_end is_white body)) refl
   where
@@ -452,6 +483,7 @@ pair_same body = by (is_no_text (without_end is_white body)) refl
         ∙ either_same (is_no_text (without_end is_white body)) (without_end is_white body) ∙ sym is
     by false none = ap pair_text (ap (λ c. if c then without_end is_white body else body) none)
 
+-- a body that is empty or a text, as one test
 text_or_none : (text : List ℕ) → (text ≡ []) ⊎ (is_text text ≡ true) → (not (has_byte text) || is_text text) ≡ true
 text_or_none [] good = refl
 text_or_none (b ∷ text) (inl none) = absurd cc
@@ -461,6 +493,7 @@ some_key : (key : List ℕ) → is_key key ≡ true → (key ≡ []) ⊎ (begins
 some_key key is (inl none) = absurd (let wrong : false ≡ true = ap is_key (sym none) ∙ is in cc)
 some_key key is (inr begins) = begins
 
+-- a pair that is added keeps the invariant
 pair_added : (set : Set) (key text : List ℕ) → IsPair (key, text) → Kept set → Kept (with_pair set key text)
 pair_added set key text new kept = record {
   named = kept.named;
@@ -469,6 +502,7 @@ pair_added set key text new kept = record {
   distinct = kept.distinct;
 }
 
+-- a pair that is added, by the answer of its text's parse, keeps the invariant
 pair_by : (set : Set) (key text : List ℕ) (set' : Set) (given : Result Items SyntaxFault) → parsed text ≡ given
     → ((is_no_text text || has_tree text) ≡ true → IsPair (key, text)) → is_no_text text ≡ false
     → by_tree key (with_pair set key text) given ≡ Ok set' → Kept set → Kept set'
@@ -477,6 +511,7 @@ pair_by set key text set' (Ok items) tree new none is kept =
     let same : with_pair set key text ≡ set' = cc in
     subst Kept same (pair_added set key text (new (ap (λ c. c || has_tree text) none ∙ ap is_ok tree)) kept)
 
+-- the directive of a suffix or a language keeps the invariant
 pub pair_keeps : (set : Set) (key body : List ℕ) (set' : Set) → (key ≡ []) ⊎ (begins_line key ≡ true) → IsBody body
     → with_pair_body set key body ≡ Ok set' → Kept set → Kept set'
 pair_keeps set key body set' begins good is kept =

@@ -10,8 +10,10 @@ use Rattle.std.proofs.lemmas.List.{append-nil, drop_more, take-append-drop}
 use Rattle.std.specs.List.{ends_with, list_all}
 use Rattle.std.specs.Prelude.{None, Option, Some, slice_index}
 
--- For the reading of a file: what a search for a byte finds, and what precedes it.
+-- For the reading of a file: what a search for a byte finds, and what precedes it. `IsFirstByte test text found` says that `found` is the
+-- first byte that passes.
 
+-- a truth value that isn't true is false
 pub fails_of : (t : Bool) → (t ≡ true → ⊥) → t ≡ false
 fails_of t never = by t refl
   where
@@ -19,6 +21,7 @@ fails_of t never = by t refl
     by true is = absurd (never is)
     by false is = is
 
+-- no byte before a place passes, if the search passed over them
 front_clean : (test : ℕ → Bool) (text : List ℕ) (at : ℕ) → Nowhere (Passes test text) 0 at → at ≤ length text
     → list_all (λ b. not (test b)) (take at text) ≡ true
 front_clean test text zero none within = refl
@@ -27,9 +30,11 @@ front_clean test (b ∷ text) (suc n) none within =
     let fails : test b ≡ false = fails_of (test b) (none 0 (omega arith) (omega arith)) in
     rw fails (front_clean test text n (λ k low below. none (suc k) (omega arith) (omega (arith, below))) (omega (arith, within)))
 
+-- a text is what precedes a place, the byte there, and what follows
 pub split_at : (text : List ℕ) (at : ℕ) → at < length text → text ≡ take at text ++ slice_index text at ∷ drop (at + 1) text
 split_at text at below = sym (take-append-drop at text) ∙ ap (λ t. take at text ++ t) (drop_more text at 0 below)
 
+-- no byte before the one that was found passes
 pub clean_front : (test : ℕ → Bool) (text : List ℕ) (found : Option ℕ) (at : ℕ) → IsFirstByte test text found → found ≡ Some at
     → list_all (λ b. not (test b)) (take at text) ≡ true
 clean_front test text None at h is = absurd cc
@@ -37,11 +42,13 @@ clean_front test text (Some k) at h is =
     let same : k ≡ at = cc in
     ap (λ n. list_all (λ b. not (test b)) (take n text)) (sym same) ∙ front_clean test text k h.0.before (omega (arith, h.0.high))
 
+-- the place that was found is in the text
 pub found_below : (test : ℕ → Bool) (text : List ℕ) (found : Option ℕ) (at : ℕ) → IsFirstByte test text found → found ≡ Some at
     → at < length text
 found_below test text None at h is = absurd cc
 found_below test text (Some k) at h is = let same : k ≡ at = cc in omega (arith, same, h.0.high)
 
+-- the byte at the place that was found passes
 pub found_passes : (test : ℕ → Bool) (text : List ℕ) (found : Option ℕ) (at : ℕ) → IsFirstByte test text found → found ≡ Some at
     → test (slice_index text at) ≡ true
 found_passes test text None at h is = absurd cc
@@ -51,13 +58,14 @@ take_all : (text : List ℕ) → take (length text) text ≡ text
 take_all [] = refl
 take_all (b ∷ text) = ap (λ t. b ∷ t) (take_all text)
 
+-- where none was found, no byte passes
 pub clean_all : (test : ℕ → Bool) (text : List ℕ) (found : Option ℕ) → IsFirstByte test text found → found ≡ None
     → list_all (λ b. not (test b)) text ≡ true
 clean_all test text None h is = ap (list_all (λ b. not (test b))) (sym (take_all text))
     ∙ front_clean test text (length text) h (omega arith)
 clean_all test text (Some k) h is = absurd cc
 
--- the end of a line
+-- the newline that was found ends the first line
 pub line_found : (text : List ℕ) (found : Option ℕ) (at : ℕ) → IsFirstByte (is_byte newline) text found → found ≡ Some at
     → text ≡ take at text ++ newline ∷ drop (at + 1) text
 line_found text found at h is =
@@ -65,18 +73,21 @@ line_found text found at h is =
     ∙ ap (λ b. take at text ++ b ∷ drop (at + 1) text)
     (eqb-true (slice_index text at) newline (found_passes (is_byte newline) text found at h is))
 
+-- which has none in it
 pub line_clean : (text : List ℕ) (found : Option ℕ) (at : ℕ) → IsFirstByte (is_byte newline) text found → found ≡ Some at
     → list_all (λ b. not (ends_line b)) (take at text) ≡ true
 line_clean text found at h is = clean_front (is_byte newline) text found at h is
 
+-- where none was found, the text is one line
 pub line_alone : (text : List ℕ) (found : Option ℕ) → IsFirstByte (is_byte newline) text found → found ≡ None
     → list_all (λ b. not (ends_line b)) text ≡ true
 line_alone text found h is = clean_all (is_byte newline) text found h is
 
--- the ends of lines that settling looks for
+-- the bytes that settling looks for: carriage returns and newlines
 abbrev pub settles : List ℕ
 settles = carriage_return ∷ newline ∷ []
 
+-- a byte that the search passes over is kept, and is no newline
 plain : (b : ℕ) → not (is_in settles b) ≡ true → (is_kept b ≡ true) × ((b == newline) ≡ false)
 unfolding is_in
 plain b is = by (b == carriage_return) (b == newline) is
@@ -86,6 +97,7 @@ plain b is = by (b == carriage_return) (b == newline) is
     by false true is' = absurd cc
     by false false is' = (refl, refl)
 
+-- a run of such bytes goes to the text as it is
 run_settled : (run rest left : List ℕ) → list_all (λ b. not (is_in settles b)) run ≡ true
     → fold joined_onto left (filter is_kept (run ++ rest)) ≡ fold joined_onto (left ++ run) (filter is_kept rest)
 run_settled [] rest left is = ap (λ l. fold joined_onto l (filter is_kept rest)) (sym (append-nil left))
@@ -97,6 +109,7 @@ run_settled (b ∷ run) rest left is =
     ∙ run_settled run rest (left ++ b ∷ []) (and_second (not (is_in settles b)) _ is)
     ∙ ap (λ l. fold joined_onto l (filter is_kept rest)) (append_assoc left (b ∷ []) run)
 
+-- the byte that ends the run is settled by itself
 end_settled : (b : ℕ) (rest left : List ℕ) → fold joined_onto left (filter is_kept (b ∷ rest))
     ≡ fold joined_onto (settled_onto left b) (filter is_kept rest)
 end_settled b rest left = by (is_kept b) refl
@@ -106,7 +119,7 @@ end_settled b rest left = by (is_kept b) refl
     by true kept = refl
     by false kept = refl
 
--- a line settled, and its end
+-- a line up to the byte that was found, and that byte, are settled: the rest is left
 pub line_settled : (text left front after whole : List ℕ) (found : Option ℕ) (at b : ℕ) → IsFirstByte (is_in settles) text found
     → found ≡ Some at → b ≡ slice_index text at
     → front ≡ left ++ take at text → after ≡ settled_onto front b → fold joined_onto left (filter is_kept text) ≡ whole
@@ -119,7 +132,7 @@ line_settled text left front after whole found at b h is here fronts afters so_f
     ∙ ap (λ t. fold joined_onto left (filter is_kept t)) (sym (split_at text at (found_below (is_in settles) text found at h is)))
     ∙ so_far
 
--- the last line
+-- the last line, settled: no end of a line was found in it
 pub rest_settled : (text left all whole : List ℕ) (found : Option ℕ) → IsFirstByte (is_in settles) text found → found ≡ None
     → all ≡ left ++ text
     → fold joined_onto left (filter is_kept text) ≡ whole → all ≡ whole

@@ -17,11 +17,14 @@ use Rattle.std.proofs.Common.{false, filter, if◌then◌else◌, inl, inr, leng
 use Rattle.std.specs.Cmp.Lexicographic.{pointwise}
 use Rattle.std.specs.List.{ends_with, join_with_byte, list_all}
 
--- For loading_keeps: each body that a file's directives have is empty, ends with a backslash, or can be a body again.
+-- For loading_keeps: each body that a file's directives have is empty, ends with a backslash (and is refused), or has the form of a text
+-- (`is_text`). Clean lines are those of a settled text: only the last may end with a backslash.
 
+-- a body that is empty, ends with a backslash, or has the form of a text
 abbrev pub IsBody : List ℕ → Type 0
 IsBody body = (body ≡ []) ⊎ ((ends_with_backslash body ≡ true) ⊎ (is_text body ≡ true))
 
+-- a directive's body is such, and its key begins a line
 abbrev pub IsGood : Directive → Type 0
 IsGood (Text name body) = IsBody body
 IsGood (Pair key body) = ((key ≡ []) ⊎ (begins_line key ≡ true)) × IsBody body
@@ -29,6 +32,7 @@ IsGood (Rename old new) = Unit {0}
 IsGood (Include missing name) = Unit {0}
 IsGood (Bad n) = Unit {0}
 
+-- what holds of each item of two lists
 pub each_append : {X : Type 0} (P : X → Type 0) (xs ys : List X) → Each P xs → Each P ys → Each P (xs ++ ys)
 each_append P [] ys each each' = each'
 each_append P (x ∷ xs) ys each each' = (each.0, each_append P xs ys each.1 each')
@@ -39,11 +43,13 @@ ends_tail : (b : ℕ) (text : List ℕ) → ends_with_backslash (b ∷ text) ≡
 ends_tail b [] is = refl
 ends_tail b (c ∷ text) is = sym (ends_more b c text) ∙ is
 
+-- what is left after some bytes ends with no backslash if the text doesn't
 ends_after : (n : ℕ) (text : List ℕ) → ends_with_backslash text ≡ false → ends_with_backslash (drop n text) ≡ false
 ends_after zero text is = is
 ends_after (suc n) [] is = refl
 ends_after (suc n) (b ∷ text) is = ends_after n text (ends_tail b text is)
 
+-- what is left after some bytes has bytes of a line if the text has
 bytes_after : (n : ℕ) (text : List ℕ) → list_all is_line_byte text ≡ true → list_all is_line_byte (drop n text) ≡ true
 bytes_after zero text is = is
 bytes_after (suc n) [] is = refl
@@ -59,6 +65,7 @@ abbrev first_or : ℕ → List ℕ → ℕ
 first_or d [] = d
 first_or d (b ∷ text) = b
 
+-- a line without the blanks at its front is like the line
 fronted : (text : List ℕ) → Fronted text
 fronted [] = record { ends = λ is. is; bytes = λ is. is; solid = λ b rest is. absurd cc }
 fronted (b ∷ text) = by (is_blank b) refl (fronted text)
@@ -80,11 +87,13 @@ fronted (b ∷ text) = by (is_blank b) refl (fronted text)
 
 -- Lines put together.
 
+-- full lines of which only the last may end with a backslash
 abbrev FullClean : List (List ℕ) → Type 0
 FullClean [] = Unit {0}
 FullClean (line ∷ lines) = ((list_all is_line_byte line ≡ true) × (is_full line ≡ true))
     × (((lines ≡ []) ⊎ (ends_with_backslash line ≡ false)) × FullClean lines)
 
+-- a line is full by what was seen of it, by this byte, or by a later one
 fuller : (seen blank e : Bool) → (seen || not (blank && e)) ≡ true → ((seen || not blank) || not e) ≡ true
 fuller true blank e is = refl
 fuller false false e is = refl
@@ -112,6 +121,7 @@ line_body (b ∷ line) seen back bytes full last =
     ∙ line_body line (seen || not (is_blank b)) (ends_with_backslash (b ∷ [])) (and_second (is_line_byte b) _ bytes)
     (fuller seen (is_blank b) (is_empty_line line) full) last
 
+-- a full line, a newline and a body are a body
 line_then : (line rest : List ℕ) (seen back : Bool) → list_all is_line_byte line ≡ true → (seen || is_full line) ≡ true
     → last_back back line ≡ false → is_body false false rest ≡ true
     → is_body seen back (line ++ newline ∷ rest) ≡ true
@@ -123,6 +133,7 @@ line_then (b ∷ line) rest seen back bytes full last later =
     ∙ line_then line rest (seen || not (is_blank b)) (ends_with_backslash (b ∷ [])) (and_second (is_line_byte b) _ bytes)
     (fuller seen (is_blank b) (is_empty_line line) full) last later
 
+-- only the end of a text says whether a backslash ends it
 pub ends_far : (line : List ℕ) (c : ℕ) (rest : List ℕ) → ends_with_backslash (line ++ c ∷ rest) ≡ ends_with_backslash (c ∷ rest)
 ends_far [] c rest = refl
 ends_far (b ∷ []) c rest = ends_more b c rest
@@ -132,6 +143,7 @@ ends_newline : (text : List ℕ) → ends_with_backslash text ≡ true → ends_
 ends_newline [] is = absurd cc
 ends_newline (b ∷ text) is = ends_more newline b text ∙ is
 
+-- full lines of a settled text, with newlines between them, are a body, unless a backslash ends them
 lines_good : (line : List ℕ) (lines : List (List ℕ)) → FullClean (line ∷ lines)
     → (ends_with_backslash (join_with_byte newline (line ∷ lines)) ≡ true) ⊎ (is_text (join_with_byte newline (line ∷ lines)) ≡ true)
 lines_good line [] clean = by (ends_with_backslash line) refl
@@ -154,6 +166,7 @@ joined_good : (lines : List (List ℕ)) → FullClean lines → IsBody (join_wit
 joined_good [] clean = inl refl
 joined_good (line ∷ lines) clean = inr (lines_good line lines clean)
 
+-- the lines of a body are full
 body_clean : (lines : List (List ℕ)) → Clean lines → FullClean (body_lines lines)
 body_clean [] clean = tt
 body_clean (line ∷ lines) clean = by (is_empty_line line) refl (body_clean lines clean.1.1)
@@ -166,6 +179,7 @@ body_clean (line ∷ lines) clean = by (is_empty_line line) refl (body_clean lin
     by true e later = tt
     by false e later = ((clean.0, ap not e), (ends clean.1.0, later))
 
+-- what follows the colon, and the lines after it, are full lines of a settled text
 first_clean : (rest : List ℕ) (lines : List (List ℕ)) → list_all is_line_byte rest ≡ true
     → (lines ≡ []) ⊎ (ends_with_backslash rest ≡ false) → FullClean (body_lines lines)
     → FullClean (first_line rest ++ body_lines lines)
@@ -190,6 +204,7 @@ first_clean rest lines bytes last later = by (without_front is_blank rest) refl
         ends_same same (inl none) = inl none
         ends_same same (inr e) = inr (sym same ∙ e)
 
+-- the body of a line with a colon is good
 body_good : (rest : List ℕ) (lines : List (List ℕ)) → list_all is_line_byte rest ≡ true → (lines ≡ []) ⊎ (ends_with_backslash rest ≡ false)
     → Clean lines → IsBody (body_of rest lines)
 body_good rest lines bytes last clean = joined_good (first_line rest ++ body_lines lines)
@@ -197,12 +212,14 @@ body_good rest lines bytes last clean = joined_good (first_line rest ++ body_lin
 
 -- Directives.
 
+-- %rename has no body
 renamed_good : (n : ℕ) (words : List (List ℕ)) → IsGood (renamed n words)
 renamed_good n [] = tt
 renamed_good n (old ∷ []) = tt
 renamed_good n (old ∷ new ∷ []) = tt
 renamed_good n (old ∷ new ∷ word ∷ words) = tt
 
+-- %include has no body
 included_good : (n : ℕ) (missing : IfMissing) (text : List ℕ) → IsGood (included n missing text)
 included_good n missing [] = tt
 included_good n missing (b ∷ text) = by (b == less_than && ends_with nat_eq text (greater_than ∷ []))
@@ -211,6 +228,7 @@ included_good n missing (b ∷ text) = by (b == less_than && ends_with nat_eq te
     by true = tt
     by false = tt
 
+-- a directive of one line has no body
 keyword_good : (n : ℕ) (line : List ℕ) (words : List (List ℕ)) → IsGood (by_keyword n line words)
 keyword_good n line [] = tt
 keyword_good n line (word ∷ words) = by (pointwise nat_eq word (codes "%rename")) (pointwise nat_eq word (codes "%include"))
@@ -239,6 +257,7 @@ key_good b line body (suc at) mark directive good = by (b == asterisk) refl
       good,
     )
 
+-- the directive that a line begins is good
 line_good : (n b : ℕ) (line : List ℕ) (lines : List (List ℕ)) → list_all is_line_byte (b ∷ line) ≡ true
     → (lines ≡ []) ⊎ (ends_with_backslash (b ∷ line) ≡ false) → Clean lines
     → Each IsGood (directive_in (start_of n (b ∷ line) lines))
@@ -262,6 +281,7 @@ line_good n b line lines bytes last clean = by (b == number_sign) refl (b == per
     by false mark true directive' = (keyword_good n (b ∷ line) (words_of (b ∷ line)), tt)
     by false mark false directive' = (colon mark directive' (position is_colon (b ∷ line)), tt)
 
+-- at any place, in a body or not
 start_good : (n : ℕ) (line : List ℕ) (lines : List (List ℕ)) (empty inside : Bool) → list_all is_line_byte line ≡ true
     → (lines ≡ []) ⊎ (ends_with_backslash line ≡ false) → Clean lines
     → Each IsGood (directive_in (start_at empty inside n line lines))
@@ -282,6 +302,7 @@ start_good n line lines false false bytes last clean = by (without_front is_blan
     by (b ∷ text) is = line_good n b text lines (ap (list_all is_line_byte) (sym is) ∙ (fronted line).bytes bytes)
         (ends_same (ap ends_with_backslash is) (ends last)) clean
 
+-- all directives of such lines are good
 read_good : (lines : List (List ℕ)) (inside : Bool) (n : ℕ) → Clean lines → Each IsGood (read_lines inside n lines)
 read_good [] inside n clean = tt
 read_good (line ∷ lines) inside n clean =
@@ -290,5 +311,6 @@ read_good (line ∷ lines) inside n clean =
     (start_good n line lines (is_empty_line line) inside clean.0 clean.1.0 clean.1.1)
     (read_good lines (is_inside (is_empty_line line) inside (start_at (is_empty_line line) inside n line lines)) (n + 1) clean.1.1)
 
+-- all directives of a text are good
 pub directives_good : (text : List ℕ) → Each IsGood (directives_of text)
 directives_good text = read_good (lines_of (settled text)) false 1 (settled_clean text)

@@ -8,10 +8,11 @@ use Rattle.std.proofs.Common.{if◌then◌else◌, inl, inr, length, length-appe
 use Rattle.std.proofs.lemmas.List.{append-nil, take_at}
 use Rattle.drv_specs.proofs.Booleans.{and_first, and_second}
 
--- For directives_are_read: the pairs of a backslash and a newline go, by cases as byte by byte.
+-- For directives_are_read: the pairs of a backslash and a newline go, by cases (`Joins`, in any order) as byte by byte (`joined`).
 
 -- Lists with one item more at their end.
 
+-- two lists that are the same with one more item have the same last item and the same before it
 snoc_same : (xs ys : List ℕ) (a b : ℕ) → xs ++ a ∷ [] ≡ ys ++ b ∷ [] → (xs ≡ ys) × (a ≡ b)
 snoc_same [] [] a b e = (refl, (let same : a ≡ b = cc in same))
 snoc_same [] (y ∷ []) a b e = absurd cc
@@ -24,6 +25,7 @@ snoc_same (x ∷ xs) (y ∷ ys) a b e =
     let both = snoc_same xs ys a b tail in
     (rw (head, both.0) refl, both.1)
 
+-- a list is empty or has a last item
 last_of : (xs : List ℕ) → (xs ≡ []) ⊎ ((ys : List ℕ) × (b : ℕ) × (xs ≡ ys ++ b ∷ []))
 last_of [] = inl refl
 last_of (x ∷ xs) = by (last_of xs)
@@ -53,6 +55,7 @@ front_joined : (front : List ℕ) → IsJoined (front ++ backslash ∷ []) → I
 front_joined front all = λ a b is. all a (b ++ backslash ∷ [])
     (ap (λ l. l ++ backslash ∷ []) is ∙ append_assoc a (backslash ∷ newline ∷ b) (backslash ∷ []))
 
+-- one more byte makes no pair, unless it is a newline after a backslash
 more_joined : (done : List ℕ) (b : ℕ) → IsJoined done → is_pair done b ≡ false → IsJoined (done ++ b ∷ [])
 more_joined done b all plain = λ front back is. by front back (last_of back) is
   where
@@ -73,6 +76,7 @@ fold_both : (front back start : List ℕ) → fold joined_onto start (front ++ b
 fold_both [] back start = refl
 fold_both (b ∷ front) back start = fold_both front back (joined_onto start b)
 
+-- a text without a pair stays as it is
 stays : (rest done : List ℕ) → IsJoined (done ++ rest) → fold joined_onto done rest ≡ done ++ rest
 stays [] done all = sym (append-nil done)
 stays (b ∷ rest) done all = by (is_pair done b) refl
@@ -88,6 +92,7 @@ stays (b ∷ rest) done all = by (is_pair done b) refl
         absurd (all front.0 rest (ap (λ l. l ++ b ∷ rest) front.1 ∙ append_assoc front.0 (backslash ∷ []) (b ∷ rest)
         ∙ ap (λ c. front.0 ++ backslash ∷ c ∷ rest) line))
 
+-- byte by byte, a pair of a backslash and a newline goes
 pair_gone : (front back : List ℕ) → joined (front ++ backslash ∷ newline ∷ back) ≡ joined (front ++ back)
 pair_gone front back =
     fold_both front (backslash ∷ newline ∷ back) [] ∙ by (fold joined_onto [] front) ∙ sym (fold_both front back [])
@@ -98,12 +103,14 @@ pair_gone front back =
         else (done ++ backslash ∷ []) ++ newline ∷ []) back) (ends_last done backslash)
         ∙ ap (λ l. fold joined_onto l back) (without_last done)
 
+-- what is left by cases is left byte by byte
 pub joins_gives : {text left : List ℕ} → Joins text left → joined text ≡ left
 joins_gives (is_joined {text} all) = stays text [] all
 joins_gives (pair_goes front back joins) = pair_gone front back ∙ joins_gives joins
 
 -- From the function to the relation.
 
+-- what is left byte by byte is left by cases, after a beginning without a pair
 joins_from : (rest done : List ℕ) → IsJoined done → Joins (done ++ rest) (fold joined_onto done rest)
 joins_from [] done all = subst (λ l. Joins l done) (sym (append-nil done)) (is_joined all)
 joins_from (b ∷ rest) done all = by (is_pair done b) refl (joins_from rest)
@@ -128,6 +135,7 @@ joins_from (b ∷ rest) done all = by (is_pair done b) refl (joins_from rest)
         (subst (λ l. Joins l (fold joined_onto front.0 rest)) whole
         (pair_goes front.0 rest (later front.0 (front_joined front.0 (subst IsJoined front.1 all)))))
 
+-- no text has a pair in it if it is empty
 none_joined : IsJoined []
 none_joined = λ front back is. by front back is
   where
@@ -135,5 +143,6 @@ none_joined = λ front back is. by front back is
     by [] back is = cc
     by (b ∷ front) back is = cc
 
+-- what is left of a whole text byte by byte is left by cases
 pub joined_joins : (text : List ℕ) → Joins text (joined text)
 joined_joins text = joins_from text [] none_joined

@@ -14,16 +14,19 @@ use Rattle.drv_system.specs.Facts.{Facts}
 use Rattle.drv_system.specs.Known.{Is, Known, Unasked}
 use Rattle.std.proofs.Common.{◌≡◌, Err, List, [], ◌∷◌, Ok, Result, refl, subst, suc, zero, ℕ, ap, sym, ◌∙◌}
 
--- For loading_keeps: loading a text or a file keeps the invariant of a set.
+-- For loading_keeps: loading a text or a file keeps the invariant of a set (`Kept`), whatever files it includes.
 
+-- how a file is included keeps the invariant
 abbrev pub Keeps : Including → Type 0
 Keeps inc = (c : Carried) (missing : IfMissing) (name : List ℕ) (c' : Carried) → inc c missing name ≡ Is (Ok c') → Kept c.set → Kept c'.set
 
+-- a change of the set that keeps the invariant, as a directive
 changed_keeps : (set : Set) (files : ℕ) (given : Result Set SpecsFault) (c' : Carried) → changed files given ≡ Is (Ok c')
     → ((set' : Set) → given ≡ Ok set' → Kept set') → Kept c'.set
 changed_keeps set files (Ok set') c' is kept = let same : set' ≡ c'.set = cc in subst Kept same (kept set' refl)
 changed_keeps set files (Err fault) c' is kept = absurd cc
 
+-- one good directive keeps the invariant
 carried_keeps : (inc : Including) → Keeps inc → (c : Carried) (directive : Directive) (c' : Carried) → IsGood directive
     → carried inc c directive ≡ Is (Ok c') → Kept c.set → Kept c'.set
 carried_keeps inc keeps c (Text name body) c' good is kept =
@@ -35,6 +38,7 @@ carried_keeps inc keeps c (Rename old new) c' good is kept =
 carried_keeps inc keeps c (Include missing name) c' good is kept = keeps c missing name c' is kept
 carried_keeps inc keeps c (Bad n) c' good is kept = absurd cc
 
+-- good directives keep the invariant
 all_keep : (inc : Including) → Keeps inc → (directives : List Directive) (c c' : Carried) → Each IsGood directives
     → all_carried inc c directives ≡ Is (Ok c') → Kept c.set → Kept c'.set
 all_keep inc keeps [] c c' good is kept = let same : c ≡ c' = cc in subst (λ (d : Carried). Kept d.set) same kept
@@ -48,7 +52,9 @@ all_keep inc keeps (directive ∷ directives) c c' good is kept =
     by (Is (Err fault)) given is' later = absurd cc
     by (Is (Ok d)) given is' later = later d is' (carried_keeps inc keeps c directive d good.0 given kept)
 
+-- for any answers, and any folders to search
 module _ (F : Facts) (prefixes : Prefixes) where
+  -- the directives of an included file keep the invariant
   file_keeps : (inc : Including) → Keeps inc → (set : Set) (files : ℕ) (missing : IfMissing) (name : List ℕ) (c' : Carried)
       → file_carried F prefixes inc set files missing name ≡ Is (Ok c') → Kept set → Kept c'.set
   file_keeps inc keeps set zero missing name c' is kept = absurd cc
@@ -61,19 +67,21 @@ module _ (F : Facts) (prefixes : Prefixes) where
       by (Is (Ok text)) is' = all_keep inc keeps (directives_of text) (record { set = set; files = left }) c'
           (directives_good text) is' kept
 
+  -- each %include keeps the invariant, as deep as it may be
   including_keeps : (levels : ℕ) → Keeps (including F prefixes levels)
   unfolding including
   including_keeps zero c missing name c' is kept = absurd cc
   including_keeps (suc levels) c missing name c' is kept =
       file_keeps (including F prefixes levels) (including_keeps levels) c.set c.files missing name c' is kept
 
+  -- the set that the directives give has the invariant
   set_by : (given : Known (Result Carried SpecsFault)) (set' : Set) → then_by given set_in ≡ Is (Ok set')
       → ((c : Carried) → given ≡ Is (Ok c) → Kept c.set) → Kept set'
   set_by Unasked set' is kept = absurd cc
   set_by (Is (Err fault)) set' is kept = absurd cc
   set_by (Is (Ok c)) set' is kept = let same : c.set ≡ set' = cc in subst Kept same (kept c refl)
 
-  -- a text that was run
+  -- a text that was carried out keeps the invariant
   pub worked_keeps : (set set' : Set) (files : ℕ) (text : List ℕ) → Kept set
       → worked F prefixes set files (directives_of text) ≡ Is (Ok set') → Kept set'
   worked_keeps set set' files text kept is =
@@ -81,15 +89,18 @@ module _ (F : Facts) (prefixes : Prefixes) where
       (λ c given. all_keep (including F prefixes 15) (including_keeps 15) (directives_of text) (record { set = set; files = files }) c
       (directives_good text) given kept)
 
+  -- a settled text that was carried out keeps the invariant
   pub settled_keeps : (set set' : Set) (files : ℕ) (left : List ℕ) → IsSettled left → Kept set
       → worked F prefixes set files (read_settled left) ≡ Is (Ok set') → Kept set'
   settled_keeps set set' files left settled kept is =
       worked_keeps set set' files settled.0 kept (ap (λ l. worked F prefixes set files (read_settled l)) (sym settled.1) ∙ is)
 
+  -- a text that is loaded keeps the invariant
   pub loaded_keeps : (set set' : Set) (text : List ℕ) → Kept set → loaded F prefixes set text ≡ Is (Ok set') → Kept set'
   unfolding loaded
   loaded_keeps set set' text kept is = worked_keeps set set' most_files text kept is
 
+  -- a file that is loaded keeps the invariant
   pub file_loaded_keeps : (set set' : Set) (name : List ℕ) → Kept set → file_loaded F prefixes set name ≡ Is (Ok set') → Kept set'
   unfolding file_loaded
   file_loaded_keeps set set' name kept is =

@@ -11,14 +11,15 @@ use Rattle.std.specs.Prelude.{nat_eq, nat_lt, position, unwrap_or, vec_len}
 
 -- For the map of named texts: it finds a name where the list of the set has it.
 
--- whether a key is this name, and whether two keys are one name
+-- whether a key is this name
 abbrev pub is_key_of : List ℕ → Vec ℕ → Bool
 is_key_of name key = pointwise nat_eq name key.items
 
+-- whether two keys are one name
 abbrev pub same_key : Vec ℕ → Vec ℕ → Bool
 same_key key other = pointwise nat_eq key.items other.items
 
--- bytes that were copied
+-- bytes that were copied one by one are the same bytes
 pub same_bytes : (bytes copies : List ℕ) → AllZip (λ b copy. copy ≡ b) bytes copies → copies ≡ bytes
 same_bytes [] [] alike = refl
 same_bytes [] (b ∷ copies) alike = absurd alike
@@ -35,9 +36,11 @@ front_of : {X : Type 0} (xs : List X) (x : X) → take (length xs) (xs ++ x ∷ 
 front_of [] x = refl
 front_of (y ∷ xs) x = ap (λ rest. y ∷ rest) (front_of xs x)
 
+-- two values are the same if `Some` of them are
 pub some_is : {X : Type 0} {x y : X} → Some x ≡ Some y → x ≡ y
 some_is {X} {x} e = ap (λ o. unwrap_or o x) e
 
+-- the entry whose key passes a test
 module _ {K X : Type 0} (t : K → Bool) where
   -- the first place whose key passes
   abbrev IsFirst : List (K × X) → ℕ → Type 0
@@ -45,6 +48,7 @@ module _ {K X : Type 0} (t : K → Bool) where
   IsFirst (e ∷ es) zero = t e.0 ≡ true
   IsFirst (e ∷ es) (suc i) = (t e.0 ≡ false) × IsFirst es i
 
+  -- a key that is found is the first that passes at some place
   first_of : (x : X) (es : List (K × X)) → lookup t es ≡ Some x → (i : ℕ) × IsFirst es i
   first_of x [] is = absurd cc
   first_of x (e ∷ es) is = by (t e.0) refl is (first_of x es)
@@ -54,28 +58,34 @@ module _ {K X : Type 0} (t : K → Bool) where
       by true hit is' later = (0, hit)
       by false hit is' later = let found = later is' in (suc found.0, (hit, found.1))
 
+  -- the place of the first key that passes is one of the list
   first_within : (es : List (K × X)) (i : ℕ) → IsFirst es i → i < length (keys_of es)
   first_within [] i h = absurd h
   first_within (e ∷ es) zero h = omega arith
   first_within (e ∷ es) (suc i) h = omega (arith, first_within es i h.1)
 
+  -- the search for the first key that passes gives its place
   first_or_len : (es : List (K × X)) (i : ℕ) → IsFirst es i → position_or_len t (keys_of es) ≡ i
   first_or_len [] i h = absurd h
   first_or_len (e ∷ es) zero h = ap (λ b. cond (not b) (1 + position_or_len t (keys_of es)) 0) h
   first_or_len (e ∷ es) (suc i) h = ap (λ b. cond (not b) (1 + position_or_len t (keys_of es)) 0) h.0
       ∙ ap (λ n. 1 + n) (first_or_len es i h.1) ∙ omega arith
 
+  -- the search that may find none gives the place of the first key that passes
   first_is : (es : List (K × X)) (i : ℕ) → IsFirst es i → position t (keys_of es) ≡ Some i
   first_is es i h =
       ap (λ n. cond (nat_lt n (length (keys_of es))) (Some n) None) (first_or_len es i h)
       ∙ ap (λ b. cond b (Some i) None) (lt-ltb i (length (keys_of es)) (first_within es i h))
 
+-- that entry gets the key k
 module _ {K X : Type 0} (t : K → Bool) (k : K) (x : X) where
+  -- the first place is the same where more follow
   first_front : (es rest : List (K × X)) (i : ℕ) → IsFirst t es i → IsFirst t (es ++ rest) i
   first_front [] rest i h = absurd h
   first_front (e ∷ es) rest zero h = h
   first_front (e ∷ es) rest (suc i) h = (h.0, first_front es rest i h.1)
 
+  -- an entry put in the place of another, without the last one, is that one renamed
   put_there : (es : List (K × X)) (i : ℕ) → IsFirst t es i → lookup t es ≡ Some x
       → take (length es) (set (es ++ (k, x) ∷ []) i (k, x)) ≡ set_key t es k
   put_there [] i h is = absurd h
@@ -90,13 +100,14 @@ module _ {K X : Type 0} (t : K → Bool) (k : K) (x : X) where
   length_more : (es : List (K × X)) → length (es ++ (k, x) ∷ []) - 1 ≡ length es
   length_more es = omega (arith, length-append es ((k, x) ∷ []))
 
+  -- an entry that goes last, and from there to the place of another, is that one renamed
   swapped : (es : List (K × X)) (i : ℕ) → IsFirst t es i → lookup t es ≡ Some x → swap_remove (es ++ (k, x) ∷ []) i (k, x) ≡ set_key t es k
   swapped es i h is =
       ap (λ n. take n (set (es ++ (k, x) ∷ []) i (slice_index_or (es ++ (k, x) ∷ []) n (k, x)))) (length_more es)
       ∙ ap (λ e. take (length es) (set (es ++ (k, x) ∷ []) i e)) (last_of es (k, x) (k, x))
       ∙ put_there es i h is
 
-  -- after the entries, and then in the place of the one whose key passes
+  -- an entry that goes last, and then to the place of the one whose key passes, is that one renamed
   pub key_renamed : (es : List (K × X)) → lookup t es ≡ Some x → swap_remove_entry t (es ++ (k, x) ∷ []) ≡ set_key t es k
   key_renamed es is =
       let first = first_of t x es is in

@@ -14,18 +14,22 @@ use Rattle.std.specs.Map.{keys_of, lookup, remove_entry, set_key, set_value, val
 use Rattle.std.specs.Option.{option_flatten, option_map}
 use Rattle.std.specs.Prelude.{⊤, slice_get, vec_len}
 
--- For the map of named texts: a deleted name keeps its entry, which has no text.
+-- For the map of named texts (named_texts.rt): a deleted name keeps its entry, which has no text, so no other name moves. `texts_left` is
+-- the list of the texts that are left. Each change of the map changes that list as the definitions change the list of a set.
 
+-- the text of one name
 module _ (name : List ℕ) where
   -- no key is the name
   abbrev Lacks : List (Vec ℕ × Option (List ℕ)) → Type 0
   Lacks es = AllByRecursion (λ (key : Vec ℕ). pointwise nat_eq name key.items ≡ false) (keys_of es)
 
+  -- a map in which no key is the name lacks it
   lacks : (key : Vec ℕ) (es : List (Vec ℕ × Option (List ℕ))) → name ≡ key.items
       → AllByRecursion (λ other. same_key key other ≡ false) (keys_of es) → Lacks es
   lacks key [] same none = tt
   lacks key (e ∷ es) same none = (ap (λ n. pointwise nat_eq n e.0.items) same ∙ none.0, lacks key es same none.1)
 
+  -- a name that no key is has no text
   none_left : (es : List (Vec ℕ × Option (List ℕ))) → Lacks es → lookup (pointwise nat_eq name) (texts_left es) ≡ None
   none_left [] none = refl
   none_left (e ∷ es) none = by e.1 (none_left es none.1)
@@ -35,7 +39,7 @@ module _ (name : List ℕ) where
       by None later = later
       by (Some text) later = ap (λ b. cond b (Some text) (lookup (pointwise nat_eq name) (texts_left es))) none.0 ∙ later
 
-  -- the text of a name
+  -- the text of a name, in the list and in the map
   pub lookup_left : (es : List (Vec ℕ × Option (List ℕ))) → IsDistinct same_key (keys_of es)
       → lookup (pointwise nat_eq name) (texts_left es) ≡ option_flatten (lookup (is_key_of name) es)
   lookup_left [] distinct = refl
@@ -57,6 +61,7 @@ module _ (name : List ℕ) where
           ap (λ b. cond b (Some text) (lookup (pointwise nat_eq name) (texts_left es))) is ∙ later
           ∙ sym (ap (λ b. option_flatten (cond b (Some (Some text)) (lookup (is_key_of name) es))) is)
 
+  -- a name without an entry has no text
   pub unlisted : (es : List (Vec ℕ × Option (List ℕ))) → lookup (is_key_of name) es ≡ None
       → lookup (pointwise nat_eq name) (texts_left es) ≡ None
   unlisted [] none = refl
@@ -70,7 +75,7 @@ module _ (name : List ℕ) where
       by None false is none later = later none
       by (Some text) false is none later = ap (λ b. cond b (Some text) (lookup (pointwise nat_eq name) (texts_left es))) is ∙ later none
 
-  -- the entry of a name without a text is dropped
+  -- an entry without a text may be dropped
   pub left_vacated : (es : List (Vec ℕ × Option (List ℕ))) → lookup (pointwise nat_eq name) (texts_left es) ≡ None
       → texts_left (remove_entry (is_key_of name) es) ≡ texts_left es
   left_vacated [] none = refl
@@ -90,6 +95,7 @@ module _ (name : List ℕ) where
           ∙ ap (λ l. (e.0.items, text) ∷ l) (later (sym (ap (λ b. cond b (Some text) (lookup (pointwise nat_eq name) (texts_left es))) is)
           ∙ none))
 
+  -- the removal of a name that no key is changes nothing
   none_removed : (es : List (Vec ℕ × Option (List ℕ))) → Lacks es → remove_entry (pointwise nat_eq name) (texts_left es) ≡ texts_left es
   none_removed [] none = refl
   none_removed (e ∷ es) none = by e.1 (none_removed es none.1)
@@ -100,7 +106,7 @@ module _ (name : List ℕ) where
       by (Some text) later = ap (λ b. cond b (texts_left es) ((e.0.items, text) ∷ remove_entry (pointwise nat_eq name) (texts_left es)))
           none.0 ∙ ap (λ l. (e.0.items, text) ∷ l) later
 
-  -- a name loses its text
+  -- a name whose text is taken away is removed from the list of texts
   pub left_without : (es : List (Vec ℕ × Option (List ℕ))) → IsDistinct same_key (keys_of es)
       → texts_left (set_value (is_key_of name) es None) ≡ remove_entry (pointwise nat_eq name) (texts_left es)
   left_without [] distinct = refl
@@ -124,6 +130,7 @@ module _ (name : List ℕ) where
           ∙ ap (λ l. (e.0.items, text) ∷ l) later
           ∙ sym (ap (λ b. cond b (texts_left es) ((e.0.items, text) ∷ remove_entry (pointwise nat_eq name) (texts_left es))) is)
 
+  -- the removal of a name without an entry changes nothing
   pub left_unlisted : (es : List (Vec ℕ × Option (List ℕ))) → lookup (is_key_of name) es ≡ None
       → texts_left es ≡ remove_entry (pointwise nat_eq name) (texts_left es)
   left_unlisted es none = absent (texts_left es) (unlisted es none)
@@ -140,12 +147,12 @@ module _ (name : List ℕ) where
           by false is none later = ap (λ l. t ∷ l) (later none)
               ∙ sym (ap (λ b. cond b texts (t ∷ remove_entry (pointwise nat_eq name) texts)) is)
 
--- no value
+-- an optional value that is not there is None
 pub none_of : {X : Type 0} (o : Option X) → is_some o ≡ false → o ≡ None
 none_of None is = refl
 none_of (Some x) is = absurd cc
 
--- the text of a name whose entry has a place
+-- the text that the code finds at the place of a name is that of the name
 pub text_found : (name : List ℕ) (es : List (Vec ℕ × Option (List ℕ))) (place : ℕ) (found : Option (Vec ℕ × Option (List ℕ)))
     → IsDistinct same_key (keys_of es)
     → slice_get (values_of es) place ≡ lookup (is_key_of name) es → found ≡ slice_get es place
@@ -154,13 +161,13 @@ text_found name es place found distinct there is =
     lookup_left name es distinct ∙ ap option_flatten (sym there ∙ slice_get-map (λ (e : Vec ℕ × Option (List ℕ)). e.1) es place
     ∙ ap (option_map (λ e. e.1)) (sym is))
 
--- the entry of a name is not one without a text
+-- a name has no entry, or one with a text
 abbrev pub IsHeld : Option (Option (List ℕ)) → Type 0
 IsHeld None = ⊤
 IsHeld (Some None) = ⊥
 IsHeld (Some (Some text)) = ⊤
 
--- a text under a name
+-- a text is put under such a name in the map as in the list
 pub left_with : (key : Vec ℕ) (text : List ℕ) (es : List (Vec ℕ × Option (List ℕ))) → IsHeld (lookup (is_key_of key.items) es)
     → texts_left (insert_entry same_key es key (Some text)) ≡ insert_entry (pointwise nat_eq) (texts_left es) key.items text
 left_with key text [] held = refl
@@ -187,6 +194,7 @@ left_with key text (e ∷ es) held = by e.1 (pointwise nat_eq key.items e.0.item
         ∙ sym (ap (λ b. if b then (e.0.items, text) ∷ texts_left es
         else (e.0.items, had) ∷ insert_entry (pointwise nat_eq) (texts_left es) key.items text) is)
 
+-- a name that was put and then removed is removed
 replaced : (name : List ℕ) (key : Vec ℕ) (text : Option (List ℕ)) (es : List (Vec ℕ × Option (List ℕ))) → key.items ≡ name
     → remove_entry (is_key_of name) (insert_entry same_key es key text) ≡ remove_entry (is_key_of name) es
 replaced name key text [] same = ap (λ n. cond (pointwise nat_eq name n) [] ((key, text) ∷ [])) same
@@ -221,12 +229,13 @@ keys_kept key text (e ∷ es) there = by (same_key key e.0) refl there (keys_kep
     by false is there later = ap (λ b. keys_of (if b then (e.0, text) ∷ es else e ∷ insert_entry same_key es key text)) is
         ∙ ap (λ l. e.0 ∷ l) (later there)
 
+-- keys that are distinct after a text was put were so before
 distinct_before : (key : Vec ℕ) (text : Option (List ℕ)) (es after : List (Vec ℕ × Option (List ℕ)))
     → is_some (lookup (same_key key) es) ≡ true → after ≡ insert_entry same_key es key text
     → IsDistinct same_key (keys_of after) → IsDistinct same_key (keys_of es)
 distinct_before key text es after there is distinct = subst (IsDistinct same_key) (ap keys_of is ∙ keys_kept key text es there) distinct
 
--- the text that a name had
+-- the text that a name had, after another was put
 pub text_before : (key : Vec ℕ) (name : List ℕ) (text : List ℕ) (es after : List (Vec ℕ × Option (List ℕ))) → key.items ≡ name
     → after ≡ insert_entry same_key es key (Some text)
     → IsDistinct same_key (keys_of after) → lookup (pointwise nat_eq name) (texts_left es) ≡ option_flatten (lookup (same_key key) es)
@@ -239,7 +248,7 @@ text_before key name text es after same is distinct = by (lookup (same_key key) 
         lookup_left name es (distinct_before key (Some text) es after (ap is_some there) is distinct)
         ∙ ap (λ n. option_flatten (lookup (is_key_of n) es)) (sym same)
 
--- a text under a name that had none, behind all others
+-- a text under a name that had lost its own goes behind all others: the code puts it, finds the entry without a text, and moves it
 pub moved : (key again : Vec ℕ) (name text : List ℕ) (put : Option (List ℕ)) (es first second third : List (Vec ℕ × Option (List ℕ)))
     → key.items ≡ name → again.items ≡ name
     → lookup (same_key key) es ≡ Some None → first ≡ insert_entry same_key es key (Some text) → IsDistinct same_key (keys_of first)
@@ -258,14 +267,14 @@ moved key again name text put es first second third same same' had is distinct n
     ∙ ap (λ l. insert_entry (pointwise nat_eq) l again.items text) rest
     ∙ ap (λ n. insert_entry (pointwise nat_eq) (texts_left es) n text) same'
 
--- where the name wasn't there, or had a text
+-- a text is put under a name that had a text, or no entry
 pub put_there : (key : Vec ℕ) (name text : List ℕ) (old : Option (Option (List ℕ))) (es after : List (Vec ℕ × Option (List ℕ)))
     → key.items ≡ name → old ≡ lookup (same_key key) es → IsHeld old
     → after ≡ insert_entry same_key es key (Some text) → texts_left after ≡ insert_entry (pointwise nat_eq) (texts_left es) name text
 put_there key name text old es after same had held is =
     ap texts_left is ∙ left_with key text es (subst IsHeld had held) ∙ ap (λ n. insert_entry (pointwise nat_eq) (texts_left es) n text) same
 
--- the texts of a map without the entries that have none
+-- entries without a text may be dropped: the texts are the same
 pub left_kept : (es kept : List (Vec ℕ × Option (List ℕ))) → kept ≡ filter (λ e. is_some e.1) es → texts_left kept ≡ texts_left es
 left_kept es kept is = ap texts_left is ∙ all es
   where
@@ -279,7 +288,7 @@ left_kept es kept is = ap texts_left is ∙ all es
         by None later = later
         by (Some text) later = ap (λ l. (x.0.items, text) ∷ l) later
 
--- a text under a new name
+-- a text under a new name keeps its place
 left_renamed_at : (old : List ℕ) (new : Vec ℕ) (text : List ℕ) (es : List (Vec ℕ × Option (List ℕ)))
     → lookup (is_key_of old) es ≡ Some (Some text)
     → texts_left (set_key (is_key_of old) es new) ≡ set_key (pointwise nat_eq old) (texts_left es) new.items
@@ -307,11 +316,13 @@ left_renamed_at old new text (e ∷ es) there = by e.1 (pointwise nat_eq old e.0
         ∙ sym (ap (λ b. cond b ((new.items, had) ∷ texts_left es)
         ((e.0.items, had) ∷ set_key (pointwise nat_eq old) (texts_left es) new.items)) is)
 
+-- an entry whose text is found has that text
 both_some : (o : Option (Option (List ℕ))) (text : List ℕ) → option_flatten o ≡ Some text → o ≡ Some (Some text)
 both_some None text is = absurd cc
 both_some (Some None) text is = absurd cc
 both_some (Some (Some other)) text is = ap Some is
 
+-- the code renames by a new entry, which it swaps into the place of the old one
 pub left_renamed : (old name text : List ℕ) (new : Vec ℕ) (es without with_new after : List (Vec ℕ × Option (List ℕ))) → new.items ≡ name
     → lookup (pointwise nat_eq old) (texts_left es) ≡ Some text
     → lookup (pointwise nat_eq name) (texts_left es) ≡ None → without ≡ remove_entry (is_key_of name) es
@@ -329,7 +340,7 @@ left_renamed old name text new es without with_new after same there free is dist
     ∙ left_renamed_at old new text without found ∙ ap (λ l. set_key (pointwise nat_eq old) l new.items) rest
     ∙ ap (set_key (pointwise nat_eq old) (texts_left es)) same
 
--- a name without a text has no new name
+-- a rename of a name without a text changes nothing
 pub unnamed : (old new : List ℕ) (texts : List (List ℕ × List ℕ)) → lookup (pointwise nat_eq old) texts ≡ None
     → texts ≡ set_key (pointwise nat_eq old) texts new
 unnamed old new [] none = refl
@@ -342,7 +353,7 @@ unnamed old new (t ∷ texts) none = by (pointwise nat_eq old t.0) refl none (un
     by false is none later = ap (λ l. t ∷ l) (later none)
         ∙ sym (ap (λ b. cond b ((new, t.1) ∷ texts) (t ∷ set_key (pointwise nat_eq old) texts new)) is)
 
--- the texts of a copy, where a copy of a text is that text
+-- a copy of the map has the same texts
 pub left_copied : (R : Option (List ℕ) → Option (List ℕ) → Type 0) → ((x y : Option (List ℕ)) → R x y → y ≡ x)
     → (es copies : List (Vec ℕ × Option (List ℕ)))
     → AllZip (λ e copy. (AllZip (λ b c. c ≡ b) e.0.items copy.0.items × (vec_len copy.0 ≡ vec_len e.0)) × R e.1 copy.1) es copies

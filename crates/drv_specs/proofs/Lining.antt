@@ -12,9 +12,10 @@ use Rattle.std.proofs.lemmas.List.{append-nil}
 use Rattle.std.proofs.lemmas.List.Folds.{list_all-append}
 use Rattle.std.specs.List.{join_with_byte, list_all}
 
--- For the dump and the reading of a file: a text and its lines determine each other.
+-- For the dump and the reading of a file: a text and its lines determine each other. A full line is one that isn't empty and has more than
+-- blanks.
 
--- a text with a newline and more after it
+-- the lines of a text, a newline and more are those of the text and those of the rest
 pub pieces_then : (text front rest : List ℕ) → pieces_from ends_line front (text ++ newline ∷ rest) ≡ pieces_from ends_line front text
     ++ pieces_from ends_line [] rest
 pieces_then [] front rest = refl
@@ -28,7 +29,7 @@ pieces_then (b ∷ text) front rest = by (ends_line b) refl (pieces_then text []
     by true is cut on = rw is (ap (λ ls. front ∷ ls) cut)
     by false is cut on = rw is on
 
--- a text of one line
+-- a text without a newline is one line
 pub one_piece : (line front : List ℕ) → list_all (λ b. not (ends_line b)) line ≡ true
     → pieces_from ends_line front line ≡ (front ++ line) ∷ []
 one_piece [] front is = ap (λ l. l ∷ []) (sym (append-nil front))
@@ -36,7 +37,7 @@ one_piece (b ∷ line) front is =
     rw (not_true (ends_line b) (and_first (not (ends_line b)) _ is))
     (one_piece line (front ++ b ∷ []) (and_second (not (ends_line b)) _ is) ∙ ap (λ l. l ∷ []) (append_assoc front (b ∷ []) line))
 
--- a text is its lines put together
+-- the lines of a text, with a newline before each, are the text with a newline before it
 pieces_joined : (text front : List ℕ) → flat_map (λ line. newline ∷ line) (pieces_from ends_line front text) ≡ newline ∷ (front ++ text)
 pieces_joined [] front = append-nil (newline ∷ front) ∙ ap (λ l. newline ∷ l) (sym (append-nil front))
 pieces_joined (b ∷ text) front = by (ends_line b) refl (pieces_joined text []) (pieces_joined text (front ++ b ∷ []))
@@ -47,13 +48,15 @@ pieces_joined (b ∷ text) front = by (ends_line b) refl (pieces_joined text [])
     by true is cut on = rw is (ap (λ l. newline ∷ (front ++ l)) (cut ∙ ap (λ c. c ∷ text) (sym (eqb-true b newline is))))
     by false is cut on = rw is (on ∙ ap (λ l. newline ∷ l) (append_assoc front (b ∷ []) text))
 
+-- a text is its lines with newlines between them
 pub lines_join : (text : List ℕ) → join_with_byte newline (pieces_from ends_line [] text) ≡ text
 lines_join text = sym (joined_lines (pieces_from ends_line [] text)) ∙ ap (drop 1) (pieces_joined text [])
 
--- no line of a body is empty
+-- whether a line is neither empty nor of blanks alone
 abbrev pub is_full : List ℕ → Bool
 is_full line = not (is_empty_line line)
 
+-- whether a line with one more byte is full
 full_more : (front : List ℕ) (b : ℕ) (seen : Bool) → seen ≡ is_full front → (b == newline) ≡ false → sees seen b ≡ is_full (front ++ b ∷ [])
 full_more front b seen same line =
     rw line (ap (λ s. s || not (is_blank b)) same ∙ by (is_empty_line front) (is_blank b)
@@ -64,6 +67,7 @@ full_more front b seen same line =
     by true false = refl
     by false blank = refl
 
+-- the lines of a body are full
 pub body_full : (text front : List ℕ) (seen back : Bool) → seen ≡ is_full front → is_body seen back text ≡ true
     → list_all is_full (pieces_from ends_line front text) ≡ true
 body_full [] front seen back same is = rw (sym same) (rw (and_first seen (not back) is) refl)
@@ -85,18 +89,20 @@ body_full (b ∷ text) front seen back same is = by (ends_line b) refl (body_ful
         rw cuts (rw (sym same ∙ seen_is) (cut (ap (λ c. not c && (seen || not (is_blank b))) cuts) later))
     by false cuts cut on = rw cuts (on (full_more front b seen same cuts) later)
 
--- the lines of a body, with an empty line and more after them
+-- full lines before an empty one are the lines of a body
 pub body_lines_are : (lines rest : List (List ℕ)) → list_all is_full lines ≡ true → body_lines (lines ++ [] ∷ rest) ≡ lines
 body_lines_are [] rest is = refl
 body_lines_are (line ∷ lines) rest is =
     rw (not_true (is_empty_line line) (and_first (is_full line) _ is))
     (ap (λ ls. line ∷ ls) (body_lines_are lines rest (and_second (is_full line) _ is)))
 
+-- a full line within a body is passed over
 pub inside_next : (line : List ℕ) (lines : List (List ℕ)) (n : ℕ) → is_empty_line line ≡ false
     → read_lines true n (line ∷ lines) ≡ read_lines true (n + 1) lines
 inside_next line lines n is = ap (λ e. directive_in (start_at e true n line lines)
     ++ read_lines (is_inside e true (start_at e true n line lines)) (n + 1) lines) is
 
+-- all lines of a body are passed over, up to the empty line after them
 pub inside_passed : (lines rest : List (List ℕ)) (n : ℕ) → list_all is_full lines ≡ true
     → (m : ℕ) × (read_lines true n (lines ++ [] ∷ rest) ≡ read_lines false m rest)
 inside_passed [] rest n is = (n + 1, refl)

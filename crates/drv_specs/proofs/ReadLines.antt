@@ -11,7 +11,7 @@ use Rattle.std.proofs.Common.{◌≡◌, ◌↔◌, ◌+◌, ◌∙◌, ◌==◌
 use Rattle.std.proofs.Common.{false, filter, if◌then◌else◌, length, not, refl, subst, sym, take, true, ℕ}
 use Rattle.std.specs.List.{join_with_byte, list_all, position}
 
--- For directives_are_read: the directives of lines are the same by cases and line by line.
+-- For directives_are_read: the directives of lines are the same by cases (`Reads`, specs/Reading) and line by line (`read_lines`).
 
 -- the lines of a body, and what follows it
 body_is : (body lines : List (List ℕ)) → list_all is_full_line body ≡ true → EndsBody lines → body_lines (body ++ lines) ≡ body_lines body
@@ -20,12 +20,14 @@ body_is [] (line ∷ lines) full (at_empty is) = rw is refl
 body_is (line ∷ body) lines full ends =
     ap (λ rest. if is_empty_line line then [] else line ∷ rest) (body_is body lines (and_second (is_full_line line) _ full) ends)
 
+-- the directive of a line with a colon depends on its body alone
 colon_is : (n : ℕ) (line : List ℕ) (body lines : List (List ℕ)) (at : Option ℕ) → body_lines (body ++ lines) ≡ body_lines body
     → by_colon n line (body ++ lines) at ≡ by_colon n line body at
 colon_is n line body lines None same = refl
 colon_is n line body lines (Some at) same = ap (λ ls. by_key (take at line)
     (join_with_byte newline (first_line (drop (at + 1) line) ++ ls))) same
 
+-- after a body the lines are read outside of it
 after_body : (body lines : List (List ℕ)) (n : ℕ) → list_all is_full_line body ≡ true → EndsBody lines
     → read_lines true n (body ++ lines) ≡ read_lines false (n + length body) lines
 after_body [] [] n full ends = refl
@@ -38,6 +40,7 @@ after_body (line ∷ body) lines n full ends =
 
 -- From the relation to the function.
 
+-- lines that are read by cases give the same line by line
 reads_gives : {n : ℕ} {lines : List (List ℕ)} {directives : List Directive} → Reads n lines directives
     → read_lines false n lines ≡ directives
 reads_gives no_lines = refl
@@ -66,7 +69,7 @@ reads_gives (entry {n} {b} {line} {text} body {lines} begins no_comment no_keywo
 abbrev AreRead : List (List ℕ) → Type 0
 AreRead lines = (n : ℕ) → (directives : List Directive) × Reads n lines directives
 
--- the lines of a body in front, and those after it
+-- lines in two parts: those of a body, and what follows it
 record Cut (lines : List (List ℕ)) : Type 0 where
   body : List (List ℕ)
   rest : List (List ℕ)
@@ -75,6 +78,7 @@ record Cut (lines : List (List ℕ)) : Type 0 where
   ends : EndsBody rest
   read : AreRead rest
 
+-- a line of blanks is empty
 front_none : (line : List ℕ) → without_front is_blank line ≡ [] → is_empty_line line ≡ true
 front_none [] none = refl
 front_none (b ∷ line) none = by (is_blank b) refl (front_none line)
@@ -85,6 +89,7 @@ front_none (b ∷ line) none = by (is_blank b) refl (front_none line)
     by false is later = absurd (let apart : b ∷ line ≡ [] = sym (ap (λ t. if t then without_front is_blank line else b ∷ line) is) ∙ none in
         cc)
 
+-- a line that begins with a byte is read by cases, whatever it begins
 begun : (n b : ℕ) (line text : List ℕ) (lines : List (List ℕ)) → without_front is_blank line ≡ b ∷ text → AreRead lines → Cut lines
     → (comments keys : Bool) → (b == number_sign) ≡ comments → (b == percent) ≡ keys
     → (directives : List Directive) × Reads n (line ∷ lines) directives
@@ -99,6 +104,7 @@ begun n b line text lines begins read cut false false is key =
     let directives : List Directive = by_colon n (b ∷ text) cut.body (position is_colon (b ∷ text)) ∷ following.0 in
     (directives, subst (λ ls. Reads n (line ∷ ls) directives) cut.parts (entry cut.body begins is key cut.full cut.ends following.1))
 
+-- a line that isn't empty is read by cases
 full_read : (n : ℕ) (line : List ℕ) (lines : List (List ℕ)) → is_empty_line line ≡ false → AreRead lines → Cut lines
     → (directives : List Directive) × Reads n (line ∷ lines) directives
 full_read n line lines is read cut = by (without_front is_blank line) refl
@@ -107,6 +113,7 @@ full_read n line lines is read cut = by (without_front is_blank line) refl
     by [] none = absurd (let apart : true ≡ false = sym (front_none line none) ∙ is in cc)
     by (b ∷ text) begins = begun n b line text lines begins read cut (b == number_sign) (b == percent) refl refl
 
+-- any lines are read by cases, and split into those of a body and the rest
 are_read : (lines : List (List ℕ)) → AreRead lines × Cut lines
 are_read [] = (λ n. ([], no_lines), record { body = []; rest = []; parts = refl; full = refl; ends = at_end; read = λ n. ([], no_lines) })
 are_read (line ∷ lines) = by (is_empty_line line) refl (are_read lines)
@@ -130,6 +137,7 @@ are_read (line ∷ lines) = by (is_empty_line line) refl (are_read lines)
 reads_all : (n : ℕ) (lines : List (List ℕ)) → Reads n lines (read_lines false n lines)
 reads_all n lines = let read = (are_read lines).0 n in subst (λ ds. Reads n lines ds) (sym (reads_gives read.1)) read.1
 
+-- a text is read as these directives exactly if the definition gives them
 pub is_read_law : (text : List ℕ) (directives : List Directive) → (IsRead text directives ↔ (directives_of text ≡ directives))
 is_read_law text directives = (
   λ r. ap (λ t. read_lines false 1 (lines_of t)) (joins_gives r.joins) ∙ reads_gives r.reads,

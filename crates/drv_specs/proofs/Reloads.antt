@@ -24,7 +24,8 @@ use Rattle.std.specs.Cmp.Lexicographic.{nat_list_eq_equiv, pointwise}
 use Rattle.std.specs.List.{AllByRecursion, IsDistinct, list_all}
 use Rattle.std.specs.Map.{keys_of}
 
--- For dump_reloads: a dump that is loaded gives the set, or adds its pairs once more.
+-- For dump_reloads: a dump that is loaded into an empty set gives the set (`dump_loaded`); loaded over the set, it adds the pairs once more
+-- (`dump_doubles`). It needs a set that files were loaded into (`Kept`), no text of which would append as a body (`Plain`).
 
 abbrev set_of : List (List ℕ × List ℕ) → List (List ℕ × List ℕ) → Set
 set_of named pairs = record { named = named; pairs = pairs }
@@ -44,6 +45,7 @@ tree_there : {X : Type 0} (name : List ℕ) (x : X) (given : Result Items Syntax
 tree_there name x (Ok tree) is = refl
 tree_there name x (Err fault) is = absurd cc
 
+-- a body that doesn't append is put
 body_put : (set : Set) (name text : List ℕ) → is_text text ≡ true → not (appends text) ≡ true → with_body set name text ≡ put set name text
 body_put set name [] body plain = absurd cc
 body_put set name (b ∷ text) body plain =
@@ -54,12 +56,14 @@ text_ends : (text : List ℕ) → is_text text ≡ true → ends_with_backslash 
 text_ends [] body = absurd cc
 text_ends (b ∷ text) body = body_ends b text false false body
 
+-- the directive of a named text puts it
 text_taken : (set : Set) (entry : List ℕ × List ℕ) → IsNamed entry → not (appends entry.1) ≡ true
     → with_text set entry.0 entry.1 ≡ Ok (with_named set entry.0 entry.1)
 text_taken set entry kept plain =
     rw kept.name (rw (text_ends entry.1 kept.text) (body_put set entry.0 entry.1 kept.text plain
     ∙ tree_there entry.0 (with_named set entry.0 entry.1) (parsed entry.1) kept.tree))
 
+-- the directives of named texts put them after those that are there
 named_loaded : (inc : Including) (files : ℕ) (directives : List Directive) (done named : List (List ℕ × List ℕ)) → Each IsNamed named
     → list_all (λ entry. not (appends entry.1)) named ≡ true
     → IsDistinct (pointwise nat_eq) (keys_of (done ++ named))
@@ -76,6 +80,7 @@ named_loaded inc files directives done (entry ∷ named) kept plain distinct =
     (subst (λ es. IsDistinct (pointwise nat_eq) (keys_of es)) (sym whole) distinct)
     ∙ ap (λ es. all_carried inc (state (set_of es []) files) directives) whole
 
+-- a pair whose text has a tree, or isn't worked, is added
 pair_worked : (set : Set) (key text : List ℕ) (no_text : Bool) → is_no_text text ≡ no_text → (no_text || has_tree text) ≡ true
     → (if no_text then Ok (with_pair set key text) else by_tree key (with_pair set key text) (parsed text)) ≡ Ok (with_pair set key text)
 pair_worked set key text true is tree = refl
@@ -85,6 +90,7 @@ pair_ends : (text : List ℕ) → (not (has_byte text) || is_text text) ≡ true
 pair_ends [] body = refl
 pair_ends (b ∷ text) body = text_ends (b ∷ text) body
 
+-- the directive of a pair adds it
 pair_taken : (set : Set) (pair : List ℕ × List ℕ) → IsPair pair → with_pair_body set pair.0 pair.1 ≡ Ok (with_pair set pair.0 pair.1)
 pair_taken set pair kept =
     rw kept.key (
@@ -92,6 +98,7 @@ pair_taken set pair kept =
     ∙ rw (pair_ends pair.1 kept.text) (rw kept.no_alias (pair_worked set pair.0 pair.1 (is_no_text pair.1) refl kept.tree))
     )
 
+-- the directives of pairs add them in order
 pairs_loaded : (inc : Including) (files : ℕ) (named done pairs : List (List ℕ × List ℕ)) → Each IsPair pairs
     → all_carried inc (state (set_of named done) files) (map pair_directive pairs) ≡ Is (Ok (state (set_of named (done ++ pairs)) files))
 pairs_loaded inc files named done [] kept = ap (λ es. Is (Ok (state (set_of named es) files))) (sym (append-nil done))
@@ -100,6 +107,7 @@ pairs_loaded inc files named done (pair ∷ pairs) kept =
     ∙ pairs_loaded inc files named (done ++ pair ∷ []) pairs kept.1
     ∙ ap (λ es. Is (Ok (state (set_of named es) files))) (append_assoc done (pair ∷ []) pairs)
 
+-- a dump loaded into an empty set gives the set
 pub dump_loaded : (F : Facts) (prefixes : Prefixes) (set : Set) → Kept set → Plain set
     → loaded F prefixes no_specs (dumped set) ≡ Is (Ok set)
 unfolding loaded
@@ -111,13 +119,14 @@ dump_loaded F prefixes set kept plain =
 
 -- A set's dump loaded over the set.
 
+-- a name that differs from all names of a list differs from each
 apart_there : (name : List ℕ) (done : List (List ℕ × List ℕ)) (entry : List ℕ × List ℕ) (rest : List (List ℕ × List ℕ))
     → AllByRecursion (λ other. pointwise nat_eq name other ≡ false) (keys_of (done ++ entry ∷ rest))
     → pointwise nat_eq name entry.0 ≡ false
 apart_there name [] entry rest apart = apart.0
 apart_there name (e ∷ done) entry rest apart = apart_there name done entry rest apart.1
 
--- an entry that is there, put again
+-- an entry that is put again where it is changes nothing
 put_again : (done rest : List (List ℕ × List ℕ)) (name text : List ℕ)
     → IsDistinct (pointwise nat_eq) (keys_of (done ++ (name, text) ∷ rest))
     → insert_entry (pointwise nat_eq) (done ++ (name, text) ∷ rest) name text ≡ done ++ (name, text) ∷ rest
@@ -131,6 +140,7 @@ put_again (e ∷ done) rest name text distinct =
     else e ∷ insert_entry (pointwise nat_eq) (done ++ (name, text) ∷ rest) name text) other
     ∙ ap (λ es. e ∷ es) (put_again done rest name text distinct.1)
 
+-- over the set they put the same texts again, which changes nothing
 named_again : (inc : Including) (files : ℕ) (directives : List Directive) (pairs done named : List (List ℕ × List ℕ)) → Each IsNamed named
     → list_all (λ entry. not (appends entry.1)) named ≡ true
     → IsDistinct (pointwise nat_eq) (keys_of (done ++ named))
@@ -147,6 +157,7 @@ named_again inc files directives pairs done (entry ∷ named) kept plain distinc
     (subst (λ es. IsDistinct (pointwise nat_eq) (keys_of es)) (sym whole) distinct)
     ∙ ap (λ es. all_carried inc (state (set_of es pairs) files) directives) whole
 
+-- a dump loaded over the set adds its pairs once more
 pub dump_doubles : (F : Facts) (prefixes : Prefixes) (set : Set) → Kept set → Plain set
     → loaded F prefixes set (dumped set) ≡ Is (Ok (doubled set))
 unfolding loaded
@@ -156,7 +167,7 @@ dump_doubles F prefixes set kept plain =
     (named_again (including F prefixes 15) most_files (map pair_directive set.pairs) set.pairs [] set.named kept.named plain kept.distinct
     ∙ pairs_loaded (including F prefixes 15) most_files set.named set.pairs set.pairs kept.pairs)
 
--- what a dump says of its text
+-- the text that a dump gives, loaded into the empty set, gives the set
 pub dump_given : {E : Type 0} (result : Result (List ℕ) E) (set : Set) → IfOk result (λ text. text ≡ dumped set) → Kept set → Plain set
     → (F : Facts) (prefixes : Prefixes)
     → IfOk result (λ text. loaded F prefixes no_specs text ≡ Is (Ok set))

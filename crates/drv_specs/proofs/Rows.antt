@@ -16,13 +16,14 @@ use Rattle.drv_system.specs.declared.event.ReadAnswer.{ReadAnswer}
 use Rattle.std.proofs.Common.{◌≡◌, ◌++◌, Err, List, [], ◌∷◌, None, Ok, Option, Result, Some, map, refl, replicate, ℕ}
 use Rattle.std.specs.Prelude.{codes}
 
--- Examples of spec files, which the prover computes from the definitions.
+-- Examples of spec files, which the prover computes from the definitions. `loaded F prefixes set text` is the set after the text of a file,
+-- `shown` its dump; each example's comment says what its text shows.
 
--- no folder is searched
+-- no folder is searched for files
 abbrev here : Prefixes
 here = record { programs = []; libraries = [] }
 
--- what one file reads
+-- the facts of one file: what reading it answers
 abbrev with_file : List ℕ → ReadAnswer → Facts
 with_file path answer = record { reads = (path, answer) ∷ []; kinds = []; variables = [] }
 
@@ -32,6 +33,7 @@ shown Unasked = None
 shown (Is (Err fault)) = None
 shown (Is (Ok set)) = Some (dumped set)
 
+-- the names of a set's texts, and the text of one
 abbrev named_in : Known (Result Set SpecsFault) → List (List ℕ)
 named_in Unasked = []
 named_in (Is (Err fault)) = []
@@ -300,7 +302,7 @@ recursive : shown (loaded no_facts here no_specs (codes "*a0:\nx\n\n*a1:\n%(a0)%
 unfolding loaded including
 recursive = refl
 
--- refusals
+-- refusals: texts without a tree, lines that are none, names, keys and aliases that are none
 refused_1 : loaded no_facts here no_specs (codes "*bad:\n%{a:b\n") ≡ Is (Err (Syntax (codes "bad") (Unclosed 0)))
 unfolding loaded including
 refused_1 = refl

@@ -19,10 +19,12 @@ last_of : (b : ℕ) (text : List ℕ) → last_back (ends_with_backslash (b ∷ 
 last_of b [] = refl
 last_of b (c ∷ text) = last_of c text ∙ sym (ends_more b c text)
 
+-- whether a backslash is last, byte by byte, is whether the text ends with one
 pub last_is : (text : List ℕ) → last_back false text ≡ ends_with_backslash text
 last_is [] = refl
 last_is (b ∷ text) = last_of b text
 
+-- a settled text with one more byte, which makes no pair, is settled
 settled_more : (text : List ℕ) (b : ℕ) (back : Bool) → is_settled back text ≡ true → is_kept b ≡ true
     → (b == newline && last_back back text) ≡ false → is_settled back (text ++ b ∷ []) ≡ true
 settled_more [] b back is kept apart = rw kept (ap (λ c. not c && true) apart)
@@ -31,6 +33,7 @@ settled_more (c ∷ text) b back is kept apart =
     rw (and_first (is_kept c) _ is) (rw (and_first (not (c == newline && back)) _ rest)
     (settled_more text b (ends_with_backslash (c ∷ [])) (and_second (not (c == newline && back)) _ rest) kept apart))
 
+-- the beginning of a settled text is settled
 settled_less : (n : ℕ) (text : List ℕ) (back : Bool) → is_settled back text ≡ true → is_settled back (take n text) ≡ true
 settled_less zero text back is = refl
 settled_less (suc n) [] back is = refl
@@ -39,6 +42,7 @@ settled_less (suc n) (c ∷ text) back is =
     rw (and_first (is_kept c) _ is) (rw (and_first (not (c == newline && back)) _ rest)
     (settled_less n text (ends_with_backslash (c ∷ [])) (and_second (not (c == newline && back)) _ rest)))
 
+-- a settled text is settled after one more byte is joined to it
 joined_settled : (text : List ℕ) (b : ℕ) → is_settled false text ≡ true → is_kept b ≡ true → is_settled false (joined_onto text b) ≡ true
 joined_settled text b is kept = by (b == newline && ends_with_backslash text) refl
   where
@@ -47,12 +51,14 @@ joined_settled text b is kept = by (b == newline && ends_with_backslash text) re
     by true pair = settled_less (length text - 1) text false is
     by false pair = settled_more text b false is kept (ap (λ e. b == newline && e) (last_is text) ∙ pair)
 
+-- a settled text is settled after several bytes are joined to it
 fold_settled : (text done : List ℕ) → list_all is_kept text ≡ true → is_settled false done ≡ true
     → is_settled false (fold joined_onto done text) ≡ true
 fold_settled [] done kept is = is
 fold_settled (b ∷ text) done kept is = fold_settled text (joined_onto done b) (and_second (is_kept b) _ kept)
     (joined_settled done b is (and_first (is_kept b) _ kept))
 
+-- what is left without carriage returns has none
 all_kept : (text : List ℕ) → list_all is_kept (filter is_kept text) ≡ true
 all_kept [] = refl
 all_kept (b ∷ text) = by (is_kept b) refl (all_kept text)
@@ -70,6 +76,7 @@ abbrev pub Clean : List (List ℕ) → Type 0
 Clean [] = Unit {0}
 Clean (line ∷ lines) = (list_all is_line_byte line ≡ true) × (((lines ≡ []) ⊎ (ends_with_backslash line ≡ false)) × Clean lines)
 
+-- the lines of a text without a backslash before a newline are clean
 clean_pieces : (text front : List ℕ) (back : Bool) → is_settled back text ≡ true → list_all is_line_byte front ≡ true
     → back ≡ ends_with_backslash front → Clean (pieces_from ends_line front text)
 clean_pieces [] front back is bytes same = (bytes, (inl refl, tt))
@@ -100,5 +107,6 @@ clean_pieces (b ∷ text) front back is bytes same =
         ∙ ap (λ c. (c && not (b == newline)) && true) (and_first (is_kept b) _ is) ∙ ap (λ c. not c && true) cuts)
         (sym (ends_last front b))
 
+-- the lines of a settled text are clean
 pub settled_clean : (text : List ℕ) → Clean (lines_of (settled text))
 settled_clean text = clean_pieces (settled text) [] false (settles text) refl refl

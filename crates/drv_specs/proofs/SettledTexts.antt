@@ -9,12 +9,14 @@ use Rattle.std.proofs.lemmas.List.{append-nil}
 use Rattle.std.specs.Cmp.Lexicographic.{pointwise}
 use Rattle.std.specs.List.{list_all}
 
--- For the dump and the reading of a file: texts without a pair of a backslash and a newline stay as they are.
+-- For the dump and the reading of a file: texts without carriage returns, and without a newline after a backslash, stay as they are when
+-- they are settled (`settled_same`).
 
 drop_front : (text : List ℕ) (b : ℕ) → drop (length text) (text ++ b ∷ []) ≡ b ∷ []
 drop_front [] b = refl
 drop_front (c ∷ text) b = drop_front text b
 
+-- the last byte of a text is what follows all others
 drop_last : (text : List ℕ) (b : ℕ) → drop (length (text ++ b ∷ []) - 1) (text ++ b ∷ []) ≡ b ∷ []
 drop_last text b =
     let size : length (text ++ b ∷ []) - 1 ≡ length text = omega (arith, length-append text (b ∷ [])) in
@@ -24,6 +26,7 @@ drop_last text b =
 pub ends_last : (text : List ℕ) (b : ℕ) → ends_with_backslash (text ++ b ∷ []) ≡ ends_with_backslash (b ∷ [])
 ends_last text b = ap (pointwise nat_eq (backslash ∷ [])) (drop_last text b)
 
+-- the bytes before the last do not matter
 pub ends_more : (b c : ℕ) (text : List ℕ) → ends_with_backslash (b ∷ c ∷ text) ≡ ends_with_backslash (c ∷ text)
 ends_more b c text =
     let size : length (b ∷ c ∷ text) - 1 ≡ suc (length (c ∷ text) - 1) = omega arith in
@@ -37,6 +40,7 @@ abbrev pub is_settled : Bool → List ℕ → Bool
 is_settled back [] = true
 is_settled back (b ∷ text) = is_kept b && (not (b == newline && back) && is_settled (ends_with_backslash (b ∷ [])) text)
 
+-- a settled text is put after another byte by byte
 settles_same : (text done : List ℕ) → is_settled (ends_with_backslash done) text ≡ true
     → fold joined_onto done (filter is_kept text) ≡ done ++ text
 settles_same [] done is = sym (append-nil done)
@@ -51,6 +55,7 @@ settles_same (b ∷ text) done is =
     ∙ append_assoc done (b ∷ []) text
     )
 
+-- a text that is settled stays as it is
 pub settled_same : (text : List ℕ) → is_settled false text ≡ true → settled text ≡ text
 settled_same text is = settles_same text [] is
 
@@ -58,13 +63,14 @@ settled_same text is = settles_same text [] is
 abbrev pub is_line_byte : ℕ → Bool
 is_line_byte b = is_kept b && not (b == newline)
 
+-- a byte that fits a body makes no pair with the one before
 no_pair : (ends seen back : Bool) → (not ends || (seen && not back)) ≡ true → not (ends && back) ≡ true
 no_pair false seen back is = refl
 no_pair true seen false is = refl
 no_pair true true true is = is
 no_pair true false true is = is
 
--- a body with a newline after it
+-- a body, a newline and a settled text are settled
 pub body_settled : (text rest : List ℕ) (seen back : Bool) → is_body seen back text ≡ true → is_settled false (newline ∷ rest) ≡ true
     → is_settled back (text ++ newline ∷ rest) ≡ true
 body_settled [] rest true false is later = later
@@ -76,7 +82,7 @@ body_settled (b ∷ text) rest seen back is later =
     let apart = no_pair (b == newline) seen back (and_second (is_kept b) _ fit) in
     rw kept (rw apart (body_settled text rest (sees seen b) (ends_with_backslash (b ∷ [])) (and_second (fits seen back b) _ is) later))
 
--- a line with a colon after it, and a newline
+-- a line's head, a colon, a newline and a settled text are settled
 pub head_settled : (key rest : List ℕ) (back : Bool) → list_all is_line_byte key ≡ true → is_settled false rest ≡ true
     → is_settled back (key ++ colon ∷ newline ∷ rest) ≡ true
 head_settled [] rest back is later = later

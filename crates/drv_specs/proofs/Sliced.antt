@@ -21,22 +21,26 @@ use Rattle.std.proofs.lemmas.List.Sums.{position_or_len_is}
 use Rattle.std.specs.List.{join_with_byte, list_all, position, position_or_len}
 use Rattle.std.specs.Prelude.{None, Option, Some, get_or, slice_index}
 
--- For the reading of a file: the code reads a directive from slices of the text as the definition reads it from lines.
+-- For the reading of a file (reading.rt, lines.rt): the code reads a directive from slices of the settled text as the definition reads it
+-- from the list of its lines. `lines_from` and `bytes_from` are what follows a line, if its newline is there; `Ends text back` says that
+-- `back` is the end of the text.
 
--- a line, and what follows it
+-- the lines of a line and what follows it are that line and those of what follows
 pub lines_cut : (line : List ℕ) (following : Option (List ℕ)) → list_all (λ b. not (ends_line b)) line ≡ true
     → lines_of (line ++ bytes_from following) ≡ line ∷ lines_from following
 lines_cut line None is = ap lines_of (append-nil line) ∙ one_piece line [] is
 lines_cut line (Some text) is = pieces_then line [] text ∙ ap (λ ls. ls ++ lines_of text) (one_piece line [] is)
 
+-- a text that begins with this line has it as its first line
 pub lines_are : (text line : List ℕ) (following : Option (List ℕ)) → text ≡ line ++ bytes_from following
     → list_all (λ b. not (ends_line b)) line ≡ true → lines_of text ≡ line ∷ lines_from following
 lines_are text line following whole is = ap lines_of whole ∙ lines_cut line following is
 
--- where no line of a body comes next
+-- at an empty line a body ends
 pub body_over : (line : List ℕ) (lines : List (List ℕ)) → is_empty_line line ≡ true → body_lines (line ∷ lines) ≡ []
 body_over line lines is = rw is refl
 
+-- an empty line is read alike within a body and outside
 pub outside_now : (line : List ℕ) (lines : List (List ℕ)) → is_empty_line line ≡ true → (n : ℕ)
     → read_lines true n (line ∷ lines) ≡ read_lines false n (line ∷ lines)
 outside_now line lines is n = rw is refl
@@ -54,6 +58,7 @@ body_size whole bytes line size lines all rest full so_far =
     ∙ sym (ap (λ e. take size whole ++ flat_map (λ l. newline ∷ l) (if e then [] else line ∷ body_lines lines)) full)
     ∙ so_far
 
+-- what follows one more line of a body
 pub body_rest : (whole bytes line : List ℕ) (size : ℕ) → drop size whole ≡ newline ∷ line ++ bytes
     → drop (size + (1 + length line)) whole ≡ bytes
 body_rest whole bytes line size rest =
@@ -63,7 +68,7 @@ body_rest whole bytes line size rest =
     size_is : (l : List ℕ) → length (newline ∷ l) ≡ 1 + length l
     size_is l = omega arith
 
--- a body, whose lines were found
+-- a body whose lines were found is those lines, with newlines between them
 pub body_is : (front text : List ℕ) (lines left : List (List ℕ)) → front ≡ flat_map (λ l. newline ∷ l) (body_lines lines)
     → text ≡ drop 1 front → text ≡ join_with_byte newline (body_lines lines)
 body_is front text lines left is cut = cut ∙ ap (drop 1) is ∙ joined_lines (body_lines lines)
@@ -72,7 +77,7 @@ blanks : (l : List ℕ) → is_empty_line l ≡ true → without_front is_blank 
 blanks [] is = refl
 blanks (b ∷ l) is = rw (and_first (is_blank b) _ is) (blanks l (and_second (is_blank b) _ is))
 
--- a first line and what it begins
+-- the directives of lines are the one that the first begins, and those of the others
 pub line_begins : (n : ℕ) (line : List ℕ) (lines : List (List ℕ))
     → read_lines false n (line ∷ lines) ≡ directive_in (start_of n (without_front is_blank line) lines)
     ++ read_lines (opens_body (start_of n (without_front is_blank line) lines)) (n + 1) lines
@@ -84,7 +89,7 @@ line_begins n line lines = by (is_empty_line line) refl
     by true is = rw is (rw (blanks line is) refl)
     by false is = rw is refl
 
--- the body of a line with a colon
+-- a text is the bytes at its front that pass, and what is left without them
 front_of : (test : ℕ → Bool) (text : List ℕ) → (front : List ℕ) × (text ≡ front ++ without_front test text)
 front_of test [] = ([], refl)
 front_of test (b ∷ text) = by (test b) refl (front_of test text)
@@ -94,19 +99,23 @@ front_of test (b ∷ text) = by (test b) refl (front_of test text)
     by true is h = (b ∷ h.0, ap (λ t. b ∷ t) h.1)
     by false is h = ([], refl)
 
+-- a text without the blanks at its front is an end of it
 pub blanks_before : (text rest : List ℕ) → rest ≡ without_front is_blank text → Ends text rest
 blanks_before text rest is = let f = front_of is_blank text in (f.0, f.1 ∙ ap (λ t. f.0 ++ t) (sym is))
 
+-- an end of an end of a text is an end of the text
 pub ends_then : (a b c : List ℕ) → Ends a b → Ends b c → Ends a c
 ends_then a b c h k = (h.0 ++ k.0, h.1 ∙ ap (λ t. h.0 ++ t) k.1 ∙ sym (append_assoc h.0 k.0 c))
 
+-- what is left of a text after some bytes is an end of it
 pub ends_drop : (text : List ℕ) (n : ℕ) → Ends text (drop n text)
 ends_drop text n = (take n text, sym (take-append-drop n text))
 
+-- an end is not longer than the text
 pub ends_size : (text rest : List ℕ) → Ends text rest → length rest ≤ length text
 ends_size text rest h = let all : length text ≡ length h.0 + length rest = ap length h.1 ∙ length-append h.0 rest in omega (arith, all)
 
--- a text from where the end of its first line begins
+-- what is left of a text from within its first line on
 pub tail_is : (text line rest bytes : List ℕ) → text ≡ line ++ bytes → Ends line rest
     → drop (length line - length rest) text ≡ rest ++ bytes
 tail_is text line rest bytes whole h =
@@ -115,17 +124,19 @@ tail_is text line rest bytes whole h =
     ap (λ n. drop n text) size ∙ ap (drop (length h.0)) (whole ∙ ap (λ l. l ++ bytes) h.1 ∙ append_assoc h.0 rest bytes)
     ∙ drop-append_seam h.0 (rest ++ bytes)
 
+-- the end of a line has no newline
 clean_end : (line rest : List ℕ) → list_all (λ b. not (ends_line b)) line ≡ true → Ends line rest
     → list_all (λ b. not (ends_line b)) rest ≡ true
 clean_end line rest is h = and_second (list_all (λ b. not (ends_line b)) h.0) _
     (sym (list_all-append (λ b. not (ends_line b)) h.0 rest) ∙ ap (list_all (λ b. not (ends_line b))) (sym h.1) ∙ is)
 
+-- the lines of a text from within its first line on
 pub tail_lines : (tail line rest : List ℕ) (following : Option (List ℕ)) → tail ≡ rest ++ bytes_from following
     → list_all (λ b. not (ends_line b)) line ≡ true → Ends line rest
     → lines_of tail ≡ rest ∷ lines_from following
 tail_lines tail line rest following is clean h = lines_are tail rest following is (clean_end line rest clean h)
 
--- what follows the blanks at the front of a text is no empty line
+-- what is left without the blanks at the front is no empty line, if it has a byte
 full_front : (text : List ℕ) → has_byte (without_front is_blank text) ≡ true → is_empty_line (without_front is_blank text) ≡ false
 full_front [] is = absurd cc
 full_front (b ∷ text) is = by (is_blank b) refl (full_front text) is
@@ -137,14 +148,17 @@ full_front (b ∷ text) is = by (is_blank b) refl (full_front text) is
     by true goes on is' = on is'
     by false goes on is' = ap (λ t. t && is_empty_line text) goes
 
+-- what follows the blanks of a colon's line, if it has a byte, is no empty line
 pub full_rest : (value rest : List ℕ) → rest ≡ without_front is_blank value → has_byte rest ≡ true → is_empty_line rest ≡ false
 full_rest value rest is some = ap is_empty_line is ∙ full_front value (ap has_byte (sym is) ∙ some)
 
+-- where the colon's line has nothing after it, the body begins with the next line
 pub first_none : (value rest : List ℕ) (lines : List (List ℕ)) → rest ≡ without_front is_blank value → has_byte rest ≡ false
     → body_lines lines ≡ first_line value ++ body_lines lines
 first_none value rest lines is none = sym (ap (λ t. (if t then without_front is_blank value ∷ [] else []) ++ body_lines lines)
     (ap has_byte (sym is) ∙ none))
 
+-- where something follows the colon on its line, that is the first line of the body
 pub first_some : (value rest : List ℕ) (lines all : List (List ℕ)) → rest ≡ without_front is_blank value → has_byte rest ≡ true
     → all ≡ rest ∷ lines → body_lines all ≡ first_line value ++ body_lines lines
 first_some value rest lines all is some alls =
@@ -152,6 +166,7 @@ first_some value rest lines all is some alls =
     ∙ sym (ap (λ t. (if t then without_front is_blank value ∷ [] else []) ++ body_lines lines) (ap has_byte (sym is) ∙ some)
     ∙ ap (λ r. r ∷ body_lines lines) (sym is))
 
+-- what follows the colon is read as a line of the body
 pub inside_some : (value rest : List ℕ) (lines all : List (List ℕ)) (n : ℕ) → rest ≡ without_front is_blank value → has_byte rest ≡ true
     → all ≡ rest ∷ lines → 0 < n
     → read_lines true (n - 1) all ≡ read_lines true n lines
@@ -160,27 +175,32 @@ inside_some value rest lines all n is some alls above =
     ap (read_lines true (n - 1)) alls ∙ inside_next rest lines (n - 1) (full_rest value rest is some)
     ∙ ap (λ m. read_lines true m lines) next
 
+-- what is left after some bytes is an end
 pub ends_at : (text rest : List ℕ) (n : ℕ) → rest ≡ drop n text → Ends text rest
 ends_at text rest n is = (take n text, sym (take-append-drop n text) ∙ ap (λ t. take n text ++ t) (sym is))
 
--- what a line begins
+-- what a line begins, by its first byte: nothing, if it is empty or a comment
 start_passed : (n : ℕ) (start : List ℕ) (lines : List (List ℕ)) → is_passed start ≡ true → start_of n start lines ≡ Passed
 start_passed n [] lines is = refl
 start_passed n (b ∷ start) lines is = rw is refl
 
+-- a line that begins with % is a directive of one line
 start_keyword : (n : ℕ) (start : List ℕ) (lines : List (List ℕ)) → is_passed start ≡ false → is_keyword start ≡ true
     → start_of n start lines ≡ Alone (by_keyword n start (words_of start))
 start_keyword n [] lines is key = absurd cc
 start_keyword n (b ∷ start) lines is key = rw is (rw key refl)
 
+-- any other line begins a directive with a body
 start_other : (n : ℕ) (start : List ℕ) (lines : List (List ℕ)) → is_passed start ≡ false → is_keyword start ≡ false
     → start_of n start lines ≡ WithBody (by_colon n start lines (position is_colon start))
 start_other n [] lines is key = absurd cc
 start_other n (b ∷ start) lines is key = rw is (rw key refl)
 
+-- the first line of a text, and what is left of it without the blanks at its front (`start`)
 module _ (n : ℕ) (text line start : List ℕ) (following : Option (List ℕ)) (whole : text ≡ line ++ bytes_from following)
     (clean : list_all (λ b. not (ends_line b)) line ≡ true)
     (is : start ≡ without_front is_blank line) where
+  -- a text by what its first line begins
   by_start : (s : Start) → start_of n start (lines_from following) ≡ s
       → read_lines false n (lines_of text) ≡ directive_in s ++ read_lines (opens_body s) (n + 1) (lines_from following)
   by_start s starts =
@@ -188,9 +208,11 @@ module _ (n : ℕ) (text line start : List ℕ) (following : Option (List ℕ)) 
       ∙ ap (λ s'. directive_in s' ++ read_lines (opens_body s') (n + 1) (lines_from following))
       (ap (λ l. start_of n l (lines_from following)) (sym is) ∙ starts)
 
+  -- a line that is empty or a comment begins nothing: the directives are those of what follows
   pub begins_none : is_passed start ≡ true → read_lines false n (lines_of text) ≡ read_lines false (n + 1) (lines_from following)
   begins_none passed = by_start Passed (start_passed n start (lines_from following) passed)
 
+  -- a line that begins with % is a directive of one line
   pub begins_keyword : (directive : Directive) → is_passed start ≡ false → is_keyword start ≡ true
       → directive ≡ by_keyword n start (words_of start)
       → read_lines false n (lines_of text) ≡ directive ∷ read_lines false (n + 1) (lines_from following)
@@ -198,6 +220,7 @@ module _ (n : ℕ) (text line start : List ℕ) (following : Option (List ℕ)) 
       by_start (Alone (by_keyword n start (words_of start))) (start_keyword n start (lines_from following) passed key)
       ∙ ap (λ d. d ∷ read_lines false (n + 1) (lines_from following)) (sym same)
 
+  -- any other line begins a directive with a body
   pub begins_body : (directives left : List Directive) → is_passed start ≡ false → is_keyword start ≡ false
       → directives ≡ by_colon n start (lines_from following) (position is_colon start) ∷ []
       → read_lines true (n + 1) (lines_from following) ≡ left
@@ -207,13 +230,14 @@ module _ (n : ℕ) (text line start : List ℕ) (following : Option (List ℕ)) 
       (start_other n start (lines_from following) passed key)
       ∙ ap (λ l. by_colon n start (lines_from following) (position is_colon start) ∷ l) rest ∙ ap (λ ds. ds ++ left) (sym same)
 
--- where the colon is
+-- no number is less than itself
 same_not : (n : ℕ) → nat_lt n n ≡ false
 same_not n = grind (arith, nat_tests)
 
 below_is : (k n : ℕ) → k < n → nat_lt k n ≡ true
 below_is k n below = grind (arith, nat_tests, below)
 
+-- the code's search finds the first colon
 pub colon_place : (text : List ℕ) (found : Option ℕ) → IsFirstByte (is_byte colon) text found → position is_colon text ≡ found
 colon_place text None h =
     let all : position_or_len is_colon text ≡ length text =
@@ -225,10 +249,11 @@ colon_place text (Some at) h =
     (λ k low. fails_of (is_colon (get_or text k 0)) (h.0.before k (omega arith) low)) (λ l. h.1) in
     ap (λ n. cond (nat_lt n (length text)) (Some n) None) place ∙ ap (λ t. cond t (Some at) None) (below_is at (length text) h.0.high)
 
--- words
+-- the blanks that the code's search for the end of a word looks for
 abbrev pub blanks_of : List ℕ
 blanks_of = space ∷ tab ∷ []
 
+-- the code's blanks are those of the definition
 blank_in : (b : ℕ) → is_in blanks_of b ≡ is_blank b
 unfolding is_in
 blank_in b = by (b == space) (b == tab)
@@ -238,6 +263,7 @@ blank_in b = by (b == space) (b == tab)
     by false true = refl
     by false false = refl
 
+-- blanks at the front make no word
 words_front : (text : List ℕ) → words_of text ≡ words_of (without_front is_blank text)
 words_front [] = refl
 words_front (b ∷ text) = by (is_blank b) refl (words_front text)
@@ -247,6 +273,7 @@ words_front (b ∷ text) = by (is_blank b) refl (words_front text)
     by true is on = rw is on
     by false is on = ap words_of (sym (ap (λ t. if t then without_front is_blank text else b ∷ text) is))
 
+-- the words of a line: a line of blanks has none
 pub words_none : (text front : List ℕ) → front ≡ without_front is_blank text → has_byte front ≡ false → words_of text ≡ []
 words_none text front is none = words_front text ∙ ap words_of (sym is) ∙ by front none
   where
@@ -254,6 +281,7 @@ words_none text front is none = words_front text ∙ ap words_of (sym is) ∙ by
     by [] h = refl
     by (b ∷ f) h = absurd cc
 
+-- a run without a blank is part of one word
 run_pieces : (run rest front : List ℕ) → list_all (λ b. not (is_in blanks_of b)) run ≡ true
     → pieces_from is_blank front (run ++ rest) ≡ pieces_from is_blank (front ++ run) rest
 run_pieces [] rest front is = ap (λ f. pieces_from is_blank f rest) (sym (append-nil front))
@@ -263,6 +291,7 @@ run_pieces (b ∷ run) rest front is =
     ∙ run_pieces run rest (front ++ b ∷ []) (and_second (not (is_in blanks_of b)) _ is)
     ∙ ap (λ f. pieces_from is_blank f rest) (append_assoc front (b ∷ []) run)
 
+-- a blank after some bytes ends a word
 blank_at : (text : List ℕ) (at : ℕ) → is_in blanks_of (slice_index text at) ≡ true → at < length text
     → filter has_byte (pieces_from is_blank (take at text) (drop at text)) ≡ filter has_byte (take at text ∷ []) ++ words_of (drop at text)
 blank_at text at passes below = ap (λ d. filter has_byte (pieces_from is_blank (take at text) d)) cut
@@ -282,6 +311,7 @@ blank_at text at passes below = ap (λ d. filter has_byte (pieces_from is_blank 
         first true = refl
         first false = refl
 
+-- what is left without blanks begins with a byte that is none
 front_head : (text : List ℕ) → has_byte (without_front is_blank text) ≡ true
     → is_blank (slice_index (without_front is_blank text) 0) ≡ false
 front_head [] some = absurd cc
@@ -294,12 +324,14 @@ front_head (b ∷ text) some = by (is_blank b) refl (front_head text) some
     by true is on some' = on some'
     by false is on some' = is
 
+-- a word that ends at a blank has a byte
 word_some : (front : List ℕ) (at : ℕ) → has_byte front ≡ true → is_blank (slice_index front 0) ≡ false
     → is_in blanks_of (slice_index front at) ≡ true → has_byte (take at front) ≡ true
 word_some [] at some head passes = absurd cc
 word_some (b ∷ front) zero some head passes = let impossible : true ≡ false = sym passes ∙ blank_in b ∙ head in absurd cc
 word_some (b ∷ front) (suc at) some head passes = refl
 
+-- a word ends at the first blank after it, and the others follow
 pub words_some : (text front : List ℕ) (found : Option ℕ) (at : ℕ) → front ≡ without_front is_blank text → has_byte front ≡ true
     → IsFirstByte (is_in blanks_of) front found → found ≡ Some at
     → words_of text ≡ take at front ∷ words_of (drop at front)
@@ -313,6 +345,7 @@ words_some text front found at is some h place =
     ∙ blank_at front at passes below
     ∙ ap (λ t. (if t then take at front ∷ [] else []) ++ words_of (drop at front)) (word_some front at some head passes)
 
+-- a line without a blank after its front has one word
 pub words_alone : (text front : List ℕ) (found : Option ℕ) → front ≡ without_front is_blank text → has_byte front ≡ true
     → IsFirstByte (is_in blanks_of) front found → found ≡ None → words_of text ≡ front ∷ []
 words_alone text front found is some h place =

@@ -8,21 +8,24 @@ use Rattle.std.proofs.lemmas.List.Elements.{All-from_recursion}
 use Rattle.std.specs.List.{All, AllByRecursion, filter}
 use Rattle.std.specs.Prelude.{cond, if◌then◌else◌}
 
--- For `builtin`: the built-in specs are what their rows give.
+-- For `builtin`: the built-in specs are what the rows of the code's tables give, put into an empty set one after another.
 
+-- the rows of named texts, put one after another, are those of the built-in set
 pub builtin_put : all_put no_specs builtin_named ≡ record { named = builtin_named; pairs = [] }
 unfolding builtin_named
 builtin_put = refl
 
+-- the named texts of the built-in set with the rows of pairs added are the built-in set
 pub builtin_added : all_added (record { named = builtin_named; pairs = [] }) builtin_pairs ≡ builtin_specs
 unfolding builtin_pairs
 builtin_added = refl
 
--- So are those of them that have no text to run.
+-- the rows of the pairs that have no text to work, added to the empty set, are `suffixes`
 pub suffixes_added : all_added no_specs (filter has_no_text builtin_pairs) ≡ suffixes
 unfolding builtin_pairs
 suffixes_added = refl
 
+-- the next pair is added if it has no text to work
 pub alone_added : (set : Set) (pair : List ℕ × List ℕ) (pairs : List (List ℕ × List ℕ))
     → all_added (with_alone set pair) (filter has_no_text pairs)
     ≡ all_added set (filter has_no_text (pair ∷ pairs))
@@ -33,9 +36,10 @@ alone_added set pair pairs = by (is_no_text pair.1)
     by true = refl
     by false = refl
 
--- what is written beside the texts is their trees
+-- what is written beside the named texts is their trees
 pub named_trees : (rows : List Named) → AllByRecursion IsNamedRow rows → All IsNamedRow rows
 named_trees rows each = All-from_recursion IsNamedRow rows each
 
+-- what is written beside the texts of pairs is their trees
 pub pair_trees : (rows : List Pair) → AllByRecursion IsPairRow rows → All IsPairRow rows
 pair_trees rows each = All-from_recursion IsPairRow rows each

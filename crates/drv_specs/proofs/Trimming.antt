@@ -8,8 +8,9 @@ use Rattle.std.proofs.lemmas.List.{length-drop, reverse-append, reverse-reverse}
 use Rattle.std.specs.List.{position, position_or_len, prefix_len}
 use Rattle.std.specs.Prelude.{None, Option, Some, get_or, unwrap_or}
 
--- For `without_blanks` and `without_white`: a text trimmed from its front.
+-- For `without_blanks` and `without_white`: a text trimmed of the bytes that pass a test, first from its front, then from its end.
 
+-- the bytes that pass at the front are those before the first that doesn't
 front_is : (test : ℕ → Bool) (text : List ℕ) → drop (position_or_len (λ b. not (test b)) text) text ≡ without_front test text
 front_is test [] = refl
 front_is test (b ∷ text) = by (test b) refl (front_is test text)
@@ -25,6 +26,7 @@ front_is test (b ∷ text) = by (test b) refl (front_is test text)
 not_below : (a b : ℕ) → nat_lt a b ≡ false → b ≤ a
 not_below a b is = grind (arith, nat_tests, is)
 
+-- the first place that passes, or the length
 place_is : (test : ℕ → Bool) (text : List ℕ) → unwrap_or (position test text) (length text) ≡ position_or_len test text
 place_is test text = by (nat_lt (position_or_len test text) (length text)) refl
   where
@@ -34,6 +36,7 @@ place_is test text = by (nat_lt (position_or_len test text) (length text)) refl
     by false is = let at_least : length text ≤ position_or_len test text = not_below (position_or_len test text) (length text) is in
         omega (arith, at_least, prefix_len-le-length (λ b. not (test b)) text)
 
+-- the code drops the bytes before the first that doesn't pass
 pub front_by : (test : ℕ → Bool) (text rest : List ℕ) (place : Option ℕ) (size count : ℕ) → place ≡ position (λ b. not (test b)) text
     → size ≡ length text → count ≡ unwrap_or place size
     → rest ≡ drop count text → rest ≡ without_front test text
@@ -41,6 +44,7 @@ front_by test text rest place size count is sized counts cut =
     cut ∙ ap (λ n. drop n text) (counts ∙ ap (unwrap_or place) sized ∙ ap (λ p. unwrap_or p (length text)) is
     ∙ place_is (λ b. not (test b)) text) ∙ front_is test text
 
+-- a trimmed text is not longer
 pub front_within : (test : ℕ → Bool) (text rest : List ℕ) → rest ≡ without_front test text → length rest ≤ length text
 front_within test text rest is =
     let size : length rest ≡ length text - position_or_len (λ b. not (test b)) text = ap length (is ∙ sym (front_is test text))
@@ -49,6 +53,7 @@ front_within test text rest is =
 
 -- A text trimmed from its end.
 
+-- the first bytes of a text are those before the last of them, and that one
 last_of : (text : List ℕ) (end : ℕ) (byte : ℕ) → 0 < end → end - 1 < length text → byte ≡ get_or text (end - 1) byte
     → take end text ≡ take (end - 1) text ++ byte ∷ []
 last_of text end byte some below here =
@@ -58,6 +63,7 @@ last_of text end byte some below here =
 reversed : (front : List ℕ) (byte : ℕ) → reverse (front ++ byte ∷ []) ≡ byte ∷ reverse front
 reversed front byte = reverse-append front (byte ∷ [])
 
+-- one step of the loop from the end: a byte that passes is dropped
 pub end_goes : (test : ℕ → Bool) (text : List ℕ) (end : ℕ) (byte : ℕ) → 0 < end → end - 1 < length text → byte ≡ get_or text (end - 1) byte
     → test byte ≡ true
     → without_end test (take (end - 1) text) ≡ without_end test (take end text)
@@ -65,6 +71,7 @@ end_goes test text end byte some below here goes =
     sym (ap (without_end test) (last_of text end byte some below here)
     ∙ ap (λ t. reverse (without_front test t)) (reversed (take (end - 1) text) byte) ∙ rw goes refl)
 
+-- the loop from the end stops at a byte that doesn't pass: the text is trimmed
 pub end_stays : (test : ℕ → Bool) (text : List ℕ) (end : ℕ) (byte : ℕ) → 0 < end → end - 1 < length text → byte ≡ get_or text (end - 1) byte
     → test byte ≡ false
     → take end text ≡ without_end test (take end text)
@@ -74,6 +81,7 @@ end_stays test text end byte some below here stays =
     ∙ ap reverse (sym (reversed (take (end - 1) text) byte)) ∙ reverse-reverse (take (end - 1) text ++ byte ∷ [])
     ∙ sym (last_of text end byte some below here))
 
+-- a text of which nothing is left is trimmed
 pub end_empty : (test : ℕ → Bool) (text : List ℕ) → [] ≡ without_end test (take 0 text)
 end_empty test [] = refl
 end_empty test (b ∷ text) = refl

@@ -7,13 +7,15 @@ use Rattle.std.proofs.Common.{◌≡◌, ◌≤◌, ℕ, Bool, true, false, List
 use Rattle.std.proofs.lemmas.Bool.Decides.{nat_tests}
 use Rattle.std.specs.Prelude.{◌&&◌, nat_le}
 
--- For `builtin`: the trees in the code are those of their texts.
+-- For `builtin`: the trees that are written in the code beside the built-in texts are those that a parse of these texts gives.
 
+-- both parts of a true && are true
 both : (s t : Bool) → (s && t) ≡ true → (s ≡ true) × (t ≡ true)
 both true true e = (refl, refl)
 both true false e = absurd cc
 both false t e = absurd cc
 
+-- the words of labels lie within the bytes, by the test
 within_tested : (n : ℕ) (marks : List LabelMark) → are_within n marks ≡ true → Within n marks
 within_tested n [] e = tt
 within_tested n (m ∷ marks) e =
@@ -23,5 +25,6 @@ within_tested n (m ∷ marks) e =
     below : (a b : ℕ) → nat_le a b ≡ true → a ≤ b
     below a b t = grind (arith, nat_tests)
 
+-- a tree whose tokens and labels are computed to be those of its text is its tree
 pub is_tree : (tree : WrittenTree) → IsWritten tree → IsTree tree
 is_tree tree is = record { parts = is.parts; words = within_tested (length tree.words.now) tree.marks.now is.words }

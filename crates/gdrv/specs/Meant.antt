@@ -13,8 +13,8 @@ use Rattle.std.specs.List.{ends_with, flat_map, list_any, position, starts_with}
 use Rattle.std.specs.Prelude.{◌≡◌, ◌⊎◌, ◌+◌, ◌==◌, ◌&&◌, ◌||◌, Bool, List, [], ◌∷◌, ◌++◌, None, Ok, Option, Some, codes, drop, false}
 use Rattle.std.specs.Prelude.{filter, find, if◌then◌else◌, is_some, length, map, nat_eq, nat_lt, take, true, ℕ}
 
--- Which option of the driver a word was meant to be that no spec text names (this project's profile; GCC asks so of a word that is no option
--- of its own, "opts-common.cc", candidates_list_and_hint).
+-- Which option of the driver a word was meant to be that no spec text names (this project's profile; GCC asks so of a word that is no
+-- option of its own, "opts-common.cc", candidates_list_and_hint).
 
 abbrev pub is_same : List ℕ → List ℕ → Bool
 is_same word other = pointwise nat_eq word other
@@ -104,8 +104,8 @@ hint_of set switch = hint_on (word_of switch) (meant (word_of switch)) (names_sw
 abbrev pub hints_of : Set → List Switch → List ℕ
 hints_of set switches = flat_map (hint_of set) switches
 
--- What is said after a call: a line for each such word, by the texts of the line's specs. Where no word is near an option, they aren't asked
--- for.
+-- What is said after a call: a line for each such word, by the texts of the line's specs. Where no word is near an option, they aren't
+-- asked for.
 abbrev pub HintsOf : Facts → Line → List ℕ → Type 0
 HintsOf F line text =
     ((list_any is_doubtful line.switches ≡ false) × (text ≡ []))

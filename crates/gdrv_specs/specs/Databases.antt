@@ -13,8 +13,8 @@ use Rattle.gdrv_specs.specs.declared.outcome.Outcome.TheVariants.{Ended}
 use Rattle.gdrv_specs.specs.declared.outcome.Outcome.{Outcome}
 use Rattle.std.specs.Prelude.{◌≡◌, Err, List, ◌++◌, Ok, Result, map, ℕ}
 
--- How the compilation database of a line is printed (Clang, "JSON Compilation Database Format Specification"): its words are read first, for
--- the names of its inputs, and then its plan is printed with them.
+-- How the compilation database of a line is printed (Clang, "JSON Compilation Database Format Specification"): its words are read first,
+-- for the names of its inputs, and then its plan is printed with them.
 
 abbrev pub input_name : Input → List ℕ
 input_name (File name lang) = name

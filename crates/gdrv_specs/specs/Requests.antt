@@ -5,8 +5,8 @@ use Rattle.std.specs.Cmp.Lexicographic.{pointwise}
 use Rattle.std.specs.List.{starts_with}
 use Rattle.std.specs.Prelude.{◌&&◌, List, [], ◌∷◌, ◌++◌, None, Option, Some, codes, drop, false, if◌then◌else◌, nat_eq, take, true, ℕ}
 
--- What the words of a check ask for (this project's profile). A word that begins with a hyphen is an option, and --over takes the word after
--- it for a file that is loaded first.
+-- What the words of a check ask for (this project's profile). A word that begins with a hyphen is an option, and --over takes the word
+-- after it for a file that is loaded first.
 
 abbrev pub no_request : Request
 no_request = record { json = false; strict = false; off = []; over = []; awaits = false; files = []; unknown = None }

@@ -25,15 +25,17 @@ use Rattle.std.proofs.Common.{◌≡◌, ◌≤◌, ◌+◌, ◌∙◌, ◌&&◌
 use Rattle.std.proofs.Common.{length, length-append, nat_eq, nat_lt, not, refl, sym, ℕ}
 use Rattle.std.specs.Prelude.{⊤}
 
--- For `Run::next`: each step can be made. A pipe is pending exactly between the starts of a group, and the plan has each place.
+-- For `Run::next`: each step can be made (`makes`). The system can make a step if its place is in the plan, a wait's child is open, and a
+-- pipe is pending exactly where the step says so: between the starts of a group (`piped`).
 
--- whether a pipe is pending at a stage
+-- whether a pipe is pending at this stage: between the starts of a group
 abbrev pub piped : Stage → Bool
 piped (Starts g was ids) = nat_lt 0 (length ids)
 piped (StartReport g was ids why) = nat_lt 0 (length ids)
 piped (Closing g was ids why told) = true
 piped s = false
 
+-- between blocks no pipe is pending
 pub piped_out : (s : Stage) → inside s ≡ false → piped s ≡ false
 piped_out (Starts g was []) e = refl
 piped_out (Starts g was (id ∷ ids)) e = absurd cc
@@ -41,6 +43,7 @@ piped_out (StartReport g was ids why) e = absurd cc
 piped_out (Closing g was ids why told) e = absurd cc
 piped_out s e = refl
 
+-- where a group is entered no pipe is pending
 no_pipe_group : (job : Job) (g : ℕ) (was : Bool) → false ≡ piped (enter_group job g was)
 no_pipe_group job g was = by (nat_lt g (length job.groups))
   where
@@ -48,6 +51,7 @@ no_pipe_group job g was = by (nat_lt g (length job.groups))
     by true = refl
     by false = refl
 
+-- where a claim is entered no pipe is pending
 no_pipe_claims : (job : Job) (i : ℕ) → false ≡ piped (enter_claims job i)
 no_pipe_claims job i = by (nat_lt i (length job.temps))
   where
@@ -55,6 +59,7 @@ no_pipe_claims job i = by (nat_lt i (length job.temps))
     by true = refl
     by false = no_pipe_group job 0 false
 
+-- where a removal is entered no pipe is pending
 no_pipe_removals : (job : Job) (i : ℕ) → false ≡ piped (enter_removals job i)
 no_pipe_removals job i = by (nat_lt i (length job.on_failure))
   where
@@ -62,11 +67,13 @@ no_pipe_removals job i = by (nat_lt i (length job.on_failure))
     by true = refl
     by false = refl
 
+-- after a group no pipe is pending
 no_pipe_end : (job : Job) (g : ℕ) (started fault : Bool) → false ≡ piped (end_group job g started fault)
 no_pipe_end job g true true = no_pipe_removals job 0
 no_pipe_end job g false true = refl
 no_pipe_end job g started false = no_pipe_group job (g + 1) started
 
+-- where a wait is entered no pipe is pending
 no_pipe_waits : (job : Job) (g : ℕ) (was : Bool) (ids : List ℕ) (i : ℕ) (fault : Bool) → false ≡ piped (enter_waits job g was ids i fault)
 no_pipe_waits job g was ids i fault = by (nat_lt i (length ids))
   where
@@ -74,11 +81,13 @@ no_pipe_waits job g was ids i fault = by (nat_lt i (length ids))
     by true = refl
     by false = no_pipe_end job g (was || not (none ids)) fault
 
+-- after a claim no pipe is pending
 piped_claim : (job : Job) (i : ℕ) (x : ClaimAnswer) → false ≡ piped (after job (Claims i) (answer.Claim x))
 piped_claim job i claim.Claimed = no_pipe_claims job (i + 1)
 piped_claim job i claim.Taken = refl
 piped_claim job i claim.Failed = refl
 
+-- after a start a pipe is pending as the stage says
 piped_start : (k : ℕ) (job : Job) (g : ℕ) (was : Bool) (ids : List ℕ) (x : StartAnswer)
     → pending_with (nat_lt 0 (length ids)) (asked (asks k job (Starts g was ids))) (answer.Start x)
     ≡ piped (after job (Starts g was ids) (answer.Start x))
@@ -90,6 +99,7 @@ piped_start k job g was ids (start.Started id) = by (nat_lt (length ids + 1) (le
         (let len : length (ids ++ id ∷ []) ≡ length ids + 1 = length-append {A = ℕ} ids (id ∷ []) in omega (arith, len)))
     by false = no_pipe_waits job g was (ids ++ id ∷ []) 0 false
 
+-- after the report of a refused start the pipe of an earlier member is still to be closed
 piped_refusal : (job : Job) (g : ℕ) (was : Bool) (ids : List ℕ) (why : NotStarted) (t : Bool)
     → nat_lt 0 (length ids) ≡ piped (after job (StartReport g was ids why) (answer.Reported t))
 piped_refusal job g was ids why t = by (nat_lt 0 (length ids))
@@ -98,19 +108,21 @@ piped_refusal job g was ids why t = by (nat_lt 0 (length ids))
     by true = refl
     by false = no_pipe_waits job g was ids 0 true
 
+-- after a wait no pipe is pending
 piped_wait : (job : Job) (g : ℕ) (was : Bool) (ids : List ℕ) (i : ℕ) (fault : Bool) (x : WaitAnswer)
     → false ≡ piped (after job (Waits g was ids i fault) (answer.Wait x))
 piped_wait job g was ids i fault (Exit n) = no_pipe_waits job g was ids (i + 1) (fault || not (nat_eq n 0))
 piped_wait job g was ids i fault Signal = refl
 piped_wait job g was ids i fault Lost = refl
 
+-- after a removal no pipe is pending
 piped_removal : (job : Job) (i : ℕ) (x : RemoveAnswer) → false ≡ piped (after job (Removals i) (answer.Remove x))
 piped_removal job i remove.Removed = no_pipe_removals job (i + 1)
 piped_removal job i remove.Missing = no_pipe_removals job (i + 1)
 piped_removal job i remove.NotPlain = no_pipe_removals job (i + 1)
 piped_removal job i remove.Failed = refl
 
--- the pipe after one more event
+-- whether a pipe is pending after an answer, by the event as by the stage
 pub piped_after : (k : ℕ) (job : Job) (s : Stage) (a : Answer) → left s ≡ true → is_kind (asked (asks k job s)) a ≡ true
     → pending_with (piped s) (asked (asks k job s)) a ≡ piped (after job s a)
 piped_after k job (Claims i) (answer.Claim x) l e = piped_claim job i x
@@ -133,17 +145,19 @@ piped_after k job (RemovalReport i) (answer.Reported t) l e = no_pipe_removals j
 piped_after k job (RemovalReport i) a l e = absurd cc
 piped_after k job Ended a l e = absurd cc
 
+-- whether a pipe is pending after one more event
 pub pending_append : (p : Bool) (E : List RunEvent) (e : RunEvent) → pending_from p (E ++ e ∷ []) ≡ pending_with (pending_from p E)
     e.step e.answer
 pending_append p [] e = refl
 pending_append p (x ∷ E) e = pending_append (pending_with p x.step x.answer) E e
 
+-- after each answer a pipe is pending exactly if the stage says so
 pub pipe_kept : (k : ℕ) (job : Job) (s : Stage) (a : Answer) (E : List RunEvent) → left s ≡ true → is_kind (asked (asks k job s)) a ≡ true
     → pipe_pending E ≡ piped s → pipe_pending (E ++ record { step = asked (asks k job s); answer = a } ∷ []) ≡ piped (after job s a)
 pipe_kept k job s a E l e is = pending_append false E (record { step = asked (asks k job s); answer = a })
     ∙ ap (λ p. pending_with p (asked (asks k job s)) a) is ∙ piped_after k job s a l e
 
--- a group has at most as many children as commands
+-- at this stage the group has at most as many children as commands
 abbrev pub Sized : Job → Stage → Type 0
 Sized job (Claims i) = ⊤
 Sized job (ClaimReport i x) = ⊤
@@ -156,7 +170,7 @@ Sized job (Removals i) = ⊤
 Sized job (RemovalReport i) = ⊤
 Sized job Ended = ⊤
 
--- a wait is for an open child
+-- if this stage waits for a child, the child is open
 abbrev pub OpenAt : ℕ → Stage → List RunEvent → Type 0
 OpenAt k (Claims i) E = ⊤
 OpenAt k (ClaimReport i x) E = ⊤
@@ -176,7 +190,7 @@ same_as false b e = ap not e
 both_hold : (a b : Bool) → a ≡ true → b ≡ true → (a && b) ≡ true
 both_hold a b x y = rw (x, y) refl
 
--- the next step can be made
+-- the next step of a source, or of the link, can be made
 pub makes : (plan : Plan) (k : ℕ) (s : Stage) (E : List RunEvent) → Valid (job_at plan k) s → Sized (job_at plan k) s → OpenAt k s E
     → left s ≡ true → pipe_pending E ≡ piped s → can_make plan E (asked (asks k (job_at plan k) s)) ≡ true
 makes plan k (Claims i) E v z o l p = less i (length (job_at plan k).temps) v

@@ -5,8 +5,10 @@ use Rattle.drv_words.specs.declared.plan.Plan.{Plan}
 use Rattle.drv_words.specs.declared.steps.Step.{Step}
 use Rattle.std.proofs.Common.{◌≡◌, ◌∙◌, ap, sym}
 
--- For `Run`: the code moves on after an answer, in each phase.
+-- For `Run`: the code's function for each phase (sources, link, removals, report, end) moves on after an answer as `moved`
+-- (specs/Code/RunState) does.
 
+-- the code's function for a phase moves on as the definition does in that phase
 pub in_part : (plan : Plan) (p q r : RunState) (s : Step) (a : Answer) (h : Phase) → q ≡ kept p s a → q.phase ≡ h → r ≡ moved_in h plan q a
     → r ≡ moved plan p s a
 in_part plan p q r s a h e at is = is ∙ ap (λ x. moved_in h plan x a) e ∙ ap (λ t. moved_in t plan (kept p s a) a)

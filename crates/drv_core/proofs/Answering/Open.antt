@@ -31,8 +31,11 @@ use Rattle.std.proofs.lemmas.Cmp.{nat_eq_equiv}
 use Rattle.std.specs.List.{list_any}
 use Rattle.std.specs.Prelude.{⊤}
 
--- For `Run::next`: the child of a wait is open. It was started at its place, and there was no wait there yet.
+-- For `Run::next`: the child of a wait is open: it was started at its place, and there was no wait there yet. `Opens` keeps that of each
+-- stage with its events; the lemmas opens_NAME say that each answer keeps it. `Later` says that there was no wait yet from a place on,
+-- `Begun` that these children were started.
 
+-- whether a step is a wait at this place
 abbrev pub is_wait_at : Place → Step → Bool
 is_wait_at p (step.Wait q id) = same_command p q
 is_wait_at p (step.Claim q) = false
@@ -41,12 +44,15 @@ is_wait_at p step.ClosePipe = false
 is_wait_at p (step.Remove q) = false
 is_wait_at p (step.Report n) = false
 
+-- no event is a wait at this place
 abbrev pub Unwaited : Place → List RunEvent → Type 0
 Unwaited p E = list_any (λ e. is_wait_at p e.step) E ≡ false
 
+-- an event started this child at this place
 abbrev pub StartedAt : Place → ℕ → List RunEvent → Type 0
 StartedAt p id E = list_any (λ e. is_start_at p e.step && is_child id e.answer) E ≡ true
 
+-- whether any of some events and of one more passes
 any_append : (f : RunEvent → Bool) (E : List RunEvent) (e : RunEvent) → list_any f (E ++ e ∷ []) ≡ (list_any f E || f e)
 any_append f [] e = by (f e)
   where
@@ -74,13 +80,14 @@ or_true : (t : Bool) → (t || true) ≡ true
 or_true true = refl
 or_true false = refl
 
+-- an event that starts the child at its place
 started_now : (p : Place) (id : ℕ) (E : List RunEvent) (e : RunEvent) → (is_start_at p e.step && is_child id e.answer) ≡ true
     → StartedAt p id (E ++ e ∷ [])
 started_now p id E e h = any_append (λ x. is_start_at p x.step && is_child id x.answer) E e
     ∙ ap (λ (t : Bool). list_any (λ x. is_start_at p x.step && is_child id x.answer) E || t) h
     ∙ or_true (list_any (λ x. is_start_at p x.step && is_child id x.answer) E)
 
--- a wait for a child at a place is a wait at that place
+-- an event that is no wait at a place is no wait for a child at that place
 wait_there : (p : Place) (id : ℕ) (s : Step) → is_wait_at p s ≡ false → is_wait_for p id s ≡ false
 wait_there p id (step.Wait q old) e = ap (λ (t : Bool). t && nat_eq id old) e
 wait_there p id (step.Claim q) e = refl
@@ -89,6 +96,7 @@ wait_there p id step.ClosePipe e = refl
 wait_there p id (step.Remove q) e = refl
 wait_there p id (step.Report n) e = refl
 
+-- where no wait was at the place, none was for the child there
 not_waited : (p : Place) (id : ℕ) (E : List RunEvent) → Unwaited p E → list_any (λ e. is_wait_for p id e.step) E ≡ false
 not_waited p id [] u = refl
 not_waited p id (e ∷ E) u = by (not_waited p id E (later (is_wait_at p e.step) u)) u
@@ -106,6 +114,7 @@ not_waited p id (e ∷ E) u = by (not_waited p id E (later (is_wait_at p e.step)
     by tail h = neither (is_wait_for p id e.step) (list_any (λ x. is_wait_for p id x.step) E)
         (wait_there p id e.step (rest (is_wait_at p e.step) h)) tail
 
+-- a child that was started at a place without a wait is open
 pub open_there : (p : Place) (id : ℕ) (E : List RunEvent) → StartedAt p id E → Unwaited p E → is_open p id E ≡ true
 open_there p id E s u = rw (s, not_waited p id E u) refl
 
@@ -113,10 +122,11 @@ open_there p id E s u = rw (s, not_waited p id E u) refl
 abbrev pub Later : ℕ → ℕ → ℕ → List RunEvent → Type 0
 Later k g i E = (h l : ℕ) → (g < h) ⊎ ((h ≡ g) × (i ≤ l)) → Unwaited (place.Command k h l) E
 
--- the children from i on were started at their places
+-- the children of a group from the i-th on were started at their places
 abbrev pub Begun : ℕ → ℕ → List ℕ → ℕ → List RunEvent → Type 0
 Begun k g ids i E = (l : ℕ) → i ≤ l → l < length ids → StartedAt (place.Command k g l) (get_or ids l 0) E
 
+-- what holds of a stage's children: those that are still to be waited for were started, and there was no wait for them
 abbrev pub Opens : ℕ → Stage → List RunEvent → Type 0
 Opens k (Claims i) E = Later k 0 0 E
 Opens k (ClaimReport i x) E = ⊤
@@ -129,6 +139,7 @@ Opens k (Removals i) E = ⊤
 Opens k (RemovalReport i) E = ⊤
 Opens k Ended E = ⊤
 
+-- the child of the next wait is open if `Opens` holds of the stage
 pub open_at : (k : ℕ) (job : Job) (s : Stage) (E : List RunEvent) → Valid job s → Opens k s E → OpenAt k s E
 open_at k job (Claims i) E v o = tt
 open_at k job (ClaimReport i x) E v o = tt
@@ -142,6 +153,7 @@ open_at k job (Removals i) E v o = tt
 open_at k job (RemovalReport i) E v o = tt
 open_at k job Ended E v o = tt
 
+-- if there was no wait from a place on, there was none from a later place on
 later_next : (k g h i l : ℕ) (E : List RunEvent) → (g < h) ⊎ ((h ≡ g) × (i ≤ l)) → Later k g i E → Later k h l E
 later_next k g h i l E from w a b to = w a b (at from to)
   where
@@ -154,6 +166,7 @@ later_next k g h i l E from w a b to = w a b (at from to)
 no_child : (k g : ℕ) (E : List RunEvent) → Begun k g [] 0 E
 no_child k g E l from lt = absurd (let no : l < 0 = lt in omega (arith, no))
 
+-- where a group is entered `Opens` holds: it has no child yet
 opens_group : (k : ℕ) (job : Job) (g : ℕ) (was : Bool) (E : List RunEvent) → Later k g 0 E → Opens k (enter_group job g was) E
 opens_group k job g was E w = by (nat_lt g (length job.groups))
   where
@@ -161,6 +174,7 @@ opens_group k job g was E w = by (nat_lt g (length job.groups))
     by true = (w, no_child k g E)
     by false = tt
 
+-- a claim, a group or a removal is entered without children
 pub opens_claims : (k : ℕ) (job : Job) (i : ℕ) (E : List RunEvent) → Later k 0 0 E → Opens k (enter_claims job i) E
 opens_claims k job i E w = by (nat_lt i (length job.temps))
   where
@@ -168,6 +182,7 @@ opens_claims k job i E w = by (nat_lt i (length job.temps))
     by true = w
     by false = opens_group k job 0 false E w
 
+-- where a removal is entered `Opens` holds: no child is to be waited for
 opens_removals : (k : ℕ) (job : Job) (i : ℕ) (E : List RunEvent) → Opens k (enter_removals job i) E
 opens_removals k job i E = by (nat_lt i (length job.on_failure))
   where
@@ -175,12 +190,14 @@ opens_removals k job i E = by (nat_lt i (length job.on_failure))
     by true = tt
     by false = tt
 
+-- after a group `Opens` holds: no child is to be waited for
 opens_end : (k : ℕ) (job : Job) (g i : ℕ) (started fault : Bool) (E : List RunEvent) → Later k g i E
     → Opens k (end_group job g started fault) E
 opens_end k job g i true true E w = opens_removals k job 0 E
 opens_end k job g i false true E w = tt
 opens_end k job g i started false E w = opens_group k job (g + 1) started E (later_next k g (g + 1) i 0 E (inl (omega arith)) w)
 
+-- where the waits are entered `Opens` holds: the children from the i-th on were started, and are to be waited for
 opens_waits : (k : ℕ) (job : Job) (g : ℕ) (was : Bool) (ids : List ℕ) (i : ℕ) (fault : Bool) (E : List RunEvent) → Later k g i E
     → Begun k g ids i E → Opens k (enter_waits job g was ids i fault) E
 opens_waits k job g was ids i fault E w b = by (nat_lt i (length ids))
@@ -197,7 +214,7 @@ later_kept k g i E e n w h l at = unwaited_more (place.Command k h l) E e (w h l
 begun_kept : (k g : ℕ) (ids : List ℕ) (i : ℕ) (E : List RunEvent) (e : RunEvent) → Begun k g ids i E → Begun k g ids i (E ++ e ∷ [])
 begun_kept k g ids i E e b l from lt = started_more (place.Command k g l) (get_or ids l 0) E e (b l from lt)
 
--- a wait at member i
+-- after a wait at a member there was none from the next one on
 later_waited : (k g i id : ℕ) (a : Answer) (E : List RunEvent) → Later k g i E
     → Later k g (i + 1) (E ++ event (step.Wait (place.Command k g i) id) a ∷ [])
 later_waited k g i id a E w h l at = unwaited_more (place.Command k h l) E (event (step.Wait (place.Command k g i) id) a)
@@ -221,18 +238,20 @@ later_waited k g i id a E w h l at = unwaited_more (place.Command k h l) E (even
 begun_waited : (k g : ℕ) (ids : List ℕ) (i : ℕ) (E : List RunEvent) (e : RunEvent) → Begun k g ids i E → Begun k g ids (i + 1) (E ++ e ∷ [])
 begun_waited k g ids i E e b l from lt = started_more (place.Command k g l) (get_or ids l 0) E e (b l (omega (arith, from)) lt)
 
--- one more child
+-- the items of a list with one more at its end are where they were
 get_front : (ids : List ℕ) (id l : ℕ) → l < length ids → get_or (ids ++ id ∷ []) l 0 ≡ get_or ids l 0
 get_front [] id l lt = absurd (let no : l < 0 = lt in omega (arith, no))
 get_front (x ∷ ids) id zero lt = refl
 get_front (x ∷ ids) id (suc l) lt = get_front ids id l (omega arith)
 
+-- the last item of a list is at the place of the length before
 get_back : (ids : List ℕ) (id l : ℕ) → l ≡ length ids → get_or (ids ++ id ∷ []) l 0 ≡ id
 get_back [] id zero e = refl
 get_back [] id (suc l) e = absurd (let no : suc l ≡ 0 = e in omega (arith, no))
 get_back (x ∷ ids) id zero e = absurd (let no : zero ≡ suc (length ids) = e in omega (arith, no))
 get_back (x ∷ ids) id (suc l) e = get_back ids id l (omega arith)
 
+-- after one more start the children of the group were started
 begun_started : (k g id : ℕ) (ids : List ℕ) (from_pipe to_pipe : Bool) (E : List RunEvent) → Begun k g ids 0 E
     → Begun k g (ids ++ id ∷ []) 0 (E ++ event (step.Start (place.Command k g (length ids)) from_pipe to_pipe)
     (answer.Start (start.Started id)) ∷ [])
@@ -253,6 +272,7 @@ begun_started k g id ids from_pipe to_pipe E b l from lt = by (nat_lt l (length 
         (started_now (place.Command k g l) id E new (subst (λ n. ((nat_eq k k && (nat_eq g g && nat_eq n (length ids))) && nat_eq id id)
         ≡ true) (sym is) (rw (nat_eq_equiv.refl k, nat_eq_equiv.refl g, nat_eq_equiv.refl (length ids), nat_eq_equiv.refl id) refl)))
 
+-- the answer to a claim keeps `Opens`
 opens_claimed : (k : ℕ) (job : Job) (i : ℕ) (x : ClaimAnswer) (E : List RunEvent) → Later k 0 0 E
     → Opens k (after job (Claims i) (answer.Claim x)) (E ++ event (step.Claim (place.Temp k i)) (answer.Claim x) ∷ [])
 opens_claimed k job i claim.Claimed E w = opens_claims k job (i + 1) (E ++ event (step.Claim (place.Temp k i)) (answer.Claim claim.Claimed)
@@ -260,6 +280,7 @@ opens_claimed k job i claim.Claimed E w = opens_claims k job (i + 1) (E ++ event
 opens_claimed k job i claim.Taken E w = tt
 opens_claimed k job i claim.Failed E w = tt
 
+-- the answer to a start keeps `Opens`
 opens_started : (k : ℕ) (job : Job) (g : ℕ) (was : Bool) (ids : List ℕ) (x : StartAnswer) (E : List RunEvent) → Later k g 0 E
     → Begun k g ids 0 E → Opens k (after job (Starts g was ids) (answer.Start x)) (E ++ event (asked (asks k job (Starts g was ids)))
     (answer.Start x) ∷ [])
@@ -281,6 +302,7 @@ opens_started k job g was ids (start.Started id) E w b = by (nat_lt (length ids 
     by false v c = opens_waits k job g was (ids ++ id ∷ []) 0 false (E ++ event (asked (asks k job (Starts g was ids)))
         (answer.Start (start.Started id)) ∷ []) v c
 
+-- the report of a refused start keeps `Opens`
 opens_refusal : (k : ℕ) (job : Job) (g : ℕ) (was : Bool) (ids : List ℕ) (why : NotStarted) (t : Bool) (E : List RunEvent) → Later k g 0 E
     → Begun k g ids 0 E → Opens k (after job (StartReport g was ids why) (answer.Reported t)) E
 opens_refusal k job g was ids why t E w b = by (nat_lt 0 (length ids))
@@ -289,18 +311,20 @@ opens_refusal k job g was ids why t E w b = by (nat_lt 0 (length ids))
     by true = (w, b)
     by false = opens_waits k job g was ids 0 true E w b
 
+-- the answer to a wait keeps `Opens`
 opens_waited : (k : ℕ) (job : Job) (g : ℕ) (was : Bool) (ids : List ℕ) (i : ℕ) (fault : Bool) (x : WaitAnswer) (E : List RunEvent)
     → Later k g (i + 1) E → Begun k g ids (i + 1) E → Opens k (after job (Waits g was ids i fault) (answer.Wait x)) E
 opens_waited k job g was ids i fault (Exit n) E w b = opens_waits k job g was ids (i + 1) (fault || not (nat_eq n 0)) E w b
 opens_waited k job g was ids i fault Signal E w b = (w, b)
 opens_waited k job g was ids i fault Lost E w b = (w, b)
 
+-- the answer to a removal keeps `Opens`
 opens_removed : (k : ℕ) (job : Job) (i : ℕ) (t : Bool) (E : List RunEvent)
     → Opens k (if t then RemovalReport i else enter_removals job (i + 1)) E
 opens_removed k job i true E = tt
 opens_removed k job i false E = opens_removals k job (i + 1) E
 
--- one event of the source itself
+-- each answer to a step of the source itself keeps `Opens`
 pub opens_after : (k : ℕ) (job : Job) (s : Stage) (a : Answer) (E : List RunEvent) → left s ≡ true → is_kind (asked (asks k job s)) a ≡ true
     → Opens k s E → Opens k (after job s a) (E ++ event (asked (asks k job s)) a ∷ [])
 opens_after k job (Claims i) (answer.Claim x) E l e o = opens_claimed k job i x E o
@@ -329,7 +353,7 @@ opens_after k job (RemovalReport i) a E l e o = opens_removals k job (i + 1)
     (E ++ event (step.Report (note.NotRemoved (place.OnFailure k i))) a ∷ [])
 opens_after k job Ended a E l e o = absurd cc
 
--- an event of another source
+-- the next step of another source is no wait at a place of this one
 other_wait : (j k : ℕ) (job : Job) (s : Stage) → nat_eq k j ≡ false → (h l : ℕ)
     → is_wait_at (place.Command k h l) (asked (asks j job s)) ≡ false
 other_wait j k job (Claims i) e h l = refl
@@ -347,6 +371,7 @@ later_other : (k g i : ℕ) (E : List RunEvent) (e : RunEvent) → ((h l : ℕ) 
     → Later k g i (E ++ e ∷ [])
 later_other k g i E e n w h l at = unwaited_more (place.Command k h l) E e (w h l at) (n h l)
 
+-- an event that is no wait for a child of the source keeps `Opens`
 opens_kept : (k : ℕ) (s : Stage) (E : List RunEvent) (e : RunEvent) → ((h l : ℕ) → is_wait_at (place.Command k h l) e.step ≡ false)
     → Opens k s E → Opens k s (E ++ e ∷ [])
 opens_kept k (Claims i) E e n o = later_other k 0 0 E e n o
@@ -360,12 +385,14 @@ opens_kept k (Removals i) E e n o = tt
 opens_kept k (RemovalReport i) E e n o = tt
 opens_kept k Ended E e n o = tt
 
+-- an answer to a step of another source keeps `Opens`
 pub opens_other : (j k : ℕ) (job : Job) (t s : Stage) (a : Answer) (E : List RunEvent) → nat_eq k j ≡ false → Opens k s E
     → Opens k s (E ++ event (asked (asks j job t)) a ∷ [])
 opens_other j k job t s a E e o = opens_kept k s E (event (asked (asks j job t)) a) (other_wait j k job t e) o
 
 -- a group has at most as many children as commands
 
+-- where a group is entered it has no child
 sized_group : (job : Job) (g : ℕ) (was : Bool) → Sized job (enter_group job g was)
 sized_group job g was = by (nat_lt g (length job.groups))
   where
@@ -373,6 +400,7 @@ sized_group job g was = by (nat_lt g (length job.groups))
     by true = tt
     by false = tt
 
+-- a claim, a group or a removal is entered without children: at most as many as the group has commands
 pub sized_claims : (job : Job) (i : ℕ) → Sized job (enter_claims job i)
 sized_claims job i = by (nat_lt i (length job.temps))
   where
@@ -380,6 +408,7 @@ sized_claims job i = by (nat_lt i (length job.temps))
     by true = tt
     by false = sized_group job 0 false
 
+-- where a removal is entered no group has children
 sized_removals : (job : Job) (i : ℕ) → Sized job (enter_removals job i)
 sized_removals job i = by (nat_lt i (length job.on_failure))
   where
@@ -387,11 +416,13 @@ sized_removals job i = by (nat_lt i (length job.on_failure))
     by true = tt
     by false = tt
 
+-- after a group its children count no more
 sized_end : (job : Job) (g : ℕ) (started fault : Bool) → Sized job (end_group job g started fault)
 sized_end job g true true = sized_removals job 0
 sized_end job g false true = tt
 sized_end job g started false = sized_group job (g + 1) started
 
+-- where the waits are entered the group has at most as many children as commands
 sized_waits : (job : Job) (g : ℕ) (was : Bool) (ids : List ℕ) (i : ℕ) (fault : Bool) → length ids ≤ length (group_at job g)
     → Sized job (enter_waits job g was ids i fault)
 sized_waits job g was ids i fault le = by (nat_lt i (length ids))
@@ -400,11 +431,13 @@ sized_waits job g was ids i fault le = by (nat_lt i (length ids))
     by true = le
     by false = sized_end job g (was || not (none ids)) fault
 
+-- the answer to a claim keeps the bound
 sized_claimed : (job : Job) (i : ℕ) (x : ClaimAnswer) → Sized job (after job (Claims i) (answer.Claim x))
 sized_claimed job i claim.Claimed = sized_claims job (i + 1)
 sized_claimed job i claim.Taken = tt
 sized_claimed job i claim.Failed = tt
 
+-- the answer to a start keeps the bound: a member is left before it
 sized_started : (job : Job) (g : ℕ) (was : Bool) (ids : List ℕ) (x : StartAnswer) → length ids < length (group_at job g)
     → Sized job (after job (Starts g was ids) (answer.Start x))
 sized_started job g was ids (start.NotStarted why) lt = tt
@@ -415,6 +448,7 @@ sized_started job g was ids (start.Started id) lt = by (nat_lt (length ids + 1) 
     by false = sized_waits job g was (ids ++ id ∷ []) 0 false
         (let len : length (ids ++ id ∷ []) ≡ length ids + 1 = length-append {A = ℕ} ids (id ∷ []) in omega (arith, len, lt))
 
+-- the report of a refused start keeps the bound
 sized_refusal : (job : Job) (g : ℕ) (was : Bool) (ids : List ℕ) (why : NotStarted) (t : Bool) → length ids < length (group_at job g)
     → Sized job (after job (StartReport g was ids why) (answer.Reported t))
 sized_refusal job g was ids why t lt = by (nat_lt 0 (length ids))
@@ -423,6 +457,7 @@ sized_refusal job g was ids why t lt = by (nat_lt 0 (length ids))
     by true = tt
     by false = sized_waits job g was ids 0 true (omega (arith, lt))
 
+-- the answer to a wait keeps the bound
 sized_waited : (job : Job) (g : ℕ) (was : Bool) (ids : List ℕ) (i : ℕ) (fault : Bool) (x : WaitAnswer)
     → length ids ≤ length (group_at job g) → Sized job (after job (Waits g was ids i fault) (answer.Wait x))
 sized_waited job g was ids i fault (Exit n) le = sized_waits job g was ids (i + 1) (fault || not (nat_eq n 0)) le
@@ -433,6 +468,7 @@ sized_removed : (job : Job) (i : ℕ) (t : Bool) → Sized job (if t then Remova
 sized_removed job i true = tt
 sized_removed job i false = sized_removals job (i + 1)
 
+-- after each answer a group has at most as many children as commands
 pub sized_after : (k : ℕ) (job : Job) (s : Stage) (a : Answer) → Valid job s → left s ≡ true → is_kind (asked (asks k job s)) a ≡ true
     → Sized job s → Sized job (after job s a)
 sized_after k job (Claims i) (answer.Claim x) v l e z = sized_claimed job i x

@@ -36,9 +36,11 @@ use Rattle.std.proofs.Math.Path.{fun_ext}
 use Rattle.std.proofs.lemmas.Cmp.{nat_eq_equiv}
 use Rattle.std.specs.Prelude.{⊤}
 
--- For the sources of `Run`: after each event, the events so far are the beginning of a whole run.
+-- For the sources of `Run`: after each event, the events so far are the beginning of a whole run. `Running` is what holds of the sources:
+-- whole blocks in a permitted order, and at most one open block, of the source in progress. An answer continues that block (`goes_inside`)
+-- or ends it (`goes_out`).
 
--- the condition on which a stage rests
+-- what a stage says of its job: the claim, command, child or removal that is next is there
 abbrev pub Valid : Job → Stage → Type 0
 Valid job (Claims i) = i < length job.temps
 Valid job (ClaimReport i x) = (i < length job.temps) × (is_claimed x ≡ false)
@@ -51,7 +53,7 @@ Valid job (Removals i) = i < length job.on_failure
 Valid job (RemovalReport i) = i < length job.on_failure
 Valid job Ended = ⊤
 
--- no group is empty
+-- a group is entered at a valid stage, if no group is empty
 pub valid_group : (job : Job) (g : ℕ) (was : Bool) → Filled job → Valid job (enter_group job g was)
 valid_group job g was filled = by (nat_lt g (length job.groups)) refl
   where
@@ -59,6 +61,7 @@ valid_group job g was filled = by (nat_lt g (length job.groups)) refl
     by true e = filled g (is_less g (length job.groups) e)
     by false e = tt
 
+-- claims are entered at a valid stage
 pub valid_claims : (job : Job) (i : ℕ) → Filled job → Valid job (enter_claims job i)
 valid_claims job i filled = by (nat_lt i (length job.temps)) refl
   where
@@ -66,6 +69,7 @@ valid_claims job i filled = by (nat_lt i (length job.temps)) refl
     by true e = is_less i (length job.temps) e
     by false e = valid_group job 0 false filled
 
+-- removals are entered at a valid stage
 pub valid_removals : (job : Job) (i : ℕ) → Valid job (enter_removals job i)
 valid_removals job i = by (nat_lt i (length job.on_failure)) refl
   where
@@ -73,11 +77,13 @@ valid_removals job i = by (nat_lt i (length job.on_failure)) refl
     by true e = is_less i (length job.on_failure) e
     by false e = tt
 
+-- after a group the source is at a valid stage
 valid_end : (job : Job) (g : ℕ) (started fault : Bool) → Filled job → Valid job (end_group job g started fault)
 valid_end job g true true filled = valid_removals job 0
 valid_end job g false true filled = tt
 valid_end job g started false filled = valid_group job (g + 1) started filled
 
+-- waits are entered at a valid stage
 pub valid_waits : (job : Job) (g : ℕ) (was : Bool) (ids : List ℕ) (i : ℕ) (fault : Bool) → Filled job
     → Valid job (enter_waits job g was ids i fault)
 valid_waits job g was ids i fault filled = by (nat_lt i (length ids)) refl
@@ -87,6 +93,7 @@ valid_waits job g was ids i fault filled = by (nat_lt i (length ids)) refl
     by true e = is_less i (length ids) e
     by false e = valid_end job g (was || not (none ids)) fault filled
 
+-- a source begins at a valid stage
 pub valid_begin : (job : Job) → Filled job → Valid job (begin job)
 valid_begin job filled = by (none job.groups)
   where
@@ -94,15 +101,18 @@ valid_begin job filled = by (none job.groups)
     by true = tt
     by false = valid_claims job 0 filled
 
+-- the step that is asked for
 abbrev pub asked : Option Step → Step
 asked None = step.ClosePipe
 asked (Some s) = s
 
+-- the answer to a claim leads to a valid stage
 valid_claim : (job : Job) (i : ℕ) (x : ClaimAnswer) → Filled job → i < length job.temps → Valid job (after job (Claims i) (answer.Claim x))
 valid_claim job i claim.Claimed filled lt = valid_claims job (i + 1) filled
 valid_claim job i claim.Taken filled lt = (lt, refl)
 valid_claim job i claim.Failed filled lt = (lt, refl)
 
+-- the answer to a start leads to a valid stage
 valid_start : (job : Job) (g : ℕ) (was : Bool) (ids : List ℕ) (x : StartAnswer) → Filled job → length ids < length (group_at job g)
     → Valid job (after job (Starts g was ids) (answer.Start x))
 valid_start job g was ids (start.NotStarted why) filled lt = lt
@@ -116,6 +126,7 @@ valid_start job g was ids (start.Started id) filled lt = by (nat_lt (length ids 
         omega (arith, more, len)
     by false e = valid_waits job g was (ids ++ id ∷ []) 0 false filled
 
+-- the report of a refused start leads to a valid stage
 valid_refusal : (job : Job) (g : ℕ) (was : Bool) (ids : List ℕ) (why : NotStarted) (t : Bool) → Filled job
     → length ids < length (group_at job g) → Valid job (after job (StartReport g was ids why) (answer.Reported t))
 valid_refusal job g was ids why t filled lt = by (nat_lt 0 (length ids)) refl
@@ -124,19 +135,21 @@ valid_refusal job g was ids why t filled lt = by (nat_lt 0 (length ids)) refl
     by true e = (lt, e)
     by false e = valid_waits job g was ids 0 true filled
 
+-- the answer to a wait leads to a valid stage
 valid_wait : (job : Job) (g : ℕ) (was : Bool) (ids : List ℕ) (i : ℕ) (fault : Bool) (x : WaitAnswer) → Filled job → i < length ids
     → Valid job (after job (Waits g was ids i fault) (answer.Wait x))
 valid_wait job g was ids i fault (Exit n) filled lt = valid_waits job g was ids (i + 1) (fault || not (nat_eq n 0)) filled
 valid_wait job g was ids i fault Signal filled lt = (lt, refl)
 valid_wait job g was ids i fault Lost filled lt = (lt, refl)
 
+-- the answer to a removal leads to a valid stage
 valid_remove : (job : Job) (i : ℕ) (x : RemoveAnswer) → i < length job.on_failure → Valid job (after job (Removals i) (answer.Remove x))
 valid_remove job i remove.Removed lt = valid_removals job (i + 1)
 valid_remove job i remove.Missing lt = valid_removals job (i + 1)
 valid_remove job i remove.NotPlain lt = valid_removals job (i + 1)
 valid_remove job i remove.Failed lt = lt
 
--- each stage leads to a valid one
+-- an answer that fits leads from a valid stage to a valid one
 pub valid_after : (k : ℕ) (job : Job) (s : Stage) (a : Answer) → Filled job → Valid job s → is_kind (asked (asks k job s)) a ≡ true
     → Valid job (after job s a)
 valid_after k job (Claims i) (answer.Claim x) filled v e = valid_claim job i x filled v
@@ -192,6 +205,7 @@ pub record Closes (k : ℕ) (job : Job) (s : Stage) : Type 0 where
   pub m : Stage
   pub one : OneBlock k job (base s) (open_of k job s ++ rest) m
 
+-- each open block can be ended
 pub closing : (k : ℕ) (job : Job) (s : Stage) → Valid job s → inside s ≡ true → Closes k job s
 closing k job (Claims i) v e = absurd cc
 closing k job (ClaimReport i x) v e = record {
@@ -241,16 +255,19 @@ closing k job (RemovalReport i) v e = record {
 }
 closing k job Ended v e = absurd cc
 
+-- a source with an open block has more to do
 pub inside_left : (s : Stage) → inside s ≡ true → left s ≡ true
 inside_left Ended e = absurd cc
 inside_left s e = refl
 
 -- between blocks
 
+-- a source has as much to do as at the stage where its open block began
 pub left_base : (s : Stage) → left (base s) ≡ left s
 left_base Ended = refl
 left_base s = refl
 
+-- between blocks the stage is that at which the next block begins
 pub base_out : (s : Stage) → inside s ≡ false → base s ≡ s
 base_out (Claims i) e = refl
 base_out (Starts g was []) e = refl
@@ -260,6 +277,7 @@ base_out (Removals i) e = refl
 base_out Ended e = refl
 base_out s e = absurd cc
 
+-- between blocks no block has events
 pub open_out : (k : ℕ) (job : Job) (s : Stage) → inside s ≡ false → open_of k job s ≡ []
 open_out k job (Claims i) e = refl
 open_out k job (Starts g was []) e = refl
@@ -269,14 +287,17 @@ open_out k job (Removals i) e = refl
 open_out k job Ended e = refl
 open_out k job s e = absurd cc
 
+-- the events of two lists of blocks
 pub events_append : (xs ys : List SourceBlock) → events_of (blocks_of (xs ++ ys)) ≡ events_of (blocks_of xs) ++ events_of (blocks_of ys)
 events_append [] ys = refl
 events_append (x ∷ xs) ys = ap (λ l. x.block ++ l) (events_append xs ys)
     ∙ sym (append_assoc x.block (events_of (blocks_of xs)) (events_of (blocks_of ys)))
 
+-- for each source the stage at which its open block began, or else its own
 abbrev pub bases : (ℕ → Stage) → ℕ → Stage
 bases st j = base (st j)
 
+-- a block of source k may come next
 abbrev pub MayGo : List Job → ℕ → (ℕ → Stage) → List SourceBlock → ℕ → Type 0
 MayGo jobs N st blocks k = MayCome (length jobs) N (λ j. has j blocks) (λ j. left (st j)) (λ j. in_flight (of j blocks)) k
     (nat_lt 0 (pending (st k)))
@@ -290,10 +311,11 @@ pub record Running (jobs : List Job) (N : ℕ) (st : ℕ → Stage) (cur : ℕ) 
   pub valid : (j : ℕ) → Valid (get_or jobs j no_job) (st j)
   pub may : inside (st cur) ≡ true → MayGo jobs N (bases st) blocks cur
 
+-- source k is at the stage where it was put
 pub put_here : (st : ℕ → Stage) (k : ℕ) (m : Stage) → put st k m k ≡ m
 put_here st k m = ap (λ (t : Bool). if t then m else st k) (nat_eq_equiv.refl k)
 
--- the open block continues
+-- one more event of the open block: the run of the sources goes on in it
 abbrev pub goes_inside : (jobs : List Job) (N : ℕ) (st : ℕ → Stage) (k : ℕ) (E : List RunEvent) (m : Stage) (ev : RunEvent)
     → (r : Running jobs N st k E) → MayGo jobs N (bases st) r.blocks k → Valid (get_or jobs k no_job) m
     → base m ≡ base (st k) → open_of k (get_or jobs k no_job) m ≡ open_of k (get_or jobs k no_job) (st k) ++ ev ∷ []
@@ -320,7 +342,7 @@ goes_inside jobs N st k E m ev r may valid same_base more = record {
     is_valid j true e = let is : k ≡ j = same k j e in subst (λ i. Valid (get_or jobs i no_job) m) is valid
     is_valid j false e = r.valid j
 
--- the block ends
+-- one more event ends the open block: the run of the sources is between blocks
 abbrev pub goes_out : (jobs : List Job) (N : ℕ) (st : ℕ → Stage) (k : ℕ) (E : List RunEvent) (m : Stage) (ev : RunEvent)
     → (r : Running jobs N st k E) → MayGo jobs N (bases st) r.blocks k → Valid (get_or jobs k no_job) m → left (st k) ≡ true
     → inside m ≡ false → OneBlock k (get_or jobs k no_job) (base (st k)) (open_of k (get_or jobs k no_job) (st k) ++ ev ∷ []) m
@@ -354,7 +376,7 @@ goes_out jobs N st k E m ev r may valid more out one = record {
     is_valid j true e = let is : k ≡ j = same k j e in subst (λ i. Valid (get_or jobs i no_job) m) is valid
     is_valid j false e = r.valid j
 
--- one more event, of a source that may go on or that has an open block
+-- one more event of a source that may go on, or has the open block, keeps `Running`
 pub goes_on : (jobs : List Job) (N : ℕ) (st : ℕ → Stage) (k : ℕ) (E : List RunEvent) (a : Answer)
     → ((j : ℕ) → Filled (get_or jobs j no_job)) → (r : Running jobs N st k E) → MayGo jobs N (bases st) r.blocks k → left (st k) ≡ true
     → is_kind (asked (asks k (get_or jobs k no_job) (st k))) a ≡ true → Running jobs N (put st k (after (get_or jobs k no_job) (st k) a)) k
@@ -389,7 +411,7 @@ all_out jobs N st cur E r out j = by (nat_eq cur j) refl
     by true e = subst (λ i. inside (st i) ≡ false) (same cur j e) out
     by false e = r.others j e
 
--- between blocks any source may be the next one
+-- between blocks the source in progress may be any other, and `Running` still holds
 abbrev pub turns : (jobs : List Job) (N : ℕ) (st : ℕ → Stage) (cur k : ℕ) (E : List RunEvent) → Running jobs N st cur E
     → inside (st cur) ≡ false → Running jobs N st k E
 turns jobs N st cur k E r out = record {
@@ -402,13 +424,14 @@ turns jobs N st cur k E r out = record {
   may = λ e. absurd (let clash : true ≡ false = sym e ∙ all_out jobs N st cur E r out k in cc);
 }
 
--- The events so far are the beginning of a whole run of the sources.
+-- these events are the beginning of a whole run of the sources
 pub record Begins (jobs : List Job) (N : ℕ) (E : List RunEvent) : Type 0 where
   pub blocks : List SourceBlock
   pub run : SourcesRun jobs N blocks
   pub rest : List RunEvent
   pub events : E ++ rest ≡ events_of (blocks_of blocks)
 
+-- the events of a run in progress are the beginning of a run of the sources
 pub sources_begin : (jobs : List Job) (N : ℕ) (st : ℕ → Stage) (cur : ℕ) (E : List RunEvent) → 1 ≤ N → Running jobs N st cur E
     → Begins jobs N E
 sources_begin jobs N st cur E some r = by (inside (st cur)) refl
@@ -458,12 +481,13 @@ sources_begin jobs N st cur E some r = by (inside (st cur)) refl
     by true e = into e (closing cur (get_or jobs cur no_job) (st cur) (r.valid cur) e)
     by false e = out e (finish jobs N (bases st) r.blocks some r.keep)
 
--- If all sources have ended, the events are a whole run of the sources.
+-- these events are a whole run of the sources
 pub record Ran (jobs : List Job) (N : ℕ) (E : List RunEvent) : Type 0 where
   pub blocks : List SourceBlock
   pub run : SourcesRun jobs N blocks
   pub events : E ≡ events_of (blocks_of blocks)
 
+-- where all sources are at their ends, the events are a whole run of the sources
 pub sources_ran : (jobs : List Job) (N : ℕ) (st : ℕ → Stage) (cur : ℕ) (E : List RunEvent) → Running jobs N st cur E
     → ((j : ℕ) → st j ≡ Ended) → Ran jobs N E
 sources_ran jobs N st cur E r ended = record {

@@ -33,9 +33,10 @@ use Rattle.std.proofs.lemmas.Bool.Decides.{nat_tests}
 use Rattle.std.proofs.lemmas.List.{get_or_append_left}
 use Rattle.std.specs.Option.{option_to_list}
 
--- For the sources of `Run`: each step can be made, and uses up one of the events that can come.
+-- For the sources of `Run`: each step can be made (`sure_makes`), and uses up one of the events that can come (`sure_fewer`), so the room
+-- for events suffices. `Sure` is all that is known of the sources while one goes on, and `Over` after the last.
 
--- most: the most events of the sources
+-- all that is known of the sources while one goes on, after these events; `most` is the most events that they can have
 pub record Sure (jobs : List Job) (N most : ℕ) (f : Fleet) (E : List RunEvent) : Type 0 where
   pub going : Going jobs N f E
   pub opens : (j : ℕ) → Opens j (stage_in f j) E
@@ -45,13 +46,14 @@ pub record Sure (jobs : List Job) (N most : ℕ) (f : Fleet) (E : List RunEvent)
   -- there was no wait for a child of the link
   pub later : Later (length jobs) 0 0 E
 
+-- all sources have ended, no pipe is pending, and at most `most` events came
 pub record Over (jobs : List Job) (N most : ℕ) (f : Fleet) (E : List RunEvent) : Type 0 where
   pub landed : Landed jobs N f E
   pub pipe : pipe_pending E ≡ false
   pub bound : length E ≤ most
   pub later : Later (length jobs) 0 0 E
 
--- the next step can be made
+-- the next step of the source in progress can be made
 pub sure_makes : (plan : Plan) (N most : ℕ) (f : Fleet) (E : List RunEvent) → Sure plan.jobs N most f E
     → can_make plan E (asked (asks f.current (get_or plan.jobs f.current no_job) (stage_in f f.current))) ≡ true
 sure_makes plan N most f E s = subst (λ job. can_make plan E (asked (asks f.current job (stage_in f f.current))) ≡ true) job_is
@@ -69,6 +71,7 @@ sure_makes plan N most f E s = subst (λ job. can_make plan E (asked (asks f.cur
 
 -- and there is room for its events
 
+-- an answer of the kind of a step
 abbrev answer_for : Step → Answer
 answer_for (step.Claim p) = answer.Claim Taken
 answer_for (step.Start p from_pipe to_pipe) = answer.Start (NotStarted Other)
@@ -77,6 +80,7 @@ answer_for (step.Wait p id) = answer.Wait Lost
 answer_for (step.Remove p) = answer.Remove Missing
 answer_for (step.Report n) = answer.Reported false
 
+-- each step has an answer of its kind
 answers : (s : Step) → is_kind s (answer_for s) ≡ true
 answers (step.Claim p) = refl
 answers (step.Start p from_pipe to_pipe) = refl
@@ -85,12 +89,14 @@ answers (step.Wait p id) = refl
 answers (step.Remove p) = refl
 answers (step.Report n) = refl
 
+-- at least one event is still to come from a source that has more to do
 pub cost_some : (k : ℕ) (job : Job) (s : Stage) → Valid job s → left s ≡ true → 0 < cost job s
 cost_some k job s v l =
     let lt : cost job (after job s (answer_for (asked (asks k job s)))) < cost job s =
     cost_less k job s (answer_for (asked (asks k job s))) v l (answers (asked (asks k job s))) in
     omega (arith, lt)
 
+-- a sum is greater than 0 if one of its parts is
 some_summed : (n k : ℕ) (f : ℕ → ℕ) → k < n → 0 < f k → 0 < summed n f
 some_summed zero k f lt some = absurd (omega arith)
 some_summed (suc n) k f lt some = by (nat_eq k n) refl (λ below. some_summed n k f below some)
@@ -106,6 +112,7 @@ valid_in jobs N f E g = subst (λ t. Valid (get_or jobs f.current no_job) t) (sy
 left_in : (jobs : List Job) (N : ℕ) (f : Fleet) (E : List RunEvent) → Going jobs N f E → left (stage_in f f.current) ≡ true
 left_in jobs N f E g = ap left (g.at f.current) ∙ g.more
 
+-- while a source goes on, fewer than `most` events came
 pub sure_fewer : (jobs : List Job) (N most : ℕ) (f : Fleet) (E : List RunEvent) → Sure jobs N most f E → length E < most
 sure_fewer jobs N most f E s =
     let le = s.bound in
@@ -117,6 +124,7 @@ sure_fewer jobs N most f E s =
 
 -- one more answer
 
+-- the choice of the next source changes no stage
 stage_settled : (jobs : List Job) (g : Fleet) (j : ℕ) → stage_in (settled jobs g) j ≡ stage_in g j
 stage_settled jobs g j = by (inside (stage_in g g.current))
   where
@@ -127,6 +135,7 @@ stage_settled jobs g j = by (inside (stage_in g g.current))
 current_settled : (jobs : List Job) (g : Fleet) → inside (stage_in g g.current) ≡ true → (settled jobs g).current ≡ g.current
 current_settled jobs g e = ap (λ (t : Bool). (if t then g else turned jobs g).current) e
 
+-- after an answer that fits, the sources go on so, or all have ended
 pub sure_takes : (jobs : List Job) (N most : ℕ) (f : Fleet) (E : List RunEvent) (a : Answer) → 1 ≤ N
     → ((j : ℕ) → Filled (get_or jobs j no_job)) → Sure jobs N most f E
     → is_kind (asked (asks f.current (get_or jobs f.current no_job) (stage_in f f.current))) a ≡ true
@@ -218,6 +227,7 @@ sure_takes jobs N most f E a some filled s kind = by (takes jobs N f E a some fi
 
 -- at the beginning
 
+-- at the beginning of a source `Opens` holds, if there was no wait for a child of it
 pub opens_begin : (k : ℕ) (job : Job) (E : List RunEvent) → Later k 0 0 E → Opens k (begin job) E
 opens_begin k job E w = by (none job.groups)
   where
@@ -225,6 +235,7 @@ opens_begin k job E w = by (none job.groups)
     by true = tt
     by false = opens_claims k job 0 E w
 
+-- at its beginning a source has no more children than commands
 pub sized_begin : (job : Job) → Sized job (begin job)
 sized_begin job = by (none job.groups)
   where
@@ -232,6 +243,7 @@ sized_begin job = by (none job.groups)
     by true = tt
     by false = sized_claims job 0
 
+-- at the beginning of a run the sources go on so, or none has anything to do
 pub sure_starts : (jobs : List Job) (N most : ℕ) → 1 ≤ N → ((j : ℕ) → Filled (get_or jobs j no_job))
     → to_come jobs (λ j. begin (get_or jobs j no_job)) ≤ most → Sure jobs N most (fresh_fleet jobs N) [] ⊎ Over jobs N most
     (fresh_fleet jobs N) []

@@ -29,8 +29,11 @@ use Rattle.std.proofs.lemmas.List.{get_or-set_other, get_or-set_same, get_or_pas
 use Rattle.std.specs.List.{filter}
 use Rattle.std.specs.Prelude.{slice_set}
 
--- For the sources of `Run`: what is known of them holds after each answer, until all have ended.
+-- For the sources of `Run`: what is known of them (`Going`) holds after each answer, until all have ended (`Landed`). It joins the code's
+-- list of sources with `Running`, which knows only their stages.
 
+-- a source is in progress: the stages of the code's list are those of a run in progress, the code's counts are right, and the source may go
+-- on
 pub record Going (jobs : List Job) (N : ℕ) (f : Fleet) (E : List RunEvent) : Type 0 where
   pub st : ℕ → Stage
   pub at : (j : ℕ) → stage_in f j ≡ st j
@@ -39,6 +42,7 @@ pub record Going (jobs : List Job) (N : ℕ) (f : Fleet) (E : List RunEvent) : T
   pub more : left (st f.current) ≡ true
   pub counts : Counts jobs N f run.blocks
 
+-- all sources have ended
 pub record Landed (jobs : List Job) (N : ℕ) (f : Fleet) (E : List RunEvent) : Type 0 where
   pub st : ℕ → Stage
   pub at : (j : ℕ) → stage_in f j ≡ st j
@@ -48,6 +52,7 @@ pub record Landed (jobs : List Job) (N : ℕ) (f : Fleet) (E : List RunEvent) : 
 
 -- one source's stage is replaced in the list
 
+-- in the list with source k replaced, only k has another stage
 stage_set : (ws : List SourceState) (k j : ℕ) (w : SourceState) (st : ℕ → Stage) → k < length ws
     → ((i : ℕ) → (get_or ws i idle).stage ≡ st i) → (t : Bool) → nat_eq k j ≡ t → (get_or (slice_set ws k w) j idle).stage
     ≡ (if t then w.stage else st j)
@@ -56,6 +61,7 @@ stage_set ws k j w st lt at true e = ap (λ x. x.stage) (subst (λ i. get_or (sl
 stage_set ws k j w st lt at false e = ap (λ x. x.stage)
     (get_or-set_other ws k j w idle (λ is. clash (nat_eq k j) (ap (λ i. nat_eq k i) is ∙ nat_eq_equiv.refl k) e)) ∙ at j
 
+-- in the list with source k replaced, each has the same room
 room_set : (ws : List SourceState) (k j : ℕ) (w : SourceState) → k < length ws → w.room ≡ (get_or ws k idle).room → (t : Bool)
     → nat_eq k j ≡ t → (get_or (slice_set ws k w) j idle).room ≡ (get_or ws j idle).room
 room_set ws k j w lt is true e = subst (λ i. (get_or (slice_set ws k w) i idle).room ≡ (get_or ws i idle).room) (same k j e)
@@ -63,6 +69,7 @@ room_set ws k j w lt is true e = subst (λ i. (get_or (slice_set ws k w) i idle)
 room_set ws k j w lt is false e = ap (λ x. x.room)
     (get_or-set_other ws k j w idle (λ i. clash (nat_eq k j) (ap (λ n. nat_eq k n) i ∙ nat_eq_equiv.refl k) e))
 
+-- to take an ended source out of the code's counts changes no stage
 pub stage_closed : (f : Fleet) (j : ℕ) → stage_in (closed f) j ≡ stage_in f j
 stage_closed f j = by (left (stage_in f f.current))
   where
@@ -70,6 +77,7 @@ stage_closed f j = by (left (stage_in f f.current))
     by true = refl
     by false = refl
 
+-- to count a source as begun changes no stage
 pub stage_opened : (jobs : List Job) (f : Fleet) (j : ℕ) → stage_in (opened jobs f) j ≡ stage_in f j
 stage_opened jobs f j = by (nat_eq f.current f.next)
   where
@@ -81,6 +89,7 @@ stage_opened jobs f j = by (nat_eq f.current f.next)
     by true = refl
     by false = refl
 
+-- equal numbers, the other way round
 pub turn_about : (a b : ℕ) (t : Bool) → nat_eq a b ≡ t → nat_eq b a ≡ t
 turn_about a b true e = ap (λ n. nat_eq b n) (same a b e) ∙ nat_eq_equiv.refl b
 turn_about a b false e = grind (arith, nat_tests)
@@ -114,11 +123,12 @@ pub bases_at : (jobs : List Job) (N : ℕ) (h : Fleet) (cur : ℕ) (st : ℕ →
     → inside (st cur) ≡ false → ((j : ℕ) → stage_in h j ≡ st j) → bases st ≡ stage_in h
 bases_at jobs N h cur st E r out at = fun_ext (λ j. base_out (st j) (all_out jobs N st cur E r out j) ∙ sym (at j))
 
+-- between blocks, what is known of the sources is known by the code's stages
 pub keeps_at : (jobs : List Job) (N : ℕ) (h : Fleet) (cur : ℕ) (st : ℕ → Stage) (E : List RunEvent) → (r : Running jobs N st cur E)
     → inside (st cur) ≡ false → ((j : ℕ) → stage_in h j ≡ st j) → Keeps jobs N (stage_in h) r.blocks
 keeps_at jobs N h cur st E r out at = subst (λ s. Keeps jobs N s r.blocks) (bases_at jobs N h cur st E r out at) r.keep
 
--- and any source that may go on can be the next one
+-- between blocks any source that may go on can be the next one
 pub goes_to : (jobs : List Job) (N : ℕ) (h : Fleet) (cur : ℕ) (st : ℕ → Stage) (E : List RunEvent) → (r : Running jobs N st cur E)
     → inside (st cur) ≡ false → ((j : ℕ) → stage_in h j ≡ st j) → Counts jobs N h r.blocks → (k : ℕ) → Picks jobs N (stage_in h) r.blocks k
     → Going jobs N (record h { current = k }) E
@@ -142,7 +152,7 @@ goes_to jobs N h cur st E r out at c k p = record {
   };
 }
 
--- after a block another source goes on, or all have ended
+-- after a block the source that is picked goes on, or all have ended
 settles : (jobs : List Job) (N : ℕ) (h : Fleet) (cur : ℕ) (st : ℕ → Stage) (E : List RunEvent) → 1 ≤ N → (r : Running jobs N st cur E)
     → inside (st cur) ≡ false → ((j : ℕ) → stage_in h j ≡ st j) → Counts jobs N h r.blocks
     → Going jobs N (chosen h) E ⊎ Landed jobs N (chosen h) E
@@ -167,21 +177,26 @@ settles jobs N h cur st E some r out at c = by (find (length jobs) (λ j. left (
 
 -- the answer to the next step
 
+-- the stage of the source in progress after the answer to its next step
 abbrev pub next_stage : List Job → Fleet → (ℕ → Stage) → Answer → Stage
 next_stage jobs f st a = after (get_or jobs f.current no_job) (st f.current) a
 
+-- the event of that step and answer
 abbrev pub made : List Job → Fleet → (ℕ → Stage) → Answer → RunEvent
 made jobs f st a = event (asked (asks f.current (get_or jobs f.current no_job) (st f.current))) a
 
+-- the code's sources with that stage
 abbrev pub gone_on : List Job → Fleet → Answer → Fleet
 gone_on jobs f a = worked (get_or jobs f.current no_job) f a
 
+-- only the source in progress has another stage
 pub record Stages (jobs : List Job) (N : ℕ) (f : Fleet) (a : Answer) (st : ℕ → Stage) : Type 0 where
   pub at : (j : ℕ) → stage_in (gone_on jobs f a) j ≡ put st f.current (next_stage jobs f st a) j
   pub other : (j : ℕ) → nat_eq f.current j ≡ false → stage_in (gone_on jobs f a) j ≡ stage_in f j
   pub rooms : (j : ℕ) → (source_in (gone_on jobs f a) j).room ≡ (source_in f j).room
   pub sizes : length (gone_on jobs f a).sources ≡ length f.sources
 
+-- the code's sources after an answer: the source in progress has its next stage, the others theirs
 pub stages_of : (jobs : List Job) (N : ℕ) (f : Fleet) (a : Answer) (st : ℕ → Stage) → f.current < length f.sources
     → ((j : ℕ) → stage_in f j ≡ st j) → Stages jobs N f a st
 stages_of jobs N f a st lt at = record {
@@ -200,7 +215,7 @@ stages_of jobs N f a st lt at = record {
         (nat_eq f.current j) refl
         ∙ ap (λ s. put st f.current (after (get_or jobs f.current no_job) s a) j) (at f.current)
 
--- inside a block the counts stay the same
+-- an answer inside a block changes no count
 counts_inside : (jobs : List Job) (N : ℕ) (f : Fleet) (a : Answer) (st : ℕ → Stage) (blocks : List SourceBlock) → Stages jobs N f a st
     → f.current ≤ f.next → left (stage_in f f.current) ≡ true → left (next_stage jobs f st a) ≡ true → Counts jobs N f blocks
     → Counts jobs N (gone_on jobs f a) blocks
@@ -225,6 +240,7 @@ counts_inside jobs N f a st blocks z before was l c = record {
     same_left : (j : ℕ) → left (stage_in (gone_on jobs f a) j) ≡ left (stage_in f j)
     same_left j = left_by j (nat_eq f.current j) refl
 
+-- one block is of its own source alone
 has_new : (j k : ℕ) (b : Block) → has j (record { source = k; block = b } ∷ []) ≡ nat_eq j k
 has_new j k b = by (nat_eq k j) refl
   where
@@ -232,6 +248,7 @@ has_new j k b = by (nat_eq k j) refl
     by true e = sym (turn_about k j true e)
     by false e = sym (turn_about k j false e)
 
+-- after an answer that fits, a source goes on, or all have ended
 pub takes : (jobs : List Job) (N : ℕ) (f : Fleet) (E : List RunEvent) (a : Answer) → 1 ≤ N → ((j : ℕ) → Filled (get_or jobs j no_job))
     → (g : Going jobs N f E) → is_kind (asked (asks f.current (get_or jobs f.current no_job) (stage_in f f.current))) a ≡ true
     → Going jobs N (taken jobs f a) (E ++ made jobs f (stage_in f) a ∷ []) ⊎ Landed jobs N (taken jobs f a)
@@ -322,6 +339,7 @@ takes jobs N f E a some filled g kind = subst (λ s. Going jobs N (taken jobs f 
 
 -- at the beginning
 
+-- at its beginning a source has no open block
 pub begin_out : (job : Job) → inside (begin job) ≡ false
 begin_out job = sound_out (begin job) (begins job).sound
 
@@ -329,6 +347,7 @@ count_first : (n : ℕ) (p : ℕ → Bool) → count (suc n) p ≡ (if p 0 then 
 count_first zero p = refl
 count_first (suc n) p = let e : count (suc n) p ≡ (if p 0 then 1 else 0) + count n (λ j. p (suc j)) = count_first n p in omega (arith, e)
 
+-- as many jobs have a group as the code counts
 busy_count : (jobs : List Job) → length (filter busy jobs) ≡ count (length jobs) (λ j. busy (get_or jobs j no_job))
 busy_count [] = refl
 busy_count (job ∷ jobs) = by (busy job) (busy_count jobs) ∙ sym (count_first (length jobs) (λ j. busy (get_or (job ∷ jobs) j no_job)))
@@ -339,6 +358,7 @@ busy_count (job ∷ jobs) = by (busy job) (busy_count jobs) ∙ sym (count_first
     by true e = omega (arith, e)
     by false e = omega (arith, e)
 
+-- at the beginning of a run a source goes on, or none has anything to do
 pub starts : (jobs : List Job) (N : ℕ) → 1 ≤ N → ((j : ℕ) → Filled (get_or jobs j no_job)) → Going jobs N (fresh_fleet jobs N) []
     ⊎ Landed jobs N (fresh_fleet jobs N) []
 starts jobs N some filled = settles jobs N (fresh_fleet jobs N) 0 (λ j. begin (get_or jobs j no_job)) [] some (run 0)

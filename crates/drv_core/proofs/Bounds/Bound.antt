@@ -26,11 +26,13 @@ use Rattle.std.proofs.lemmas.Cmp.{nat_eq_equiv}
 use Rattle.std.proofs.lemmas.List.Sums.{sum_by-drop_more}
 use Rattle.std.specs.List.{sum_by}
 
--- For the room of `Run`: how many events can still come at most, from each stage of a source. Each step uses up one of them.
+-- For the room of `Run`: how many events can still come at most, from each stage of a source (`cost`). Each step uses up one of them
+-- (`cost_less`), whatever the answer is.
 
 abbrev groups_cost : Job → ℕ → ℕ
 groups_cost job g = sum_by (λ group. 4 * length group) (drop g job.groups)
 
+-- the most events that can still come from this stage
 abbrev pub cost : Job → Stage → ℕ
 cost job (Claims i) = 2 * (length job.temps - i) + groups_cost job 0 + 2 * length job.on_failure
 cost job (ClaimReport i x) = 1
@@ -43,6 +45,7 @@ cost job (Removals i) = 2 * (length job.on_failure - i)
 cost job (RemovalReport i) = 2 * (length job.on_failure - i) - 1
 cost job Ended = 0
 
+-- the most events from the beginning of a group
 cost_group : (job : Job) (g : ℕ) (was : Bool) → cost job (enter_group job g was) ≤ groups_cost job g + 2 * length job.on_failure
 cost_group job g was = by (nat_lt g (length job.groups)) refl
   where
@@ -54,6 +57,7 @@ cost_group job g was = by (nat_lt g (length job.groups)) refl
         omega (arith, more)
     by false e = omega arith
 
+-- the most events from the i-th claim on
 cost_claims : (job : Job) (i : ℕ) → cost job (enter_claims job i) ≤ 2 * (length job.temps - i) + groups_cost job 0 + 2 *
     length job.on_failure
 cost_claims job i = by (nat_lt i (length job.temps))
@@ -65,6 +69,7 @@ cost_claims job i = by (nat_lt i (length job.temps))
         let g : cost job (enter_group job 0 false) ≤ groups_cost job 0 + 2 * length job.on_failure = cost_group job 0 false in
         omega (arith, g)
 
+-- the most events from the i-th removal on
 cost_removals : (job : Job) (i : ℕ) → cost job (enter_removals job i) ≤ 2 * (length job.on_failure - i)
 cost_removals job i = by (nat_lt i (length job.on_failure))
   where
@@ -72,6 +77,7 @@ cost_removals job i = by (nat_lt i (length job.on_failure))
     by true = omega arith
     by false = omega arith
 
+-- the most events after a group
 cost_end : (job : Job) (g : ℕ) (started fault : Bool) → cost job (end_group job g started fault) ≤ groups_cost job (g + 1) + 2 *
     length job.on_failure
 cost_end job g true true =
@@ -80,6 +86,7 @@ cost_end job g true true =
 cost_end job g false true = omega arith
 cost_end job g started false = cost_group job (g + 1) started
 
+-- the most events from the i-th wait on
 cost_waits : (job : Job) (g : ℕ) (was : Bool) (ids : List ℕ) (i : ℕ) (fault : Bool) → cost job (enter_waits job g was ids i fault) ≤ 2 *
     (length ids - i) + groups_cost job (g + 1) + 2 * length job.on_failure
 cost_waits job g was ids i fault = by (nat_lt i (length ids))
@@ -92,6 +99,7 @@ cost_waits job g was ids i fault = by (nat_lt i (length ids))
         cost_end job g (was || not (none ids)) fault in
         omega (arith, e)
 
+-- the answer to a claim uses up an event
 cost_claimed : (job : Job) (i : ℕ) (x : ClaimAnswer) → i < length job.temps
     → cost job (after job (Claims i) (answer.Claim x)) < cost job (Claims i)
 cost_claimed job i claim.Claimed lt =
@@ -101,6 +109,7 @@ cost_claimed job i claim.Claimed lt =
 cost_claimed job i claim.Taken lt = omega (arith, lt)
 cost_claimed job i claim.Failed lt = omega (arith, lt)
 
+-- the answer to a start uses up one
 cost_started : (job : Job) (g : ℕ) (was : Bool) (ids : List ℕ) (x : StartAnswer) → length ids < length (group_at job g)
     → cost job (after job (Starts g was ids) (answer.Start x)) < cost job (Starts g was ids)
 cost_started job g was ids (start.NotStarted why) lt = omega (arith, lt)
@@ -118,6 +127,7 @@ cost_started job g was ids (start.Started id) lt = by (nat_lt (length ids + 1) (
         (g + 1) + 2 * length job.on_failure = cost_waits job g was (ids ++ id ∷ []) 0 false in
         omega (arith, l, w, lt)
 
+-- the report of a refused start uses up an event
 cost_refused : (job : Job) (g : ℕ) (was : Bool) (ids : List ℕ) (why : NotStarted) (t : Bool)
     → cost job (after job (StartReport g was ids why) (answer.Reported t)) < cost job (StartReport g was ids why)
 cost_refused job g was ids why t = by (nat_lt 0 (length ids))
@@ -130,6 +140,7 @@ cost_refused job g was ids why t = by (nat_lt 0 (length ids))
         cost_waits job g was ids 0 true in
         omega (arith, w)
 
+-- a wait and its report use up two events
 cost_passed : (job : Job) (g : ℕ) (was : Bool) (ids : List ℕ) (i : ℕ) (fault : Bool) → i < length ids
     → cost job (enter_waits job g was ids (i + 1) fault) + 2 ≤ 2 * (length ids - i) + groups_cost job (g + 1) + 2 * length job.on_failure
 cost_passed job g was ids i fault lt =
@@ -137,6 +148,7 @@ cost_passed job g was ids i fault lt =
     (g + 1) + 2 * length job.on_failure = cost_waits job g was ids (i + 1) fault in
     omega (arith, w, lt)
 
+-- the answer to a wait uses up an event
 cost_waited : (job : Job) (g : ℕ) (was : Bool) (ids : List ℕ) (i : ℕ) (fault : Bool) (x : WaitAnswer) → i < length ids
     → cost job (after job (Waits g was ids i fault) (answer.Wait x)) < cost job (Waits g was ids i fault)
 cost_waited job g was ids i fault (Exit n) lt =
@@ -146,11 +158,13 @@ cost_waited job g was ids i fault (Exit n) lt =
 cost_waited job g was ids i fault Signal lt = omega (arith, lt)
 cost_waited job g was ids i fault Lost lt = omega (arith, lt)
 
+-- a removal and its report use up two events
 cost_next : (job : Job) (i : ℕ) → i < length job.on_failure → cost job (enter_removals job (i + 1)) + 2 ≤ 2 * (length job.on_failure - i)
 cost_next job i lt =
     let r : cost job (enter_removals job (i + 1)) ≤ 2 * (length job.on_failure - (i + 1)) = cost_removals job (i + 1) in
     omega (arith, r, lt)
 
+-- the answer to a removal uses up an event
 cost_removed : (job : Job) (i : ℕ) (x : RemoveAnswer) → i < length job.on_failure
     → cost job (after job (Removals i) (answer.Remove x)) < cost job (Removals i)
 cost_removed job i remove.Removed lt =
@@ -164,6 +178,7 @@ cost_removed job i remove.NotPlain lt =
     omega (arith, n)
 cost_removed job i remove.Failed lt = omega (arith, lt)
 
+-- each answer that fits uses up at least one of the events that can still come from the source
 pub cost_less : (k : ℕ) (job : Job) (s : Stage) (a : Answer) → Valid job s → left s ≡ true → is_kind (asked (asks k job s)) a ≡ true
     → cost job (after job s a) < cost job s
 cost_less k job (Claims i) (answer.Claim x) v l e = cost_claimed job i x v
@@ -191,7 +206,7 @@ cost_less k job (RemovalReport i) a v l e =
     omega (arith, n)
 cost_less k job Ended a v l e = absurd cc
 
--- a job's steps, with the removals of its temporaries and marked files at the end, are no more than its events
+-- the most events of a job, with two for each removal of its temporaries and marked files at the end, are within `job_events`
 pub cost_begin : (job : Job) → cost job (begin job) + 2 * (length job.temps + length job.marked) ≤ job_events job
 cost_begin job = by (none job.groups)
   where
@@ -202,10 +217,11 @@ cost_begin job = by (none job.groups)
         cost_claims job 0 in
         omega (arith, c)
 
+-- the most events that can still come from all sources
 abbrev pub to_come : List Job → (ℕ → Stage) → ℕ
 to_come jobs st = summed (length jobs) (λ j. cost (get_or jobs j no_job) (st j))
 
--- a step of a source uses up at least one of these events
+-- an answer to a step of a source uses up at least one of the events that can still come
 pub less_to_come : (jobs : List Job) (st : ℕ → Stage) (k : ℕ) (a : Answer) → k < length jobs → Valid (get_or jobs k no_job) (st k)
     → left (st k) ≡ true → is_kind (asked (asks k (get_or jobs k no_job) (st k))) a ≡ true
     → to_come jobs (put st k (after (get_or jobs k no_job) (st k) a)) < to_come jobs st

@@ -24,19 +24,22 @@ use Rattle.std.proofs.lemmas.Cmp.{nat_eq_equiv}
 use Rattle.std.proofs.lemmas.List.{get_or-set_other, get_or-set_same, length-set}
 use Rattle.std.specs.Prelude.{slice_set}
 
--- For the removals at the end: the code counts the claims that the events show.
+-- For the removals at the end: the code counts the claims of each job as they are answered, and its counts are those that the events show
+-- (`tally`).
 
+-- the code's counts are those of these events, for n sources and the link
 pub record Counted (n : ℕ) (x : Leftovers) (E : List RunEvent) : Type 0 where
   pub sizes : length x.claimed ≡ n + 1
   pub counts : (k : ℕ) → k ≤ n → get_or x.claimed k 0 ≡ tally k E
 
+-- one more event adds its claims
 pub tally_more : (k : ℕ) (E : List RunEvent) (s : Step) (a : Answer) → tally k (E ++ event s a ∷ []) ≡ tally k E + claims_of k s a
 tally_more k E s a =
     let both : tally k (E ++ event s a ∷ []) ≡ tally k E + tally k (event s a ∷ []) = total_append (claims_in k) E (event s a ∷ []) in
     let one : tally k (event s a ∷ []) ≡ claims_of k s a + 0 = refl in
     omega (arith, both, one)
 
--- an event without a claim
+-- an event that claims nothing leaves the counts right
 quiet : (n : ℕ) (x : Leftovers) (E : List RunEvent) (s : Step) (a : Answer) → Counted n x E → ((k : ℕ) → claims_of k s a ≡ 0)
     → Counted n x (E ++ event s a ∷ [])
 quiet n x E s a c none = record {
@@ -51,7 +54,7 @@ if_none : (t : Bool) → one_if (t && false) ≡ 0
 if_none true = refl
 if_none false = refl
 
--- one more claim
+-- one more claim is counted for its job
 claimed_one : (n j i : ℕ) (x : Leftovers) (E : List RunEvent) → Counted n x E
     → Counted n (record x { claimed = slice_set x.claimed j (get_or x.claimed j 0 + 1) })
     (E ++ event (step.Claim (place.Temp j i)) (answer.Claim claim.Claimed) ∷ [])
@@ -82,6 +85,7 @@ claimed_one n j i x E c = record {
         (λ at. clash (nat_eq j k) (ap (λ m. nat_eq j m) at ∙ nat_eq_equiv.refl j) e) in
         omega (arith, more, none, is, set)
 
+-- the answer to a claim is counted
 claim_counted : (n : ℕ) (x : Leftovers) (E : List RunEvent) (p : Place) (c : ClaimAnswer) → Counted n x E
     → Counted n (noting_claim x p (answer.Claim c)) (E ++ event (step.Claim p) (answer.Claim c) ∷ [])
 claim_counted n x E (place.Command k g i) c h = quiet n x E (step.Claim (place.Command k g i)) (answer.Claim c) h (λ j. refl)
@@ -93,7 +97,7 @@ claim_counted n x E (place.Temp k i) claim.Failed h = quiet n x E (step.Claim (p
 claim_counted n x E (place.Marked k i) c h = quiet n x E (step.Claim (place.Marked k i)) (answer.Claim c) h (λ j. refl)
 claim_counted n x E (place.OnFailure k i) c h = quiet n x E (step.Claim (place.OnFailure k i)) (answer.Claim c) h (λ j. refl)
 
--- the code notes an answer of the step's kind
+-- the code's counts are right after it notes an answer of the step's kind
 pub noted_counted : (n : ℕ) (x : Leftovers) (E : List RunEvent) (s : Step) (a : Answer) → is_kind s a ≡ true → Counted n x E
     → Counted n (noting x s a) (E ++ event s a ∷ [])
 noted_counted n x E (step.Claim p) (answer.Claim c) kind h = claim_counted n x E p c h
@@ -106,6 +110,7 @@ noted_counted n x E (step.Report m) a kind h = quiet n x E (step.Report m) a h (
 
 -- a job's next step claims no temporary of another job
 
+-- a claim of another job is none of this one
 claim_of_other : (k n i : ℕ) (a : Answer) → nat_eq k n ≡ false → claims_of n (step.Claim (place.Temp k i)) a ≡ 0
 claim_of_other k n i (answer.Claim x) e = ap (λ (t : Bool). one_if (t && is_claimed x)) e
 claim_of_other k n i (answer.Start x) e = refl
@@ -114,6 +119,7 @@ claim_of_other k n i (answer.Wait x) e = refl
 claim_of_other k n i (answer.Remove x) e = refl
 claim_of_other k n i (answer.Reported x) e = refl
 
+-- the next step of another job claims nothing of this one
 asked_of_other : (k n : ℕ) (job : Job) (t : Stage) (a : Answer) → nat_eq k n ≡ false → claims_of n (asked (asks k job t)) a ≡ 0
 asked_of_other k n job (Claims i) a e = claim_of_other k n i a e
 asked_of_other k n job (ClaimReport i x) a e = refl
@@ -126,6 +132,7 @@ asked_of_other k n job (Removals i) a e = refl
 asked_of_other k n job (RemovalReport i) a e = refl
 asked_of_other k n job Ended a e = refl
 
+-- the next step of another job claims nothing of this one
 pub claims_of_other : (k n : ℕ) (job : Job) (t : Stage) (s : Step) (a : Answer) → nat_eq k n ≡ false → asks k job t ≡ Some s
     → claims_of n s a ≡ 0
 claims_of_other k n job t s a e is = subst (λ u. claims_of n u a ≡ 0) (ap asked is) (asked_of_other k n job t a e)
@@ -140,6 +147,7 @@ at_most_one : (k : ℕ) (s : Step) (a : Answer) → claims_of k s a ≤ 1
 at_most_one k (step.Claim (place.Temp j i)) (answer.Claim x) = bit (nat_eq j k && is_claimed x)
 at_most_one k s a = let z : 0 ≤ 1 = omega arith in z
 
+-- at most one claim is in each event
 pub few_claims : (k : ℕ) (E : List RunEvent) → tally k E ≤ length E
 few_claims k [] = omega arith
 few_claims k (e ∷ E) = let one = at_most_one k e.step e.answer in let rest = few_claims k E in omega (arith, one, rest)

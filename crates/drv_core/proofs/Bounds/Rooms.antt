@@ -24,6 +24,7 @@ many_marked : (k i : ℕ) (ms : List (List ℕ)) → length (marked_files k i ms
 many_marked k i [] = refl
 many_marked k i (m ∷ ms) = let e : length (marked_files k (i + 1) ms) ≡ length ms = many_marked k (i + 1) ms in omega (arith, e)
 
+-- a job has at most as many leftover files as temporaries and marked files
 many_files : (k : ℕ) (job : Job) → length (job_files k job) ≤ length job.temps + length job.marked
 many_files k job = by (none job.groups)
   where
@@ -41,9 +42,11 @@ many_files k job = by (none job.groups)
     by true = omega arith
     by false = let e = both in omega (arith, e)
 
+-- the most events of a job's story
 abbrev pub first_cost : Job → ℕ
 first_cost job = cost job (begin job)
 
+-- the stories of these jobs, and two events for each of their files, are within `job_events`
 pub all_fit : (k : ℕ) (jobs : List Job) → sum_by first_cost jobs + 2 * length (files_from k jobs) ≤ sum_by job_events jobs
 all_fit k [] = omega arith
 all_fit k (job ∷ jobs) =
@@ -60,11 +63,13 @@ summed_first : (n : ℕ) (f : ℕ → ℕ) → summed (suc n) f ≡ f 0 + summed
 summed_first zero f = refl
 summed_first (suc n) f = let e : summed (suc n) f ≡ f 0 + summed n (λ j. f (suc j)) = summed_first n f in omega (arith, e)
 
+-- a sum over the numbers of jobs is one over the jobs
 pub sum_is : (jobs : List Job) (f : Job → ℕ) → summed (length jobs) (λ j. f (get_or jobs j no_job)) ≡ sum_by f jobs
 sum_is [] f = refl
 sum_is (job ∷ jobs) f = summed_first (length jobs) (λ j. f (get_or (job ∷ jobs) j no_job)) ∙ ap (λ n. f job + n) (sum_is jobs f)
     ∙ sym (sum_by-cons f job jobs)
 
+-- a run has room for the events of its sources, its link, and its removals at the end
 pub run_fits : (plan : Plan) → to_come plan.jobs (λ j. begin (get_or plan.jobs j no_job)) + sum_by first_cost (option_to_list plan.link) + 2
     * length (all_files plan) ≤ needed plan
 run_fits plan =

@@ -17,12 +17,13 @@ use Rattle.drv_words.specs.declared.steps.Step.{Step}
 use Rattle.std.proofs.Common.{◌≡◌, ◌<◌, ◌≤◌, ◌+◌, ◌∙◌, Bool, false, true, List, [], ◌∷◌, ◌++◌, Some, ap, drop, get_or, if◌then◌else◌}
 use Rattle.std.proofs.Common.{nat_eq, refl, subst, sym, ℕ}
 
--- For the window of `Run`: it never changes.
+-- For the window of `Run`, which never changes: so what is known of a run may name the window that the run itself has.
 
 -- a move from phase to phase keeps the fleet and the events
 abbrev SameStory : RunState → RunState → Type 0
 SameStory p q = (q.fleet ≡ p.fleet) × (q.events ≡ p.events)
 
+-- the code's move after the link keeps fleet and events
 linked_same : (p : RunState) → SameStory p (linked p)
 linked_same p = by (left p.link.stage)
   where
@@ -30,6 +31,7 @@ linked_same p = by (left p.link.stage)
     by true = (refl, refl)
     by false = (refl, refl)
 
+-- the code's move after the sources keeps fleet and events
 left_same : (p : RunState) → SameStory p (sources_left p)
 left_same p = by (nat_eq p.code 0)
   where
@@ -37,6 +39,7 @@ left_same p = by (nat_eq p.code 0)
     by true = linked_same (record p { leftovers = record p.leftovers { linked = true } })
     by false = (refl, refl)
 
+-- the code's move after a block keeps fleet and events
 flown_same : (p : RunState) → SameStory p (flown p)
 flown_same p = by (nat_eq p.fleet.unended 0)
   where
@@ -44,6 +47,7 @@ flown_same p = by (nat_eq p.fleet.unended 0)
     by true = left_same p
     by false = (refl, refl)
 
+-- the code's move after a removal keeps fleet and events
 removal_same : (p : RunState) (a : Answer) → SameStory p (removal_made p a)
 removal_same p a = by (removal_failed (remove_of a))
   where
@@ -51,6 +55,7 @@ removal_same p a = by (removal_failed (remove_of a))
     by true = (refl, refl)
     by false = (refl, refl)
 
+-- a source that is counted as begun leaves the window
 opened_window : (jobs : List Job) (f : Fleet) → (opened jobs f).window ≡ f.window
 opened_window jobs f = by (nat_eq f.current f.next)
   where
@@ -62,6 +67,7 @@ opened_window jobs f = by (nat_eq f.current f.next)
     by true = refl
     by false = refl
 
+-- a source that is counted as ended leaves the window
 closed_window : (f : Fleet) → (closed f).window ≡ f.window
 closed_window f = by (left (stage_in f f.current))
   where
@@ -69,6 +75,7 @@ closed_window f = by (left (stage_in f f.current))
     by true = refl
     by false = refl
 
+-- the choice of the next source leaves the window
 settled_window : (jobs : List Job) (f : Fleet) → (settled jobs f).window ≡ f.window
 settled_window jobs f = by (inside (stage_in f f.current))
   where
@@ -76,6 +83,7 @@ settled_window jobs f = by (inside (stage_in f f.current))
     by true = refl
     by false = closed_window (opened jobs f) ∙ opened_window jobs f
 
+-- an answer leaves the window
 moved_window : (plan : Plan) (p : RunState) (s : Step) (a : Answer) → (moved plan p s a).fleet.window ≡ p.fleet.window
 moved_window plan p s a = by p.phase
   where
@@ -87,6 +95,7 @@ moved_window plan p s a = by p.phase
     by Report = refl
     by Done = refl
 
+-- a caller's choice leaves the window
 choosing_window : (plan : Plan) (p : RunState) (i : ℕ) → (choosing plan p i).fleet.window ≡ p.fleet.window
 choosing_window plan p i = by (between_blocks p.phase p.fleet)
   where
@@ -96,6 +105,7 @@ choosing_window plan p i = by (between_blocks p.phase p.fleet)
 
 -- so the position gives the window
 
+-- what is known of a new run, by the window of its fleet, which is the one given
 pub fresh_stands : (plan : Plan) (N room : ℕ) (p : RunState) → 1 ≤ N → AllFilled plan.jobs → Filled (link_of plan.link) → needed plan ≤ room
     → p ≡ fresh_run plan N room → (Kept plan p.fleet.window p) × (p.fleet.window ≡ N)
 fresh_stands plan N room p some jobs link fits is = (
@@ -107,6 +117,7 @@ fresh_stands plan N room p some jobs link fits is = (
     window : p.fleet.window ≡ N
     window = ap (λ q. q.fleet.window) is ∙ ap (λ f. f.window) (flown_same (first_run plan N room)).0
 
+-- after an answer the same is known, and the window is the same
 pub answer_stands : (plan : Plan) (p q : RunState) (s : Step) (a : Answer) → Kept plan p.fleet.window p → next_of plan p ≡ Some s
     → is_kind s a ≡ true → q ≡ moved plan p s a → (Kept plan q.fleet.window q) × (q.fleet.window ≡ p.fleet.window)
 answer_stands plan p q s a k is kind to = (
@@ -118,6 +129,7 @@ answer_stands plan p q s a k is kind to = (
     window : q.fleet.window ≡ p.fleet.window
     window = ap (λ r. r.fleet.window) to ∙ moved_window plan p s a
 
+-- after a choice the same is known, and the window is the same
 pub choice_stands : (plan : Plan) (p q : RunState) (i : ℕ) → Kept plan p.fleet.window p → i < choices_at plan p → q ≡ choosing plan p i
     → (Kept plan q.fleet.window q) × (q.fleet.window ≡ p.fleet.window)
 choice_stands plan p q i k lt to = (subst (λ n. Kept plan n q) (sym window) (choice_kept plan p.fleet.window p q i k lt to), window)
@@ -127,6 +139,7 @@ choice_stands plan p q i k lt to = (subst (λ n. Kept plan n q) (sym window) (ch
 
 -- an answer adds one event
 
+-- an answer adds one event
 pub moved_events : (plan : Plan) (p : RunState) (s : Step) (a : Answer) → (moved plan p s a).events ≡ p.events ++ event s a ∷ []
 moved_events plan p s a = by p.phase
   where
@@ -137,6 +150,7 @@ moved_events plan p s a = by p.phase
     by Report = refl
     by Done = refl
 
+-- a choice adds no event
 pub choosing_events : (plan : Plan) (p : RunState) (i : ℕ) → (choosing plan p i).events ≡ p.events
 choosing_events plan p i = by (between_blocks p.phase p.fleet)
   where
@@ -144,5 +158,6 @@ choosing_events plan p i = by (between_blocks p.phase p.fleet)
     by true = refl
     by false = refl
 
+-- a new run has no event
 pub fresh_events : (plan : Plan) (N room : ℕ) → (fresh_run plan N room).events ≡ []
 fresh_events plan N room = (flown_same (first_run plan N room)).1

@@ -18,14 +18,17 @@ use Rattle.std.proofs.Common.{if◌then◌else◌, length, min, nat_eq, nat_lt, 
 use Rattle.std.proofs.lemmas.Bool.Decides.{nat_tests}
 use Rattle.std.proofs.lemmas.Cmp.{nat_eq_equiv}
 
--- For the choices of `Run`: the code finds exactly the sources that may go on.
+-- For the choices of `Run`: the code's list `able` (specs/Code/Fleet) holds exactly the sources that may go on by the rule `may_go_on`, in
+-- plan order.
 
 -- a source's next block may come if the source may go on
 
+-- whether source k may go on after these blocks, by the stages of the code
 abbrev pub test : List Job → ℕ → Fleet → List SourceBlock → ℕ → Bool
 test jobs N f blocks k = may_go_on (length jobs) N (λ j. has j blocks) (λ j. left (stage_in f j)) (λ j. in_flight (of j blocks))
     (λ j. nat_lt 0 (pending (stage_in f j))) k
 
+-- if it may, its next block may come
 may_come : (jobs : List Job) (N : ℕ) (f : Fleet) (blocks : List SourceBlock) (k : ℕ) → k < length jobs → test jobs N f blocks k ≡ true
     → Picks jobs N (stage_in f) blocks k
 may_come jobs N f blocks k lt e = record {
@@ -64,6 +67,7 @@ may_come jobs N f blocks k lt e = record {
 
 -- the test for a source before the next one that begins, for that one, and for later ones
 
+-- the test of a source that has begun: it has more to do, and goes on with no wait, or with one while all that can be are in flight
 before_next : (jobs : List Job) (N : ℕ) (f : Fleet) (blocks : List SourceBlock) → Keeps jobs N (stage_in f) blocks → Counts jobs N f blocks
     → (k : ℕ) → k < f.next → test jobs N f blocks k ≡ (left (stage_in f k) && may_go (all_fly f) f k)
 before_next jobs N f blocks keep c k lt = by (left (stage_in f k)) refl
@@ -123,7 +127,7 @@ before_next jobs N f blocks keep c k lt = by (left (stage_in f k)) refl
     by true l = by_goes (quiet b (c.has_is k l ∙ less k f.next lt))
     by false l = refl
 
--- the code's list holds each source that has begun and not ended
+-- the code's list of sources that have begun and not ended is as long as there are such sources
 pub begun_many : (jobs : List Job) (N : ℕ) (f : Fleet) (blocks : List SourceBlock) → Counts jobs N f blocks
     → length f.begun ≡ count (length jobs) (λ j. has j blocks && left (stage_in f j))
 begun_many jobs N f blocks c = ap (λ (l : List ℕ). length l) (c.begun_is
@@ -151,6 +155,7 @@ begun_many jobs N f blocks c = ap (λ (l : List ℕ). length l) (c.begun_is
         last true = refl
         last false = refl
 
+-- the test of the next source that begins: the window has room
 at_next : (jobs : List Job) (N : ℕ) (f : Fleet) (blocks : List SourceBlock) → Keeps jobs N (stage_in f) blocks → Counts jobs N f blocks
     → f.next < length jobs → test jobs N f blocks f.next ≡ nat_lt (length f.begun) f.window
 at_next jobs N f blocks keep c lt = ap (λ (t : Bool). t && (nat_eq (count f.next (λ j. not (has j blocks) && left (stage_in f j))) 0
@@ -203,6 +208,7 @@ at_next jobs N f blocks keep c lt = ap (λ (t : Bool). t && (nat_eq (count f.nex
         by true e = ap (λ (t : Bool). t && true) (less (n + 1) (N + 1) (let l : n < N = is_less n N e in omega (arith, l)))
         by false e = ap (λ (t : Bool). t && true) (not_less (n + 1) (N + 1) (let l : N ≤ n = is_not_less n N e in omega (arith, l)))
 
+-- a source after that may not begin
 after_next : (jobs : List Job) (N : ℕ) (f : Fleet) (blocks : List SourceBlock) → Counts jobs N f blocks → (k : ℕ) → k < length jobs
     → f.next < k → test jobs N f blocks k ≡ false
 after_next jobs N f blocks c k lt past = ap (λ (t : Bool). left (stage_in f k) && (t && rest)) none ∙ and_none (left (stage_in f k))
@@ -224,7 +230,7 @@ after_next jobs N f blocks c k lt past = ap (λ (t : Bool). left (stage_in f k) 
         count_some k f.next (λ j. not (has j blocks) && left (stage_in f j)) past skipped in
         grind (arith, nat_tests, some)
 
--- so the two lists are the same
+-- the code's list of the sources that may go on is that of the rule, in plan order
 pub able_is : (jobs : List Job) (N : ℕ) (f : Fleet) (blocks : List SourceBlock) → Keeps jobs N (stage_in f) blocks → Counts jobs N f blocks
     → able jobs f ≡ listed (length jobs) (test jobs N f blocks)
 able_is jobs N f blocks keep c = ap (λ l. l ++ (if may_begin jobs f then f.next ∷ [] else [])) (begun_may jobs N f blocks c
@@ -245,11 +251,13 @@ able_is jobs N f blocks keep c = ap (λ l. l ++ (if may_begin jobs f then f.next
         omega (arith, le, ge)) in
         append-nil (listed f.next (test jobs N f blocks)) ∙ ap (λ n. listed n (test jobs N f blocks)) all
 
+-- the code's list is as long as the rule counts
 pub able_count : (jobs : List Job) (N : ℕ) (f : Fleet) (blocks : List SourceBlock) → Keeps jobs N (stage_in f) blocks
     → Counts jobs N f blocks → length (able jobs f) ≡ count (length jobs) (test jobs N f blocks)
 able_count jobs N f blocks keep c = ap (λ (l : List ℕ). length l) (able_is jobs N f blocks keep c)
     ∙ listed_count (length jobs) (test jobs N f blocks)
 
+-- x is a number below n that passes
 record Member (n : ℕ) (p : ℕ → Bool) (x : ℕ) : Type 0 where
   below : x < n
   passes : p x ≡ true
@@ -257,6 +265,7 @@ record Member (n : ℕ) (p : ℕ → Bool) (x : ℕ) : Type 0 where
 widen : (n : ℕ) (p : ℕ → Bool) (x : ℕ) → Member n p x → Member (suc n) p x
 widen n p x m = record { below = (let b = m.below in omega (arith, b)); passes = m.passes }
 
+-- a list with n at its end has such numbers, if n passes
 last_member : (n : ℕ) (p : ℕ → Bool) (d : ℕ) (l : List ℕ) (j : ℕ) → p n ≡ true → ((m : ℕ) → m < length l → Member n p (get_or l m d))
     → j < length (l ++ n ∷ []) → Member (suc n) p (get_or (l ++ n ∷ []) j d)
 last_member n p d [] zero e h below = record { below = omega arith; passes = e }
@@ -264,6 +273,7 @@ last_member n p d [] (suc j) e h below = absurd (omega arith)
 last_member n p d (x ∷ l) zero e h below = widen n p x (h 0 (omega arith))
 last_member n p d (x ∷ l) (suc j) e h below = last_member n p d l j e (λ m less. h (suc m) (omega (arith, less))) (omega (arith, below))
 
+-- each item of `listed` is such a number
 member : (n : ℕ) (p : ℕ → Bool) (d i : ℕ) → i < length (listed n p) → Member n p (get_or (listed n p) i d)
 member zero p d i lt = absurd (omega arith)
 member (suc n) p d i lt = by (p n) refl lt (λ m less. member n p d m less)
@@ -275,6 +285,7 @@ member (suc n) p d i lt = by (p n) refl lt (λ m less. member n p d m less)
     by false e below h = subst (λ l. Member (suc n) p (get_or l i d)) (sym (append-nil (listed n p)))
         (widen n p (get_or (listed n p) i d) (h i (subst (λ (l : List ℕ). i < length l) (append-nil (listed n p)) below)))
 
+-- the k-th source of the code's list may go on
 pub able_picks : (jobs : List Job) (N : ℕ) (f : Fleet) (blocks : List SourceBlock) → Keeps jobs N (stage_in f) blocks
     → Counts jobs N f blocks → (k : ℕ) → k < length (able jobs f) → Picks jobs N (stage_in f) blocks (get_or (able jobs f) k f.next)
 able_picks jobs N f blocks keep c k lt = subst (λ l. Picks jobs N (stage_in f) blocks (get_or l k f.next))
@@ -287,6 +298,7 @@ able_picks jobs N f blocks keep c k lt = subst (λ l. Picks jobs N (stage_in f) 
 
 -- between blocks any of these sources may be chosen instead
 
+-- between blocks the k-th of them may be chosen to go on, and what is known of the run stays true
 pub sure_selected : (jobs : List Job) (N most : ℕ) (f : Fleet) (E : List RunEvent) (k : ℕ) → Sure jobs N most f E
     → inside (stage_in f f.current) ≡ false → k < length (able jobs f) → Sure jobs N most (selected jobs f k) E
 sure_selected jobs N most f E k s out lt = record {

@@ -17,13 +17,15 @@ use Rattle.drv_words.specs.declared.steps.Step.{Step}
 use Rattle.std.proofs.Common.{◌≡◌, Bool, false, true, List, get_or, if◌then◌else◌, length, nat_eq, nat_lt, not, refl, subst, sym, ℕ}
 use Rattle.std.proofs.lemmas.Bool.{not-true}
 
--- For `Run::answer`: without a choice, the first source that may go on does so.
+-- For `Run::answer`: without a choice by the caller, the first source that may go on does so.
 
+-- between blocks the source in progress is the first of those that may go on
 abbrev pub WorksFirst : Plan → RunState → Type 0
 WorksFirst plan p = between_blocks p.phase p.fleet ≡ true → get_or (able plan.jobs p.fleet) 0 p.fleet.next ≡ p.fleet.current
 
 -- after the sources none of their blocks comes
 
+-- while files are removed a run is not between blocks of the sources
 shown_closed : (p : RunState) (f : Fleet) → between_blocks (shown p).phase f ≡ false
 shown_closed p f = by (nat_lt p.leftovers.at (length p.leftovers.files))
   where
@@ -37,6 +39,7 @@ first_closed p f = shown_closed (record p { leftovers = seeking p.leftovers 0 })
 next_closed : (p : RunState) (f : Fleet) → between_blocks (removing_next p).phase f ≡ false
 next_closed p f = shown_closed (record p { leftovers = passing p.leftovers }) f
 
+-- after a step of the link a run is not between blocks of the sources
 linked_closed : (p : RunState) (f : Fleet) → between_blocks (linked p).phase f ≡ false
 linked_closed p f = by (left p.link.stage)
   where
@@ -44,6 +47,7 @@ linked_closed p f = by (left p.link.stage)
     by true = refl
     by false = first_closed p f
 
+-- after the sources a run is not between blocks of these
 left_closed : (p : RunState) (f : Fleet) → between_blocks (sources_left p).phase f ≡ false
 left_closed p f = by (nat_eq p.code 0)
   where
@@ -52,6 +56,7 @@ left_closed p f = by (nat_eq p.code 0)
     by true = linked_closed (record p { leftovers = record p.leftovers { linked = true } }) f
     by false = first_closed p f
 
+-- after a removal a run is not between blocks of the sources
 removal_closed : (p : RunState) (a : Answer) (f : Fleet) → between_blocks (removal_made p a).phase f ≡ false
 removal_closed p a f = by (removal_failed (remove_of a))
   where
@@ -61,6 +66,7 @@ removal_closed p a f = by (removal_failed (remove_of a))
 
 -- after a block the first source is picked
 
+-- after a block the first source that may go on is picked
 settled_first : (jobs : List Job) (f : Fleet) → not (inside (stage_in (settled jobs f) (settled jobs f).current)) ≡ true
     → get_or (able jobs (settled jobs f)) 0 (settled jobs f).next ≡ (settled jobs f).current
 settled_first jobs f = by (inside (stage_in f f.current)) refl
@@ -72,6 +78,7 @@ settled_first jobs f = by (inside (stage_in f f.current)) refl
     by true e h = absurd (clash (inside (stage_in f f.current)) e (not-true (inside (stage_in f f.current)) h))
     by false e h = sym (able_at jobs (chosen (closed (opened jobs f))) 0)
 
+-- the code's move after a block keeps the first source that may go on in progress
 flown_first : (plan : Plan) (p : RunState) → WorksFirst plan p → WorksFirst plan (flown p)
 flown_first plan p first = by (nat_eq p.fleet.unended 0)
   where
@@ -79,9 +86,11 @@ flown_first plan p first = by (nat_eq p.fleet.unended 0)
     by true = λ e. absurd (clash (between_blocks (sources_left p).phase (sources_left p).fleet) e (left_closed p (sources_left p).fleet))
     by false = first
 
+-- at the beginning of a run the first source that may go on does so
 pub fresh_first : (plan : Plan) (N room : ℕ) → WorksFirst plan (fresh_run plan N room)
 fresh_first plan N room = flown_first plan (first_run plan N room) (λ e. sym (able_at plan.jobs (fresh_fleet plan.jobs N) 0))
 
+-- after each answer the first source that may go on does so
 pub moved_first : (plan : Plan) (p : RunState) (s : Step) (a : Answer) → WorksFirst plan (moved plan p s a)
 moved_first plan p s a = by p.phase refl
   where

@@ -10,9 +10,9 @@ use Rattle.std.proofs.lemmas.List.{get_or-map, map-set}
 use Rattle.std.specs.Prelude.{slice_set}
 use Rattle.std.specs.Vec.{vec_capacity}
 
--- For the sources of `Run`: the code's list of sources is seen as the list of their stages.
+-- For the sources of `Run`: the code's list of sources is seen as the list of their stages, and its function for an answer is `settled`.
 
--- one source takes an answer
+-- one source takes an answer: in the list only its stage changes
 pub worked_is : (xs : List CodeSource) (k : ℕ) (s t : CodeSource) (job : Job) (a : Answer) → k < length xs → s ≡ get_or xs k s
     → stage_at t ≡ after job (stage_at s) a → vec_capacity t.children ≡ vec_capacity s.children
     → map source_of (slice_set xs k t) ≡ slice_set (map source_of xs) k
@@ -21,6 +21,7 @@ worked_is xs k s t job a lt is stage room =
     let at : get_or (map source_of xs) k idle ≡ source_of s = get_or-map source_of xs k s idle lt ∙ ap source_of (sym is) in
     map-set source_of xs k t ∙ ap (λ w. slice_set (map source_of xs) k w) (rw (at, stage, room) refl)
 
+-- inside a block the source in progress stays
 pub stays : (jobs : List Job) (f g : Fleet) → g ≡ f → true ≡ inside (stage_in g g.current) → g ≡ settled jobs f
 stays jobs f g e i = by (inside (stage_in f f.current)) (i ∙ ap (λ x. inside (stage_in x x.current)) e)
   where
@@ -28,6 +29,7 @@ stays jobs f g e i = by (inside (stage_in f f.current)) (i ∙ ap (λ x. inside 
     by true u = e
     by false u = absurd cc
 
+-- after a block another source is chosen
 pub turns_on : (jobs : List Job) (f g h : Fleet) → g ≡ f → false ≡ inside (stage_in g g.current) → h ≡ turned jobs g → h ≡ settled jobs f
 turns_on jobs f g h e i t = by (inside (stage_in f f.current)) (i ∙ ap (λ x. inside (stage_in x x.current)) e)
   where

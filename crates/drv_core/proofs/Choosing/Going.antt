@@ -18,9 +18,11 @@ use Rattle.std.proofs.lemmas.Cmp.{nat_eq_equiv}
 use Rattle.std.proofs.lemmas.List.{get_or-drop, length-drop}
 use Rattle.std.specs.List.{filter}
 
--- For the sources of `Run`: what the code counts of them is right, and the source in progress may go on.
+-- For the sources of `Run`: what the code counts of them is right (`Counts`), and the source that it picks may go on (`picks`). The blocks
+-- are those of the events so far; `next` is the first source that has not begun.
 
--- which sources have begun, and how many have not ended
+-- what the code counts of the sources is right after these blocks: which have begun, how many have not ended, and which is the next to
+-- begin
 pub record Counts (jobs : List Job) (N : ℕ) (f : Fleet) (blocks : List SourceBlock) : Type 0 where
   pub sizes : length f.sources ≡ length jobs
   pub next_within : f.next ≤ length jobs
@@ -33,7 +35,7 @@ pub record Counts (jobs : List Job) (N : ℕ) (f : Fleet) (blocks : List SourceB
   pub room_is : f.room ≡ N + 1
   pub rooms : (j : ℕ) → j < length jobs → (source_in f j).room ≡ greatest (λ group. length group) (get_or jobs j no_job).groups
 
--- after the first block of the next source, as if the source in progress had more to do
+-- what the code counts after the first block of the next source is right, where the source in progress counts as one with more to do
 pub record Opened (jobs : List Job) (N : ℕ) (f : Fleet) (blocks : List SourceBlock) : Type 0 where
   pub sizes : length f.sources ≡ length jobs
   pub next_within : f.next ≤ length jobs
@@ -47,10 +49,12 @@ pub record Opened (jobs : List Job) (N : ℕ) (f : Fleet) (blocks : List SourceB
   pub room_is : f.room ≡ N + 1
   pub rooms : (j : ℕ) → j < length jobs → (source_in f j).room ≡ greatest (λ group. length group) (get_or jobs j no_job).groups
 
+-- a value || false is that value
 pub or_same : (t : Bool) → (t || false) ≡ t
 or_same true = refl
 or_same false = refl
 
+-- a value || true is true
 pub or_all : (t : Bool) → (t || true) ≡ true
 or_all true = refl
 or_all false = refl
@@ -59,11 +63,12 @@ and_all : (t : Bool) → (t && true) ≡ t
 and_all true = refl
 and_all false = refl
 
+-- a value && false is false
 pub and_none : (t : Bool) → (t && false) ≡ false
 and_none true = refl
 and_none false = refl
 
--- after its last block
+-- after a block the code counts the source in progress as under way, or no more if that was its last
 pub counts_closed : (jobs : List Job) (N : ℕ) (f : Fleet) (blocks : List SourceBlock) → Opened jobs N f blocks
     → Counts jobs N (closed f) blocks
 counts_closed jobs N f blocks o = by (left (stage_in f f.current)) refl
@@ -114,12 +119,14 @@ counts_closed jobs N f blocks o = by (left (stage_in f f.current)) refl
 
 -- the next source that begins
 
+-- r is the number of the first of these jobs with a group, where the first has number k; or the number after the last
 record FirstAt (k : ℕ) (js : List Job) (r : ℕ) : Type 0 where
   least : k ≤ r
   most : r ≤ k + length js
   at : (i : ℕ) → k + i ≡ r → i < length js → none (get_or js i no_job).groups ≡ false
   before : (i : ℕ) → k + i < r → none (get_or js i no_job).groups ≡ true
 
+-- the first source from the k-th on that has something to do is found
 first_at : (k : ℕ) (js : List Job) → FirstAt k js (first_busy k js)
 first_at k [] = record {
   least = omega arith;
@@ -159,6 +166,7 @@ some_group : (gs : List (List Command)) → none gs ≡ false → nat_lt 0 (leng
 some_group [] e = absurd cc
 some_group (g ∷ gs) e = less 0 (length (g ∷ gs)) (omega arith)
 
+-- a source has something to do at its beginning exactly if its job has a group
 pub left_begin : (job : Job) → left (begin job) ≡ not (none job.groups)
 left_begin job = by (none job.groups) refl
   where
@@ -175,13 +183,14 @@ left_begin job = by (none job.groups) refl
     by true n = refl
     by false n = in_claims (nat_lt 0 (length job.temps)) n
 
--- the job of the first source, from here on, that has something to do
+-- r is the number of the first source, from here on, that has something to do, or the number of sources
 pub record Next (jobs : List Job) (from r : ℕ) : Type 0 where
   pub least : from ≤ r
   pub most : r ≤ length jobs
   pub at : r < length jobs → none (get_or jobs r no_job).groups ≡ false
   pub before : (j : ℕ) → from ≤ j → j < r → none (get_or jobs j no_job).groups ≡ true
 
+-- `first_busy` finds the next source that begins
 pub next_is : (jobs : List Job) (from : ℕ) → from ≤ length jobs → Next jobs from (first_busy from (drop from jobs))
 next_is jobs from within = record {
   least = f.least;
@@ -201,13 +210,15 @@ next_is jobs from within = record {
     f : FirstAt from (drop from jobs) (first_busy from (drop from jobs))
     f = first_at from (drop from jobs)
 
+-- a job with a group has something to do at its beginning
 pub begun_next : (job : Job) → none job.groups ≡ false → left (begin job) ≡ true
 begun_next job e = left_begin job ∙ ap not e
 
+-- a job without a group has nothing to do at its beginning
 pub idle_next : (job : Job) → none job.groups ≡ true → left (begin job) ≡ false
 idle_next job e = left_begin job ∙ ap not e
 
--- a block of the source in progress has ended; after its first block the source has begun
+-- fleet g is f after a block of the source in progress, before the code counts it
 pub record Worked (jobs : List Job) (N : ℕ) (f g : Fleet) (blocks more : List SourceBlock) : Type 0 where
   pub counts : Counts jobs N f blocks
   pub same_next : g.next ≡ f.next
@@ -223,12 +234,14 @@ pub record Worked (jobs : List Job) (N : ℕ) (f g : Fleet) (blocks more : List 
   pub current_before : g.current ≤ f.next
   pub has_more : (j : ℕ) → has j more ≡ (has j blocks || nat_eq j g.current)
 
+-- numbers of which one is greater are not equal
 pub not_same : (a b : ℕ) → a < b → nat_eq b a ≡ false
 not_same a b lt = grind (arith, nat_tests)
 
 not_same_below : (a b : ℕ) → a < b → nat_eq a b ≡ false
 not_same_below a b lt = grind (arith, nat_tests)
 
+-- of two numbers that differ one is less
 apart_from : (a b : ℕ) → nat_eq a b ≡ false → (a < b) ⊎ (b < a)
 apart_from a b e = by (nat_lt a b) refl
   where
@@ -236,6 +249,7 @@ apart_from a b e = by (nat_lt a b) refl
     by true l = inl (is_less a b l)
     by false l = inr (grind (arith, nat_tests))
 
+-- after the first block of the next source the code counts it as begun
 pub opened_is : (jobs : List Job) (N : ℕ) (f g : Fleet) (blocks more : List SourceBlock) → Worked jobs N f g blocks more
     → Opened jobs N (opened jobs g) more
 opened_is jobs N f g blocks more w = by (nat_eq g.current g.next) refl
@@ -350,6 +364,7 @@ opened_is jobs N f g blocks more w = by (nat_eq g.current g.next) refl
 
 -- some source goes on
 
+-- the code's test of a stage for a wait: a child is to be waited for
 pub awaits_is : (s : Stage) → awaits s ≡ nat_lt 0 (pending s)
 awaits_is (Waits g was ids i fault) = by (nat_lt i (length ids)) refl
   where
@@ -358,17 +373,18 @@ awaits_is (Waits g was ids i fault) = by (nat_lt i (length ids)) refl
     by false e = let le : length ids ≤ i = is_not_less i (length ids) e in sym (not_less 0 (length ids - i) (omega (arith, le)))
 awaits_is s = refl
 
+-- source k has blocks to come, and its next block may come
 pub record Picks (jobs : List Job) (N : ℕ) (st : ℕ → Stage) (blocks : List SourceBlock) (k : ℕ) : Type 0 where
   pub may : MayCome (length jobs) N (λ j. has j blocks) (λ j. left (st j)) (λ j. in_flight (of j blocks)) k (nat_lt 0 (pending (st k)))
   pub more : left (st k) ≡ true
 
--- the list of the sources that have begun and may go on
+-- of the sources that have begun, the code's filter leaves those that may go on, in ascending order
 pub begun_may : (jobs : List Job) (N : ℕ) (f : Fleet) (blocks : List SourceBlock) → Counts jobs N f blocks
     → filter (may_go (all_fly f) f) f.begun ≡ listed f.next (λ j. left (stage_in f j) && may_go (all_fly f) f j)
 begun_may jobs N f blocks c = ap (λ l. filter (may_go (all_fly f) f) l) c.begun_is ∙ listed_filter f.next (λ j. left (stage_in f j))
     (may_go (all_fly f) f)
 
--- whether all sources are in flight that can be: as many as the window and the unended sources permit
+-- the code's test whether all children are in flight that can be: as many as the window and the unended sources permit
 pub fly_is : (jobs : List Job) (N : ℕ) (f : Fleet) (blocks : List SourceBlock) → Keeps jobs N (stage_in f) blocks → Counts jobs N f blocks
     → all_fly f ≡ nat_eq (count (length jobs) (λ j. in_flight (of j blocks))) (min N (count (length jobs) (λ j. left (stage_in f j))))
 fly_is jobs N f blocks keep c = ap (λ n. nat_eq n (min f.window f.unended)) (sym many)
@@ -401,6 +417,7 @@ fly_is jobs N f blocks keep c = ap (λ n. nat_eq n (min f.window f.unended)) (sy
     least : min f.window f.unended ≡ min N (count (length jobs) (λ j. left (stage_in f j)))
     least = ap (λ n. min n f.unended) c.window_is ∙ ap (λ n. min N n) c.unended_is
 
+-- the source that the code picks is such, as long as a source has blocks to come
 pub picks : (jobs : List Job) (N : ℕ) (f : Fleet) (blocks : List SourceBlock) → 1 ≤ N → Keeps jobs N (stage_in f) blocks
     → Counts jobs N f blocks → (k : ℕ) → k < length jobs → left (stage_in f k) ≡ true → Picks jobs N (stage_in f) blocks (picked f)
 picks jobs N f blocks some keep c k below more = subst (λ l. Picks jobs N (stage_in f) blocks (get_or l 0 f.next))

@@ -34,13 +34,14 @@ use Rattle.std.proofs.Common.{append_assoc, arith, get_or, if◌then◌else◌, 
 use Rattle.std.proofs.Common.{zero, ℕ}
 use Rattle.std.proofs.lemmas.Cmp.{nat_eq_equiv}
 
--- For the choices of `Run`: how many there are, and what each leads to.
+-- For the choices of `Run`: how many there are, and what each leads to. Between blocks the sources that may go on are the choices;
+-- elsewhere there is one, which changes nothing.
 
 out_of : (t : Bool) → not t ≡ true → t ≡ false
 out_of true e = absurd cc
 out_of false e = refl
 
--- the blocks of a source so far are a part of its story
+-- the blocks that lead a source to a stage are the beginning of its story, or all of it
 so_far_is : (k : ℕ) (job : Job) (bs : List Block) (s : Stage) → Path k job (begin job) bs s → SoFar k job bs (left s) (nat_lt 0 (pending s))
 so_far_is k job bs s p = by (left s) refl
   where
@@ -70,6 +71,7 @@ all_kept : (plan : Plan) (N : ℕ) (f : Fleet) (E : List RunEvent) → (g : Goin
     → Keeps plan.jobs N (stage_in f) g.run.blocks
 all_kept plan N f E g out = keeps_at plan.jobs N f f.current g.st E g.run (sym (ap inside (g.at f.current)) ∙ out) g.at
 
+-- a run of which no block is open, while a source goes on, is between blocks
 going_between : (plan : Plan) (N : ℕ) (f : Fleet) (E : List RunEvent) → (g : Going plan.jobs N f E) → inside (stage_in f f.current) ≡ false
     → BetweenBlocks plan N E
 going_between plan N f E g out = record {
@@ -93,6 +95,7 @@ going_between plan N f E g out = record {
 
 -- the k-th number of a list
 
+-- x is the k-th number below n that passes
 pub record Kth (n : ℕ) (p : ℕ → Bool) (k x : ℕ) : Type 0 where
   pub below : x < n
   pub passes : p x ≡ true
@@ -101,6 +104,7 @@ pub record Kth (n : ℕ) (p : ℕ → Bool) (k x : ℕ) : Type 0 where
 wider : (n : ℕ) (p : ℕ → Bool) (k x : ℕ) → Kth n p k x → Kth (suc n) p k x
 wider n p k x m = record { below = (let b = m.below in omega (arith, b)); passes = m.passes; number = m.number }
 
+-- a list of numbers that pass, with n at its end, has each at its index
 kth_last : (n : ℕ) (p : ℕ → Bool) (d : ℕ) (l : List ℕ) (i j : ℕ) → p n ≡ true → count n p ≡ i + length l
     → ((m : ℕ) → m < length l → Kth n p (i + m) (get_or l m d)) → j < length (l ++ n ∷ [])
     → Kth (suc n) p (i + j) (get_or (l ++ n ∷ []) j d)
@@ -113,6 +117,7 @@ kth_last n p d (x ∷ l) i (suc j) e many h lt = subst (λ m. Kth (suc n) p m (g
     (λ m below. subst (λ q. Kth n p q (get_or l m d)) (let z : i + suc m ≡ suc i + m = omega arith in z)
     (h (suc m) (omega (arith, below)))) (omega (arith, lt)))
 
+-- the k-th item of `listed` is the k-th number that passes
 kth : (n : ℕ) (p : ℕ → Bool) (d k : ℕ) → k < length (listed n p) → Kth n p k (get_or (listed n p) k d)
 kth zero p d k lt = absurd (omega arith)
 kth (suc n) p d k lt = by (p n) refl lt (λ m less. kth n p d m less)
@@ -128,11 +133,13 @@ kth (suc n) p d k lt = by (p n) refl lt (λ m less. kth n p d m less)
 
 -- the next step of a source between blocks is at a place of its own
 
+-- the next step of source k is at a place of its own
 record Asks (k : ℕ) (job : Job) (s : Stage) : Type 0 where
   step : Step
   asks : asks k job s ≡ Some step
   own : is_step_of k step ≡ true
 
+-- between blocks a source that has more to do asks for a step of its own
 own_step : (k : ℕ) (job : Job) (s : Stage) → left s ≡ true → inside s ≡ false → Asks k job s
 own_step k job (Claims i) l o = record { step = asked (asks k job (Claims i)); asks = refl; own = nat_eq_equiv.refl k }
 own_step k job (Starts g was ids) l o = record { step = asked (asks k job (Starts g was ids)); asks = refl; own = nat_eq_equiv.refl k }
@@ -146,11 +153,13 @@ own_step k job s l o = absurd cc
 
 -- whether the run is between blocks
 
+-- between blocks of the sources, while one goes on
 record IsOpen (plan : Plan) (N : ℕ) (p : RunState) : Type 0 where
   phase : p.phase ≡ Sources
   going : Going plan.jobs N p.fleet p.events
   out : inside (stage_in p.fleet p.fleet.current) ≡ false
 
+-- not between blocks of the sources
 record IsClosed (plan : Plan) (N : ℕ) (p : RunState) : Type 0 where
   test_is : between_blocks p.phase p.fleet ≡ false
   none : BetweenBlocks plan N p.events → ⊥
@@ -158,6 +167,7 @@ record IsClosed (plan : Plan) (N : ℕ) (p : RunState) : Type 0 where
 filled_at : (plan : Plan) (N : ℕ) (p : RunState) → Kept plan N p → FilledPlan plan
 filled_at plan N p k = filled_plan plan k.jobs k.link
 
+-- a run is between blocks of the sources, or it isn't
 where_is : (plan : Plan) (N : ℕ) (p : RunState) → Kept plan N p → IsOpen plan N p ⊎ IsClosed plan N p
 where_is plan N p k = at (stands plan N p.room p k.some (filled_at plan N p k) k.reached)
   where
@@ -198,6 +208,7 @@ open_test plan N p o = ap (λ q. between_blocks q p.fleet) o.phase ∙ ap not o.
 
 -- so the code counts the sources that may go on
 
+-- the code counts as many choices as the rule does
 pub choices_are : (plan : Plan) (N : ℕ) (p : RunState) → Kept plan N p → ChoicesAre plan N p.events (choices_at plan p)
 choices_are plan N p k = by (where_is plan N p k)
   where
@@ -214,6 +225,7 @@ choices_are plan N p k = by (where_is plan N p k)
       elsewhere = λ none. ap (λ (t : Bool). if t then length (able plan.jobs p.fleet) else 1) c.test_is;
     }
 
+-- a choice that the rule permits is one of the code's
 pub choice_below : (plan : Plan) (N : ℕ) (p : RunState) (i : ℕ) → Kept plan N p → IsChoice plan N p.events i → i < choices_at plan p
 choice_below plan N p i k h = by (where_is plan N p k)
   where
@@ -222,6 +234,7 @@ choice_below plan N p i k h = by (where_is plan N p k)
         (h.counted (going_between plan N p.fleet p.events o.going o.out))
     by (inr c) = subst (λ n. i < n) (sym ((choices_are plan N p k).elsewhere c.none)) (h.elsewhere c.none)
 
+-- a source that may go on has more to do
 test_left : (plan : Plan) (N : ℕ) (f : Fleet) (E : List RunEvent) (g : Going plan.jobs N f E) (x : ℕ)
     → test plan.jobs N f g.run.blocks x ≡ true → left (stage_in f x) ≡ true
 test_left plan N f E g x e = by (left (stage_in f x)) refl
@@ -239,6 +252,7 @@ test_left plan N f E g x e = by (left (stage_in f x)) refl
 
 -- and the next step belongs to the chosen source
 
+-- after choice i the next step is of the i-th source that may go on
 pub chosen_next : (plan : Plan) (N : ℕ) (p : RunState) (i : ℕ) → Kept plan N p → i < choices_at plan p → (b : BetweenBlocks plan N p.events)
     → IsNextOf plan N p.events b i (next_of plan (choosing plan p i))
 chosen_next plan N p i k lt b = by (where_is plan N p k)
@@ -287,6 +301,7 @@ chosen_next plan N p i k lt b = by (where_is plan N p k)
 
 -- some source may go on, and after an answer the first of them does
 
+-- a source with blocks to come, whose next may come, may go on
 goes : (n N : ℕ) (begun left flying waits : ℕ → Bool) (k : ℕ) → MayCome n N begun left flying k (waits k) → left k ≡ true
     → may_go_on n N begun left flying waits k ≡ true
 goes n N begun left flying waits k m more = ap (λ (t : Bool). t && (nat_eq (count k (λ j. not (begun j) && left j)) 0 && window_and_wait))
@@ -306,6 +321,7 @@ goes n N begun left flying waits k m more = ap (λ (t : Bool). t && (nat_eq (cou
     waited true h = ap (λ c. nat_eq c (min N (count n left))) (h refl) ∙ nat_eq_equiv.refl (min N (count n left))
     waited false h = refl
 
+-- between blocks there is a source to choose
 some_choice : (plan : Plan) (N : ℕ) (p : RunState) → IsOpen plan N p → 0 < choices_at plan p
 some_choice plan N p o = subst (λ n. 0 < n) (sym (ap (λ (t : Bool). if t then length (able plan.jobs p.fleet) else 1) (open_test plan N p o)
     ∙ able_count plan.jobs N p.fleet o.going.run.blocks (all_kept plan N p.fleet p.events o.going o.out) o.going.counts))
@@ -319,6 +335,7 @@ some_choice plan N p o = subst (λ n. 0 < n) (sym (ap (λ (t : Bool). if t then 
     o.going.at) o.going.may)
     (ap left (o.going.at p.fleet.current) ∙ o.going.more)))
 
+-- without a choice the next step is of the first source that may go on
 pub first_next : (plan : Plan) (N : ℕ) (p : RunState) → Kept plan N p → WorksFirst plan p → IsOfFirst plan N p.events (next_of plan p)
 first_next plan N p k first = λ b. by b (where_is plan N p k)
   where
@@ -332,7 +349,7 @@ first_next plan N p k first = λ b. by b (where_is plan N p k)
     by b (inl o) = subst (λ s. IsNextOf plan N p.events b 0 s) (next_is o) (chosen_next plan N p 0 k (some_choice plan N p o) b)
     by b (inr c) = absurd (c.none b)
 
--- elsewhere a choice changes nothing
+-- where a run is not between blocks of the sources, a choice changes nothing
 pub chosen_elsewhere : (plan : Plan) (N : ℕ) (p : RunState) (i : ℕ) → Kept plan N p → (BetweenBlocks plan N p.events → ⊥)
     → choosing plan p i ≡ p
 chosen_elsewhere plan N p i k none = by (where_is plan N p k)

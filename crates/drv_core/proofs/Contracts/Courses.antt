@@ -44,14 +44,15 @@ use Rattle.std.proofs.lemmas.List.{drop_more}
 use Rattle.std.specs.List.{sum_by}
 use Rattle.std.specs.Option.{option_to_list}
 
--- For `Run`: what is known of a whole run holds at the beginning, and each answer keeps it.
+-- For `Run`: what is known of a whole run (`Holds`) holds at the beginning, and each answer keeps it. From it follow the clauses: the
+-- events are the beginning of a whole run, the next step can be made, and there is room.
 
 -- no group of the plan is empty
 pub record FilledPlan (plan : Plan) : Type 0 where
   pub jobs : (j : ℕ) → Filled (get_or plan.jobs j no_job)
   pub link : (job : Job) → plan.link ≡ Some job → Filled job
 
--- the link has begun, or has nothing to do
+-- after a step of the link, what is known holds: the link goes on, or files are removed
 linking_holds : (plan : Plan) (N : ℕ) (c : Course) (job : Job) → plan.link ≡ Some job
     → Linking plan N (most_of plan + first_cost job) job c.link c.events → Holds plan N (linking plan job c)
 linking_holds plan N c job is k = by (left c.link) refl
@@ -61,7 +62,7 @@ linking_holds plan N c job is k = by (left c.link) refl
     by false e = link_ends plan N c job is (subst (λ s. Linking plan N (most_of plan + first_cost job) job s c.events)
         (is_ended c.link e) k)
 
--- all sources have ended
+-- after the last source, what is known holds: the link begins, or files are removed
 over_holds : (plan : Plan) (N : ℕ) (c : Course) → FilledPlan plan → Over plan.jobs N (most_of plan) c.fleet c.events
     → Holds plan N (following_sources plan (link_by plan.link (run_code c.events)) c)
 over_holds plan N c filled o = by plan.link refl
@@ -79,6 +80,7 @@ over_holds plan N c filled o = by plan.link refl
     by None is = quiet (ap (λ l. link_by l (run_code c.events)) is)
     by (Some job) is = runs job is (nat_eq (run_code c.events) 0) refl
 
+-- after a step of the sources a source goes on, or all have ended
 sourced_holds : (plan : Plan) (N : ℕ) (c : Course) → FilledPlan plan → Sure plan.jobs N (most_of plan) c.fleet c.events ⊎ Over plan.jobs N
     (most_of plan) c.fleet c.events → Holds plan N (sourced plan c)
 sourced_holds plan N c filled (inl s) = subst (λ (t : Bool). Holds plan N
@@ -98,7 +100,7 @@ sourced_holds plan N c filled (inr o) = subst (λ (t : Bool). Holds plan N
     (if t then following_sources plan (link_by plan.link (run_code c.events)) c else record c { phase = Sources }))
     (sym (ap (λ n. nat_eq n 0) o.landed.unended_is)) (over_holds plan N c filled o)
 
--- at the beginning
+-- what is known holds at the beginning of a run
 pub fresh_holds : (plan : Plan) (N : ℕ) → 1 ≤ N → FilledPlan plan → Holds plan N (fresh_course plan N)
 fresh_holds plan N some filled = sourced_holds plan N
     (record { phase = Sources; fleet = fresh_fleet plan.jobs N; link = Ended; due = []; events = [] }) filled
@@ -118,6 +120,7 @@ same_some s t e = ap asked e
 event_with : (c : Course) (s t : Step) (a : Answer) → s ≡ t → c.events ++ event s a ∷ [] ≡ c.events ++ event t a ∷ []
 event_with c s t a e = ap (λ x. c.events ++ event x a ∷ []) e
 
+-- after a step of the sources that was answered, what is known holds
 sources_step : (plan : Plan) (N : ℕ) (c : Course) (s : Step) (a : Answer) → 1 ≤ N → FilledPlan plan
     → Sure plan.jobs N (most_of plan) c.fleet c.events → asked_of plan.jobs c.fleet ≡ Some s → is_kind s a ≡ true
     → Holds plan N (sourced plan (record c { fleet = taken plan.jobs c.fleet a; events = c.events ++ event s a ∷ [] }))
@@ -131,6 +134,7 @@ sources_step plan N c s a some filled h is kind = subst
     (sure_takes plan.jobs N (most_of plan) c.fleet c.events a some filled.jobs h
     (subst (λ t. is_kind t a ≡ true) (sym (ap asked is)) kind)))
 
+-- after a step of the link it goes on, or has ended
 link_step : (plan : Plan) (N : ℕ) (c : Course) (s : Step) (a : Answer) → FilledPlan plan → AtLink plan N c
     → asks (length plan.jobs) (link_of plan.link) c.link ≡ Some s → is_kind s a ≡ true
     → Holds plan N (linking plan (link_of plan.link) (record c
@@ -157,6 +161,7 @@ next_is_first : (plan : Plan) (N : ℕ) (failed : Bool) (c : Course) (h : AtEnd 
     → c.due ≡ file_at (end_files plan N h.i failed c.events h.ending) h.i ∷ drop (h.i + 1) (end_files plan N h.i failed c.events h.ending)
 next_is_first plan N failed c h = h.due_is ∙ drop_more (end_files plan N h.i failed c.events h.ending) h.i no_file h.some
 
+-- after a removal that was answered, what is known holds
 removal_answered : (plan : Plan) (N : ℕ) (c : Course) (h : AtEnd plan N false c) (x : RemoveAnswer)
     → Holds plan N (removed (record c {
       events = c.events
@@ -168,6 +173,7 @@ removal_answered plan N c h remove.Missing = removal_passes plan N c h remove.Mi
 removal_answered plan N c h remove.NotPlain = removal_passes plan N c h remove.NotPlain refl
 removal_answered plan N c h remove.Failed = removal_fails plan N c h
 
+-- after an answer of a removal's kind, what is known holds
 removal_of_kind : (plan : Plan) (N : ℕ) (c : Course) (h : AtEnd plan N false c) (a : Answer)
     → is_kind (step.Remove (file_at (end_files plan N h.i false c.events h.ending) h.i).place) a ≡ true
     → Holds plan N (removed (record c {
@@ -177,6 +183,7 @@ removal_of_kind : (plan : Plan) (N : ℕ) (c : Course) (h : AtEnd plan N false c
 removal_of_kind plan N c h (answer.Remove x) kind = removal_answered plan N c h x
 removal_of_kind plan N c h a kind = absurd (no kind)
 
+-- after the next removal that was answered, what is known holds
 removal_step : (plan : Plan) (N : ℕ) (c : Course) (s : Step) (a : Answer) → AtEnd plan N false c → removes c.due ≡ Some s
     → is_kind s a ≡ true → Holds plan N (removed (record c { events = c.events ++ event s a ∷ [] }) a)
 removal_step plan N c s a h is kind = subst (λ t. Holds plan N (removed (record c { events = c.events ++ event t a ∷ [] }) a)) asks_is
@@ -185,6 +192,7 @@ removal_step plan N c s a h is kind = subst (λ t. Holds plan N (removed (record
     asks_is : step.Remove (file_at (end_files plan N h.i false c.events h.ending) h.i).place ≡ s
     asks_is = ap (λ l. asked (removes l)) (sym (next_is_first plan N false c h)) ∙ ap asked is
 
+-- after an answer of a report's kind, what is known holds
 report_of_kind : (plan : Plan) (N : ℕ) (c : Course) (h : AtEnd plan N true c) (a : Answer)
     → is_kind (step.Report (note.NotRemoved (file_at (end_files plan N h.i true c.events h.ending) h.i).place)) a ≡ true
     → Holds plan N (removing (record c {
@@ -194,6 +202,7 @@ report_of_kind : (plan : Plan) (N : ℕ) (c : Course) (h : AtEnd plan N true c) 
 report_of_kind plan N c h (answer.Reported t) kind = report_passes plan N c h t
 report_of_kind plan N c h a kind = absurd (no kind)
 
+-- after the report of a failed removal, what is known holds
 report_step : (plan : Plan) (N : ℕ) (c : Course) (s : Step) (a : Answer) → AtEnd plan N true c → reports c.due ≡ Some s → is_kind s a ≡ true
     → Holds plan N (removing (record c { events = c.events ++ event s a ∷ [] }) (drop 1 c.due))
 report_step plan N c s a h is kind = subst (λ t. Holds plan N (removing (record c { events = c.events ++ event t a ∷ [] }) (drop 1 c.due)))
@@ -202,6 +211,7 @@ report_step plan N c s a h is kind = subst (λ t. Holds plan N (removing (record
     asks_is : step.Report (note.NotRemoved (file_at (end_files plan N h.i true c.events h.ending) h.i).place) ≡ s
     asks_is = ap (λ l. asked (reports l)) (sym (next_is_first plan N true c h)) ∙ ap asked is
 
+-- after an answer that fits, what is known still holds, in each phase
 pub steps : (plan : Plan) (N : ℕ) (c : Course) (s : Step) (a : Answer) → 1 ≤ N → FilledPlan plan → Holds plan N c → asked_by plan c ≡ Some s
     → is_kind s a ≡ true → Holds plan N (stepped plan c s a)
 steps plan N c s a some filled h is kind = by c.phase h is
@@ -214,7 +224,7 @@ steps plan N c s a some filled h is kind = by c.phase h is
     by Report held asks_is = report_step plan N c s a held asks_is kind
     by Done held asks_is = absurd (none_asked s asks_is)
 
--- after the choice of another source
+-- after the choice of another source, what is known holds
 pub selected_holds : (plan : Plan) (N : ℕ) (c : Course) (k : ℕ) → between_blocks c.phase c.fleet ≡ true → Holds plan N c
     → k < length (able plan.jobs c.fleet) → Holds plan N (record c { fleet = selected plan.jobs c.fleet k })
 selected_holds plan N c k e h lt = by c.phase e h
@@ -234,6 +244,7 @@ selected_holds plan N c k e h lt = by c.phase e h
 
 -- facts about the next step
 
+-- a source with more to do asks for a step
 left_asks : (k : ℕ) (job : Job) (s : Stage) → left s ≡ true → asks k job s ≡ None → ⊥
 left_asks k job (Claims i) l e = absurd cc
 left_asks k job (ClaimReport i x) l e = absurd cc
@@ -246,6 +257,7 @@ left_asks k job (OwnRemovals i) l e = absurd cc
 left_asks k job (RemovalReport i) l e = absurd cc
 left_asks k job Ended l e = absurd cc
 
+-- the events so far are the beginning of a whole run
 pub holds_begins : (plan : Plan) (N : ℕ) (c : Course) → 1 ≤ N → FilledPlan plan → Holds plan N c → IsBeginning plan N c.events
 holds_begins plan N c some filled h = by c.phase h
   where
@@ -256,6 +268,7 @@ holds_begins plan N c some filled h = by c.phase h
     by Report held = end_begins plan N held.i true c.events held.ending
     by Done held = end_begins plan N held.i false c.events held.ending
 
+-- the next step can be made
 pub holds_makes : (plan : Plan) (N : ℕ) (c : Course) (s : Step) → Holds plan N c → asked_by plan c ≡ Some s
     → can_make plan c.events s ≡ true
 holds_makes plan N c s h is = by c.phase h is
@@ -293,11 +306,13 @@ few_sources : (plan : Plan) → most_of plan ≤ needed plan
 few_sources plan = first_part (most_of plan) (sum_by first_cost (option_to_list plan.link)) (2 * length (all_files plan)) (needed plan)
     (run_fits plan)
 
+-- the events of sources and link are within what a run needs at most
 few_with_link : (plan : Plan) (job : Job) → plan.link ≡ Some job → most_of plan + first_cost job ≤ needed plan
 few_with_link plan job is = two_parts (most_of plan) (sum_by first_cost (option_to_list plan.link)) (2 * length (all_files plan))
     (needed plan) (first_cost job) (sum_by first_cost []) (run_fits plan)
     (ap (λ l. sum_by first_cost (option_to_list l)) is ∙ sum_by-cons first_cost job [])
 
+-- while a file is left to remove, fewer events came than a run needs at most
 fewer_at_end : (plan : Plan) (N : ℕ) (failed : Bool) (c : Course) → AtEnd plan N failed c → length c.events < needed plan
 fewer_at_end plan N failed c h = two_more (length c.events) h.i (length (end_files plan N h.i failed c.events h.ending))
     (if failed then 1 else 0) (needed plan) (at_most_one failed) h.some h.bound
@@ -306,6 +321,7 @@ fewer_at_end plan N failed c h = two_more (length c.events) h.i (length (end_fil
     at_most_one true = omega arith
     at_most_one false = omega arith
 
+-- while a step is left, fewer events came than a run can have at most
 pub holds_fewer : (plan : Plan) (N : ℕ) (c : Course) (s : Step) → Holds plan N c → asked_by plan c ≡ Some s → length c.events < needed plan
 holds_fewer plan N c s h is = by c.phase h is
   where
@@ -319,6 +335,7 @@ holds_fewer plan N c s h is = by c.phase h is
     by Report held e = fewer_at_end plan N true c held
     by Done held e = absurd (none_asked s e)
 
+-- at no time more came
 pub holds_bound : (plan : Plan) (N : ℕ) (c : Course) → Holds plan N c → length c.events ≤ needed plan
 holds_bound plan N c h = by c.phase h
   where
@@ -335,7 +352,7 @@ holds_bound plan N c h = by c.phase h
     by Report held = fewer (fewer_at_end plan N true c held)
     by Done held = held.bound
 
--- only a run at its end has no next step
+-- a run without a next step is at its end
 at_done : (plan : Plan) (N : ℕ) (c : Course) → Holds plan N c → asked_by plan c ≡ None → AtDone plan N c
 at_done plan N c h is = by c.phase h is
   where
@@ -354,10 +371,11 @@ at_done plan N c h is = by c.phase h is
 pub holds_whole : (plan : Plan) (N : ℕ) (c : Course) → Holds plan N c → asked_by plan c ≡ None → IsWhole plan N c.events
 holds_whole plan N c h is = let d = at_done plan N c h is in end_whole plan N d.i c.events d.ending d.all
 
--- and no pipe is pending
+-- without a next step no pipe is pending
 pub holds_closed : (plan : Plan) (N : ℕ) (c : Course) → Holds plan N c → asked_by plan c ≡ None → pipe_pending c.events ≡ false
 holds_closed plan N c h is = (at_done plan N c h is).pipe
 
+-- the status by the greatest code of a whole run's events is that of its answers
 pub whole_status : (plan : Plan) (N : ℕ) (E : List RunEvent) (pass_codes : FailureStatus) → (w : IsWhole plan N E)
     → status_from pass_codes (run_code E) ≡ status_of pass_codes w.o
 whole_status plan N E pass_codes w = status_is plan N w.o E pass_codes w.windowed

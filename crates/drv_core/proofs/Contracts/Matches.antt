@@ -37,9 +37,11 @@ use Rattle.std.proofs.lemmas.List.{get_or-replicate, length-replicate}
 use Rattle.std.proofs.lemmas.Option.{slice_get-get_or}
 use Rattle.std.specs.Prelude.{⊤, option_map, replicate, slice_set}
 
--- For `Run`: the code goes through a run as a `Course` does, which knows no type of the code.
+-- For `Run`: the code goes through a run as a `Course` does, which knows no type of the code. `Matches` relates both: sources and events
+-- are the same, and the code's flags and counts of leftover files give the course's list of files to be removed. The lemmas NAME_matches
+-- say that each step keeps it.
 
--- in every phase of a run
+-- what the code's run and the course have in common in every phase
 pub record Alike (plan : Plan) (room : ℕ) (p : RunState) (c : Course) : Type 0 where
   pub fleet : p.fleet ≡ c.fleet
   pub events : p.events ≡ c.events
@@ -49,26 +51,27 @@ pub record Alike (plan : Plan) (room : ℕ) (p : RunState) (c : Course) : Type 0
   pub many : p.leftovers.sources ≡ length plan.jobs
   pub counted : Counted (length plan.jobs) p.leftovers c.events
 
--- in the phase of the sources
+-- what holds besides in the phase of the sources: the link is not begun, and no file is removed
 pub record InSources (plan : Plan) (p : RunState) (c : Course) : Type 0 where
   pub link : p.link ≡ fresh (link_of plan.link)
   pub linked : p.leftovers.linked ≡ false
   pub gone : p.leftovers.gone ≡ replicate (length (all_files plan)) false
   pub unclaimed : tally (length plan.jobs) c.events ≡ 0
 
--- in the phase of the link
+-- what holds besides in the phase of the link: both have it at the same stage, and no file is removed
 pub record InLink (plan : Plan) (p : RunState) (c : Course) : Type 0 where
   pub stage : p.link.stage ≡ c.link
   pub room : p.link.room ≡ (fresh (link_of plan.link)).room
   pub linked : p.leftovers.linked ≡ true
   pub gone : p.leftovers.gone ≡ replicate (length (all_files plan)) false
 
--- while files are removed
+-- while files are removed, the code's index and flags leave the files of the course
 pub record InEnd (x : Leftovers) (files : List File) : Type 0 where
   pub within : x.at < length x.files
   pub due : map place_in files ≡ (get_or x.files x.at no_leftover).place ∷ to_remove x
       (slice_set x.gone (get_or x.files x.at no_leftover).first true) (drop (x.at + 1) x.files)
 
+-- what holds in a phase besides
 abbrev pub InPhase : Phase → Plan → RunState → Course → Type 0
 InPhase Sources plan p c = InSources plan p c
 InPhase Link plan p c = InLink plan p c
@@ -76,6 +79,7 @@ InPhase Removals plan p c = InEnd p.leftovers c.due
 InPhase Report plan p c = InEnd p.leftovers c.due
 InPhase Done plan p c = ⊤
 
+-- the code's run p and the course c are at the same place
 pub record Matches (plan : Plan) (room : ℕ) (p : RunState) (c : Course) : Type 0 where
   pub phase : p.phase ≡ c.phase
   pub alike : Alike plan room p c
@@ -83,6 +87,7 @@ pub record Matches (plan : Plan) (room : ℕ) (p : RunState) (c : Course) : Type
 
 -- the files that are still to be removed
 
+-- which files are left to remove does not depend on the flags that are kept beside them
 to_remove_same : (x : Leftovers) (g gone : List Bool) (at : ℕ) (ls : List Leftover)
     → to_remove (record x { gone = g; at = at }) gone ls ≡ to_remove x gone ls
 to_remove_same x g gone at [] = refl
@@ -108,6 +113,7 @@ some_place (f ∷ due) q qs e = refl
 abbrev from_files : RunState → Leftovers → ℕ → RunState
 from_files p x from = shown (record p { leftovers = seeking x from })
 
+-- the next file is sought: both find the same, or none
 removing_matches : (plan : Plan) (room : ℕ) (p : RunState) (x : Leftovers) (from : ℕ) (c : Course) (due : List File)
     → Alike plan room (record p { leftovers = x }) c → map place_in due ≡ to_remove x x.gone (drop from x.files)
     → Matches plan room (from_files p x from) (removing c due)
@@ -175,14 +181,14 @@ removing_matches plan room p x from c due a is = by (nat_lt (sought x from (drop
         (e ∙ sym (ap not (no_place due (is ∙ f.none_due (is_not_less (sought x from (drop from x.files)) (length x.files) e)))))
         (λ h. is_less (sought x from (drop from x.files)) (length x.files) h))
 
--- after the link
+-- after the link both seek the first file to be removed
 first_matches : (plan : Plan) (room : ℕ) (p : RunState) (c : Course) (job : Job) → Alike plan room p c
     → p.leftovers.gone ≡ replicate (length (all_files plan)) false → LinkNoted plan p.leftovers job
     → Matches plan room (removing_first p) (after_link plan job c)
 first_matches plan room p c job a gone l = removing_matches plan room p p.leftovers 0 c (due_files plan job (λ k. tally k c.events)) a
     (due_places plan p.leftovers job c.events a.files gone a.many a.counted l)
 
--- after a file
+-- after one file both seek the next one to be removed
 next_matches : (plan : Plan) (room : ℕ) (p : RunState) (c : Course) → Alike plan room p c → InEnd p.leftovers c.due
     → Matches plan room (removing_next p) (removing c (drop 1 c.due))
 next_matches plan room p c a h = removing_matches plan room p
@@ -207,7 +213,7 @@ next_matches plan room p c a h = removing_matches plan room p
     dropped [] = refl
     dropped (f ∷ due) = refl
 
--- the link goes on or has ended
+-- after a step of the link both go on with it, or seek the first file to be removed
 linked_matches : (plan : Plan) (room : ℕ) (p : RunState) (c : Course) → Alike plan room p c → p.link.stage ≡ c.link
     → p.link.room ≡ (fresh (link_of plan.link)).room → p.leftovers.linked ≡ true
     → p.leftovers.gone ≡ replicate (length (all_files plan)) false
@@ -233,7 +239,7 @@ linked_matches plan room p c a stage rooms was gone =
     }
     by false = first_matches plan room p c (link_of plan.link) a gone (was_run was)
 
--- the sources go on or have ended
+-- after a step of the sources both go on with them, or begin the link, or seek the first file to be removed
 flown_matches : (plan : Plan) (room : ℕ) (p : RunState) (c : Course) → p.phase ≡ Sources → Alike plan room p c → InSources plan p c
     → Matches plan room (flown p) (sourced plan c)
 flown_matches plan room p c phase a h = subst (λ (t : Bool). Matches plan room (if t then sources_left p else p) (sourced plan c))
@@ -300,7 +306,7 @@ flown_matches plan room p c phase a h = subst (λ (t : Bool). Matches plan room 
       here = record { link = h.link; linked = h.linked; gone = h.gone; unclaimed = h.unclaimed };
     }
 
--- at the beginning
+-- at the beginning of a run the code and the course are at the same place
 pub fresh_matches : (plan : Plan) (N room : ℕ) → Matches plan room (fresh_run plan N room) (fresh_course plan N)
 fresh_matches plan N room = flown_matches plan room (first_run plan N room)
     (record { phase = Sources; fleet = fresh_fleet plan.jobs N; link = Ended; due = []; events = [] }) refl
@@ -337,6 +343,7 @@ fresh_matches plan N room = flown_matches plan room (first_run plan N room)
 
 -- both have the same next step
 
+-- while files are removed both ask for the same step: a removal, or its report
 same_in_end : (x : Leftovers) (due : List File) → InEnd x due → (make : Place → Step) (of_place : Option Place → Option Step)
     (of_files : List File → Option Step) → ((q : Place) → of_place (Some q) ≡ Some (make q))
     → ((f : File) (fs : List File) → of_files (f ∷ fs) ≡ Some (make f.place)) → of_place (place_at x) ≡ of_files due
@@ -350,6 +357,7 @@ same_in_end x due h make of_place of_files from_place from_files = ap of_place
     by [] e = absurd cc
     by (f ∷ fs) e = from_files f fs ∙ ap (λ l. Some (make (get_or l 0 f.place))) e
 
+-- the code and the course have the same next step
 pub same_next : (plan : Plan) (N room : ℕ) (p : RunState) (c : Course) → Holds plan N c → Matches plan room p c
     → next_of plan p ≡ asked_by plan c
 same_next plan N room p c h m = ap (λ q. asked_in q plan p) m.phase ∙ by c.phase h m.here
@@ -365,12 +373,14 @@ same_next plan N room p c h m = ap (λ q. asked_in q plan p) m.phase ∙ by c.ph
 
 -- one more answer
 
+-- what noting an event leaves of the leftover files
 record Noted (x y : Leftovers) : Type 0 where
   files : y.files ≡ x.files
   gone : y.gone ≡ x.gone
   many : y.sources ≡ x.sources
   linked : y.linked ≡ x.linked
 
+-- the answer to a claim changes only the counts
 noted_claim : (x : Leftovers) (p : Place) (a : Answer) → Noted x (noting_claim x p a)
 noted_claim x (place.Temp k i) (answer.Claim claim.Claimed) = record { files = refl; gone = refl; many = refl; linked = refl }
 noted_claim x (place.Temp k i) (answer.Claim claim.Taken) = record { files = refl; gone = refl; many = refl; linked = refl }
@@ -381,6 +391,7 @@ noted : (x : Leftovers) (s : Step) (a : Answer) → Noted x (noting x s a)
 noted x (step.Claim p) a = noted_claim x p a
 noted x s a = record { files = refl; gone = refl; many = refl; linked = refl }
 
+-- the code and the course add the same event
 kept_alike : (plan : Plan) (room : ℕ) (p : RunState) (c : Course) (s : Step) (a : Answer) → is_kind s a ≡ true → Alike plan room p c
     → Alike plan room (kept p s a) (record c { events = c.events ++ event s a ∷ [] })
 kept_alike plan room p c s a kind l = record {
@@ -409,6 +420,7 @@ room_after : (l : Option Job) (w : SourceState) (a : Answer) → (link_after l w
 room_after None w a = refl
 room_after (Some job) w a = refl
 
+-- after an answer that fits, both are at the same place again
 pub step_matches : (plan : Plan) (N room : ℕ) (p : RunState) (c : Course) (s : Step) (a : Answer) → Holds plan N c → Matches plan room p c
     → asked_by plan c ≡ Some s → is_kind s a ≡ true → Matches plan room (moved plan p s a) (stepped plan c s a)
 step_matches plan N room p c s a h m is kind = subst (λ q. Matches plan room (moved_in q plan (kept p s a) a) (stepped plan c s a))

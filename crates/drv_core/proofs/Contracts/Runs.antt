@@ -28,24 +28,30 @@ use Rattle.drv_words.specs.declared.steps.Step.{Step}
 use Rattle.std.proofs.Common.{◌≡◌, ◌<◌, ◌≤◌, ◌∙◌, [], ◌∷◌, ◌++◌, None, Option, Some, ap, false, get_or, length, refl, subst, sym, true, ℕ}
 use Rattle.std.specs.Vec.{vec_capacity}
 
--- For the clauses of `Run`: each follows from what is known of the run.
+-- For the clauses of `Run`: each follows from what is known of the run (`Stands`). A `CodeRun` is the type of the code, `Run` what a caller
+-- sees of it.
 
+-- what the code relies on: each index is in its list
 pub is_ready : (plan : Plan) (w : CodeRun) → Stands plan w → Ready plan (run_state_of w)
 is_ready plan w k = ready plan w.fleet.window (run_state_of w) k
 
+-- while a step is left, there is room for an event
 pub room_at : (plan : Plan) (w : CodeRun) (s : Step) → Stands plan w → next_of plan (run_state_of w) ≡ Some s
     → length w.events.items < vec_capacity w.events
 room_at plan w s k is = room_left plan w.fleet.window (run_state_of w) s k is
 
+-- no count of claims is greater than the number of events
 pub few_at : (plan : Plan) (w : CodeRun) → Stands plan w → (i : ℕ) → get_or w.leftovers.claimed.items i 0 ≤ length w.events.items
 few_at plan w k i = few plan w.fleet.window (run_state_of w) k i
 
 -- after an answer
 
+-- after an answer that fits, what is known of the run still holds
 pub advanced : (plan : Plan) (w v : CodeRun) (s : Step) (a : Answer) → Stands plan w → next_of plan (run_state_of w) ≡ Some s
     → is_kind s a ≡ true → run_state_of v ≡ moved plan (run_state_of w) s a → Stands plan v
 advanced plan w v s a k is kind e = (answer_stands plan (run_state_of w) (run_state_of v) s a k is kind e).0
 
+-- after an answer that fits, the window is the same
 pub window_kept : (plan : Plan) (w v : CodeRun) (s : Step) (a : Answer) → Stands plan w → next_of plan (run_state_of w) ≡ Some s
     → is_kind s a ≡ true → run_state_of v ≡ moved plan (run_state_of w) s a → v.fleet.window ≡ w.fleet.window
 window_kept plan w v s a k is kind e = (answer_stands plan (run_state_of w) (run_state_of v) s a k is kind e).1
@@ -54,27 +60,32 @@ abbrev step_of : Option Step → Step → Step
 step_of None s = s
 step_of (Some t) s = t
 
+-- a run has one next step
 pub one_step : (plan : Plan) (w v : CodeRun) (s : Step) (a : Answer) → next_of plan (run_state_of w) ≡ Some s
     → run_state_of v ≡ moved plan (run_state_of w) s a → (t : Step) → next_of plan (run_state_of w) ≡ Some t
     → run_state_of v ≡ moved plan (run_state_of w) t a
 one_step plan w v s a is e t at = e ∙ ap (λ x. moved plan (run_state_of w) x a) (ap (λ o. step_of o s) (sym is ∙ at))
 
+-- without a next step nothing is claimed of an answer
 pub no_step : (plan : Plan) (w v : CodeRun) (a : Answer) → next_of plan (run_state_of w) ≡ None → (t : Step)
     → next_of plan (run_state_of w) ≡ Some t → run_state_of v ≡ moved plan (run_state_of w) t a
 no_step plan w v a is t at = absurd (let clash : None ≡ Some t = sym is ∙ at in cc)
 
 -- at the beginning
 
+-- at the beginning the same is known, and the window is the one given
 pub begun : (plan : Plan) (w : CodeRun) (N : ℕ) → 1 ≤ N → AllFilled plan.jobs × Filled (link_of plan.link)
     → needed plan ≤ vec_capacity w.events → run_state_of w ≡ fresh_run plan N (vec_capacity w.events)
     → (Stands plan w) × (w.fleet.window ≡ N)
 begun plan w N some filled fits e = fresh_stands plan N (vec_capacity w.events) (run_state_of w) some filled.0 filled.1 fits e
 
+-- at the beginning there is no event
 pub no_events : (plan : Plan) (w : CodeRun) (N : ℕ) → run_state_of w ≡ fresh_run plan N (vec_capacity w.events) → w.events.items ≡ []
 no_events plan w N e = ap (λ p. p.events) e ∙ fresh_events plan N (vec_capacity w.events)
 
 -- what is known of the result of `next`
 
+-- the clauses of `next`: what it answers, that the events are the beginning or the whole of a run, and what each case says
 pub record Known (r : Run) (a : Action) : Type 0 where
   pub action : a ≡ r.action
   pub beginning : IsBeginning r.plan r.window r.events
@@ -86,6 +97,7 @@ pub record Known (r : Run) (a : Action) : Type 0 where
   pub pipe : IfDone a (λ status. pipe_pending r.events ≡ false)
   pub status : IfDone a (λ status. (o : Answers) → Windowed r.plan r.window o r.events → status ≡ status_of r.pass_codes o)
 
+-- the clauses of `next` hold of each run that is kept
 known_at : (plan : Plan) (pass_codes : FailureStatus) (p : RunState) → Kept plan p.fleet.window p
     → Known (run_at plan pass_codes p) (run_at plan pass_codes p).action
 known_at plan pass_codes p k = by (next_of plan p) refl
@@ -118,7 +130,7 @@ known_at plan pass_codes p k = by (next_of plan p) refl
           status = tt;
         })
 
--- of a run that is seen as r
+-- the clauses of `next`, of a run of the code that a caller sees as r
 pub knows : (plan : Plan) (pass_codes : FailureStatus) (w : CodeRun) (r : Run) (a : Action) → Stands plan w → run_of plan pass_codes w ≡ r
     → a ≡ (run_of plan pass_codes w).action → Known r a
 knows plan pass_codes w r a k e is = subst (λ x. Known x a) e (subst (λ x. Known (run_of plan pass_codes w) x) (sym is)
@@ -126,12 +138,14 @@ knows plan pass_codes w r a k e is = subst (λ x. Known x a) e (subst (λ x. Kno
 
 -- the condition and the effect of `answer`
 
+-- an answer that fits the run has the kind of its next step
 pub kind_of : (plan : Plan) (pass_codes : FailureStatus) (w : CodeRun) (r : Run) (a : Answer) → run_of plan pass_codes w ≡ r
     → IfMake r.action (λ step. fits r.events step a ≡ true) → (s : Step) → next_of plan (run_state_of w) ≡ Some s → is_kind s a ≡ true
 kind_of plan pass_codes w r a e f s is = fits_kind w.events.items s a
     (subst (λ o. IfMake (action_of o (status_from pass_codes w.code)) (λ step. fits w.events.items step a ≡ true)) is
     (subst (λ x. IfMake x.action (λ step. fits x.events step a ≡ true)) (sym e) f))
 
+-- an answer adds its event
 pub answered : (plan : Plan) (pass_codes : FailureStatus) (w v : CodeRun) (r : Run) (a : Answer) → run_of plan pass_codes w ≡ r
     → ((s : Step) → next_of plan (run_state_of w) ≡ Some s → run_state_of v ≡ moved plan (run_state_of w) s a)
     → IfMake r.action (λ step. v.events.items ≡ r.events ++ event step a ∷ [])
@@ -152,18 +166,21 @@ step_back : (o : Option Step) (n : ℕ) → step_in (action_of o n) ≡ o
 step_back None n = refl
 step_back (Some s) n = refl
 
+-- the clause about the first source, as a caller sees the run
 works_first : (plan : Plan) (pass_codes : FailureStatus) (w : CodeRun) → Stands plan w → WorksFirst plan (run_state_of w)
     → IsOfFirst plan w.fleet.window w.events.items (step_in (run_of plan pass_codes w).action)
 works_first plan pass_codes w k first = subst (λ o. IsOfFirst plan w.fleet.window w.events.items o)
     (sym (step_back (next_of plan (run_state_of w)) (status_from pass_codes w.code)))
     (first_next plan w.fleet.window (run_state_of w) k first)
 
+-- at the beginning of a run, without a choice, the next step is of the first source that may go on
 pub begun_first : (plan : Plan) (pass_codes : FailureStatus) (w : CodeRun) (N : ℕ) → Stands plan w
     → run_state_of w ≡ fresh_run plan N (vec_capacity w.events)
     → IsOfFirst plan w.fleet.window w.events.items (step_in (run_of plan pass_codes w).action)
 begun_first plan pass_codes w N k e = works_first plan pass_codes w k
     (subst (λ p. WorksFirst plan p) (sym e) (fresh_first plan N (vec_capacity w.events)))
 
+-- after an answer, without a choice, the next step is of the first source that may go on
 pub answered_first : (plan : Plan) (pass_codes : FailureStatus) (w v : CodeRun) (r : Run) (a : Answer) → run_of plan pass_codes w ≡ r
     → IfDone r.action (λ status. ⊥) → ((s : Step) → next_of plan (run_state_of w) ≡ Some s
     → run_state_of v ≡ moved plan (run_state_of w) s a)
@@ -179,6 +196,7 @@ answered_first plan pass_codes w v r a e more moves k = works_first plan pass_co
 
 -- the result of `status`
 
+-- where no step is left the run shows the status
 pub status_there : (plan : Plan) (pass_codes : FailureStatus) (w : CodeRun) (r : Run) (n : ℕ) → run_of plan pass_codes w ≡ r
     → IfMake r.action (λ step. ⊥) → n ≡ status_from pass_codes w.code → r.action ≡ action.Done n
 status_there plan pass_codes w r n e done is = subst (λ x. x.action ≡ action.Done n) e (by (next_of plan (run_state_of w)) refl)
@@ -191,6 +209,7 @@ status_there plan pass_codes w r n e done is = subst (λ x. x.action ≡ action.
     by None at = ap (λ o. action_of o (status_from pass_codes w.code)) at ∙ ap (λ m. action.Done m) (sym is)
     by (Some s) at = absurd (subst (λ o. IfMake (action_of o (status_from pass_codes w.code)) (λ step. ⊥)) at over)
 
+-- the status is that of any answers with which the events are a whole run
 pub status_right : (plan : Plan) (pass_codes : FailureStatus) (w : CodeRun) (r : Run) (n : ℕ) → Stands plan w → run_of plan pass_codes w ≡ r
     → n ≡ status_from pass_codes w.code → (o : Answers) → Windowed r.plan r.window o r.events → n ≡ status_of r.pass_codes o
 status_right plan pass_codes w r n k e is = subst (λ x. (o : Answers) → Windowed x.plan x.window o x.events → n ≡ status_of x.pass_codes o)
@@ -198,25 +217,30 @@ status_right plan pass_codes w r n k e is = subst (λ x. (o : Answers) → Windo
 
 -- choices
 
+-- the number of choices is the one of the rule
 pub choices_told : (plan : Plan) (pass_codes : FailureStatus) (w : CodeRun) (r : Run) (n : ℕ) → Stands plan w → run_of plan pass_codes w ≡ r
     → n ≡ choices_at plan (run_state_of w) → ChoicesAre r.plan r.window r.events n
 choices_told plan pass_codes w r n k e is = subst (λ x. ChoicesAre x.plan x.window x.events n) e
     (subst (λ m. ChoicesAre plan w.fleet.window w.events.items m) (sym is) (choices_are plan w.fleet.window (run_state_of w) k))
 
+-- a choice of the run that a caller sees is one of the code's
 pub choice_of : (plan : Plan) (pass_codes : FailureStatus) (w : CodeRun) (r : Run) (i : ℕ) → run_of plan pass_codes w ≡ r
     → IsChoice r.plan r.window r.events i → IsChoice plan w.fleet.window w.events.items i
 choice_of plan pass_codes w r i e h = subst (λ x. IsChoice x.plan x.window x.events i) (sym e) h
 
+-- after a choice, what is known of the run still holds
 pub turned_stands : (plan : Plan) (w v : CodeRun) (i : ℕ) → Stands plan w → IsChoice plan w.fleet.window w.events.items i
     → run_state_of v ≡ choosing plan (run_state_of w) i → Stands plan v
 turned_stands plan w v i k h e = (choice_stands plan (run_state_of w) (run_state_of v) i k
     (choice_below plan w.fleet.window (run_state_of w) i k h) e).0
 
+-- after a choice, the window is the same
 pub turned_window : (plan : Plan) (w v : CodeRun) (i : ℕ) → Stands plan w → IsChoice plan w.fleet.window w.events.items i
     → run_state_of v ≡ choosing plan (run_state_of w) i → v.fleet.window ≡ w.fleet.window
 turned_window plan w v i k h e = (choice_stands plan (run_state_of w) (run_state_of v) i k
     (choice_below plan w.fleet.window (run_state_of w) i k h) e).1
 
+-- between blocks the next step is of the chosen source
 pub turned_next : (plan : Plan) (pass_codes : FailureStatus) (w v : CodeRun) (r : Run) (i : ℕ) → Stands plan w
     → run_of plan pass_codes w ≡ r → IsChoice r.plan r.window r.events i → run_state_of v ≡ choosing plan (run_state_of w) i
     → (b : BetweenBlocks r.plan r.window r.events) → IsNextOf r.plan r.window r.events b i (step_in (run_of plan pass_codes v).action)
@@ -227,12 +251,14 @@ turned_next plan pass_codes w v r i k e h is = subst (λ x. (b : BetweenBlocks x
     (chosen_next plan w.fleet.window (run_state_of w) i k (choice_below plan w.fleet.window (run_state_of w) i k
     (choice_of plan pass_codes w r i e h)) b))
 
+-- elsewhere a choice changes nothing
 pub turned_elsewhere : (plan : Plan) (pass_codes : FailureStatus) (w v : CodeRun) (r : Run) (i : ℕ) → Stands plan w
     → run_of plan pass_codes w ≡ r → run_state_of v ≡ choosing plan (run_state_of w) i → (BetweenBlocks r.plan r.window r.events → ⊥)
     → run_of plan pass_codes v ≡ r
 turned_elsewhere plan pass_codes w v r i k e is none = ap (λ p. run_at plan pass_codes p) (is ∙ chosen_elsewhere plan w.fleet.window
     (run_state_of w) i k (subst (λ x. BetweenBlocks x.plan x.window x.events → ⊥) (sym e) none)) ∙ e
 
+-- a choice adds no event
 pub turned_events : (plan : Plan) (pass_codes : FailureStatus) (w v : CodeRun) (r : Run) (i : ℕ) → run_of plan pass_codes w ≡ r
     → run_state_of v ≡ choosing plan (run_state_of w) i → v.events.items ≡ r.events
 turned_events plan pass_codes w v r i e is = ap (λ p. p.events) is ∙ choosing_events plan (run_state_of w) i ∙ ap (λ x. x.events) e

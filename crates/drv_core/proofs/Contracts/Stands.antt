@@ -37,9 +37,10 @@ use Rattle.std.proofs.Common.{◌≡◌, ◌<◌, ◌≤◌, ◌∙◌, ◌&&◌
 use Rattle.std.proofs.Common.{length, nat_lt, refl, subst, suc, sym, zero, ℕ}
 use Rattle.std.proofs.lemmas.List.{get_or_past}
 
--- For the clauses of `Run`: what is known of every run, and what follows from it.
+-- For the clauses of `Run`: what is known of every run, and what follows from it. `Kept` says that a position of the code was reached by
+-- answers that fit and by choices; so there is a `Course` that matches it (`stands`), and each clause is a fact of that course.
 
--- the course that matches the code's position
+-- there is a course that matches the code's position, and what is known of it
 pub record Stands (plan : Plan) (N room : ℕ) (p : RunState) : Type 0 where
   pub c : Course
   pub holds : Holds plan N c
@@ -48,6 +49,7 @@ pub record Stands (plan : Plan) (N room : ℕ) (p : RunState) : Type 0 where
 filled_none : Filled no_job
 filled_none g lt = absurd (let no : g < 0 = lt in omega (arith, no))
 
+-- no group of the plan is empty
 pub filled_plan : (plan : Plan) → AllFilled plan.jobs → Filled (link_of plan.link) → FilledPlan plan
 filled_plan plan jobs link = record {
   jobs = λ j. by j (nat_lt j (length plan.jobs)) refl;
@@ -59,6 +61,7 @@ filled_plan plan jobs link = record {
     by j true e = jobs j (is_less j (length plan.jobs) e)
     by j false e = subst (λ job. Filled job) (sym (get_or_past plan.jobs j no_job (is_not_less j (length plan.jobs) e))) filled_none
 
+-- after an answer that fits a course matches
 answered : (plan : Plan) (N room : ℕ) (p : RunState) (s : Step) (a : Answer) → 1 ≤ N → FilledPlan plan → Stands plan N room p
     → next_of plan p ≡ Some s → is_kind s a ≡ true → Stands plan N room (moved plan p s a)
 answered plan N room p s a some filled t is kind = record {
@@ -70,6 +73,7 @@ answered plan N room p s a some filled t is kind = record {
     asks : asked_by plan t.c ≡ Some s
     asks = sym (same_next plan N room p t.c t.holds t.match) ∙ is
 
+-- after a choice a course matches
 chosen : (plan : Plan) (N room : ℕ) (p : RunState) (k : ℕ) → Stands plan N room p → k < choices_at plan p
     → Stands plan N room (choosing plan p k)
 chosen plan N room p k t lt = by (between_blocks p.phase p.fleet) refl lt
@@ -105,6 +109,7 @@ chosen plan N room p k t lt = by (between_blocks p.phase p.fleet) refl lt
     }
     by false e below = t
 
+-- a course matches each position that is reached
 pub stands : (plan : Plan) (N room : ℕ) (p : RunState) → 1 ≤ N → FilledPlan plan → Reached plan N room p → Stands plan N room p
 stands plan N room p some filled at_first = record {
   c = fresh_course plan N;
@@ -123,6 +128,7 @@ stands_at plan N p k = stands plan N p.room p k.some (filled_of plan N p k) k.re
 
 -- each call keeps it
 
+-- a new run is kept: its position can be reached, and it has room
 pub fresh_kept : (plan : Plan) (N room : ℕ) (p : RunState) → 1 ≤ N → AllFilled plan.jobs → Filled (link_of plan.link) → needed plan ≤ room
     → p ≡ fresh_run plan N room → Kept plan N p
 fresh_kept plan N room p some jobs link fits is = subst (λ q. Kept plan N q) (sym is) (record {
@@ -133,6 +139,7 @@ fresh_kept plan N room p some jobs link fits is = subst (λ q. Kept plan N q) (s
   reached = subst (λ n. Reached plan N n (fresh_run plan N room)) (sym (fresh_matches plan N room).alike.room_is) at_first;
 })
 
+-- an answer that fits keeps the run kept
 pub answer_kept : (plan : Plan) (N : ℕ) (p q : RunState) (s : Step) (a : Answer) → Kept plan N p → next_of plan p ≡ Some s
     → is_kind s a ≡ true → q ≡ moved plan p s a → Kept plan N q
 answer_kept plan N p q s a k is kind to = subst (λ r. Kept plan N r) (sym to)
@@ -147,6 +154,7 @@ answer_kept plan N p q s a k is kind to = subst (λ r. Kept plan N r) (sym to)
       reached = subst (λ n. Reached plan N n (moved plan p s a)) (sym t.match.alike.room_is) (after_answer p s a k.reached is kind);
     }
 
+-- a choice of the next source keeps the run kept
 pub choice_kept : (plan : Plan) (N : ℕ) (p q : RunState) (i : ℕ) → Kept plan N p → i < choices_at plan p → q ≡ choosing plan p i
     → Kept plan N q
 choice_kept plan N p q i k lt to = subst (λ r. Kept plan N r) (sym to) (by (chosen plan N p.room p i (stands_at plan N p k) lt))
@@ -162,12 +170,14 @@ choice_kept plan N p q i k lt to = subst (λ r. Kept plan N r) (sym to) (by (cho
 
 -- what the code relies on
 
+-- no group is longer than the longest
 widest_is : (groups : List (List Command)) (g : ℕ) → length (get_or groups g []) ≤ greatest (λ group. length group) groups
 widest_is [] zero = omega arith
 widest_is [] (suc g) = omega arith
 widest_is (c ∷ groups) zero = omega arith
 widest_is (c ∷ groups) (suc g) = let le = widest_is groups g in omega (arith, le)
 
+-- a stage has room for its next child
 has_room : (job : Job) (s : Stage) (room : ℕ) → Valid job s → room ≡ greatest (λ group. length group) job.groups → HasRoom s room
 has_room job (Claims i) room v e = tt
 has_room job (ClaimReport i x) room v e = tt
@@ -183,6 +193,7 @@ has_room job (OwnRemovals i) room v e = tt
 has_room job (RemovalReport i) room v e = tt
 has_room job Ended room v e = tt
 
+-- what the code relies on in the phase of the sources
 fleet_ready : (plan : Plan) (N most : ℕ) (f : Fleet) (c : Course) → Sure plan.jobs N most f c.events → FleetReady plan f
 fleet_ready plan N most f c s = record {
   jobs = in_range;
@@ -202,6 +213,7 @@ fleet_ready plan N most f c s = record {
     in_range : f.current < length plan.jobs
     in_range = is_less f.current (length plan.jobs) s.going.may.is_source
 
+-- what the code relies on holds in each phase
 pub ready : (plan : Plan) (N : ℕ) (p : RunState) → Kept plan N p → Ready plan p
 ready plan N p k = subst (λ q. ReadyIn q plan p) (sym t.match.phase) (by t.c.phase t.holds t.match.here)
   where
@@ -216,6 +228,7 @@ ready plan N p k = subst (λ q. ReadyIn q plan p) (sym t.match.phase) (by t.c.ph
     by Report held here = here.within
     by Done held here = tt
 
+-- no count of claims is greater than the number of events
 pub few : (plan : Plan) (N : ℕ) (p : RunState) → Kept plan N p → (i : ℕ) → get_or p.leftovers.claimed i 0 ≤ length p.events
 few plan N p k i = by (nat_lt (length plan.jobs) i) refl
   where
@@ -234,6 +247,7 @@ few plan N p k i = by (nat_lt (length plan.jobs) i) refl
         let len : length p.events ≡ length t.c.events = ap (λ (l : List RunEvent). length l) t.match.alike.events in
         omega (arith, is, le, len)
 
+-- while a step is left, there is room for an event
 pub room_left : (plan : Plan) (N : ℕ) (p : RunState) (s : Step) → Kept plan N p → next_of plan p ≡ Some s → length p.events < p.room
 room_left plan N p s k is = by (stands_at plan N p k)
   where
@@ -246,6 +260,7 @@ room_left plan N p s k is = by (stands_at plan N p k)
 
 -- what a caller sees
 
+-- the next step can be made
 pub makes : (plan : Plan) (N : ℕ) (p : RunState) (s : Step) → Kept plan N p → next_of plan p ≡ Some s → can_make plan p.events s ≡ true
 makes plan N p s k is = by (stands_at plan N p k)
   where
@@ -253,6 +268,7 @@ makes plan N p s k is = by (stands_at plan N p k)
     by t = subst (λ E. can_make plan E s ≡ true) (sym t.match.alike.events)
         (holds_makes plan N t.c s t.holds (sym (same_next plan N p.room p t.c t.holds t.match) ∙ is))
 
+-- while a step is left, fewer events came than a run can have at most
 pub fewer : (plan : Plan) (N : ℕ) (p : RunState) (s : Step) → Kept plan N p → next_of plan p ≡ Some s → length p.events < needed plan
 fewer plan N p s k is = by (stands_at plan N p k)
   where
@@ -260,18 +276,21 @@ fewer plan N p s k is = by (stands_at plan N p k)
     by t = subst (λ E. length E < needed plan) (sym t.match.alike.events)
         (holds_fewer plan N t.c s t.holds (sym (same_next plan N p.room p t.c t.holds t.match) ∙ is))
 
+-- at no time came more events than a run can have at most
 pub bound : (plan : Plan) (N : ℕ) (p : RunState) → Kept plan N p → length p.events ≤ needed plan
 bound plan N p k = by (stands_at plan N p k)
   where
     by : Stands plan N p.room p → length p.events ≤ needed plan
     by t = subst (λ E. length E ≤ needed plan) (sym t.match.alike.events) (holds_bound plan N t.c t.holds)
 
+-- the events are the beginning of a whole run
 pub begins : (plan : Plan) (N : ℕ) (p : RunState) → Kept plan N p → IsBeginning plan N p.events
 begins plan N p k = by (stands_at plan N p k)
   where
     by : Stands plan N p.room p → IsBeginning plan N p.events
     by t = subst (λ E. IsBeginning plan N E) (sym t.match.alike.events) (holds_begins plan N t.c k.some (filled_of plan N p k) t.holds)
 
+-- without a next step the events are a whole run
 pub whole : (plan : Plan) (N : ℕ) (p : RunState) → Kept plan N p → next_of plan p ≡ None → IsWhole plan N p.events
 whole plan N p k is = by (stands_at plan N p k)
   where
@@ -279,6 +298,7 @@ whole plan N p k is = by (stands_at plan N p k)
     by t = subst (λ E. IsWhole plan N E) (sym t.match.alike.events)
         (holds_whole plan N t.c t.holds (sym (same_next plan N p.room p t.c t.holds t.match) ∙ is))
 
+-- without a next step no pipe is pending
 pub closed : (plan : Plan) (N : ℕ) (p : RunState) → Kept plan N p → next_of plan p ≡ None → pipe_pending p.events ≡ false
 closed plan N p k is = by (stands_at plan N p k)
   where
@@ -286,6 +306,7 @@ closed plan N p k is = by (stands_at plan N p k)
     by t = subst (λ E. pipe_pending E ≡ false) (sym t.match.alike.events)
         (holds_closed plan N t.c t.holds (sym (same_next plan N p.room p t.c t.holds t.match) ∙ is))
 
+-- where they are a whole run, there is no next step
 pub ends : (plan : Plan) (N : ℕ) (p : RunState) → Kept plan N p → IsWhole plan N p.events → next_of plan p ≡ None
 ends plan N p k w = by (stands_at plan N p k)
   where
@@ -293,22 +314,24 @@ ends plan N p k w = by (stands_at plan N p k)
     by t = same_next plan N p.room p t.c t.holds t.match ∙ whole_ends plan N t.c (filled_of plan N p k) t.holds
         (subst (λ E. IsWhole plan N E) t.match.alike.events w)
 
+-- the code that the run keeps is the greatest of its events
 pub code_is : (plan : Plan) (N : ℕ) (p : RunState) → Kept plan N p → p.code ≡ run_code p.events
 code_is plan N p k = by (stands_at plan N p k)
   where
     by : Stands plan N p.room p → p.code ≡ run_code p.events
     by t = t.match.alike.code ∙ ap run_code (sym t.match.alike.events)
 
--- the status of a whole run
+-- the status that the code computes is that of the answers of the whole run
 pub status_is : (plan : Plan) (N : ℕ) (p : RunState) (pass_codes : FailureStatus) → Kept plan N p → (w : IsWhole plan N p.events)
     → status_from pass_codes p.code ≡ status_of pass_codes w.o
 status_is plan N p pass_codes k w = ap (λ n. status_from pass_codes n) (code_is plan N p k) ∙ whole_status plan N p.events pass_codes w
 
--- for all answers of the run
+-- the status that the code computes is that of any answers with which the events are a whole run
 pub status_for : (plan : Plan) (N : ℕ) (p : RunState) (pass_codes : FailureStatus) (o : Answers) → Kept plan N p
     → Windowed plan N o p.events → status_from pass_codes p.code ≡ status_of pass_codes o
 status_for plan N p pass_codes o k w = status_is plan N p pass_codes k (record { o = o; windowed = w })
 
+-- with a next step they are no whole run
 pub unfinished : (plan : Plan) (N : ℕ) (p : RunState) (s : Step) → Kept plan N p → next_of plan p ≡ Some s → IsWhole plan N p.events → ⊥
 unfinished plan N p s k is w = let clash : Some s ≡ None = sym is ∙ ends plan N p k w in absurd cc
 

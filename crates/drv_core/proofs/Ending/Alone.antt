@@ -14,28 +14,34 @@ use Rattle.drv_words.specs.declared.steps.RunEvent.{RunEvent}
 use Rattle.std.proofs.Common.{◌≡◌, ◌<◌, ◌∙◌, Bool, false, true, List, [], ◌∷◌, ◌++◌, ap, append-nil, append_assoc, arith, refl, subst, suc}
 use Rattle.std.proofs.Common.{sym, zero, ℕ}
 
--- For the link, which runs alone: after each event, the events so far are the beginning of the link's story.
+-- For the link, which runs alone: after each event, the events so far are the beginning of the link's story. (`Alone` is for one job what
+-- `Running` is for the sources.)
 
+-- the events so far are whole blocks of the job, and the open one, up to stage s
 pub record Alone (k : ℕ) (job : Job) (s : Stage) (E : List RunEvent) : Type 0 where
   pub blocks : List Block
   pub path : Path k job (begin job) blocks (base s)
   pub events : E ≡ events_of blocks ++ open_of k job s
   pub valid : Valid job s
 
+-- the events of blocks with one more block
 pub events_more : (xs : List Block) (b : Block) → events_of (xs ++ b ∷ []) ≡ events_of xs ++ b
 events_more [] b = append-nil b
 events_more (x ∷ xs) b = ap (λ l. x ++ l) (events_more xs b) ∙ sym (append_assoc x (events_of xs) b)
 
+-- the events of two lists of blocks
 pub events_both : (xs ys : List Block) → events_of (xs ++ ys) ≡ events_of xs ++ events_of ys
 events_both [] ys = refl
 events_both (x ∷ xs) ys = ap (λ l. x ++ l) (events_both xs ys) ∙ sym (append_assoc x (events_of xs) (events_of ys))
 
+-- at its beginning a job has no open block
 begin_out : (job : Job) → inside (begin job) ≡ false
 begin_out job = by (begin job) (begins job).sound
   where
     by : (s : Stage) → Sound s → inside s ≡ false
     by s so = sound_out s so
 
+-- at the beginning there is no event
 pub alone_first : (k : ℕ) (job : Job) → Filled job → Alone k job (begin job) []
 alone_first k job filled = record {
   blocks = [];
@@ -44,6 +50,7 @@ alone_first k job filled = record {
   valid = valid_begin job filled;
 }
 
+-- an answer that fits adds one
 pub alone_more : (k : ℕ) (job : Job) (s : Stage) (E : List RunEvent) (a : Answer) → Filled job → Alone k job s E → left s ≡ true
     → is_kind (asked (asks k job s)) a ≡ true → Alone k job (after job s a) (E ++ event (asked (asks k job s)) a ∷ [])
 alone_more k job s E a filled r more fit = by (inside (after job s a)) refl (one_step k job s a r.valid more fit)
@@ -75,11 +82,13 @@ alone_more k job s E a filled r more fit = by (inside (after job s a)) refl (one
 
 -- at the end the whole story has happened
 
+-- the events are the story of complete answers
 pub record AloneRan (k : ℕ) (job : Job) (E : List RunEvent) : Type 0 where
   pub a : JobAnswers
   pub all : whole_job job a ≡ true
   pub events : E ≡ events_of (story k job a)
 
+-- at the end of the job they are
 pub alone_ran : (k : ℕ) (job : Job) (E : List RunEvent) → Alone k job Ended E → AloneRan k job E
 alone_ran k job E r =
     let t : ToldStory k job r.blocks = tells k job r.blocks (path_ends k job (begin job) r.blocks r.path) in
@@ -87,16 +96,19 @@ alone_ran k job E r =
 
 -- before the end the events are the beginning of a story
 
+-- the events begin the story of complete answers
 pub record AloneBegins (k : ℕ) (job : Job) (E : List RunEvent) : Type 0 where
   pub a : JobAnswers
   pub all : whole_job job a ≡ true
   pub rest : List RunEvent
   pub events : E ++ rest ≡ events_of (story k job a)
 
+-- more blocks complete these to a story
 pub record Leads (k : ℕ) (job : Job) (bs : List Block) : Type 0 where
   pub more : List Block
   pub told : ToldStory k job (bs ++ more)
 
+-- each path from the beginning can be completed, by induction on how far its end is
 pub leads : (fuel : ℕ) (k : ℕ) (job : Job) (bs : List Block) (s : Stage) → Path k job (begin job) bs s → still job s < fuel → Leads k job bs
 leads zero k job bs s p lt = absurd (omega arith)
 leads (suc fuel) k job bs s p lt = by (left s) refl
@@ -113,6 +125,7 @@ leads (suc fuel) k job bs s p lt = by (left s) refl
           (tells k job bs (path_ends k job (begin job) bs (subst (λ m. Path k job (begin job) bs m) (ended s e) p)));
     }
 
+-- the events of a job in progress begin a story of complete answers
 pub alone_begins : (k : ℕ) (job : Job) (s : Stage) (E : List RunEvent) → Alone k job s E → AloneBegins k job E
 alone_begins k job s E r = by (inside s) refl
   where

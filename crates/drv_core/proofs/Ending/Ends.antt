@@ -35,15 +35,18 @@ use Rattle.std.proofs.lemmas.List.{drop_more, get_or_append_left, length-drop}
 use Rattle.std.specs.List.{sum_by}
 use Rattle.std.specs.Option.{option_to_list}
 
--- For the end of `Run`: the removals, step by step.
+-- For the end of `Run`: the removals, step by step. `Holds` is what is known of a course in each phase: the sources (`Sure`), the link
+-- (`AtLink`), the removals and their reports (`AtEnd`), and the end (`AtDone`). The lemmas keep it from the end of the link on.
 
+-- the most events of the sources
 abbrev pub most_of : Plan → ℕ
 most_of plan = to_come plan.jobs (λ j. begin (get_or plan.jobs j no_job))
 
+-- the files that are removed at the end of this run
 abbrev pub end_files : (plan : Plan) (N i : ℕ) (failed : Bool) (E : List RunEvent) → Ending plan N i failed E → List File
 end_files plan N i failed E e = removed_at_end plan (answers e.ran.run.answers e.link.a [])
 
--- the next file is removed, or its removal has failed and is reported
+-- i files are removed, and the next one is to be removed; `failed`: its removal has failed, and is to be reported
 pub record AtEnd (plan : Plan) (N : ℕ) (failed : Bool) (c : Course) : Type 0 where
   pub i : ℕ
   pub ending : Ending plan N i failed c.events
@@ -52,6 +55,7 @@ pub record AtEnd (plan : Plan) (N : ℕ) (failed : Bool) (c : Course) : Type 0 w
   pub pipe : pipe_pending c.events ≡ false
   pub bound : length c.events + 2 * (length (end_files plan N i failed c.events ending) - i) ≤ needed plan + (if failed then 1 else 0)
 
+-- all files are removed
 pub record AtDone (plan : Plan) (N : ℕ) (c : Course) : Type 0 where
   pub i : ℕ
   pub ending : Ending plan N i false c.events
@@ -59,12 +63,14 @@ pub record AtDone (plan : Plan) (N : ℕ) (c : Course) : Type 0 where
   pub pipe : pipe_pending c.events ≡ false
   pub bound : length c.events ≤ needed plan
 
+-- the link has begun, and has more to do
 pub record AtLink (plan : Plan) (N : ℕ) (c : Course) : Type 0 where
   pub job : Job
   pub is : plan.link ≡ Some job
   pub linked : Linking plan N (most_of plan + first_cost job) job c.link c.events
   pub more : left c.link ≡ true
 
+-- what is known in a phase
 abbrev pub HoldsAt : Plan → ℕ → Phase → Course → Type 0
 HoldsAt plan N Sources c = Sure plan.jobs N (most_of plan) c.fleet c.events
 HoldsAt plan N Link c = AtLink plan N c
@@ -72,10 +78,11 @@ HoldsAt plan N Removals c = AtEnd plan N false c
 HoldsAt plan N Report c = AtEnd plan N true c
 HoldsAt plan N Done c = AtDone plan N c
 
+-- what is known of a course, by its phase
 abbrev pub Holds : Plan → ℕ → Course → Type 0
 Holds plan N c = HoldsAt plan N c.phase c
 
--- the files that are due are removed
+-- the files that are due are to be removed: what is known holds
 pub removing_holds : (plan : Plan) (N i : ℕ) (c : Course) (due : List File) → (e : Ending plan N i false c.events)
     → due ≡ drop i (end_files plan N i false c.events e) → i ≤ length (end_files plan N i false c.events e) → pipe_pending c.events ≡ false
     → length c.events + 2 * (length (end_files plan N i false c.events e) - i) ≤ needed plan → Holds plan N (removing c due)
@@ -99,10 +106,11 @@ removing_holds plan N i c due e is within pipe bound = by due is
       bound = omega (arith, bound);
     }
 
--- all leftover files, including the link's if it runs
+-- a plan with a link has the leftover files of its sources and of the link
 few_linked : (plan : Plan) (job : Job) → plan.link ≡ Some job → length (files_from 0 (plan.jobs ++ job ∷ [])) ≡ length (all_files plan)
 few_linked plan job is = sym (ap (λ l. length (files_from 0 (plan.jobs ++ option_to_list l))) is)
 
+-- without the link there are at most as many leftover files
 few_unlinked : (plan : Plan) → length (files_from 0 (plan.jobs ++ no_job ∷ [])) ≤ length (all_files plan)
 few_unlinked plan =
     let a : length (files_from 0 (plan.jobs ++ no_job ∷ []))
@@ -117,7 +125,7 @@ few_unlinked plan =
     length-append {A = File} (files_from 0 plan.jobs) (files_from (0 + length plan.jobs) (option_to_list plan.link)) in
     omega (arith, a, b, c, d)
 
--- after the link
+-- after the link, what is known holds: the first file is removed, if there is one
 pub link_ends : (plan : Plan) (N : ℕ) (c : Course) (job : Job) → plan.link ≡ Some job
     → Linking plan N (most_of plan + first_cost job) job Ended c.events → Holds plan N (after_link plan job c)
 link_ends plan N c job is k = removing_holds plan N 0 c (due_files plan job (λ j. tally j c.events))
@@ -144,7 +152,7 @@ link_ends plan N c job is k = removing_holds plan N 0 c (due_files plan job (λ 
         let le = k.bound in
         omega (arith, many, few, all, fits, cost, le)
 
--- after the sources, if no link runs
+-- after the sources, where no link runs, what is known holds: the first file is removed, if there is one
 pub sources_end : (plan : Plan) (N : ℕ) (c : Course) → Over plan.jobs N (most_of plan) c.fleet c.events
     → link_by plan.link (run_code c.events) ≡ no_job → Holds plan N (after_link plan no_job c)
 sources_end plan N c o none_runs = removing_holds plan N 0 c (due_files plan no_job (λ j. tally j c.events))
@@ -175,6 +183,7 @@ next_due files due i is lt = is ∙ drop_more files i no_file lt
 rest_due : (files due : List File) (i : ℕ) → due ≡ drop i files → i < length files → drop 1 due ≡ drop (i + 1) files
 rest_due files due i is lt = ap (λ l. drop 1 l) (next_due files due i is lt)
 
+-- one more event of the removals at the end
 abbrev pub with_last : (plan : Plan) (N i j : ℕ) (failed now : Bool) (E : List RunEvent) (e : RunEvent) → (old : Ending plan N i failed E)
     → Removing (end_files plan N i failed E old) j now (old.last ++ e ∷ []) → Ending plan N j now (E ++ e ∷ [])
 with_last plan N i j failed now E e old r = record {
@@ -188,7 +197,7 @@ with_last plan N i j failed now E e old r = record {
   removing = r;
 }
 
--- neither a removal nor a report changes the pending pipe
+-- neither a removal nor a report leaves a pipe pending
 quiet_remove : (E : List RunEvent) (p : Place) (x : RemoveAnswer) → pipe_pending E ≡ false
     → pipe_pending (E ++ event (step.Remove p) (answer.Remove x) ∷ []) ≡ false
 quiet_remove E p x e = pending_append false E (event (step.Remove p) (answer.Remove x)) ∙ e
@@ -196,7 +205,7 @@ quiet_remove E p x e = pending_append false E (event (step.Remove p) (answer.Rem
 quiet_report : (E : List RunEvent) (n : Note) (t : Bool) → pipe_pending E ≡ false → pipe_pending (E ++ report n t ∷ []) ≡ false
 quiet_report E n t e = pending_append false E (report n t) ∙ e
 
--- the file is gone or is kept
+-- after a removal that did not fail, what is known holds: the next file is removed, if there is one
 pub removal_passes : (plan : Plan) (N : ℕ) (c : Course) (h : AtEnd plan N false c) (x : RemoveAnswer) → removal_failed x ≡ false
     → Holds plan N (removing (record c {
       events = c.events
@@ -214,7 +223,7 @@ removal_passes plan N c h x ok = removing_holds plan N (h.i + 1)
     files : List File
     files = end_files plan N h.i false c.events h.ending
 
--- the removal failed, which is reported
+-- after a removal that failed, what is known holds: it is to be reported
 pub removal_fails : (plan : Plan) (N : ℕ) (c : Course) (h : AtEnd plan N false c)
     → AtEnd plan N true (record c {
       phase = Report;
@@ -234,6 +243,7 @@ removal_fails plan N c h = record {
       let le = h.bound in omega (arith, len, le));
 }
 
+-- the failed removal was reported: the next file follows
 pub report_passes : (plan : Plan) (N : ℕ) (c : Course) (h : AtEnd plan N true c) (t : Bool)
     → Holds plan N (removing (record c {
       events = c.events
@@ -253,6 +263,7 @@ report_passes plan N c h t = removing_holds plan N (h.i + 1)
 
 -- the removed files are files of the plan
 
+-- each of these files is at a place of the plan
 all_at : (plan : Plan) (fs : List File) (i : ℕ) → AllFiles plan fs → i < length fs → is_file plan (file_at fs i).place ≡ true
 all_at plan [] i a lt = absurd (omega arith)
 all_at plan (f ∷ fs) zero a lt = a.0
@@ -261,17 +272,20 @@ all_at plan (f ∷ fs) (suc i) a lt = all_at plan fs i a.1 (omega arith)
 job_there : (plan : Plan) (job : Job) → plan.link ≡ Some job → (j : ℕ) → job_at plan j ≡ get_or (plan.jobs ++ job ∷ []) j no_job
 job_there plan job is j = ap (λ l. get_or (plan.jobs ++ option_to_list l) j no_job) is
 
+-- with the link the files that are due are at places of the plan
 link_all : (plan : Plan) (job : Job) (claimed : ℕ → ℕ) → plan.link ≡ Some job → AllFiles plan (due_files plan job claimed)
 link_all plan job claimed is = due_all plan job claimed
     (λ j lt. job_all plan (0 + j) (claimed (0 + j)) (get_or (plan.jobs ++ job ∷ []) j no_job)
     (ap (λ n. job_at plan n) (let e : 0 + j ≡ j = omega arith in e) ∙ job_there plan job is j))
 
+-- past the end of a list of jobs there is no job
 padded : (jobs : List Job) (i : ℕ) → length jobs ≤ i → get_or (jobs ++ no_job ∷ []) i no_job ≡ no_job
 padded [] zero le = refl
 padded [] (suc i) le = refl
 padded (job ∷ jobs) zero le = absurd (omega arith)
 padded (job ∷ jobs) (suc i) le = padded jobs i (omega arith)
 
+-- without the link the removed files are files of the plan
 no_link_all : (plan : Plan) (claimed : ℕ → ℕ) → AllFiles plan (due_files plan no_job claimed)
 no_link_all plan claimed = due_all plan no_job claimed (λ j lt. by j (nat_lt j (length plan.jobs)) refl)
   where
@@ -287,6 +301,7 @@ no_link_all plan claimed = due_all plan no_job claimed (λ j lt. by j (nat_lt j 
     by j false e = subst (λ job. AllFiles plan (due_of_job (0 + j) job (claimed (0 + j))))
         (sym (padded plan.jobs j (is_not_less j (length plan.jobs) e))) (none_due (0 + j) (claimed (0 + j)))
 
+-- the files that are due are at places of the plan, whether the link runs or not
 by_link : (plan : Plan) (code : ℕ) (claimed : ℕ → ℕ) → AllFiles plan (due_files plan (link_by plan.link code) claimed)
 by_link plan code claimed = by plan.link refl
   where
@@ -298,6 +313,7 @@ by_link plan code claimed = by plan.link refl
     by None is = no_link_all plan claimed
     by (Some job) is = runs job is (nat_eq code 0)
 
+-- each file that is removed at the end is at a place of the plan
 pub file_there : (plan : Plan) (N i : ℕ) (failed : Bool) (E : List RunEvent) (e : Ending plan N i failed E)
     → i < length (end_files plan N i failed E e) → is_file plan (file_at (end_files plan N i failed E e) i).place ≡ true
 file_there plan N i failed E e lt = all_at plan (end_files plan N i failed E e) i

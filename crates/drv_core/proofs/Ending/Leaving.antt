@@ -22,19 +22,22 @@ use Rattle.std.specs.List.{filter}
 use Rattle.std.specs.Option.{option_to_list}
 use Rattle.std.specs.Prelude.{replicate}
 
--- For the end of `Run`: the code removes the files that are to be removed.
+-- For the end of `Run`: the code removes the files that are to be removed. Of all leftover files (`files_from`) its flags leave those of
+-- `due_files`: the claimed temporaries and the marked files, each path once.
 
--- whether the code has noted that the link was run; its job then
+-- the link's job, by whether the code has noted that the link was run
 pub data LinkNoted (plan : Plan) (x : Leftovers) : Job → Type 0 where
   was_run : x.linked ≡ true → LinkNoted plan x (link_of plan.link)
   was_not_run : x.linked ≡ false → get_or x.claimed (length plan.jobs) 0 ≡ 0 → LinkNoted plan x no_job
 
+-- counts that agree on these jobs give the same due files
 due_same : (k : ℕ) (jobs : List Job) (f g : ℕ → ℕ) → ((j : ℕ) → k ≤ j → j < k + length jobs → f j ≡ g j)
     → due_from k jobs f ≡ due_from k jobs g
 due_same k [] f g same = refl
 due_same k (job ∷ jobs) f g same = ap (λ n. due_of_job k job n ++ due_from (k + 1) jobs f) (same k (omega arith) (omega arith))
     ∙ ap (λ l. due_of_job k job (g k) ++ l) (due_same (k + 1) jobs f g (λ j le lt. same j (omega (arith, le)) (omega (arith, lt))))
 
+-- of the sources' files those are left that are due
 jobs_due : (x : Leftovers) (k : ℕ) (jobs : List Job) → k + length jobs ≤ x.sources
     → filter (left_file x.claimed x.sources x.linked) (files_from k jobs) ≡ due_from k jobs (λ j. get_or x.claimed j 0)
 jobs_due x k [] few = refl
@@ -43,6 +46,7 @@ jobs_due x k (job ∷ jobs) few = filter-append (left_file x.claimed x.sources x
     (ap (λ (t : Bool). t || x.linked) (less k x.sources (omega (arith, few)))))
     ∙ ap (λ l. due_of_job k job (get_or x.claimed k 0) ++ l) (jobs_due x (k + 1) jobs (omega (arith, few)))
 
+-- of the link's files those are left that are due, whether the link was run or not
 link_due : (plan : Plan) (x : Leftovers) (job : Job) (k : ℕ) → k ≡ length plan.jobs → x.sources ≡ length plan.jobs → LinkNoted plan x job
     → filter (left_file x.claimed x.sources x.linked) (files_from k (option_to_list plan.link)) ≡ due_of_job k job (get_or x.claimed k 0)
 link_due plan x job k at many (was_run run) = by plan.link
@@ -66,6 +70,7 @@ link_due plan x job k at many (was_not_run run nothing) = by plan.link
     by (Some j) = ap (λ l. filter (left_file x.claimed x.sources x.linked) l) (append-nil (job_files k j))
         ∙ job_not_due x.claimed x.sources x.linked k j past (ap (λ n. get_or x.claimed n 0) at ∙ nothing)
 
+-- of all leftover files those are left that are due by the events
 all_due : (plan : Plan) (x : Leftovers) (job : Job) (E : List RunEvent) → x.sources ≡ length plan.jobs → Counted (length plan.jobs) x E
     → LinkNoted plan x job → filter (left_file x.claimed x.sources x.linked) (all_files plan) ≡ due_from 0 (plan.jobs ++ job ∷ [])
     (λ k. tally k E)
@@ -80,7 +85,7 @@ all_due plan x job E many c l = ap (λ fs. filter (left_file x.claimed x.sources
     ∙ due_same 0 (plan.jobs ++ job ∷ []) (λ j. get_or x.claimed j 0) (λ k. tally k E)
     (λ j le lt. c.counts j (let len : length (plan.jobs ++ job ∷ []) ≡ length plan.jobs + 1 = length-append {A = Job} plan.jobs (job ∷ []) in omega (arith, len, lt)))
 
--- the files that the code removes while none is gone
+-- the files that the code removes, while none is removed yet, are those that are due
 pub due_places : (plan : Plan) (x : Leftovers) (job : Job) (E : List RunEvent) → x.files ≡ numbered_files [] (all_files plan)
     → x.gone ≡ replicate (length (all_files plan)) false → x.sources ≡ length plan.jobs → Counted (length plan.jobs) x E
     → LinkNoted plan x job
@@ -91,5 +96,6 @@ due_places plan x job E files gone many c l = ap (λ fs. map place_in (each_once
     ∙ ap (λ g. to_remove x g (map (numbered (number_in (all_files plan))) (all_files plan))) (sym gone)
     ∙ ap (λ ls. to_remove x x.gone ls) (sym (numbered_are (all_files plan) [] (all_files plan) refl) ∙ sym files)
 
+-- the code's list has as many leftovers as there are files
 pub many_lefts : (fs : List File) → length (numbered_files [] fs) ≡ length fs
 many_lefts fs = ap (λ (l : List Leftover). length l) (numbered_are fs [] fs refl) ∙ length-map fs (numbered (number_in fs))

@@ -32,8 +32,10 @@ use Rattle.std.proofs.Math.Seq.{get_or-append_seam}
 use Rattle.std.proofs.lemmas.Cmp.{nat_eq_equiv}
 use Rattle.std.specs.Option.{option_to_list}
 
--- For the link in `Run`: after the sources each step can be made, and uses up one of the events that can come.
+-- For the link in `Run`: after the sources each step can be made, and uses up one of the events that can come. `Linking` is what is known
+-- while it runs, `Ending` while files are removed after it.
 
+-- the link is at stage s, after the events of the sources and some of its own
 pub record Linking (plan : Plan) (N most : ℕ) (job : Job) (s : Stage) (E : List RunEvent) : Type 0 where
   pub sources : List RunEvent
   pub own : List RunEvent
@@ -46,9 +48,11 @@ pub record Linking (plan : Plan) (N most : ℕ) (job : Job) (s : Stage) (E : Lis
   pub pipe : pipe_pending E ≡ piped s
   pub bound : length E + cost job s ≤ most
 
+-- if all sources have ended, their events are a run of them
 abbrev pub over_ran : (plan : Plan) (N most : ℕ) (f : Fleet) (E : List RunEvent) → Over plan.jobs N most f E → Ran plan.jobs N E
 over_ran plan N most f E o = sources_ran plan.jobs N o.landed.st f.current E o.landed.run o.landed.all
 
+-- if all succeeded and there is a link, it begins
 pub link_starts : (plan : Plan) (N most : ℕ) (f : Fleet) (job : Job) (E : List RunEvent) → Filled job → Over plan.jobs N most f E
     → plan.link ≡ Some job → nat_eq (run_code E) 0 ≡ true → Linking plan N (most + first_cost job) job (begin job) E
 link_starts plan N most f job E filled o is ok = record {
@@ -65,6 +69,7 @@ link_starts plan N most f job E filled o is ok = record {
   bound = (let le = o.bound in omega (arith, le));
 }
 
+-- after an answer that fits, it is at the next stage
 pub link_takes : (plan : Plan) (N most : ℕ) (job : Job) (s : Stage) (E : List RunEvent) (a : Answer) → Filled job
     → Linking plan N most job s E → left s ≡ true → is_kind (asked (asks (length plan.jobs) job s)) a ≡ true
     → Linking plan N most job (after job s a) (E ++ event (asked (asks (length plan.jobs) job s)) a ∷ [])
@@ -89,6 +94,7 @@ link_job : (plan : Plan) (job : Job) → plan.link ≡ Some job → job_at plan 
 link_job plan job is = ap (λ l. get_or (plan.jobs ++ option_to_list l) (length plan.jobs) no_job) is
     ∙ get_or-append_seam plan.jobs job [] no_job
 
+-- the link's next step can be made
 pub link_makes : (plan : Plan) (N most : ℕ) (job : Job) (s : Stage) (E : List RunEvent) → plan.link ≡ Some job → Linking plan N most job s E
     → left s ≡ true → can_make plan E (asked (asks (length plan.jobs) job s)) ≡ true
 link_makes plan N most job s E is k more = subst (λ j. can_make plan E (asked (asks (length plan.jobs) j s)) ≡ true) (link_job plan job is)
@@ -96,6 +102,7 @@ link_makes plan N most job s E is k more = subst (λ j. can_make plan E (asked (
     (subst (λ j. Sized j s) (sym (link_job plan job is)) k.sized)
     (open_at (length plan.jobs) job s E k.alone.valid k.opens) more k.pipe)
 
+-- while the link runs, fewer events came than may come
 pub link_fewer : (plan : Plan) (N most : ℕ) (job : Job) (s : Stage) (E : List RunEvent) → Linking plan N most job s E → left s ≡ true
     → length E < most
 link_fewer plan N most job s E k more =
@@ -105,11 +112,13 @@ link_fewer plan N most job s E k more =
 
 -- the events so far are the beginning of a whole run
 
+-- while the sources run, the events are the beginning of a whole run
 pub sure_begins : (plan : Plan) (N most : ℕ) (f : Fleet) (E : List RunEvent) → 1 ≤ N → ((job : Job) → plan.link ≡ Some job → Filled job)
     → Sure plan.jobs N most f E → IsBeginning plan N E
 sure_begins plan N most f E some filled s = begun_sources plan N E filled
     (sources_begin plan.jobs N s.going.st f.current E some s.going.run)
 
+-- while the link runs, the events are the beginning of a whole run
 pub link_begins : (plan : Plan) (N most : ℕ) (job : Job) (s : Stage) (E : List RunEvent) → Linking plan N most job s E
     → IsBeginning plan N E
 link_begins plan N most job s E k = subst (λ l. IsBeginning plan N l) (sym k.split)
@@ -118,6 +127,7 @@ link_begins plan N most job s E k = subst (λ l. IsBeginning plan N l) (sym k.sp
 
 -- The removals at the end: i of them are made, and `failed` says whether the next one has failed.
 
+-- the sources and the link are done, and of the files to be removed i are removed; `failed`: the next one's removal has failed
 pub record Ending (plan : Plan) (N i : ℕ) (failed : Bool) (E : List RunEvent) : Type 0 where
   pub sources : List RunEvent
   pub own : List RunEvent
@@ -127,6 +137,7 @@ pub record Ending (plan : Plan) (N i : ℕ) (failed : Bool) (E : List RunEvent) 
   pub link : AloneRan (length plan.jobs) (link_run plan.link ran.run.answers) own
   pub removing : Removing (removed_at_end plan (answers ran.run.answers link.a [])) i failed last
 
+-- after the link no file is removed yet
 abbrev pub end_of_link : (plan : Plan) (N most : ℕ) (job : Job) (E : List RunEvent) → Linking plan N most job Ended E
     → Ending plan N 0 false E
 end_of_link plan N most job E k = record {
@@ -142,6 +153,7 @@ end_of_link plan N most job E k = record {
     ended : AloneRan (length plan.jobs) (link_run plan.link k.ran.run.answers) k.own
     ended = subst (λ j. AloneRan (length plan.jobs) j k.own) (sym k.runs) (alone_ran (length plan.jobs) job k.own k.alone)
 
+-- after the sources, where no link runs, no file is removed yet
 abbrev pub end_of_sources : (plan : Plan) (N most : ℕ) (f : Fleet) (E : List RunEvent) → Over plan.jobs N most f E
     → link_by plan.link (run_code E) ≡ no_job → Ending plan N 0 false E
 end_of_sources plan N most f E o none = record {
@@ -158,16 +170,18 @@ end_of_sources plan N most f E o none = record {
     quiet = subst (λ j. AloneRan (length plan.jobs) j []) (sym (link_is plan N E (over_ran plan N most f E o) ∙ none))
         (record { a = no_answers; all = refl; events = refl })
 
+-- while files are removed, the events are the beginning of a whole run
 pub end_begins : (plan : Plan) (N i : ℕ) (failed : Bool) (E : List RunEvent) → Ending plan N i failed E → IsBeginning plan N E
 end_begins plan N i failed E e = subst (λ l. IsBeginning plan N l) (sym e.split) (begun_removals plan N e.sources e.own e.last e.ran e.link
     (removals_begin (removed_at_end plan (answers e.ran.run.answers e.link.a [])) i failed e.last e.removing))
 
+-- after the last removal the events are a whole run
 pub end_whole : (plan : Plan) (N i : ℕ) (E : List RunEvent) → (e : Ending plan N i false E)
     → i ≡ length (removed_at_end plan (answers e.ran.run.answers e.link.a [])) → IsWhole plan N E
 end_whole plan N i E e all = subst (λ l. IsWhole plan N l) (sym e.split) (done_removals plan N e.sources e.own e.last e.ran e.link
     (subst (λ n. Removing (removed_at_end plan (answers e.ran.run.answers e.link.a [])) n false e.last) all e.removing))
 
--- the files that they remove
+-- the files that are removed at the end are those that are due by the events of sources and link
 pub files_are : (plan : Plan) (N i : ℕ) (failed : Bool) (E : List RunEvent) → (e : Ending plan N i failed E)
     → removed_at_end plan (answers e.ran.run.answers e.link.a []) ≡ due_files plan (link_by plan.link (run_code e.sources))
     (λ k. tally k (e.sources ++ e.own))

@@ -15,16 +15,19 @@ use Rattle.std.specs.Cmp.Lexicographic.{pointwise}
 use Rattle.std.specs.List.{filter, list_any}
 use Rattle.std.specs.Prelude.{⊤, slice_set}
 
--- For the end of `Run`: of the leftover files, the code removes those that are to be removed at the end.
+-- For the end of `Run`: of the leftover files, the code removes those that are to be removed at the end. It keeps a number for each path
+-- (that of its first file) and a flag for each number (`gone`), where the definition keeps a list of the paths that it has seen; `once_is`
+-- says that both leave the same files.
 
 -- the code finds the next file
 
+-- the code's search gives the next file that is due, or says that none is
 pub record Found (x : Leftovers) (ls : List Leftover) (at : ℕ) : Type 0 where
   pub due : at < length x.files → to_remove x x.gone ls ≡ (get_or x.files at no_leftover).place ∷ to_remove x
       (slice_set x.gone (get_or x.files at no_leftover).first true) (drop (at + 1) x.files)
   pub none_due : length x.files ≤ at → to_remove x x.gone ls ≡ []
 
--- the same, if it is known whether the first file is due
+-- what `Found` says, where it is known whether the first file is due
 record FoundBy (x : Leftovers) (i : ℕ) (l : Leftover) (ls : List Leftover) (t : Bool) (at : ℕ) : Type 0 where
   due : at < length x.files → (if t then l.place ∷ to_remove x (slice_set x.gone l.first true) ls else to_remove x x.gone ls)
       ≡ (get_or x.files at no_leftover).place ∷ to_remove x (slice_set x.gone (get_or x.files at no_leftover).first true)
@@ -35,6 +38,7 @@ known : (x : Leftovers) (i : ℕ) (l : Leftover) (ls : List Leftover)
     → FoundBy x i l ls (is_due x x.gone l) (if is_due x x.gone l then i else sought x (i + 1) ls) → Found x (l ∷ ls) (sought x i (l ∷ ls))
 known x i l ls f = record { due = f.due; none_due = f.none_due }
 
+-- the code's search from the i-th file on finds the next file that is due
 pub found : (x : Leftovers) (i : ℕ) (ls : List Leftover) → drop i x.files ≡ ls → Found x ls (sought x i ls)
 found x i [] is = record {
   due =
@@ -74,9 +78,11 @@ take_none : (n : ℕ) → take {A = File} n [] ≡ []
 take_none zero = refl
 take_none (suc n) = refl
 
+-- whether a file is due: a claimed temporary, or a marked file of a source or of a link that ran
 abbrev pub left_file : List ℕ → ℕ → Bool → File → Bool
 left_file claimed sources linked f = is_left claimed sources linked f.place
 
+-- of a job's temporaries the first ones are due, as many as were claimed
 temps_due : (claimed : List ℕ) (sources : ℕ) (linked : Bool) (k i : ℕ) (ts : List Temp)
     → filter (left_file claimed sources linked) (temp_files k i ts) ≡ take (get_or claimed k 0 - i) (temp_files k i ts)
 temps_due claimed sources linked k i [] = sym (take_none (get_or claimed k 0 - i))
@@ -96,6 +102,7 @@ temps_due claimed sources linked k i (t ∷ ts) = by (nat_lt i (get_or claimed k
         (let le : get_or claimed k 0 ≤ i = is_not_less i (get_or claimed k 0) e in let z : 0 ≡ get_or claimed k 0 - i = omega (arith, le) in
         z)
 
+-- of a job's marked files all are due, or none if it is a link that was not run
 marked_due : (claimed : List ℕ) (sources : ℕ) (linked : Bool) (k i : ℕ) (ms : List (List ℕ))
     → filter (left_file claimed sources linked) (marked_files k i ms) ≡ (if (nat_lt k sources || linked) then marked_files k i ms else [])
 marked_due claimed sources linked k i [] = by (nat_lt k sources || linked)
@@ -112,7 +119,7 @@ marked_due claimed sources linked k i (m ∷ ms) = by (nat_lt k sources || linke
     by true ih = ap (λ l. record { place = place.Marked k i; path = m } ∷ l) ih
     by false ih = ih
 
--- the files of a job that was run
+-- of the files of a job that was run those are left that are due
 pub job_due : (claimed : List ℕ) (sources : ℕ) (linked : Bool) (k : ℕ) (job : Job) → (nat_lt k sources || linked) ≡ true
     → filter (left_file claimed sources linked) (job_files k job) ≡ due_of_job k job (get_or claimed k 0)
 job_due claimed sources linked k job ran = by (none job.groups)
@@ -131,7 +138,7 @@ job_due claimed sources linked k job ran = by (none job.groups)
     by true = refl
     by false = both
 
--- the files of a link that was not run
+-- of the files of a link that was not run none is left
 pub job_not_due : (claimed : List ℕ) (sources : ℕ) (linked : Bool) (k : ℕ) (job : Job) → (nat_lt k sources || linked) ≡ false
     → get_or claimed k 0 ≡ 0 → filter (left_file claimed sources linked) (job_files k job) ≡ []
 job_not_due claimed sources linked k job ran nothing = by (none job.groups)
@@ -150,6 +157,7 @@ job_not_due claimed sources linked k job ran nothing = by (none job.groups)
 
 -- each path once, by a flag for each number of a path
 
+-- each of these files has the property
 abbrev pub Each : (File → Type 0) → List File → Type 0
 Each P [] = ⊤
 Each P (f ∷ fs) = P f × Each P fs
@@ -167,12 +175,15 @@ abbrev pub Numbered : (List ℕ → ℕ) → List File → Type 0
 Numbered num [] = ⊤
 Numbered num (f ∷ fs) = Each (λ g. pointwise nat_eq g.path f.path ≡ nat_eq (num f.path) (num g.path)) fs × Numbered num fs
 
+-- a file with the number of its path
 abbrev pub numbered : (List ℕ → ℕ) → File → Leftover
 numbered num f = record { place = f.place; first = num f.path }
 
+-- the flag of a file's path says whether the path was seen
 abbrev pub Flagged : (List ℕ → ℕ) → List Bool → List (List ℕ) → File → Type 0
 Flagged num gone seen f = (num f.path < length gone) × (get_or gone (num f.path) false ≡ list_any (pointwise nat_eq f.path) seen)
 
+-- after one more path was removed, the flags still say which paths were seen
 flag_more : (num : List ℕ → ℕ) (gone : List Bool) (seen : List (List ℕ)) (f g : File) → num f.path < length gone
     → pointwise nat_eq g.path f.path ≡ nat_eq (num f.path) (num g.path) → Flagged num gone seen g
     → Flagged num (slice_set gone (num f.path) true) (f.path ∷ seen) g
@@ -191,12 +202,14 @@ flag_more num gone seen f g room alike old = (
         (ap (λ n. nat_eq (num f.path) n) is ∙ nat_eq_equiv.refl (num f.path)) e) ∙ old.1
         ∙ ap (λ (t : Bool). t || list_any (pointwise nat_eq g.path) seen) (sym (alike ∙ e))
 
+-- each path once, where it is known whether the first file is left
 kept_is : (seen : List (List ℕ)) (f : File) (rest : List File) (t : Bool) → each_once seen (if t then f ∷ rest else rest)
     ≡ (if t then (if list_any (pointwise nat_eq f.path) seen then each_once seen rest else f ∷ each_once (f.path ∷ seen)
     rest) else each_once seen rest)
 kept_is seen f rest true = refl
 kept_is seen f rest false = refl
 
+-- each path once, by the flags as by the list of paths
 pub once_is : (x : Leftovers) (num : List ℕ → ℕ) (gone : List Bool) (seen : List (List ℕ)) (fs : List File) → Numbered num fs
     → Each (Flagged num gone seen) fs
     → map place_in (each_once seen (filter (left_file x.claimed x.sources x.linked) fs)) ≡ to_remove x gone (map (numbered num) fs)

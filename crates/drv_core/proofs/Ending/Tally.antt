@@ -31,10 +31,12 @@ use Rattle.std.proofs.Common.{get_or, if◌then◌else◌, length, nat_eq, nat_l
 use Rattle.std.proofs.lemmas.Bool.Decides.{nat_tests}
 use Rattle.std.proofs.lemmas.Cmp.{nat_eq_equiv}
 
--- For the end of `Run`: the events tell how many temporaries of each job were claimed, and so which files are removed at the end.
+-- For the end of `Run`: the events tell how many temporaries of each job were claimed (`tally`), and so which files are removed at the end
+-- (`due_at_end`).
 
 -- in the events of a story
 
+-- a sum over two lists of blocks is that over the one and that over the other
 both_append : (f : RunEvent → ℕ) (xs ys : List Block) → total f (events_of (xs ++ ys)) ≡ total f (events_of xs) + total f (events_of ys)
 both_append f [] ys = refl_plus (total f (events_of ys))
   where
@@ -46,6 +48,7 @@ both_append f (x ∷ xs) ys =
     let rest : total f (events_of (xs ++ ys)) ≡ total f (events_of xs) + total f (events_of ys) = both_append f xs ys in
     omega (arith, all, front, rest)
 
+-- the events of a job's claims show as many as its answers claimed
 claims_told : (k j i : ℕ) (cs : List (Told ClaimAnswer)) → tally k (events_of (claim_blocks j i cs))
     ≡ (if nat_eq j k then claimed_count cs else 0)
 claims_told k j i [] = by (nat_eq j k)
@@ -67,6 +70,7 @@ no_claim_close : (k : ℕ) (t : Bool) → tally k (if t then event step.ClosePip
 no_claim_close k true = refl
 no_claim_close k false = refl
 
+-- starts claim no temporary
 no_claim_starts : (k j g n i : ℕ) (refused : Bool) (xs : List StartAnswer) → tally k (starts_block j g n i refused xs) ≡ 0
 no_claim_starts k j g n i refused [] = refl
 no_claim_starts k j g n i refused (Started id ∷ xs) =
@@ -76,11 +80,13 @@ no_claim_starts k j g n i refused (NotStarted why ∷ xs) =
     let e : tally k (if nat_lt 0 i then event step.ClosePipe answer.Closed ∷ [] else []) ≡ 0 = no_claim_close k (nat_lt 0 i) in
     omega (arith, e)
 
+-- the report of a wait claims no temporary
 no_claim_report : (k : ℕ) (p : Place) (x : WaitAnswer) (told : Bool) → tally k (wait_report p x told) ≡ 0
 no_claim_report k p (Exit n) told = refl
 no_claim_report k p Signal told = refl
 no_claim_report k p Lost told = refl
 
+-- waits claim no temporary
 no_claim_waits : (k j g i : ℕ) (xs : List StartAnswer) (ws : List (Told WaitAnswer)) → tally k (events_of (wait_blocks j g i xs ws)) ≡ 0
 no_claim_waits k j g i [] ws = refl
 no_claim_waits k j g i (Started id ∷ xs) [] = refl
@@ -93,6 +99,7 @@ no_claim_waits k j g i (Started id ∷ xs) (w ∷ ws) =
     total_append (claims_in k) (wait_block j g i id w) (events_of (wait_blocks j g (i + 1) xs ws)) in
     omega (arith, rest, told, all)
 
+-- those of groups show none
 no_claim_groups : (k j g : ℕ) (cs : List (List Command)) (xs : List GroupAnswers) → tally k (events_of (group_blocks j g cs xs)) ≡ 0
 no_claim_groups k j g [] xs = refl
 no_claim_groups k j g (c ∷ cs) [] = refl
@@ -107,6 +114,7 @@ no_claim_groups k j g (c ∷ cs) (a ∷ xs) =
     both_append (claims_in k) (starts_block j g (length c) 0 a.refused a.starts ∷ wait_blocks j g 0 a.starts a.waits)
     (group_blocks j (g + 1) cs xs) ∙ omega (arith, rest, starts, waits, here)
 
+-- removals claim no temporary
 no_claim_removals : (k j i : ℕ) (rs : List (Told RemoveAnswer)) → tally k (events_of (own_removals j i rs)) ≡ 0
 no_claim_removals k j i [] = refl
 no_claim_removals k j i (r ∷ rs) = by (removal_failed r.answer) (no_claim_removals k j (i + 1) rs)
@@ -117,6 +125,7 @@ no_claim_removals k j i (r ∷ rs) = by (removal_failed r.answer) (no_claim_remo
     by true e = omega (arith, e)
     by false e = omega (arith, e)
 
+-- the events of a story show the claims of its job's answers
 pub story_tally : (k j : ℕ) (job : Job) (a : JobAnswers)
     → tally k (events_of (story j job a)) ≡ (if nat_eq j k then claimed_count a.claims else 0)
 story_tally k j job a =
@@ -134,6 +143,7 @@ story_tally k j job a =
 
 -- in the events of all sources
 
+-- a sum of which one part grows by c
 summed_with : (n k c : ℕ) (f g : ℕ → ℕ) → k < n → g k ≡ c + f k → ((j : ℕ) → nat_eq k j ≡ false → g j ≡ f j) → summed n g ≡ c + summed n f
 summed_with zero k c f g lt at others = absurd (omega arith)
 summed_with (suc n) k c f g lt at others = by (nat_eq k n) refl (λ below. summed_with n k c f g below at others)
@@ -153,6 +163,7 @@ no_sum : (n : ℕ) → 0 ≡ summed n (λ j. 0)
 no_sum zero = refl
 no_sum (suc n) = let e : 0 ≡ summed n (λ j. 0) = no_sum n in omega (arith, e)
 
+-- a sum over all blocks is that over each source's blocks
 blocks_total : (n : ℕ) (f : RunEvent → ℕ) (blocks : List SourceBlock) → Below n blocks → total f (events_of (blocks_of blocks))
     ≡ summed n (λ j. total f (events_of (of j blocks)))
 blocks_total n f [] below = no_sum n
@@ -163,6 +174,7 @@ blocks_total n f (b ∷ bs) below = total_append f b.block (events_of (blocks_of
     ∙ total_append f b.block (events_of (of b.source bs)))
     (λ j e. ap (λ (t : Bool). total f (events_of (if t then b.block ∷ of j bs else of j bs))) e))
 
+-- each source's blocks are its story
 pub told_at : (blocks : List SourceBlock) (k : ℕ) (jobs : List Job) (xs : List JobAnswers) → whole_jobs jobs xs ≡ true
     → TellStories blocks k jobs xs → (j : ℕ) → j < length jobs → of (k + j) blocks ≡ story (k + j) (get_or jobs j no_job)
     (get_or xs j no_answers)
@@ -173,6 +185,7 @@ told_at blocks k (job ∷ jobs) (a ∷ xs) w t (suc j) lt =
     subst (λ n. of n blocks ≡ story n (get_or jobs j no_job) (get_or xs j no_answers)) (let e : k + 1 + j ≡ k + suc j = omega arith in e)
     (told_at blocks (k + 1) jobs xs (and_second (whole_job job a) (whole_jobs jobs xs) w) t.1 j (omega arith))
 
+-- a sum of which one part alone is not 0
 summed_only : (n k : ℕ) (c : ℕ → ℕ) → k < n → summed n (λ j. if nat_eq j k then c j else 0) ≡ c k
 summed_only n k c lt = summed_with n k (c k) (λ j. 0) (λ j. if nat_eq j k then c j else 0) lt
     (ap (λ (t : Bool). if t then c k else 0) (nat_eq_equiv.refl k) ∙ plus (c k)) (λ j e. other j (nat_eq j k) refl e)
@@ -186,6 +199,7 @@ summed_only n k c lt = summed_with n k (c k) (λ j. 0) (λ j. if nat_eq j k then
         (let is : j ≡ k = same j k e in let clash : true ≡ false = sym (nat_eq_equiv.refl k) ∙ subst (λ i. nat_eq k i ≡ false) is h in cc)
     other j false e h = refl
 
+-- the events of all sources show the claims of source k
 pub sources_tally : (jobs : List Job) (N : ℕ) (blocks : List SourceBlock) (run : SourcesRun jobs N blocks) (k : ℕ) → k < length jobs
     → tally k (events_of (blocks_of blocks)) ≡ claimed_count (get_or run.answers k no_answers).claims
 sources_tally jobs N blocks run k lt = blocks_total (length jobs) (claims_in k) blocks
@@ -201,6 +215,7 @@ sources_tally jobs N blocks run k lt = blocks_total (length jobs) (claims_in k) 
         (told_at blocks 0 jobs run.answers run.all run.stories j below))
         ∙ story_tally k j (get_or jobs j no_job) (get_or run.answers j no_answers)
 
+-- the events of all sources show no claim of a number that no source has
 pub sources_none : (jobs : List Job) (N : ℕ) (blocks : List SourceBlock) (run : SourcesRun jobs N blocks) (k : ℕ) → length jobs ≤ k
     → tally k (events_of (blocks_of blocks)) ≡ 0
 sources_none jobs N blocks run k past = blocks_total (length jobs) (claims_in k) blocks
@@ -217,6 +232,7 @@ sources_none jobs N blocks run k past = blocks_total (length jobs) (claims_in k)
 
 -- the files
 
+-- the files of the sources and of one more job
 files_append : (k : ℕ) (jobs : List Job) (xs : List JobAnswers) (job : Job) (a : JobAnswers) → whole_jobs jobs xs ≡ true
     → files_of_jobs k (jobs ++ job ∷ []) (xs ++ a ∷ []) ≡ files_of_jobs k jobs xs ++ files_of_job (k + length jobs) job a
 files_append k [] [] job a w = append_none (files_of_job k job a) ∙ ap (λ n. files_of_job n job a) (let e : k ≡ k + 0 = omega arith in e)
@@ -232,6 +248,7 @@ files_append k (j ∷ jobs) (x ∷ xs) job a w = ap (λ l. files_of_job k j x ++
     (let e : k + 1 + length jobs ≡ k + length (j ∷ jobs) = omega arith in e)
     ∙ sym (append_assoc (files_of_job k j x) (files_of_jobs (k + 1) jobs xs) (files_of_job (k + length (j ∷ jobs)) job a))
 
+-- the files that are due of the jobs and of one more job
 pub due_append : (k : ℕ) (jobs : List Job) (job : Job) (claimed : ℕ → ℕ) → due_from k (jobs ++ job ∷ []) claimed ≡ due_from k jobs claimed
     ++ due_of_job (k + length jobs) job (claimed (k + length jobs))
 due_append k [] job claimed = append-nil (due_of_job k job (claimed k))
@@ -242,6 +259,7 @@ due_append k (j ∷ jobs) job claimed = ap (λ l. due_of_job k j (claimed k) ++ 
     ∙ sym (append_assoc (due_of_job k j (claimed k)) (due_from (k + 1) jobs claimed)
     (due_of_job (k + length (j ∷ jobs)) job (claimed (k + length (j ∷ jobs)))))
 
+-- the files of the sources that are removed at the end are those that are due by their claims
 due_sources : (k : ℕ) (jobs : List Job) (xs : List JobAnswers) (claimed : ℕ → ℕ) → whole_jobs jobs xs ≡ true
     → ((j : ℕ) → j < length jobs → claimed (k + j) ≡ claimed_count (get_or xs j no_answers).claims)
     → files_of_jobs k jobs xs ≡ due_from k jobs claimed
@@ -257,7 +275,7 @@ due_sources k (job ∷ jobs) (a ∷ xs) claimed w counts =
     (λ j lt. subst (λ n. claimed n ≡ claimed_count (get_or xs j no_answers).claims) (let e : k + suc j ≡ k + 1 + j = omega arith in e)
     (counts (suc j) (omega arith))))
 
--- the files that are removed at the end
+-- the files that are removed at the end are those that are due by the number of claims of each job
 pub due_at_end : (plan : Plan) (o : Answers) (claimed : ℕ → ℕ) → whole_jobs plan.jobs o.jobs ≡ true
     → whole_job (link_run plan.link o.jobs) o.link ≡ true
     → ((j : ℕ) → j < length plan.jobs → claimed j ≡ claimed_count (get_or o.jobs j no_answers).claims)

@@ -27,7 +27,8 @@ use Rattle.std.proofs.Common.{◌≡◌, ◌≤◌, ◌&&◌, ◌||◌, ◌+◌,
 use Rattle.std.proofs.Common.{min, nat_eq, nat_lt, not, refl, suc, zero, ℕ}
 use Rattle.std.specs.Prelude.{map}
 
--- Examples of runs, which the prover computes from the definitions.
+-- Examples of runs, which the prover computes from the definitions. NAME_whole: whether answers are complete. NAME_come: whether an order
+-- of blocks is permitted in a window. Others are the events in that order, the most events that a plan needs, and the status.
 
 -- the rules of a window as a test
 abbrev may_come : ℕ → ℕ → List SourceBlock → List SourceBlock → ℕ → Bool → Bool
@@ -48,6 +49,7 @@ below N c e = by (nat_lt N c) refl e
     by true is e = absurd cc
     by false is e = is_not_less N c is
 
+-- a block that passes the test may come
 is_may_come : (n N : ℕ) (before later : List SourceBlock) (k : ℕ) (wait : Bool) → may_come n N before later k wait ≡ true
     → MayCome n N (λ j. has j before) (λ j. has j later || nowhere j) (λ j. in_flight (of j before)) k wait
 is_may_come n N before later k wait e = record {
@@ -190,6 +192,7 @@ two_whole = refl
 two_status : status_of GreatestCode first_fails ≡ 3
 two_status = refl
 
+-- the events with a window of one: the second source goes on after the first has failed, and no link runs
 two_events : events two first_fails (0 ∷ 0 ∷ 0 ∷ 0 ∷ 1 ∷ 1 ∷ 1 ∷ 1 ∷ 1 ∷ 1 ∷ [])
     ≡ event (step.Claim (place.Temp 0 0)) (answer.Claim claim.Claimed) ∷ event (step.Claim (place.Temp 0 1)) (answer.Claim claim.Claimed)
     ∷ event (step.Start (place.Command 0 0 0) false false) (answer.Start (Started 0)) ∷ event (step.Wait (place.Command 0 0 0) 0)
@@ -249,6 +252,7 @@ objects_status = refl
 objects_come : all_may_come 2 1 [] (sources objects object_fails (0 ∷ 0 ∷ 0 ∷ 0 ∷ 1 ∷ 1 ∷ 1 ∷ 1 ∷ 1 ∷ [])) ≡ true
 objects_come = refl
 
+-- the events with a window of one: the failed source removes its object file at once
 objects_events : events objects object_fails (0 ∷ 0 ∷ 0 ∷ 0 ∷ 1 ∷ 1 ∷ 1 ∷ 1 ∷ 1 ∷ [])
     ≡ event (step.Claim (place.Temp 0 0)) (answer.Claim claim.Claimed)
     ∷ event (step.Start (place.Command 0 0 0) false false) (answer.Start (Started 0)) ∷ event (step.Wait (place.Command 0 0 0) 0)

@@ -11,7 +11,7 @@ use Rattle.drv_words.specs.declared.steps.Step.TheVariants as step
 use Rattle.drv_core.specs.Started.{commands_of, started_in}
 use Rattle.std.proofs.Common.{◌≡◌, List, [], ◌∷◌, None, Some, false, refl, true, ℕ}
 
--- Examples of the commands that events start, which the prover computes from the definition.
+-- Examples of the commands that events start (`started_in`), which the prover computes from the definition.
 
 abbrev called : ℕ → Command
 called name = record { program = name ∷ []; words = [] }

@@ -15,7 +15,8 @@ use Rattle.std.proofs.Common.{length, max, nat_eq, not, refl, sym, ℕ}
 use Rattle.std.proofs.lemmas.Bool.Decides.{nat_tests}
 use Rattle.std.specs.List.{list_any}
 
--- For linking_law and status_law: all sources succeeded exactly if the greatest code of their events is 0.
+-- For linking_law and status_law: all sources succeeded exactly if the greatest code of their events is 0. A code is the exit status of a
+-- child, or 1 for a child that did not end by itself, and for a failed claim or start.
 
 some_code : (a : ℕ) → nat_eq a 0 ≡ false → 0 < a
 some_code a e = grind (arith, nat_tests)
@@ -23,6 +24,7 @@ some_code a e = grind (arith, nat_tests)
 no_code : (a : ℕ) → nat_eq a 0 ≡ true → a ≡ 0
 no_code a e = grind (arith, nat_tests)
 
+-- the greater of two numbers is 0 exactly if both are
 zero_max : (a b : ℕ) (t u : Bool) → nat_eq a 0 ≡ t → nat_eq b 0 ≡ u → not (nat_eq (max a b) 0) ≡ (not t || not u)
 zero_max a b true true e h =
     let z : max a b ≡ 0 = (let x = no_code a e in let y = no_code b h in omega (arith, x, y)) in
@@ -30,6 +32,7 @@ zero_max a b true true e h =
 zero_max a b true false e h = let some : 0 < max a b = (let y = some_code b h in omega (arith, y)) in ap not (apart_above (max a b) 0 some)
 zero_max a b false u e h = let some : 0 < max a b = (let x = some_code a e in omega (arith, x)) in ap not (apart_above (max a b) 0 some)
 
+-- some item passes exactly if the greatest code of the items is not 0, where each passes by its own code
 any_code : {X : Type 0} (p : X → Bool) (f : X → ℕ) → ((x : X) → p x ≡ not (nat_eq (f x) 0)) → (xs : List X)
     → list_any p xs ≡ not (nat_eq (greatest f xs) 0)
 any_code p f is [] = refl
@@ -40,6 +43,7 @@ one_fault : (t : Bool) → not t ≡ not (nat_eq (if t then 0 else 1) 0)
 one_fault true = refl
 one_fault false = refl
 
+-- a group failed exactly if its greatest code is not 0
 group_is : (g : GroupAnswers) → group_failed g ≡ not (nat_eq (group_code g) 0)
 group_is g = ap (λ (t : Bool). t || list_any wait_failed g.waits) (any_code (λ s. not (is_started s)) (λ s. if is_started s then 0 else 1)
     (λ s. one_fault (is_started s)) g.starts)
@@ -48,6 +52,7 @@ group_is g = ap (λ (t : Bool). t || list_any wait_failed g.waits) (any_code (λ
     ∙ sym (zero_max (greatest (λ s. if is_started s then 0 else 1) g.starts) (greatest (λ w. code_of w.answer) g.waits)
     (nat_eq (greatest (λ s. if is_started s then 0 else 1) g.starts) 0) (nat_eq (greatest (λ w. code_of w.answer) g.waits) 0) refl refl)
 
+-- a job failed exactly if its greatest code is not 0
 pub job_is : (a : JobAnswers) → job_failed a ≡ not (nat_eq (job_code a) 0)
 job_is a = ap (λ (t : Bool). t || list_any group_failed a.groups) (any_code (λ c. not (is_claimed c.answer))
     (λ c. if is_claimed c.answer then 0 else 1) (λ c. one_fault (is_claimed c.answer)) a.claims)
@@ -60,9 +65,11 @@ twice : (t : Bool) → not (not t) ≡ t
 twice true = refl
 twice false = refl
 
+-- all sources succeeded exactly if the greatest code of their answers is 0
 pub all_is : (xs : List JobAnswers) → all_succeeded xs ≡ nat_eq (greatest job_code xs) 0
 all_is xs = ap not (any_code job_failed job_code job_is xs) ∙ twice (nat_eq (greatest job_code xs) 0)
 
+-- the greatest code of the sources' events is that of their answers
 pub sources_code : (jobs : List Job) (N : ℕ) (blocks : List SourceBlock) (run : SourcesRun jobs N blocks)
     → run_code (events_of (blocks_of blocks)) ≡ greatest job_code run.answers
 sources_code jobs N blocks run = code_blocks (length jobs) blocks (all_below (length jobs) N nowhere [] blocks run.may_come)
@@ -70,12 +77,13 @@ sources_code jobs N blocks run = code_blocks (length jobs) blocks (all_below (le
     (λ j lt. ap (λ i. run_code (events_of (of i blocks))) (let at : j ≡ 0 + j = omega arith in at))
     ∙ code_stories blocks 0 jobs run.answers run.all run.stories
 
+-- all sources succeeded exactly if the greatest code of their events is 0
 pub succeeded_is : (jobs : List Job) (N : ℕ) (E : List RunEvent) (ran : Ran jobs N E)
     → all_succeeded ran.run.answers ≡ nat_eq (run_code E) 0
 succeeded_is jobs N E ran = all_is ran.run.answers
     ∙ ap (λ n. nat_eq n 0) (sym (ap run_code ran.events ∙ sources_code jobs N ran.blocks ran.run))
 
--- the link's job, if it runs
+-- the link's job, if it runs: by the answers and by the events
 pub link_is : (plan : Plan) (N : ℕ) (E : List RunEvent) (ran : Ran plan.jobs N E)
     → link_run plan.link ran.run.answers ≡ link_by plan.link (run_code E)
 link_is plan N E ran = by plan.link

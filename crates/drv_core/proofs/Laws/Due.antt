@@ -11,12 +11,14 @@ use Rattle.drv_words.specs.declared.steps.Place.TheVariants as place
 use Rattle.std.proofs.Common.{◌≡◌, ◌+◌, ◌∙◌, ◌&&◌, Bool, false, true, List, [], ◌∷◌, ◌++◌, ap, if◌then◌else◌, length, nat_eq, not, refl}
 use Rattle.std.proofs.Common.{suc, take, ℕ}
 
--- For removal_law: the files that are removed at the end, by the number of claimed temporaries of each job.
+-- For removal_law: the files that are removed at the end, by the number of claimed temporaries of each job. A job claims its temporaries in
+-- order up to the first failure, so their number says which they are.
 
 no_temps : (k i : ℕ) (ts : List Temp) → claimed_temps k i ts [] ≡ []
 no_temps k i [] = refl
 no_temps k i (t ∷ ts) = refl
 
+-- the temporaries that were claimed are the first ones, as many as the answers claimed
 claimed_are : (k i : ℕ) (ts : List Temp) (cs : List (Told ClaimAnswer)) → whole_claims ts cs ≡ true
     → claimed_temps k i ts cs ≡ take (claimed_count cs) (temp_files k i ts)
 claimed_are k i [] [] e = refl
@@ -37,7 +39,7 @@ claimed_are k i (t ∷ ts) (c ∷ cs) e = by (is_claimed c.answer) e (λ w. clai
     by true w ih = ap (λ l. record { place = place.Temp k i; path = t.path } ∷ l) (ih w)
     by false w ih = last cs w
 
--- a job with groups makes a call
+-- a job with groups, whose answers are complete, makes a call: its files are removed at the end
 makes_call : (job : Job) (cs : List (Told ClaimAnswer)) (gs : List GroupAnswers) → none job.groups ≡ false
     → whole_claims job.temps cs ≡ true → (if job_claims cs then none gs else whole_groups job.groups gs) ≡ true
     → not (none cs && none gs) ≡ true
@@ -49,6 +51,7 @@ makes_call job [] [] n w g = absurd (clash job.groups n g)
     clash [] n w = absurd cc
     clash (x ∷ xs) n w = absurd cc
 
+-- the files of a job that are removed at the end, by the number of its claims
 pub due_is : (k : ℕ) (job : Job) (a : JobAnswers) → whole_job job a ≡ true
     → files_of_job k job a ≡ due_of_job k job (claimed_count a.claims)
 due_is k job a e = by (none job.groups) refl e

@@ -12,8 +12,10 @@ use Rattle.std.specs.Cmp.Lexicographic.{pointwise}
 use Rattle.std.specs.List.{list_any}
 use Rattle.std.specs.Prelude.{⊤, nat_eq}
 
--- For removal_law: the files that are removed at the end are files of the plan, and no more than its leftover files.
+-- For removal_law: the files that are removed at the end are files of the plan, and no more than its leftover files, which are all
+-- temporaries and marked files of its jobs.
 
+-- each of these files is at a place of the plan
 abbrev pub AllFiles : Plan → List File → Type 0
 AllFiles plan [] = ⊤
 AllFiles plan (f ∷ fs) = (is_file plan f.place ≡ true) × AllFiles plan fs
@@ -22,11 +24,13 @@ all_both : (plan : Plan) (xs ys : List File) → AllFiles plan xs → AllFiles p
 all_both plan [] ys x y = y
 all_both plan (f ∷ xs) ys x y = (x.0, all_both plan xs ys x.1 y)
 
+-- the first of such files are such
 all_taken : (plan : Plan) (n : ℕ) (xs : List File) → AllFiles plan xs → AllFiles plan (take n xs)
 all_taken plan zero xs x = tt
 all_taken plan (suc n) [] x = tt
 all_taken plan (suc n) (f ∷ xs) x = (x.0, all_taken plan n xs x.1)
 
+-- such files, each path once, are such
 all_once : (plan : Plan) (seen : List (List ℕ)) (xs : List File) → AllFiles plan xs → AllFiles plan (each_once seen xs)
 all_once plan seen [] x = tt
 all_once plan seen (f ∷ xs) x = by (list_any (pointwise nat_eq f.path) seen) (all_once plan seen xs x.1)
@@ -37,6 +41,7 @@ all_once plan seen (f ∷ xs) x = by (list_any (pointwise nat_eq f.path) seen) (
     by true skip keep = skip
     by false skip keep = (x.0, keep)
 
+-- a job's temporaries are at places of the plan
 temps_all : (plan : Plan) (k i : ℕ) (ts : List Temp) → i + length ts ≤ length (job_at plan k).temps → AllFiles plan (temp_files k i ts)
 temps_all plan k i [] few = tt
 temps_all plan k i (t ∷ ts) few = (
@@ -45,6 +50,7 @@ temps_all plan k i (t ∷ ts) few = (
       (omega (arith, few)),
 )
 
+-- a job's marked files are at places of the plan
 marked_all : (plan : Plan) (k i : ℕ) (ms : List (List ℕ)) → i + length ms ≤ length (job_at plan k).marked
     → AllFiles plan (marked_files k i ms)
 marked_all plan k i [] few = tt
@@ -54,6 +60,7 @@ marked_all plan k i (m ∷ ms) few = (
       (omega (arith, few)),
 )
 
+-- the files of a job that are due are at places of the plan
 pub job_all : (plan : Plan) (k claimed : ℕ) (job : Job) → job_at plan k ≡ job → AllFiles plan (due_of_job k job claimed)
 job_all plan k claimed job is = by (none job.groups)
   where
@@ -70,6 +77,7 @@ job_all plan k claimed job is = by (none job.groups)
     by false = all_both plan (take claimed (temp_files k 0 job.temps)) (marked_files k 0 job.marked)
         (all_taken plan claimed (temp_files k 0 job.temps) temps) marked
 
+-- the due files of several jobs are at places of the plan
 jobs_all : (plan : Plan) (k : ℕ) (jobs : List Job) (claimed : ℕ → ℕ)
     → ((j : ℕ) → j < length jobs → AllFiles plan (due_of_job (k + j) (get_or jobs j no_job) (claimed (k + j))))
     → AllFiles plan (due_from k jobs claimed)
@@ -81,6 +89,7 @@ jobs_all plan k (job ∷ jobs) claimed each = all_both plan (due_of_job k job (c
 
 -- no more than those
 
+-- files are no more where each path counts once
 once_fewer : (seen : List (List ℕ)) (xs : List File) → length (each_once seen xs) ≤ length xs
 once_fewer seen [] = omega arith
 once_fewer seen (f ∷ xs) = by (list_any (pointwise nat_eq f.path) seen) (once_fewer seen xs) (once_fewer (f.path ∷ seen) xs)
@@ -90,11 +99,13 @@ once_fewer seen (f ∷ xs) = by (list_any (pointwise nat_eq f.path) seen) (once_
     by true skip keep = omega (arith, skip)
     by false skip keep = omega (arith, keep)
 
+-- the first files are no more than all
 taken_fewer : (n : ℕ) (xs : List File) → length (take n xs) ≤ length xs
 taken_fewer zero xs = omega arith
 taken_fewer (suc n) [] = omega arith
 taken_fewer (suc n) (f ∷ xs) = let le : length (take n xs) ≤ length xs = taken_fewer n xs in omega (arith, le)
 
+-- a job has at most as many due files as it has temporaries and marked files
 job_fewer : (k claimed : ℕ) (job : Job) → length (due_of_job k job claimed) ≤ length (job_files k job)
 job_fewer k claimed job = by (none job.groups)
   where
@@ -111,6 +122,7 @@ job_fewer k claimed job = by (none job.groups)
         let le = taken_fewer claimed (temp_files k 0 job.temps) in
         omega (arith, a, b, le)
 
+-- several jobs have at most as many due files as leftover files
 pub from_fewer : (k : ℕ) (jobs : List Job) (claimed : ℕ → ℕ) → length (due_from k jobs claimed) ≤ length (files_from k jobs)
 from_fewer k [] claimed = omega arith
 from_fewer k (job ∷ jobs) claimed =
@@ -123,6 +135,7 @@ from_fewer k (job ∷ jobs) claimed =
     let rest = from_fewer (k + 1) jobs claimed in
     omega (arith, a, b, here, rest)
 
+-- a plan has at most as many files to be removed at the end as its jobs have leftover files
 pub due_fewer : (plan : Plan) (job : Job) (claimed : ℕ → ℕ)
     → length (due_files plan job claimed) ≤ length (files_from 0 (plan.jobs ++ job ∷ []))
 due_fewer plan job claimed =
@@ -131,6 +144,7 @@ due_fewer plan job claimed =
     let from = from_fewer 0 (plan.jobs ++ job ∷ []) claimed in
     omega (arith, once, from)
 
+-- the files that are removed at the end are at places of the plan
 pub due_all : (plan : Plan) (job : Job) (claimed : ℕ → ℕ) → ((j : ℕ) → j < length (plan.jobs ++ job ∷ [])
     → AllFiles plan (due_of_job (0 + j) (get_or (plan.jobs ++ job ∷ []) j no_job) (claimed (0 + j))))
     → AllFiles plan (due_files plan job claimed)

@@ -36,7 +36,8 @@ use Rattle.std.proofs.lemmas.Cmp.{nat_eq_equiv}
 use Rattle.std.proofs.lemmas.Grind.{flat_map-append}
 use Rattle.std.specs.Prelude.{⊤}
 
--- For linking_law: a source failed exactly if one of its claims, starts or waits has a code other than 0 in the events.
+-- For linking_law: a source failed exactly if one of its claims, starts or waits has a code other than 0 in the events. `AreAt j E` says
+-- that each of these events is a claim, a start or a wait of job j, or has no code.
 
 -- a claim, a start or a wait of job j, or another event, which has no code
 abbrev IsAt : ℕ → RunEvent → Type 0
@@ -55,11 +56,13 @@ at_lists j xs ys e f = subst (λ l. AreAt j l) (sym (flat_map-append (λ b. b) x
 
 -- each event of job j's story is of this kind
 
+-- a claim and its report are events of its job, of which the claim has a code
 of_claim : (j i : ℕ) (x : ClaimAnswer) (t : Bool) → AreAt j (claim_block j i (record { answer = x; told = t }))
 of_claim j i claim.Claimed t = (inl (nat_eq_equiv.refl j), tt)
 of_claim j i claim.Taken t = (inl (nat_eq_equiv.refl j), (inr (λ k. refl, refl), tt))
 of_claim j i claim.Failed t = (inl (nat_eq_equiv.refl j), (inr (λ k. refl, refl), tt))
 
+-- all claims of a job with their reports are events of the job, of which the claims have codes
 of_claims : (j i : ℕ) (cs : List (Told ClaimAnswer)) → AreAt j (events_of (claim_blocks j i cs))
 of_claims j i [] = tt
 of_claims j i (c ∷ cs) = at_both j (claim_block j i c) (events_of (claim_blocks j (i + 1) cs)) (of_claim j i c.answer c.told)
@@ -69,16 +72,19 @@ of_close : (j : ℕ) (t : Bool) → AreAt j (if t then event step.ClosePipe answ
 of_close j true = (inr (λ k. refl, refl), tt)
 of_close j false = tt
 
+-- starts, with a report and the closing of a pipe, are events of their job, of which the starts have codes
 of_starts : (j g n i : ℕ) (refused : Bool) (xs : List StartAnswer) → AreAt j (starts_block j g n i refused xs)
 of_starts j g n i refused [] = tt
 of_starts j g n i refused (Started id ∷ xs) = (inl (nat_eq_equiv.refl j), of_starts j g n (i + 1) refused xs)
 of_starts j g n i refused (NotStarted why ∷ xs) = (inl (nat_eq_equiv.refl j), (inr (λ k. refl, refl), of_close j (nat_lt 0 i)))
 
+-- a wait and its report are events of their job, of which the wait has a code
 of_wait : (j g i id : ℕ) (x : WaitAnswer) (t : Bool) → AreAt j (wait_block j g i id (record { answer = x; told = t }))
 of_wait j g i id (Exit n) t = (inl (nat_eq_equiv.refl j), tt)
 of_wait j g i id Signal t = (inl (nat_eq_equiv.refl j), (inr (λ k. refl, refl), tt))
 of_wait j g i id Lost t = (inl (nat_eq_equiv.refl j), (inr (λ k. refl, refl), tt))
 
+-- the waits of a group with their reports are events of the job, of which the waits have codes
 of_waits : (j g i : ℕ) (xs : List StartAnswer) (ws : List (Told WaitAnswer)) → AreAt j (events_of (wait_blocks j g i xs ws))
 of_waits j g i [] ws = tt
 of_waits j g i (NotStarted why ∷ xs) ws = tt
@@ -86,6 +92,7 @@ of_waits j g i (Started id ∷ xs) [] = tt
 of_waits j g i (Started id ∷ xs) (w ∷ ws) = at_both j (wait_block j g i id w) (events_of (wait_blocks j g (i + 1) xs ws))
     (of_wait j g i id w.answer w.told) (of_waits j g (i + 1) xs ws)
 
+-- a removal and its report have no code
 of_removal : (j : ℕ) (p : Place) (x : RemoveAnswer) (t : Bool) → AreAt j (removal_block p (record { answer = x; told = t }))
 of_removal j p x t = by (removal_failed x)
   where
@@ -93,11 +100,13 @@ of_removal j p x t = by (removal_failed x)
     by true = (inr (λ k. refl, refl), (inr (λ k. refl, refl), tt))
     by false = (inr (λ k. refl, refl), tt)
 
+-- a job's own removals have no code
 of_removals : (j i : ℕ) (rs : List (Told RemoveAnswer)) → AreAt j (events_of (own_removals j i rs))
 of_removals j i [] = tt
 of_removals j i (r ∷ rs) = at_both j (removal_block (place.OnFailure j i) r) (events_of (own_removals j (i + 1) rs))
     (of_removal j (place.OnFailure j i) r.answer r.told) (of_removals j (i + 1) rs)
 
+-- each event of groups is a start or a wait of their job, or has no code
 of_groups : (j g : ℕ) (cs : List (List Command)) (xs : List GroupAnswers) → AreAt j (events_of (group_blocks j g cs xs))
 of_groups j g [] xs = tt
 of_groups j g (c ∷ cs) [] = tt
@@ -107,6 +116,7 @@ of_groups j g (c ∷ cs) (x ∷ xs) = at_lists j (starts_block j g (length c) 0 
     (of_starts j g (length c) 0 x.refused x.starts) (of_waits j g 0 x.starts x.waits))
     (of_groups j (g + 1) cs xs)
 
+-- each event of a job's story is a claim, a start or a wait of the job, or has no code
 of_story : (j : ℕ) (job : Job) (a : JobAnswers) → AreAt j (events_of (story j job a))
 of_story j job a = at_lists j (claim_blocks j 0 a.claims) (group_blocks j 0 job.groups a.groups ++ own_removals j 0 a.removals)
     (of_claims j 0 a.claims)
@@ -115,6 +125,7 @@ of_story j job a = at_lists j (claim_blocks j 0 a.claims) (group_blocks j 0 job.
 
 -- the codes of job j's events, for this job and for another
 
+-- the greatest code of a job's events is that of its claims, starts and waits
 own_codes : (j : ℕ) (E : List RunEvent) → AreAt j E → greatest (λ c. c) (codes_in j E) ≡ run_code E
 own_codes j [] a = refl
 own_codes j (e ∷ E) a = by (is_work_of j e.step) refl a.0 (own_codes j E a.1)
@@ -126,6 +137,7 @@ own_codes j (e ∷ E) a = by (is_work_of j e.step) refl a.0 (own_codes j E a.1)
     by false is (inr none) rest = rest ∙ (let z : run_code E ≡ max 0 (run_code E) = omega arith in z)
         ∙ ap (λ n. max n (run_code E)) (sym none.1)
 
+-- a step of another job is none of this one
 away : (j k : ℕ) (s : Step) → nat_eq j k ≡ false → is_work_of j s ≡ true → is_work_of k s ≡ false
 away j k (step.Claim p) other e = ap (λ i. nat_eq i k) (same (job_of p) j e) ∙ other
 away j k (step.Start p from_pipe to_pipe) other e = ap (λ i. nat_eq i k) (same (job_of p) j e) ∙ other
@@ -138,6 +150,7 @@ none_at : (j k : ℕ) (e : RunEvent) → nat_eq j k ≡ false → IsAt j e → i
 none_at j k e other (inl work) = away j k e.step other work
 none_at j k e other (inr none) = none.0 k
 
+-- events of another job have no code of this one
 other_codes : (j k : ℕ) (E : List RunEvent) → nat_eq j k ≡ false → AreAt j E → codes_in k E ≡ []
 other_codes j k [] other a = refl
 other_codes j k (e ∷ E) other a = nothing (ap (λ (t : Bool). if t then answer_code e.answer ∷ [] else []) (none_at j k e other a.0))
@@ -145,6 +158,7 @@ other_codes j k (e ∷ E) other a = nothing (ap (λ (t : Bool). if t then answer
 
 -- a whole run
 
+-- in a whole run a source failed exactly if one of its codes in the events is not 0
 pub fails_where : (plan : Plan) (N : ℕ) (o : Answers) (E : List RunEvent) → Windowed plan N o E → FailsWhere plan o E
 fails_where plan N o E w k lt = job_is (get_or o.jobs k no_answers) ∙ ap (λ n. not (nat_eq n 0)) (sym codes_are)
   where

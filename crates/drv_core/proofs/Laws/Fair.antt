@@ -21,22 +21,26 @@ use Rattle.drv_words.specs.declared.steps.Step.TheVariants as step
 use Rattle.std.proofs.Common.{◌≡◌, ◌<◌, ◌≤◌, ◌+◌, ◌&&◌, Bool, false, true, List, [], ◌∷◌, ◌++◌, append_assoc, arith, if◌then◌else◌, length}
 use Rattle.std.proofs.Common.{nat_eq, nat_lt, refl, subst, sym, ℕ}
 
--- For waiting_law: in a story each wait has a child to wait for, and no child is left at the end.
+-- For waiting_law: in a story each wait has a child to wait for, and no child is left at the end. `Fair s w blocks` says it of blocks
+-- before which s children were started and w waited for.
 
--- before these blocks s children were started and w were waited for
+-- of blocks before which s children were started and w were waited for: each wait has a child to wait for, and at the end none is left
 abbrev pub Fair : ℕ → ℕ → List Block → Type 0
 Fair s w [] = s ≤ w
 Fair s w (b ∷ bs) = (is_wait b ≡ true → w < s) × Fair (s + total starts_child b) (w + total waits_child b) bs
 
+-- a sum over two lists of events is that over the one and that over the other
 pub total_append : (f : RunEvent → ℕ) (xs ys : List RunEvent) → total f (xs ++ ys) ≡ total f xs + total f ys
 total_append f [] ys = omega arith
 total_append f (x ∷ xs) ys = rw (total_append f xs ys) (omega arith)
 
+-- after fair blocks at least as many children were waited for as were started
 pub fair_end : (s w : ℕ) (bs : List Block) → Fair s w bs → s + total starts_child (events_of bs) ≤ w + total waits_child (events_of bs)
 fair_end s w [] f = omega (arith, f)
 fair_end s w (b ∷ bs) f = rw (total_append starts_child b (events_of bs), total_append waits_child b (events_of bs))
     (let rest : s + total starts_child b + total starts_child (events_of bs) ≤ w + total waits_child b + total waits_child (events_of bs) = fair_end (s + total starts_child b) (w + total waits_child b) bs f.1 in omega arith)
 
+-- before a wait among fair blocks, fewer were waited for than started
 pub fair_at : (s w : ℕ) (xs : List Block) (b : Block) (ys : List Block) → Fair s w (xs ++ b ∷ ys) → is_wait b ≡ true
     → w + total waits_child (events_of xs) < s + total starts_child (events_of xs)
 fair_at s w [] b ys f e = let at : w < s = f.0 e in omega arith
@@ -45,6 +49,7 @@ fair_at s w (x ∷ xs) b ys f e = rw (total_append starts_child x (events_of xs)
 
 -- one more block
 
+-- a block that neither starts a child nor waits for one, before fair blocks
 fair_quiet : (s w : ℕ) (b : Block) (bs : List Block) → total starts_child b ≡ 0 → total waits_child b ≡ 0 → Fair s w bs → Fair s w (b ∷ bs)
 fair_quiet s w b bs no_start no_wait f = (
   by,
@@ -56,6 +61,7 @@ fair_quiet s w b bs no_start no_wait f = (
     by : nat_lt 0 (total waits_child b) ≡ true → w < s
     by e = absurd (let none_here : nat_lt 0 0 ≡ true = rw no_wait at e in cc)
 
+-- a block that starts n children, before blocks that are fair after that
 fair_starts : (s w n : ℕ) (b : Block) (bs : List Block) → total starts_child b ≡ n → total waits_child b ≡ 0 → Fair (s + n) w bs
     → Fair s w (b ∷ bs)
 fair_starts s w n b bs starts no_wait f = (
@@ -67,6 +73,7 @@ fair_starts s w n b bs starts no_wait f = (
     by : nat_lt 0 (total waits_child b) ≡ true → w < s
     by e = absurd (let none_here : nat_lt 0 0 ≡ true = rw no_wait at e in cc)
 
+-- a wait while a child is in flight, before blocks that are fair after that
 fair_wait : (s w : ℕ) (b : Block) (bs : List Block) → w < s → total starts_child b ≡ 0 → total waits_child b ≡ 1 → Fair s (w + 1) bs
     → Fair s w (b ∷ bs)
 fair_wait s w b bs lt no_start one f = (
@@ -77,6 +84,7 @@ fair_wait s w b bs lt no_start one f = (
 
 -- claims and removals
 
+-- a claim starts no child
 pub claim_starts : (k i : ℕ) (x : ClaimAnswer) (told : Bool) → total starts_child (claim_block k i (record { answer = x; told = told })) ≡ 0
 claim_starts k i x told = by (is_claimed x)
   where
@@ -84,6 +92,7 @@ claim_starts k i x told = by (is_claimed x)
     by true = refl
     by false = refl
 
+-- a claim waits for no child
 pub claim_waits : (k i : ℕ) (x : ClaimAnswer) (told : Bool) → total waits_child (claim_block k i (record { answer = x; told = told })) ≡ 0
 claim_waits k i x told = by (is_claimed x)
   where
@@ -91,11 +100,13 @@ claim_waits k i x told = by (is_claimed x)
     by true = refl
     by false = refl
 
+-- claims before fair blocks are fair: they start no child and wait for none
 fair_claims : (s w k i : ℕ) (xs : List (Told ClaimAnswer)) (rest : List Block) → Fair s w rest → Fair s w (claim_blocks k i xs ++ rest)
 fair_claims s w k i [] rest f = f
 fair_claims s w k i (x ∷ xs) rest f = fair_quiet s w (claim_block k i x) (claim_blocks k (i + 1) xs ++ rest)
     (claim_starts k i x.answer x.told) (claim_waits k i x.answer x.told) (fair_claims s w k (i + 1) xs rest f)
 
+-- a removal starts no child
 pub removal_starts : (p : Place) (x : RemoveAnswer) (told : Bool)
     → total starts_child (removal_block p (record { answer = x; told = told })) ≡ 0
 removal_starts p x told = by (removal_failed x)
@@ -104,6 +115,7 @@ removal_starts p x told = by (removal_failed x)
     by true = refl
     by false = refl
 
+-- a removal waits for no child
 pub removal_waits : (p : Place) (x : RemoveAnswer) (told : Bool)
     → total waits_child (removal_block p (record { answer = x; told = told })) ≡ 0
 removal_waits p x told = by (removal_failed x)
@@ -112,6 +124,7 @@ removal_waits p x told = by (removal_failed x)
     by true = refl
     by false = refl
 
+-- removals after which no child is left
 fair_removals : (s w k i : ℕ) (xs : List (Told RemoveAnswer)) → s ≤ w → Fair s w (own_removals k i xs)
 fair_removals s w k i [] le = le
 fair_removals s w k i (x ∷ xs) le = fair_quiet s w (removal_block (place.OnFailure k i) x) (own_removals k (i + 1) xs)
@@ -120,19 +133,23 @@ fair_removals s w k i (x ∷ xs) le = fair_quiet s w (removal_block (place.OnFai
 
 -- groups
 
+-- how many of these starts started a child
 abbrev children : List StartAnswer → ℕ
 children [] = 0
 children (Started id ∷ xs) = 1 + children xs
 children (NotStarted why ∷ xs) = children xs
 
+-- the closing of a pipe starts no child
 pub closed : (t : Bool) → total starts_child (if t then event step.ClosePipe answer.Closed ∷ [] else []) ≡ 0
 closed true = refl
 closed false = refl
 
+-- the closing of a pipe waits for no child
 pub closed_waits : (t : Bool) → total waits_child (if t then event step.ClosePipe answer.Closed ∷ [] else []) ≡ 0
 closed_waits true = refl
 closed_waits false = refl
 
+-- the starts of a group start as many children as their answers say
 starts_total : (k g n i : ℕ) (refused : Bool) (cs : List Command) (starts : List StartAnswer) (waits : List (Told WaitAnswer))
     → whole_group cs starts waits ≡ true → total starts_child (starts_block k g n i refused starts) ≡ children starts
 starts_total k g n i refused [] [] [] e = refl
@@ -145,23 +162,27 @@ starts_total k g n i refused (c ∷ cs) (NotStarted why ∷ []) [] e = rw (close
 starts_total k g n i refused (c ∷ cs) (NotStarted why ∷ []) (w ∷ waits) e = absurd cc
 starts_total k g n i refused (c ∷ cs) (NotStarted why ∷ x ∷ starts) waits e = absurd cc
 
+-- starts wait for no child
 pub starts_wait : (k g n i : ℕ) (refused : Bool) (starts : List StartAnswer) → total waits_child (starts_block k g n i refused starts) ≡ 0
 starts_wait k g n i refused [] = refl
 starts_wait k g n i refused (Started id ∷ starts) = rw (starts_wait k g n (i + 1) refused starts) refl
 starts_wait k g n i refused (NotStarted why ∷ starts) = rw (closed_waits (nat_lt 0 i)) refl
 
+-- a wait starts no child
 pub wait_starts : (p : Place) (id : ℕ) (x : WaitAnswer) (told : Bool)
     → total starts_child (event (step.Wait p id) (answer.Wait x) ∷ wait_report p x told) ≡ 0
 wait_starts p id (Exit n) told = refl
 wait_starts p id Signal told = refl
 wait_starts p id Lost told = refl
 
+-- a wait waits for one child
 pub wait_waits : (p : Place) (id : ℕ) (x : WaitAnswer) (told : Bool)
     → total waits_child (event (step.Wait p id) (answer.Wait x) ∷ wait_report p x told) ≡ 1
 wait_waits p id (Exit n) told = refl
 wait_waits p id Signal told = refl
 wait_waits p id Lost told = refl
 
+-- the waits of a group, one for each child, leave none
 fair_waits : (s w k g i : ℕ) (cs : List Command) (starts : List StartAnswer) (waits : List (Told WaitAnswer)) (rest : List Block)
     → whole_group cs starts waits ≡ true → s ≡ w + children starts → Fair s s rest → Fair s w (wait_blocks k g i starts waits ++ rest)
 fair_waits s w k g i [] [] [] rest e is f = let at : s ≡ w = omega arith in subst (λ n. Fair s n rest) at f
@@ -181,6 +202,7 @@ no_group : (k g : ℕ) (cs : List (List Command)) → group_blocks k g cs [] ≡
 no_group k g [] = refl
 no_group k g (c ∷ cs) = refl
 
+-- groups with complete answers are fair
 fair_groups : (s k g : ℕ) (cs : List (List Command)) (xs : List GroupAnswers) (rest : List Block) → whole_groups cs xs ≡ true
     → ((n : ℕ) → Fair n n rest) → Fair s s (group_blocks k g cs xs ++ rest)
 fair_groups s k g [] [] rest e f = f s
@@ -210,7 +232,7 @@ no_groups_blocks : (k g : ℕ) (cs : List (List Command)) (xs : List GroupAnswer
 no_groups_blocks k g cs [] e = no_group k g cs
 no_groups_blocks k g cs (x ∷ xs) e = absurd cc
 
--- a whole story
+-- the story of complete answers is fair from its beginning
 pub fair_story : (k : ℕ) (job : Job) (a : JobAnswers) → whole_job job a ≡ true → Fair 0 0 (story k job a)
 fair_story k job a e = by (none job.groups) e
   where
@@ -233,10 +255,12 @@ fair_story k job a e = by (none job.groups) e
         (and_first (whole_claims job.temps a.claims && (if claims_failed a then none a.groups else whole_groups job.groups a.groups))
         (nat_eq (length a.removals) (length (removed_by_job job a))) h)))
 
+-- after a fair story no child is in flight
 pub settled : (bs : List Block) → Fair 0 0 bs → in_flight bs ≡ false
 settled bs f = not_less (total waits_child (events_of bs)) (total starts_child (events_of bs))
     (let end : 0 + total starts_child (events_of bs) ≤ 0 + total waits_child (events_of bs) = fair_end 0 0 bs f in omega arith)
 
+-- before a wait of a fair story a child is in flight
 pub flying : (xs : List Block) (b : Block) (ys : List Block) → Fair 0 0 (xs ++ b ∷ ys) → is_wait b ≡ true → in_flight xs ≡ true
 flying xs b ys f e = less (total waits_child (events_of xs)) (total starts_child (events_of xs))
     (let at : 0 + total waits_child (events_of xs) < 0 + total starts_child (events_of xs) = fair_at 0 0 xs b ys f e in omega arith)

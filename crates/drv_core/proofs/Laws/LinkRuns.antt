@@ -29,7 +29,8 @@ use Rattle.std.proofs.lemmas.Cmp.{nat_eq_equiv}
 use Rattle.std.proofs.lemmas.Grind.{flat_map-append}
 use Rattle.std.specs.List.{list_any}
 
--- For linking_law: the link claims or starts something exactly if every source succeeded.
+-- For linking_law: the link claims or starts something exactly if every source succeeded. `sift (calls k)` is the claims and starts of job
+-- k among the events of some blocks; the link is the job whose number is that of the sources.
 
 abbrev calls : ℕ → RunEvent → List Step
 calls k e = call_of k e.step
@@ -39,6 +40,7 @@ two k E F = flat_map-append (calls k) E F
 
 -- waits are neither
 
+-- a wait is neither a claim nor a start
 no_wait : (k j g i id : ℕ) (x : WaitAnswer) (t : Bool) → calls_of k (wait_block j g i id (record { answer = x; told = t })) ≡ []
 no_wait k j g i id (Exit n) t = refl
 no_wait k j g i id Signal t = refl
@@ -54,6 +56,7 @@ no_close : (k : ℕ) (t : Bool) → calls_of k (if t then event step.ClosePipe a
 no_close k true = refl
 no_close k false = refl
 
+-- the starts of another job are none of this one
 no_starts : (k j g n i : ℕ) (refused : Bool) (xs : List StartAnswer) → nat_eq j k ≡ false
     → calls_of k (starts_block j g n i refused xs) ≡ []
 no_starts k j g n i refused [] other = refl
@@ -62,6 +65,7 @@ no_starts k j g n i refused (NotStarted why ∷ xs) other = nothing
 no_starts k j g n i refused (Started id ∷ xs) other = nothing
     (off (nat_eq j k) (step.Start (place.Command j g i) (nat_lt 0 i) (nat_lt (i + 1) n)) other) (no_starts k j g n (i + 1) refused xs other)
 
+-- the groups of another job start nothing of this one
 no_groups : (k j g : ℕ) (cs : List (List Command)) (xs : List GroupAnswers) → nat_eq j k ≡ false
     → sift (calls k) (group_blocks j g cs xs) ≡ []
 no_groups k j g [] xs other = refl
@@ -74,6 +78,7 @@ no_groups k j g (c ∷ cs) (x ∷ xs) other =
     x.starts x.waits))
     (no_groups k j (g + 1) cs xs other)
 
+-- the story of another job claims and starts nothing of this one
 other_story : (k j : ℕ) (job : Job) (a : JobAnswers) → nat_eq j k ≡ false → sift (calls k) (story j job a) ≡ []
 other_story k j job a other = two_lists (calls k) (claim_blocks j 0 a.claims) (group_blocks j 0 job.groups a.groups
     ++ own_removals j 0 a.removals)
@@ -93,6 +98,7 @@ first_claim : (k : ℕ) (c : Told ClaimAnswer) (cs : List (Told ClaimAnswer)) (r
     → none (sift (calls k) (claim_blocks k 0 (c ∷ cs) ++ rest)) ≡ false
 first_claim k c cs rest = some_call k (place.Temp k 0) (step.Claim (place.Temp k 0)) _ (on k (step.Claim (place.Temp k 0)))
 
+-- a group with a command starts something
 first_start : (k n : ℕ) (refused : Bool) (c : Command) (cs : List Command) (xs : List StartAnswer) (ws : List (Told WaitAnswer))
     (rest : List Block) → whole_group (c ∷ cs) xs ws ≡ true → none (sift (calls k) (starts_block k 0 n 0 refused xs ∷ rest)) ≡ false
 first_start k n refused c cs [] ws rest e = absurd cc
@@ -101,6 +107,7 @@ first_start k n refused c cs (NotStarted why ∷ xs) ws rest e = some_call k (pl
 first_start k n refused c cs (Started id ∷ xs) ws rest e = some_call k (place.Command k 0 0)
     (step.Start (place.Command k 0 0) false (nat_lt 1 n)) _ (on k (step.Start (place.Command k 0 0) false (nat_lt 1 n)))
 
+-- claims and groups with complete answers claim or start something, if the first group has a command
 calls_in : (k : ℕ) (cs : List (List Command)) (claims : List (Told ClaimAnswer)) (xs : List GroupAnswers) (rest : List Block)
     → none cs ≡ false → 0 < length (get_or cs 0 [])
     → (if list_any (λ c. not (is_claimed c.answer)) claims then none xs else whole_groups cs xs) ≡ true
@@ -118,6 +125,7 @@ some_group : (cs : List (List Command)) → none cs ≡ false → 0 < length cs
 some_group [] e = absurd cc
 some_group (c ∷ cs) e = omega arith
 
+-- a job with commands, whose answers are complete, claims or starts something
 own_calls : (k : ℕ) (job : Job) (a : JobAnswers) → Filled job → none job.groups ≡ false → whole_job job a ≡ true
     → none (sift (calls k) (story k job a)) ≡ false
 own_calls k job a filled busy whole = calls_in k job.groups a.claims a.groups (own_removals k 0 a.removals) busy
@@ -138,6 +146,7 @@ empty : {X : Type 0} (xs : List X) → none xs ≡ true → xs ≡ []
 empty [] e = refl
 empty (x ∷ xs) e = absurd cc
 
+-- a job without commands claims and starts nothing
 idle : (k : ℕ) (a : JobAnswers) → whole_job no_job a ≡ true → sift (calls k) (story k no_job a) ≡ []
 idle k a whole = ap (λ l. sift (calls k) (claim_blocks k 0 l ++ own_removals k 0 a.removals))
     (empty a.claims (and_first (none a.claims) (none a.groups) (and_first (none a.claims && none a.groups) (none a.removals) whole)))
@@ -145,6 +154,7 @@ idle k a whole = ap (λ l. sift (calls k) (claim_blocks k 0 l ++ own_removals k 
 
 -- a whole run
 
+-- in a whole run the link claims or starts something exactly if every source succeeded
 pub links_where : (plan : Plan) (N : ℕ) (o : Answers) (E : List RunEvent) → Windowed plan N o E → LinksWhere plan o E
 links_where plan N o E w = record {
   where_all = λ job is busy filled. by job is busy filled (all_succeeded o.jobs) refl;

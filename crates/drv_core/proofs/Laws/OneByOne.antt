@@ -13,12 +13,12 @@ use Rattle.std.proofs.Common.{arith, if◌then◌else◌, length, min, nat_eq, n
 use Rattle.std.proofs.lemmas.Bool.Decides.{nat_tests}
 use Rattle.std.proofs.lemmas.Cmp.{nat_eq_equiv}
 
--- For interleaving_law: rearranged source by source, the blocks of a run fit a window of one.
+-- For interleaving_law: the blocks of a run, rearranged source by source, fit a window of one: each source ends before the next begins.
 
 absent : (j : ℕ) (bs : List SourceBlock) → of j bs ≡ [] → has j bs ≡ false
 absent j bs e = rw e refl
 
--- the block of source k, after the sources before it have ended and before those after it begin
+-- a block of source k may come in a window of one, after the sources before it have ended and before those after it begin
 may : (n k : ℕ) (before later : List SourceBlock) (wait : Bool) → k < n → ((j : ℕ) → j < k → of j later ≡ [])
     → ((j : ℕ) → k < j → of j before ≡ []) → has k later ≡ true → ((j : ℕ) → j < k → in_flight (of j before) ≡ false)
     → (wait ≡ true → in_flight (of k before) ≡ true)
@@ -60,6 +60,7 @@ may n k before later wait lt ended waiting here done flies = record {
         let open_now : 1 ≤ count n (λ j. has j later || nowhere j) = count_some n k (λ j. has j later || nowhere j) lt (rw here refl) in
         omega arith
 
+-- blocks in the order of the sources, with a child in flight at each wait, may come one source at a time
 walk : (n m : ℕ) (before after : List SourceBlock) → Upto m before → Ordered m n after → ((j : ℕ) → Fair 0 0 (of j (before ++ after)))
     → AllMayCome n 1 nowhere before after
 walk n m before [] upto order fair = tt
@@ -91,12 +92,14 @@ walk n m before (b ∷ after) upto order fair = (
     flies : is_wait b.block ≡ true → in_flight (of b.source before) ≡ true
     flies e = flying (of b.source before) b.block (of b.source after) (subst (λ l. Fair 0 0 l) split (fair b.source)) e
 
+-- blocks that are rearranged source by source still tell the stories
 retold : (bs : List SourceBlock) (n k : ℕ) (jobs : List Job) (xs : List JobAnswers) → k + length jobs ≤ n → TellStories bs k jobs xs
     → TellStories (by_source n bs) k jobs xs
 retold bs n k [] xs le t = tt
 retold bs n k (job ∷ jobs) [] le t = tt
 retold bs n k (job ∷ jobs) (a ∷ xs) le t = (of_by_source n k bs (omega arith) ∙ t.0, retold bs n (k + 1) jobs xs (omega arith) t.1)
 
+-- the blocks of each source, which are its story, are fair
 fair_told : (bs : List SourceBlock) (k : ℕ) (jobs : List Job) (xs : List JobAnswers) → TellStories bs k jobs xs → whole_jobs jobs xs ≡ true
     → (j : ℕ) → k ≤ j → j < k + length jobs → Fair 0 0 (of j bs)
 fair_told bs k [] xs t e j from below = absurd (omega arith)
@@ -110,6 +113,7 @@ fair_told bs k (job ∷ jobs) (a ∷ xs) t e j from below = by (nat_eq k j) refl
         subst (λ i. Fair 0 0 (of i bs)) at (rw t.0 (fair_story k job a (and_first (whole_job job a) (whole_jobs jobs xs) e)))
     by false is ih = ih (grind (arith, nat_tests))
 
+-- the blocks of each source are fair also after they are rearranged
 fair_all : (bs : List SourceBlock) (jobs : List Job) (xs : List JobAnswers) → TellStories bs 0 jobs xs → whole_jobs jobs xs ≡ true → (j : ℕ)
     → Fair 0 0 (of j (by_source (length jobs) bs))
 fair_all bs jobs xs t e j = by (nat_lt j (length jobs)) refl
@@ -119,6 +123,7 @@ fair_all bs jobs xs t e j = by (nat_lt j (length jobs)) refl
         (fair_told bs 0 jobs xs t e j (omega arith) (let lt : j < length jobs = is_less j (length jobs) is in omega arith))
     by false is = rw (of_beyond (length jobs) j bs (is_not_less j (length jobs) is)) (omega arith)
 
+-- every run, rearranged source by source, is a run of window 1 with the same answers
 pub rearranges : Rearranges
 rearranges plan N o E w = record {
   blocks = by_source (length plan.jobs) w.blocks;
@@ -132,6 +137,7 @@ rearranges plan N o E w = record {
     jobs_whole : whole plan o ≡ true → whole_jobs plan.jobs o.jobs ≡ true
     jobs_whole e = and_first (whole_jobs plan.jobs o.jobs) _ (and_first _ _ e)
 
+-- the blocks of the rearranged run are those of the run, source by source
 pub rearranged : (plan : Plan) (N : ℕ) (o : Answers) (E : List RunEvent) (w : Windowed plan N o E)
     → (rearranges plan N o E w).blocks ≡ by_source (length plan.jobs) w.blocks
 unfolding rearranges

@@ -36,7 +36,8 @@ use Rattle.std.specs.Cmp.Lexicographic.{pointwise}
 use Rattle.std.specs.List.{flat_map, list_any}
 use Rattle.std.specs.Prelude.{⊤}
 
--- For removal_law: in a whole run the removals are those of the rule.
+-- For removal_law: in a whole run the removals are those of the rule: a job that failed after a start removes its failure files, and at the
+-- end the claimed temporaries and the marked files go, each path once. `own` and `last` pick these two kinds out of the events.
 
 abbrev own : ℕ → RunEvent → List Place
 own k e = own_removal k e.step
@@ -50,16 +51,19 @@ quiet_close : (k : ℕ) (t : Bool) → flat_map (own k) (if t then event step.Cl
 quiet_close k true = refl
 quiet_close k false = refl
 
+-- starts are no removal of the job's own
 quiet_starts : (k j g n i : ℕ) (refused : Bool) (xs : List StartAnswer) → flat_map (own k) (starts_block j g n i refused xs) ≡ []
 quiet_starts k j g n i refused [] = refl
 quiet_starts k j g n i refused (Started id ∷ xs) = quiet_starts k j g n (i + 1) refused xs
 quiet_starts k j g n i refused (NotStarted why ∷ xs) = quiet_close k (nat_lt 0 i)
 
+-- a wait is no removal of the job's own
 quiet_wait : (k j g i id : ℕ) (x : WaitAnswer) (t : Bool) → flat_map (own k) (wait_block j g i id (record { answer = x; told = t })) ≡ []
 quiet_wait k j g i id (Exit n) t = refl
 quiet_wait k j g i id Signal t = refl
 quiet_wait k j g i id Lost t = refl
 
+-- groups have no removal of the job's own
 quiet_groups : (k j g : ℕ) (cs : List (List Command)) (xs : List GroupAnswers) → sift (own k) (group_blocks j g cs xs) ≡ []
 quiet_groups k j g [] xs = refl
 quiet_groups k j g (c ∷ cs) [] = refl
@@ -70,6 +74,7 @@ quiet_groups k j g (c ∷ cs) (x ∷ xs) = two_lists (own k) (starts_block j g (
     x.starts x.waits))
     (quiet_groups k j (g + 1) cs xs)
 
+-- of a story only the job's own removals are such
 removals_alone : (k j : ℕ) (job : Job) (a : JobAnswers) → sift (own k) (story j job a) ≡ sift (own k) (own_removals j 0 a.removals)
 removals_alone k j job a = two_lists (own k) (claim_blocks j 0 a.claims) (group_blocks j 0 job.groups a.groups
     ++ own_removals j 0 a.removals)
@@ -78,6 +83,7 @@ removals_alone k j job a = two_lists (own k) (claim_blocks j 0 a.claims) (group_
     ∙ two_lists (own k) (group_blocks j 0 job.groups a.groups) (own_removals j 0 a.removals)
     ∙ ap (λ l. l ++ sift (own k) (own_removals j 0 a.removals)) (quiet_groups k j 0 job.groups a.groups)
 
+-- a removal of a failure file is one of its job's own
 one_removal : (k j i : ℕ) (x : RemoveAnswer) (t : Bool)
     → flat_map (own k) (removal_block (place.OnFailure j i) (record { answer = x; told = t }))
     ≡ (if nat_eq j k then place.OnFailure j i ∷ [] else [])
@@ -88,6 +94,7 @@ one_removal k j i x t = by (removal_failed x)
     by true = append-nil (if nat_eq j k then place.OnFailure j i ∷ [] else [])
     by false = append-nil (if nat_eq j k then place.OnFailure j i ∷ [] else [])
 
+-- the removals of another job are none of this one
 other_removals : (k j i : ℕ) (rs : List (Told RemoveAnswer)) → nat_eq j k ≡ false → sift (own k) (own_removals j i rs) ≡ []
 other_removals k j i [] other = refl
 other_removals k j i (r ∷ rs) other = flat_map-append (own k) (removal_block (place.OnFailure j i) r)
@@ -95,6 +102,7 @@ other_removals k j i (r ∷ rs) other = flat_map-append (own k) (removal_block (
     ∙ nothing (one_removal k j i r.answer r.told ∙ ap (λ (t : Bool). if t then place.OnFailure j i ∷ [] else []) other)
     (other_removals k j (i + 1) rs other)
 
+-- a job's own removals are at the places of its failure files
 own_all : (k i : ℕ) (rs : List (Told RemoveAnswer)) (files : List (List ℕ)) → length rs ≡ length files
     → sift (own k) (own_removals k i rs) ≡ failure_places k i files
 own_all k i [] [] e = refl
@@ -111,6 +119,7 @@ empty : {X : Type 0} (xs : List X) → none xs ≡ true → xs ≡ []
 empty [] e = refl
 empty (x ∷ xs) e = absurd cc
 
+-- a job's own removals have an answer for each file that it removes
 answered : (job : Job) (a : JobAnswers) → whole_job job a ≡ true → length a.removals ≡ length (removed_by_job job a)
 answered job a e = by (none job.groups) e
   where
@@ -146,6 +155,7 @@ at_both : (xs ys : List File) → AllAtEnd xs → AllAtEnd ys → AllAtEnd (xs +
 at_both [] ys e f = f
 at_both (x ∷ xs) ys e f = (e.0, at_both xs ys e.1 f)
 
+-- claimed temporaries are files that are removed at the end
 at_temps : (k i : ℕ) (ts : List Temp) (cs : List (Told ClaimAnswer)) → AllAtEnd (claimed_temps k i ts cs)
 at_temps k i [] cs = tt
 at_temps k i (t ∷ ts) [] = tt
@@ -160,6 +170,7 @@ at_marked : (k i : ℕ) (ms : List (List ℕ)) → AllAtEnd (marked_files k i ms
 at_marked k i [] = tt
 at_marked k i (m ∷ ms) = ((refl, λ j. refl), at_marked k (i + 1) ms)
 
+-- the files of a job are removed at the end
 at_job : (k : ℕ) (job : Job) (a : JobAnswers) → AllAtEnd (files_of_job k job a)
 at_job k job a = by (made_call a)
   where
@@ -168,11 +179,13 @@ at_job k job a = by (made_call a)
         (at_marked k 0 job.marked)
     by false = tt
 
+-- the files of several jobs are removed at the end
 at_jobs : (k : ℕ) (jobs : List Job) (xs : List JobAnswers) → AllAtEnd (files_of_jobs k jobs xs)
 at_jobs k [] xs = tt
 at_jobs k (j ∷ jobs) [] = tt
 at_jobs k (j ∷ jobs) (a ∷ xs) = at_both (files_of_job k j a) (files_of_jobs (k + 1) jobs xs) (at_job k j a) (at_jobs (k + 1) jobs xs)
 
+-- files that are removed at the end are such where each path counts once
 at_once : (seen : List (List ℕ)) (fs : List File) → AllAtEnd fs → AllAtEnd (each_once seen fs)
 at_once seen [] e = tt
 at_once seen (f ∷ fs) e = by (list_any (pointwise nat_eq f.path) seen) (at_once seen fs e.1) (at_once (f.path ∷ seen) fs e.1)
@@ -186,6 +199,7 @@ at_end : (plan : Plan) (o : Answers) → AllAtEnd (removed_at_end plan o)
 at_end plan o = at_once [] (files_of_jobs 0 (plan.jobs ++ link_run plan.link o.jobs ∷ []) (o.jobs ++ o.link ∷ []))
     (at_jobs 0 (plan.jobs ++ link_run plan.link o.jobs ∷ []) (o.jobs ++ o.link ∷ []))
 
+-- what a removal says, whose report says nothing
 with_report : {X : Type 0} (f : RunEvent → List X) (p : Place) (x : RemoveAnswer) (t : Bool) → f (report (note.NotRemoved p) t) ≡ []
     → flat_map f (removal_block p (record { answer = x; told = t })) ≡ f (event (step.Remove p) (answer.Remove x))
 with_report f p x t quiet = by (removal_failed x)
@@ -196,12 +210,14 @@ with_report f p x t quiet = by (removal_failed x)
         ∙ append-nil (f (event (step.Remove p) (answer.Remove x)))
     by false = append-nil (f (event (step.Remove p) (answer.Remove x)))
 
+-- no removal at the end is a job's own
 no_own_at_end : (k : ℕ) (files : List File) (rs : List (Told RemoveAnswer)) → AllAtEnd files → sift (own k) (end_removals files rs) ≡ []
 no_own_at_end k [] rs e = refl
 no_own_at_end k (f ∷ files) [] e = refl
 no_own_at_end k (f ∷ files) (r ∷ rs) e = flat_map-append (own k) (removal_block f.place r) (events_of (end_removals files rs))
     ∙ nothing (with_report (own k) f.place r.answer r.told refl ∙ e.0.1 k) (no_own_at_end k files rs e.1)
 
+-- the removals at the end are at the places of these files
 all_at_end : (files : List File) (rs : List (Told RemoveAnswer)) → length rs ≡ length files → AllAtEnd files
     → sift last (end_removals files rs) ≡ map (λ f. f.place) files
 all_at_end [] rs e at = refl
@@ -214,6 +230,7 @@ remove_both : (E F : List RunEvent) → AllRemove E → AllRemove F → AllRemov
 remove_both [] F e f = f
 remove_both (x ∷ E) F e f = (e.0, remove_both E F e.1 f)
 
+-- the events of the removals at the end are removals and reports
 remove_alone : (files : List File) (rs : List (Told RemoveAnswer)) → AllRemove (events_of (end_removals files rs))
 remove_alone [] rs = tt
 remove_alone (f ∷ files) [] = tt
@@ -229,6 +246,7 @@ remove_alone (f ∷ files) (r ∷ rs) = remove_both (removal_block f.place r) (e
 abbrev Quiet : Block → Type 0
 Quiet b = flat_map last b ≡ []
 
+-- a claim is no removal at the end
 quiet_claim : (k i : ℕ) (x : ClaimAnswer) (t : Bool) → Quiet (claim_block k i (record { answer = x; told = t }))
 quiet_claim k i claim.Claimed t = refl
 quiet_claim k i claim.Taken t = refl
@@ -238,16 +256,19 @@ quiet_last_close : (t : Bool) → Quiet (if t then event step.ClosePipe answer.C
 quiet_last_close true = refl
 quiet_last_close false = refl
 
+-- starts are no removal at the end
 quiet_last_starts : (k g n i : ℕ) (refused : Bool) (xs : List StartAnswer) → Quiet (starts_block k g n i refused xs)
 quiet_last_starts k g n i refused [] = refl
 quiet_last_starts k g n i refused (Started id ∷ xs) = quiet_last_starts k g n (i + 1) refused xs
 quiet_last_starts k g n i refused (NotStarted why ∷ xs) = quiet_last_close (nat_lt 0 i)
 
+-- a wait is no removal at the end
 quiet_last_wait : (k g i id : ℕ) (x : WaitAnswer) (t : Bool) → Quiet (wait_block k g i id (record { answer = x; told = t }))
 quiet_last_wait k g i id (Exit n) t = refl
 quiet_last_wait k g i id Signal t = refl
 quiet_last_wait k g i id Lost t = refl
 
+-- no kind of block in a story is one
 quiet_kinds : Kinds Quiet
 quiet_kinds = record {
   claim = quiet_claim;
@@ -263,6 +284,7 @@ all_quiet (b ∷ bs) e = flat_map-append last b (events_of bs) ∙ nothing e.0 (
 
 -- a whole run
 
+-- in a whole run the jobs' own removals, and those at the end, are the ones of the rule
 pub removes_by_rule : (plan : Plan) (N : ℕ) (o : Answers) (E : List RunEvent) → Windowed plan N o E → RemovesByRule plan o E
 removes_by_rule plan N o E w = record {
   sources = sources;

@@ -22,12 +22,14 @@ use Rattle.drv_words.specs.declared.steps.Step.TheVariants as step
 use Rattle.std.proofs.Common.{◌+◌, Bool, false, true, List, [], ◌∷◌, ◌++◌, append-nil, append_assoc, if◌then◌else◌, length, nat_lt, refl}
 use Rattle.std.proofs.Common.{subst, sym, ℕ}
 
--- For report_law: in a whole run each failure is followed directly by its report.
+-- For report_law: in a whole run each failure is followed directly by its report, and there is no other report. That is shown of each kind
+-- of block (`Leads`): a claim, the starts of a group, a wait, and a removal.
 
 -- the law holds of events that begin with this block, if it holds of the events after it
 abbrev Leads : Block → Type 0
 Leads b = (F : List RunEvent) → Reported F → Reported (b ++ F)
 
+-- a claim is followed by its report if it failed
 lead_claim : (k i : ℕ) (x : ClaimAnswer) (t : Bool) → Leads (claim_block k i (record { answer = x; told = t }))
 lead_claim k i claim.Claimed t F f = silent (event (step.Claim (place.Temp k i)) (answer.Claim claim.Claimed)) F refl refl f
 lead_claim k i claim.Taken t F f = told (event (step.Claim (place.Temp k i)) (answer.Claim claim.Taken))
@@ -39,6 +41,7 @@ lead_close : (t : Bool) → Leads (if t then event step.ClosePipe answer.Closed 
 lead_close true F f = silent (event step.ClosePipe answer.Closed) F refl refl f
 lead_close false F f = f
 
+-- a refused start is followed by its report
 lead_starts : (k g n i : ℕ) (refused : Bool) (xs : List StartAnswer) → Leads (starts_block k g n i refused xs)
 lead_starts k g n i refused [] F f = f
 lead_starts k g n i refused (Started id ∷ xs) F f = silent (start_event k g n i (Started id)) (starts_block k g n (i + 1) refused xs ++ F)
@@ -47,6 +50,7 @@ lead_starts k g n i refused (NotStarted why ∷ xs) F f =
     told (start_event k g n i (NotStarted why)) (note.NotStarted (place.Command k g i)) refused
     ((if nat_lt 0 i then event step.ClosePipe answer.Closed ∷ [] else []) ++ F) refl (lead_close (nat_lt 0 i) F f)
 
+-- a wait for a child that was ended by a signal, or lost, is followed by its report
 lead_wait : (k g i id : ℕ) (x : WaitAnswer) (t : Bool) → Leads (wait_block k g i id (record { answer = x; told = t }))
 lead_wait k g i id (Exit n) t F f = silent (event (step.Wait (place.Command k g i) id) (answer.Wait (Exit n))) F refl refl f
 lead_wait k g i id Signal t F f = told (event (step.Wait (place.Command k g i) id) (answer.Wait Signal))
@@ -54,12 +58,14 @@ lead_wait k g i id Signal t F f = told (event (step.Wait (place.Command k g i) i
 lead_wait k g i id Lost t F f = told (event (step.Wait (place.Command k g i) id) (answer.Wait Lost))
     (note.Lost (place.Command k g i)) t F refl f
 
+-- a removal is followed by its report if it failed
 lead_removal : (p : Place) (x : RemoveAnswer) (t : Bool) → Leads (removal_block p (record { answer = x; told = t }))
 lead_removal p remove.Removed t F f = silent (event (step.Remove p) (answer.Remove remove.Removed)) F refl refl f
 lead_removal p remove.Missing t F f = silent (event (step.Remove p) (answer.Remove remove.Missing)) F refl refl f
 lead_removal p remove.NotPlain t F f = silent (event (step.Remove p) (answer.Remove remove.NotPlain)) F refl refl f
 lead_removal p remove.Failed t F f = told (event (step.Remove p) (answer.Remove remove.Failed)) (note.NotRemoved p) t F refl f
 
+-- each kind of block in a story is followed by its report if it failed
 lead_kinds : Kinds Leads
 lead_kinds = record {
   claim = lead_claim;
@@ -69,6 +75,7 @@ lead_kinds = record {
       (place.OnFailure k i) x t;
 }
 
+-- each removal at the end is followed by its report if it failed
 lead_end : (files : List File) (rs : List (Told RemoveAnswer)) → Each Leads (end_removals files rs)
 lead_end [] rs = tt
 lead_end (x ∷ files) [] = tt
@@ -78,6 +85,7 @@ all_lead : (bs : List Block) → Each Leads bs → (F : List RunEvent) → Repor
 all_lead [] e F f = f
 all_lead (b ∷ bs) e F f = subst (λ l. Reported l) (sym (append_assoc b (events_of bs) F)) (e.0 (events_of bs ++ F) (all_lead bs e.1 F f))
 
+-- in a whole run each failure is followed directly by its report, and there is no other report
 pub all_reported : (plan : Plan) (N : ℕ) (o : Answers) (E : List RunEvent) → Windowed plan N o E → Reported E
 all_reported plan N o E w = subst (λ l. Reported l) (sym w.events) (all_lead (blocks_of w.blocks) (of_sources Leads lead_kinds plan N o E w)
     (events_of (after_sources plan o)) last)

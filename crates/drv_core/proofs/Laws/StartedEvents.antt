@@ -32,7 +32,8 @@ use Rattle.std.proofs.lemmas.Grind.{flat_map-append}
 use Rattle.std.specs.Option.{option_to_list}
 use Rattle.std.specs.Prelude.{slice_get}
 
--- For started_first: the commands of a job that the events of a whole run start are those that its answers start.
+-- For started_first: the commands of a job that the events of a whole run start are those that its answers start. `seen plan k blocks` is
+-- the commands of job k that these blocks start.
 
 abbrev seen : Plan → ℕ → List Block → List Command
 seen plan k blocks = started_in plan k (events_of blocks)
@@ -45,6 +46,7 @@ both plan k xs ys = two_lists (λ e. started_by plan k e.step e.answer) xs ys
 
 -- waits start nothing
 
+-- a wait starts no command
 no_wait : (plan : Plan) (k j g i id : ℕ) (x : WaitAnswer) (t : Bool)
     → started_in plan k (wait_block j g i id (record { answer = x; told = t })) ≡ []
 no_wait plan k j g i id (Exit n) t = refl
@@ -57,6 +59,7 @@ no_close : (plan : Plan) (k : ℕ) (t : Bool) → started_in plan k (if t then e
 no_close plan k true = refl
 no_close plan k false = refl
 
+-- the starts of a group start the commands of its first started members
 starts : (plan : Plan) (k g n i : ℕ) (refused : Bool) (cs : List Command) (xs : List StartAnswer)
     → ((h : ℕ) → slice_get (group_at (job_at plan k) g) (i + h) ≡ slice_get cs h) → started_in plan k (starts_block k g n i refused xs)
     ≡ started_in_group cs xs
@@ -86,6 +89,7 @@ starts plan k g n i refused cs (Started id ∷ xs) at = ap (λ l. l ++ started_i
     by (d ∷ ds) first later following = ap (λ l. option_to_list l ++ started_in plan k (starts_block k g n (i + 1) refused xs)) first
         ∙ ap (λ l. d ∷ l) (later ds following)
 
+-- the starts of another job start nothing of this one
 no_starts : (plan : Plan) (k j g n i : ℕ) (refused : Bool) (xs : List StartAnswer) → nat_eq j k ≡ false
     → started_in plan k (starts_block j g n i refused xs) ≡ []
 no_starts plan k j g n i refused [] other = refl
@@ -96,6 +100,7 @@ no_starts plan k j g n i refused (Started id ∷ xs) other = nothing
 
 -- groups
 
+-- the groups of a job start the commands that their answers say
 groups : (plan : Plan) (k g : ℕ) (cs : List (List Command)) (xs : List GroupAnswers)
     → ((h : ℕ) → group_at (job_at plan k) (g + h) ≡ get_or cs h []) → whole_groups cs xs ≡ true
     → seen plan k (group_blocks k g cs xs) ≡ started_in_groups cs xs
@@ -124,6 +129,7 @@ groups plan k g (c ∷ cs) (x ∷ xs) at e =
     rest true (y ∷ ys) w ih = absurd cc
     rest false ys w ih = ih w
 
+-- the groups of another job start nothing of this one
 no_groups : (plan : Plan) (k j g : ℕ) (cs : List (List Command)) (xs : List GroupAnswers) → nat_eq j k ≡ false
     → seen plan k (group_blocks j g cs xs) ≡ []
 no_groups plan k j g [] xs other = refl
@@ -137,6 +143,7 @@ no_groups plan k j g (c ∷ cs) (x ∷ xs) other =
 
 -- the story of a job
 
+-- of a story only the groups start commands
 in_story : (plan : Plan) (k j : ℕ) (job : Job) (a : JobAnswers)
     → seen plan k (story j job a) ≡ seen plan k (group_blocks j 0 job.groups a.groups)
 in_story plan k j job a = both plan k (claim_blocks j 0 a.claims) (group_blocks j 0 job.groups a.groups ++ own_removals j 0 a.removals)
@@ -148,12 +155,13 @@ in_story plan k j job a = both plan k (claim_blocks j 0 a.claims) (group_blocks 
 other_story : (plan : Plan) (k j : ℕ) (job : Job) (a : JobAnswers) → nat_eq j k ≡ false → seen plan k (story j job a) ≡ []
 other_story plan k j job a other = in_story plan k j job a ∙ no_groups plan k j 0 job.groups a.groups other
 
+-- groups without answers start nothing
 unanswered : (plan : Plan) (k : ℕ) (cs : List (List Command)) (xs : List GroupAnswers) → none xs ≡ true
     → seen plan k (group_blocks k 0 cs xs) ≡ []
 unanswered plan k cs [] e = ap (λ l. seen plan k l) (no_group k 0 cs)
 unanswered plan k cs (x ∷ xs) e = absurd cc
 
--- of a job that the plan has there, or that has nothing to do
+-- a story starts the commands of its job that its answers say, if the plan has the job at number k, or it has no group
 own_story : (plan : Plan) (k : ℕ) (job : Job) (a : JobAnswers) → (none job.groups ≡ false → job_at plan k ≡ job) → whole_job job a ≡ true
     → seen plan k (story k job a) ≡ started job a
 own_story plan k job a here whole = in_story plan k k job a ∙ by (none job.groups) refl whole
@@ -187,6 +195,7 @@ own_story plan k job a here whole = in_story plan k k job a ∙ by (none job.gro
 
 -- the jobs of a plan, by their numbers
 
+-- a link that runs is the job after the sources
 link_there : (jobs : List Job) (link : Option Job) (xs : List JobAnswers) → none (link_run link xs).groups ≡ false
     → get_or (jobs ++ option_to_list link) (length jobs) no_job ≡ link_run link xs
 link_there jobs None xs busy = absurd cc
@@ -205,6 +214,7 @@ in_halves : (plan : Plan) (N : ℕ) (o : Answers) (E : List RunEvent) → (w : W
 in_halves plan N o E w k = halves (λ e. started_by plan k e.step e.answer) plan N o E w k
     (λ j job a other. other_story plan k j job a other)
 
+-- each job starts the same commands in a run and in that run rearranged source by source
 pub starts_the_same : StartsTheSame
 starts_the_same plan N o E w k = in_halves plan 1 o (serial plan o w.blocks) (rearranges plan N o E w) k
     ∙ ap (λ l. seen plan k (of k l) ++ seen plan k (after_sources plan o)) (rearranged plan N o E w)
@@ -216,6 +226,7 @@ starts_the_same plan N o E w k = in_halves plan 1 o (serial plan o w.blocks) (re
         let le : length plan.jobs ≤ k = is_not_less k (length plan.jobs) e in
         of_beyond (length plan.jobs) k w.blocks le ∙ sym (none_above plan N o E w k le)
 
+-- in a whole run the started commands of each job are the first ones of its planned list
 pub started_first : (plan : Plan) (N : ℕ) (o : Answers) (E : List RunEvent) → Windowed plan N o E
     → EachStartsFirst plan E 0 (plan.jobs ++ link_run plan.link o.jobs ∷ []) (o.jobs ++ o.link ∷ [])
 started_first plan N o E w = each 0 plan.jobs o.jobs (jobs_whole plan N o E w) w.stories

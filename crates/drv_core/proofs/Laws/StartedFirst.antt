@@ -14,7 +14,8 @@ use Rattle.std.proofs.lemmas.List.{append-nil}
 use Rattle.std.specs.List.{flat_map, list_any}
 use Rattle.std.specs.Prelude.{if◌then◌else◌}
 
--- For started_first: the started commands of a job are the first ones of its planned list.
+-- For started_first: the started commands of a job, by its answers, are the first ones of its planned list, which is its commands group
+-- after group.
 
 or_parts : (a b : Bool) → (a || b) ≡ false → (a ≡ false) × (b ≡ false)
 or_parts false b e = (refl, e)
@@ -22,12 +23,14 @@ or_parts true b e = absurd cc
 
 -- in a group
 
+-- the started commands of a group are its first ones
 in_group : (cs : List Command) (xs : List StartAnswer) → (rest : List Command) × (cs ≡ started_in_group cs xs ++ rest)
 in_group [] xs = ([], refl)
 in_group (c ∷ cs) [] = (c ∷ cs, refl)
 in_group (c ∷ cs) (NotStarted why ∷ xs) = (c ∷ cs, refl)
 in_group (c ∷ cs) (Started id ∷ xs) = let later = in_group cs xs in (later.0, ap (λ l. c ∷ l) later.1)
 
+-- all commands of a group were started if no start was refused
 all_in_group : (cs : List Command) (xs : List StartAnswer) (ws : List (Told WaitAnswer)) → whole_group cs xs ws ≡ true
     → list_any (λ s. not (is_started s)) xs ≡ false → started_in_group cs xs ≡ cs
 all_in_group [] xs ws whole well = refl
@@ -36,6 +39,7 @@ all_in_group (c ∷ cs) (NotStarted why ∷ xs) ws whole well = absurd cc
 all_in_group (c ∷ cs) (Started id ∷ xs) [] whole well = absurd cc
 all_in_group (c ∷ cs) (Started id ∷ xs) (w ∷ ws) whole well = ap (λ l. c ∷ l) (all_in_group cs xs ws whole well)
 
+-- all commands of a group that did not fail were started
 every_start : (g : List Command) (a : GroupAnswers) → whole_group g a.starts a.waits ≡ true → group_failed a ≡ false
     → started_in_group g a.starts ≡ g
 every_start g a whole well = all_in_group g a.starts a.waits whole (or_parts (list_any (λ s. not (is_started s)) a.starts)
@@ -46,6 +50,7 @@ every_start g a whole well = all_in_group g a.starts a.waits whole (or_parts (li
 abbrev all_of : List (List Command) → List Command
 all_of gs = flat_map (λ group. group) gs
 
+-- the started commands of groups are the first ones of their commands
 in_groups : (gs : List (List Command)) (xs : List GroupAnswers) → whole_groups gs xs ≡ true
     → (rest : List Command) × (all_of gs ≡ started_in_groups gs xs ++ rest)
 in_groups [] [] whole = ([], refl)
@@ -74,6 +79,7 @@ in_groups (g ∷ gs) (a ∷ xs) whole =
               ∙ sym (append_assoc (started_in_group g a.starts) (started_in_groups gs xs) following.0),
         )
 
+-- if no group failed, all commands of the groups were started
 every_group : (gs : List (List Command)) (xs : List GroupAnswers) → whole_groups gs xs ≡ true → list_any group_failed xs ≡ false
     → started_in_groups gs xs ≡ all_of gs
 every_group [] xs whole well = refl
@@ -115,6 +121,7 @@ groups_whole job a whole claimed = by (none job.groups) refl whole
 
 -- by the answers of a job
 
+-- the started commands of a job are the first ones of its planned list
 pub first_ones : (job : Job) (a : JobAnswers) → whole_job job a ≡ true → (rest : List Command) × (commands_of job ≡ started job a ++ rest)
 first_ones job a whole = front (claims_failed a) refl
   where
@@ -128,6 +135,7 @@ first_ones job a whole = front (claims_failed a) refl
     front true is = (all_of job.groups, refl)
     front false is = front_of (groups_whole job a whole is)
 
+-- if the job did not fail, all its commands were started
 pub every_one : (job : Job) (a : JobAnswers) → whole_job job a ≡ true → job_failed a ≡ false → started job a ≡ commands_of job
 every_one job a whole well =
     let both = or_parts (claims_failed a) (list_any group_failed a.groups) well in

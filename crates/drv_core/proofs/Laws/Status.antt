@@ -40,11 +40,13 @@ nothing_max n = omega arith
 max_assoc : (a b c : ℕ) → max (max a b) c ≡ max a (max b c)
 max_assoc a b c = omega arith
 
+-- the greatest code of two lists of events is the greater of theirs
 pub code_append : (E F : List RunEvent) → run_code (E ++ F) ≡ max (run_code E) (run_code F)
 code_append [] F = sym (nothing_max (run_code F))
 code_append (e ∷ E) F = ap (λ n. max (answer_code e.answer) n) (code_append E F)
     ∙ sym (max_assoc (answer_code e.answer) (run_code E) (run_code F))
 
+-- the greatest code of two lists of blocks is the greater of theirs
 events_two : (xs ys : List Block) → run_code (events_of (xs ++ ys)) ≡ max (run_code (events_of xs)) (run_code (events_of ys))
 events_two [] ys = sym (nothing_max (run_code (events_of ys)))
 events_two (x ∷ xs) ys = code_append x (events_of (xs ++ ys)) ∙ ap (λ n. max (run_code x) n) (events_two xs ys)
@@ -53,12 +55,14 @@ events_two (x ∷ xs) ys = code_append x (events_of (xs ++ ys)) ∙ ap (λ n. ma
 
 -- claims
 
+-- the greatest code of a claim is 1 if it failed
 code_claim : (k i : ℕ) (x : ClaimAnswer) (t : Bool) → run_code (claim_block k i (record { answer = x; told = t }))
     ≡ (if is_claimed x then 0 else 1)
 code_claim k i claim.Claimed t = refl
 code_claim k i claim.Taken t = refl
 code_claim k i claim.Failed t = refl
 
+-- the greatest code of claims is that of their answers
 code_claims : (k i : ℕ) (cs : List (Told ClaimAnswer)) → run_code (events_of (claim_blocks k i cs))
     ≡ greatest (λ c. if is_claimed c.answer then 0 else 1) cs
 code_claims k i [] = refl
@@ -72,6 +76,7 @@ code_close : (t : Bool) → run_code (if t then event step.ClosePipe answer.Clos
 code_close true = refl
 code_close false = refl
 
+-- the greatest code of a group's starts is that of their answers
 code_starts : (k g n i : ℕ) (refused : Bool) (cs : List Command) (xs : List StartAnswer) (ws : List (Told WaitAnswer))
     → whole_group cs xs ws ≡ true → run_code (starts_block k g n i refused xs) ≡ greatest (λ s. if is_started s then 0 else 1) xs
 code_starts k g n i refused [] [] ws e = refl
@@ -83,11 +88,13 @@ code_starts k g n i refused (c ∷ cs) (start.NotStarted why ∷ []) [] e = ap (
 code_starts k g n i refused (c ∷ cs) (start.NotStarted why ∷ []) (w ∷ ws) e = absurd cc
 code_starts k g n i refused (c ∷ cs) (start.NotStarted why ∷ x ∷ xs) ws e = absurd cc
 
+-- the greatest code of a wait is that of its child
 code_wait : (k g i id : ℕ) (x : WaitAnswer) (t : Bool) → run_code (wait_block k g i id (record { answer = x; told = t })) ≡ code_of x
 code_wait k g i id (Exit n) t = max_nothing n
 code_wait k g i id Signal t = refl
 code_wait k g i id Lost t = refl
 
+-- the greatest code of a group's waits is that of the answers
 code_waits : (k g i : ℕ) (cs : List Command) (xs : List StartAnswer) (ws : List (Told WaitAnswer)) → whole_group cs xs ws ≡ true
     → run_code (events_of (wait_blocks k g i xs ws)) ≡ greatest (λ w. code_of w.answer) ws
 code_waits k g i [] [] [] e = refl
@@ -106,6 +113,7 @@ no_group : (k g : ℕ) (cs : List (List Command)) → group_blocks k g cs [] ≡
 no_group k g [] = refl
 no_group k g (c ∷ cs) = refl
 
+-- the greatest code of the events of groups is that of their answers
 code_groups : (k g : ℕ) (cs : List (List Command)) (xs : List GroupAnswers) → whole_groups cs xs ≡ true
     → run_code (events_of (group_blocks k g cs xs)) ≡ greatest group_code xs
 code_groups k g [] [] e = refl
@@ -134,6 +142,7 @@ code_groups k g (c ∷ cs) (x ∷ xs) e =
 
 -- removals
 
+-- a removal has code 0
 code_removal : (p : Place) (x : RemoveAnswer) (t : Bool) → run_code (removal_block p (record { answer = x; told = t })) ≡ 0
 code_removal p x t = by (removal_failed x)
   where
@@ -141,12 +150,14 @@ code_removal p x t = by (removal_failed x)
     by true = refl
     by false = refl
 
+-- a job's own removals have code 0
 code_own : (k i : ℕ) (rs : List (Told RemoveAnswer)) → run_code (events_of (own_removals k i rs)) ≡ 0
 code_own k i [] = refl
 code_own k i (r ∷ rs) = code_append (removal_block (place.OnFailure k i) r) (events_of (own_removals k (i + 1) rs))
     ∙ ap (λ n. max n (run_code (events_of (own_removals k (i + 1) rs)))) (code_removal (place.OnFailure k i) r.answer r.told)
     ∙ ap (λ n. max 0 n) (code_own k (i + 1) rs)
 
+-- the removals at the end have code 0
 code_end : (files : List File) (rs : List (Told RemoveAnswer)) → run_code (events_of (end_removals files rs)) ≡ 0
 code_end [] rs = refl
 code_end (f ∷ files) [] = refl
@@ -156,11 +167,13 @@ code_end (f ∷ files) (r ∷ rs) = code_append (removal_block f.place r) (event
 
 -- a story
 
+-- groups without answers have code 0
 no_groups_code : (k : ℕ) (cs : List (List Command)) (xs : List GroupAnswers) → none xs ≡ true
     → run_code (events_of (group_blocks k 0 cs xs)) ≡ greatest group_code xs
 no_groups_code k cs [] e = ap (λ l. run_code (events_of l)) (no_group k 0 cs)
 no_groups_code k cs (x ∷ xs) e = absurd cc
 
+-- the greatest code of a story's events is that of its answers
 pub code_story : (k : ℕ) (job : Job) (a : JobAnswers) → whole_job job a ≡ true → run_code (events_of (story k job a)) ≡ job_code a
 code_story k job a e = events_two (claim_blocks k 0 a.claims) (group_blocks k 0 job.groups a.groups ++ own_removals k 0 a.removals)
     ∙ ap (λ n. max n (run_code (events_of (group_blocks k 0 job.groups a.groups ++ own_removals k 0 a.removals))))
@@ -186,14 +199,17 @@ code_story k job a e = events_two (claim_blocks k 0 a.claims) (group_blocks k 0 
 
 -- the sources, in any order of their blocks
 
+-- the greatest value of f at the numbers below n
 abbrev pub top : ℕ → (ℕ → ℕ) → ℕ
 top zero f = 0
 top (suc n) f = max (f n) (top n f)
 
+-- functions that agree below n have the same greatest value
 pub top_same : (n : ℕ) (f g : ℕ → ℕ) → ((j : ℕ) → j < n → f j ≡ g j) → top n f ≡ top n g
 top_same zero f g e = refl
 top_same (suc n) f g e = rw (e n (omega arith), top_same n f g (λ j lt. e j (omega arith))) refl
 
+-- a function that is raised to at least c at one number has the greater of c and the value before
 top_with : (n k c : ℕ) (f g : ℕ → ℕ) → k < n → g k ≡ max c (f k) → ((j : ℕ) → nat_eq k j ≡ false → g j ≡ f j) → top n g ≡ max c (top n f)
 top_with zero k c f g lt at others = absurd (omega arith)
 top_with (suc n) k c f g lt at others = by (nat_eq k n) refl (λ below. top_with n k c f g below at others)
@@ -208,10 +224,12 @@ top_with (suc n) k c f g lt at others = by (nat_eq k n) refl (λ below. top_with
         let rest : top n g ≡ max c (top n f) = ih (grind (arith, nat_tests)) in
         rw (others n e, rest) (omega arith)
 
+-- all blocks are of sources below n
 abbrev pub Below : ℕ → List SourceBlock → Type 0
 Below n [] = ⊤
 Below n (b ∷ bs) = (b.source < n) × Below n bs
 
+-- blocks that may come are of sources
 pub all_below : (n N : ℕ) (left : ℕ → Bool) (before blocks : List SourceBlock) → AllMayCome n N left before blocks → Below n blocks
 all_below n N left before [] come = tt
 all_below n N left before (b ∷ bs) come = (is_less b.source n come.0.is_source, all_below n N left (before ++ b ∷ []) bs come.1)
@@ -220,6 +238,7 @@ no_top : (n : ℕ) → 0 ≡ top n (λ j. 0)
 no_top zero = refl
 no_top (suc n) = no_top n ∙ sym (nothing_max (top n (λ j. 0)))
 
+-- the greatest code of all blocks is the greatest of each source's
 pub code_blocks : (n : ℕ) (blocks : List SourceBlock) → Below n blocks → run_code (events_of (blocks_of blocks))
     ≡ top n (λ j. run_code (events_of (of j blocks)))
 code_blocks n [] below = no_top n
@@ -236,6 +255,7 @@ top_first zero f = refl
 top_first (suc n) f = ap (λ m. max (f (suc n)) m) (top_first n f)
     ∙ (let swap : max (f (suc n)) (max (f 0) (top n (λ j. f (suc j)))) ≡ max (f 0) (max (f (suc n)) (top n (λ j. f (suc j)))) = omega arith in swap)
 
+-- where each source's blocks are its story, that is the greatest code of the answers
 pub code_stories : (blocks : List SourceBlock) (k : ℕ) (jobs : List Job) (xs : List JobAnswers) → whole_jobs jobs xs ≡ true
     → TellStories blocks k jobs xs → top (length jobs) (λ j. run_code (events_of (of (k + j) blocks))) ≡ greatest job_code xs
 code_stories blocks k [] [] e t = refl
@@ -252,12 +272,13 @@ code_stories blocks k (job ∷ jobs) (a ∷ xs) e t = top_first (length jobs) (�
     (λ j lt. ap (λ i. run_code (events_of (of i blocks))) (let at : k + suc j ≡ k + 1 + j = omega arith in at))
     ∙ code_stories blocks (k + 1) jobs xs (and_second (whole_job job a) (whole_jobs jobs xs) e) t.1)
 
+-- the greatest code of some answers and of one more
 greatest_last : (xs : List JobAnswers) (a : JobAnswers) → greatest job_code (xs ++ a ∷ []) ≡ max (greatest job_code xs) (job_code a)
 greatest_last [] a = max_nothing (job_code a) ∙ sym (nothing_max (job_code a))
 greatest_last (x ∷ xs) a = ap (λ n. max (job_code x) n) (greatest_last xs a)
     ∙ sym (max_assoc (job_code x) (greatest job_code xs) (job_code a))
 
--- the status of a whole run is that of the greatest code of its events
+-- the status of a whole run, by the greatest code of its events, is that of its answers
 pub status_is : (plan : Plan) (N : ℕ) (o : Answers) (E : List RunEvent) (pass_codes : FailureStatus) → Windowed plan N o E
     → status_from pass_codes (run_code E) ≡ status_of pass_codes o
 status_is plan N o E pass_codes w = ap (λ n. status_from pass_codes n)

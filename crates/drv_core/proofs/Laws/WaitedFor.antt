@@ -25,7 +25,8 @@ use Rattle.std.proofs.Common.{arith, if◌then◌else◌, inl, inr, length, map,
 use Rattle.std.proofs.lemmas.Cmp.{nat_eq_equiv}
 use Rattle.std.proofs.lemmas.Grind.{flat_map-append}
 
--- For waiting_law: in the events of a whole run each started child is waited for once.
+-- For waiting_law: in the events of a whole run each started child is waited for once. An act is the start of a child of the job, or the
+-- wait for one; `seen k blocks` is the acts of job k in these blocks.
 
 abbrev seen : ℕ → List Block → List Act
 seen k blocks = acts_in k (events_of blocks)
@@ -47,6 +48,7 @@ no_close : (k : ℕ) (t : Bool) → acts_in k (if t then event step.ClosePipe an
 no_close k true = refl
 no_close k false = refl
 
+-- the starts of a group begin its children
 starts : (k g n i : ℕ) (refused : Bool) (xs : List StartAnswer) → acts_in k (starts_block k g n i refused xs) ≡ map Begins (children g i xs)
 starts k g n i refused [] = refl
 starts k g n i refused (NotStarted why ∷ xs) = no_close k (nat_lt 0 i)
@@ -54,6 +56,7 @@ starts k g n i refused (Started id ∷ xs) = ap (λ (t : Bool). (if t then Begin
     ++ acts_in k (starts_block k g n (i + 1) refused xs)) (nat_eq_equiv.refl k)
     ∙ ap (λ l. Begins (record { group = g; member = i; id = id }) ∷ l) (starts k g n (i + 1) refused xs)
 
+-- the starts of another job begin no child of this one
 no_starts : (k j g n i : ℕ) (refused : Bool) (xs : List StartAnswer) → nat_eq j k ≡ false → acts_in k (starts_block j g n i refused xs) ≡ []
 no_starts k j g n i refused [] other = refl
 no_starts k j g n i refused (NotStarted why ∷ xs) other = no_close k (nat_lt 0 i)
@@ -61,12 +64,14 @@ no_starts k j g n i refused (Started id ∷ xs) other = nothing
     (ap (λ (t : Bool). if t then Begins (record { group = g; member = i; id = id }) ∷ [] else []) other)
     (no_starts k j g n (i + 1) refused xs other)
 
+-- a wait is for the child at its place
 a_wait : (k j g i id : ℕ) (x : WaitAnswer) (t : Bool) → acts_in k (wait_block j g i id (record { answer = x; told = t })) ≡ child_at k
     (place.Command j g i) Awaits id
 a_wait k j g i id (Exit n) t = append-nil (child_at k (place.Command j g i) Awaits id)
 a_wait k j g i id Signal t = append-nil (child_at k (place.Command j g i) Awaits id)
 a_wait k j g i id Lost t = append-nil (child_at k (place.Command j g i) Awaits id)
 
+-- the waits of a group are for its children, in the order of their starts
 waits : (k g i : ℕ) (cs : List Command) (xs : List StartAnswer) (ws : List (Told WaitAnswer)) → whole_group cs xs ws ≡ true
     → seen k (wait_blocks k g i xs ws) ≡ map Awaits (children g i xs)
 waits k g i [] [] [] e = refl
@@ -80,6 +85,7 @@ waits k g i (c ∷ cs) (Started id ∷ xs) (w ∷ ws) e = two k (wait_block k g 
     ∙ ap (λ (t : Bool). if t then Awaits (record { group = g; member = i; id = id }) ∷ [] else []) (nat_eq_equiv.refl k))
     ∙ ap (λ l. Awaits (record { group = g; member = i; id = id }) ∷ l) (waits k g (i + 1) cs xs ws e)
 
+-- a wait of another job is for no child of this one
 no_wait : (k j g i id : ℕ) (x : WaitAnswer) (t : Bool) → nat_eq j k ≡ false
     → acts_in k (wait_block j g i id (record { answer = x; told = t })) ≡ []
 no_wait k j g i id x t other = a_wait k j g i id x t ∙ ap (λ (u : Bool). if u then Awaits (record { group = g; member = i; id = id }) ∷
@@ -101,6 +107,7 @@ record Following (g i : ℕ) (acts : List Act) : Type 0 where
   each : Waited [] acts
   once : Ascends g i acts
 
+-- places that ascend from the next group on ascend from this one
 later : (g m i : ℕ) (acts : List Act) → Ascends (g + 1) i acts → Ascends g m acts
 later g m i [] a = tt
 later g m i (Begins c ∷ acts) a = (inl (by a.0), a.1)
@@ -110,6 +117,7 @@ later g m i (Begins c ∷ acts) a = (inl (by a.0), a.1)
     by (inr both) = let is = both.0 in omega (arith, is)
 later g m i (Awaits c ∷ acts) a = later g m i acts a
 
+-- the places of a group's children ascend, and then those of later groups
 up : (g m : ℕ) (xs : List StartAnswer) (acts : List Act) → ((n : ℕ) → Ascends g n acts) → Ascends g m (map Begins (children g m xs) ++ acts)
 up g m [] acts a = a m
 up g m (NotStarted why ∷ xs) acts a = a m
@@ -119,6 +127,7 @@ quiet : (g m : ℕ) (cs : List Child) (acts : List Act) → Ascends g m acts →
 quiet g m [] acts a = a
 quiet g m (c ∷ cs) acts a = quiet g m cs acts a
 
+-- a group that starts its children and waits for them, before acts of later groups
 group_after : (g : ℕ) (xs : List StartAnswer) (acts : List Act) → Following (g + 1) 0 acts
     → Following g 0 (map Begins (children g 0 xs) ++ (map Awaits (children g 0 xs) ++ acts))
 group_after g xs acts b = record {
@@ -129,6 +138,7 @@ group_after g xs acts b = record {
 none_after : (g : ℕ) (acts : List Act) → acts ≡ [] → Following g 0 acts
 none_after g acts e = subst (λ l. Following g 0 l) (sym e) (record { each = over; once = tt })
 
+-- each child of these groups is waited for once, in the order of the starts, and its place comes after those before
 groups : (k g : ℕ) (cs : List (List Command)) (xs : List GroupAnswers) → whole_groups cs xs ≡ true
     → Following g 0 (seen k (group_blocks k g cs xs))
 groups k g [] [] e = none_after g [] refl
@@ -156,6 +166,7 @@ groups k g (c ∷ cs) (x ∷ xs) e = subst (λ l. Following g 0 l) (sym is) (gro
     rest true (y ∷ ys) w ih = absurd cc
     rest false ys w ih = ih w
 
+-- the groups of another job have no child of this one
 no_groups : (k j g : ℕ) (cs : List (List Command)) (xs : List GroupAnswers) → nat_eq j k ≡ false → seen k (group_blocks j g cs xs) ≡ []
 no_groups k j g [] xs other = refl
 no_groups k j g (c ∷ cs) [] other = refl
@@ -168,6 +179,7 @@ no_groups k j g (c ∷ cs) (x ∷ xs) other =
 
 -- the story of a job
 
+-- of a story only the groups have children
 in_story : (k j : ℕ) (job : Job) (a : JobAnswers) → seen k (story j job a) ≡ seen k (group_blocks j 0 job.groups a.groups)
 in_story k j job a = both k (claim_blocks j 0 a.claims) (group_blocks j 0 job.groups a.groups ++ own_removals j 0 a.removals)
     ∙ ap (λ l. l ++ seen k (group_blocks j 0 job.groups a.groups ++ own_removals j 0 a.removals))
@@ -182,6 +194,7 @@ unanswered : (k : ℕ) (cs : List (List Command)) (xs : List GroupAnswers) → n
 unanswered k cs [] e = ap (λ l. seen k l) (no_group k 0 cs)
 unanswered k cs (x ∷ xs) e = absurd cc
 
+-- each child of a job's story is waited for once, in the order of the starts
 own_story : (k : ℕ) (job : Job) (a : JobAnswers) → whole_job job a ≡ true → Following 0 0 (seen k (story k job a))
 own_story k job a whole = subst (λ l. Following 0 0 l) (sym (in_story k k job a)) (by (none job.groups) whole)
   where
@@ -204,6 +217,7 @@ own_story k job a whole = subst (λ l. Following 0 0 l) (sym (in_story k k job a
 
 -- the sources
 
+-- each source's blocks in a run wait for its children
 own_source : (bs : List SourceBlock) (from : ℕ) (jobs : List Job) (xs : List JobAnswers) → whole_jobs jobs xs ≡ true
     → TellStories bs from jobs xs → (j : ℕ) → j < length jobs → Following 0 0 (seen (from + j) (of (from + j) bs))
 own_source bs from [] xs e t j lt = absurd (omega arith)
@@ -219,6 +233,7 @@ own_source bs from (job ∷ jobs) (a ∷ xs) e t (suc j) lt =
 
 -- a whole run
 
+-- in a whole run each child of job k is waited for once, and no place starts two
 pub waits_for_each : (plan : Plan) (N : ℕ) (o : Answers) (E : List RunEvent) → Windowed plan N o E → (k : ℕ) → WaitsForEach k E
 waits_for_each plan N o E w k = done (by (nat_lt k (length plan.jobs)) refl)
   where

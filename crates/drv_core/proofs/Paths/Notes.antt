@@ -14,14 +14,17 @@ use Rattle.std.proofs.lemmas.Cmp.{nat_list_eq_equiv}
 use Rattle.std.proofs.lemmas.List.{drop_all, drop_more, length-map, map-append}
 use Rattle.std.specs.Cmp.Lexicographic.{pointwise, same_text}
 
--- For the removals at the end: the code numbers the paths of the leftover files.
+-- For the removals at the end: the code numbers the paths of the leftover files (numbering.rt), file by file: a path has the number of its
+-- first file. `Noted` is what holds after some files, `Noting` within a list of them.
 
 -- the search continues after a list
 
+-- what the first search found, or else the second
 abbrev pub found_then : Option ℕ → Option ℕ → Option ℕ
 found_then None o = o
 found_then (Some n) o = Some n
 
+-- the search in two lists of files
 pub first_front : (i : ℕ) (p : List ℕ) (xs ys : List File) → first_with i p (xs ++ ys) ≡ found_then (first_with i p xs)
     (first_with (i + length xs) p ys)
 first_front i p [] ys = ap (λ n. first_with n p ys) (let e : i ≡ i + 0 = omega arith in e)
@@ -34,6 +37,7 @@ first_front i p (x ∷ xs) ys = by (pointwise nat_eq p x.path) (first_front (i +
     by false ih = ih ∙ ap (λ n. found_then (first_with (i + 1) p xs) (first_with n p ys))
         (let e : i + 1 + length xs ≡ i + length (x ∷ xs) = omega arith in e)
 
+-- files that are numbered in two parts
 pub numbered_append : (before xs ys : List File) → numbered_files before (xs ++ ys) ≡ numbered_files before xs ++ numbered_files
     (before ++ xs) ys
 numbered_append before [] ys = ap (λ l. numbered_files l ys) (sym (append-nil before))
@@ -41,12 +45,14 @@ numbered_append before (x ∷ xs) ys = ap (λ l. record { place = x.place; first
     l) (numbered_append (before ++ x ∷ []) xs ys
     ∙ ap (λ l. numbered_files (before ++ x ∷ []) xs ++ numbered_files l ys) (append_assoc before (x ∷ []) xs))
 
+-- as many are numbered as there are files
 pub many_lefts : (before xs : List File) → length (numbered_files before xs) ≡ length xs
 many_lefts before [] = refl
 many_lefts before (x ∷ xs) = ap (λ (n : ℕ). suc n) (many_lefts (before ++ x ∷ []) xs)
 
 -- one more file
 
+-- the number that the code finds for a path is that of its first file, or a new one
 noted_first : (before : List File) (files : List Leftover) (find : List ℕ → Option ℕ) (path : List ℕ) (first : ℕ) → Noted before files find
     → first ≡ unwrap_or (find path) (length files) → first ≡ unwrap_or (first_with 0 path before) (length before)
 noted_first before files find path first h is = is ∙ ap (λ o. unwrap_or o (length files)) (h.found path)
@@ -55,6 +61,7 @@ noted_first before files find path first h is = is ∙ ap (λ o. unwrap_or o (le
 abbrev file_of : Place → List ℕ → File
 file_of place path = record { place = place; path = path }
 
+-- the code's list with one more file is the numbered list
 files_more : (before : List File) (files new : List Leftover) (find : List ℕ → Option ℕ) (place : Place) (path : List ℕ) (first : ℕ)
     → Noted before files find → first ≡ unwrap_or (find path) (length files)
     → new ≡ files ++ record { place = place; first = first } ∷ [] → new ≡ numbered_files [] (before ++ file_of place path ∷ [])
@@ -62,7 +69,7 @@ files_more before files new find place path first h is e = e ∙ ap (λ n. files
     (noted_first before files find path first h is)
     ∙ ap (λ l. l ++ numbered_files before (file_of place path ∷ [])) h.files_are ∙ sym (numbered_append [] before (file_of place path ∷ []))
 
--- the number that is found for a path after another path has got its number
+-- what is found for a path, after one more file with its path and number was added
 found_more : (before : List File) (n : ℕ) (path p : List ℕ) (place : Place) (first : ℕ) (o : Option ℕ) → n ≡ length before
     → first ≡ unwrap_or (first_with 0 path before) n → o ≡ first_with 0 p before
     → (if nat_eq first n then cond (pointwise nat_eq path p) (Some n) o else o) ≡ first_with 0 p (before ++ file_of place path ∷ [])
@@ -99,6 +106,7 @@ found_more before n path p place first o many is known = by (pointwise nat_eq pa
         ∙ ap (λ (t : Bool). found_then (first_with 0 p before) (if t then Some (0 + length before) else None))
         (sym (nat_list_eq_equiv.symm p path ∙ e))
 
+-- one more file is noted
 pub noted_more : (before : List File) (files new : List Leftover) (find now : List ℕ → Option ℕ) (place : Place) (path : List ℕ)
     (first n : ℕ) → Noted before files find → n ≡ length files → first ≡ unwrap_or (find path) n
     → new ≡ files ++ record { place = place; first = first } ∷ []
@@ -112,14 +120,16 @@ noted_more before files new find now place path first n h many is e found = reco
 
 -- lists of files
 
+-- before the loop no file of the list is noted
 pub noting_starts : (before rest : List File) (files : List Leftover) (find : List ℕ → Option ℕ) → Noted before files find
     → Noting (before ++ rest) rest files find
 noting_starts before rest files find h = record { before = before; parts = refl; noted = h }
 
+-- after the loop all files of the list are noted
 pub noting_ends : (all : List File) (files : List Leftover) (find : List ℕ → Option ℕ) → Noting all [] files find → Noted all files find
 noting_ends all files find h = subst (λ l. Noted l files find) (sym (append-nil h.before) ∙ h.parts) h.noted
 
--- some more files are noted
+-- some more files of the list are noted
 pub noting_on : (all more rest : List File) (files new : List Leftover) (find now : List ℕ → Option ℕ)
     → Noting all (more ++ rest) files find → ((before : List File) → Noted before files find → Noted (before ++ more) new now)
     → Noting all rest new now
@@ -130,7 +140,7 @@ noting_on all more rest files new find now h goes = record {
   noted = goes h.before h.noted;
 }
 
--- the files of a list's items, of which the next item's are noted
+-- the files of the next item of a list are noted
 pub noting_next : {X : Type 0} (from : ℕ → List X → List File) (one : ℕ → X → List File) (all : List File) (xs : List X) (i : ℕ) (x : X)
     (files new : List Leftover) (find now : List ℕ → Option ℕ)
     → ((rest : List X) → from i (x ∷ rest) ≡ one i x ++ from (i + 1) rest) → x ≡ get_or xs i x → i < length xs
@@ -141,7 +151,7 @@ noting_next from one all xs i x files new find now steps is here h goes =
     (subst (λ l. Noting all l files find) (ap (λ l. from i l) (drop_more xs i x here) ∙ ap (λ y. from i (y ∷ drop (i + 1) xs)) (sym is)
     ∙ steps (drop (i + 1) xs)) h) goes
 
--- all items are noted
+-- after the last item all its files are noted
 pub noting_all : {X : Type 0} (from : ℕ → List X → List File) (before : List File) (xs all : List X) (i : ℕ) (files : List Leftover)
     (find : List ℕ → Option ℕ)
     → from i [] ≡ [] → length xs ≤ i → xs ≡ all → Noting (before ++ from 0 xs) (from i (drop i xs)) files find
@@ -150,12 +160,12 @@ noting_all from before xs all i files find none past is h = subst (λ l. Noted (
     (noting_ends (before ++ from 0 xs) files find (subst (λ l. Noting (before ++ from 0 xs) l files find)
     (ap (λ l. from i l) (drop_all i xs past) ∙ none) h))
 
--- no file was noted before
+-- before the first file the code's list is empty, and no path is found
 pub noted_none : (files : List CodeLeftover) (find : List ℕ → Option ℕ) → files ≡ [] → ((p : List ℕ) → find p ≡ None)
     → Noted [] (leftover_list files) find
 noted_none files find no_files none = record { files_are = ap leftover_list no_files; found = none }
 
--- the code's own list
+-- one more file is noted, in the code's own list
 pub noted_file : (before : List File) (files new : List CodeLeftover) (find now : List ℕ → Option ℕ) (place : Place) (path : List ℕ)
     (first n : ℕ) → Noted before (leftover_list files) find → n ≡ length files → first ≡ unwrap_or (find path) n
     → new ≡ files ++ record { place = place; first = first } ∷ []
@@ -169,6 +179,7 @@ noted_file before files new find now place path first n h many is e found = note
 abbrev at_first : List Leftover → List Bool → List ℕ → ℕ → Leftovers
 at_first files gone claimed sources = record { files = files; gone = gone; claimed = claimed; sources = sources; linked = false; at = 0 }
 
+-- the record that the code makes is the one before the first event
 pub fresh_made : (files : List CodeLeftover) (named : List Leftover) (gone : List Bool) (claimed pushed : List ℕ) (n m k sources : ℕ)
     → leftover_list files ≡ named → gone ≡ replicate n false → n ≡ length files → claimed ≡ replicate m 0 → m ≡ sources
     → pushed ≡ claimed ++ 0 ∷ [] → k ≡ sources
@@ -181,10 +192,12 @@ fresh_made files named gone claimed pushed n m k sources named_is none_gone many
     ∙ ap (λ l. l ++ 0 ∷ []) (none_claimed ∙ ap (λ i. replicate i 0) each))
     ∙ ap (λ i. at_first named (replicate (length named) false) (replicate sources 0 ++ 0 ∷ []) i) all
 
+-- the rest of the code's list
 pub drop_lefts : (n : ℕ) (files : List CodeLeftover) → leftover_list (drop n files) ≡ drop n (leftover_list files)
 drop_lefts zero files = refl
 drop_lefts (suc n) [] = refl
 drop_lefts (suc n) (f ∷ files) = drop_lefts n files
 
+-- a choice by two equal numbers is its first value
 pub by_same : {X : Type 0} (a b : ℕ) (x y z : X) → a ≡ b → x ≡ y → x ≡ (if nat_eq a b then y else z)
 by_same a b x y z e is = is ∙ ap (λ (t : Bool). if t then y else z) (sym (ap (λ n. nat_eq a n) (sym e) ∙ nat_eq_equiv.refl a))

@@ -11,10 +11,11 @@ use Rattle.std.specs.Prelude.{replicate, unwrap_or}
 
 -- For the removals at the end: the number of a path is that of its first file. So two paths have the same number exactly if they are equal.
 
+-- the number of a path among these files
 abbrev pub number_in : List File → List ℕ → ℕ
 number_in fs p = unwrap_or (first_with 0 p fs) (length fs)
 
--- a path that no earlier file has is found at its own file
+-- the first file with a path is an earlier one with it, or else the file itself
 first_here : (i : ℕ) (p : List ℕ) (before : List File) (f : File) (rest : List File) → pointwise nat_eq p f.path ≡ true
     → first_with i p (before ++ f ∷ rest) ≡ Some (unwrap_or (first_with i p before) (i + length before))
 first_here i p [] f rest e = ap (λ (t : Bool). if t then Some i else first_with (i + 1) p rest) e
@@ -28,12 +29,14 @@ first_here i p (b ∷ before) f rest e = by (pointwise nat_eq p b.path) (first_h
     by false ih = ih ∙ ap (λ n. Some (unwrap_or (first_with (i + 1) p before) n))
         (let z : i + 1 + length before ≡ i + suc (length before) = omega arith in z)
 
+-- a file's path has the number of the first file with that path, or its own
 number_here : (before : List File) (f : File) (rest : List File) → number_in (before ++ f ∷ rest) f.path ≡ unwrap_or
     (first_with 0 f.path before) (length before)
 number_here before f rest = ap (λ o. unwrap_or o (length (before ++ f ∷ rest)))
     (first_here 0 f.path before f rest (nat_list_eq_equiv.refl f.path))
     ∙ ap (λ n. unwrap_or (first_with 0 f.path before) n) (let z : 0 + length before ≡ length before = omega arith in z)
 
+-- the code's numbers are these
 pub numbered_are : (fs before rest : List File) → before ++ rest ≡ fs → numbered_files before rest ≡ map (numbered (number_in fs)) rest
 numbered_are fs before [] e = refl
 numbered_are fs before (f ∷ rest) e = ap (λ n. record { place = f.place; first = n } ∷ numbered_files (before ++ f ∷ []) rest)
@@ -47,6 +50,7 @@ record In (fs : List File) (f : File) : Type 0 where
   rest : List File
   parts : before ++ f ∷ rest ≡ fs
 
+-- what holds of each file of a list holds of each that is left
 each_in : (P : File → Type 0) (fs before rest : List File) → before ++ rest ≡ fs → ((g : File) → In fs g → P g) → Each P rest
 each_in P fs before [] e h = tt
 each_in P fs before (f ∷ rest) e h = (
@@ -55,10 +59,12 @@ each_in P fs before (f ∷ rest) e h = (
       (append_assoc before (f ∷ []) rest ∙ e) h,
 )
 
+-- a path has a first file
 record Found (fs : List File) (p : List ℕ) : Type 0 where
   n : ℕ
   is : first_with 0 p fs ≡ Some n
 
+-- the path of a file of the list has a first file
 found_in : (fs : List File) (f : File) → In fs f → Found fs f.path
 found_in fs f i = record {
   n = unwrap_or (first_with 0 f.path i.before) (0 + length i.before);
@@ -69,6 +75,7 @@ found_in fs f i = record {
 some_is : (a b : ℕ) → Some a ≡ Some b → a ≡ b
 some_is a b e = ap (λ o. unwrap_or o 0) e
 
+-- the number that is found is one of the list
 first_from : (i : ℕ) (p : List ℕ) (fs : List File) (n : ℕ) → first_with i p fs ≡ Some n → (i ≤ n) × (n < i + length fs)
 first_from i p [] n e = absurd cc
 first_from i p (f ∷ fs) n e = by (pointwise nat_eq p f.path) e (λ h. first_from (i + 1) p fs n h)
@@ -78,6 +85,7 @@ first_from i p (f ∷ fs) n e = by (pointwise nat_eq p f.path) e (λ h. first_fr
     by true h ih = (let is : i ≡ n = some_is i n h in omega (arith, is), let is : i ≡ n = some_is i n h in omega (arith, is))
     by false h ih = (let le : i + 1 ≤ n = (ih h).0 in omega (arith, le), let lt : n < i + 1 + length fs = (ih h).1 in omega (arith, lt))
 
+-- two paths with one first file are the same
 first_one : (i : ℕ) (p q : List ℕ) (fs : List File) (n : ℕ) → first_with i p fs ≡ Some n → first_with i q fs ≡ Some n → p ≡ q
 first_one i p q [] n e h = absurd cc
 first_one i p q (f ∷ fs) n e h = by (pointwise nat_eq p f.path) (pointwise nat_eq q f.path) refl refl e h
@@ -94,6 +102,7 @@ first_one i p q (f ∷ fs) n e h = by (pointwise nat_eq p f.path) (pointwise nat
     by false true a b x y ih = absurd (later p y x)
     by false false a b x y ih = ih x y
 
+-- two files of a list have the same path exactly if their paths have the same number
 alike : (fs : List File) (f g : File) → In fs f → In fs g → pointwise nat_eq g.path f.path ≡ nat_eq (number_in fs f.path)
     (number_in fs g.path)
 alike fs f g i j = by (pointwise nat_eq g.path f.path) refl
@@ -115,6 +124,7 @@ alike fs f g i j = by (pointwise nat_eq g.path f.path) refl
             ∙ nat_list_eq_equiv.refl g.path) e)
         no false h = refl
 
+-- the numbers tell the paths that are left apart
 numbered_rest : (fs before rest : List File) → before ++ rest ≡ fs → Numbered (number_in fs) rest
 numbered_rest fs before [] e = tt
 numbered_rest fs before (f ∷ rest) e = (
@@ -123,10 +133,11 @@ numbered_rest fs before (f ∷ rest) e = (
   numbered_rest fs (before ++ f ∷ []) rest (append_assoc before (f ∷ []) rest ∙ e),
 )
 
+-- the numbers tell the paths of a list apart
 pub numbered_all : (fs : List File) → Numbered (number_in fs) fs
 numbered_all fs = numbered_rest fs [] fs refl
 
--- nothing is gone yet
+-- at the beginning no path is seen, and no flag is set
 pub none_flagged : (fs : List File) → Each (Flagged (number_in fs) (replicate (length fs) false) []) fs
 none_flagged fs = each_in (Flagged (number_in fs) (replicate (length fs) false) []) fs [] fs refl
     (λ g i. flagged g (below g (found_in fs g i)))

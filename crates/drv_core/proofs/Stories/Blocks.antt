@@ -25,7 +25,9 @@ use Rattle.std.proofs.Common.{◌≡◌, ◌<◌, ◌≤◌, ◌+◌, ◌∙◌,
 use Rattle.std.proofs.Common.{if◌then◌else◌, length, length-append, nat_eq, nat_lt, not, refl, sym, ℕ}
 use Rattle.std.specs.List.{list_any}
 
--- For the stories: the steps of a source make whole blocks. Each step opens a block, continues it, or ends it.
+-- For the stories: the steps of a source make whole blocks. A block is the events of one claim, of a group's starts, of one wait or of one
+-- removal, each with its report; a stage (specs/Code/Source) is what a source has to do next, and what it knows. The lemmas step_NAME say
+-- that an answer opens a block, continues it or ends it (`Stepped`).
 
 -- the children of a group's starts, up to the first refused one
 abbrev pub ids_of : List StartAnswer → List ℕ
@@ -33,10 +35,11 @@ ids_of [] = []
 ids_of (start.Started id ∷ xs) = id ∷ ids_of xs
 ids_of (start.NotStarted why ∷ xs) = []
 
+-- whether a start of a group was refused
 abbrev pub any_refused : List StartAnswer → Bool
 any_refused xs = list_any (λ s. not (is_started s)) xs
 
--- a start for each command up to the first refused one
+-- these answers are to the starts of a group: one for each command, up to the first refused one
 abbrev pub starts_fit : List Command → List StartAnswer → Bool
 starts_fit [] [] = true
 starts_fit [] (x ∷ xs) = false
@@ -46,11 +49,13 @@ starts_fit (c ∷ cs) (start.NotStarted why ∷ xs) = none xs
 
 -- One block that begins at a stage between blocks, and the stage after it.
 
+-- b is the block of a claim at stage `Claims i`, with some answer, and leads to stage m
 pub record ClaimBlock (k : ℕ) (job : Job) (i : ℕ) (b : Block) (m : Stage) : Type 0 where
   pub a : Told ClaimAnswer
   pub is : b ≡ claim_block k i a
   pub leads : m ≡ (if is_claimed a.answer then enter_claims job (i + 1) else Ended)
 
+-- b is the block of a group's starts, with some answers, and leads to stage m
 pub record StartsBlock (k : ℕ) (job : Job) (g : ℕ) (was : Bool) (b : Block) (m : Stage) : Type 0 where
   pub xs : List StartAnswer
   pub refused : Bool
@@ -58,16 +63,19 @@ pub record StartsBlock (k : ℕ) (job : Job) (g : ℕ) (was : Bool) (b : Block) 
   pub is : b ≡ starts_block k g (length (group_at job g)) 0 refused xs
   pub leads : m ≡ enter_waits job g was (ids_of xs) 0 (any_refused xs)
 
+-- b is the block of the wait for the i-th child, with some answer, and leads to stage m
 pub record WaitBlock (k : ℕ) (job : Job) (g : ℕ) (was : Bool) (ids : List ℕ) (i : ℕ) (fault : Bool) (b : Block) (m : Stage) : Type 0 where
   pub a : Told WaitAnswer
   pub is : b ≡ wait_block k g i (get_or ids i 0) a
   pub leads : m ≡ enter_waits job g was ids (i + 1) (fault || wait_failed a)
 
+-- b is the block of the i-th removal of the job's own, with some answer, and leads to stage m
 pub record RemovalBlock (k : ℕ) (job : Job) (i : ℕ) (b : Block) (m : Stage) : Type 0 where
   pub a : Told RemoveAnswer
   pub is : b ≡ removal_block (place.OnFailure k i) a
   pub leads : m ≡ enter_removals job (i + 1)
 
+-- b is the block that begins at this stage, by its kind, and leads to stage m
 abbrev pub OneBlock : ℕ → Job → Stage → Block → Stage → Type 0
 OneBlock k job (Claims i) b m = ClaimBlock k job i b m
 OneBlock k job (ClaimReport i x) b m = ⊥
@@ -85,10 +93,12 @@ abbrev pub Stepped : Bool → ℕ → Job → Stage → Stage → Block → Type
 Stepped true k job s m b = (base m ≡ base s) × (open_of k job m ≡ b)
 Stepped false k job s m b = OneBlock k job (base s) b m
 
+-- a step after which no block is open ends its block
 pub ends : (t : Bool) (k : ℕ) (job : Job) (s m : Stage) (b : Block) → t ≡ false → OneBlock k job (base s) b m → Stepped t k job s m b
 ends true k job s m b e o = absurd cc
 ends false k job s m b e o = o
 
+-- a step after which a block is open continues it
 pub goes : (t : Bool) (k : ℕ) (job : Job) (s m : Stage) (b : Block) → t ≡ true → base m ≡ base s → open_of k job m ≡ b
     → Stepped t k job s m b
 goes true k job s m b e same events = (same, events)
@@ -96,6 +106,7 @@ goes false k job s m b e same events = absurd cc
 
 -- a group is entered between blocks
 
+-- where a source enters a group no block is open
 out_group : (job : Job) (g : ℕ) (was : Bool) → inside (enter_group job g was) ≡ false
 out_group job g was = by (nat_lt g (length job.groups))
   where
@@ -103,6 +114,7 @@ out_group job g was = by (nat_lt g (length job.groups))
     by true = refl
     by false = refl
 
+-- where a source enters its claims no block is open
 out_claims : (job : Job) (i : ℕ) → inside (enter_claims job i) ≡ false
 out_claims job i = by (nat_lt i (length job.temps))
   where
@@ -110,6 +122,7 @@ out_claims job i = by (nat_lt i (length job.temps))
     by true = refl
     by false = out_group job 0 false
 
+-- where a source enters its removals no block is open
 pub out_removals : (job : Job) (i : ℕ) → inside (enter_removals job i) ≡ false
 out_removals job i = by (nat_lt i (length job.on_failure))
   where
@@ -117,11 +130,13 @@ out_removals job i = by (nat_lt i (length job.on_failure))
     by true = refl
     by false = refl
 
+-- after a group no block is open
 out_end : (job : Job) (g : ℕ) (started fault : Bool) → inside (end_group job g started fault) ≡ false
 out_end job g true true = out_removals job 0
 out_end job g false true = refl
 out_end job g started false = out_group job (g + 1) started
 
+-- where a source enters the waits of a group no block is open
 pub out_waits : (job : Job) (g : ℕ) (was : Bool) (ids : List ℕ) (i : ℕ) (fault : Bool) → inside (enter_waits job g was ids i fault) ≡ false
 out_waits job g was ids i fault = by (nat_lt i (length ids))
   where
@@ -135,6 +150,7 @@ abbrev all_started : List ℕ → List StartAnswer
 all_started [] = []
 all_started (id ∷ ids) = start.Started id ∷ all_started ids
 
+-- the starts so far, with one more
 so_far_more : (k g n i j : ℕ) (ids : List ℕ) (id : ℕ) → j ≡ i + length ids → starts_so_far k g n i (ids ++ id ∷ []) ≡ starts_so_far k g n i
     ids ++ start_event k g n j (start.Started id) ∷ []
 so_far_more k g n i j [] id e = let at : j ≡ i = omega arith in rw at refl
@@ -145,6 +161,7 @@ started_block : (k g n i : ℕ) (refused : Bool) (ids : List ℕ) → starts_so_
 started_block k g n i refused [] = refl
 started_block k g n i refused (id ∷ ids) = ap (λ l. start_event k g n i (start.Started id) ∷ l) (started_block k g n (i + 1) refused ids)
 
+-- starts of which the last was refused are the block so far, with its report and the closing of the pipe
 refused_block : (k g n i j : ℕ) (told : Bool) (ids : List ℕ) (why : NotStarted) → j ≡ i + length ids
     → starts_block k g n i told (all_started ids ++ start.NotStarted why ∷ [])
     ≡ starts_so_far k g n i ids ++ start_event k g n j (start.NotStarted why) ∷ report (note.NotStarted (place.Command k g j)) told ∷
@@ -153,12 +170,14 @@ refused_block k g n i j told [] why e = let at : j ≡ i = omega arith in rw at 
 refused_block k g n i j told (id ∷ ids) why e = ap (λ l. start_event k g n i (start.Started id) ∷ l)
     (refused_block k g n (i + 1) j told ids why (omega arith))
 
+-- as many starts as commands fit a group
 fit_started : (cs : List Command) (ids : List ℕ) → length cs ≡ length ids → starts_fit cs (all_started ids) ≡ true
 fit_started [] [] e = refl
 fit_started [] (id ∷ ids) e = absurd (omega arith)
 fit_started (c ∷ cs) [] e = absurd (omega arith)
 fit_started (c ∷ cs) (id ∷ ids) e = fit_started cs ids (omega arith)
 
+-- fewer starts than commands, and then a refused one, fit a group
 fit_refused : (cs : List Command) (ids : List ℕ) (why : NotStarted) → length ids < length cs
     → starts_fit cs (all_started ids ++ start.NotStarted why ∷ []) ≡ true
 fit_refused [] ids why lt = absurd (omega arith)
@@ -187,6 +206,7 @@ not_none (x ∷ ids) id = refl
 
 -- One step from each stage.
 
+-- the answer to a claim ends its block, or opens its report
 pub step_claim : (k : ℕ) (job : Job) (i : ℕ) (x : ClaimAnswer) → Stepped (inside (after_claim job i x)) k job (Claims i)
     (after_claim job i x) (event (step.Claim (place.Temp k i)) (answer.Claim x) ∷ [])
 step_claim k job i claim.Claimed = ends (inside (enter_claims job (i + 1))) k job (Claims i) (enter_claims job (i + 1))
@@ -195,6 +215,7 @@ step_claim k job i claim.Claimed = ends (inside (enter_claims job (i + 1))) k jo
 step_claim k job i claim.Taken = (refl, refl)
 step_claim k job i claim.Failed = (refl, refl)
 
+-- the report of a failed claim ends its block
 pub step_claim_report : (k : ℕ) (job : Job) (i : ℕ) (x : ClaimAnswer) (t : Bool) → is_claimed x ≡ false
     → OneBlock k job (Claims i) (event (step.Claim (place.Temp k i)) (answer.Claim x) ∷ report (note.NotClaimed (place.Temp k i)) t ∷ [])
     Ended
@@ -202,6 +223,7 @@ step_claim_report k job i claim.Claimed t e = absurd cc
 step_claim_report k job i claim.Taken t e = record { a = record { answer = claim.Taken; told = t }; is = refl; leads = refl }
 step_claim_report k job i claim.Failed t e = record { a = record { answer = claim.Failed; told = t }; is = refl; leads = refl }
 
+-- starts of all commands of a group are its block
 started_all : (k : ℕ) (job : Job) (g : ℕ) (was : Bool) (ids : List ℕ) → length (group_at job g) ≡ length ids
     → StartsBlock k job g was (starts_so_far k g (length (group_at job g)) 0 ids) (enter_waits job g was ids 0 false)
 started_all k job g was ids e = record {
@@ -213,6 +235,7 @@ started_all k job g was ids e = record {
       (sym (none_refused ids));
 }
 
+-- starts of which one was refused, its report, and the closing of the pipe if there was one, are a block
 pub started_some : (k : ℕ) (job : Job) (g : ℕ) (was : Bool) (ids : List ℕ) (why : NotStarted) (told : Bool) (b : Block)
     → length ids < length (group_at job g)
     → b ≡ starts_so_far k g (length (group_at job g)) 0 ids ++ start_event k g (length (group_at job g)) (length ids) (start.NotStarted why)
@@ -228,6 +251,7 @@ started_some k job g was ids why told b lt e = record {
       ∙ ap (λ t. enter_waits job g was (ids_of (all_started ids ++ start.NotStarted why ∷ [])) 0 t) (sym (one_refused ids why));
 }
 
+-- the answer to a start continues the block of its group, or ends it
 pub step_start : (k : ℕ) (job : Job) (g : ℕ) (was : Bool) (ids : List ℕ) (x : StartAnswer) → length ids < length (group_at job g)
     → Stepped (inside (after_start job g was ids x)) k job (Starts g was ids) (after_start job g was ids x)
     (starts_so_far k g (length (group_at job g)) 0 ids ++ start_event k g (length (group_at job g)) (length ids) x ∷ [])
@@ -256,6 +280,7 @@ step_start k job g was ids (start.Started id) lt = by (nat_lt (length ids + 1) n
         (rw (← more) (started_all k job g was (ids ++ id ∷ [])
         (let past : length (group_at job g) ≤ length ids + 1 = is_not_less (length ids + 1) (length (group_at job g)) e in let len : length (ids ++ id ∷ []) ≡ length ids + 1 = length-append {A = ℕ} ids (id ∷ []) in omega arith)))
 
+-- the report of a refused start ends the block, or leaves the pipe to be closed
 pub step_refused : (k : ℕ) (job : Job) (g : ℕ) (was : Bool) (ids : List ℕ) (why : NotStarted) (t : Bool)
     → length ids < length (group_at job g)
     → Stepped (inside (after_refusal job g was ids why t)) k job (StartReport g was ids why) (after_refusal job g was ids why t)
@@ -278,6 +303,7 @@ step_refused k job g was ids why t lt = by (nat_lt 0 (length ids)) refl
         (start.NotStarted why) ∷ report (note.NotStarted (place.Command k g (length ids))) t ∷
         (if u then event step.ClosePipe answer.Closed ∷ [] else [])) (sym e)))
 
+-- the closing of the pipe ends the block
 pub step_closed : (k : ℕ) (job : Job) (g : ℕ) (was : Bool) (ids : List ℕ) (why : NotStarted) (t : Bool)
     → length ids < length (group_at job g) → nat_lt 0 (length ids) ≡ true
     → StartsBlock k job g was
@@ -294,6 +320,7 @@ step_closed k job g was ids why t lt e = started_some k job g was ids why t
     (start.NotStarted why) ∷ report (note.NotStarted (place.Command k g (length ids))) t ∷
     (if u then event step.ClosePipe answer.Closed ∷ [] else [])) (sym e))
 
+-- the answer to a wait ends its block, or opens its report
 pub step_wait : (k : ℕ) (job : Job) (g : ℕ) (was : Bool) (ids : List ℕ) (i : ℕ) (fault : Bool) (x : WaitAnswer)
     → Stepped (inside (after_wait job g was ids i fault x)) k job (Waits g was ids i fault) (after_wait job g was ids i fault x)
     (event (step.Wait (place.Command k g i) (get_or ids i 0)) (answer.Wait x) ∷ [])
@@ -305,6 +332,7 @@ step_wait k job g was ids i fault (Exit n) = ends (inside (enter_waits job g was
 step_wait k job g was ids i fault Signal = (refl, refl)
 step_wait k job g was ids i fault Lost = (refl, refl)
 
+-- whether a child ended by itself: then nothing is reported
 abbrev pub by_itself : WaitAnswer → Bool
 by_itself (Exit n) = true
 by_itself Signal = false
@@ -314,6 +342,7 @@ or_true : (t : Bool) → true ≡ (t || true)
 or_true true = refl
 or_true false = refl
 
+-- the report of a child that a signal ended, or that was lost, ends the block of its wait
 pub step_wait_report : (k : ℕ) (job : Job) (g : ℕ) (was : Bool) (ids : List ℕ) (i : ℕ) (fault : Bool) (x : WaitAnswer) (t : Bool)
     → by_itself x ≡ false
     → OneBlock k job (Waits g was ids i fault) (event (step.Wait (place.Command k g i) (get_or ids i 0)) (answer.Wait x) ∷ report
@@ -330,6 +359,7 @@ step_wait_report k job g was ids i fault Lost t e = record {
   leads = ap (λ u. enter_waits job g was ids (i + 1) u) (or_true fault);
 }
 
+-- a removal that did not fail is its whole block
 removed_block : (k : ℕ) (job : Job) (i : ℕ) (x : RemoveAnswer) → removal_failed x ≡ false
     → Stepped (inside (enter_removals job (i + 1))) k job (Removals i) (enter_removals job (i + 1))
     (event (step.Remove (place.OnFailure k i)) (answer.Remove x) ∷ [])
@@ -342,6 +372,7 @@ removed_block k job i x e = ends (inside (enter_removals job (i + 1))) k job (Re
       leads = refl;
     })
 
+-- the answer to a removal ends its block, or opens its report
 pub step_remove : (k : ℕ) (job : Job) (i : ℕ) (x : RemoveAnswer) → Stepped (inside (after_removal job i x)) k job (Removals i)
     (after_removal job i x) (event (step.Remove (place.OnFailure k i)) (answer.Remove x) ∷ [])
 step_remove k job i remove.Removed = removed_block k job i remove.Removed refl
@@ -349,6 +380,7 @@ step_remove k job i remove.Missing = removed_block k job i remove.Missing refl
 step_remove k job i remove.NotPlain = removed_block k job i remove.NotPlain refl
 step_remove k job i remove.Failed = (refl, refl)
 
+-- the report of a failed removal ends its block
 pub step_remove_report : (k : ℕ) (job : Job) (i : ℕ) (t : Bool)
     → OneBlock k job (Removals i) (event (step.Remove (place.OnFailure k i)) (answer.Remove remove.Failed) ∷ report
     (note.NotRemoved (place.OnFailure k i)) t ∷ []) (enter_removals job (i + 1))

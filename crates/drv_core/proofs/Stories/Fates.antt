@@ -20,8 +20,10 @@ use Rattle.drv_words.specs.declared.plan.Job.{Job}
 use Rattle.drv_words.specs.declared.steps.RunEvent.{RunEvent}
 use Rattle.std.proofs.Common.{◌≡◌, ◌<◌, ◌∙◌, Bool, false, true, List, [], ◌∷◌, ◌++◌, ap, arith, length, nat_lt, refl, subst, sym, ℕ}
 
--- For the choices of `Run`: the stage to which a source's blocks lead.
+-- For the choices of `Run`: the stage to which a source's blocks lead. So the blocks alone say whether a source's story goes on, and
+-- whether with a wait.
 
+-- the stage t to which a source's blocks lead from its beginning; `more`: it has more to do; `wait`: its next block is a wait
 pub record Fate (k : ℕ) (job : Job) (bs : List Block) (more wait : Bool) : Type 0 where
   pub t : Stage
   pub path : Path k job (begin job) bs t
@@ -29,17 +31,20 @@ pub record Fate (k : ℕ) (job : Job) (bs : List Block) (more wait : Bool) : Typ
   pub left_is : left t ≡ more
   pub waits_is : more ≡ true → nat_lt 0 (pending t) ≡ wait
 
+-- a path over two lists of blocks: the stage between them
 record Split (k : ℕ) (job : Job) (s : Stage) (xs ys : List Block) (m : Stage) : Type 0 where
   t : Stage
   front : Path k job s xs t
   back : Path k job t ys m
 
+-- a path over two lists of blocks has a stage between them
 split_path : (k : ℕ) (job : Job) (s : Stage) (xs ys : List Block) (m : Stage) → Path k job s (xs ++ ys) m → Split k job s xs ys m
 split_path k job s [] ys m p = record { t = s; front = refl; back = p }
 split_path k job s (b ∷ xs) ys m p =
     let r : Split k job p.0 xs ys m = split_path k job p.0 xs ys m p.1.1 in
     record { t = r.t; front = (p.0, (p.1.0, r.front)); back = r.back }
 
+-- a stage at which a block begins has more to do
 one_left : (k : ℕ) (job : Job) (s : Stage) (b : Block) (m : Stage) → OneBlock k job s b m → left s ≡ true
 one_left k job (Claims i) b m o = refl
 one_left k job (ClaimReport i x) b m o = refl
@@ -55,6 +60,7 @@ one_left k job Ended b m o = absurd o
 sound_at : (k : ℕ) (job : Job) (bs : List Block) (t : Stage) → Path k job (begin job) bs t → Sound t
 sound_at k job bs t p = (path_even k job (begin job) bs t (begins job).sound p).sound
 
+-- a source whose story goes on or has ended after these blocks has a stage
 pub fate : (k : ℕ) (job : Job) (bs : List Block) (more wait : Bool) → SoFar k job bs more wait → Fate k job bs more wait
 fate k job bs true wait g = by (split_path k job (begin job) bs (g.next ∷ g.rest) Ended (walk_path k job (begin job) (bs ++ g.next ∷ g.rest)
     (subst (λ l. Walk k job (begin job) l) (sym g.is) (follows k job g.a g.all))))
@@ -73,6 +79,7 @@ fate k job bs false wait g = by (walk_path k job (begin job) bs (subst (λ l. Wa
     by : Path k job (begin job) bs Ended → Fate k job bs false wait
     by p = record { t = Ended; path = p; sound = sound_at k job bs Ended p; left_is = refl; waits_is = λ e. absurd cc }
 
+-- a source that takes the answers of these blocks, one after another, reaches that stage
 pub fate_replays : (k : ℕ) (job : Job) (bs : List Block) (more wait : Bool) → Filled job → (f : Fate k job bs more wait)
     → Replays k job (begin job) (events_of bs) f.t
 fate_replays k job bs more wait filled f = path_replays k job (begin job) bs f.t filled (begins job).sound (valid_begin job filled) f.path
@@ -83,6 +90,7 @@ none_front : (b rest : List RunEvent) → none b ≡ false → none (b ++ rest) 
 none_front [] rest e = absurd cc
 none_front (x ∷ b) rest e = refl
 
+-- the block of a group's starts is not empty
 some_start : (k g n : ℕ) (refused : Bool) (cs : List Command) (xs : List StartAnswer) → starts_fit cs xs ≡ true → 0 < length cs
     → none (starts_block k g n 0 refused xs) ≡ false
 some_start k g n refused [] xs fit lt = absurd (omega (arith, lt))
@@ -90,6 +98,7 @@ some_start k g n refused (c ∷ cs) [] fit lt = absurd cc
 some_start k g n refused (c ∷ cs) (start.Started id ∷ xs) fit lt = refl
 some_start k g n refused (c ∷ cs) (start.NotStarted why ∷ xs) fit lt = refl
 
+-- a block that begins at a valid stage is not empty
 one_some : (k : ℕ) (job : Job) (s : Stage) (b : Block) (m : Stage) → Valid job s → OneBlock k job s b m → none b ≡ false
 one_some k job (Claims i) b m v o = ap (λ (l : Block). none l) o.is
 one_some k job (ClaimReport i x) b m v o = absurd o
@@ -104,6 +113,7 @@ one_some k job (Removals i) b m v o = ap (λ (l : Block). none l) o.is
 one_some k job (RemovalReport i) b m v o = absurd o
 one_some k job Ended b m v o = absurd o
 
+-- a source whose groups have commands has no event exactly if it has no block
 pub none_events : (k : ℕ) (job : Job) (bs : List Block) (t : Stage) → Filled job → Path k job (begin job) bs t
     → none (events_of bs) ≡ none bs
 none_events k job [] t filled p = refl

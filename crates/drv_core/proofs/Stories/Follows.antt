@@ -20,10 +20,12 @@ use Rattle.std.proofs.Common.{if◌then◌else◌, length, nat_eq, nat_lt, not, 
 use Rattle.std.proofs.lemmas.List.{drop_all, drop_more}
 use Rattle.std.specs.List.{list_any}
 
--- For the stories: a whole story leads a source from its beginning to its end. This is the converse of `Tells`.
+-- For the stories: a whole story leads a source from its beginning to its end (`Walk`): the converse of `Tells`. The lemmas go over the
+-- story from its end: removals, waits, groups, claims.
 
 -- removals
 
+-- the job's own removals from the i-th on lead to its end
 removals_follow : (k : ℕ) (job : Job) (i : ℕ) (rs : List (Told RemoveAnswer)) → length rs ≡ length (drop i job.on_failure)
     → Walk k job (enter_removals job i) (own_removals k i rs)
 removals_follow k job i [] e = by (nat_lt i (length job.on_failure)) refl
@@ -48,6 +50,7 @@ nothing_removed k i (r ∷ rs) e = absurd (let no : suc (length rs) ≡ 0 = e in
 
 -- waits
 
+-- the waits for the children that are left lead to the end if what follows the last of them does
 waits_follow : (k : ℕ) (job : Job) (g : ℕ) (was : Bool) (ids : List ℕ) (i : ℕ) (fault : Bool) (ws : List (Told WaitAnswer))
     (rest : List Block) → length ws ≡ length (drop i ids)
     → Walk k job (end_group job g (was || not (none ids)) (fault || list_any wait_failed ws)) rest
@@ -89,6 +92,7 @@ waits_follow k job g was ids i fault (a ∷ ws) rest e w = by (nat_lt i (length 
 
 -- groups
 
+-- the starts of complete answers fit their group
 whole_fit : (cs : List Command) (xs : List StartAnswer) (ws : List (Told WaitAnswer)) → whole_group cs xs ws ≡ true
     → starts_fit cs xs ≡ true
 whole_fit [] [] ws e = refl
@@ -99,6 +103,7 @@ whole_fit (c ∷ cs) (start.Started id ∷ xs) (w ∷ ws) e = whole_fit cs xs ws
 whole_fit (c ∷ cs) (start.NotStarted why ∷ []) ws e = refl
 whole_fit (c ∷ cs) (start.NotStarted why ∷ x ∷ xs) ws e = absurd cc
 
+-- complete answers have a wait for each child
 whole_waits : (cs : List Command) (xs : List StartAnswer) (ws : List (Told WaitAnswer)) → whole_group cs xs ws ≡ true
     → length ws ≡ length (ids_of xs)
 whole_waits [] [] [] e = refl
@@ -111,7 +116,7 @@ whole_waits (c ∷ cs) (start.NotStarted why ∷ []) [] e = refl
 whole_waits (c ∷ cs) (start.NotStarted why ∷ []) (w ∷ ws) e = absurd cc
 whole_waits (c ∷ cs) (start.NotStarted why ∷ x ∷ xs) ws e = absurd cc
 
--- after the waits of a group
+-- after a group's waits the next group leads to the end, or, if this one failed, the job's own removals do
 group_ends : (k : ℕ) (job : Job) (g : ℕ) (started failed : Bool) (gs : List GroupAnswers) (rs : List (Told RemoveAnswer))
     → (if failed then none gs else whole_groups (drop (g + 1) job.groups) gs) ≡ true
     → length rs ≡ length (failed_removals ((failed || list_any group_failed gs) && (started || any_child gs)) job)
@@ -126,6 +131,7 @@ group_ends k job g false true [] rs e many ih = subst (λ l. Walk k job Ended (l
 group_ends k job g started true (x ∷ gs) rs e many ih = absurd cc
 group_ends k job g started false gs rs e many ih = ih e many
 
+-- the groups from the g-th on, and the removals after them, lead to the end
 groups_follow : (k : ℕ) (job : Job) (g : ℕ) (was : Bool) (gs : List GroupAnswers) (rs : List (Told RemoveAnswer))
     → whole_groups (drop g job.groups) gs ≡ true
     → length rs ≡ length (failed_removals (list_any group_failed gs && (was || any_child gs)) job)
@@ -192,6 +198,7 @@ no_temp = record { path = []; contents = [] }
 abbrev unclaimed : List (Told ClaimAnswer) → Bool
 unclaimed cs = list_any (λ c. not (is_claimed c.answer)) cs
 
+-- the claims from the i-th on, the groups and the removals lead to the end
 claims_follow : (k : ℕ) (job : Job) (i : ℕ) (cs : List (Told ClaimAnswer)) (gs : List GroupAnswers) (rs : List (Told RemoveAnswer))
     → whole_claims (drop i job.temps) cs ≡ true → (if unclaimed cs then none gs else whole_groups job.groups gs) ≡ true
     → length rs ≡ length (failed_removals ((unclaimed cs || list_any group_failed gs) && any_child gs) job)
@@ -246,6 +253,7 @@ claims_follow k job i (c ∷ cs) gs rs claims all many = by (nat_lt i (length jo
 
 -- the whole story
 
+-- the story of complete answers leads from the beginning to the end
 pub follows : (k : ℕ) (job : Job) (a : JobAnswers) → whole_job job a ≡ true → Walk k job (begin job) (story k job a)
 follows k job a e = by (none job.groups) e
   where

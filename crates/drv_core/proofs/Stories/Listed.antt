@@ -6,17 +6,21 @@ use Rattle.std.proofs.lemmas.Bool.Decides.{nat_tests}
 use Rattle.std.proofs.lemmas.List.Elements.{filter-append}
 use Rattle.std.specs.List.{filter}
 
--- For the choices of `Run`: the list of the numbers that pass a test.
+-- For the choices of `Run`: the list of the numbers below n that pass a test, in ascending order. The code's list of the sources that may
+-- go on is such a list (`able_is`).
 
+-- the numbers below n that pass the test
 abbrev pub listed : ℕ → (ℕ → Bool) → List ℕ
 listed zero p = []
 listed (suc n) p = listed n p ++ (if p n then n ∷ [] else [])
 
+-- tests that agree below n list the same numbers
 pub listed_same : (n : ℕ) (p q : ℕ → Bool) → ((j : ℕ) → j < n → p j ≡ q j) → listed n p ≡ listed n q
 listed_same zero p q e = refl
 listed_same (suc n) p q e = ap (λ l. l ++ (if p n then n ∷ [] else [])) (listed_same n p q (λ j lt. e j (omega arith)))
     ∙ ap (λ (t : Bool). listed n q ++ (if t then n ∷ [] else [])) (e n (omega arith))
 
+-- the list is as long as `count` says
 pub listed_count : (n : ℕ) (p : ℕ → Bool) → length (listed n p) ≡ count n p
 listed_count zero p = refl
 listed_count (suc n) p = by (p n) (listed_count n p)
@@ -29,6 +33,7 @@ listed_count (suc n) p = by (p n) (listed_count n p)
         let e : length (listed n p ++ []) ≡ length (listed n p) = ap (λ (l : List ℕ). length l) (append-nil (listed n p)) in
         omega (arith, before, e)
 
+-- a filter of the list lists the numbers that pass both tests
 pub listed_filter : (n : ℕ) (p q : ℕ → Bool) → filter q (listed n p) ≡ listed n (λ j. p j && q j)
 listed_filter zero p q = refl
 listed_filter (suc n) p q = filter-append q (listed n p) (if p n then n ∷ [] else []) ∙ ap (λ l. l ++ filter q (if p n then n ∷ [] else []))
@@ -42,7 +47,7 @@ listed_filter (suc n) p q = filter-append q (listed n p) (if p n then n ∷ [] e
     by true = one (q n)
     by false = refl
 
--- none more
+-- d more than n, counted up one by one
 abbrev further : ℕ → ℕ → ℕ
 further zero n = n
 further (suc d) n = suc (further d n)
@@ -51,6 +56,7 @@ further_is : (d n : ℕ) → further d n ≡ n + d
 further_is zero n = omega arith
 further_is (suc d) n = let e : further d n ≡ n + d = further_is d n in omega (arith, e)
 
+-- d numbers more, of which none passes, leave the list
 listed_further : (d n : ℕ) (p : ℕ → Bool) → ((j : ℕ) → n ≤ j → j < further d n → p j ≡ false) → listed (further d n) p ≡ listed n p
 listed_further zero n p none = refl
 listed_further (suc d) n p none = ap (λ (t : Bool). listed (further d n) p ++ (if t then further d n ∷ [] else []))
@@ -58,19 +64,22 @@ listed_further (suc d) n p none = ap (λ (t : Bool). listed (further d n) p ++ (
     ∙ append-nil (listed (further d n) p)
     ∙ listed_further d n p (λ j le lt. none j le (omega (arith, lt)))
 
+-- where no number from n on passes, the list below m is the list below n
 pub listed_up_to : (n m : ℕ) (p : ℕ → Bool) → n ≤ m → ((j : ℕ) → n ≤ j → j < m → p j ≡ false) → listed m p ≡ listed n p
 listed_up_to n m p le none =
     let e : further (m - n) n ≡ m = further_is (m - n) n ∙ (let f : n + (m - n) ≡ m = omega (arith, le) in f) in
     subst (λ k. listed k p ≡ listed n p) e (listed_further (m - n) n p (λ j from lt. none j from (subst (λ k. j < k) e lt)))
 
+-- the list below n + 1 ends with n if n passes
 pub listed_next : (n : ℕ) (p : ℕ → Bool) → p n ≡ true → listed (suc n) p ≡ listed n p ++ n ∷ []
 listed_next n p e = ap (λ (t : Bool). listed n p ++ (if t then n ∷ [] else [])) e
 
--- the first of them, if there is one
+-- the first number of a list, if it has one, is below n and passes; if it has none, no number below n passes
 abbrev pub First : ℕ → (ℕ → Bool) → List ℕ → Type 0
 First n p [] = (j : ℕ) → j < n → p j ≡ false
 First n p (x ∷ xs) = (x < n) × (p x ≡ true)
 
+-- the first number of the list is the first that passes
 pub first_listed : (n : ℕ) (p : ℕ → Bool) → First n p (listed n p)
 first_listed zero p = λ j lt. absurd (omega arith)
 first_listed (suc n) p = by (listed n p) (p n) refl (first_listed n p)

@@ -4,12 +4,15 @@ use Rattle.std.proofs.Common.{nat_eq, nat_lt, refl, suc, zero, ℕ}
 use Rattle.std.proofs.lemmas.Bool.Decides.{nat_tests}
 use Rattle.std.specs.Prelude.{⊤}
 
--- For the stories: the blocks of one source among those of all, source by source, and the number of sources that pass a test.
+-- For the stories: the blocks of one source among those of all (`of`), all blocks source by source (`by_source`), and the number of sources
+-- that pass a test (`count`).
 
+-- the first part of a true && is true
 pub and_first : (a b : Bool) → (a && b) ≡ true → a ≡ true
 and_first true b e = refl
 and_first false b e = e
 
+-- the second part of a true && is true
 pub and_second : (a b : Bool) → (a && b) ≡ true → b ≡ true
 and_second true b e = e
 and_second false b e = absurd cc
@@ -19,6 +22,7 @@ pub clash : (t : Bool) → t ≡ true → t ≡ false → ⊥
 clash true e h = absurd cc
 clash false e h = absurd cc
 
+-- what `nat_lt` and `nat_eq` compute is what < and ≡ say, and back
 pub less : (a b : ℕ) → a < b → nat_lt a b ≡ true
 less a b h = grind (arith, nat_tests)
 
@@ -42,6 +46,7 @@ apart_above a b h = grind (arith, nat_tests)
 
 -- blocks of one source
 
+-- a source's blocks in two lists are those in the first and those in the second
 pub of_append : (k : ℕ) (xs ys : List SourceBlock) → of k (xs ++ ys) ≡ of k xs ++ of k ys
 of_append k [] ys = refl
 of_append k (b ∷ xs) ys = by (nat_eq b.source k) (of_append k xs ys)
@@ -51,6 +56,7 @@ of_append k (b ∷ xs) ys = by (nat_eq b.source k) (of_append k xs ys)
     by true e = ap (λ l. b.block ∷ l) e
     by false e = e
 
+-- the blocks of source k are those of k
 of_only : (k : ℕ) (bs : List SourceBlock) → of k (only k bs) ≡ of k bs
 of_only k [] = refl
 of_only k (b ∷ bs) = by (nat_eq b.source k) refl (of_only k bs)
@@ -60,6 +66,7 @@ of_only k (b ∷ bs) = by (nat_eq b.source k) refl (of_only k bs)
     by true e ih = rw e (ap (λ l. b.block ∷ l) ih)
     by false e ih = ih
 
+-- the blocks of another source are none of k
 of_only_other : (j k : ℕ) (bs : List SourceBlock) → nat_eq j k ≡ false → of k (only j bs) ≡ []
 of_only_other j k [] h = refl
 of_only_other j k (b ∷ bs) h = by (nat_eq b.source j) refl (of_only_other j k bs h)
@@ -68,12 +75,13 @@ of_only_other j k (b ∷ bs) h = by (nat_eq b.source j) refl (of_only_other j k 
     by true e ih = let is : b.source ≡ j = same b.source j e in rw (is, h) ih
     by false e ih = ih
 
--- none of the sources from n on
+-- taken source by source below n, the sources from n on have no block
 pub of_beyond : (n k : ℕ) (bs : List SourceBlock) → n ≤ k → of k (by_source n bs) ≡ []
 of_beyond zero k bs h = refl
 of_beyond (suc n) k bs h = of_append k (by_source n bs) (only n bs) ∙ ap (λ l. l ++ of k (only n bs)) (of_beyond n k bs (omega arith))
     ∙ of_only_other n k bs (apart n k (omega arith))
 
+-- taken source by source, each source still has its blocks
 pub of_by_source : (n k : ℕ) (bs : List SourceBlock) → k < n → of k (by_source n bs) ≡ of k bs
 of_by_source zero k bs h = absurd (omega arith)
 of_by_source (suc n) k bs h = of_append k (by_source n bs) (only n bs) ∙ by (nat_lt k n) refl (λ lt. of_by_source n k bs lt)
@@ -83,23 +91,27 @@ of_by_source (suc n) k bs h = of_append k (by_source n bs) (only n bs) ∙ by (n
     by false e ih = let is : n ≡ k = (let above : n ≤ k = is_not_less k n e in omega arith) in
         rw (of_beyond n k bs (omega arith), is) (of_only k bs)
 
--- the blocks of the sources from lo to below hi, in the order of the sources
+-- these blocks are of the sources from lo to below hi, in the order of the sources
 abbrev pub Ordered : ℕ → ℕ → List SourceBlock → Type 0
 Ordered lo hi [] = ⊤
 Ordered lo hi (b ∷ bs) = (lo ≤ b.source) × (b.source < hi) × Ordered b.source hi bs
 
+-- all blocks are of sources up to m
 abbrev pub Upto : ℕ → List SourceBlock → Type 0
 Upto m [] = ⊤
 Upto m (b ∷ bs) = (b.source ≤ m) × Upto m bs
 
+-- blocks of sources up to m are of sources up to any greater number
 pub upto_more : (m k : ℕ) (bs : List SourceBlock) → m ≤ k → Upto m bs → Upto k bs
 upto_more m k [] le u = tt
 upto_more m k (b ∷ bs) le u = (let below : b.source ≤ m = u.0 in omega arith, upto_more m k bs le u.1)
 
+-- one more block of such a source
 pub upto_append : (m : ℕ) (xs : List SourceBlock) (b : SourceBlock) → Upto m xs → b.source ≤ m → Upto m (xs ++ b ∷ [])
 upto_append m [] b u le = (le, tt)
 upto_append m (x ∷ xs) b u le = (u.0, upto_append m xs b u.1 le)
 
+-- a source before lo has no block among those from lo on
 pub of_before : (lo hi j : ℕ) (bs : List SourceBlock) → Ordered lo hi bs → j < lo → of j bs ≡ []
 of_before lo hi j [] o h = refl
 of_before lo hi j (b ∷ bs) o h =
@@ -107,6 +119,7 @@ of_before lo hi j (b ∷ bs) o h =
     let above : j < b.source = omega arith in
     rw (apart_above b.source j above) (of_before b.source hi j bs o.2 above)
 
+-- a source after m has no block among those up to m
 pub of_after : (m j : ℕ) (bs : List SourceBlock) → Upto m bs → m < j → of j bs ≡ []
 of_after m j [] u h = refl
 of_after m j (b ∷ bs) u h =
@@ -114,7 +127,7 @@ of_after m j (b ∷ bs) u h =
     let under : b.source < j = omega arith in
     rw (apart b.source j under) (of_after m j bs u.1 h)
 
--- the blocks of one source, after those of earlier sources
+-- the blocks of source n alone are in the order of the sources
 ordered_only : (lo n : ℕ) (bs : List SourceBlock) → lo ≤ n → Ordered lo (suc n) (only n bs)
 ordered_only lo n [] le = tt
 ordered_only lo n (b ∷ bs) le = by (nat_eq b.source n) refl (ordered_only lo n bs le) (ordered_only n n bs (omega arith))
@@ -124,6 +137,7 @@ ordered_only lo n (b ∷ bs) le = by (nat_eq b.source n) refl (ordered_only lo n
     by true e ih at = let is : b.source ≡ n = same b.source n e in rw is (le, omega arith, at)
     by false e ih at = ih
 
+-- blocks of earlier sources, and then those of one more
 ordered_then : (lo n : ℕ) (xs ys : List SourceBlock) → Ordered lo n xs → lo ≤ n → ((m : ℕ) → m ≤ n → Ordered m (suc n) ys)
     → Ordered lo (suc n) (xs ++ ys)
 ordered_then lo n [] ys o le more = more lo le
@@ -131,17 +145,19 @@ ordered_then lo n (x ∷ xs) ys o le more =
     let below : x.source < n = o.1 in
     (o.0, omega arith, ordered_then x.source n xs ys o.2 (omega arith) more)
 
+-- blocks that are taken source by source are in the order of the sources
 pub ordered : (n : ℕ) (bs : List SourceBlock) → Ordered 0 n (by_source n bs)
 ordered zero bs = tt
 ordered (suc n) bs = ordered_then 0 n (by_source n bs) (only n bs) (ordered n bs) (omega arith) (λ m le. ordered_only m n bs le)
 
 -- the number of those that pass
 
+-- where no number passes, the count is 0
 pub count_none : (n : ℕ) (p : ℕ → Bool) → ((j : ℕ) → j < n → p j ≡ false) → count n p ≡ 0
 count_none zero p h = refl
 count_none (suc n) p h = rw (h n (omega arith), count_none n p (λ j lt. h j (omega arith))) refl
 
--- only source k can pass
+-- where at most number k passes, the count is at most 1
 pub count_other : (n k : ℕ) (p : ℕ → Bool) → ((j : ℕ) → nat_eq j k ≡ false → p j ≡ false) → count n p ≤ 1
 count_other zero k p h = omega arith
 count_other (suc n) k p h = by (nat_eq n k) refl (count_other n k p h)
@@ -158,6 +174,7 @@ count_other (suc n) k p h = by (nat_eq n k) refl (count_other n k p h)
         rw others (omega arith)
     by false e rest = rw (h n e) (omega arith)
 
+-- where one passes, the count is at least 1
 pub count_some : (n k : ℕ) (p : ℕ → Bool) → k < n → p k ≡ true → 1 ≤ count n p
 count_some zero k p lt e = absurd (omega arith)
 count_some (suc n) k p lt e = by (nat_eq k n) refl (λ below. count_some n k p below e)

@@ -12,9 +12,10 @@ use Rattle.std.proofs.lemmas.List.Sums.{prefix_len-le-length}
 use Rattle.std.specs.List.{position, position_or_len}
 use Rattle.std.specs.Prelude.{unwrap_or}
 
--- For the sources and files of the code: searching a list from an index on.
+-- For the sources and files of the code, which searches a list from an index on: what its search finds is what the definitions
+-- (`first_busy`, `sought`) say.
 
--- the index of the first, or the length
+-- the index of the first item that passes, or else the length, in two ways to compute it
 or_length : {X : Type 0} (p : X → Bool) (xs : List X) → unwrap_or (position p xs) (length xs) ≡ position_or_len p xs
 or_length p xs = by (nat_lt (position_or_len p xs) (length xs)) refl
   where
@@ -25,16 +26,18 @@ or_length p xs = by (nat_lt (position_or_len p xs) (length xs)) refl
         let at_least : length xs ≤ position_or_len p xs = grind (arith, nat_tests, is) in
         omega (arith, at_least, prefix_len-le-length (λ x. not (p x)) xs)
 
+-- the index of the first item that passes, or else the length, is at most the length
 pub place_within : {X : Type 0} (p : X → Bool) (xs : List X) → unwrap_or (position p xs) (length xs) ≤ length xs
 place_within p xs = omega (arith, or_length p xs, prefix_len-le-length (λ x. not (p x)) xs)
 
--- the rest of a slice
+-- the slice from i on with all that is left is the rest of the list
 pub all_left : {X : Type 0} (i : ℕ) (xs : List X) → take (length xs - i) (drop i xs) ≡ drop i xs
 all_left i xs = take_all (length xs - i) (drop i xs) (omega (arith, length-drop i xs))
 
 one_more : (k n : ℕ) → k + (1 + n) ≡ (k + 1) + n
 one_more k n = omega arith
 
+-- the first source from an index on that has commands
 pub busy_first : (k : ℕ) (jobs : List Job) → k + unwrap_or (position busy jobs) (length jobs) ≡ first_busy k jobs
 busy_first k jobs = ap (λ n. k + n) (or_length busy jobs) ∙ from k jobs
   where
@@ -50,6 +53,7 @@ busy_first k jobs = ap (λ n. k + n) (or_length busy jobs) ∙ from k jobs
 abbrev is_due_in : Leftovers → CodeLeftover → Bool
 is_due_in x file = is_due x x.gone (leftover_of file)
 
+-- the first file from an index on that is due
 pub due_sought : (x : Leftovers) (k : ℕ) (files : List CodeLeftover)
     → k + unwrap_or (position (λ file. is_due x x.gone (leftover_of file)) files) (length files) ≡ sought x k (leftover_list files)
 due_sought x k files = ap (λ n. k + n) (or_length (is_due_in x) files) ∙ from k files

@@ -25,8 +25,10 @@ use Rattle.drv_words.specs.declared.steps.Step.TheVariants as step
 use Rattle.std.proofs.Common.{◌≡◌, ◌<◌, ◌+◌, ◌||◌, Bool, false, true, List, [], ◌∷◌, ◌++◌, ap, append-nil, append_assoc, arith, get_or}
 use Rattle.std.proofs.Common.{if◌then◌else◌, length, length-append, nat_lt, refl, subst, sym, ℕ}
 
--- For the stories: a source that takes the answers of a block asks for each of the block's steps, and ends at the stage after it.
+-- For the stories: a source that takes the answers of a block asks for each of the block's steps, and ends at the stage after it
+-- (`Replays`). A block is the events of one claim, of a group's starts, of one wait or of one removal, each with its report.
 
+-- from stage s on the source asks for each step of these events, takes its answer, and is at stage m after the last
 abbrev pub Replays : ℕ → Job → Stage → List RunEvent → Stage → Type 0
 Replays k job s [] m = s ≡ m
 Replays k job s (e ∷ E) m = (asked (asks k job s) ≡ e.step) × Replays k job (after job s e.answer) E m
@@ -34,6 +36,7 @@ Replays k job s (e ∷ E) m = (asked (asks k job s) ≡ e.step) × Replays k job
 to_stage : (k : ℕ) (job : Job) (s : Stage) (E : List RunEvent) (m n : Stage) → m ≡ n → Replays k job s E m → Replays k job s E n
 to_stage k job s E m n e r = subst (λ t. Replays k job s E t) e r
 
+-- a claim with its report is replayed
 replay_claim : (k : ℕ) (job : Job) (i : ℕ) (x : ClaimAnswer) (t : Bool)
     → Replays k job (Claims i) (claim_block k i (record { answer = x; told = t }))
     (if is_claimed x then enter_claims job (i + 1) else Ended)
@@ -41,6 +44,7 @@ replay_claim k job i claim.Claimed t = (refl, refl)
 replay_claim k job i claim.Taken t = (refl, (refl, refl))
 replay_claim k job i claim.Failed t = (refl, (refl, refl))
 
+-- a removal with its report is replayed
 replay_removal : (k : ℕ) (job : Job) (i : ℕ) (x : RemoveAnswer) (t : Bool)
     → Replays k job (Removals i) (removal_block (place.OnFailure k i) (record { answer = x; told = t })) (enter_removals job (i + 1))
 replay_removal k job i remove.Removed t = (refl, refl)
@@ -52,6 +56,7 @@ or_true : (t : Bool) → true ≡ (t || true)
 or_true true = refl
 or_true false = refl
 
+-- a wait with its report is replayed
 replay_wait : (k : ℕ) (job : Job) (g : ℕ) (was : Bool) (ids : List ℕ) (i : ℕ) (fault : Bool) (x : WaitAnswer) (t : Bool)
     → Replays k job (Waits g was ids i fault) (wait_block k g i (get_or ids i 0) (record { answer = x; told = t }))
     (enter_waits job g was ids (i + 1) (fault || wait_failed (record { answer = x; told = t })))
@@ -59,7 +64,7 @@ replay_wait k job g was ids i fault (Exit n) t = (refl, refl)
 replay_wait k job g was ids i fault Signal t = (refl, (refl, ap (λ u. enter_waits job g was ids (i + 1) u) (or_true fault)))
 replay_wait k job g was ids i fault Lost t = (refl, (refl, ap (λ u. enter_waits job g was ids (i + 1) u) (or_true fault)))
 
--- the refused start
+-- the report of a refused start, and the closing of the pipe, are replayed
 replay_refused : (k : ℕ) (job : Job) (g : ℕ) (was : Bool) (ids : List ℕ) (why : NotStarted) (t : Bool)
     → Replays k job (StartReport g was ids why) (report (note.NotStarted (place.Command k g (length ids))) t ∷
     (if nat_lt 0 (length ids) then event step.ClosePipe answer.Closed ∷ [] else [])) (enter_waits job g was ids 0 true)
@@ -70,7 +75,7 @@ replay_refused k job g was ids why t = (refl, by (nat_lt 0 (length ids)))
     by true = (refl, refl)
     by false = refl
 
--- the starts of a group, from the next one on
+-- the starts of a group, from the next one on, are replayed
 replay_starts : (k : ℕ) (job : Job) (g : ℕ) (was : Bool) (ids : List ℕ) (refused : Bool) (cs : List Command) (xs : List StartAnswer) (i : ℕ)
     → i ≡ length ids → length ids + length cs ≡ length (group_at job g) → 0 < length cs → starts_fit cs xs ≡ true
     → Replays k job (Starts g was ids) (starts_block k g (length (group_at job g)) i refused xs) (enter_waits job g was (ids ++ ids_of xs) 0
@@ -116,7 +121,7 @@ replay_starts k job g was ids refused (c ∷ d ∷ cs) (start.Started id ∷ xs)
           (any_refused xs)) (ap (λ l. enter_waits job g was l 0 (any_refused xs)) (append_assoc ids (id ∷ []) (ids_of xs))) r),
     )
 
--- between blocks, if no group is empty
+-- a block that begins at a stage between blocks is replayed, if the group that it starts has a command
 pub replays : (k : ℕ) (job : Job) (s : Stage) (b : Block) (m : Stage) → ((g : ℕ) (was : Bool) (ids : List ℕ) → s ≡ Starts g was ids
     → (ids ≡ []) × (0 < length (group_at job g))) → OneBlock k job s b m → Replays k job s b m
 replays k job (Claims i) b m filled o = subst (λ c. Replays k job (Claims i) c m) (sym o.is)

@@ -25,12 +25,14 @@ use Rattle.drv_words.specs.declared.steps.Step.TheVariants as step
 use Rattle.std.proofs.Common.{◌≡◌, ◌<◌, ◌+◌, ◌∙◌, ◌||◌, Bool, false, true, List, [], ◌∷◌, ◌++◌, ap, append-nil, append_assoc, arith}
 use Rattle.std.proofs.Common.{if◌then◌else◌, length, length-append, nat_lt, refl, subst, sym, ℕ}
 
--- For the end of `Run`: the events of a source lead to only one stage.
+-- For the end of `Run`: the events of a source lead to only one stage. So if they are its whole story, the source has ended (`has_ended`).
 
+-- the same events, from the same stage on, lead to only one stage
 pub same_end : (k : ℕ) (job : Job) (s : Stage) (E : List RunEvent) (m n : Stage) → Replays k job s E m → Replays k job s E n → m ≡ n
 same_end k job s [] m n p q = sym p ∙ q
 same_end k job s (e ∷ E) m n p q = same_end k job (after job s e.answer) E m n p.1 q.1
 
+-- events that lead to a stage, and events that lead on from it
 pub replays_then : (k : ℕ) (job : Job) (s : Stage) (E : List RunEvent) (t : Stage) (F : List RunEvent) (m : Stage) → Replays k job s E t
     → Replays k job t F m → Replays k job s (E ++ F) m
 replays_then k job s [] t F m p q = subst (λ u. Replays k job u F m) (sym p) q
@@ -38,6 +40,7 @@ replays_then k job s (e ∷ E) t F m p q = (p.0, replays_then k job (after job s
 
 -- a valid stage stays valid after a block
 
+-- a block leads to a valid stage, if no group is empty
 one_valid : (k : ℕ) (job : Job) (s : Stage) (b : Block) (m : Stage) → Filled job → OneBlock k job s b m → Valid job m
 one_valid k job (Claims i) b m filled o = subst (λ t. Valid job t) (sym o.leads) (by (is_claimed o.a.answer))
   where
@@ -56,6 +59,7 @@ one_valid k job (Removals i) b m filled o = subst (λ t. Valid job t) (sym o.lea
 one_valid k job (RemovalReport i) b m filled o = absurd o
 one_valid k job Ended b m filled o = absurd o
 
+-- at a stage between blocks a group that starts has no child, and a command
 starts_are : (job : Job) (s : Stage) → Sound s → Valid job s → (g : ℕ) (was : Bool) (ids : List ℕ) → s ≡ Starts g was ids
     → (ids ≡ []) × (0 < length (group_at job g))
 starts_are job s so v g was ids is = of_starts (subst (λ t. Sound t) is so) (subst (λ t. Valid job t) is v)
@@ -63,6 +67,7 @@ starts_are job s so v g was ids is = of_starts (subst (λ t. Sound t) is so) (su
     of_starts : Sound (Starts g was ids) → Valid job (Starts g was ids) → (ids ≡ []) × (0 < length (group_at job g))
     of_starts none lt = (none, (let few : length ids < length (group_at job g) = lt in omega (arith, few)))
 
+-- blocks that lead from one stage to another are replayed, if no group is empty
 pub path_replays : (k : ℕ) (job : Job) (s : Stage) (bs : List Block) (m : Stage) → Filled job → Sound s → Valid job s → Path k job s bs m
     → Replays k job s (events_of bs) m
 path_replays k job s [] m filled so v p = p
@@ -71,11 +76,12 @@ path_replays k job s (b ∷ bs) m filled so v p = replays_then k job s b p.0 (ev
     (path_replays k job p.0 bs m filled (path_even k job s (b ∷ []) p.0 so (p.0, (p.1.0, refl))).sound
     (one_valid k job s b p.0 filled p.1.0) p.1.1)
 
+-- blocks that lead to the end, as a `Path`
 pub walk_path : (k : ℕ) (job : Job) (s : Stage) (bs : List Block) → Walk k job s bs → Path k job s bs Ended
 walk_path k job s [] w = w
 walk_path k job s (b ∷ bs) w = (w.0, (w.1.0, walk_path k job w.0 bs w.1.1))
 
--- a whole story leads to the end
+-- the events of the story of complete answers lead from the beginning to the end
 pub story_replays : (k : ℕ) (job : Job) (a : JobAnswers) → Filled job → whole_job job a ≡ true
     → Replays k job (begin job) (events_of (story k job a)) Ended
 story_replays k job a filled whole = path_replays k job (begin job) (story k job a) Ended filled (begins job).sound (valid_begin job filled)
@@ -83,6 +89,7 @@ story_replays k job a filled whole = path_replays k job (begin job) (story k job
 
 -- the events of an open block lead to its stage
 
+-- the starts of a group lead from the children that were started before to all of them
 so_far : (k : ℕ) (job : Job) (g : ℕ) (was : Bool) (front ids : List ℕ) (i : ℕ) → i ≡ length front
     → length front + length ids < length (group_at job g)
     → Replays k job (Starts g was front) (starts_so_far k g (length (group_at job g)) i ids) (Starts g was (front ++ ids))
@@ -99,18 +106,21 @@ so_far k job g was front (id ∷ ids) i at few = (
       (let len : length (front ++ id ∷ []) ≡ length front + 1 = length-append {A = ℕ} front (id ∷ []) in omega (arith, len, few)))),
 )
 
+-- the starts of a group, up to a refused one, lead to its report
 refused_so : (k : ℕ) (job : Job) (g : ℕ) (was : Bool) (ids : List ℕ) (why : NotStarted) → length ids < length (group_at job g)
     → Replays k job (Starts g was []) (refused_so_far k g (length (group_at job g)) ids why) (StartReport g was ids why)
 refused_so k job g was ids why few = replays_then k job (Starts g was []) (starts_so_far k g (length (group_at job g)) 0 ids)
     (Starts g was ids) (start_event k g (length (group_at job g)) (length ids) (start.NotStarted why) ∷ []) (StartReport g was ids why)
     (so_far k job g was [] ids 0 refl (omega (arith, few))) (refl, refl)
 
+-- a child that a signal ended, or that was lost, leads to its report
 lost_so : (k : ℕ) (job : Job) (g : ℕ) (was : Bool) (ids : List ℕ) (i : ℕ) (fault : Bool) (x : WaitAnswer) → by_itself x ≡ false
     → after job (Waits g was ids i fault) (answer.Wait x) ≡ WaitReport g was ids i fault x
 lost_so k job g was ids i fault (Exit n) e = absurd cc
 lost_so k job g was ids i fault Signal e = refl
 lost_so k job g was ids i fault Lost e = refl
 
+-- the events of the open block lead from the stage at which it began to the present one
 pub open_replays : (k : ℕ) (job : Job) (s : Stage) → Valid job s → Replays k job (base s) (open_of k job s) s
 open_replays k job (Claims i) v = refl
 open_replays k job (ClaimReport i x) v = (refl, ap (λ (t : Bool). if t then enter_claims job (i + 1) else ClaimReport i x) v.1)
@@ -128,7 +138,7 @@ open_replays k job (Removals i) v = refl
 open_replays k job (RemovalReport i) v = (refl, refl)
 open_replays k job Ended v = refl
 
--- the events so far lead to the present stage; so if they are a whole story, the source has ended
+-- a source whose events so far are a whole story has ended
 pub has_ended : (k : ℕ) (job : Job) (bs : List Block) (s : Stage) (a : JobAnswers) → Filled job → Valid job s
     → Path k job (begin job) bs (base s) → whole_job job a ≡ true → events_of bs ++ open_of k job s ≡ events_of (story k job a) → s ≡ Ended
 has_ended k job bs s a filled v p whole is = same_end k job (begin job) (events_of (story k job a)) s Ended

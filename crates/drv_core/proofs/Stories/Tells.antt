@@ -22,7 +22,9 @@ use Rattle.std.proofs.lemmas.Cmp.{nat_eq_equiv}
 use Rattle.std.proofs.lemmas.List.{drop_all, drop_more}
 use Rattle.std.specs.List.{list_any}
 
--- For the stories: blocks that lead a source from its beginning to its end are a whole story.
+-- For the stories: blocks that lead a source from its beginning to its end are a whole story (`tells`). The lemmas find the answers that
+-- make the blocks, by induction on these: TellsClaims, TellsGroups, TellsWaits and TellsRemovals say of blocks from a stage on which
+-- answers they show.
 
 -- the blocks lead from s to the end
 abbrev pub Walk : ℕ → Job → Stage → List Block → Type 0
@@ -35,17 +37,21 @@ waits_for k g i [] ws = []
 waits_for k g i (id ∷ ids) [] = []
 waits_for k g i (id ∷ ids) (w ∷ ws) = wait_block k g i id w ∷ waits_for k g (i + 1) ids ws
 
+-- the job's failure files, if they are removed
 abbrev pub failed_removals : Bool → Job → List (List ℕ)
 failed_removals t job = if t then job.on_failure else []
 
+-- the answers of the removals that these blocks are
 record TellsRemovals (k : ℕ) (job : Job) (i : ℕ) (bs : List Block) : Type 0 where
   rs : List (Told RemoveAnswer)
   is : bs ≡ own_removals k i rs
   many : length rs ≡ length (drop i job.on_failure)
 
+-- whether a command of these groups was started
 abbrev pub any_child : List GroupAnswers → Bool
 any_child gs = list_any (λ g. list_any is_started g.starts) gs
 
+-- the answers of the groups from the g-th on, and of the removals after them, that these blocks are
 record TellsGroups (k : ℕ) (job : Job) (g : ℕ) (was : Bool) (bs : List Block) : Type 0 where
   gs : List GroupAnswers
   rs : List (Told RemoveAnswer)
@@ -53,6 +59,7 @@ record TellsGroups (k : ℕ) (job : Job) (g : ℕ) (was : Bool) (bs : List Block
   all : whole_groups (drop g job.groups) gs ≡ true
   many : length rs ≡ length (failed_removals (list_any group_failed gs && (was || any_child gs)) job)
 
+-- the answers of the waits that are left of a group, and of what follows them, that these blocks are
 record TellsWaits (k : ℕ) (job : Job) (g : ℕ) (started : Bool) (ids : List ℕ) (i : ℕ) (fault : Bool) (bs : List Block) : Type 0 where
   ws : List (Told WaitAnswer)
   gs : List GroupAnswers
@@ -63,6 +70,7 @@ record TellsWaits (k : ℕ) (job : Job) (g : ℕ) (started : Bool) (ids : List �
   many : length rs ≡ length (failed_removals (((fault || list_any wait_failed ws) || list_any group_failed gs)
       && (started || any_child gs)) job)
 
+-- the answers of the claims from the i-th on, and of what follows them, that these blocks are
 record TellsClaims (k : ℕ) (job : Job) (i : ℕ) (bs : List Block) : Type 0 where
   cs : List (Told ClaimAnswer)
   gs : List GroupAnswers
@@ -75,6 +83,7 @@ record TellsClaims (k : ℕ) (job : Job) (i : ℕ) (bs : List Block) : Type 0 wh
 
 -- small facts
 
+-- || may be joined from the left or the right
 pub or_assoc : (a b c : Bool) → ((a || b) || c) ≡ (a || (b || c))
 or_assoc true b c = refl
 or_assoc false b c = refl
@@ -83,16 +92,19 @@ or_false : (a : Bool) → (a || false) ≡ a
 or_false true = refl
 or_false false = refl
 
+-- groups without answers have no block
 pub no_group : (k g : ℕ) (cs : List (List Command)) → group_blocks k g cs [] ≡ []
 no_group k g [] = refl
 no_group k g (c ∷ cs) = refl
 
+-- the waits for the children of a group's starts
 pub waits_are : (k g i : ℕ) (xs : List StartAnswer) (ws : List (Told WaitAnswer)) → waits_for k g i (ids_of xs) ws ≡ wait_blocks k g i xs ws
 waits_are k g i [] ws = refl
 waits_are k g i (start.Started id ∷ xs) [] = refl
 waits_are k g i (start.Started id ∷ xs) (w ∷ ws) = ap (λ l. wait_block k g i id w ∷ l) (waits_are k g (i + 1) xs ws)
 waits_are k g i (start.NotStarted why ∷ xs) ws = refl
 
+-- starts that fit a group, with a wait for each child, are complete
 fit_whole : (cs : List Command) (xs : List StartAnswer) (ws : List (Told WaitAnswer)) → starts_fit cs xs ≡ true
     → length ws ≡ length (ids_of xs) → whole_group cs xs ws ≡ true
 fit_whole [] [] [] fit same = refl
@@ -105,6 +117,7 @@ fit_whole (c ∷ cs) (start.NotStarted why ∷ []) [] fit same = refl
 fit_whole (c ∷ cs) (start.NotStarted why ∷ []) (w ∷ ws) fit same = absurd (omega arith)
 fit_whole (c ∷ cs) (start.NotStarted why ∷ x ∷ xs) ws fit same = absurd cc
 
+-- a group has a child exactly if one of its starts was answered so
 pub fit_started : (cs : List Command) (xs : List StartAnswer) → starts_fit cs xs ≡ true → not (none (ids_of xs)) ≡ list_any is_started xs
 fit_started [] [] fit = refl
 fit_started [] (x ∷ xs) fit = absurd cc
@@ -115,6 +128,7 @@ fit_started (c ∷ cs) (start.NotStarted why ∷ x ∷ xs) fit = absurd cc
 
 -- removals
 
+-- blocks that lead from the i-th removal to the end are removals
 removals_tell : (k : ℕ) (job : Job) (i : ℕ) (bs : List Block) → Walk k job (enter_removals job i) bs → TellsRemovals k job i bs
 removals_tell k job i [] w = by (nat_lt i (length job.on_failure)) refl w
   where
@@ -144,12 +158,13 @@ removals_tell k job i (b ∷ bs) w = by (nat_lt i (length job.on_failure)) refl 
 
 -- groups and waits, by induction on the number of blocks
 
+-- what blocks that lead to the end show, from a group and from its waits
 record Both (k : ℕ) (job : Job) (bs : List Block) : Type 0 where
   groups : (g : ℕ) (was : Bool) → Walk k job (enter_group job g was) bs → TellsGroups k job g was bs
   waits : (g : ℕ) (was : Bool) (ids : List ℕ) (i : ℕ) (fault : Bool) → Walk k job (enter_waits job g was ids i fault) bs
       → TellsWaits k job g (was || not (none ids)) ids i fault bs
 
--- no child is left to wait for
+-- no child of the group is left to wait for: what follows is the next group, or the removals
 waits_done : (k : ℕ) (job : Job) (g : ℕ) (started fault : Bool) (ids : List ℕ) (i : ℕ) (bs : List Block) → length ids ≤ i
     → ((was : Bool) → Walk k job (enter_group job (g + 1) was) bs → TellsGroups k job (g + 1) was bs)
     → Walk k job (end_group job g started fault) bs → TellsWaits k job g started ids i fault bs
@@ -189,6 +204,7 @@ waits_done k job g started false ids i bs past groups w =
       many = t.many;
     }
 
+-- one more wait before blocks that show the waits after it
 waits_more : (k : ℕ) (job : Job) (g : ℕ) (started fault : Bool) (ids : List ℕ) (i : ℕ) (b : Block) (bs : List Block) (a : Told WaitAnswer)
     → i < length ids → b ≡ wait_block k g i (get_or ids i 0) a
     → TellsWaits k job g started ids (i + 1) (fault || wait_failed a) bs → TellsWaits k job g started ids i fault (b ∷ bs)
@@ -206,7 +222,7 @@ waits_more k job g started fault ids i b bs a lt is more = record {
       job)) (or_assoc fault (wait_failed a) (list_any wait_failed more.ws));
 }
 
--- the groups after a group's starts
+-- the starts of a group, before blocks that show its waits and what follows them
 groups_more : (k : ℕ) (job : Job) (g : ℕ) (was : Bool) (b : Block) (bs : List Block) (xs : List StartAnswer) (refused : Bool)
     → g < length job.groups → starts_fit (group_at job g) xs ≡ true
     → b ≡ starts_block k g (length (group_at job g)) 0 refused xs → TellsWaits k job g (was || not (none (ids_of xs))) (ids_of xs) 0
@@ -231,6 +247,7 @@ groups_more k job g was b bs xs refused lt fit is more = record {
     answers : GroupAnswers
     answers = record { starts = xs; refused = refused; waits = more.ws }
 
+-- no blocks lead from a group to the end only if no group is left
 groups_none : (k : ℕ) (job : Job) (g : ℕ) (was : Bool) → Walk k job (enter_group job g was) [] → TellsGroups k job g was []
 groups_none k job g was w = by (nat_lt g (length job.groups)) refl w
   where
@@ -244,6 +261,7 @@ groups_none k job g was w = by (nat_lt g (length job.groups)) refl w
       many = refl;
     }
 
+-- blocks that lead from a group to the end begin with its starts; `Both` is the induction over the blocks after them
 groups_some : (k : ℕ) (job : Job) (g : ℕ) (was : Bool) (b : Block) (bs : List Block) → Both k job bs
     → Walk k job (enter_group job g was) (b ∷ bs) → TellsGroups k job g was (b ∷ bs)
 groups_some k job g was b bs ih w = by (nat_lt g (length job.groups)) refl w
@@ -258,6 +276,7 @@ groups_some k job g was b bs ih w = by (nat_lt g (length job.groups)) refl w
     by true e v = next e v.0 v.1.0 v.1.1
     by false e v = absurd v.1.0
 
+-- no blocks lead from the waits of a group to the end only if no child is left
 waits_none : (k : ℕ) (job : Job) → ((g : ℕ) (was : Bool) → Walk k job (enter_group job g was) [] → TellsGroups k job g was [])
     → (g : ℕ) (was : Bool) (ids : List ℕ) (i : ℕ) (fault : Bool) → Walk k job (enter_waits job g was ids i fault) []
     → TellsWaits k job g (was || not (none ids)) ids i fault []
@@ -269,6 +288,7 @@ waits_none k job groups g was ids i fault w = by (nat_lt i (length ids)) refl w
     by true e v = absurd cc
     by false e v = waits_done k job g (was || not (none ids)) fault ids i [] (is_not_less i (length ids) e) (λ u x. groups (g + 1) u x) v
 
+-- blocks that lead from the waits of a group to the end begin with a wait, or with what follows the last
 waits_some : (k : ℕ) (job : Job) (b : Block) (bs : List Block) → Both k job bs
     → ((g : ℕ) (was : Bool) → Walk k job (enter_group job g was) (b ∷ bs) → TellsGroups k job g was (b ∷ bs))
     → (g : ℕ) (was : Bool) (ids : List ℕ) (i : ℕ) (fault : Bool)
@@ -287,6 +307,7 @@ waits_some k job b bs ih groups g was ids i fault w = by (nat_lt i (length ids))
     by false e v = waits_done k job g (was || not (none ids)) fault ids i (b ∷ bs) (is_not_less i (length ids) e)
         (λ u x. groups (g + 1) u x) v
 
+-- any blocks that lead to the end show groups and waits, by induction on the blocks
 both : (k : ℕ) (job : Job) (bs : List Block) → Both k job bs
 both k job [] = record {
   groups = λ g was w. groups_none k job g was w;
@@ -304,6 +325,7 @@ both k job (b ∷ bs) = by (both k job bs)
 
 -- claims
 
+-- after the last claim the groups are entered
 claims_done : (k : ℕ) (job : Job) (i : ℕ) (bs : List Block) → length job.temps ≤ i → Walk k job (enter_group job 0 false) bs
     → TellsClaims k job i bs
 claims_done k job i bs past w =
@@ -321,6 +343,7 @@ claims_done k job i bs past w =
 no_temp : Temp
 no_temp = record { path = []; contents = [] }
 
+-- blocks that lead from the i-th claim to the end show claims, groups and removals
 claims_tell : (k : ℕ) (job : Job) (i : ℕ) (bs : List Block) → Walk k job (enter_claims job i) bs → TellsClaims k job i bs
 claims_tell k job i [] w = by (nat_lt i (length job.temps)) refl w
   where
@@ -380,6 +403,7 @@ claims_tell k job i (b ∷ bs) w = by (nat_lt i (length job.temps)) refl w (clai
 
 -- the whole story
 
+-- complete answers whose story these blocks are
 pub record ToldStory (k : ℕ) (job : Job) (bs : List Block) : Type 0 where
   pub a : JobAnswers
   pub is : bs ≡ story k job a
@@ -388,6 +412,7 @@ pub record ToldStory (k : ℕ) (job : Job) (bs : List Block) : Type 0 where
 all_three : (a b c : Bool) → a ≡ true → b ≡ true → c ≡ true → (a && b && c) ≡ true
 all_three a b c x y z = rw (x, y, z) refl
 
+-- blocks that lead from the beginning to the end are a whole story
 pub tells : (k : ℕ) (job : Job) (bs : List Block) → Walk k job (begin job) bs → ToldStory k job bs
 tells k job bs w = by (none job.groups) refl w
   where

@@ -26,9 +26,11 @@ use Rattle.drv_words.specs.declared.steps.RunEvent.{RunEvent}
 use Rattle.std.proofs.Common.{◌≡◌, ◌<◌, ◌+◌, ◌∙◌, ◌&&◌, ◌||◌, Bool, false, true, List, [], ◌∷◌, ◌++◌, ap, append-nil, arith, get_or}
 use Rattle.std.proofs.Common.{if◌then◌else◌, length, min, nat_eq, nat_lt, not, refl, subst, sym, ℕ}
 
--- For the choices of `Run`: if the events are whole blocks of the sources, there is only one way to split them into blocks.
+-- For the choices of `Run`: if the events are whole blocks of the sources, there is only one way to split them into blocks. So the blocks
+-- that the proof of the code keeps (`Going`) permit the same sources to go on as any other split (`BetweenBlocks`), of which the public
+-- clauses speak.
 
--- functions with equal values permit the same sources to go on
+-- tests that agree on all sources permit the same sources to go on
 may_go_same : (n N : ℕ) (b c l m f g w x : ℕ → Bool) (k : ℕ) → k < n → ((j : ℕ) → j < n → b j ≡ c j) → ((j : ℕ) → j < n → l j ≡ m j)
     → ((j : ℕ) → j < n → f j ≡ g j) → (m k ≡ true → w k ≡ x k) → may_go_on n N b l f w k ≡ may_go_on n N c m g x k
 may_go_same n N b c l m f g w x k lt bs ls fs ws = ap (λ (t : Bool). t && (nat_eq (count k (λ j. not (b j) && l j)) 0
@@ -60,10 +62,12 @@ may_go_same n N b c l m f g w x k lt bs ls fs ws = ap (λ (t : Bool). t && (nat_
         && (not (x k) || nat_eq (count n g) (min N i)))) (count_same n l m ls)
     by false e = refl
 
+-- the stage of each source after its blocks
 pub fate_at : (plan : Plan) (N : ℕ) (E : List RunEvent) (b : BetweenBlocks plan N E) (j : ℕ) → j < length plan.jobs
     → Fate j (get_or plan.jobs j no_job) (of j b.blocks) (b.left j) (b.waits j)
 fate_at plan N E b j lt = fate j (get_or plan.jobs j no_job) (of j b.blocks) (b.left j) (b.waits j) (b.so_far j lt)
 
+-- the blocks of a split each belong to one of the sources
 pub between_owned : (plan : Plan) (N : ℕ) (E : List RunEvent) (b : BetweenBlocks plan N E) → AllOwned (length plan.jobs) b.blocks
 between_owned plan N E b = all_owned (length plan.jobs) (length plan.jobs) b.blocks
     (all_below (length plan.jobs) N b.left [] b.blocks b.may_come)
@@ -72,6 +76,7 @@ between_owned plan N E b = all_owned (length plan.jobs) (length plan.jobs) b.blo
 
 -- each source's blocks in the events of a run in progress
 
+-- the blocks of a source in a run in progress, and its open one if it is the one in progress
 own_blocks : (jobs : List Job) (N : ℕ) (st : ℕ → Stage) (cur : ℕ) (E : List RunEvent) (r : Running jobs N st cur E) (j : ℕ)
     → of j (with_open jobs N st cur E r) ≡ of j r.blocks ++ (if nat_eq cur j then open_of cur (get_or jobs cur no_job)
     (st cur) ∷ [] else [])
@@ -80,6 +85,7 @@ own_blocks jobs N st cur E r j = of_append j r.blocks (record { source = cur; bl
 open_both : (bs : List Block) (o : Block) → events_of (bs ++ o ∷ []) ≡ events_of bs ++ o
 open_both bs o = events_both bs (o ∷ []) ∙ ap (λ l. events_of bs ++ l) (append-nil o)
 
+-- in a run in progress each source's events, with those of its open block, lead to its stage
 lane_replays : (jobs : List Job) (N : ℕ) (st : ℕ → Stage) (cur : ℕ) (E : List RunEvent) (r : Running jobs N st cur E)
     → ((j : ℕ) → Filled (get_or jobs j no_job)) → (j : ℕ) → j < length jobs
     → Replays j (get_or jobs j no_job) (begin (get_or jobs j no_job)) (events_of (of j (with_open jobs N st cur E r))) (st j)
@@ -108,12 +114,13 @@ lane_replays jobs N st cur E r filled j lt = subst (λ l. Replays j (get_or jobs
         (subst (λ s. Replays j (get_or jobs j no_job) (begin (get_or jobs j no_job)) (events_of (of j r.blocks)) s)
         (base_out (st j) (r.others j e)) (to_base j lt))
 
--- the run is between blocks, and the same sources may go on
+-- the code's run is between blocks, and by either split the same sources may go on
 pub record Seen (plan : Plan) (N : ℕ) (f : Fleet) (E : List RunEvent) (g : Going plan.jobs N f E)
     (b : BetweenBlocks plan N E) : Type 0 where
   pub out : inside (stage_in f f.current) ≡ false
   pub tests : (j : ℕ) → j < length plan.jobs → source_may plan N E b j ≡ test plan.jobs N f g.run.blocks j
 
+-- any split of the events says of the sources what the code's own says
 pub seen : (plan : Plan) (N : ℕ) (f : Fleet) (E : List RunEvent) → FilledPlan plan
     → (g : Going plan.jobs N f E) (b : BetweenBlocks plan N E) → Seen plan N f E g b
 seen plan N f E filled g b = record { out = out; tests = tests }

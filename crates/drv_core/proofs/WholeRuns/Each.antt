@@ -19,12 +19,14 @@ use Rattle.std.proofs.Common.{◌<◌, ◌+◌, Bool, false, true, List, [], ◌
 use Rattle.std.proofs.lemmas.Cmp.{nat_eq_equiv}
 use Rattle.std.specs.Prelude.{⊤}
 
--- For the laws: a property that the blocks of every story have holds of each block of a run's sources.
+-- For the laws: a property that the blocks of every story have holds of each block of a run's sources. `report_law` is such a property.
 
+-- each of these blocks has the property
 abbrev pub Each : (Block → Type 0) → List Block → Type 0
 Each P [] = ⊤
 Each P (b ∷ bs) = P b × Each P bs
 
+-- each block of two lists has the property if each of either has it
 pub each_both : (P : Block → Type 0) (xs ys : List Block) → Each P xs → Each P ys → Each P (xs ++ ys)
 each_both P [] ys e f = f
 each_both P (x ∷ xs) ys e f = (e.0, each_both P xs ys e.1 f)
@@ -40,6 +42,7 @@ of_claims : (P : Block → Type 0) (kinds : Kinds P) (k i : ℕ) (cs : List (Tol
 of_claims P kinds k i [] = tt
 of_claims P kinds k i (c ∷ cs) = (kinds.claim k i c.answer c.told, of_claims P kinds k (i + 1) cs)
 
+-- each wait of a group has the property
 of_waits : (P : Block → Type 0) (kinds : Kinds P) (k g i : ℕ) (xs : List StartAnswer) (ws : List (Told WaitAnswer))
     → Each P (wait_blocks k g i xs ws)
 of_waits P kinds k g i [] ws = tt
@@ -51,6 +54,7 @@ of_removals : (P : Block → Type 0) (kinds : Kinds P) (k i : ℕ) (rs : List (T
 of_removals P kinds k i [] = tt
 of_removals P kinds k i (r ∷ rs) = (kinds.removal k i r.answer r.told, of_removals P kinds k (i + 1) rs)
 
+-- each block of groups has the property
 of_groups : (P : Block → Type 0) (kinds : Kinds P) (k g : ℕ) (cs : List (List Command)) (xs : List GroupAnswers)
     → Each P (group_blocks k g cs xs)
 of_groups P kinds k g [] xs = tt
@@ -59,12 +63,14 @@ of_groups P kinds k g (c ∷ cs) (x ∷ xs) = each_both P (starts_block k g (len
     x.waits) (group_blocks k (g + 1) cs xs)
     (kinds.starts k g (length c) 0 x.refused x.starts, of_waits P kinds k g 0 x.starts x.waits) (of_groups P kinds k (g + 1) cs xs)
 
+-- each block of a story has it
 pub of_story : (P : Block → Type 0) (kinds : Kinds P) (k : ℕ) (job : Job) (a : JobAnswers) → Each P (story k job a)
 of_story P kinds k job a = each_both P (claim_blocks k 0 a.claims) (group_blocks k 0 job.groups a.groups ++ own_removals k 0 a.removals)
     (of_claims P kinds k 0 a.claims)
     (each_both P (group_blocks k 0 job.groups a.groups) (own_removals k 0 a.removals) (of_groups P kinds k 0 job.groups a.groups)
     (of_removals P kinds k 0 a.removals))
 
+-- each block has the property if each source's blocks have it
 by_source : (P : Block → Type 0) (n : ℕ) (bs : List SourceBlock) → Below n bs → ((j : ℕ) → j < n → Each P (of j bs)) → Each P (blocks_of bs)
 by_source P n [] under all = tt
 by_source P n (b ∷ bs) under all = (first.0, by_source P n bs under.1 (λ j lt. others (nat_eq b.source j) j (all j lt)))
@@ -77,6 +83,7 @@ by_source P n (b ∷ bs) under all = (first.0, by_source P n bs under.1 (λ j lt
     others true j e = e.1
     others false j e = e
 
+-- each block of the sources in a whole run has it
 pub of_sources : (P : Block → Type 0) (kinds : Kinds P) (plan : Plan) (N : ℕ) (o : Answers) (E : List RunEvent) (w : Windowed plan N o E)
     → Each P (blocks_of w.blocks)
 of_sources P kinds plan N o E w = by_source P (length plan.jobs) w.blocks (all_below (length plan.jobs) N nowhere [] w.blocks w.may_come)

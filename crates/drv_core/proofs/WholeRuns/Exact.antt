@@ -27,10 +27,12 @@ use Rattle.std.proofs.lemmas.Cmp.{nat_eq_equiv}
 use Rattle.std.specs.Cmp.Lexicographic.{pointwise}
 use Rattle.std.specs.List.{list_any}
 
--- For the end of `Run`: while a source has more to do, the events so far are not a whole run.
+-- For the end of `Run`: while a source has more to do, the events so far are not a whole run. Each event shows its owner (Lanes), so events
+-- have one split by owners, and a source's own events lead to one stage (Retrace).
 
 -- the blocks of a whole run, each with its owner
 
+-- the blocks of a whole run with their owners: the sources', the link's, and the removals at the end
 abbrev pub all_blocks : (plan : Plan) (o : Answers) → List SourceBlock → List SourceBlock
 all_blocks plan o blocks = blocks ++ (tag (length plan.jobs) (story (length plan.jobs) (link_run plan.link o.jobs) o.link)
     ++ tag (suc (length plan.jobs)) (end_removals (removed_at_end plan o) o.last))
@@ -39,6 +41,7 @@ end_append : (n : ℕ) (xs ys : List File) → AtEndOnly n xs → AtEndOnly n ys
 end_append n [] ys x y = y
 end_append n (f ∷ xs) ys x y = (x.0, end_append n xs ys x.1 y)
 
+-- claimed temporaries are removed at the end
 end_temps : (n k i : ℕ) (ts : List Temp) (cs : List (Told ClaimAnswer)) → AtEndOnly n (claimed_temps k i ts cs)
 end_temps n k i [] cs = tt
 end_temps n k i (t ∷ ts) [] = tt
@@ -53,6 +56,7 @@ end_marked : (n k i : ℕ) (ms : List (List ℕ)) → AtEndOnly n (marked_files 
 end_marked n k i [] = tt
 end_marked n k i (m ∷ ms) = (refl, end_marked n k (i + 1) ms)
 
+-- the files of a job are removed at the end
 end_job : (n k : ℕ) (job : Job) (a : JobAnswers) → AtEndOnly n (files_of_job k job a)
 end_job n k job a = by (made_call a)
   where
@@ -61,12 +65,14 @@ end_job n k job a = by (made_call a)
         (end_marked n k 0 job.marked)
     by false = tt
 
+-- the files of several jobs are removed at the end
 end_jobs : (n k : ℕ) (jobs : List Job) (xs : List JobAnswers) → AtEndOnly n (files_of_jobs k jobs xs)
 end_jobs n k [] xs = tt
 end_jobs n k (job ∷ jobs) [] = tt
 end_jobs n k (job ∷ jobs) (a ∷ xs) = end_append n (files_of_job k job a) (files_of_jobs (k + 1) jobs xs) (end_job n k job a)
     (end_jobs n (k + 1) jobs xs)
 
+-- files that are removed at the end, each path once, are such
 end_once : (n : ℕ) (seen : List (List ℕ)) (fs : List File) → AtEndOnly n fs → AtEndOnly n (each_once seen fs)
 end_once n seen [] e = tt
 end_once n seen (f ∷ fs) e = by (list_any (pointwise nat_eq f.path) seen) (end_once n seen fs e.1) (end_once n (f.path ∷ seen) fs e.1)
@@ -76,10 +82,12 @@ end_once n seen (f ∷ fs) e = by (list_any (pointwise nat_eq f.path) seen) (end
     by true skip keep = skip
     by false skip keep = (e.0, keep)
 
+-- the files that are removed at the end are temporaries and marked files
 pub end_only : (plan : Plan) (o : Answers) → AtEndOnly (length plan.jobs) (removed_at_end plan o)
 end_only plan o = end_once (length plan.jobs) [] (files_of_jobs 0 (plan.jobs ++ link_run plan.link o.jobs ∷ []) (o.jobs ++ o.link ∷ []))
     (end_jobs (length plan.jobs) 0 (plan.jobs ++ link_run plan.link o.jobs ∷ []) (o.jobs ++ o.link ∷ []))
 
+-- complete answers of all jobs are complete for each
 pub whole_at : (jobs : List Job) (xs : List JobAnswers) → whole_jobs jobs xs ≡ true → (j : ℕ) → j < length jobs
     → whole_job (get_or jobs j no_job) (get_or xs j no_answers) ≡ true
 whole_at [] xs w j lt = absurd (omega arith)
@@ -87,22 +95,26 @@ whole_at (job ∷ jobs) [] w j lt = absurd cc
 whole_at (job ∷ jobs) (a ∷ xs) w zero lt = and_first (whole_job job a) (whole_jobs jobs xs) w
 whole_at (job ∷ jobs) (a ∷ xs) w (suc j) lt = whole_at jobs xs (and_second (whole_job job a) (whole_jobs jobs xs) w) j (omega arith)
 
+-- the answers of a whole run are complete for the sources
 pub all_whole_jobs : (plan : Plan) (N : ℕ) (o : Answers) (E : List RunEvent) → Windowed plan N o E → whole_jobs plan.jobs o.jobs ≡ true
 all_whole_jobs plan N o E w = and_first (whole_jobs plan.jobs o.jobs) (whole_job (link_run plan.link o.jobs) o.link)
     (and_first (whole_jobs plan.jobs o.jobs && whole_job (link_run plan.link o.jobs) o.link)
     (nat_eq (length o.last) (length (removed_at_end plan o))) w.all_answers)
 
+-- the answers of a whole run are complete for the link
 pub whole_link : (plan : Plan) (N : ℕ) (o : Answers) (E : List RunEvent) → Windowed plan N o E
     → whole_job (link_run plan.link o.jobs) o.link ≡ true
 whole_link plan N o E w = and_second (whole_jobs plan.jobs o.jobs) (whole_job (link_run plan.link o.jobs) o.link)
     (and_first (whole_jobs plan.jobs o.jobs && whole_job (link_run plan.link o.jobs) o.link)
     (nat_eq (length o.last) (length (removed_at_end plan o))) w.all_answers)
 
+-- a source's blocks in a whole run are its story
 pub story_is : (plan : Plan) (N : ℕ) (o : Answers) (E : List RunEvent) (w : Windowed plan N o E) (j : ℕ) → j < length plan.jobs
     → of j w.blocks ≡ story j (get_or plan.jobs j no_job) (get_or o.jobs j no_answers)
 story_is plan N o E w j lt = subst (λ n. of n w.blocks ≡ story n (get_or plan.jobs j no_job) (get_or o.jobs j no_answers))
     (let e : 0 + j ≡ j = omega arith in e) (told_at w.blocks 0 plan.jobs o.jobs (all_whole_jobs plan N o E w) w.stories j lt)
 
+-- each block of a whole run belongs to its owner
 pub whole_owned : (plan : Plan) (N : ℕ) (o : Answers) (E : List RunEvent) (w : Windowed plan N o E)
     → AllOwned (length plan.jobs) (all_blocks plan o w.blocks)
 whole_owned plan N o E w = owned_append (length plan.jobs) w.blocks
@@ -116,6 +128,7 @@ whole_owned plan N o E w = owned_append (length plan.jobs) w.blocks
     (story_owned (length plan.jobs) (length plan.jobs) (link_run plan.link o.jobs) o.link)
     (end_owned (length plan.jobs) (removed_at_end plan o) o.last (end_only plan o)))
 
+-- the events of a whole run are those of its blocks
 pub whole_events : (plan : Plan) (N : ℕ) (o : Answers) (E : List RunEvent) (w : Windowed plan N o E)
     → E ≡ events_of (blocks_of (all_blocks plan o w.blocks))
 whole_events plan N o E w = w.events
@@ -130,7 +143,7 @@ whole_events plan N o E w = w.events
     ∙ sym (events_append w.blocks (tag (length plan.jobs) (story (length plan.jobs) (link_run plan.link o.jobs) o.link)
     ++ tag (suc (length plan.jobs)) (end_removals (removed_at_end plan o) o.last)))
 
--- the blocks of one source in a whole run, those of the link, and the removals at the end
+-- the blocks of one owner in a whole run: of a source, of the link, or the removals at the end
 pub of_all : (plan : Plan) (o : Answers) (blocks : List SourceBlock) (j : ℕ) → of j (all_blocks plan o blocks) ≡ of j blocks
     ++ ((if nat_eq (length plan.jobs) j then story (length plan.jobs) (link_run plan.link o.jobs) o.link else [])
     ++ (if nat_eq (suc (length plan.jobs)) j then end_removals (removed_at_end plan o) o.last else []))
@@ -143,6 +156,7 @@ of_all plan o blocks j = of_append j blocks (tag (length plan.jobs) (story (leng
     ∙ ap (λ l. (if nat_eq (length plan.jobs) j then story (length plan.jobs) (link_run plan.link o.jobs) o.link else []) ++ l)
     (of_tag j (suc (length plan.jobs)) (end_removals (removed_at_end plan o) o.last)))
 
+-- among all blocks a source has those of its story
 pub source_of_all : (plan : Plan) (N : ℕ) (o : Answers) (E : List RunEvent) (w : Windowed plan N o E) (j : ℕ) → j < length plan.jobs
     → of j (all_blocks plan o w.blocks) ≡ story j (get_or plan.jobs j no_job) (get_or o.jobs j no_answers)
 source_of_all plan N o E w j lt = of_all plan o w.blocks j
@@ -160,15 +174,18 @@ same_lane n j xs ys x y e = sym (lane_of n j xs x 0) ∙ ap (λ E. lane n j 0 E)
 
 -- a source in progress has more to do, so the run isn't whole
 
+-- the blocks of a run in progress, with the open one of the source in progress as the last
 abbrev pub with_open : (jobs : List Job) (N : ℕ) (st : ℕ → Stage) (cur : ℕ) (E : List RunEvent) → Running jobs N st cur E → List SourceBlock
 with_open jobs N st cur E r = r.blocks ++ record { source = cur; block = open_of cur (get_or jobs cur no_job) (st cur) } ∷ []
 
+-- the events of a run in progress are those of its blocks and of the open one
 pub open_events : (jobs : List Job) (N : ℕ) (st : ℕ → Stage) (cur : ℕ) (E : List RunEvent) (r : Running jobs N st cur E)
     → E ≡ events_of (blocks_of (with_open jobs N st cur E r))
 open_events jobs N st cur E r = r.events ∙ ap (λ l. events_of (blocks_of r.blocks) ++ l)
     (sym (append-nil (open_of cur (get_or jobs cur no_job) (st cur))))
     ∙ sym (events_append r.blocks (record { source = cur; block = open_of cur (get_or jobs cur no_job) (st cur) } ∷ []))
 
+-- each of these blocks belongs to its source
 pub running_owned : (n : ℕ) (jobs : List Job) (N : ℕ) (st : ℕ → Stage) (cur : ℕ) (E : List RunEvent) (r : Running jobs N st cur E)
     → AllOwned n (with_open jobs N st cur E r)
 running_owned n jobs N st cur E r = owned_append n r.blocks
@@ -178,6 +195,7 @@ running_owned n jobs N st cur E r = owned_append n r.blocks
     (r.keep.stand.paths j lt)))
     (open_owned n cur (get_or jobs cur no_job) (st cur), tt)
 
+-- if the events of a run in progress are a whole run, the source in progress has ended
 pub not_whole : (plan : Plan) (N : ℕ) (st : ℕ → Stage) (cur : ℕ) (E : List RunEvent) (o : Answers) → Filled (get_or plan.jobs cur no_job)
     → Running plan.jobs N st cur E → cur < length plan.jobs → Windowed plan N o E → st cur ≡ Ended
 not_whole plan N st cur E o filled r lt w = has_ended cur (get_or plan.jobs cur no_job) (of cur r.blocks) (st cur)
@@ -201,6 +219,7 @@ not_whole plan N st cur E o filled r lt w = has_ended cur (get_or plan.jobs cur 
         ∙ whole_events plan N o E w)
         ∙ ap events_of (source_of_all plan N o E w cur lt)
 
+-- while a source goes on, the events are no whole run
 pub going_not_whole : (plan : Plan) (N : ℕ) (f : Fleet) (E : List RunEvent) → Filled (get_or plan.jobs f.current no_job)
     → Going plan.jobs N f E → IsWhole plan N E → ⊥
 going_not_whole plan N f E filled g w = clash (left (g.st f.current)) g.more

@@ -32,7 +32,8 @@ use Rattle.std.proofs.Common.{◌≡◌, ◌<◌, ◌+◌, ◌∙◌, ◌&&◌, 
 use Rattle.std.proofs.Common.{if◌then◌else◌, length, nat_eq, nat_lt, refl, subst, suc, sym, zero, ℕ}
 use Rattle.std.proofs.lemmas.Cmp.{nat_eq_equiv}
 
--- For the end of `Run`: before the link and the last removal are done, the events so far are not a whole run.
+-- For the end of `Run`: before the link and the last removal are done, the events so far are not a whole run. A whole run with the same
+-- events would have the same sources' stories, so the same link (`same_link`), and the same files to remove (`same_files`).
 
 none_of : (n : ℕ) (bs : List SourceBlock) → Below n bs → of n bs ≡ []
 none_of n [] below = refl
@@ -56,6 +57,7 @@ sources_of plan N o E w = record {
 abbrev pub following_sources : (plan : Plan) (N : ℕ) (S : List RunEvent) → Ran plan.jobs N S → List Block → List Block → List SourceBlock
 following_sources plan N S ran own last = ran.blocks ++ (tag (length plan.jobs) own ++ tag (suc (length plan.jobs)) last)
 
+-- the events of the sources and of what follows them are those of these blocks
 pub after_is : (plan : Plan) (N : ℕ) (S : List RunEvent) (ran : Ran plan.jobs N S) (own last : List Block)
     → S ++ (events_of own ++ events_of last) ≡ events_of (blocks_of (following_sources plan N S ran own last))
 after_is plan N S ran own last = ap (λ l. l ++ (events_of own ++ events_of last)) ran.events
@@ -64,6 +66,7 @@ after_is plan N S ran own last = ap (λ l. l ++ (events_of own ++ events_of last
     ∙ sym (events_append (tag (length plan.jobs) own) (tag (suc (length plan.jobs)) last)))
     ∙ sym (events_append ran.blocks (tag (length plan.jobs) own ++ tag (suc (length plan.jobs)) last))
 
+-- a source's blocks in a run of the sources are its story
 pub ran_story : (plan : Plan) (N : ℕ) (S : List RunEvent) (ran : Ran plan.jobs N S) (j : ℕ) → j < length plan.jobs
     → of j ran.blocks ≡ story j (get_or plan.jobs j no_job) (get_or ran.run.answers j no_answers)
 ran_story plan N S ran j lt = subst (λ n. of n ran.blocks ≡ story n (get_or plan.jobs j no_job) (get_or ran.run.answers j no_answers))
@@ -72,6 +75,7 @@ ran_story plan N S ran j lt = subst (λ n. of n ran.blocks ≡ story n (get_or p
 ran_below : (plan : Plan) (N : ℕ) (S : List RunEvent) (ran : Ran plan.jobs N S) → Below (length plan.jobs) ran.blocks
 ran_below plan N S ran = all_below (length plan.jobs) N nowhere [] ran.blocks ran.run.may_come
 
+-- each of these blocks belongs to its owner
 pub after_owned : (plan : Plan) (N : ℕ) (S : List RunEvent) (ran : Ran plan.jobs N S) (own last : List Block)
     → AllOwned (length plan.jobs) (tag (length plan.jobs) own) → AllOwned (length plan.jobs) (tag (suc (length plan.jobs)) last)
     → AllOwned (length plan.jobs) (following_sources plan N S ran own last)
@@ -82,6 +86,7 @@ after_owned plan N S ran own last x y = owned_append (length plan.jobs) ran.bloc
     (story_owned (length plan.jobs) j (get_or plan.jobs j no_job) (get_or ran.run.answers j no_answers))))
     (owned_append (length plan.jobs) (tag (length plan.jobs) own) (tag (suc (length plan.jobs)) last) x y)
 
+-- an owner's blocks among the sources', the link's and the last ones
 of_after : (plan : Plan) (N : ℕ) (S : List RunEvent) (ran : Ran plan.jobs N S) (own last : List Block) (j : ℕ)
     → of j (following_sources plan N S ran own last) ≡ of j ran.blocks ++ ((if nat_eq (length plan.jobs) j then own else [])
     ++ (if nat_eq (suc (length plan.jobs)) j then last else []))
@@ -90,6 +95,7 @@ of_after plan N S ran own last j = of_append j ran.blocks (tag (length plan.jobs
     ∙ ap (λ l. l ++ of j (tag (suc (length plan.jobs)) last)) (of_tag j (length plan.jobs) own)
     ∙ ap (λ l. (if nat_eq (length plan.jobs) j then own else []) ++ l) (of_tag j (suc (length plan.jobs)) last))
 
+-- among all these blocks a source has its own
 pub source_after : (plan : Plan) (N : ℕ) (S : List RunEvent) (ran : Ran plan.jobs N S) (own last : List Block) (j : ℕ)
     → j < length plan.jobs → of j (following_sources plan N S ran own last) ≡ of j ran.blocks
 source_after plan N S ran own last j lt = of_after plan N S ran own last j
@@ -98,6 +104,7 @@ source_after plan N S ran own last j lt = of_after plan N S ran own last j
     ∙ ap (λ (t : Bool). of j ran.blocks ++ (if t then last else [])) (apart_above (suc (length plan.jobs)) j (omega (arith, lt)))
     ∙ append-nil (of j ran.blocks)
 
+-- the link's blocks among all
 link_following : (plan : Plan) (N : ℕ) (S : List RunEvent) (ran : Ran plan.jobs N S) (own last : List Block)
     → of (length plan.jobs) (following_sources plan N S ran own last) ≡ own
 link_following plan N S ran own last = of_after plan N S ran own last (length plan.jobs)
@@ -109,11 +116,13 @@ link_following plan N S ran own last = of_after plan N S ran own last (length pl
     ∙ ap (λ (t : Bool). own ++ (if t then last else [])) (apart_above (suc (length plan.jobs)) (length plan.jobs) (omega arith))
     ∙ append-nil own
 
+-- no block of a source is one of the last
 below_next : (n : ℕ) (bs : List SourceBlock) → Below n bs → of (suc n) bs ≡ []
 below_next n [] below = refl
 below_next n (b ∷ bs) below = ap (λ (t : Bool). if t then b.block ∷ of (suc n) bs else of (suc n) bs)
     (apart b.source (suc n) (let lt = below.0 in omega (arith, lt))) ∙ below_next n bs below.1
 
+-- the last blocks among all
 last_after : (plan : Plan) (N : ℕ) (S : List RunEvent) (ran : Ran plan.jobs N S) (own last : List Block)
     → of (suc (length plan.jobs)) (following_sources plan N S ran own last) ≡ last
 last_after plan N S ran own last = of_after plan N S ran own last (suc (length plan.jobs))
@@ -126,6 +135,7 @@ last_after plan N S ran own last = of_after plan N S ran own last (suc (length p
 
 -- Two ways to split one list of events: as a whole run, and as the sources with the events after them.
 
+-- a whole run, and sources S with what follows them, have the same events of each source, of the link and of the removals
 record Apart (plan : Plan) (N : ℕ) (o : Answers) (S : List RunEvent) (ran : Ran plan.jobs N S) (own last : List Block) : Type 0 where
   sources : (j : ℕ) → j < length plan.jobs → events_of (story j (get_or plan.jobs j no_job) (get_or o.jobs j no_answers)) ≡ events_of
       (of j ran.blocks)
@@ -138,6 +148,7 @@ whole_is : (plan : Plan) (N : ℕ) (o : Answers) (E : List RunEvent) (w : Window
     (story (length plan.jobs) (link_run plan.link o.jobs) o.link) (end_removals (removed_at_end plan o) o.last)
 whole_is plan N o E w = refl
 
+-- a whole run, and the sources with what follows them, have the same events of each source, of the link and of the removals
 taken_apart : (plan : Plan) (N : ℕ) (o : Answers) (E : List RunEvent) (w : Windowed plan N o E) (S : List RunEvent)
     (ran : Ran plan.jobs N S) (own last : List Block) → AllOwned (length plan.jobs) (tag (length plan.jobs) own)
     → AllOwned (length plan.jobs) (tag (suc (length plan.jobs)) last) → E ≡ S ++ (events_of own ++ events_of last)
@@ -157,7 +168,7 @@ taken_apart plan N o E w S ran own last x y is = record {
         (whole_owned plan N o E w) (after_owned plan N S ran own last x y) (sym (whole_events plan N o E w) ∙ is
         ∙ after_is plan N S ran own last)
 
--- both have the same code, so the same link
+-- a whole run, and the sources with what follows them, have the same greatest code, so the same link
 same_link : (plan : Plan) (N : ℕ) (o : Answers) (E : List RunEvent) (w : Windowed plan N o E) (S : List RunEvent) (ran : Ran plan.jobs N S)
     → ((j : ℕ) → j < length plan.jobs → events_of (story j (get_or plan.jobs j no_job) (get_or o.jobs j no_answers)) ≡ events_of
     (of j ran.blocks)) → link_run plan.link o.jobs ≡ link_run plan.link ran.run.answers
@@ -170,11 +181,12 @@ same_link plan N o E w S ran each = link_is plan N (events_of (blocks_of w.block
         (λ j lt. ap (λ bs. run_code (events_of bs)) (story_is plan N o E w j lt) ∙ ap run_code (each j lt))
         ∙ sym (code_blocks (length plan.jobs) ran.blocks (ran_below plan N S ran)) ∙ ap run_code (sym ran.events)
 
+-- one more block of an owner
 pub tagged : (n : ℕ) (bs : List Block) (b : Block) → AllOwned n (tag n bs) → AllOwned n (tag n (b ∷ [])) → AllOwned n (tag n (bs ++ b ∷ []))
 tagged n [] b x y = y
 tagged n (c ∷ bs) b x y = (x.0, tagged n bs b x.1 y)
 
--- while the link has more to do
+-- if the events are a whole run, the link is at its end
 pub link_not_whole : (plan : Plan) (N most : ℕ) (job : Job) (s : Stage) (E : List RunEvent) (o : Answers) → Filled job
     → Linking plan N most job s E → Windowed plan N o E → s ≡ Ended
 link_not_whole plan N most job s E o filled k w = has_ended (length plan.jobs) job k.alone.blocks s o.link filled k.alone.valid k.alone.path
@@ -202,9 +214,11 @@ abbrev first_answer : List RunEvent → RemoveAnswer
 first_answer [] = remove.Missing
 first_answer (e ∷ events) = remove_of e.answer
 
+-- the removal that has failed and is not reported yet
 abbrev pub last_try : List File → ℕ → Bool → List RunEvent
 last_try files i failed = if failed then event (step.Remove (file_at files i).place) (answer.Remove remove.Failed) ∷ [] else []
 
+-- while a removal is left, the removals so far are not all
 ends_differ : (files : List File) (ts rs : List (Told RemoveAnswer)) (failed : Bool) (i : ℕ) → length ts ≡ length files → length rs ≡ i
     → i < length files → events_of (end_removals files ts) ≡ events_of (end_removals files rs) ++ last_try files i failed → ⊥
 ends_differ [] ts rs failed i all many lt is = absurd (omega arith)
@@ -232,11 +246,13 @@ ends_differ (f ∷ files) (a ∷ ts) (r ∷ rs) failed i all many lt is = ends_d
     rest false true e l = absurd cc
     rest false false e l = l
 
+-- each file that is removed at the end has no job as owner
 end_at : (n : ℕ) (fs : List File) (i : ℕ) → AtEndOnly n fs → i < length fs → remover n (file_at fs i).place ≡ suc n
 end_at n [] i e lt = absurd (omega arith)
 end_at n (f ∷ fs) zero e lt = e.0
 end_at n (f ∷ fs) (suc i) e lt = end_at n fs i e.1 (omega arith)
 
+-- stories with the same events claim as many temporaries
 tally_count : (k : ℕ) (job other : Job) (a b : JobAnswers) → events_of (story k job a) ≡ events_of (story k other b)
     → claimed_count a.claims ≡ claimed_count b.claims
 tally_count k job other a b e = sym (own job a) ∙ ap (λ l. tally k l) e ∙ own other b
@@ -247,7 +263,7 @@ tally_count k job other a b e = sym (own job a) ∙ ap (λ l. tally k l) e ∙ o
 abbrev counts_of : Plan → Answers → ℕ → ℕ
 counts_of plan o j = if nat_lt j (length plan.jobs) then claimed_count (get_or o.jobs j no_answers).claims else claimed_count o.link.claims
 
--- both remove the same files
+-- a whole run, and a run at its end with the same events, remove the same files
 same_files : (plan : Plan) (N : ℕ) (o : Answers) (E : List RunEvent) (w : Windowed plan N o E) (i : ℕ) (failed : Bool) (F : List RunEvent)
     (e : Ending plan N i failed F) (last : List Block)
     → Apart plan N o e.sources e.ran (story (length plan.jobs) (link_run plan.link e.ran.run.answers) e.link.a) last
@@ -268,9 +284,11 @@ same_files plan N o E w i failed F e last a =
     of_link = ap (λ (t : Bool). if t then claimed_count (get_or o.jobs (length plan.jobs) no_answers).claims else claimed_count
         o.link.claims) (not_less (length plan.jobs) (length plan.jobs) (omega arith))
 
+-- the removal that has failed and is not reported yet, as a block
 abbrev pub tries : List File → ℕ → Bool → List Block
 tries files i failed = if failed then (event (step.Remove (file_at files i).place) (answer.Remove remove.Failed) ∷ []) ∷ [] else []
 
+-- the removals so far and that one, as blocks
 pub tries_are : (files : List File) (rs : List (Told RemoveAnswer)) (i : ℕ) (failed : Bool)
     → events_of (end_removals files rs) ++ last_try files i failed ≡ events_of (end_removals files rs ++ tries files i failed)
 tries_are files rs i true = sym (events_both (end_removals files rs) (tries files i true))
@@ -280,6 +298,7 @@ tag_both : (k : ℕ) (xs ys : List Block) → tag k (xs ++ ys) ≡ tag k xs ++ t
 tag_both k [] ys = refl
 tag_both k (x ∷ xs) ys = ap (λ l. record { source = k; block = x } ∷ l) (tag_both k xs ys)
 
+-- which belong to no job
 pub tries_owned : (n : ℕ) (files : List File) (rs : List (Told RemoveAnswer)) (i : ℕ) (failed : Bool) → AtEndOnly n files → i < length files
     → AllOwned n (tag (suc n) (end_removals files rs ++ tries files i failed))
 tries_owned n files rs i failed e lt = subst (λ l. AllOwned n l) (sym (tag_both (suc n) (end_removals files rs) (tries files i failed)))
@@ -289,6 +308,7 @@ tries_owned n files rs i failed e lt = subst (λ l. AllOwned n l) (sym (tag_both
     by true = ((λ last. (end_at n files i e lt, tt)), tt)
     by false = tt
 
+-- while a removal is left, the events are no whole run
 pub end_not_whole : (plan : Plan) (N i : ℕ) (failed : Bool) (E : List RunEvent) (o : Answers) (e : Ending plan N i failed E)
     → i < length (end_files plan N i failed E e) → Windowed plan N o E → ⊥
 end_not_whole plan N i failed E o e lt w = ends_differ (end_files plan N i failed E e) o.last e.removing.rs failed i

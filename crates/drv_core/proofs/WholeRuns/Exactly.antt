@@ -12,6 +12,7 @@ use Rattle.std.proofs.Common.{◌≡◌, ◌+◌, false, true, None, ap, refl, �
 
 -- For the end of `Run`: there is no next step exactly if the events are a whole run.
 
+-- where the events are a whole run the course has no next step
 pub whole_ends : (plan : Plan) (N : ℕ) (c : Course) → FilledPlan plan → Holds plan N c → IsWhole plan N c.events → asked_by plan c ≡ None
 whole_ends plan N c filled h w = by c.phase h
   where

@@ -23,7 +23,8 @@ use Rattle.std.proofs.Common.{zero, ℕ}
 use Rattle.std.proofs.lemmas.Bool.Decides.{nat_tests}
 use Rattle.std.proofs.lemmas.Cmp.{nat_eq_equiv}
 
--- For beginnings of runs: from every stage, the sources can be led to the end, by answers that end their stories at once.
+-- For beginnings of runs: from every stage the sources can be led to the end, by answers that end their stories at once (a claim finds its
+-- name taken, a start is refused). So the events so far are the beginning of some whole run, whatever is answered later.
 
 -- how far a source is from its end
 abbrev pub still : Job → Stage → ℕ
@@ -38,6 +39,7 @@ still job (Removals i) = 1 + (length job.on_failure - i)
 still job (RemovalReport i) = 1
 still job Ended = 0
 
+-- how far the end is from the i-th removal
 still_removals : (job : Job) (i : ℕ) → still job (enter_removals job i) ≤ 1 + (length job.on_failure - i)
 still_removals job i = by (nat_lt i (length job.on_failure))
   where
@@ -45,12 +47,14 @@ still_removals job i = by (nat_lt i (length job.on_failure))
     by true = omega arith
     by false = omega arith
 
+-- how far the end is after a group that failed
 still_failed : (job : Job) (g : ℕ) (started : Bool) → still job (end_group job g started true) ≤ 1 + length job.on_failure
 still_failed job g true =
     let r : still job (enter_removals job 0) ≤ 1 + (length job.on_failure - 0) = still_removals job 0 in
     omega (arith, r)
 still_failed job g false = omega arith
 
+-- how far the end is from the i-th wait of a group that failed
 still_waits : (job : Job) (g : ℕ) (was : Bool) (ids : List ℕ) (i : ℕ)
     → still job (enter_waits job g was ids i true) ≤ 1 + length job.on_failure + (1 + (length ids - i))
 still_waits job g was ids i = by (nat_lt i (length ids))
@@ -63,6 +67,7 @@ still_waits job g was ids i = by (nat_lt i (length ids))
         still_failed job g (was || not (none ids)) in
         omega (arith, f)
 
+-- one wait more brings the end nearer
 still_last_wait : (job : Job) (g : ℕ) (was : Bool) (ids : List ℕ) (i : ℕ) → i < length ids
     → still job (enter_waits job g was ids (i + 1) true) < 2 + length job.on_failure + (length ids - i)
 still_last_wait job g was ids i lt = by (nat_lt (i + 1) (length ids)) refl
@@ -76,6 +81,7 @@ still_last_wait job g was ids i lt = by (nat_lt (i + 1) (length ids)) refl
         still_failed job g (was || not (none ids)) in
         omega (arith, f)
 
+-- one group more brings the end nearer
 still_group : (job : Job) (g : ℕ) (was : Bool) → still job (enter_group job (g + 1) was) < 3 + length job.on_failure +
     (length job.groups - g)
 still_group job g was = by (nat_lt (g + 1) (length job.groups)) refl
@@ -85,6 +91,7 @@ still_group job g was = by (nat_lt (g + 1) (length job.groups)) refl
     by true e = let lt : g + 1 < length job.groups = is_less (g + 1) (length job.groups) e in omega (arith, lt)
     by false e = omega arith
 
+-- one removal more brings the end nearer
 still_next : (job : Job) (i : ℕ) → still job (enter_removals job (i + 1)) < 1 + (length job.on_failure - i)
 still_next job i = by (nat_lt (i + 1) (length job.on_failure)) refl
   where
@@ -93,7 +100,7 @@ still_next job i = by (nat_lt (i + 1) (length job.on_failure)) refl
     by true e = let lt : i + 1 < length job.on_failure = is_less (i + 1) (length job.on_failure) e in omega (arith, lt)
     by false e = omega arith
 
--- a block that ends a source or brings it nearer to its end
+-- a block of a source, by some answer, that brings it nearer to its end
 pub record Fails (k : ℕ) (job : Job) (s : Stage) : Type 0 where
   pub b : Block
   pub m : Stage
@@ -104,6 +111,7 @@ or_true : (t : Bool) → (t || true) ≡ true
 or_true true = refl
 or_true false = refl
 
+-- each source that has more to do has such a block
 pub fails : (k : ℕ) (job : Job) (s : Stage) → Sound s → left s ≡ true → Fails k job s
 fails k job (Claims i) so l = record {
   b = claim_block k i (record { answer = claim.Taken; told = true });
@@ -152,13 +160,15 @@ fails k job (Removals i) so l = record {
 fails k job (RemovalReport i) so l = absurd so
 fails k job Ended so l = absurd cc
 
--- What holds between blocks.
+-- What holds between blocks: `Standing`, at most N sources begun and not ended, and no source begun before an earlier one that has blocks
+-- to come.
 pub record Keeps (jobs : List Job) (N : ℕ) (st : ℕ → Stage) (blocks : List SourceBlock) : Type 0 where
   pub stand : Standing jobs N st blocks
   pub window : count (length jobs) (λ j. has j blocks && left (st j)) ≤ N
   pub order : (j i : ℕ) → j < i → has i blocks ≡ true → (not (has j blocks) && left (st j)) ≡ false
   pub beyond : (j : ℕ) → length jobs ≤ j → st j ≡ Ended
 
+-- a source that has a child to be waited for has begun
 begun_waiting : (k : ℕ) (job : Job) (bs : List Block) (m : Stage) → Path k job (begin job) bs m → nat_lt 0 (pending m) ≡ true
     → not (none bs) ≡ true
 begun_waiting k job [] m p e =
@@ -169,10 +179,12 @@ waiting_left : (s : Stage) → nat_lt 0 (pending s) ≡ true → left s ≡ true
 waiting_left Ended e = absurd (let no : nat_lt 0 0 ≡ true = e in cc)
 waiting_left s e = refl
 
+-- a stage with no more to do is the end
 pub ended : (s : Stage) → left s ≡ false → s ≡ Ended
 ended Ended e = refl
 ended s e = absurd cc
 
+-- what holds between blocks, as counts of sources (`Between` of Progress)
 pub between : (jobs : List Job) (N : ℕ) (st : ℕ → Stage) (blocks : List SourceBlock) → Keeps jobs N st blocks
     → Between (length jobs) N (λ j. has j blocks) (λ j. left (st j)) (λ j. in_flight (of j blocks)) (λ j. nat_lt 0 (pending (st j)))
 between jobs N st blocks keep = record {
@@ -183,6 +195,7 @@ between jobs N st blocks keep = record {
   waits_left = λ j lt e. waiting_left (st j) e;
 }
 
+-- where the count is 0 no number passes
 none_there : (n : ℕ) (p : ℕ → Bool) → count n p ≡ 0 → (j : ℕ) → j < n → p j ≡ false
 none_there zero p e j lt = absurd (omega arith)
 none_there (suc n) p e j lt = by (nat_eq j n) refl (λ rest below. none_there n p rest j below)
@@ -199,6 +212,7 @@ none_there (suc n) p e j lt = by (nat_eq j n) refl (λ rest below. none_there n 
     by true is ih = subst (λ i. p i ≡ false) (sym (same j n is)) (bit (p n) e)
     by false is ih = ih (rest_none (p n) e) (grind (arith, nat_tests))
 
+-- one more block of a source that may go on keeps what holds between blocks
 pub keeps_more : (jobs : List Job) (N : ℕ) (st : ℕ → Stage) (blocks : List SourceBlock) (k : ℕ) (b : Block) (m : Stage)
     → Keeps jobs N st blocks → left (st k) ≡ true → OneBlock k (get_or jobs k no_job) (st k) b m
     → MayCome (length jobs) N (λ j. has j blocks) (λ j. left (st j)) (λ j. in_flight (of j blocks)) k (is_wait b)
@@ -256,14 +270,17 @@ keeps_more jobs N st blocks k b m keep more o may = record {
 
 -- all sources are led to the end
 
+-- the sum of f over the numbers below n
 abbrev pub summed : ℕ → (ℕ → ℕ) → ℕ
 summed zero f = 0
 summed (suc n) f = f n + summed n f
 
+-- functions that agree below n have the same sum
 pub summed_same : (n : ℕ) (f g : ℕ → ℕ) → ((j : ℕ) → j < n → f j ≡ g j) → summed n f ≡ summed n g
 summed_same zero f g e = refl
 summed_same (suc n) f g e = rw (e n (omega arith), summed_same n f g (λ j lt. e j (omega arith))) refl
 
+-- a function that is less at one number, and the same elsewhere, has a smaller sum
 pub summed_less : (n k : ℕ) (f g : ℕ → ℕ) → k < n → g k < f k → ((j : ℕ) → nat_eq k j ≡ false → g j ≡ f j) → summed n g < summed n f
 summed_less zero k f g lt less_k others = absurd (omega arith)
 summed_less (suc n) k f g lt less_k others = by (nat_eq k n) refl (λ below. summed_less n k f g below less_k others)
@@ -279,6 +296,7 @@ summed_less (suc n) k f g lt less_k others = by (nat_eq k n) refl (λ below. sum
         let here : g n ≡ f n = others n e in
         omega (arith, rest, here)
 
+-- blocks that complete these to a run of the sources
 pub record Finished (jobs : List Job) (N : ℕ) (blocks : List SourceBlock) : Type 0 where
   pub more : List SourceBlock
   pub run : SourcesRun jobs N (blocks ++ more)
@@ -286,12 +304,14 @@ pub record Finished (jobs : List Job) (N : ℕ) (blocks : List SourceBlock) : Ty
 abbrev far : List Job → (ℕ → Stage) → ℕ
 far jobs st = summed (length jobs) (λ j. still (get_or jobs j no_job) (st j))
 
+-- one more block, after which the sources are nearer to their ends
 record Nearer (jobs : List Job) (N : ℕ) (st : ℕ → Stage) (blocks : List SourceBlock) : Type 0 where
   block : SourceBlock
   next : ℕ → Stage
   keep : Keeps jobs N next (blocks ++ block ∷ [])
   less_far : far jobs next < far jobs st
 
+-- a source that may go on takes a block that brings all sources together nearer to their ends
 nearer_by : (jobs : List Job) (N : ℕ) (st : ℕ → Stage) (blocks : List SourceBlock) → Keeps jobs N st blocks
     → Goes (length jobs) N (λ j. has j blocks) (λ j. left (st j)) (λ j. in_flight (of j blocks)) (λ j. nat_lt 0 (pending (st j)))
     → Nearer jobs N st blocks
@@ -326,6 +346,7 @@ nearer_by jobs N st blocks keep goes = record {
     ap_less h = subst (λ (t : Bool). still (get_or jobs goes.k no_job) (if t then f.m else st goes.k) < still (get_or jobs goes.k no_job)
         (st goes.k)) (sym (nat_eq_equiv.refl goes.k)) h
 
+-- the sources are led to their ends, by induction on how far they are from these
 finish_by : (fuel : ℕ) (jobs : List Job) (N : ℕ) (st : ℕ → Stage) (blocks : List SourceBlock) → 1 ≤ N → Keeps jobs N st blocks
     → far jobs st < fuel → Finished jobs N blocks
 finish_by zero jobs N st blocks some keep far_below = absurd (omega arith)
@@ -356,7 +377,7 @@ finish_by (suc fuel) jobs N st blocks some keep far_below = by (find (length job
           (sources_run jobs N st blocks keep.stand (all_ended none));
     }
 
--- the sources' blocks so far are the first blocks of a whole run of the sources
+-- the blocks so far are the first blocks of a whole run of the sources
 pub finish : (jobs : List Job) (N : ℕ) (st : ℕ → Stage) (blocks : List SourceBlock) → 1 ≤ N → Keeps jobs N st blocks
     → Finished jobs N blocks
 finish jobs N st blocks some keep = finish_by (suc (far jobs st)) jobs N st blocks some keep (omega arith)

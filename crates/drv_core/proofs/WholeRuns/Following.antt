@@ -24,7 +24,8 @@ use Rattle.drv_words.specs.declared.plan.Plan.{Plan}
 use Rattle.drv_words.specs.declared.steps.RunEvent.{RunEvent}
 use Rattle.std.proofs.Common.{◌≡◌, ◌<◌, ◌∙◌, Bool, false, List, [], ◌∷◌, ◌++◌, ap, append-nil, get_or, length, subst, suc, sym, ℕ}
 
--- For the choices of `Run`: after the sources, no story of a source goes on.
+-- For the choices of `Run`: after the sources no story of a source goes on. So events of the link or of removals at the end are never
+-- between blocks of the sources.
 
 -- the run of the sources, followed by blocks of the link and by removals at the end
 pub record Following (plan : Plan) (N : ℕ) (E : List RunEvent) : Type 0 where
@@ -36,6 +37,7 @@ pub record Following (plan : Plan) (N : ℕ) (E : List RunEvent) : Type 0 where
   pub last_owned : AllOwned (length plan.jobs) (tag (suc (length plan.jobs)) last)
   pub events : E ≡ sources ++ (events_of own ++ events_of last)
 
+-- such events are not between blocks of the sources
 pub none_goes_on : (plan : Plan) (N : ℕ) (E : List RunEvent) → FilledPlan plan → Following plan N E → BetweenBlocks plan N E → ⊥
 none_goes_on plan N E filled z b = clash (b.left b.some) b.some_left (sym (fate_at plan N E b b.some b.some_is).left_is
     ∙ ap left (sym ended))
@@ -58,6 +60,7 @@ none_goes_on plan N E filled z b = clash (b.left b.some) b.some_left (sym (fate_
         (fate_at plan N E b b.some b.some_is).t) told (fate_replays b.some (get_or plan.jobs b.some no_job) (of b.some b.blocks)
         (b.left b.some) (b.waits b.some) (filled.jobs b.some) (fate_at plan N E b b.some b.some_is)))
 
+-- while the link runs, the events are such
 pub after_linking : (plan : Plan) (N most : ℕ) (job : Job) (s : Stage) (E : List RunEvent) → Linking plan N most job s E
     → Following plan N E
 after_linking plan N most job s E k = record {
@@ -74,6 +77,7 @@ after_linking plan N most job s E k = record {
       ∙ sym (append-nil (events_of (k.alone.blocks ++ open_of (length plan.jobs) job s ∷ []))));
 }
 
+-- while files are removed, if these are temporaries and marked files
 after_last : (plan : Plan) (N i : ℕ) (failed : Bool) (E : List RunEvent) (e : Ending plan N i failed E)
     → AllOwned (length plan.jobs) (tag (suc (length plan.jobs)) (end_removals (end_files plan N i failed E e) e.removing.rs
     ++ tries (end_files plan N i failed E e) i failed)) → Following plan N E
@@ -89,11 +93,13 @@ after_last plan N i failed E e owned = record {
       (e.removing.events ∙ tries_are (end_files plan N i failed E e) e.removing.rs i failed);
 }
 
+-- while a file is left to remove, the events are such
 pub after_ending : (plan : Plan) (N i : ℕ) (failed : Bool) (E : List RunEvent) (e : Ending plan N i failed E)
     → i < length (end_files plan N i failed E e) → Following plan N E
 after_ending plan N i failed E e lt = after_last plan N i failed E e (tries_owned (length plan.jobs) (end_files plan N i failed E e)
     e.removing.rs i failed (end_only plan (answers e.ran.run.answers e.link.a [])) lt)
 
+-- after the last removal the events are such
 pub after_done : (plan : Plan) (N i : ℕ) (E : List RunEvent) → Ending plan N i false E → Following plan N E
 after_done plan N i E e = after_last plan N i false E e (subst (λ bs. AllOwned (length plan.jobs) (tag (suc (length plan.jobs)) bs))
     (sym (append-nil (end_removals (end_files plan N i false E e) e.removing.rs)))

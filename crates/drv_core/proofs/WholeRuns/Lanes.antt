@@ -31,16 +31,17 @@ use Rattle.std.proofs.Common.{refl, subst, suc, sym, ℕ}
 use Rattle.std.proofs.lemmas.Cmp.{nat_eq_equiv}
 use Rattle.std.specs.Prelude.{⊤}
 
--- For the laws: each event shows its owner, which is the job of its place or the job of the event before. A removal at the end has no
--- owner.
+-- For the laws: each event shows its owner, the job of its place, or for the closing of a pipe the job of the event before. A removal at
+-- the end belongs to no job: its owner is a number that no job has. So the events of a run have one split by owners.
 
--- n: the number of sources, which is the link's number; removals at the end get a greater one
+-- the owner of a removal; n is the number of sources, which is the link's number, and removals at the end get a greater one
 abbrev pub remover : ℕ → Place → ℕ
 remover n (place.Command k g i) = k
 remover n (place.Temp k i) = suc n
 remover n (place.Marked k i) = suc n
 remover n (place.OnFailure k i) = k
 
+-- the owner of a report
 abbrev pub noted : ℕ → Note → ℕ
 noted n (note.NotClaimed p) = job_of p
 noted n (note.NotStarted p) = job_of p
@@ -48,6 +49,7 @@ noted n (note.Signalled p) = job_of p
 noted n (note.Lost p) = job_of p
 noted n (note.NotRemoved p) = remover n p
 
+-- the owner of a step, after an event of owner `last`
 abbrev pub owner : ℕ → ℕ → Step → ℕ
 owner n last (step.Claim p) = job_of p
 owner n last (step.Start p from_pipe to_pipe) = job_of p
@@ -56,23 +58,26 @@ owner n last (step.Wait p id) = job_of p
 owner n last (step.Remove p) = remover n p
 owner n last (step.Report m) = noted n m
 
--- the events of one owner
+-- the events of owner j, after an event of owner `last`
 abbrev pub lane : ℕ → ℕ → ℕ → List RunEvent → List RunEvent
 lane n j last [] = []
 lane n j last (e ∷ events) = (if nat_eq (owner n last e.step) j then e ∷ [] else []) ++ lane n j (owner n last e.step) events
 
--- all these events belong to k
+-- all these events belong to job k, where the event before them belonged to `last`
 abbrev pub AllOwn : ℕ → ℕ → ℕ → List RunEvent → Type 0
 AllOwn n k last [] = ⊤
 AllOwn n k last (e ∷ events) = (owner n last e.step ≡ k) × AllOwn n k k events
 
+-- the events of a block belong to its source
 abbrev pub Owned : ℕ → SourceBlock → Type 0
 Owned n b = (last : ℕ) → AllOwn n b.source last b.block
 
+-- the events of each of these blocks belong to its source
 abbrev pub AllOwned : ℕ → List SourceBlock → Type 0
 AllOwned n [] = ⊤
 AllOwned n (b ∷ bs) = Owned n b × AllOwned n bs
 
+-- the events of j in a block of k, and in what follows it
 lane_block : (n j k last : ℕ) (b : List RunEvent) (rest tail : List RunEvent) → AllOwn n k last b → ((l : ℕ) → lane n j l rest ≡ tail)
     → lane n j last (b ++ rest) ≡ (if nat_eq k j then b else []) ++ tail
 lane_block n j k last [] rest tail own is = is last ∙ by (nat_eq k j)
@@ -87,6 +92,7 @@ lane_block n j k last (e ∷ b) rest tail own is = ap (λ o. (if nat_eq o j then
     by true = refl
     by false = refl
 
+-- the events of j are those of its blocks
 pub lane_of : (n j : ℕ) (bs : List SourceBlock) → AllOwned n bs → (last : ℕ) → lane n j last (events_of (blocks_of bs))
     ≡ events_of (of j bs)
 lane_of n j [] own last = refl
@@ -97,6 +103,7 @@ lane_of n j (b ∷ bs) own last = lane_block n j b.source last b.block (events_o
     by true = refl
     by false = refl
 
+-- two lists of blocks that belong to their sources
 pub owned_append : (n : ℕ) (xs ys : List SourceBlock) → AllOwned n xs → AllOwned n ys → AllOwned n (xs ++ ys)
 owned_append n [] ys x y = y
 owned_append n (b ∷ xs) ys x y = (x.0, owned_append n xs ys x.1 y)
@@ -107,6 +114,7 @@ own_append n k last (e ∷ b) rest own more = (own.0, own_append n k k b rest ow
 
 -- the blocks of a story
 
+-- a claim and its report belong to their job
 own_claim : (n k i : ℕ) (c : Told ClaimAnswer) (last : ℕ) → AllOwn n k last (claim_block k i c)
 own_claim n k i c last = (refl, by (is_claimed c.answer))
   where
@@ -118,11 +126,13 @@ own_close : (n k : ℕ) (t : Bool) → AllOwn n k k (if t then event step.CloseP
 own_close n k true = (refl, tt)
 own_close n k false = tt
 
+-- the starts of a group, a report and the closing of the pipe belong to their job
 own_starts : (n k g m i : ℕ) (refused : Bool) (xs : List StartAnswer) (last : ℕ) → AllOwn n k last (starts_block k g m i refused xs)
 own_starts n k g m i refused [] last = tt
 own_starts n k g m i refused (start.Started id ∷ xs) last = (refl, own_starts n k g m (i + 1) refused xs k)
 own_starts n k g m i refused (start.NotStarted why ∷ xs) last = (refl, (refl, own_close n k (nat_lt 0 i)))
 
+-- the report of a wait belongs to its job
 own_wait_report : (n k g i : ℕ) (x : WaitAnswer) (t : Bool) → AllOwn n k k (wait_report (place.Command k g i) x t)
 own_wait_report n k g i (Exit c) t = tt
 own_wait_report n k g i Signal t = (refl, tt)
@@ -131,6 +141,7 @@ own_wait_report n k g i Lost t = (refl, tt)
 own_wait : (n k g i id : ℕ) (w : Told WaitAnswer) (last : ℕ) → AllOwn n k last (wait_block k g i id w)
 own_wait n k g i id w last = (refl, own_wait_report n k g i w.answer w.told)
 
+-- a job's own removal and its report belong to the job
 own_removal : (n k i : ℕ) (r : Told RemoveAnswer) (last : ℕ) → AllOwn n k last (removal_block (place.OnFailure k i) r)
 own_removal n k i r last = (refl, by (removal_failed r.answer))
   where
@@ -138,14 +149,17 @@ own_removal n k i r last = (refl, by (removal_failed r.answer))
     by true = (refl, tt)
     by false = tt
 
+-- blocks as those of source k
 abbrev pub tag : ℕ → List Block → List SourceBlock
 tag k [] = []
 tag k (b ∷ bs) = record { source = k; block = b } ∷ tag k bs
 
+-- blocks as those of source k are the same blocks
 pub blocks_tag : (k : ℕ) (bs : List Block) → blocks_of (tag k bs) ≡ bs
 blocks_tag k [] = refl
 blocks_tag k (b ∷ bs) = ap (λ l. b ∷ l) (blocks_tag k bs)
 
+-- source k has all of them, another none
 pub of_tag : (j k : ℕ) (bs : List Block) → of j (tag k bs) ≡ (if nat_eq k j then bs else [])
 of_tag j k [] = by (nat_eq k j)
   where
@@ -167,12 +181,14 @@ claims_owned : (n k i : ℕ) (cs : List (Told ClaimAnswer)) → AllOwned n (tag 
 claims_owned n k i [] = tt
 claims_owned n k i (c ∷ cs) = (own_claim n k i c, claims_owned n k (i + 1) cs)
 
+-- the waits of a group belong to their job
 waits_owned : (n k g i : ℕ) (xs : List StartAnswer) (ws : List (Told WaitAnswer)) → AllOwned n (tag k (wait_blocks k g i xs ws))
 waits_owned n k g i [] ws = tt
 waits_owned n k g i (start.Started id ∷ xs) [] = tt
 waits_owned n k g i (start.NotStarted why ∷ xs) ws = tt
 waits_owned n k g i (start.Started id ∷ xs) (w ∷ ws) = (own_wait n k g i id w, waits_owned n k g (i + 1) xs ws)
 
+-- the blocks of groups belong to their job
 groups_owned : (n k g : ℕ) (cs : List (List Command)) (xs : List GroupAnswers) → AllOwned n (tag k (group_blocks k g cs xs))
 groups_owned n k g [] xs = tt
 groups_owned n k g (c ∷ cs) [] = tt
@@ -188,6 +204,7 @@ removals_owned : (n k i : ℕ) (rs : List (Told RemoveAnswer)) → AllOwned n (t
 removals_owned n k i [] = tt
 removals_owned n k i (r ∷ rs) = (own_removal n k i r, removals_owned n k (i + 1) rs)
 
+-- a job's story belongs to it
 pub story_owned : (n k : ℕ) (job : Job) (a : JobAnswers) → AllOwned n (tag k (story k job a))
 story_owned n k job a = subst (λ l. AllOwned n l)
     (sym (tag_append k (claim_blocks k 0 a.claims) (group_blocks k 0 job.groups a.groups ++ own_removals k 0 a.removals)))
@@ -199,6 +216,7 @@ story_owned n k job a = subst (λ l. AllOwned n l)
 
 -- the blocks that led a source to its stage
 
+-- a block that begins at a stage of job k belongs to k
 own_one : (n k : ℕ) (job : Job) (s : Stage) (b : Block) (m : Stage) → OneBlock k job s b m → (last : ℕ) → AllOwn n k last b
 own_one n k job (Claims i) b m o last = subst (λ l. AllOwn n k last l) (sym o.is) (own_claim n k i o.a last)
 own_one n k job (ClaimReport i x) b m o last = absurd o
@@ -213,6 +231,7 @@ own_one n k job (Removals i) b m o last = subst (λ l. AllOwn n k last l) (sym o
 own_one n k job (RemovalReport i) b m o last = absurd o
 own_one n k job Ended b m o last = absurd o
 
+-- the blocks of a path of job k belong to k
 pub path_owned : (n k : ℕ) (job : Job) (s : Stage) (bs : List Block) (m : Stage) → Path k job s bs m → AllOwned n (tag k bs)
 path_owned n k job s [] m p = tt
 path_owned n k job s (b ∷ bs) m p = (own_one n k job s b p.0 p.1.0, path_owned n k job p.0 bs m p.1.1)
@@ -223,12 +242,14 @@ own_so_far : (n k g m i : ℕ) (ids : List ℕ) (last : ℕ) → AllOwn n k last
 own_so_far n k g m i [] last = tt
 own_so_far n k g m i (id ∷ ids) last = (refl, own_so_far n k g m (i + 1) ids k)
 
+-- the starts of an open block, up to a refused one, belong to their job
 own_refused : (n k : ℕ) (job : Job) (g : ℕ) (ids : List ℕ) (why : NotStarted) (last : ℕ)
     → AllOwn n k last (refused_so_far k g (length (group_at job g)) ids why)
 own_refused n k job g ids why last = own_append n k last (starts_so_far k g (length (group_at job g)) 0 ids)
     (event (step.Start (place.Command k g (length ids)) (nat_lt 0 (length ids)) (nat_lt (length ids + 1) (length (group_at job g))))
     (answer.Start (start.NotStarted why)) ∷ []) (own_so_far n k g (length (group_at job g)) 0 ids last) (λ l. (refl, tt))
 
+-- the events of the open block of job k belong to k
 pub open_owned : (n k : ℕ) (job : Job) (s : Stage) (last : ℕ) → AllOwn n k last (open_of k job s)
 open_owned n k job (Claims i) last = tt
 open_owned n k job (ClaimReport i x) last = (refl, tt)
@@ -242,7 +263,7 @@ open_owned n k job (Removals i) last = tt
 open_owned n k job (RemovalReport i) last = (refl, tt)
 open_owned n k job Ended last = tt
 
--- the blocks of all sources, if those of each belong to it
+-- all blocks belong to their sources if those of each source do
 pub all_owned : (n m : ℕ) (bs : List SourceBlock) → Below m bs → ((j : ℕ) → j < m → AllOwned n (tag j (of j bs))) → AllOwned n bs
 all_owned n m [] below each = tt
 all_owned n m (b ∷ bs) below each = (first, all_owned n m bs below.1 (λ j lt. rest j (nat_eq b.source j) (each j lt)))
@@ -261,10 +282,12 @@ all_owned n m (b ∷ bs) below each = (first, all_owned n m bs below.1 (λ j lt.
 
 -- the removals at the end
 
+-- these files are removed at the end: each is a temporary or a marked file
 abbrev pub AtEndOnly : ℕ → List File → Type 0
 AtEndOnly n [] = ⊤
 AtEndOnly n (f ∷ fs) = (remover n f.place ≡ suc n) × AtEndOnly n fs
 
+-- a removal at the end and its report belong to no job
 own_last : (n : ℕ) (p : Place) (r : Told RemoveAnswer) → remover n p ≡ suc n → (last : ℕ) → AllOwn n (suc n) last (removal_block p r)
 own_last n p r e last = (e, by (removal_failed r.answer))
   where
@@ -272,6 +295,7 @@ own_last n p r e last = (e, by (removal_failed r.answer))
     by true = (e, tt)
     by false = tt
 
+-- the removals at the end belong to no job
 pub end_owned : (n : ℕ) (fs : List File) (rs : List (Told RemoveAnswer)) → AtEndOnly n fs → AllOwned n (tag (suc n) (end_removals fs rs))
 end_owned n [] rs e = tt
 end_owned n (f ∷ fs) [] e = tt

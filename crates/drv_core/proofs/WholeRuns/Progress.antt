@@ -6,18 +6,22 @@ use Rattle.std.proofs.lemmas.Bool.{not-true}
 use Rattle.std.proofs.lemmas.Bool.Decides.{nat_tests}
 use Rattle.std.proofs.lemmas.Cmp.{nat_eq_equiv}
 
--- For the sources of `Run`: while a source has blocks to come, some source may go on.
+-- For the sources of `Run`: while a source has blocks to come, some source may go on, so no run gets stuck. The lemmas count source
+-- numbers: those that have begun, have blocks to come (`left`), have a child in flight (`flying`), or go on with a wait (`waits`).
 
+-- tests that agree below n count the same
 pub count_same : (n : ℕ) (p q : ℕ → Bool) → ((j : ℕ) → j < n → p j ≡ q j) → count n p ≡ count n q
 count_same zero p q e = refl
 count_same (suc n) p q e = rw (e n (omega arith), count_same n p q (λ j lt. e j (omega arith))) refl
 
+-- a test that implies another counts at most as much
 bit : (s t : Bool) → (s ≡ true → t ≡ true) → (if s then 1 else 0) ≤ (if t then 1 else 0)
 bit true true h = omega arith
 bit true false h = absurd (let e : false ≡ true = h refl in cc)
 bit false true h = omega arith
 bit false false h = omega arith
 
+-- a test that passes where another does counts at least as many
 pub count_fewer : (n : ℕ) (p q : ℕ → Bool) → ((j : ℕ) → j < n → p j ≡ true → q j ≡ true) → count n p ≤ count n q
 count_fewer zero p q h = omega arith
 count_fewer (suc n) p q h =
@@ -25,7 +29,7 @@ count_fewer (suc n) p q h =
     let rest : count n p ≤ count n q = count_fewer n p q (λ j lt e. h j (omega arith) e) in
     omega arith
 
--- one more place passes
+-- a test that passes at one number more counts one more
 pub count_with : (n k : ℕ) (p q : ℕ → Bool) → k < n → p k ≡ false → q k ≡ true → ((j : ℕ) → nat_eq j k ≡ false → q j ≡ p j)
     → count n q ≡ count n p + 1
 count_with zero k p q lt pk qk others = absurd (omega arith)
@@ -43,13 +47,14 @@ count_with (suc n) k p q lt pk qk others = by (nat_eq n k) refl (λ below. count
         let rest : count n q ≡ count n p + 1 = ih (grind (arith, nat_tests)) in
         rw (others n e, rest) (omega arith)
 
--- the first that passes
+-- the first number below n that passes
 pub record First (n : ℕ) (p : ℕ → Bool) : Type 0 where
   pub at : ℕ
   pub below : at < n
   pub passes : p at ≡ true
   pub before : (j : ℕ) → j < at → p j ≡ false
 
+-- the first number that passes, or none does
 pub find : (n : ℕ) (p : ℕ → Bool) → First n p ⊎ ((j : ℕ) → j < n → p j ≡ false)
 find zero p = inr (λ j lt. absurd (omega arith))
 find (suc n) p = by (find n p)
@@ -76,6 +81,7 @@ pub record Between (n N : ℕ) (begun left flying waits : ℕ → Bool) : Type 0
   pub begun_waits : (j : ℕ) → j < n → waits j ≡ true → begun j ≡ true
   pub waits_left : (j : ℕ) → j < n → waits j ≡ true → left j ≡ true
 
+-- source k has blocks to come, and its next block may come
 pub record Goes (n N : ℕ) (begun left flying waits : ℕ → Bool) : Type 0 where
   pub k : ℕ
   pub has_more : left k ≡ true
@@ -123,7 +129,7 @@ new_goes n N begun left flying waits b f room = record {
     more : left f.at ≡ true
     more = and_second (not (begun f.at)) (left f.at) f.passes
 
--- all sources that have begun wait, and no other may begin
+-- where all sources that have begun wait, and no other may begin, as many have a child in flight as can have one
 all_wait : (n N : ℕ) (begun left flying waits : ℕ → Bool) → Between n N begun left flying waits
     → ((j : ℕ) → j < n → (begun j && (left j && not (waits j))) ≡ false)
     → (count n (λ j. begun j && left j) ≡ N) ⊎ ((j : ℕ) → j < n → (not (begun j) && left j) ≡ false) → count n flying ≡ min N (count n left)
@@ -157,7 +163,7 @@ all_wait n N begun left flying waits b none_free full = flying_is ∙ by full
         let w = b.in_window in
         omega (arith, is, w)
 
--- some source may go on
+-- if a source has blocks to come, some source may go on
 pub progress : (n N : ℕ) (begun left flying waits : ℕ → Bool) → 1 ≤ N → Between n N begun left flying waits → (k : ℕ) → k < n
     → left k ≡ true → Goes n N begun left flying waits
 progress n N begun left flying waits some b k lt more = free (find n (λ j. begun j && (left j && not (waits j))))

@@ -26,12 +26,15 @@ use Rattle.std.specs.List.{flat_map}
 -- For the laws: what the events of a whole run say about one job, if the stories of other jobs say nothing about it. That is what the job's
 -- own blocks say, followed by what comes after the sources.
 
+-- what f says of the events of these blocks
 abbrev pub sift : {X : Type 0} → (RunEvent → List X) → List Block → List X
 sift f blocks = flat_map f (events_of blocks)
 
+-- two lists without an item have none together
 pub nothing : {A : Type 0} {xs ys : List A} → xs ≡ [] → ys ≡ [] → xs ++ ys ≡ []
 nothing {ys = ys} e f = ap (λ l. l ++ ys) e ∙ f
 
+-- where the second list is empty, the first is all
 pub only_first : {A : Type 0} {xs ys zs : List A} → xs ≡ zs → ys ≡ [] → xs ++ ys ≡ zs
 only_first {ys = ys} {zs = zs} e f = ap (λ l. l ++ ys) e ∙ ap (λ l. zs ++ l) f ∙ append-nil zs
 
@@ -39,14 +42,16 @@ parts : {A : Type 0} (xs ys : List A) → xs ++ ys ≡ [] → (xs ≡ []) × (ys
 parts [] ys e = (refl, e)
 parts (x ∷ xs) ys e = absurd cc
 
+-- what is said of two lists of blocks is said of the one, and then of the other
 pub two_lists : {X : Type 0} (f : RunEvent → List X) (xs ys : List Block) → sift f (xs ++ ys) ≡ sift f xs ++ sift f ys
 two_lists f xs ys = ap (λ E. flat_map f E) (flat_map-append (λ b. b) xs ys) ∙ flat_map-append f (events_of xs) (events_of ys)
 
--- neither a removal nor its report says anything about the job
+-- f says nothing of a removal, nor of its report
 abbrev pub NotOfRemovals : {X : Type 0} → (RunEvent → List X) → Type 0
 NotOfRemovals f = (p : Place) (x : RemoveAnswer) (t : Bool) → (f (event (step.Remove p) (answer.Remove x)) ≡ [])
     × (f (report (note.NotRemoved p) t) ≡ [])
 
+-- a removal and its report say nothing
 no_removal : {X : Type 0} (f : RunEvent → List X) → NotOfRemovals f → (p : Place) (r : Told RemoveAnswer)
     → flat_map f (removal_block p r) ≡ []
 no_removal f quiet p r = nothing (quiet p r.answer r.told).0 (by (removal_failed r.answer))
@@ -55,12 +60,14 @@ no_removal f quiet p r = nothing (quiet p r.answer r.told).0 (by (removal_failed
     by true = nothing (quiet p r.answer r.told).1 refl
     by false = refl
 
+-- where f says nothing of a removal, a job's own removals say nothing
 pub no_removals : {X : Type 0} (f : RunEvent → List X) → NotOfRemovals f → (k i : ℕ) (rs : List (Told RemoveAnswer))
     → sift f (own_removals k i rs) ≡ []
 no_removals f quiet k i [] = refl
 no_removals f quiet k i (r ∷ rs) = flat_map-append f (removal_block (place.OnFailure k i) r) (events_of (own_removals k (i + 1) rs))
     ∙ nothing (no_removal f quiet (place.OnFailure k i) r) (no_removals f quiet k (i + 1) rs)
 
+-- where f says nothing of a removal, the removals at the end say nothing
 pub no_last : {X : Type 0} (f : RunEvent → List X) → NotOfRemovals f → (files : List File) (rs : List (Told RemoveAnswer))
     → sift f (end_removals files rs) ≡ []
 no_last f quiet [] rs = refl
@@ -68,11 +75,12 @@ no_last f quiet (x ∷ files) [] = refl
 no_last f quiet (x ∷ files) (r ∷ rs) = flat_map-append f (removal_block x.place r) (events_of (end_removals files rs))
     ∙ nothing (no_removal f quiet x.place r) (no_last f quiet files rs)
 
--- neither a claim of the job nor its report says anything
+-- f says nothing of a claim of job k, nor of its report
 abbrev pub NotOfClaims : {X : Type 0} → (RunEvent → List X) → ℕ → Type 0
 NotOfClaims f k = (i : ℕ) (x : ClaimAnswer) (t : Bool) → (f (event (step.Claim (place.Temp k i)) (answer.Claim x)) ≡ [])
     × (f (report (note.NotClaimed (place.Temp k i)) t) ≡ [])
 
+-- where f says nothing of a claim of the job, its claims say nothing
 pub no_claims : {X : Type 0} (f : RunEvent → List X) (k : ℕ) → NotOfClaims f k → (i : ℕ) (cs : List (Told ClaimAnswer))
     → sift f (claim_blocks k i cs) ≡ []
 no_claims f k quiet i [] = refl
@@ -83,6 +91,7 @@ no_claims f k quiet i (c ∷ cs) = flat_map-append f (claim_block k i c) (events
     by true = refl
     by false = nothing (quiet i c.answer c.told).1 refl
 
+-- where f says nothing of a wait, the waits of a group say nothing
 pub no_waits : {X : Type 0} (f : RunEvent → List X) (k g : ℕ) → ((i id : ℕ) (x : WaitAnswer) (t : Bool)
     → flat_map f (wait_block k g i id (record { answer = x; told = t })) ≡ [])
     → (i : ℕ) (xs : List StartAnswer) (ws : List (Told WaitAnswer)) → sift f (wait_blocks k g i xs ws) ≡ []
@@ -94,6 +103,7 @@ no_waits f k g quiet i (Started id ∷ xs) (w ∷ ws) = flat_map-append f (wait_
 
 -- the sources, in any order of their blocks
 
+-- where only job k's blocks say something, all blocks say what those say
 blocks : {X : Type 0} (f : RunEvent → List X) (k n : ℕ) (bs : List SourceBlock) → Below n bs
     → ((j : ℕ) → j < n → nat_eq j k ≡ false → sift f (of j bs) ≡ []) → sift f (blocks_of bs) ≡ sift f (of k bs)
 blocks f k n [] under others = refl
@@ -113,6 +123,7 @@ blocks f k n (b ∷ bs) under others = flat_map-append f b.block (events_of (blo
     by true e = sym (flat_map-append f b.block (events_of (of k bs)))
     by false e = ap (λ l. l ++ sift f (of k bs)) (alone e)
 
+-- the blocks of another source say nothing where its story doesn't
 other_sources : {X : Type 0} (f : RunEvent → List X) (k : ℕ) → ((j : ℕ) (job : Job) (a : JobAnswers) → nat_eq j k ≡ false
     → sift f (story j job a) ≡ []) → (bs : List SourceBlock) (from : ℕ) (jobs : List Job) (xs : List JobAnswers) → whole_jobs jobs xs ≡ true
     → TellStories bs from jobs xs
@@ -129,11 +140,13 @@ other_sources f k quiet bs from (job ∷ jobs) (a ∷ xs) e t (suc j) lt other =
 
 -- a whole run
 
+-- the answers of a whole run are complete for the sources
 pub jobs_whole : (plan : Plan) (N : ℕ) (o : Answers) (E : List RunEvent) → Windowed plan N o E → whole_jobs plan.jobs o.jobs ≡ true
 jobs_whole plan N o E w = and_first (whole_jobs plan.jobs o.jobs) (whole_job (link_run plan.link o.jobs) o.link)
     (and_first (whole_jobs plan.jobs o.jobs && whole_job (link_run plan.link o.jobs) o.link)
     (nat_eq (length o.last) (length (removed_at_end plan o))) w.all_answers)
 
+-- the answers of a whole run are complete for the link
 pub link_whole : (plan : Plan) (N : ℕ) (o : Answers) (E : List RunEvent) → Windowed plan N o E
     → whole_job (link_run plan.link o.jobs) o.link ≡ true
 link_whole plan N o E w = and_second (whole_jobs plan.jobs o.jobs) (whole_job (link_run plan.link o.jobs) o.link)
@@ -143,16 +156,18 @@ link_whole plan N o E w = and_second (whole_jobs plan.jobs o.jobs) (whole_job (l
 below : (plan : Plan) (N : ℕ) (o : Answers) (E : List RunEvent) → (w : Windowed plan N o E) → Below (length plan.jobs) w.blocks
 below plan N o E w = all_below (length plan.jobs) N nowhere [] w.blocks w.may_come
 
+-- a number that no block has
 above : (n k : ℕ) (bs : List SourceBlock) → Below n bs → n ≤ k → of k bs ≡ []
 above n k [] under le = refl
 above n k (b ∷ bs) under le = ap (λ (t : Bool). if t then b.block ∷ of k bs else of k bs)
     (apart b.source k (let lt = under.0 in omega (arith, lt, le))) ∙ above n k bs under.1 le
 
--- a number that no source has belongs to no block
+-- a number that no source has has no block
 pub none_above : (plan : Plan) (N : ℕ) (o : Answers) (E : List RunEvent) → (w : Windowed plan N o E) → (k : ℕ) → length plan.jobs ≤ k
     → of k w.blocks ≡ []
 none_above plan N o E w k le = above (length plan.jobs) k w.blocks (below plan N o E w) le
 
+-- a whole run says of job k what its blocks say, and then what comes after the sources says
 pub halves : {X : Type 0} (f : RunEvent → List X) (plan : Plan) (N : ℕ) (o : Answers) (E : List RunEvent) (w : Windowed plan N o E) (k : ℕ)
     → ((j : ℕ) (job : Job) (a : JobAnswers) → nat_eq j k ≡ false → sift f (story j job a) ≡ [])
     → flat_map f E ≡ sift f (of k w.blocks) ++ sift f (after_sources plan o)

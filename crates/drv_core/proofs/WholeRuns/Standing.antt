@@ -20,24 +20,28 @@ use Rattle.std.proofs.Common.{arith, get_or, if◌then◌else◌, length, nat_eq
 use Rattle.std.proofs.Math.Path.{fun_ext}
 use Rattle.std.specs.Prelude.{⊤}
 
--- For the choices of `Run`: the stages of all sources between blocks, which one more block keeps in order.
+-- For the choices of `Run`: the stages of all sources between blocks (`Standing`), and that one more block of a source that may go on keeps
+-- them so. A child is in flight if it was started and not waited for.
 
 -- the blocks lead from s to m
 abbrev pub Path : ℕ → Job → Stage → List Block → Stage → Type 0
 Path k job s [] m = s ≡ m
 Path k job s (b ∷ bs) m = (t : Stage) × (OneBlock k job s b t × Path k job t bs m)
 
+-- one more block at the end of a path
 pub path_more : (k : ℕ) (job : Job) (s : Stage) (bs : List Block) (m : Stage) (b : Block) (n : Stage) → Path k job s bs m
     → OneBlock k job m b n → Path k job s (bs ++ b ∷ []) n
 path_more k job s [] m b n p o = (n, (subst (λ t. OneBlock k job t b n) (sym p) o, refl))
 path_more k job s (c ∷ bs) m b n p o = (p.0, (p.1.0, path_more k job p.0 bs m b n p.1.1 o))
 
+-- a path to the end is a `Walk`
 pub path_ends : (k : ℕ) (job : Job) (s : Stage) (bs : List Block) → Path k job s bs Ended → Walk k job s bs
 path_ends k job s [] p = p
 path_ends k job s (b ∷ bs) p = (p.0, (p.1.0, path_ends k job p.0 bs p.1.1))
 
 -- how many children are in flight
 
+-- how many children of a stage are still to be waited for
 abbrev pub pending : Stage → ℕ
 pending (Waits g was ids i fault) = length ids - i
 pending s = 0
@@ -55,6 +59,7 @@ Sound (Removals i) = ⊤
 Sound (RemovalReport i) = ⊥
 Sound Ended = ⊤
 
+-- such a stage has no open block
 pub sound_out : (s : Stage) → Sound s → inside s ≡ false
 sound_out (Starts g was []) so = refl
 sound_out (Starts g was (id ∷ ids)) so = absurd cc
@@ -65,10 +70,12 @@ sound_out (WaitReport g was ids i fault x) so = absurd so
 sound_out (RemovalReport i) so = absurd so
 sound_out s so = refl
 
+-- a stage between blocks, with no child to be waited for
 pub record Settled (s : Stage) : Type 0 where
   pub none_pending : pending s ≡ 0
   pub sound : Sound s
 
+-- where a source enters a group it has no child to be waited for
 pub calm_group : (job : Job) (g : ℕ) (was : Bool) → Settled (enter_group job g was)
 calm_group job g was = by (nat_lt g (length job.groups))
   where
@@ -76,6 +83,7 @@ calm_group job g was = by (nat_lt g (length job.groups))
     by true = record { none_pending = refl; sound = refl }
     by false = record { none_pending = refl; sound = tt }
 
+-- where a source enters its claims it has no child to be waited for
 calm_claims : (job : Job) (i : ℕ) → Settled (enter_claims job i)
 calm_claims job i = by (nat_lt i (length job.temps))
   where
@@ -83,6 +91,7 @@ calm_claims job i = by (nat_lt i (length job.temps))
     by true = record { none_pending = refl; sound = tt }
     by false = calm_group job 0 false
 
+-- where a source enters its removals it has no child to be waited for
 pub calm_removals : (job : Job) (i : ℕ) → Settled (enter_removals job i)
 calm_removals job i = by (nat_lt i (length job.on_failure))
   where
@@ -90,15 +99,18 @@ calm_removals job i = by (nat_lt i (length job.on_failure))
     by true = record { none_pending = refl; sound = tt }
     by false = record { none_pending = refl; sound = tt }
 
+-- after a group it has none
 calm_end : (job : Job) (g : ℕ) (started fault : Bool) → Settled (end_group job g started fault)
 calm_end job g true true = calm_removals job 0
 calm_end job g false true = record { none_pending = refl; sound = tt }
 calm_end job g started false = calm_group job (g + 1) started
 
+-- a stage between blocks, with n children to be waited for
 pub record Waiting (s : Stage) (n : ℕ) : Type 0 where
   pub left : pending s ≡ n
   pub sound : Sound s
 
+-- the waits of a group from the i-th on have that many
 pub waiting : (job : Job) (g : ℕ) (was : Bool) (ids : List ℕ) (i : ℕ) (fault : Bool)
     → Waiting (enter_waits job g was ids i fault) (length ids - i)
 waiting job g was ids i fault = by (nat_lt i (length ids)) refl
@@ -110,6 +122,7 @@ waiting job g was ids i fault = by (nat_lt i (length ids)) refl
         let past : length ids ≤ i = is_not_less i (length ids) e in
         record { left = c.none_pending ∙ (let nothing : 0 ≡ length ids - i = omega arith in nothing); sound = c.sound }
 
+-- a source begins without a child to be waited for
 pub begins : (job : Job) → Settled (begin job)
 begins job = by (none job.groups)
   where
@@ -117,6 +130,7 @@ begins job = by (none job.groups)
     by true = record { none_pending = refl; sound = tt }
     by false = calm_claims job 0
 
+-- the starts of a group start as many children as their answers name
 children : (k g n i : ℕ) (refused : Bool) (cs : List Command) (xs : List StartAnswer) → starts_fit cs xs ≡ true
     → total starts_child (starts_block k g n i refused xs) ≡ length (ids_of xs)
 children k g n i refused [] [] fit = refl
@@ -132,6 +146,7 @@ pub record Balance (s : Stage) (b : Block) (m : Stage) : Type 0 where
   pub sound : Sound m
   pub waits : total waits_child b ≡ (if nat_lt 0 (pending s) then 1 else 0)
 
+-- each block from a stage between blocks changes the number of children in flight by its starts and its waits
 pub balance : (k : ℕ) (job : Job) (s : Stage) (b : Block) (m : Stage) → Sound s → OneBlock k job s b m → Balance s b m
 balance k job (Claims i) b m so o = rw (o.is, o.leads) (by (is_claimed o.a.answer))
   where
@@ -182,10 +197,12 @@ balance k job (Removals i) b m so o = rw (o.is, o.leads) (record {
 balance k job (RemovalReport i) b m so o = absurd o
 balance k job Ended b m so o = absurd o
 
+-- several blocks change the number of children in flight by their starts and their waits
 pub record Even (s : Stage) (bs : List Block) (m : Stage) : Type 0 where
   pub even : total starts_child (events_of bs) + pending s ≡ total waits_child (events_of bs) + pending m
   pub sound : Sound m
 
+-- the blocks of a path change the number of children in flight by their starts and their waits
 pub path_even : (k : ℕ) (job : Job) (s : Stage) (bs : List Block) (m : Stage) → Sound s → Path k job s bs m → Even s bs m
 path_even k job s [] m so p = record { even = ap (λ t. 0 + pending t) p; sound = subst (λ t. Sound t) p so }
 path_even k job s (b ∷ bs) m so p =
@@ -198,7 +215,7 @@ path_even k job s (b ∷ bs) m so p =
       sound = rest.sound;
     }
 
--- a source has a child in flight exactly if one is pending
+-- a source has a child in flight exactly if its stage has one to be waited for
 pub flies : (k : ℕ) (job : Job) (bs : List Block) (m : Stage) → Path k job (begin job) bs m → in_flight bs ≡ nat_lt 0 (pending m)
 flies k job bs m p = by (nat_lt 0 (pending m)) refl
   where
@@ -214,7 +231,7 @@ flies k job bs m p = by (nat_lt 0 (pending m)) refl
     by false e = not_less (total waits_child (events_of bs)) (total starts_child (events_of bs))
         (let nothing : pending m ≤ 0 = is_not_less 0 (pending m) e in let ev = total_even in let no = calm in omega (arith, ev, no))
 
--- the next block is a wait exactly if a child is pending
+-- the next block of a source is a wait exactly if its stage has a child to be waited for
 pub waits_next : (k : ℕ) (job : Job) (bs : List Block) (s : Stage) (b : Block) (m : Stage) → Path k job (begin job) bs s
     → OneBlock k job s b m → is_wait b ≡ nat_lt 0 (pending s)
 waits_next k job bs s b m p o = by (nat_lt 0 (pending s)) refl
@@ -230,6 +247,7 @@ none_append : (xs ys : List Block) → not (none (xs ++ ys)) ≡ (not (none xs) 
 none_append [] ys = refl
 none_append (x ∷ xs) ys = refl
 
+-- a source has a block in two lists if it has one in either
 pub has_append : (j : ℕ) (xs ys : List SourceBlock) → has j (xs ++ ys) ≡ (has j xs || has j ys)
 has_append j xs ys = ap (λ l. not (none l)) (of_append j xs ys) ∙ none_append (of j xs) (of j ys)
 
@@ -237,6 +255,7 @@ or_assoc : (a b c : Bool) → ((a || b) || c) ≡ (a || (b || c))
 or_assoc true b c = refl
 or_assoc false b c = refl
 
+-- one more block that may come, after blocks in a permitted order, is in a permitted order
 pub come_more : (n N : ℕ) (now next : ℕ → Bool) (before blocks : List SourceBlock) (b : SourceBlock)
     → ((j : ℕ) → (has j (b ∷ []) || next j) ≡ now j) → AllMayCome n N now before blocks
     → MayCome n N (λ j. has j (before ++ blocks)) now (λ j. in_flight (of j (before ++ blocks))) b.source (is_wait b.block)
@@ -264,9 +283,11 @@ pub record Standing (jobs : List Job) (N : ℕ) (st : ℕ → Stage) (blocks : L
   pub paths : (k : ℕ) → k < length jobs → Path k (get_or jobs k no_job) (begin (get_or jobs k no_job)) (of k blocks) (st k)
   pub come : AllMayCome (length jobs) N (λ j. left (st j)) [] blocks
 
+-- source k at stage m, and the others as before
 abbrev pub put : (ℕ → Stage) → ℕ → Stage → ℕ → Stage
 put st k m j = if nat_eq k j then m else st j
 
+-- one more block of a source that may go on
 pub stands_more : (jobs : List Job) (N : ℕ) (st : ℕ → Stage) (blocks : List SourceBlock) (k : ℕ) (b : Block) (m : Stage)
     → Standing jobs N st blocks → left (st k) ≡ true → OneBlock k (get_or jobs k no_job) (st k) b m
     → MayCome (length jobs) N (λ j. has j blocks) (λ j. left (st j)) (λ j. in_flight (of j blocks)) k (is_wait b)
@@ -293,18 +314,20 @@ stands_more jobs N st blocks k b m stand more o may = record {
         (subst (λ i. OneBlock i (get_or jobs i no_job) (st i) b m) is o))
     path j lt false e = rw (split j, e) (rw (append-nil (of j blocks)) (stand.paths j lt))
 
--- at the beginning
+-- before the first block each source is at its beginning
 pub stands_first : (jobs : List Job) (N : ℕ) (st : ℕ → Stage) → ((k : ℕ) → k < length jobs → begin (get_or jobs k no_job) ≡ st k)
     → Standing jobs N st []
 stands_first jobs N st first = record { paths = first; come = tt }
 
 -- at the end all stories are complete
 
+-- complete answers of the jobs from number k on, whose stories the blocks are
 pub record AllTold (blocks : List SourceBlock) (k : ℕ) (jobs : List Job) : Type 0 where
   pub answers : List JobAnswers
   pub all : whole_jobs jobs answers ≡ true
   pub stories : TellStories blocks k jobs answers
 
+-- where each source's blocks are a story, all are
 all_told : (blocks : List SourceBlock) (k : ℕ) (jobs : List Job)
     → ((i : ℕ) → i < length jobs → ToldStory (k + i) (get_or jobs i no_job) (of (k + i) blocks)) → AllTold blocks k jobs
 all_told blocks k [] told = record { answers = []; all = refl; stories = tt }
@@ -316,12 +339,14 @@ all_told blocks k (job ∷ jobs) told =
     (told (suc i) (omega arith))) in
     record { answers = first.a ∷ rest.answers; all = rw (first.all) rest.all; stories = (first.is, rest.stories) }
 
+-- complete answers of all sources, whose stories the blocks are, in a permitted order
 pub record SourcesRun (jobs : List Job) (N : ℕ) (blocks : List SourceBlock) : Type 0 where
   pub answers : List JobAnswers
   pub all : whole_jobs jobs answers ≡ true
   pub stories : TellStories blocks 0 jobs answers
   pub may_come : AllMayCome (length jobs) N nowhere [] blocks
 
+-- if all sources are at their ends, the blocks are such a run
 pub sources_run : (jobs : List Job) (N : ℕ) (st : ℕ → Stage) (blocks : List SourceBlock) → Standing jobs N st blocks
     → ((j : ℕ) → st j ≡ Ended) → SourcesRun jobs N blocks
 sources_run jobs N st blocks stand ended = record {

@@ -22,13 +22,16 @@ use Rattle.std.proofs.Common.{sym, zero, ℕ}
 use Rattle.std.proofs.lemmas.Cmp.{nat_eq_equiv}
 use Rattle.std.specs.List.{list_any}
 
--- For the end of `Run`: a whole run is the sources, the link and the removals at the end; and the beginnings of a whole run.
+-- For the end of `Run`: the sources, the link and the removals at the end make a whole run (`Windowed`), and the events before that the
+-- beginning of one.
 
 -- the removals at the end
 
+-- what is found past the end of a list of files
 abbrev pub no_file : File
 no_file = record { place = place.Marked 0 0; path = [] }
 
+-- the i-th of these files
 abbrev pub file_at : List File → ℕ → File
 file_at files i = get_or files i no_file
 
@@ -36,6 +39,7 @@ no_end : (files : List File) → end_removals files [] ≡ []
 no_end [] = refl
 no_end (f ∷ files) = refl
 
+-- the removals so far, with one more
 end_more : (files : List File) (rs : List (Told RemoveAnswer)) (i : ℕ) (r : Told RemoveAnswer) → length rs ≡ i → i < length files
     → end_removals files (rs ++ r ∷ []) ≡ end_removals files rs ++ removal_block (file_at files i).place r ∷ []
 end_more [] rs i r e lt = absurd (omega arith)
@@ -44,10 +48,12 @@ end_more (f ∷ files) [] i r e lt = ap (λ l. removal_block f.place r ∷ l) (n
 end_more (f ∷ files) (x ∷ rs) i r e lt = ap (λ l. removal_block f.place x ∷ l) (end_more files rs (length rs) r refl (omega arith))
     ∙ ap (λ j. removal_block f.place x ∷ (end_removals files rs ++ removal_block (file_at (f ∷ files) j).place r ∷ [])) e
 
+-- removals in two parts are the first, and then some blocks
 record Splits (files : List File) (rs ts : List (Told RemoveAnswer)) : Type 0 where
   more : List Block
   is : end_removals files (rs ++ ts) ≡ end_removals files rs ++ more
 
+-- removals in two parts are so
 end_split : (files : List File) (rs ts : List (Told RemoveAnswer)) → Splits files rs ts
 end_split [] rs ts = record { more = []; is = refl }
 end_split (f ∷ files) [] ts = record { more = end_removals (f ∷ files) ts; is = refl }
@@ -63,7 +69,7 @@ gone_many : (n : ℕ) → length (gone n) ≡ n
 gone_many zero = refl
 gone_many (suc n) = ap (λ (m : ℕ). suc m) (gone_many n)
 
--- the removals so far: i of them, and whether the next has failed and has to be reported
+-- these events are the removals of the first i files; `failed`: the removal of the next one has failed, and is still to be reported
 pub record Removing (files : List File) (i : ℕ) (failed : Bool) (E : List RunEvent) : Type 0 where
   pub rs : List (Told RemoveAnswer)
   pub many : length rs ≡ i
@@ -72,6 +78,7 @@ pub record Removing (files : List File) (i : ℕ) (failed : Bool) (E : List RunE
   pub events : E ≡ events_of (end_removals files rs) ++ (if failed then event (step.Remove (file_at files i).place)
       (answer.Remove remove.Failed) ∷ [] else [])
 
+-- before the first removal of these files there is no event of one
 pub removing_first : (files : List File) → Removing files 0 false []
 removing_first files = record { rs = []; many = refl; within = omega arith; failed_within = λ e. absurd cc; events = none files }
   where
@@ -79,6 +86,7 @@ removing_first files = record { rs = []; many = refl; within = omega arith; fail
     none [] = refl
     none (f ∷ fs) = refl
 
+-- the block of one more removal
 removed_one : (files : List File) (i : ℕ) (failed : Bool) (E : List RunEvent) (x : RemoveAnswer) (t : Bool) (b : Block)
     → (r : Removing files i failed E) → i < length files → b ≡ removal_block (file_at files i).place (record { answer = x; told = t })
     → (E' : List RunEvent) → E' ≡ events_of (end_removals files r.rs) ++ b → Removing files (i + 1) false E'
@@ -93,6 +101,7 @@ removed_one files i failed E x t b r lt is E' events = record {
       ∙ sym (append-nil (events_of (end_removals files (r.rs ++ record { answer = x; told = t } ∷ []))));
 }
 
+-- one more removal, which did not fail
 pub removing_more : (files : List File) (i : ℕ) (E : List RunEvent) (x : RemoveAnswer) → removal_failed x ≡ false → Removing files i false E
     → i < length files → Removing files (i + 1) false (E ++ event (step.Remove (file_at files i).place) (answer.Remove x) ∷ [])
 removing_more files i E x ok r lt = removed_one files i false E x true (event (step.Remove (file_at files i).place)
@@ -103,6 +112,7 @@ removing_more files i E x ok r lt = removed_one files i false E x true (event (s
     (ap (λ l. l ++ event (step.Remove (file_at files i).place) (answer.Remove x) ∷ []) (r.events
     ∙ append-nil (events_of (end_removals files r.rs))))
 
+-- one that failed, before its report
 pub removing_failed : (files : List File) (i : ℕ) (E : List RunEvent) → Removing files i false E → i < length files
     → Removing files i true (E ++ event (step.Remove (file_at files i).place) (answer.Remove remove.Failed) ∷ [])
 removing_failed files i E r lt = record {
@@ -115,6 +125,7 @@ removing_failed files i E r lt = record {
       ∙ append-nil (events_of (end_removals files r.rs)));
 }
 
+-- the report of a removal that failed
 pub removing_told : (files : List File) (i : ℕ) (E : List RunEvent) (t : Bool) → Removing files i true E
     → Removing files (i + 1) false (E ++ report (note.NotRemoved (file_at files i).place) t ∷ [])
 removing_told files i E t r = removed_one files i true E remove.Failed t (event (step.Remove (file_at files i).place)
@@ -123,12 +134,14 @@ removing_told files i E t r = removed_one files i true E remove.Failed t (event 
     r.events ∙ append_assoc (events_of (end_removals files r.rs)) (event (step.Remove (file_at files i).place)
     (answer.Remove remove.Failed) ∷ []) (report (note.NotRemoved (file_at files i).place) t ∷ []))
 
+-- events that begin the removals of these files
 pub record RemovalsBegin (files : List File) (E : List RunEvent) : Type 0 where
   pub last : List (Told RemoveAnswer)
   pub many : length last ≡ length files
   pub rest : List RunEvent
   pub events : E ++ rest ≡ events_of (end_removals files last)
 
+-- removals of which none has failed since its report can be completed
 removals_between : (files : List File) (i : ℕ) (E : List RunEvent) → Removing files i false E → RemovalsBegin files E
 removals_between files i E r = by (end_split files r.rs (gone (length files - i)))
   where
@@ -141,6 +154,7 @@ removals_between files i E r = by (end_split files r.rs (gone (length files - i)
           ∙ sym (events_both (end_removals files r.rs) s.more) ∙ ap (λ l. events_of l) (sym s.is);
     }
 
+-- removals so far can be completed
 pub removals_begin : (files : List File) (i : ℕ) (failed : Bool) (E : List RunEvent) → Removing files i failed E → RemovalsBegin files E
 removals_begin files i false E r = removals_between files i E r
 removals_begin files i true E r =
@@ -156,12 +170,14 @@ removals_begin files i true E r =
 
 -- all together
 
+-- the answers of sources, link and removals at the end
 abbrev pub answers : List JobAnswers → JobAnswers → List (Told RemoveAnswer) → Answers
 answers jobs link last = record { jobs = jobs; link = link; last = last }
 
 all_whole : (a b c : Bool) → a ≡ true → b ≡ true → c ≡ true → (a && b && c) ≡ true
 all_whole a b c x y z = rw (x, y, z) refl
 
+-- a run of the sources, a story of the link, and an answer for each file to be removed make a whole run
 pub assembled : (plan : Plan) (N : ℕ) (blocks : List SourceBlock) (run : SourcesRun plan.jobs N blocks) (a : JobAnswers)
     (last : List (Told RemoveAnswer)) → whole_job (link_run plan.link run.answers) a ≡ true
     → length last ≡ length (removed_at_end plan (answers run.answers a []))
@@ -178,7 +194,7 @@ assembled plan N blocks run a last whole_link many = record {
       ∙ nat_eq_equiv.refl (length (removed_at_end plan (answers run.answers a last))));
 }
 
--- the removals have begun
+-- the events of sources, link and some removals are the beginning of a whole run
 pub begun_removals : (plan : Plan) (N : ℕ) (E₁ E₂ E₃ : List RunEvent) (ran : Ran plan.jobs N E₁)
     (link : AloneRan (length plan.jobs) (link_run plan.link ran.run.answers) E₂)
     → RemovalsBegin (removed_at_end plan (answers ran.run.answers link.a [])) E₃ → IsBeginning plan N (E₁ ++ (E₂ ++ E₃))
@@ -198,7 +214,7 @@ begun_removals plan N E₁ E₂ E₃ ran link b = record {
         ∙ ap (λ l. E₁ ++ (E₂ ++ l)) (sym b.events)
         ∙ ap (λ l. E₁ ++ l) (sym (append_assoc E₂ E₃ b.rest)) ∙ sym (append_assoc E₁ (E₂ ++ E₃) b.rest)
 
--- the removals are done
+-- the events of sources, link and all removals are a whole run
 pub done_removals : (plan : Plan) (N : ℕ) (E₁ E₂ E₃ : List RunEvent) (ran : Ran plan.jobs N E₁)
     (link : AloneRan (length plan.jobs) (link_run plan.link ran.run.answers) E₂)
     → Removing (removed_at_end plan (answers ran.run.answers link.a [])) (length (removed_at_end plan (answers ran.run.answers link.a [])))
@@ -217,7 +233,7 @@ done_removals plan N E₁ E₂ E₃ ran link r = record {
         ∙ ap (λ l. E₁ ++ (E₂ ++ l))
         (sym (r.events ∙ append-nil (events_of (end_removals (removed_at_end plan (answers ran.run.answers link.a [])) r.rs))))
 
--- the link has begun
+-- the events of the sources, and some of the link's, are the beginning of a whole run
 pub begun_link : (plan : Plan) (N : ℕ) (E₁ E₂ : List RunEvent) (ran : Ran plan.jobs N E₁)
     → AloneBegins (length plan.jobs) (link_run plan.link ran.run.answers) E₂ → IsBeginning plan N (E₁ ++ E₂)
 begun_link plan N E₁ E₂ ran b = by (begun_removals plan N E₁ (E₂ ++ b.rest) [] ran (record { a = b.a; all = b.all; events = b.events })
@@ -244,7 +260,7 @@ filled_link (Some job) xs filled = by (not (list_any job_failed xs))
     by true = filled job refl
     by false = filled_none
 
--- the sources have begun
+-- some events of the sources are the beginning of a whole run
 pub begun_sources : (plan : Plan) (N : ℕ) (E : List RunEvent) → ((job : Job) → plan.link ≡ Some job → Filled job) → Begins plan.jobs N E
     → IsBeginning plan N E
 begun_sources plan N E filled b = by (begun_link plan N (E ++ b.rest) [] (record { blocks = b.blocks; run = b.run; events = b.events })

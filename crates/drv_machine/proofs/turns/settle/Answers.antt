@@ -12,7 +12,7 @@ use Rattle.drv_system.specs.Known.{Is}
 use Rattle.std.proofs.Common.{Err, Option, ap, arith, length, refl, rules, ◌++◌, ◌∙◌, ◌≡◌, ◌⊎◌}
 use Rattle.std.specs.Prelude.{option_to_list}
 
--- settle (src/turns.rt). Closes the open parts that have ended.
+-- settle (src/turns.rt). Closes the open parts that have ended, and says whether an item is left to be processed.
 
 pub skip-requires : goal.skip-requires
 skip-requires g c = c.requires.lain

@@ -7,7 +7,7 @@ use Rattle.drv_system.specs.Code.Asked.{Asked}
 use Rattle.drv_system.specs.Facts.{Facts}
 use Rattle.std.proofs.Common.{length, ◌<◌, ◌≡◌}
 
--- The loops of settle (src/turns.rt). Closes the open parts that have ended.
+-- The loops of settle (src/turns.rt). Closes the open parts that have ended, and says whether an item is left to be processed.
 
 abbrev pub invariant-loop-walk : goal.invariant-loop-walk
 invariant-loop-walk g l = record {
