@@ -66,7 +66,7 @@ begins_alike (a ∷ b ∷ option) [] e = absurd cc
 begins_alike (a ∷ b ∷ option) (x ∷ []) e = absurd (never (a == x) e)
 begins_alike (a ∷ b ∷ option) (x ∷ y ∷ word) e =
     or_true (nat_lt (length (a ∷ b ∷ option)) 2) (begun_key (a ∷ b ∷ option) == begun_key (x ∷ y ∷ word))
-    (eq-eqb (b % 24) (y % 24) (ap (λ z. z % 24) (eqb-true b y (second_true (a == x) (b == y) (begins option word) e))))
+    (eq-eqb (b % 30) (y % 30) (ap (λ z. z % 30) (eqb-true b y (second_true (a == x) (b == y) (begins option word) e))))
 
 begun_alike : (takes : Takes) (option word : List ℕ) → option_fits takes word option ≡ true → takes_rest takes ≡ true
     → (nat_lt (length option) 2 || (begun_key option == begun_key word)) ≡ true

@@ -25,31 +25,47 @@ const GROUP_0: &[Row] = group! {
 };
 
 const GROUP_1: &[Row] = group! {
-    b"-aux-info=" b"-aux-info" Attached Separate Switch
-    b"-I" b"-I" Either Separate Switch
 };
 
 const GROUP_2: &[Row] = group! {
     b"-z" b"-z" Either Separate Switch
-    b"-J" b"-J" Either Nowhere Switch
 };
 
 const GROUP_3: &[Row] = group! {
 };
 
 const GROUP_4: &[Row] = group! {
-    b"-d" b"-d" Attached Joined Switch
-    b"-L" b"-L" Either Joined Switch
 };
 
 const GROUP_5: &[Row] = group! {
-    b"-MF" b"-MF" Either Separate Switch
-    b"-MT" b"-MT" Either Separate Switch
-    b"-MQ" b"-MQ" Either Separate Switch
-    b"-e" b"-e" Either Separate Switch
+    b"-A" b"-A" Either Separate Switch
 };
 
 const GROUP_6: &[Row] = group! {
+    b"-B" b"-B" Either Separate Switch
+};
+
+const GROUP_7: &[Row] = group! {
+    b"-aux-info=" b"-aux-info" Attached Separate Switch
+};
+
+const GROUP_8: &[Row] = group! {
+    b"-D" b"-D" Either Separate Switch
+};
+
+const GROUP_9: &[Row] = group! {
+};
+
+const GROUP_10: &[Row] = group! {
+    b"-d" b"-d" Attached Joined Switch
+    b"-F" b"-F" Either Joined Switch
+};
+
+const GROUP_11: &[Row] = group! {
+    b"-e" b"-e" Either Separate Switch
+};
+
+const GROUP_12: &[Row] = group! {
     b"-fhelp=" b"-fhelp=" Attached Joined Question
     b"-fcompare-debug=" b"-fcompare-debug=" Attached Joined Refused
     b"-ffixed-line-length-" b"-ffixed-line-length-" Rest Joined Question
@@ -70,84 +86,16 @@ const GROUP_6: &[Row] = group! {
     b"-fplugin-arg-" b"-fplugin-arg-" Attached Joined Switch
 };
 
-const GROUP_7: &[Row] = group! {
-    b"-O" b"-O" Rest Joined Switch
-};
-
-const GROUP_8: &[Row] = group! {
-    b"-h" b"-h" Either Nowhere Switch
-};
-
-const GROUP_9: &[Row] = group! {
-    b"-include" b"-include" Either Separate Switch
-    b"-imacros" b"-imacros" Either Separate Switch
-    b"-idirafter" b"-idirafter" Either Separate Switch
-    b"-iprefix" b"-iprefix" Either Separate Switch
-    b"-iquote" b"-iquote" Either Separate Switch
-    b"-isysroot" b"-isysroot" Either Separate Switch
-    b"-isystem" b"-isystem" Either Separate Switch
-    b"-iwithprefixbefore" b"-iwithprefixbefore" Either Separate Switch
-    b"-iwithprefix" b"-iwithprefix" Either Separate Switch
-    b"-imultilib" b"-imultilib" Either Separate Refused
-    b"-imultiarch" b"-imultiarch" Either Separate Refused
-};
-
-const GROUP_10: &[Row] = group! {
-    b"-R" b"-R" Either Nowhere Switch
-};
-
-const GROUP_11: &[Row] = group! {
-};
-
-const GROUP_12: &[Row] = group! {
-    b"-Tbss=" b"-Tbss=" Attached Joined Switch
-    b"-Tdata=" b"-Tdata=" Attached Joined Switch
-    b"-Ttext=" b"-Ttext=" Attached Joined Switch
-    b"-T" b"-T" Either Separate Switch
-    b"-l" b"-l" Either Joined Library
-};
-
 const GROUP_13: &[Row] = group! {
-    b"-march=" b"-march=" Attached Joined Switch
-    b"-mtune=" b"-mtune=" Attached Joined Switch
-    b"-U" b"-U" Either Separate Switch
+    b"-I" b"-I" Either Separate Switch
 };
 
 const GROUP_14: &[Row] = group! {
+    b"-h" b"-h" Either Nowhere Switch
+    b"-J" b"-J" Either Nowhere Switch
 };
 
 const GROUP_15: &[Row] = group! {
-    b"-Wno-larger-than-" b"-Wno-larger-than-" Rest Joined Question
-    b"-Wlarger-than-" b"-Wlarger-than=" Attached Joined Switch
-    b"-Wa," b"-Wa," Rest Joined Piece
-    b"-Wp," b"-Wp," Rest Joined Piece
-    b"-Wl," b"-Wl," Rest Joined Library
-    b"-o" b"-o" Either Separate Switch
-};
-
-const GROUP_16: &[Row] = group! {
-    b"-print-file-name=" b"-print-file-name=" Attached Joined Question
-    b"-print-prog-name=" b"-print-prog-name=" Attached Joined Question
-};
-
-const GROUP_17: &[Row] = group! {
-    b"-A" b"-A" Either Separate Switch
-};
-
-const GROUP_18: &[Row] = group! {
-    b"-B" b"-B" Either Separate Switch
-};
-
-const GROUP_19: &[Row] = group! {
-    b"-specs=" b"-specs=" Attached Joined Switch
-};
-
-const GROUP_20: &[Row] = group! {
-    b"-time=" b"-time=" Attached Joined Refused
-    b"-D" b"-D" Either Separate Switch
-};
-
-const GROUP_21: &[Row] = group! {
     b"--assert=" b"-A" Attached Separate Switch
     b"--define-macro=" b"-D" Attached Separate Switch
     b"--dump=" b"-d" Attached Joined Switch
@@ -176,19 +124,89 @@ const GROUP_21: &[Row] = group! {
     b"--specs=" b"-specs=" Attached Joined Switch
     b"--param=" b"--param=" Attached Joined Switch
     b"--sysroot=" b"--sysroot=" Attached Joined Switch
-    b"-u" b"-u" Either Separate Switch
+    b"-include" b"-include" Either Separate Switch
+    b"-imacros" b"-imacros" Either Separate Switch
+    b"-idirafter" b"-idirafter" Either Separate Switch
+    b"-iprefix" b"-iprefix" Either Separate Switch
+    b"-iquote" b"-iquote" Either Separate Switch
+    b"-isysroot" b"-isysroot" Either Separate Switch
+    b"-isystem" b"-isystem" Either Separate Switch
+    b"-iwithprefixbefore" b"-iwithprefixbefore" Either Separate Switch
+    b"-iwithprefix" b"-iwithprefix" Either Separate Switch
+    b"-imultilib" b"-imultilib" Either Separate Refused
+    b"-imultiarch" b"-imultiarch" Either Separate Refused
+};
+
+const GROUP_16: &[Row] = group! {
+    b"-L" b"-L" Either Joined Switch
+};
+
+const GROUP_17: &[Row] = group! {
+    b"-MF" b"-MF" Either Separate Switch
+    b"-MT" b"-MT" Either Separate Switch
+    b"-MQ" b"-MQ" Either Separate Switch
+};
+
+const GROUP_18: &[Row] = group! {
+    b"-l" b"-l" Either Joined Library
+};
+
+const GROUP_19: &[Row] = group! {
+    b"-march=" b"-march=" Attached Joined Switch
+    b"-mtune=" b"-mtune=" Attached Joined Switch
+    b"-O" b"-O" Rest Joined Switch
+};
+
+const GROUP_20: &[Row] = group! {
+};
+
+const GROUP_21: &[Row] = group! {
+    b"-o" b"-o" Either Separate Switch
 };
 
 const GROUP_22: &[Row] = group! {
-    b"-F" b"-F" Either Joined Switch
+    b"-print-file-name=" b"-print-file-name=" Attached Joined Question
+    b"-print-prog-name=" b"-print-prog-name=" Attached Joined Question
+    b"-R" b"-R" Either Nowhere Switch
 };
 
 const GROUP_23: &[Row] = group! {
 };
 
+const GROUP_24: &[Row] = group! {
+    b"-Tbss=" b"-Tbss=" Attached Joined Switch
+    b"-Tdata=" b"-Tdata=" Attached Joined Switch
+    b"-Ttext=" b"-Ttext=" Attached Joined Switch
+    b"-T" b"-T" Either Separate Switch
+};
+
+const GROUP_25: &[Row] = group! {
+    b"-specs=" b"-specs=" Attached Joined Switch
+    b"-U" b"-U" Either Separate Switch
+};
+
+const GROUP_26: &[Row] = group! {
+    b"-time=" b"-time=" Attached Joined Refused
+};
+
+const GROUP_27: &[Row] = group! {
+    b"-Wno-larger-than-" b"-Wno-larger-than-" Rest Joined Question
+    b"-Wlarger-than-" b"-Wlarger-than=" Attached Joined Switch
+    b"-Wa," b"-Wa," Rest Joined Piece
+    b"-Wp," b"-Wp," Rest Joined Piece
+    b"-Wl," b"-Wl," Rest Joined Library
+    b"-u" b"-u" Either Separate Switch
+};
+
+const GROUP_28: &[Row] = group! {
+};
+
+const GROUP_29: &[Row] = group! {
+};
+
 /// The options of this key that a word begins with.
 pub(crate) fn begun_group(key: usize) -> &'static [Row]
-    requires { key < 24 }
+    requires { key < 30 }
     ensures { map shown result.now ≡ begun_at key }
 {
     match key {
@@ -215,6 +233,12 @@ pub(crate) fn begun_group(key: usize) -> &'static [Row]
         20 => GROUP_20,
         21 => GROUP_21,
         22 => GROUP_22,
-        _ => GROUP_23,
+        23 => GROUP_23,
+        24 => GROUP_24,
+        25 => GROUP_25,
+        26 => GROUP_26,
+        27 => GROUP_27,
+        28 => GROUP_28,
+        _ => GROUP_29,
     }
 }

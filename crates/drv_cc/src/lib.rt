@@ -16,6 +16,7 @@ mod items;
 mod judging;
 mod keeping;
 mod known;
+mod later_options;
 mod laws;
 mod leading;
 mod levels;

@@ -7,6 +7,7 @@ ghost use Rattle.std.specs.Option.{option_map};
 ghost use Rattle.std.specs.Prelude.{◌≡◌, false, find, map, true};
 
 use crate::beginnings::begun_group;
+use crate::later_options::later_whole_group;
 use crate::whole_options::whole_group;
 
 /// How an option takes its argument.
@@ -144,14 +145,20 @@ fn second(word: &[u8]) -> u8
 fn whole_rows(word: &[u8]) -> &'static [Row]
     ensures { map shown result.now ≡ whole_at (whole_key word.now) }
 {
-    whole_group((usize::from(second(word)) + 7 * (word.len() % 32)) % 32)
+    let letters = usize::from(second(word)) + usize::from(third(word));
+    let key = (letters + 7 * (word.len() % 32)) % 64;
+    if key < 32 {
+        whole_group(key)
+    } else {
+        later_whole_group(key - 32)
+    }
 }
 
 /// The options among which those are that a word begins with.
 fn begun_rows(word: &[u8]) -> &'static [Row]
     ensures { map shown result.now ≡ begun_at (begun_key word.now) }
 {
-    begun_group(usize::from(second(word)) % 24)
+    begun_group(usize::from(second(word)) % 30)
 }
 
 /// The first of these rows that fits a word.

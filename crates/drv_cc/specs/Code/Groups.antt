@@ -4,17 +4,20 @@ use Rattle.drv_cc.specs.declared.name_groups.Ringed.{Ringed}
 use Rattle.std.specs.List.{filter, flat_map}
 use Rattle.std.specs.Prelude.{◌==◌, ◌&&◌, ◌||◌, ◌+◌, ◌*◌, ◌%◌, Bool, List, get_or, length, map, nat_lt, not, ℕ}
 
--- How the code looks up a row of the option table: rows whose option is the word by their second byte and their length, and rows whose
--- option the word begins with by their second byte. Only private clauses cite it.
+-- How the code looks up a row of the option table: rows whose option is the word by their second and third byte and their
+-- length, and rows whose option the word begins with by their second byte. Only private clauses cite it.
 
 abbrev pub second : List ℕ → ℕ
 second word = get_or word 1 0
 
+abbrev pub third : List ℕ → ℕ
+third word = get_or word 2 0
+
 abbrev pub whole_key : List ℕ → ℕ
-whole_key word = (second word + 7 * (length word % 32)) % 32
+whole_key word = (second word + third word + 7 * (length word % 32)) % 64
 
 abbrev pub begun_key : List ℕ → ℕ
-begun_key word = second word % 24
+begun_key word = second word % 30
 
 abbrev pub is_whole : OptionRow → Bool
 is_whole r = not (takes_rest r.takes)
@@ -35,9 +38,6 @@ abbrev pub begun_at : ℕ → List OptionRow
 begun_at key = filter (is_begun_at key) table
 
 -- How the code looks a name up in the lists of names: those of its third byte and its length. Of a ring it has each option with the ring.
-
-abbrev pub third : List ℕ → ℕ
-third name = get_or name 2 0
 
 abbrev pub list_key : List ℕ → ℕ
 list_key name = (third name + length name % 16) % 16

@@ -97,6 +97,30 @@ pub returns-in-22 : goal.returns-in-22
 unfolding sections
 returns-in-22 c = ap begun_at (sym c.in-22.is)
 
+pub returns-in-23 : goal.returns-in-23
+unfolding sections
+returns-in-23 c = ap begun_at (sym c.in-23.is)
+
+pub returns-in-24 : goal.returns-in-24
+unfolding sections
+returns-in-24 c = ap begun_at (sym c.in-24.is)
+
+pub returns-in-25 : goal.returns-in-25
+unfolding sections
+returns-in-25 c = ap begun_at (sym c.in-25.is)
+
+pub returns-in-26 : goal.returns-in-26
+unfolding sections
+returns-in-26 c = ap begun_at (sym c.in-26.is)
+
+pub returns-in-27 : goal.returns-in-27
+unfolding sections
+returns-in-27 c = ap begun_at (sym c.in-27.is)
+
+pub returns-in-28 : goal.returns-in-28
+unfolding sections
+returns-in-28 c = ap begun_at (sym c.in-28.is)
+
 pub returns-in_default : goal.returns-in_default
 unfolding sections
-returns-in_default c = ap begun_at (let last : 23 ≡ c.args.key = omega arith in last)
+returns-in_default c = ap begun_at (let last : 29 ≡ c.args.key = omega arith in last)
