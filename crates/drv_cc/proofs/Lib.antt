@@ -5,6 +5,7 @@ mod Folders
 mod Groups
 mod Left
 mod Lines
+mod LinkLeading
 mod Lists
 mod LongNames
 mod NoChecks

@@ -3,5 +3,6 @@ pub mod Building
 pub mod Groups
 pub mod Hiding
 pub mod Known
+pub mod Leading
 pub mod Looking
 pub mod Staying

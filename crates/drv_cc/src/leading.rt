@@ -1,11 +1,13 @@
 //! What the names of side files begin with, and the name of a source's side files.
 
+ghost use Rattle.drv_cc.specs.Code.Leading.{link_leading_in, link_program_in};
 ghost use Rattle.drv_cc.specs.Kept.{last_argument};
 ghost use Rattle.drv_cc.specs.SideFiles as sides;
-ghost use Rattle.drv_cc.specs.SideFiles.{beginning, given_base, given_end, given_folder, given_or};
+ghost use Rattle.drv_cc.specs.SideFiles.{beginning, folder_by, given_base, given_end};
+ghost use Rattle.drv_cc.specs.SideFiles.{given_folder, given_or};
 ghost use Rattle.drv_cc.specs.SideFiles.{is_empty_name, is_end, is_given, is_named, leading};
 ghost use Rattle.drv_cc.specs.SideFiles.{leading_base, leading_program, leads, link_base};
-ghost use Rattle.drv_cc.specs.SideFiles.{link_beginning, link_leading, link_program, marked, only};
+ghost use Rattle.drv_cc.specs.SideFiles.{link_beginning, marked, only};
 ghost use Rattle.drv_cc.specs.SideFiles.{output, own_folder, program, side_folder, source_base};
 ghost use Rattle.drv_cc.specs.SideFiles.{stem_of, stops, unnamed_stem, usual_program, without_end};
 ghost use Rattle.std.specs.Option.{option_map};
@@ -67,14 +69,21 @@ fn is_given(folder: Option<&[u8]>) -> bool
 }
 
 /// The folder that options name, or the line's own.
+fn given_or<'a>(own: &'a [u8], given: Option<&'a [u8]>) -> &'a [u8]
+    ensures { result.now ≡ given_or own.now (option_map (λ folder. folder.now) given.entry) }
+{
+    match given {
+        Some(given) => given,
+        None => own,
+    }
+}
+
+/// The folder that options name, or the line's own.
 fn any_folder(items: &[Item]) -> &[u8]
     ensures { result.now ≡ given_or (own_folder items.now) (given_folder items.now) }
 {
     let own = own_folder(items);
-    match placed_folder(own, items) {
-        Some(given) => given,
-        None => own,
-    }
+    given_or(own, placed_folder(own, items))
 }
 
 /// The name of -dumpbase.
@@ -91,14 +100,21 @@ pub(crate) fn given_end(items: &[Item]) -> Option<&[u8]>
     last_argument(items, b"-dumpbase-ext")
 }
 
-/// The folder of side files; a name that has one takes its place.
+/// The folder of side files; a name of -dumpbase that has one takes its place.
+fn folder_by<'a>(base: Option<&[u8]>, around: &'a [u8]) -> &'a [u8]
+    ensures { result.now ≡ folder_by (option_map (λ name. name.now) base.entry) around.now }
+{
+    match base {
+        Some(name) if 0 < folder(name).len() => &[],
+        _ => around,
+    }
+}
+
+/// The folder of side files.
 pub(crate) fn side_folder(items: &[Item]) -> &[u8]
     ensures { result.now ≡ side_folder items.now }
 {
-    match given_base(items) {
-        Some(name) if 0 < folder(name).len() => &[],
-        _ => any_folder(items),
-    }
+    folder_by(given_base(items), any_folder(items))
 }
 
 /// Whether a name ends so, and isn't that alone.
@@ -202,24 +218,33 @@ fn link_base<'a>(items: &'a [Item], name: &'a [u8]) -> &'a [u8]
     }
 }
 
-/// The name of the program, where it leads those of the link's side files.
-fn link_program(items: &[Item]) -> Option<&[u8]>
-    ensures { option_map (λ name. name.now) result ≡ link_program items.now }
+/// The name of the program, where it leads those of the link's side files: options give them no
+/// folder.
+fn link_program<'a>(items: &'a [Item], folder: Option<&[u8]>) -> Option<&'a [u8]>
+    ensures { option_map (λ name. name.now) result
+        ≡ link_program_in items.now (option_map (λ bytes. bytes.now) folder.entry) }
 {
-    if is_given(given_folder(items)) {
+    if is_given(folder) {
         None
     } else {
         Some(program(items))
     }
 }
 
-/// What leads the names of the link's side files.
-fn link_leading(items: &[Item]) -> Option<&[u8]>
-    ensures { option_map (λ name. name.now) result ≡ link_leading items.now }
+/// What leads the names of the link's side files, by the name of -dumpbase and the folder that
+/// options give.
+fn link_leading<'a>(
+    items: &'a [Item],
+    base: Option<&'a [u8]>,
+    folder: Option<&[u8]>,
+) -> Option<&'a [u8]>
+    ensures { option_map (λ name. name.now) result
+        ≡ link_leading_in items.now (option_map (λ name. name.now) base.entry)
+        (option_map (λ bytes. bytes.now) folder.entry) }
 {
-    match given_base(items) {
+    match base {
         Some(name) => Some(link_base(items, name)),
-        None => link_program(items),
+        None => link_program(items, folder),
     }
 }
 
@@ -245,10 +270,15 @@ pub(crate) fn beginning(alloc: Global, items: &[Item]) -> Result<Word, AllocErro
 }
 
 /// What the names of the link's side files begin with.
+#[tactic(auto, using(crate::proofs::LinkLeading::link_leads))]
 pub(crate) fn link_beginning(alloc: Global, items: &[Item]) -> Result<Word, AllocError>
     ensures { IfOk result (λ word. word ≡ link_beginning items.now) }
 {
-    marked(alloc, side_folder(items), link_leading(items), b'.')
+    let base = given_base(items);
+    let own = own_folder(items);
+    let given = placed_folder(own, items);
+    let leading = link_leading(items, base, given);
+    marked(alloc, folder_by(base, given_or(own, given)), leading, b'.')
 }
 
 /// The name of -dumpbase, where it is that of the only source's side files.
