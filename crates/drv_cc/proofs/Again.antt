@@ -1,9 +1,10 @@
 use Rattle.drv_cc.proofs.LongNames.{no_rename}
-use Rattle.drv_cc.specs.Code.Known.{again, by_names, is_unknown}
+use Rattle.drv_cc.specs.Code.Known.{again, by_names}
 use Rattle.drv_cc.specs.Items.{Start, Wants, Whole, accepts, begins, beyond, by_row, first_row, head_of, is_among, is_file, is_known}
 use Rattle.drv_cc.specs.Items.{is_longer, is_number, is_open, item, items_of, judges, known_item, paired, plain, renamed, renamed_by}
 use Rattle.drv_cc.specs.Items.{start_of, start_option, start_renamed, takes_value, turns_off, value_of, with_rest, with_start}
 use Rattle.drv_cc.specs.Table.{OptionRow, ignored, renames, sections, table, texts}
+use Rattle.drv_cc.specs.UnknownWords.{is_unknown}
 use Rattle.drv_cc.specs.declared.item.Item.{Item}
 use Rattle.drv_cc.specs.declared.table.Part.TheVariants.{Question, Switch, Unknown}
 use Rattle.drv_cc.specs.declared.table.Spelling.TheVariants.{Nowhere}

@@ -10,3 +10,4 @@ pub mod LineItems
 pub mod SelfSpecs
 pub mod SideFiles
 pub mod Table
+pub mod UnknownWords

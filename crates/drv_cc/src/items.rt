@@ -1,10 +1,13 @@
 //! The items of a line, which is read once. What is unknown is asked again by names of options.
 
-ghost use Rattle.drv_cc.specs.Code.Known.{again, is_unknown};
+ghost use Rattle.drv_cc.specs.Code.Known.{again};
 ghost use Rattle.drv_cc.specs.Front.{answer_of};
 ghost use Rattle.drv_cc.specs.Items.{items_of};
+ghost use Rattle.drv_cc.specs.UnknownWords.{has_unknown, is_unknown};
+ghost use Rattle.std.specs.List.{list_any};
 ghost use Rattle.std.specs.Prelude.{◌≡◌, ◌∷◌, ◌++◌, [], IfOk, List, None, OnOk, ℕ};
 
+use crate::asking::is_asked;
 use crate::fronting::answer_of;
 use crate::item::Item;
 use crate::reading::{by_own_name, items_of};
@@ -19,6 +22,13 @@ fn is_unknown(part: Part) -> bool
     ensures { result ≡ is_unknown part }
 {
     matches!(part, Part::Unknown)
+}
+
+/// Whether some item is an unknown word.
+fn are_unknown(items: &[Item]) -> bool
+    ensures { result ≡ list_any (λ i. is_unknown i.part) items.now }
+{
+    items.iter().any(|item| is_unknown(item.part))
 }
 
 /// An item, by names of options. One that is unknown is none that is passed over.
@@ -83,6 +93,13 @@ impl Items {
             add_again(alloc, known, item, &mut items)?;
         }
         Ok(Items { items })
+    }
+
+    /// Whether the line is refused for a word that is no option, if its spec files name no switches.
+    pub fn has_unknown(&self) -> bool
+        ensures { result ≡ has_unknown self.now }
+    {
+        are_unknown(self.items.as_slice()) && !is_asked(self.items.as_slice())
     }
 
     /// The answer to the line, as that of `front`: `named` are names of switches that spec files of

@@ -1,9 +1,9 @@
 use Rattle.drv_cc.specs.Items.{accepts, judges, known_item, plain, renamed, turns_off}
+use Rattle.drv_cc.specs.UnknownWords.{is_unknown}
 use Rattle.drv_cc.specs.declared.item.Item.{Item}
-use Rattle.drv_cc.specs.declared.table.Part.TheVariants.{Input, Lacking, Library, Piece, Question, Refused, Switch, Tells, Unknown}
-use Rattle.drv_cc.specs.declared.table.Part.{Part}
+use Rattle.drv_cc.specs.declared.table.Part.TheVariants.{Question, Unknown}
 use Rattle.drv_words.specs.Bytes.{newline}
-use Rattle.std.specs.Prelude.{◌==◌, ◌||◌, Bool, List, [], ◌∷◌, false, if◌then◌else◌, true, ℕ}
+use Rattle.std.specs.Prelude.{◌==◌, ◌||◌, Bool, List, [], ◌∷◌, if◌then◌else◌, true, ℕ}
 
 -- How the code looks for a line of a text, and how it asks unknown words again. Only private clauses cite them.
 
@@ -11,17 +11,6 @@ use Rattle.std.specs.Prelude.{◌==◌, ◌||◌, Bool, List, [], ◌∷◌, fal
 abbrev pub is_ended : List ℕ → Bool
 is_ended [] = true
 is_ended (b ∷ rest) = b == newline
-
-abbrev pub is_unknown : Part → Bool
-is_unknown Input = false
-is_unknown Library = false
-is_unknown Piece = false
-is_unknown Switch = false
-is_unknown Question = false
-is_unknown Tells = false
-is_unknown Refused = false
-is_unknown Unknown = true
-is_unknown Lacking = false
 
 -- a word that no row fits and that is not passed over
 abbrev pub by_names : List ℕ → List ℕ → List ℕ → Item
