@@ -213,7 +213,10 @@ fn refuse_others(pair: Pair<'_>, gathered: &mut Gathered) -> Result<Listing<Word
 fn check_rows(pair: Pair<'_>, gathered: &mut Gathered) -> Result<(), Fault> {
     let mut same = Listing::new(pair.rt.alloc());
     let mut others = Listing::new(pair.rt.alloc());
-    while let Some(row) = gathered.rows.pop() {
+    for _ in 0..gathered.rows.as_slice().len() {
+        let Some(row) = gathered.rows.pop() else {
+            break;
+        };
         if pair.is_other(&row.key)? {
             others.push(row.key)?;
         } else {
