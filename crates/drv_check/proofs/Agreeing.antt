@@ -50,7 +50,7 @@ abbrev known_or : {X : Type 0} → X → Known X → X
 known_or x Unasked = x
 known_or x (Is y) = y
 
-same_in : {X : Type 0} {x y : X} → Is x ≡ Is y → x ≡ y
+pub same_in : {X : Type 0} {x y : X} → Is x ≡ Is y → x ≡ y
 same_in {x = x} is = ap (known_or x) is
 
 -- the faults of findings
@@ -68,16 +68,16 @@ no_faults : (file : OpenFile) (piece : Piece) (marks : List Mark) → faults_of 
 no_faults file piece [] = refl
 no_faults file piece (mark ∷ marks) = no_faults file piece marks
 
-noted_faults : (c : Checking) (spot : Option Spot) (fault : SpecsFault)
+pub noted_faults : (c : Checking) (spot : Option Spot) (fault : SpecsFault)
     → faults_of (noted c spot (Fault fault)).findings ≡ faults_of c.findings ++ fault ∷ []
 noted_faults c spot fault = faults_both c.findings (record { spot = spot; note = Fault fault } ∷ [])
 
 -- what the driver makes of it, after these faults and with these
 
-abbrev carried_of : Checking → Carried
+abbrev pub carried_of : Checking → Carried
 carried_of c = record { set = c.set; files = c.files }
 
-abbrev Follows : List SpecsFault → Checking → Known (Result Carried SpecsFault) → Type 0
+abbrev pub Follows : List SpecsFault → Checking → Known (Result Carried SpecsFault) → Type 0
 Follows before c Unasked = ⊥
 Follows before c (Is (Ok d)) = (faults_of c.findings ≡ before) × (carried_of c ≡ d)
 Follows before c (Is (Err fault)) = (more : List SpecsFault) × (faults_of c.findings ≡ before ++ fault ∷ more)
@@ -88,7 +88,7 @@ grows before c Unasked follows = absurd follows
 grows before c (Is (Ok d)) follows = ([], follows.0 ∙ sym (append-nil before))
 grows before c (Is (Err fault)) follows = (fault ∷ follows.0, follows.1)
 
-joins : (before : List SpecsFault) (c c' : Checking) (known : Known (Result Carried SpecsFault))
+pub joins : (before : List SpecsFault) (c c' : Checking) (known : Known (Result Carried SpecsFault))
     (next : Carried → Known (Result Carried SpecsFault))
     → Follows before c known → Follows (faults_of c.findings) c' (next (carried_of c)) → Follows before c' (then_by known next)
 joins before c c' Unasked next first second = absurd first
@@ -150,52 +150,55 @@ module _ (F : Facts) (prefixes : Prefixes) where
   unfolding loaded
   loaded_alone set text directive is = ap (worked F prefixes set most_files) is
 
-  abbrev One : ℕ → Checking → OpenFile → Piece → Checking → Type 0
-  One levels c file piece c' = (step F prefixes levels c file piece >>= λ next. entered (enters_at F prefixes levels) next.0 next.1) ≡ Is c'
+  abbrev pub One : Enters → ℕ → Checking → OpenFile → Piece → Checking → Type 0
+  One enters levels c file piece c' = (step F prefixes levels c file piece >>= λ next. entered enters next.0 next.1) ≡ Is c'
 
-  stays : (levels : ℕ) (c c' : Checking) (file : OpenFile) (piece : Piece) (result : Result Set SpecsFault) → inclusion_in piece.text ≡ None
-      → loaded F prefixes c.set piece.text ≡ Is result → One levels c file piece c'
-      → Alone c file piece (enters_at F prefixes levels) result c'
-  stays levels c c' file piece result none loads is =
-      ap (λ k. put_aside (changed (warned c file piece) file piece k) >>= λ next. entered (enters_at F prefixes levels) next.0 next.1)
-      (sym loads)
-      ∙ ap (λ i. stepped F prefixes levels c file piece i >>= λ next. entered (enters_at F prefixes levels) next.0 next.1) (sym none) ∙ is
+  stays : (enters : Enters) (levels : ℕ) (c c' : Checking) (file : OpenFile) (piece : Piece) (result : Result Set SpecsFault)
+      → inclusion_in piece.text ≡ None
+      → loaded F prefixes c.set piece.text ≡ Is result → One enters levels c file piece c'
+      → Alone c file piece enters result c'
+  stays enters levels c c' file piece result none loads is =
+      ap (λ k. put_aside (changed (warned c file piece) file piece k) >>= λ next. entered enters next.0 next.1) (sym loads)
+      ∙ ap (λ i. stepped F prefixes levels c file piece i >>= λ next. entered enters next.0 next.1) (sym none) ∙ is
 
   -- how deep files may be within one another
 
-  abbrev Opens : ℕ → Type 0
-  Opens levels = (c c' : Checking) (from : Option Spot) (may : Bool) (missing : _) (name : List ℕ)
+  abbrev pub OpensFrom : Enters → ℕ → Checking → Type 0
+  OpensFrom enters levels c = (c' : Checking) (from : Option Spot) (may : Bool) (missing : _) (name : List ℕ)
       → ((path : List ℕ) (answer : ReadAnswer) → text_read missing path answer ≡ read_text may path answer)
-      → (opened F prefixes levels c from (record { may_miss = may; file = name })
-      >>= λ next. entered (enters_at F prefixes levels) next.0 next.1) ≡ Is c'
+      → (opened F prefixes levels c from (record { may_miss = may; file = name }) >>= λ next. entered enters next.0 next.1) ≡ Is c'
       → Follows (faults_of c.findings) c' (including F prefixes levels (carried_of c) missing name)
+
+  abbrev Opens : ℕ → Type 0
+  Opens levels = (c : Checking) → OpensFrom (enters_at F prefixes levels) levels c
 
   abbrev Checks : ℕ → Type 0
   Checks levels = (c c' : Checking) (file : OpenFile) (pieces : List Piece) (directives : List Directive) → AreRead pieces directives
       → pieces_checked F prefixes levels (enters_at F prefixes levels) c file pieces ≡ Is c'
       → Follows (faults_of c.findings) c' (all_carried (including F prefixes levels) (carried_of c) directives)
 
-  one_as : (levels : ℕ) → Opens levels → (c c' : Checking) (file : OpenFile) (piece : Piece) (directive : Directive)
+  pub one_as : (enters : Enters) (levels : ℕ) (c : Checking) → OpensFrom enters levels c
+      → (c' : Checking) (file : OpenFile) (piece : Piece) (directive : Directive)
       → IsRead piece directive
-      → One levels c file piece c' → Follows (faults_of c.findings) c' (carried (including F prefixes levels) (carried_of c) directive)
-  one_as levels opens c c' file piece (Text name body) read is =
-      changed_as c file piece (enters_at F prefixes levels) (with_text c.set name body) c' (text_same piece.number c.set name body)
-      (stays levels c c' file piece (with_text c.set name body) read.includes
+      → One enters levels c file piece c' → Follows (faults_of c.findings) c' (carried (including F prefixes levels) (carried_of c) directive)
+  one_as enters levels c opens c' file piece (Text name body) read is =
+      changed_as c file piece enters (with_text c.set name body) c' (text_same piece.number c.set name body)
+      (stays enters levels c c' file piece (with_text c.set name body) read.includes
       (loaded_alone c.set piece.text (Text name body) read.alone ∙ change_alone (with_text c.set name body)) is)
-  one_as levels opens c c' file piece (Pair key body) read is =
-      changed_as c file piece (enters_at F prefixes levels) (with_pair_body c.set key body) c' (pair_body_same piece.number c.set key body)
-      (stays levels c c' file piece (with_pair_body c.set key body) read.includes
+  one_as enters levels c opens c' file piece (Pair key body) read is =
+      changed_as c file piece enters (with_pair_body c.set key body) c' (pair_body_same piece.number c.set key body)
+      (stays enters levels c c' file piece (with_pair_body c.set key body) read.includes
       (loaded_alone c.set piece.text (Pair key body) read.alone ∙ change_alone (with_pair_body c.set key body)) is)
-  one_as levels opens c c' file piece (Rename old new) read is =
-      changed_as c file piece (enters_at F prefixes levels) (with_name c.set old new) c' (name_same piece.number c.set old new)
-      (stays levels c c' file piece (with_name c.set old new) read.includes
+  one_as enters levels c opens c' file piece (Rename old new) read is =
+      changed_as c file piece enters (with_name c.set old new) c' (name_same piece.number c.set old new)
+      (stays enters levels c c' file piece (with_name c.set old new) read.includes
       (loaded_alone c.set piece.text (Rename old new) read.alone ∙ change_alone (with_name c.set old new)) is)
-  one_as levels opens c c' file piece (Bad n) read is =
-      changed_ill c file piece (enters_at F prefixes levels) (BadLine 1) (BadLine n) c' (ap BadLine (sym (ap number_in read.here)))
-      (stays levels c c' file piece (Err (BadLine 1)) read.includes (loaded_alone c.set piece.text (Bad 1) read.alone) is)
-  one_as levels opens c c' file piece (Include missing name) read is =
-      opens c c' (spot_in file piece (front_length is_blank piece.text)) read.includes.0 missing name read.includes.2
-      (ap (λ i. stepped F prefixes levels c file piece i >>= λ next. entered (enters_at F prefixes levels) next.0 next.1)
+  one_as enters levels c opens c' file piece (Bad n) read is =
+      changed_ill c file piece enters (BadLine 1) (BadLine n) c' (ap BadLine (sym (ap number_in read.here)))
+      (stays enters levels c c' file piece (Err (BadLine 1)) read.includes (loaded_alone c.set piece.text (Bad 1) read.alone) is)
+  one_as enters levels c opens c' file piece (Include missing name) read is =
+      opens c' (spot_in file piece (front_length is_blank piece.text)) read.includes.0 missing name read.includes.2
+      (ap (λ i. stepped F prefixes levels c file piece i >>= λ next. entered enters next.0 next.1)
       (sym read.includes.1) ∙ is)
 
   checks_at : (levels : ℕ) → Opens levels → Checks levels
@@ -208,13 +211,13 @@ module _ (F : Facts) (prefixes : Prefixes) where
     where
       ends : ((d : Checking) → pieces_checked F prefixes levels (enters_at F prefixes levels) d file pieces ≡ Is c'
           → Follows (faults_of d.findings) c' (all_carried (including F prefixes levels) (carried_of d) directives))
-          → (c'' : Checking) → One levels c file piece c''
+          → (c'' : Checking) → One (enters_at F prefixes levels) levels c file piece c''
           → pieces_checked F prefixes levels (enters_at F prefixes levels) c'' file pieces ≡ Is c'
           → Follows (faults_of c.findings) c' (all_carried (including F prefixes levels) (carried_of c) (directive ∷ directives))
       ends later c'' one more =
           joins (faults_of c.findings) c'' c' (carried (including F prefixes levels) (carried_of c) directive)
           (λ d. all_carried (including F prefixes levels) d directives)
-          (one_as levels opens c c'' file piece directive are.0 one)
+          (one_as (enters_at F prefixes levels) levels c (opens c) c'' file piece directive are.0 one)
           (later c'' more)
 
       by_entered : ((d : Checking) → pieces_checked F prefixes levels (enters_at F prefixes levels) d file pieces ≡ Is c'
@@ -306,12 +309,12 @@ module _ (F : Facts) (prefixes : Prefixes) where
 
   -- the files of the call
 
-  abbrev Loads : List SpecsFault → Checking → Known (Result Set SpecsFault) → Type 0
+  abbrev pub Loads : List SpecsFault → Checking → Known (Result Set SpecsFault) → Type 0
   Loads before c Unasked = ⊥
   Loads before c (Is (Ok set)) = (faults_of c.findings ≡ before) × (c.set ≡ set)
   Loads before c (Is (Err fault)) = (more : List SpecsFault) × (faults_of c.findings ≡ before ++ fault ∷ more)
 
-  loads_set : (before : List SpecsFault) (c : Checking) (known : Known (Result Carried SpecsFault)) → Follows before c known
+  pub loads_set : (before : List SpecsFault) (c : Checking) (known : Known (Result Carried SpecsFault)) → Follows before c known
       → Loads before c (then_by known set_in)
   loads_set before c Unasked follows = follows
   loads_set before c (Is (Ok d)) follows = (follows.0, ap (λ x. x.set) follows.1)
@@ -338,7 +341,7 @@ module _ (F : Facts) (prefixes : Prefixes) where
   loads_grow before c (Is (Ok set)) loads = ([], loads.0 ∙ sym (append-nil before))
   loads_grow before c (Is (Err fault)) loads = (fault ∷ loads.0, loads.1)
 
-  loads_join : (before : List SpecsFault) (c c' : Checking) (known : Known (Result Set SpecsFault))
+  pub loads_join : (before : List SpecsFault) (c c' : Checking) (known : Known (Result Set SpecsFault))
       (next : Set → Known (Result Set SpecsFault))
       → Loads before c known → Loads (faults_of c.findings) c' (next c.set) → Loads before c' (then_by known next)
   loads_join before c c' Unasked next first second = absurd first
@@ -406,19 +409,11 @@ judged_well : (first : ℕ) (c : Checking) → faults_of (judged first c).findin
 judged_well first c = faults_with c.findings (sources_judged c.set (flat_map source_names c.sources) first (drop first c.sources))
     (sources_well c.set (flat_map source_names c.sources) first (drop first c.sources))
 
-agrees : (F : Facts) (prefixes : Prefixes) (c : Checking) (known : Known (Result Set SpecsFault)) → Loads F prefixes [] c known
+pub agrees : (F : Facts) (prefixes : Prefixes) (c : Checking) (known : Known (Result Set SpecsFault)) → Loads F prefixes [] c known
     → Agrees (faults_of c.findings) known
 agrees F prefixes c Unasked loads = loads
 agrees F prefixes c (Is (Ok set)) loads = loads.0
 agrees F prefixes c (Is (Err fault)) loads = loads
-
--- files of a call, over whatever set
-
-pub called_agrees : (F : Facts) (prefixes : Prefixes) (c c' : Checking) (names : List (List ℕ)) → faults_of c.findings ≡ []
-    → all_called F prefixes c names ≡ Is c' → Agrees (faults_of c'.findings) (all_loaded F prefixes c.set names)
-called_agrees F prefixes c c' names none is =
-    agrees F prefixes c' (all_loaded F prefixes c.set names)
-    (subst (λ fs. Loads F prefixes fs c' (all_loaded F prefixes c.set names)) none (all_load F prefixes c c' names is))
 
 module _ (F : Facts) (prefixes : Prefixes) (over names : List (List ℕ)) (c : Checking) where
   base_faults : (base : Checking) → based F prefixes over ≡ Is base → Loads F prefixes [] base (all_loaded F prefixes builtin_specs over)

@@ -17,10 +17,12 @@ mod OwnTrees
 mod PieceSteps
 mod PiecesChecked
 mod PiecesRead
+mod RefusedFirst
 mod Reports
 mod SwitchNames
 mod TextOrigins
 mod TokenMarks
 mod TreeBranches
 mod Unreached
+mod UntilFault
 mod Unused

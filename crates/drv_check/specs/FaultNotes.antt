@@ -1,7 +1,7 @@
 use Rattle.drv_check.specs.Checked.{tells_fault}
-use Rattle.drv_check.specs.Checks.{all_called}
 use Rattle.drv_check.specs.Spots.{place_in}
 use Rattle.drv_check.specs.Told.{place_text}
+use Rattle.drv_check.specs.UntilFault.{all_until}
 use Rattle.drv_check.specs.declared.findings.Checking.{Checking}
 use Rattle.drv_check.specs.declared.findings.Finding.{Finding}
 use Rattle.drv_check.specs.declared.findings.Note.TheVariants.{Fault}
@@ -43,7 +43,7 @@ abbrev pub unchecked_over : Set → Checking
 unchecked_over set = record { set = set; files = most_files; sources = []; findings = [] }
 
 abbrev pub noted_along : Facts → Prefixes → Set → List (List ℕ) → Known (List ℕ)
-noted_along F prefixes set names = all_called F prefixes (unchecked_over set) names >>= λ c. Is (note_of c)
+noted_along F prefixes set names = all_until F prefixes (unchecked_over set) names >>= λ c. Is (note_of c)
 
 -- with the folders of -B, along which files are found
 unfoldable pub fault_note : Facts → Set → List (List ℕ) → List (List ℕ) → Known (List ℕ)

@@ -19,6 +19,7 @@ pub mod Spots
 pub mod SwitchNames
 pub mod TokenWarnings
 pub mod Told
+pub mod UntilFault
 pub mod UnusedTexts
 pub mod Warnings
 pub mod Whole

@@ -20,7 +20,7 @@ use drv_words::{Listing, Word};
 use std::alloc::{AllocError, Global};
 
 /// The most files that include one another.
-const MOST_LEVELS: usize = 16;
+pub(crate) const MOST_LEVELS: usize = 16;
 
 /// Checks an open file, within which `levels` more files may be nested.
 fn check_file<S: System>(

@@ -9,9 +9,10 @@ ghost use Rattle.drv_system.specs.Known.{Is};
 ghost use Rattle.std.specs.Option.{option_map};
 ghost use Rattle.std.specs.Prelude.{◌≡◌, IfOk, Some};
 
-use crate::checking::{check_all, is_fault};
+use crate::checking::is_fault;
 use crate::findings::{Checking, Finding, MOST_FILES, Source, Spot};
 use crate::spots::place_in;
+use crate::stopping::check_until;
 use crate::told::push_place;
 use drv_search::Prefixes;
 use drv_specs::SpecSet;
@@ -90,14 +91,14 @@ fn note_along<S: System>(
         → IfOk result (λ note. noted_along F prefixes.now set names.now ≡ Is note) }
 {
     let mut checking = unchecked_over(alloc, set);
-    check_all(alloc, &mut checking, names, prefixes, outside)?;
+    check_until(alloc, &mut checking, names, prefixes, outside)?;
     note_of(alloc, &checking)
 }
 
 /// Where the driver refuses files that are loaded over a set, in their order, as a note: the place
 /// of the first fault in its file. Each is found along the folders of `-B`. There is no note where
 /// none of them is refused, or where the fault is in no file. It asks the system only where the table
-/// has no answer.
+/// has no answer, and nothing after that fault.
 ///
 /// # Errors
 /// Lack of memory; nothing else is refused.

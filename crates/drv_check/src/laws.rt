@@ -3,11 +3,11 @@
 ghost use Rattle.drv_check.specs.Agreement.{Agrees, all_loaded, faults_of};
 ghost use Rattle.drv_check.specs.Branches.{covers, names_all};
 ghost use Rattle.drv_check.specs.Checked.{checked};
-ghost use Rattle.drv_check.specs.Checks.{all_called};
 ghost use Rattle.drv_check.specs.Coverage.{is_true, pattern_of};
 ghost use Rattle.drv_check.specs.FaultNotes.{IsFirst, first_fault, unchecked_over};
 ghost use Rattle.drv_check.specs.Numbers.{AreRead};
 ghost use Rattle.drv_check.specs.Pieces.{pieces_of};
+ghost use Rattle.drv_check.specs.UntilFault.{all_until};
 ghost use Rattle.drv_check.specs.declared.findings.Checking.{Checking};
 ghost use Rattle.drv_match.specs.Matching.{is_named};
 ghost use Rattle.drv_search.specs.Search.{prefixes_of};
@@ -45,7 +45,7 @@ pub fn first_fault_is_refusal()
 #[tactic(auto, using(crate::proofs::FaultNotes::noted_first))]
 pub fn noted_fault_is_refusal()
     ensures { (F : Facts) (prefixes : Prefixes) (set : Set) (names : List (List ℕ)) (c : Checking)
-        → all_called F prefixes (unchecked_over set) names ≡ Is c
+        → all_until F prefixes (unchecked_over set) names ≡ Is c
         → IsFirst (first_fault c.findings) (all_loaded F prefixes set names) }
 {}
 

@@ -19,6 +19,7 @@ mod pieces;
 mod pointing;
 mod spots;
 mod stepping;
+mod stopping;
 mod switch_names;
 mod token_warning;
 mod told;

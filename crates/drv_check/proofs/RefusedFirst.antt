@@ -1,0 +1,245 @@
+use Rattle.drv_check.proofs.Agreeing.{Follows, Loads, One, OpensFrom, agrees, carried_of, joins, loads_join, loads_set, noted_faults, one_as}
+use Rattle.drv_check.proofs.Agreeing.{same_in}
+use Rattle.drv_check.proofs.IncludesRead.{answers_alike, refusing}
+use Rattle.drv_check.proofs.PiecesRead.{pieces_read}
+use Rattle.drv_check.proofs.UntilFault.{begins_until, names_kept, names_next, pieces_kept, pieces_next}
+use Rattle.drv_check.specs.Agreement.{Agrees, all_loaded, fault_in, faults_of}
+use Rattle.drv_check.specs.Checked.{is_fault, tells_fault}
+use Rattle.drv_check.specs.Checks.{by_text, entered, open_file, opened_of, step}
+use Rattle.drv_check.specs.Includes.{read_text}
+use Rattle.drv_check.specs.Numbers.{AreRead}
+use Rattle.drv_check.specs.UntilFault.{all_until, called_until, enters_until, file_until, is_refused, pieces_until}
+use Rattle.drv_check.specs.declared.findings.Checking.{Checking}
+use Rattle.drv_check.specs.declared.findings.Finding.{Finding}
+use Rattle.drv_check.specs.declared.findings.Note.TheVariants.{Fault, Warned}
+use Rattle.drv_check.specs.declared.findings.Note.{Note}
+use Rattle.drv_check.specs.declared.findings.Spot.{Spot}
+use Rattle.drv_check.specs.declared.opening.OpenFile.{OpenFile}
+use Rattle.drv_check.specs.declared.pieces.Piece.{Piece}
+use Rattle.drv_search.specs.Search.{file_found}
+use Rattle.drv_search.specs.declared.prefixes.Prefixes.{Prefixes}
+use Rattle.drv_specs.specs.Directives.{Directive, directives_of}
+use Rattle.drv_specs.specs.Loading.{Carried, all_carried, carried, file_carried, file_loaded, including, most_files, most_levels, text_read, then_by}
+use Rattle.drv_specs.specs.Sets.{Set}
+use Rattle.drv_specs.specs.declared.fault.SpecsFault.TheVariants.{IncludeTooDeep, TooManyIncludes}
+use Rattle.drv_specs.specs.declared.fault.SpecsFault.{SpecsFault}
+use Rattle.drv_system.specs.Facts.{Facts, read_of}
+use Rattle.drv_system.specs.Known.{◌>>=◌, Is, Known, Unasked, asked}
+use Rattle.drv_system.specs.declared.event.ReadAnswer.{ReadAnswer}
+use Rattle.std.proofs.Common.{◌≡◌, ◌∙◌, ◌++◌, ◌∷◌, ◌||◌, Bool, Err, List, None, Ok, Option, Result, Some, [], ap, false, length, refl, subst}
+use Rattle.std.proofs.Common.{suc, sym, true, zero, ℕ}
+use Rattle.std.proofs.lemmas.Bool.{false≢true}
+use Rattle.std.specs.List.{list_any}
+
+-- For noted_fault_is_refusal: a check up to the first fault finds none exactly where the driver loads the files, and else its refusal.
+
+-- a fault was found where there is one among all of them
+
+abbrev has_some : List SpecsFault → Bool
+has_some [] = false
+has_some (fault ∷ faults) = true
+
+some_told : (findings : List Finding) → list_any tells_fault findings ≡ has_some (faults_of findings)
+some_told [] = refl
+some_told (finding ∷ findings) = by finding.note (some_told findings)
+  where
+    by : (note : Note) → list_any tells_fault findings ≡ has_some (faults_of findings)
+        → (is_fault note || list_any tells_fault findings) ≡ has_some (fault_in note ++ faults_of findings)
+    by (Fault fault) later = refl
+    by (Warned warning) later = later
+
+refused_alike : (c d : Checking) → faults_of c.findings ≡ faults_of d.findings → is_refused c ≡ is_refused d
+refused_alike c d same = some_told c.findings ∙ ap has_some same ∙ sym (some_told d.findings)
+
+module _ (F : Facts) (prefixes : Prefixes) where
+  -- what follows a step: nothing after a fault, and else the rest
+
+  ends_here : (c c' c'' : Checking) (known : Known (Result Carried SpecsFault)) (next : Carried → Known (Result Carried SpecsFault))
+      → is_refused c ≡ false → is_refused c'' ≡ true → c'' ≡ c' → Follows (faults_of c.findings) c'' known
+      → Follows (faults_of c.findings) c' (then_by known next)
+  ends_here c c' c'' Unasked next goes refused same first = absurd first
+  ends_here c c' c'' (Is (Ok d)) next goes refused same first =
+      absurd (false≢true (sym goes ∙ refused_alike c c'' (sym first.0) ∙ refused))
+  ends_here c c' c'' (Is (Err fault)) next goes refused same first =
+      subst (λ x. Follows (faults_of c.findings) x (Is (Err fault))) same first
+
+  abbrev OpensUntil : ℕ → Type 0
+  OpensUntil levels = (c : Checking) → is_refused c ≡ false → OpensFrom F prefixes (enters_until F prefixes levels) levels c
+
+  abbrev ChecksUntil : ℕ → Type 0
+  ChecksUntil levels = (c c' : Checking) (file : OpenFile) (pieces : List Piece) (directives : List Directive) → AreRead pieces directives
+      → is_refused c ≡ false → pieces_until F prefixes levels (enters_until F prefixes levels) c file pieces ≡ Is c'
+      → Follows (faults_of c.findings) c' (all_carried (including F prefixes levels) (carried_of c) directives)
+
+  checks_at : (levels : ℕ) → OpensUntil levels → ChecksUntil levels
+  checks_at levels opens c c' file [] [] are goes is =
+      subst (λ x. Follows (faults_of c.findings) x (Is (Ok (carried_of c)))) (same_in is) (refl, refl)
+  checks_at levels opens c c' file [] (directive ∷ directives) are goes is = absurd are
+  checks_at levels opens c c' file (piece ∷ pieces) [] are goes is = absurd are
+  checks_at levels opens c c' file (piece ∷ pieces) (directive ∷ directives) are goes is =
+      by_step (λ c'' well more. checks_at levels opens c'' c' file pieces directives are.1 well more)
+      (step F prefixes levels c file piece) refl
+      (sym (pieces_next F prefixes levels (enters_until F prefixes levels) c file piece pieces goes) ∙ is)
+    where
+      by_end : ((d : Checking) → is_refused d ≡ false
+          → pieces_until F prefixes levels (enters_until F prefixes levels) d file pieces ≡ Is c'
+          → Follows (faults_of d.findings) c' (all_carried (including F prefixes levels) (carried_of d) directives))
+          → (c'' : Checking) → One F prefixes (enters_until F prefixes levels) levels c file piece c''
+          → pieces_until F prefixes levels (enters_until F prefixes levels) c'' file pieces ≡ Is c' → (t : Bool) → is_refused c'' ≡ t
+          → Follows (faults_of c.findings) c' (all_carried (including F prefixes levels) (carried_of c) (directive ∷ directives))
+      by_end later c'' one more true refused =
+          ends_here c c' c'' (carried (including F prefixes levels) (carried_of c) directive)
+          (λ d. all_carried (including F prefixes levels) d directives) goes refused
+          (same_in (sym (pieces_kept F prefixes levels (enters_until F prefixes levels) c'' file pieces refused) ∙ more))
+          (one_as F prefixes (enters_until F prefixes levels) levels c (opens c goes) c'' file piece directive are.0 one)
+      by_end later c'' one more false well =
+          joins (faults_of c.findings) c'' c' (carried (including F prefixes levels) (carried_of c) directive)
+          (λ d. all_carried (including F prefixes levels) d directives)
+          (one_as F prefixes (enters_until F prefixes levels) levels c (opens c goes) c'' file piece directive are.0 one)
+          (later c'' well more)
+
+      by_entered : ((d : Checking) → is_refused d ≡ false
+          → pieces_until F prefixes levels (enters_until F prefixes levels) d file pieces ≡ Is c'
+          → Follows (faults_of d.findings) c' (all_carried (including F prefixes levels) (carried_of d) directives))
+          → (next : Checking × Option OpenFile) → step F prefixes levels c file piece ≡ Is next → (known : Known Checking)
+          → entered (enters_until F prefixes levels) next.0 next.1 ≡ known
+          → (known >>= λ c''. pieces_until F prefixes levels (enters_until F prefixes levels) c'' file pieces) ≡ Is c'
+          → Follows (faults_of c.findings) c' (all_carried (including F prefixes levels) (carried_of c) (directive ∷ directives))
+      by_entered later next steps Unasked enters more = absurd cc
+      by_entered later next steps (Is c'') enters more =
+          by_end later c'' (ap (λ k. k >>= λ n. entered (enters_until F prefixes levels) n.0 n.1) steps ∙ enters) more (is_refused c'') refl
+
+      by_step : ((d : Checking) → is_refused d ≡ false
+          → pieces_until F prefixes levels (enters_until F prefixes levels) d file pieces ≡ Is c'
+          → Follows (faults_of d.findings) c' (all_carried (including F prefixes levels) (carried_of d) directives))
+          → (known : Known (Checking × Option OpenFile)) → step F prefixes levels c file piece ≡ known
+          → (known >>= λ next. entered (enters_until F prefixes levels) next.0 next.1
+          >>= λ c''. pieces_until F prefixes levels (enters_until F prefixes levels) c'' file pieces) ≡ Is c'
+          → Follows (faults_of c.findings) c' (all_carried (including F prefixes levels) (carried_of c) (directive ∷ directives))
+      by_step later Unasked steps more = absurd cc
+      by_step later (Is next) steps more = by_entered later next steps (entered (enters_until F prefixes levels) next.0 next.1) refl more
+
+  -- an included file
+
+  opens_none : OpensUntil zero
+  unfolding including
+  opens_none c goes c' from may missing name alike is =
+      subst (λ x. Follows (faults_of c.findings) x (Is (Err IncludeTooDeep))) (same_in is) ([], noted_faults c from IncludeTooDeep)
+
+  abbrev opens_text : ℕ → ℕ → Checking → Option Spot → List ℕ → Result (List ℕ) SpecsFault → Known Checking
+  opens_text levels left c from path text =
+      Is (by_text (record c { files = left }) from path text) >>= λ next. entered (file_until F prefixes levels) next.0 next.1
+
+  by_result : (levels left : ℕ) → ChecksUntil levels → (c c' : Checking) (from : Option Spot) (path : List ℕ)
+      (text : Result (List ℕ) SpecsFault)
+      → is_refused c ≡ false → opens_text levels left c from path text ≡ Is c'
+      → Follows (faults_of c.findings) c'
+      (then_by (Is text) (λ t. all_carried (including F prefixes levels) (record { set = c.set; files = left }) (directives_of t)))
+  by_result levels left checks c c' from path (Err fault) goes is =
+      subst (λ x. Follows (faults_of c.findings) x (Is (Err fault))) (same_in is) ([], noted_faults (record c { files = left }) from fault)
+  by_result levels left checks c c' from path (Ok text) goes is =
+      checks (record c { files = left; sources = c.sources ++ record { name = path; text = text; from = from } ∷ [] }) c'
+      (open_file (length c.sources) text) (open_file (length c.sources) text).pieces (directives_of text) (pieces_read text) goes
+      (begins_until F prefixes levels
+      (record c { files = left; sources = c.sources ++ record { name = path; text = text; from = from } ∷ [] })
+      (open_file (length c.sources) text) ∙ is)
+
+  module _ (levels left : ℕ) (checks : ChecksUntil levels) (c c' : Checking) (from : Option Spot) (may : Bool) (name : List ℕ)
+      (well : is_refused c ≡ false) where
+    abbrev texts : Known (List ℕ) → Known (List ℕ × Result (List ℕ) SpecsFault)
+    texts known = known >>= λ path. asked (read_of F path) >>= λ answer. Is (path, read_text may path answer)
+
+    abbrev goes : Known (List ℕ × Result (List ℕ) SpecsFault) → Known Checking
+    goes known =
+        (known >>= λ found. Is (by_text (record c { files = left }) from found.0 found.1))
+        >>= λ next. entered (file_until F prefixes levels) next.0 next.1
+
+    by_answer : (missing : _) → ((path : List ℕ) (answer : ReadAnswer) → text_read missing path answer ≡ read_text may path answer)
+        → (path : List ℕ) (answer : Option ReadAnswer) → goes (asked answer >>= λ a. Is (path, read_text may path a)) ≡ Is c'
+        → Follows (faults_of c.findings) c' (then_by (asked answer >>= λ a. Is (text_read missing path a))
+        (λ t. all_carried (including F prefixes levels) (record { set = c.set; files = left }) (directives_of t)))
+    by_answer missing alike path None is = absurd cc
+    by_answer missing alike path (Some answer) is =
+        subst (λ r. Follows (faults_of c.findings) c' (then_by (Is r)
+        (λ t. all_carried (including F prefixes levels) (record { set = c.set; files = left }) (directives_of t))))
+        (sym (alike path answer))
+        (by_result levels left checks c c' from path (read_text may path answer) well is)
+
+    by_path : (missing : _) → ((path : List ℕ) (answer : ReadAnswer) → text_read missing path answer ≡ read_text may path answer)
+        → (known : Known (List ℕ)) → goes (texts known) ≡ Is c'
+        → Follows (faults_of c.findings) c' (then_by (known >>= λ path. asked (read_of F path) >>= λ a. Is (text_read missing path a))
+        (λ t. all_carried (including F prefixes levels) (record { set = c.set; files = left }) (directives_of t)))
+    by_path missing alike Unasked is = absurd cc
+    by_path missing alike (Is path) is = by_answer missing alike path (read_of F path) is
+
+  by_files : (levels : ℕ) → ChecksUntil levels → (n : ℕ) (c c' : Checking) (from : Option Spot) (may : Bool) (missing : _) (name : List ℕ)
+      → ((path : List ℕ) (answer : ReadAnswer) → text_read missing path answer ≡ read_text may path answer) → is_refused c ≡ false
+      → (opened_of F prefixes n c from (record { may_miss = may; file = name })
+      >>= λ next. entered (file_until F prefixes levels) next.0 next.1) ≡ Is c'
+      → Follows (faults_of c.findings) c' (file_carried F prefixes (including F prefixes levels) c.set n missing name)
+  by_files levels checks zero c c' from may missing name alike goes is =
+      subst (λ x. Follows (faults_of c.findings) x (Is (Err TooManyIncludes))) (same_in is) ([], noted_faults c from TooManyIncludes)
+  by_files levels checks (suc left) c c' from may missing name alike goes is =
+      by_path levels left checks c c' from may name goes missing alike (file_found F prefixes name) is
+
+  opens_some : (levels : ℕ) → ChecksUntil levels → OpensUntil (suc levels)
+  unfolding including
+  opens_some levels checks c goes c' from may missing name alike is =
+      by_files levels checks c.files c c' from may missing name alike goes is
+
+  all_open : (levels : ℕ) → OpensUntil levels
+  all_open zero = opens_none
+  all_open (suc levels) = opens_some levels (checks_at levels (all_open levels))
+
+  -- the files of the call
+
+  one_loads : (c c' : Checking) (name : List ℕ) → is_refused c ≡ false → called_until F prefixes c name ≡ Is c'
+      → Loads F prefixes (faults_of c.findings) c' (file_loaded F prefixes c.set name)
+  unfolding file_loaded
+  one_loads c c' name goes is =
+      loads_set F prefixes (faults_of c.findings) c' _
+      (all_open most_levels (record c { files = most_files }) goes c' None false refusing.0 name
+      (answers_alike refusing.0 false (λ path text. refl) (λ path. refl) (λ path. refl) (λ path. refl)) is)
+
+  loading_ends : (c c' c'' : Checking) (known : Known (Result Set SpecsFault)) (next : Set → Known (Result Set SpecsFault))
+      → is_refused c ≡ false → is_refused c'' ≡ true → c'' ≡ c' → Loads F prefixes (faults_of c.findings) c'' known
+      → Loads F prefixes (faults_of c.findings) c' (then_by known next)
+  loading_ends c c' c'' Unasked next goes refused same first = absurd first
+  loading_ends c c' c'' (Is (Ok set)) next goes refused same first =
+      absurd (false≢true (sym goes ∙ refused_alike c c'' (sym first.0) ∙ refused))
+  loading_ends c c' c'' (Is (Err fault)) next goes refused same first =
+      subst (λ x. Loads F prefixes (faults_of c.findings) x (Is (Err fault))) same first
+
+  all_load : (c c' : Checking) (names : List (List ℕ)) → is_refused c ≡ false → all_until F prefixes c names ≡ Is c'
+      → Loads F prefixes (faults_of c.findings) c' (all_loaded F prefixes c.set names)
+  all_load c c' [] goes is = subst (λ x. Loads F prefixes (faults_of c.findings) x (Is (Ok c.set))) (same_in is) (refl, refl)
+  all_load c c' (name ∷ names) goes is =
+      by (λ d well more. all_load d c' names well more) (called_until F prefixes c name) refl
+      (sym (names_next F prefixes c name names goes) ∙ is)
+    where
+      by_end : ((d : Checking) → is_refused d ≡ false → all_until F prefixes d names ≡ Is c'
+          → Loads F prefixes (faults_of d.findings) c' (all_loaded F prefixes d.set names))
+          → (c'' : Checking) → called_until F prefixes c name ≡ Is c'' → all_until F prefixes c'' names ≡ Is c' → (t : Bool)
+          → is_refused c'' ≡ t
+          → Loads F prefixes (faults_of c.findings) c' (all_loaded F prefixes c.set (name ∷ names))
+      by_end later c'' calls more true refused =
+          loading_ends c c' c'' (file_loaded F prefixes c.set name) (λ set. all_loaded F prefixes set names) goes refused
+          (same_in (sym (names_kept F prefixes c'' names refused) ∙ more)) (one_loads c c'' name goes calls)
+      by_end later c'' calls more false well =
+          loads_join F prefixes (faults_of c.findings) c'' c' (file_loaded F prefixes c.set name)
+          (λ set. all_loaded F prefixes set names)
+          (one_loads c c'' name goes calls) (later c'' well more)
+
+      by : ((d : Checking) → is_refused d ≡ false → all_until F prefixes d names ≡ Is c'
+          → Loads F prefixes (faults_of d.findings) c' (all_loaded F prefixes d.set names))
+          → (known : Known Checking) → called_until F prefixes c name ≡ known → (known >>= λ c''. all_until F prefixes c'' names) ≡ Is c'
+          → Loads F prefixes (faults_of c.findings) c' (all_loaded F prefixes c.set (name ∷ names))
+      by later Unasked calls more = absurd cc
+      by later (Is c'') calls more = by_end later c'' calls more (is_refused c'') refl
+
+pub until_agrees : (F : Facts) (prefixes : Prefixes) (c c' : Checking) (names : List (List ℕ)) → c.findings ≡ []
+    → all_until F prefixes c names ≡ Is c' → Agrees (faults_of c'.findings) (all_loaded F prefixes c.set names)
+until_agrees F prefixes c c' names none is =
+    agrees F prefixes c' (all_loaded F prefixes c.set names)
+    (subst (λ fs. Loads F prefixes (faults_of fs) c' (all_loaded F prefixes c.set names)) none
+    (all_load F prefixes c c' names (ap (list_any tells_fault) none) is))

@@ -1,0 +1,117 @@
+use Rattle.drv_check.specs.Checks.{Enters, entered, opened, step}
+use Rattle.drv_check.specs.UntilFault.{all_until, called_until, enters_until, file_until, is_refused, pieces_until}
+use Rattle.drv_check.specs.declared.findings.Checking.{Checking}
+use Rattle.drv_check.specs.declared.opening.OpenFile.{OpenFile}
+use Rattle.drv_check.specs.declared.pieces.Piece.{Piece}
+use Rattle.drv_search.specs.declared.prefixes.Prefixes.{Prefixes}
+use Rattle.drv_specs.specs.Loading.{most_files, most_levels}
+use Rattle.drv_system.specs.Facts.{Facts}
+use Rattle.drv_system.specs.Known.{◌>>=◌, Is, Known}
+use Rattle.std.proofs.Common.{◌≡◌, ◌∙◌, ◌∷◌, ◌<◌, ◌+◌, ◌-◌, Err, IfOk, IfSome, List, None, Ok, Option, Result, Some, [], ap, arith, drop}
+use Rattle.std.proofs.Common.{false, if◌then◌else◌, length, refl, subst, suc, sym, true, zero, ℕ}
+use Rattle.std.proofs.lemmas.List.{drop_more}
+use Rattle.std.specs.Prelude.{get_or}
+
+-- For fault_note: pieces and files are checked one after another, up to the first fault.
+
+module _ (F : Facts) (prefixes : Prefixes) where
+  -- what a file of so many levels enters
+  entering_until : (levels : ℕ) → 0 < levels → enters_until F prefixes levels ≡ file_until F prefixes (levels - 1)
+  entering_until zero some = absurd (omega (arith, some))
+  entering_until (suc levels) some =
+      let less : levels ≡ suc levels - 1 = omega arith in
+      ap (file_until F prefixes) less
+
+  pub begins_until : (levels : ℕ) (c : Checking) (file : OpenFile)
+      → pieces_until F prefixes levels (enters_until F prefixes levels) c file file.pieces ≡ file_until F prefixes levels c file
+  unfolding file_until
+  begins_until zero c file = refl
+  begins_until (suc levels) c file = refl
+
+  -- after a fault nothing more is checked
+  pub pieces_kept : (levels : ℕ) (enters : Enters) (c : Checking) (file : OpenFile) (pieces : List Piece) → is_refused c ≡ true
+      → pieces_until F prefixes levels enters c file pieces ≡ Is c
+  pieces_kept levels enters c file [] refused = refl
+  pieces_kept levels enters c file (piece ∷ pieces) refused =
+      ap (λ t. if t then Is c
+      else (step F prefixes levels c file piece >>= λ next. entered enters next.0 next.1
+      >>= λ c'. pieces_until F prefixes levels enters c' file pieces)) refused
+
+  pub names_kept : (c : Checking) (names : List (List ℕ)) → is_refused c ≡ true → all_until F prefixes c names ≡ Is c
+  names_kept c [] refused = refl
+  names_kept c (name ∷ names) refused =
+      ap (λ t. if t then Is c else (called_until F prefixes c name >>= λ c'. all_until F prefixes c' names)) refused
+
+  -- before one the next is checked
+  pub pieces_next : (levels : ℕ) (enters : Enters) (c : Checking) (file : OpenFile) (piece : Piece) (pieces : List Piece)
+      → is_refused c ≡ false
+      → pieces_until F prefixes levels enters c file (piece ∷ pieces)
+      ≡ (step F prefixes levels c file piece >>= λ next. entered enters next.0 next.1
+      >>= λ c'. pieces_until F prefixes levels enters c' file pieces)
+  pieces_next levels enters c file piece pieces goes =
+      ap (λ t. if t then Is c
+      else (step F prefixes levels c file piece >>= λ next. entered enters next.0 next.1
+      >>= λ c'. pieces_until F prefixes levels enters c' file pieces)) goes
+
+  pub names_next : (c : Checking) (name : List ℕ) (names : List (List ℕ)) → is_refused c ≡ false
+      → all_until F prefixes c (name ∷ names) ≡ (called_until F prefixes c name >>= λ c'. all_until F prefixes c' names)
+  names_next c name names goes =
+      ap (λ t. if t then Is c else (called_until F prefixes c name >>= λ c'. all_until F prefixes c' names)) goes
+
+  module _ (levels : ℕ) (enters : Enters) (c : Checking) (file : OpenFile) (pieces : List Piece) (n : ℕ) (piece : Piece) where
+    one : n < length pieces → piece ≡ get_or pieces n piece → is_refused c ≡ false
+        → pieces_until F prefixes levels enters c file (drop n pieces)
+        ≡ (step F prefixes levels c file piece >>= λ next. entered enters next.0 next.1
+        >>= λ c'. pieces_until F prefixes levels enters c' file (drop (n + 1) pieces))
+    one below here goes =
+        ap (pieces_until F prefixes levels enters c file) (drop_more pieces n piece below)
+        ∙ ap (λ p. pieces_until F prefixes levels enters c file (p ∷ drop (n + 1) pieces)) (sym here)
+        ∙ pieces_next levels enters c file piece (drop (n + 1) pieces) goes
+
+    done : (new after : Checking) (next : Option OpenFile) (whole : Known Checking) → n < length pieces
+        → piece ≡ get_or pieces n piece → is_refused c ≡ false
+        → step F prefixes levels c file piece ≡ Is (new, next) → entered enters new next ≡ Is after
+        → pieces_until F prefixes levels enters c file (drop n pieces) ≡ whole
+        → pieces_until F prefixes levels enters after file (drop (n + 1) pieces) ≡ whole
+    done new after next whole below here goes steps into before =
+        sym (one below here goes
+        ∙ ap (λ k. k >>= λ t. entered enters t.0 t.1 >>= λ c'. pieces_until F prefixes levels enters c' file (drop (n + 1) pieces)) steps
+        ∙ ap (λ k. k >>= λ c'. pieces_until F prefixes levels enters c' file (drop (n + 1) pieces)) into) ∙ before
+
+  -- a file of the call
+  module _ (c d : Checking) (name : List ℕ) where
+    pub called_in_until : {E X : Type 0} (file : OpenFile) (new : Checking) (result : Result X E)
+        → opened F prefixes most_levels (record c { files = most_files }) None (record { may_miss = false; file = name })
+        ≡ Is (d, Some file)
+        → IfOk result (λ _. file_until F prefixes 15 d file ≡ Is new) → IfOk result (λ _. called_until F prefixes c name ≡ Is new)
+    called_in_until file new (Err e) opens goes = goes
+    called_in_until file new (Ok x) opens goes = ap (λ k. k >>= λ next. entered (file_until F prefixes 15) next.0 next.1) opens ∙ goes
+
+  pub name_gone : (c after : Checking) (names : List (List ℕ)) (n : ℕ) (name : List ℕ) (whole : Known Checking) → n < length names
+      → name ≡ get_or names n name → is_refused c ≡ false → called_until F prefixes c name ≡ Is after
+      → all_until F prefixes c (drop n names) ≡ whole
+      → all_until F prefixes after (drop (n + 1) names) ≡ whole
+  name_gone c after names n name whole below here goes checks before =
+      sym (ap (all_until F prefixes c) (drop_more names n name below)
+      ∙ ap (λ m. all_until F prefixes c (m ∷ drop (n + 1) names)) (sym here)
+      ∙ names_next c name (drop (n + 1) names) goes
+      ∙ ap (λ k. k >>= λ c'. all_until F prefixes c' (drop (n + 1) names)) checks) ∙ before
+
+pub piece_gone_until : (F : Facts) (prefixes : Prefixes) (levels : ℕ) (c : Checking) (file : OpenFile) (items : List Piece) (n : ℕ)
+    (piece : Piece)
+    (new after : Checking) (next : Option OpenFile) (whole : Known Checking) → items ≡ file.pieces → n < length items
+    → piece ≡ get_or items n piece → is_refused c ≡ false
+    → step F prefixes levels c file piece ≡ Is (new, next) → entered (enters_until F prefixes levels) new next ≡ Is after
+    → pieces_until F prefixes levels (enters_until F prefixes levels) c file (drop n file.pieces) ≡ whole
+    → pieces_until F prefixes levels (enters_until F prefixes levels) after file (drop (n + 1) file.pieces) ≡ whole
+piece_gone_until F prefixes levels c file items n piece new after next whole same below here =
+    done F prefixes levels (enters_until F prefixes levels) c file file.pieces n piece new after next whole
+    (subst (λ ps. n < length ps) same below) (here ∙ ap (λ ps. get_or ps n piece) same)
+
+-- a file that a piece opened
+pub enters_in : (F : Facts) (prefixes : Prefixes) (levels : ℕ) (new after : Checking) (next : Option OpenFile) (inner : OpenFile)
+    → next ≡ Some inner → IfSome next (λ _. 0 < levels) → file_until F prefixes (levels - 1) new inner ≡ Is after
+    → entered (enters_until F prefixes levels) new next ≡ Is after
+enters_in F prefixes levels new after next inner is some goes =
+    ap (entered (enters_until F prefixes levels) new) is
+    ∙ ap (λ f. f new inner) (entering_until F prefixes levels (subst (λ n. IfSome n (λ _. 0 < levels)) is some)) ∙ goes

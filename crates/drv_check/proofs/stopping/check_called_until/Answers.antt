@@ -1,0 +1,18 @@
+use Rattle.drv_check.proofs.UntilFault.{called_in_until}
+use Rattle.drv_check.proofs.stopping.check_called_until.Goals as goal
+use Rattle.drv_check.specs.Checks.{opened}
+use Rattle.drv_specs.specs.Loading.{most_files, most_levels}
+use Rattle.drv_system.proofs.AskedCalls.{extends_before}
+use Rattle.drv_system.specs.Known.{Is}
+use Rattle.std.proofs.Common.{◌∙◌, None, ap, false, sym}
+
+pub returns-in-Some-clause-checks : goal.returns-in-Some-clause-checks
+returns-in-Some-clause-checks g c F e =
+    called_in_until F c.args.prefixes.now c.args.checking.now c.open.new.checking c.args.name.now c.in-Some.file
+    c.check_file_until.new.checking c.check_file_until.result
+    (ap (λ n. opened F c.args.prefixes.now most_levels (record c.args.checking.now { files = most_files }) None
+    (record { may_miss = false; file = n }))
+    (sym c.in_ok-clone.ensures.cases)
+    ∙ c.in_ok-file.ensures.opens F (extends_before c.check_file_until.ensures.asks e)
+    ∙ ap (λ f. Is (c.open.new.checking, f)) c.in-Some.is)
+    (c.check_file_until.ensures.checks F e)

@@ -1,0 +1,114 @@
+//! Spec files are checked up to their first fault.
+
+ghost use Rattle.drv_check.specs.UntilFault.{all_until, called_until, file_until, is_refused};
+ghost use Rattle.drv_system.specs.Asking.{Extends};
+ghost use Rattle.drv_system.specs.Code.Asked.{Asked};
+ghost use Rattle.drv_system.specs.Facts.{Facts};
+ghost use Rattle.drv_system.specs.Known.{Is};
+ghost use Rattle.std.specs.Prelude.{◌≡◌, IfOk};
+
+use crate::checking::{MOST_LEVELS, is_fault};
+use crate::findings::{Checking, MOST_FILES};
+use crate::including::Inclusion;
+use crate::opening::{OpenFile, open};
+use crate::stepping::step;
+use drv_search::Prefixes;
+use drv_system::{Outside, System};
+use drv_words::Word;
+use std::alloc::{AllocError, Global};
+
+/// Whether a fault was found.
+fn is_refused(checking: &Checking) -> bool
+    ensures { result ≡ is_refused checking.now }
+{
+    checking
+        .findings
+        .as_slice()
+        .iter()
+        .any(|finding| is_fault(&finding.note))
+}
+
+/// Checks an open file up to its first fault. Within it `levels` more files may be nested.
+fn check_file_until<S: System>(
+    alloc: Global,
+    checking: &mut Checking,
+    levels: usize,
+    file: &OpenFile,
+    prefixes: &Prefixes,
+    outside: &mut Outside<'_, S>,
+) -> Result<(), AllocError>
+    ensures asks { Asked S.events outside.old outside.new }
+    ensures checks { (F : Facts) → Extends outside.new.facts.now F
+        → IfOk result (λ _. file_until F prefixes.now levels checking.old file.now
+        ≡ Is checking.new) }
+{
+    for piece in file.pieces.as_slice() {
+        if is_refused(checking) {
+            return Ok(());
+        }
+        let next = step(alloc, checking, levels, file, piece, prefixes, outside)?;
+        let Some(inner) = next else {
+            continue;
+        };
+        check_file_until(alloc, checking, levels - 1, &inner, prefixes, outside)?;
+    }
+    Ok(())
+}
+
+/// Checks a file of the call up to its first fault.
+#[tactic(auto, using(drv_system::proofs::AskedCalls::asked_further))]
+fn check_called_until<S: System>(
+    alloc: Global,
+    checking: &mut Checking,
+    name: &Word,
+    prefixes: &Prefixes,
+    outside: &mut Outside<'_, S>,
+) -> Result<(), AllocError>
+    ensures asks { Asked S.events outside.old outside.new }
+    ensures checks { (F : Facts) → Extends outside.new.facts.now F
+        → IfOk result (λ _. called_until F prefixes.now checking.old name.now
+        ≡ Is checking.new) }
+{
+    checking.files = MOST_FILES;
+    let inclusion = Inclusion {
+        may_miss: false,
+        file: name.clone()?,
+    };
+    match open(
+        alloc,
+        checking,
+        MOST_LEVELS,
+        None,
+        &inclusion,
+        prefixes,
+        outside,
+    )? {
+        Some(file) => {
+            check_file_until(alloc, checking, MOST_LEVELS - 1, &file, prefixes, outside)
+        }
+        None => Ok(()),
+    }
+}
+
+/// Checks files of the call up to their first fault. It asks what the driver asks when it loads
+/// them, and nothing after that.
+#[tactic(auto, using(drv_system::proofs::AskedCalls::asked_further))]
+pub(crate) fn check_until<S: System>(
+    alloc: Global,
+    checking: &mut Checking,
+    names: &[Word],
+    prefixes: &Prefixes,
+    outside: &mut Outside<'_, S>,
+) -> Result<(), AllocError>
+    ensures asks { Asked S.events outside.old outside.new }
+    ensures checks { (F : Facts) → Extends outside.new.facts.now F
+        → IfOk result (λ _. all_until F prefixes.now checking.old names.now ≡ Is checking.new) }
+{
+    for name in names {
+        if is_refused(checking) {
+            return Ok(());
+        }
+        check_called_until(alloc, checking, name, prefixes, outside)?;
+    }
+    Ok(())
+}
