@@ -5,6 +5,7 @@ use Rattle.drv_cc.specs.declared.answer.Answer.{Answer}
 use Rattle.drv_cc.specs.declared.answer.Call.{Call}
 use Rattle.drv_cc.specs.declared.refusal.Refusal.{Refusal}
 use Rattle.drv_compile.proofs.Worded.{stop_stays, told_as}
+use Rattle.drv_compile.specs.Code.Refusing.{IsEndSaid}
 use Rattle.drv_compile.specs.Compilers.{values}
 use Rattle.drv_compile.specs.Driven.{Drives, IsAnswered, IsCalled, IsDenied, IsMachined, IsUnanswered, IsUnasked, IsUncalled, Undriven}
 use Rattle.drv_compile.specs.Driven.{answer_of}
@@ -14,7 +15,6 @@ use Rattle.drv_compile.specs.Parts.{texts_of}
 use Rattle.drv_compile.specs.SelfSpecs.{answer_given}
 use Rattle.drv_compile.specs.Tasks.{IfTold}
 use Rattle.drv_compile.specs.Texts.{damaged_text}
-use Rattle.drv_compile.specs.Words.{stop_of}
 use Rattle.drv_compile.specs.declared.calling.Calling.{Calling}
 use Rattle.drv_compile.specs.declared.driving.Driven.{Driven}
 use Rattle.drv_compile.specs.declared.parts.Texts.TheVariants.{Damaged, Whole}
@@ -40,21 +40,17 @@ answer_by_slices F chain given first specs known words same_specs same_known sam
     ∙ ap (λ w. answer_given F chain.specs chain.around chain.known w first.line) same_words
 
 pub answer_told : (F : Facts) (name : List ℕ) (chain : Toolchain) (given : Expanded) (first : Driven) (ending : Ending) (stop : Stop)
-    → stop ≡ stop_of name ending
-    → (ending ≡ OutOfMemory) ⊎ (answer_of F chain given first ≡ Is (Err ending)) → IfTold stop (IsUnanswered F name chain given first)
-answer_told F name chain given first ending stop is stops =
-    subst (λ s. IfTold s (IsUnanswered F name chain given first)) (sym is) (by ending stops)
+    → (ending ≡ OutOfMemory) ⊎ (answer_of F chain given first ≡ Is (Err ending)) → IfTold stop (IsEndSaid F name first.line ending)
+    → IfTold stop (IsUnanswered F name chain given first)
+answer_told F name chain given first ending stop stops tells =
+    told_as stop (IsEndSaid F name first.line ending) (IsUnanswered F name chain given first) (by ending stops) tells
   where
-    ended : (ending : Ending) → answer_of F chain given first ≡ Is (Err ending)
-        → IfTold (stop_of name ending) (IsUnanswered F name chain given first)
-    ended (Refused refusal) gives = (refusal, gives, refl)
-    ended (Done status) gives = tt
-    ended OutOfMemory gives = tt
-
-    by : (ending : Ending) → (ending ≡ OutOfMemory) ⊎ (answer_of F chain given first ≡ Is (Err ending))
-        → IfTold (stop_of name ending) (IsUnanswered F name chain given first)
-    by ending (inl memory) = subst (λ e. IfTold (stop_of name e) (IsUnanswered F name chain given first)) (sym memory) tt
-    by ending (inr gives) = ended ending gives
+    by : (ending : Ending) → (ending ≡ OutOfMemory) ⊎ (answer_of F chain given first ≡ Is (Err ending)) → (text : List ℕ)
+        → IsEndSaid F name first.line ending text → IsUnanswered F name chain given first text
+    by ending (inl memory) text said = absurd (subst (λ e. IsEndSaid F name first.line e text) memory said)
+    by (Refused refusal) (inr gives) text said = (refusal, gives, said)
+    by (Done status) (inr gives) text said = absurd said
+    by OutOfMemory (inr gives) text said = absurd said
 
 -- a line by itself
 

@@ -8,6 +8,7 @@ pub mod Given
 pub mod Joined
 pub mod Leading
 pub mod Names
+pub mod PlacesNoted
 pub mod Prepared
 pub mod Ran
 pub mod Settled

@@ -125,8 +125,7 @@ fails_planned F calling chain call given seed events (Err stop) free apart unpla
   where
     by : (text : List ℕ) → IsUnplanned F calling chain call given seed text → Fails F calling chain call given seed events text
     by text (inl un) = undriven free apart un
-    by text (inr (driven, drives, (refusal, stops, is))) =
-        subst (λ t. Fails F calling chain call given seed events t) (sym is) (stopped free apart drives stops)
+    by text (inr (driven, drives, (refusal, stops, said))) = stopped free apart drives stops said
 
 pub objected_as : (F : Facts) (calling : Calling) (chain : Toolchain) (call : Call) (given : Expanded) (seed : ℕ) (name text : List ℕ)
     (inputs : List (List ℕ)) (found : Bool)

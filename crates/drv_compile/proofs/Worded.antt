@@ -5,6 +5,7 @@ use Rattle.drv_args.specs.declared.line.Expanded.{Expanded}
 use Rattle.drv_c99.specs.declared.fault.C99Fault.TheVariants as c99_fault
 use Rattle.drv_c99.specs.declared.fault.C99Fault.{C99Fault}
 use Rattle.drv_compile.specs.Code.Preparing.{IsFailure}
+use Rattle.drv_compile.specs.Code.Refusing.{IsEndSaid}
 use Rattle.drv_compile.specs.Runs.{Stops}
 use Rattle.drv_compile.specs.Tasks.{IfTold}
 use Rattle.drv_compile.specs.Words.{IsUnexpanded, IsUnfronted, IsUnread, RefusesWords, Words, first_unread, fronted, if_unread}
@@ -122,14 +123,15 @@ c99_told calling expanded fault stop is given = subst (λ s. IfTold s (IsUnfront
     by fault (inl memory) = subst (λ f. IfTold (stop_of calling.name (stopped_by_c99 f)) (IsUnfronted calling expanded)) (sym memory) tt
     by fault (inr refuses) = refused fault refuses
 
-pub driver_told : (F : Facts) (name : List ℕ) (own : DriverLine) (seed : ℕ) (ending : Ending) (stop : Stop) → stop ≡ stop_of name ending
-    → Stops F own seed ending → IfTold stop (IsFailure F name own seed)
-driver_told F name own seed ending stop is stops = subst (λ s. IfTold s (IsFailure F name own seed)) (sym is) (by ending stops)
+pub driver_told : (F : Facts) (name : List ℕ) (own : DriverLine) (seed : ℕ) (ending : Ending) (stop : Stop) → Stops F own seed ending
+    → IfTold stop (IsEndSaid F name own ending) → IfTold stop (IsFailure F name own seed)
+driver_told F name own seed ending stop stops tells =
+    told_as stop (IsEndSaid F name own ending) (IsFailure F name own seed) (by ending stops) tells
   where
-    by : (ending : Ending) → Stops F own seed ending → IfTold (stop_of name ending) (IsFailure F name own seed)
-    by (Refused refusal) stops = (refusal, stops, refl)
-    by (Done status) stops = tt
-    by OutOfMemory stops = tt
+    by : (ending : Ending) → Stops F own seed ending → (text : List ℕ) → IsEndSaid F name own ending text → IsFailure F name own seed text
+    by (Refused refusal) stops text said = (refusal, stops, said)
+    by (Done status) stops text said = absurd said
+    by OutOfMemory stops text said = absurd said
 
 -- the words from step to step
 

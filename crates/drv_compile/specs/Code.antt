@@ -3,5 +3,6 @@ pub mod Compiling
 pub mod CutLines
 pub mod Naming
 pub mod Preparing
+pub mod Refusing
 pub mod Settling
 pub mod Working

@@ -4,12 +4,13 @@ use Rattle.drv_cc.specs.declared.answer.Variable.{Variable}
 use Rattle.drv_compile.specs.Decides.{decided}
 use Rattle.drv_compile.specs.Driven.{Drives, Undriven}
 use Rattle.drv_compile.specs.Inputs.{Overwrites, objection}
+use Rattle.drv_compile.specs.Notes.{IsSaid}
 use Rattle.drv_compile.specs.Opening.{opening}
 use Rattle.drv_compile.specs.Runs.{Stops, Works}
 use Rattle.drv_compile.specs.Tasks.{Declines, Leads}
 use Rattle.drv_compile.specs.TempFolder.{Chooses, IsSettled, Tries, folder_names}
 use Rattle.drv_compile.specs.Texts.{gone_text, help_text, overwritten_text, version_text}
-use Rattle.drv_compile.specs.Words.{RefusesWords, Words, told_refusal}
+use Rattle.drv_compile.specs.Words.{RefusesWords, Words}
 use Rattle.drv_compile.specs.Wrapper.{wrapper_of}
 use Rattle.drv_compile.specs.declared.calling.Calling.{Calling}
 use Rattle.drv_compile.specs.declared.compiling.Outcome.TheVariants.{Done, OutOfMemory, Unnoted}
@@ -89,10 +90,10 @@ pub data Fails (F : Facts) (calling : Calling) (chain : Toolchain) (call : Call)
   undriven : {events : List HostEvent} {text : List ℕ} → objection F calling.name call.inputs ≡ Is []
       → Overwrites call.inputs call.output events false
       → Undriven F calling chain call given text → Fails F calling chain call given seed events text
-  stopped : {events : List HostEvent} {driven : Driven} {refusal : Refusal} → objection F calling.name call.inputs ≡ Is []
+  stopped : {events : List HostEvent} {driven : Driven} {refusal : Refusal} {text : List ℕ} → objection F calling.name call.inputs ≡ Is []
       → Overwrites call.inputs call.output events false
-      → Drives F chain call given driven → Stops F driven.line seed (Refused refusal)
-      → Fails F calling chain call given seed events (told_refusal calling.name refusal)
+      → Drives F chain call given driven → Stops F driven.line seed (Refused refusal) → IsSaid F calling.name driven.line refusal text
+      → Fails F calling chain call given seed events text
 
 -- What arguments ask for, with what the host was asked: a question to the compiler, a line that is carried out, or a refusal. `own` is
 -- where the spec file of this program lies, if that is known.

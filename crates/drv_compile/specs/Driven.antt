@@ -10,11 +10,11 @@ use Rattle.drv_compile.specs.Beside.{written_beside}
 use Rattle.drv_compile.specs.Compilers.{values}
 use Rattle.drv_compile.specs.Machines.{key_of, machined_by}
 use Rattle.drv_compile.specs.Near.{AreTold}
+use Rattle.drv_compile.specs.Notes.{IsSaid}
 use Rattle.drv_compile.specs.Parts.{texts_of}
 use Rattle.drv_compile.specs.SelfSpecs.{Ended, answer_given}
 use Rattle.drv_compile.specs.Suffixes.{suffixed_by}
 use Rattle.drv_compile.specs.Texts.{damaged_text, unasked_text}
-use Rattle.drv_compile.specs.Words.{told_refusal}
 use Rattle.drv_compile.specs.declared.calling.Calling.{Calling}
 use Rattle.drv_compile.specs.declared.driving.Driven.{Driven}
 use Rattle.drv_compile.specs.declared.parts.Texts.TheVariants.{Damaged, Whole}
@@ -79,7 +79,7 @@ answer_of F chain given first = answer_given F chain.specs chain.around chain.kn
 
 abbrev pub IsUnanswered : Facts → List ℕ → Toolchain → Expanded → Driven → List ℕ → Type 0
 IsUnanswered F name chain given first text =
-    (refusal : driver.Refusal) × (answer_of F chain given first ≡ Is (Err (Refused refusal))) × (text ≡ told_refusal name refusal)
+    (refusal : driver.Refusal) × (answer_of F chain given first ≡ Is (Err (Refused refusal))) × IsSaid F name first.line refusal text
 
 -- What the driver is called with for a line,
 pub record Drives (F : Facts) (chain : Toolchain) (call : Call) (given : Expanded) (driven : Driven) : Type 0 where

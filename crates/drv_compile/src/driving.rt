@@ -12,10 +12,10 @@ ghost use Rattle.std.specs.Option.{option_copied};
 ghost use Rattle.std.specs.Prelude.{◌≡◌, IfOk, MatchResult, Ok, drop};
 
 use crate::calling::Calling;
-use crate::expanding::stop_of;
 use crate::finding::written_beside;
 use crate::machines::{key_of, machined_by};
 use crate::parts::{Texts, texts_asked};
+use crate::refusing::stop_after;
 use crate::running::DriverLine;
 use crate::self_specs::answer_given;
 use crate::stop::Stop;
@@ -145,7 +145,8 @@ fn called<S: System>(
 /// What the spec files of a line give it.
 ///
 /// # Errors
-/// The text of the refusal of one of them.
+/// The text of the refusal of one of them, with the note about it.
+#[tactic(auto, using(drv_system::proofs::AskedCalls::asked_further))]
 fn answer<S: System>(
     alloc: Global,
     name: &[u8],
@@ -170,10 +171,7 @@ fn answer<S: System>(
         outside,
     ) {
         Ok(answer) => Ok(answer),
-        Err(ending) => {
-            let stop = stop_of(alloc, name, &ending)?;
-            Err(stop)
-        }
+        Err(ending) => Err(stop_after(alloc, name, &first.line, &ending, outside)),
     }
 }
 

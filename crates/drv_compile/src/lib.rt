@@ -18,6 +18,7 @@ mod parts;
 mod places;
 mod preparing;
 mod reading;
+mod refusing;
 mod running;
 mod saying;
 mod self_specs;

@@ -17,9 +17,10 @@ ghost use Rattle.std.specs.Prelude.{◌≡◌, IfOk, MatchResult, false};
 use crate::calling::Calling;
 use crate::deciding::decided;
 use crate::driving::driver_call;
-use crate::expanding::{line_words, stop_of};
+use crate::expanding::line_words;
 use crate::host::Host;
 use crate::inputs::{objection, overwrites};
+use crate::refusing::stop_after;
 use crate::running::{DriverLine, work_of_items};
 use crate::speaking::opening;
 use crate::stop::Stop;
@@ -99,7 +100,8 @@ fn question(alloc: Global, compiler: Word, args: &Listing<Word>) -> Result<Work,
 /// The work of a line of the driver.
 ///
 /// # Errors
-/// The text of their refusal.
+/// The text of its refusal, with the note about a spec file.
+#[tactic(auto, using(drv_system::proofs::AskedCalls::asked_further))]
 fn work_or_stop<S: System>(
     alloc: Global,
     name: &[u8],
@@ -115,10 +117,7 @@ fn work_or_stop<S: System>(
 {
     match work_of_items(alloc, line, seed, outside) {
         Ok(work) => Ok(work),
-        Err(ending) => {
-            let stop = stop_of(alloc, name, &ending)?;
-            Err(stop)
-        }
+        Err(ending) => Err(stop_after(alloc, name, line, &ending, outside)),
     }
 }
 

@@ -3,10 +3,10 @@ use Rattle.drv_cc.specs.declared.answer.Call.{Call}
 use Rattle.drv_compile.specs.Compiles.{Fails, Performs, question}
 use Rattle.drv_compile.specs.Driven.{Drives, Undriven}
 use Rattle.drv_compile.specs.Inputs.{Overwrites}
+use Rattle.drv_compile.specs.Notes.{IsSaid}
 use Rattle.drv_compile.specs.Opening.{opening}
 use Rattle.drv_compile.specs.Runs.{Stops, Works}
 use Rattle.drv_compile.specs.Texts.{gone_text, help_text, overwritten_text, version_text}
-use Rattle.drv_compile.specs.Words.{told_refusal}
 use Rattle.drv_compile.specs.Wrapper.{wrapper_of}
 use Rattle.drv_compile.specs.declared.calling.Calling.{Calling}
 use Rattle.drv_compile.specs.declared.driving.Driven.{Driven}
@@ -26,7 +26,7 @@ use Rattle.std.specs.Prelude.{◌≡◌, ◌⊎◌, List, [], Some, true, ℕ}
 
 -- a line of the driver is refused
 abbrev pub IsFailure : Facts → List ℕ → DriverLine → ℕ → List ℕ → Type 0
-IsFailure F name line seed text = (refusal : Refusal) × Stops F line seed (Refused refusal) × (text ≡ told_refusal name refusal)
+IsFailure F name line seed text = (refusal : Refusal) × Stops F line seed (Refused refusal) × IsSaid F name line refusal text
 
 -- its output is an input
 abbrev pub IsOverwriting : List ℕ → Call → List HostEvent → List ℕ → Type 0

@@ -3,6 +3,8 @@ use Rattle.drv_cc.specs.Code.Groups.{whole_at}
 use Rattle.drv_cc.specs.Table.{sections}
 use Rattle.std.proofs.Common.{◌≡◌, ◌+◌, ap, arith, sym}
 
+-- later_whole_group (src/later_options.rt). The options that a word is, of this key and 32.
+
 pub returns-in-0 : goal.returns-in-0
 unfolding sections
 returns-in-0 c = ap (λ key. whole_at (key + 32)) (sym c.in-0.is)

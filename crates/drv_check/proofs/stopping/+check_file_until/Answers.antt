@@ -5,6 +5,8 @@ use Rattle.drv_check.specs.UntilFault.{enters_until, file_until}
 use Rattle.drv_system.proofs.AskedCalls.{asked_further, asked_none, extends_before}
 use Rattle.std.proofs.Common.{◌∙◌, ap, drop, sym}
 
+-- check_file_until (src/stopping.rt). Checks an open file up to its first fault.
+
 pub loop-piece-init : goal.loop-piece-init
 loop-piece-init g t c = record {
   asks = asked_none c.args.outside.now;

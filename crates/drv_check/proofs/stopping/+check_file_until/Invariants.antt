@@ -5,6 +5,8 @@ use Rattle.drv_system.specs.Code.Asked.{Asked}
 use Rattle.drv_system.specs.Facts.{Facts}
 use Rattle.std.proofs.Common.{◌≡◌, drop}
 
+-- The loops of check_file_until (src/stopping.rt). Checks an open file up to its first fault.
+
 abbrev pub invariant-loop-piece : goal.invariant-loop-piece
 invariant-loop-piece g l = record {
   asks : Asked g.S.System.events l.fn.outside l.outside;

@@ -6,6 +6,8 @@ use Rattle.drv_system.proofs.AskedCalls.{extends_before}
 use Rattle.drv_system.specs.Known.{Is}
 use Rattle.std.proofs.Common.{◌∙◌, None, ap, false, sym}
 
+-- check_called_until (src/stopping.rt). Checks a file of the call up to its first fault.
+
 pub returns-in-Some-clause-checks : goal.returns-in-Some-clause-checks
 returns-in-Some-clause-checks g c F e =
     called_in_until F c.args.prefixes.now c.args.checking.now c.open.new.checking c.args.name.now c.in-Some.file

@@ -4,6 +4,8 @@ use Rattle.drv_check.specs.UntilFault.{all_until}
 use Rattle.drv_system.proofs.AskedCalls.{asked_further, extends_before}
 use Rattle.std.proofs.Common.{◌∙◌, drop, sym}
 
+-- check_until (src/stopping.rt). Checks files of the call up to their first fault.
+
 pub returns-then-is_refused-clause-checks : goal.returns-then-is_refused-clause-checks
 returns-then-is_refused-clause-checks g c F e =
     sym (c.loop-name.invariant.rest F e)

@@ -5,6 +5,8 @@ use Rattle.drv_system.specs.Code.Asked.{Asked}
 use Rattle.drv_system.specs.Facts.{Facts}
 use Rattle.std.proofs.Common.{◌≡◌, drop}
 
+-- The loops of check_until (src/stopping.rt). Checks files of the call up to their first fault.
+
 abbrev pub invariant-loop-name : goal.invariant-loop-name
 invariant-loop-name g l = record {
   asks : Asked g.S.System.events l.fn.outside l.outside;

@@ -1,0 +1,111 @@
+//! What is said of a refused line of the driver.
+
+ghost use Rattle.drv_check.specs.FaultNotes.{fault_note};
+ghost use Rattle.drv_compile.specs.Code.Refusing.{IsEndSaid};
+ghost use Rattle.drv_compile.specs.Notes.{IsNote, IsSaid, NotesPlace};
+ghost use Rattle.drv_compile.specs.Tasks.{IfTold};
+ghost use Rattle.drv_specs.specs.Builtin.{suffixes};
+ghost use Rattle.drv_system.specs.Asking.{Extends};
+ghost use Rattle.drv_system.specs.Code.Asked.{Asked};
+ghost use Rattle.drv_system.specs.Facts.{Facts};
+ghost use Rattle.drv_system.specs.Known.{Is};
+ghost use Rattle.std.specs.Prelude.{◌≡◌, IfOk};
+
+use crate::running::{DriverLine, line_given};
+use crate::stop::Stop;
+use crate::wording::told_refusal;
+use drv_args::{ArgsFault, Settings};
+use drv_check::fault_note;
+use drv_run::{Ending, Refusal};
+use drv_specs::suffixes;
+use drv_system::{Outside, System};
+use drv_words::Word;
+use std::alloc::{AllocError, Global};
+
+/// Where the spec files of a line are refused, as a note.
+fn note_over<S: System>(
+    alloc: Global,
+    settings: &Settings,
+    outside: &mut Outside<'_, S>,
+) -> Result<Word, AllocError>
+    ensures asks { Asked S.events outside.old outside.new }
+    ensures note { (F : Facts) → Extends outside.new.facts.now F → IfOk result (λ note.
+        fault_note F suffixes settings.now.prefixes settings.now.specs ≡ Is note) }
+{
+    let set = suffixes(alloc)?;
+    let folders = settings.prefixes.as_slice();
+    let names = settings.specs.as_slice();
+    fault_note(alloc, set, folders, names, outside.sys, outside.facts)
+}
+
+/// Where the spec files of a line of the driver are refused, as a note.
+fn place_noted<S: System>(
+    alloc: Global,
+    given: &DriverLine,
+    outside: &mut Outside<'_, S>,
+) -> Result<Word, ArgsFault>
+    ensures asks { Asked S.events outside.old outside.new }
+    ensures note { (F : Facts) → Extends outside.new.facts.now F
+        → IfOk result (λ note. NotesPlace F given.now note) }
+{
+    let line = line_given(alloc, given)?;
+    let note = note_over(alloc, &line.settings, outside)?;
+    Ok(note)
+}
+
+/// The note after a refusal of a line of the driver.
+fn note_of<S: System>(
+    alloc: Global,
+    given: &DriverLine,
+    refusal: &Refusal,
+    outside: &mut Outside<'_, S>,
+) -> Result<Word, ArgsFault>
+    ensures asks { Asked S.events outside.old outside.new }
+    ensures note { (F : Facts) → Extends outside.new.facts.now F
+        → IfOk result (λ note. IsNote F given.now refusal.now note) }
+{
+    match refusal {
+        Refusal::Specs(_) => place_noted(alloc, given, outside),
+        Refusal::C99(_) | Refusal::Args(_) | Refusal::Plan(_) => Ok(Word::empty(alloc)),
+    }
+}
+
+/// The text of a refusal of a line of the driver, with its note.
+fn said<S: System>(
+    alloc: Global,
+    name: &[u8],
+    given: &DriverLine,
+    refusal: &Refusal,
+    outside: &mut Outside<'_, S>,
+) -> Result<Word, ArgsFault>
+    ensures asks { Asked S.events outside.old outside.new }
+    ensures text { (F : Facts) → Extends outside.new.facts.now F
+        → IfOk result (λ text. IsSaid F name.now given.now refusal.now text) }
+{
+    let mut text = told_refusal(alloc, name, refusal)?;
+    let note = note_of(alloc, given, refusal, outside)?;
+    text.extend_from_slice(note.as_bytes())?;
+    Ok(text)
+}
+
+/// Why a call ends that the driver would end so for a line. After the refusal of a spec file it asks
+/// for no more than the line itself did.
+pub(crate) fn stop_after<S: System>(
+    alloc: Global,
+    name: &[u8],
+    given: &DriverLine,
+    ending: &Ending,
+    outside: &mut Outside<'_, S>,
+) -> Stop
+    ensures asks { Asked S.events outside.old outside.new }
+    ensures told { (F : Facts) → Extends outside.new.facts.now F
+        → IfTold result (IsEndSaid F name.now given.now ending.now) }
+{
+    match ending {
+        Ending::Refused(refusal) => match said(alloc, name, given, refusal, outside) {
+            Ok(text) => Stop::Told(text),
+            Err(_) => Stop::Memory,
+        },
+        Ending::Done(_) | Ending::OutOfMemory => Stop::Memory,
+    }
+}
