@@ -1,4 +1,5 @@
-//! What the names of side files begin with, and the name of a source's side files.
+//! What the names of side files begin with, and the name of a source's side files. Side files are those
+//! that gcc writes beside its output: for -save-temps, -MD, dumps, -fprofile-arcs.
 
 ghost use Rattle.drv_cc.specs.Code.Leading.{link_leading_in, link_program_in};
 ghost use Rattle.drv_cc.specs.Kept.{last_argument};

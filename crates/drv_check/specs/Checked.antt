@@ -10,8 +10,8 @@ use Rattle.drv_system.specs.Facts.{Facts}
 use Rattle.drv_system.specs.Known.{◌>>=◌, Is, Known}
 use Rattle.std.specs.Prelude.{Bool, List, [], false, filter, length, true, ℕ}
 
--- Spec files checked (GCC manual, "Spec Files"): over the built-in set and what other files make of it, each over what the earlier ones
--- made. Of the other files only the faults are given, and no warnings.
+-- Spec files checked (GCC manual, "Spec Files"): the files `names` over the built-in set as the files `over` change it, each over what the
+-- earlier ones made. Of the files `over` only the faults are given, and no warnings.
 
 abbrev pub is_fault : Note → Bool
 is_fault (Fault fault) = true

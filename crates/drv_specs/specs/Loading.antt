@@ -39,7 +39,7 @@ change set (Rename old new) = with_name set old new
 change set (Include missing name) = Ok set
 change set (Bad n) = Err (BadLine n)
 
--- how a file is included
+-- how a file is included: a parameter, since `including` hands itself on with one level of inclusion less
 abbrev pub Including : Type 0
 Including = Carried → IfMissing → List ℕ → Known (Result Carried SpecsFault)
 

@@ -50,7 +50,7 @@ const LONG_OPTIONS: [&[u8]; 23] = [
     b"--jobs",
 ];
 
-/// Those options.
+/// The options of the list above, which are those of the option table with five bytes or more.
 fn long_options() -> &'static [&'static [u8]]
     ensures { map (λ option. option.now) result.now ≡ long_options }
 {

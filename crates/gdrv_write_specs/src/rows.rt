@@ -226,7 +226,7 @@ fn keys_of(asked: Asked<'_>) -> Result<Listing<Word>, Fault> {
     Ok(keys)
 }
 
-/// The same gcc, asked with other options.
+/// The same gcc, asked with other options. `room` is the folder in which the spec file is tried.
 fn asked_with<'a>(
     rt: &'a HostRuntime,
     room: &'a Room,

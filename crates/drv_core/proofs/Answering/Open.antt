@@ -33,7 +33,7 @@ use Rattle.std.specs.Prelude.{⊤}
 
 -- For `Run::next`: the child of a wait is open: it was started at its place, and there was no wait there yet. `Opens` keeps that of each
 -- stage with its events; the lemmas opens_NAME say that each answer keeps it. `Later` says that there was no wait yet from a place on,
--- `Begun` that these children were started.
+-- `Begun` that these children were started. `Sized` is the bound of a stage: while it waits, its group has no more children than commands.
 
 -- whether a step is a wait at this place
 abbrev pub is_wait_at : Place → Step → Bool

@@ -205,7 +205,8 @@ quiet_remove E p x e = pending_append false E (event (step.Remove p) (answer.Rem
 quiet_report : (E : List RunEvent) (n : Note) (t : Bool) → pipe_pending E ≡ false → pipe_pending (E ++ report n t ∷ []) ≡ false
 quiet_report E n t e = pending_append false E (report n t) ∙ e
 
--- after a removal that did not fail, what is known holds: the next file is removed, if there is one
+-- after a removal that did not fail, what is known holds: the next file is removed, if there is one (`with_last`: the event of a removal
+-- follows those of the removals before it)
 pub removal_passes : (plan : Plan) (N : ℕ) (c : Course) (h : AtEnd plan N false c) (x : RemoveAnswer) → removal_failed x ≡ false
     → Holds plan N (removing (record c {
       events = c.events
