@@ -88,8 +88,8 @@ fn said<S: System>(
     Ok(text)
 }
 
-/// Why a call ends that the driver would end so for a line. After the refusal of a spec file it asks
-/// for no more than the line itself did.
+/// Why a call ends that the driver would end so for a line. No clause says that the note asks nothing
+/// new; the case `nothing_read_after_a_fault` of tests/cases tries it.
 pub(crate) fn stop_after<S: System>(
     alloc: Global,
     name: &[u8],
