@@ -11,6 +11,9 @@ use drv_words::order;
 /// The most bytes of a text whose lines are gone over one by one.
 const NEAR: usize = 64;
 
+/// The lowest bit of each of eight bytes.
+const LOWEST: u64 = 0x0101_0101_0101_0101;
+
 /// Whether a line ends at a place of a text.
 fn is_end(text: &[u8], at: usize) -> bool
     ensures { IsFalse result → at < length text.now }
@@ -21,16 +24,42 @@ fn is_end(text: &[u8], at: usize) -> bool
     }
 }
 
-/// Where the line ends in which a place is.
-fn line_end(text: &[u8], at: usize) -> usize
+/// Where the line ends in which a place is, byte by byte.
+fn near_end(text: &[u8], at: usize) -> usize
     ensures from { at ≤ result }
-    ensures to { at < length text.now → result ≤ length text.now }
+    ensures to { at ≤ length text.now → result ≤ length text.now }
 {
     let mut end = at;
     while !is_end(text, end) {
         end += 1;
     }
     end
+}
+
+/// Where the first end of a line is among eight bytes, of which the first is the lowest; 8 if there
+/// is none.
+fn end_among_eight(bytes: u64) -> usize
+    ensures { result ≤ 8 }
+{
+    let others = bytes ^ u64::from_le_bytes([b'\n'; 8]);
+    let ends = others.wrapping_sub(LOWEST) & !others & (LOWEST << 7);
+    (ends.trailing_zeros() as usize / 8).min(8)
+}
+
+/// Where the line ends in which a place is.
+fn line_end(text: &[u8], at: usize) -> usize
+    ensures from { at ≤ result }
+    ensures to { at < length text.now → result ≤ length text.now }
+{
+    let mut end = at;
+    while let Some((eight, _)) = rest_from(text, end).split_first_chunk::<8>() {
+        let ahead = end_among_eight(u64::from_le_bytes(*eight));
+        end += ahead;
+        if ahead < 8 {
+            return end;
+        }
+    }
+    near_end(text, end)
 }
 
 /// Whether a text comes before another one, where their first eight bytes tell that.

@@ -3,8 +3,8 @@ use Rattle.drv_cc.proofs.known.line_end.Given as goal
 
 -- The loops of line_end (src/known.rt). Where the line ends in which a place is.
 
-abbrev pub invariant-loop-end : goal.invariant-loop-end
-invariant-loop-end l = (l.at ≤ l.end) × (l.at < length l.text → l.end ≤ length l.text)
+abbrev pub invariant-loop-eight : goal.invariant-loop-eight
+invariant-loop-eight l = (l.at ≤ l.end) × (l.at < length l.text → l.end ≤ length l.text)
 
-abbrev pub decreases-loop-end : goal.decreases-loop-end
-decreases-loop-end l = length l.text - l.end
+abbrev pub decreases-loop-eight : goal.decreases-loop-eight
+decreases-loop-eight l = length l.text - l.end
