@@ -1,4 +1,5 @@
 pub mod AskedResults
+pub mod ByteRuns
 pub mod CallsRead
 pub mod ChoicesGiven
 pub mod ChoicesRead

@@ -9,6 +9,7 @@ pub mod Labels
 pub mod Marks
 pub mod Outcome
 pub mod Parsed
+pub mod PlainRuns
 pub mod Refusals
 pub mod Spelling
 pub mod Stars

@@ -4,11 +4,12 @@ ghost use Rattle.drv_syntax.specs.Faults.{MemoryOrRefused};
 ghost use Rattle.drv_syntax.specs.Labels.{label_at, labels_of};
 ghost use Rattle.drv_syntax.specs.Outcome.{parsed};
 ghost use Rattle.drv_syntax.specs.Parsed.{tree_of};
+ghost use Rattle.drv_syntax.specs.PlainRuns.{AreBytes, IsByte};
 ghost use Rattle.drv_syntax.specs.Spelling.{Spells};
 ghost use Rattle.drv_syntax.specs.Tokens.{tokens_of};
 ghost use Rattle.drv_syntax.specs.Written.{IsTree};
 ghost use Rattle.drv_words.specs.Gives.{Gives};
-ghost use Rattle.std.specs.Prelude.{◌≡◌, ◌<◌, ◌++◌, [], IfErr, IfOk, length};
+ghost use Rattle.std.specs.Prelude.{◌≡◌, ◌<◌, ◌≤◌, ◌-◌, ◌++◌, [], IfErr, IfOk, length, ℕ};
 
 use crate::descent::{TextParts, ending_in, read_more, read_nothing, read_text};
 use crate::fault::SyntaxFault;
@@ -108,6 +109,19 @@ impl SpecTree {
         ensures { result.now ≡ (label_at (tree_of self.now) place).word }
     {
         self.labels().word(place)
+    }
+
+    /// The plain bytes that follow one another from this place on, up to another part or to this end,
+    /// in one slice. It may end sooner; a plain byte that is first is in it.
+    pub fn plain_bytes(&self, place: usize, end: usize) -> &[u8]
+        ensures bytes { AreBytes (tokens_of (tree_of self.now)) (labels_of (tree_of self.now)) place
+            result.now }
+        ensures within { length result.now ≤ end - place }
+        ensures begins { (b : ℕ) → place < end
+            → IsByte (tokens_of (tree_of self.now)) (labels_of (tree_of self.now)) place b
+            → 0 < length result.now }
+    {
+        self.labels().plain_bytes(self.tokens(), place, end)
     }
 
     /// Whether a star follows the word of the part at this place.

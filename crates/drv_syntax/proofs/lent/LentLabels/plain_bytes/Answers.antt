@@ -1,0 +1,69 @@
+use Rattle.drv_syntax.proofs.ByteRuns.{byte_in, byte_there, later_part, run_begun, run_done, run_step, some_bytes, start_in, stop_in}
+use Rattle.drv_syntax.proofs.lent.LentLabels.plain_bytes.Goals as goal
+use Rattle.drv_syntax.proofs.lent.LentLabels.plain_bytes.Goals.{else-loop-at-test, then-loop-at-test+else-is_byte_at}
+use Rattle.drv_syntax.specs.PlainRuns.{IsByte}
+use Rattle.std.proofs.Common.{◌<◌, arith, length, refl, subst, sym}
+
+-- plain_bytes (src/lent.rt). The bytes of plain parts that follow one another from this place on, up to another part or to this end.
+
+pub returns-then-place-last-clause-begins : goal.returns-then-place-last-clause-begins
+returns-then-place-last-clause-begins c b below byte =
+    let within = byte_in c.args.tokens.now c.self.inside.words.now c.self.inside.marks.now c.args.place b
+    (subst (λ labels. IsByte c.args.tokens.now labels c.args.place b) (sym c.self.view_is) byte) in
+    omega (arith, below, within.0, within.1, c.if-place-last.true, c.min.ensures, c.min-last.ensures)
+
+pub loop-at-init : goal.loop-at-init
+loop-at-init c =
+    record {
+      later = omega arith;
+      within = omega (arith, c.if-place-last.false);
+      stop = refl;
+      words = start_in c.args.tokens.now c.self.inside.words.now c.self.inside.marks.now c.args.place _ c.self.invariant
+          (omega (arith, c.if-place-last.false, c.min.ensures, c.min-last.ensures));
+      rest = λ n bytes. run_begun c.args.tokens.now c.self.inside.words.now c.self.inside.marks.now c.args.place _ n bytes;
+    }
+
+pub loop-at-preserved : goal.loop-at-preserved
+loop-at-preserved c =
+    let kind = c.if-is_byte_at.ensures.kind refl in
+    let start = c.if-is_byte_at.ensures.start refl in
+    let end = c.if-is_byte_at.ensures.end refl in
+    let in_tokens : c.loop-at.at < length c.args.tokens.now =
+    omega (arith, c.loop-at-test.true, c.min.ensures, c.min-last.ensures) in
+    let in_marks : c.loop-at.at < length c.self.inside.marks.now =
+    omega (arith, c.loop-at-test.true, c.min.ensures, c.min-last.ensures) in
+    let inside = stop_in c.args.tokens.now c.self.inside.words.now c.self.inside.marks.now c.loop-at.at c.loop-at.stop _ end
+    c.self.invariant in_marks in
+    record {
+      later = omega (arith, c.loop-at.invariant.later);
+      within = omega (arith, c.loop-at-test.true);
+      stop = omega (arith, c.loop-at.invariant.stop);
+      words = omega (arith, inside);
+      rest = run_step c.args.tokens.now c.self.inside.words.now c.self.inside.marks.now c.loop-at.at c.args.place _ c.loop-at.stop
+          (omega (arith, c.loop-at.invariant.stop, c.loop-at.invariant.later)) c.loop-at.invariant.rest
+          (byte_there c.args.tokens.now c.self.inside.words.now c.self.inside.marks.now c.loop-at.at c.loop-at.stop _ _ in_tokens in_marks
+          kind start end inside) inside;
+    }
+
+pub returns-clause-bytes : goal.returns-clause-bytes
+returns-clause-bytes c =
+    rw (← c.self.view_is)
+    (run_done c.args.tokens.now c.self.inside.words.now c.self.inside.marks.now c.loop-at.at c.args.place _ c.loop-at.stop
+    c.loop-at.invariant.rest)
+
+pub returns-clause-begins : goal.returns-clause-begins
+returns-clause-begins c b below byte =
+    some_bytes c.self.inside.words.now _ c.loop-at.stop (omega (arith, c.loop-at.invariant.stop, later)) c.loop-at.invariant.words
+  where
+    within : (c.args.place < length c.args.tokens.now) × (c.args.place < length c.self.inside.marks.now)
+    within = byte_in c.args.tokens.now c.self.inside.words.now c.self.inside.marks.now c.args.place b
+        (subst (λ labels. IsByte c.args.tokens.now labels c.args.place b) (sym c.self.view_is) byte)
+
+    later : c.args.place < c.loop-at.at
+    later = elim c.loop-at-test.branch [
+      | then-loop-at-test+else-is_byte_at w ↦ later_part c.args.tokens.now c.self.inside.words.now c.self.inside.marks.now c.args.place c.loop-at.at _
+          c.loop-at.stop b _ _ c.loop-at.invariant.later c.loop-at.invariant.stop within.0 within.1 refl c.self.invariant
+          (w.if-is_byte_at.ensures.other refl)
+          (subst (λ labels. IsByte c.args.tokens.now labels c.args.place b) (sym c.self.view_is) byte)
+      | else-loop-at-test w ↦ omega (arith, w.loop-at-test.false, c.if-place-last.false)
+    ]
