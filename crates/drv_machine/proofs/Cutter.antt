@@ -10,10 +10,10 @@ use Rattle.drv_machine.specs.declared.fault.MachineFault.TheVariants.{Memory}
 use Rattle.drv_system.specs.Facts.{Facts}
 use Rattle.drv_system.specs.Gives.{GivesKnown}
 use Rattle.drv_system.specs.Known.{Is, Unasked}
-use Rattle.std.proofs.Common.{◌≡◌, ◌∙◌, ◌⊎◌, ◌++◌, ◌||◌, List, [], ◌∷◌, Bool, Option, Result, Ok, Err, ap, arith, append_assoc, append-nil}
+use Rattle.std.proofs.Common.{◌≡◌, ◌∙◌, ◌⊎◌, ◌+◌, ◌-◌, ◌++◌, ◌||◌, List, [], ◌∷◌, Bool, Option, Result, Ok, Err, ap, append_assoc, append-nil}
 use Rattle.std.proofs.Common.{false, inl, inr, length, map, refl, subst, sym, true, ℕ}
 use Rattle.std.specs.Option.{unwrap_or}
-use Rattle.std.specs.Prelude.{◌==◌, None, Some, get_or, replicate}
+use Rattle.std.specs.Prelude.{◌==◌, None, Some, replicate}
 
 -- For `Machine` (machine.rt), whose calls put atoms one list after another: its cut is that of all atoms so far. `run F C s (puts xs)` is
 -- the state after atoms xs are cut in state s, or the refusal that stops it. The lemmas put lists together: what two calls put is what one
@@ -25,17 +25,18 @@ or_again true b = refl
 or_again false true = refl
 or_again false false = refl
 
--- a list of bytes of length 1 is its first byte alone
-pub one_byte : (bs : List ℕ) → length bs ≡ 1 → bs ≡ get_or bs 0 0 ∷ []
-one_byte [] long = absurd (omega (arith, long))
-one_byte (x ∷ []) long = refl
-one_byte (x ∷ y ∷ bs) long = absurd (omega (arith, long))
-
 -- bytes put into a word in two parts are in it as if put at once
-in_word_twice : (c : Cut) (xs ys : List ℕ) → in_word (in_word c xs) ys ≡ in_word c (xs ++ ys)
+pub in_word_twice : (c : Cut) (xs ys : List ℕ) → in_word (in_word c xs) ys ≡ in_word c (xs ++ ys)
 in_word_twice c xs ys =
     ap (λ word. record (in_word (in_word c xs) ys) { word = Some word }) (append_assoc (unwrap_or c.word []) xs ys)
     ∙ ap (λ stray. record (in_word c (xs ++ ys)) { stray = stray }) (or_again c.stray c.line.piped)
+
+-- a word that has grown by a run of plain bytes, as `put_run` grows it, is the cut with these bytes in its word
+pub run_put : (s : Machine) (bs word : List ℕ) (items : ℕ) → word ≡ unwrap_or s.cut.word [] ++ bs
+    → items ≡ s.world.items + (length bs - 1)
+    → record s { cut = record (touched s.cut) { word = Some word }; world = record s.world { items = items } }
+    ≡ record s { cut = in_word s.cut bs; world = record s.world { items = s.world.items + (length bs - 1) } }
+run_put s bs word items is count = rw (is, count) refl
 
 module _ (F : Facts) (C : Context) where
   -- some bytes, atom by atom, go into the open word, or open one

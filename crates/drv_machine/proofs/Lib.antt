@@ -31,6 +31,7 @@ pub mod Onward
 pub mod Opened
 pub mod Outputs
 pub mod Rows
+pub mod RunTurns
 pub mod Runs
 pub mod Settling
 pub mod Standing

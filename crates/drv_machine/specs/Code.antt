@@ -3,6 +3,7 @@ pub mod ByKind
 pub mod Grouping
 pub mod Held
 pub mod Opening
+pub mod PlainRuns
 pub mod Running
 pub mod Standing
 pub mod Walking

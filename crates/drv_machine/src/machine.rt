@@ -4,7 +4,7 @@ ghost use Rattle.drv_system.specs.Code.Asked.{Asked};
 ghost use Rattle.drv_machine.specs.Atoms.{switch_atoms};
 ghost use Rattle.drv_machine.specs.Context as specs;
 ghost use Rattle.drv_machine.specs.Context.{argument, names};
-ghost use Rattle.drv_machine.specs.Cutting.{named_line, pipe_ended};
+ghost use Rattle.drv_machine.specs.Cutting.{in_word, named_line, pipe_ended};
 ghost use Rattle.drv_machine.specs.Code.Running.{begun, run};
 ghost use Rattle.drv_machine.specs.Working as step;
 ghost use Rattle.drv_machine.specs.Working.{Break, End, Open, Piped, Put, counted, puts, word_of};
@@ -13,7 +13,8 @@ ghost use Rattle.drv_system.specs.Asking.{Extends};
 ghost use Rattle.drv_system.specs.Facts.{Facts};
 ghost use Rattle.drv_system.specs.Gives.{GivesKnown};
 ghost use Rattle.drv_system.specs.Known.{Is};
-ghost use Rattle.std.specs.Prelude.{◌≡◌, ◌∷◌, ◌++◌, ◌+◌, ◌<◌, [], IfOk, Ok, OnOk, length, map};
+ghost use Rattle.std.specs.Prelude.{◌≡◌, ◌∷◌, ◌++◌, ◌+◌, ◌-◌, ◌<◌, ◌≤◌, [], IfOk, Ok, OnOk};
+ghost use Rattle.std.specs.Prelude.{length, map};
 
 mod cutter;
 mod drawn_names;
@@ -232,31 +233,23 @@ impl Machine {
         Ok(())
     }
 
-    /// A byte goes into the open word, or opens one. Lack of memory is the only error.
-    fn put_byte(&mut self, byte: u8) -> Result<(), AllocError>
-        ensures does { (F : Facts) (C : specs.Context) → OnOk result
-            (run F C self.old (step.bytes (byte ∷ [])) ≡ Is (Ok (tt, self.new))) }
+    /// The bytes of plain items go into the open word, or open one. Each counts, but for the first,
+    /// which was counted. Lack of memory is the only error.
+    pub(crate) fn put_run(&mut self, run: &[u8]) -> Result<(), AllocError>
+        requires some { 0 < length run.now }
+        requires room { self.old.world.items + length run.now ≤ step.most_items + 1 }
+        ensures does { OnOk result (self.new ≡ record {
+          cut = in_word self.old.cut run.now;
+          world = record self.old.world
+              { items = self.old.world.items + (length run.now - 1) };
+        }) }
         ensures sized { length self.new.world.hidden ≡ length self.old.world.hidden }
-        ensures uncounted { OnOk result (self.new.world.items ≡ self.old.world.items) }
     {
-        self.word.push(byte)?;
+        self.word.extend_from_slice(run)?;
         self.is_open = true;
         self.is_stray |= self.is_piped;
+        self.items += run.len() - 1;
         Ok(())
-    }
-
-    /// The bytes of an item go into the open word, or open one: mostly one byte, which has a
-    /// shorter path. Lack of memory is the only error.
-    pub(crate) fn put_item(&mut self, bytes: &[u8]) -> Result<(), AllocError>
-        ensures does { (F : Facts) (C : specs.Context) → OnOk result
-            (run F C self.old (step.bytes bytes.now) ≡ Is (Ok (tt, self.new))) }
-        ensures sized { length self.new.world.hidden ≡ length self.old.world.hidden }
-        ensures uncounted { OnOk result (self.new.world.items ≡ self.old.world.items) }
-    {
-        if bytes.len() == 1 {
-            return self.put_byte(bytes[0]);
-        }
-        self.put_bytes(bytes)
     }
 
     /// A word is open, which may stay empty.
@@ -405,6 +398,13 @@ impl Machine {
         }
         self.items += 1;
         Ok(())
+    }
+
+    /// How many items more may be reached.
+    pub(crate) fn left(&self) -> usize
+        ensures { result ≡ step.most_items - self.now.world.items }
+    {
+        MOST_ITEMS.saturating_sub(self.items)
     }
 
     /// Hides every switch that a pattern names. The call allocates nothing.

@@ -9,13 +9,15 @@ ghost use Rattle.drv_machine.specs.Code.Walking.{After, AskFits, AtItem, HasFram
 ghost use Rattle.drv_machine.specs.Code.Walking.{Left, after_arguments, asked_on};
 ghost use Rattle.drv_machine.specs.Code.Walking.{OpenedFits, Settled, Went, back_of, closing};
 ghost use Rattle.drv_machine.specs.Code.Walking.{hits_left, text_around, weight};
-ghost use Rattle.drv_machine.specs.Working.{Answer, most_open};
+ghost use Rattle.drv_machine.specs.Code.PlainRuns.{AtByte};
+ghost use Rattle.drv_machine.specs.Working.{Answer, counted, most_items, most_open};
 ghost use Rattle.drv_syntax.specs.Parsed.{tree_of};
 ghost use Rattle.drv_syntax.specs.Tree as tree;
 ghost use Rattle.drv_system.specs.Asking.{Extends};
 ghost use Rattle.drv_system.specs.Facts.{Facts};
 ghost use Rattle.drv_system.specs.Gives.{GivesKnown};
-ghost use Rattle.std.specs.Prelude.{◌≡◌, ◌+◌, ◌-◌, ◌<◌, ◌≤◌, [], IfOk, IsTrue, OnOk, length};
+ghost use Rattle.drv_system.specs.Known.{Is};
+ghost use Rattle.std.specs.Prelude.{◌≡◌, ◌+◌, ◌-◌, ◌<◌, ◌≤◌, [], IfOk, IsTrue, Ok, OnOk, length};
 
 use crate::braces::{answer, choose};
 use crate::calling::open_call;
@@ -169,7 +171,30 @@ fn settle<S: System>(
     Ok(true)
 }
 
-/// Works the item that is reached.
+/// Works the plain bytes from the place that is reached, up to another item or the end of the
+/// innermost part, as many as may be reached. The first was counted.
+#[inline(never)]
+fn work_run(text: &SpecTree, walk: &mut Walk<'_>, machine: &mut Machine) -> Result<(), MachineFault>
+    requires lain { Lain text.now walk.old }
+    requires at_byte { AtByte text.now walk.old }
+    requires few { machine.old.world.items ≤ most_items }
+    ensures does { (F : Facts) (C : specs.Context) (s : running.Machine)
+        (given : Answer (Unit {0} × running.Machine))
+        → run F C s counted ≡ Is (Ok (tt, machine.old)) → Left F C text.now walk.old s given
+        → Went F C text.now walk.new machine.new given result }
+    ensures same { walk.new ≡ record walk.old { at = walk.new.at } }
+    ensures sized { length machine.new.world.hidden ≡ length machine.old.world.hidden }
+    ensures counts { OnOk result (machine.old.world.items ≤ machine.new.world.items) }
+{
+    let at = walk.at;
+    let end = walk.end.min(at.saturating_add(machine.left() + 1));
+    let run = text.plain_bytes(at, end);
+    walk.at = at + run.len();
+    machine.put_run(run)?;
+    Ok(())
+}
+
+/// Works the item that is reached, and where that is a plain byte, those after it.
 #[tactic(auto, using(drv_system::proofs::AskedCalls::asked_none))]
 fn turn<'w, S: System>(
     context: &'w Context<'_>,
@@ -186,7 +211,7 @@ fn turn<'w, S: System>(
         → Left F context.now walk.old.text.now walk.old machine.old given
         → Went F context.now walk.new.text.now walk.new machine.new given result }
     ensures sized { length machine.new.world.hidden ≡ length machine.old.world.hidden }
-    ensures counts { OnOk result (machine.new.world.items ≡ machine.old.world.items + 1) }
+    ensures counts { OnOk result (machine.old.world.items < machine.new.world.items) }
     ensures below { OnOk result (machine.old.world.items < 1000000) }
 {
     let text = walk.text;
@@ -211,41 +236,12 @@ fn turn<'w, S: System>(
         TokenKind::ArgumentsFile => {
             work_filed(text, context, at + 1, next, walk, machine, outside)
         }
-        TokenKind::Plain => {
-            walk.at = next;
-            machine.put_item(text.word(at))?;
-            Ok(())
-        }
+        TokenKind::Plain => work_run(text, walk, machine),
         _ => {
             walk.at = next;
             work_item(text, context, at, token, walk.star, machine, outside)
         }
     }
-}
-
-/// Works the plain bytes from the place that is reached, up to another item or the end of the
-/// innermost part. Most items are such bytes, which take a shorter path here than a turn.
-fn work_plain(walk: &mut Walk<'_>, machine: &mut Machine) -> Result<(), MachineFault>
-    requires lain { Lain walk.old.text.now walk.old }
-    ensures does { (F : Facts) (C : specs.Context) (given : Answer (Unit {0} × running.Machine))
-        → Left F C walk.old.text.now walk.old machine.old given
-        → Went F C walk.new.text.now walk.new machine.new given result }
-    ensures sized { length machine.new.world.hidden ≡ length machine.old.world.hidden }
-    ensures counts { OnOk result (machine.old.world.items ≤ machine.new.world.items) }
-{
-    while walk.at < walk.end {
-        let text = walk.text;
-        let token = token_at(text, walk.at);
-        match token.kind {
-            TokenKind::Plain => {
-                machine.count()?;
-                machine.put_item(text.word(walk.at))?;
-                walk.at = token.next;
-            }
-            _ => return Ok(()),
-        }
-    }
-    Ok(())
 }
 
 /// Works the items of a walk that are left, up to its end.
@@ -266,7 +262,6 @@ fn work_items<'w, S: System>(
 {
     while settle(context, walk, machine, outside)? {
         turn(context, walk, machine, outside)?;
-        work_plain(walk, machine)?;
     }
     Ok(())
 }

@@ -53,35 +53,6 @@ returns-in_err-turn-clause-does g c F e given left =
 pub returns-in_err-turn-clause-asks : goal.returns-in_err-turn-clause-asks
 returns-in_err-turn-clause-asks g c = asked_further c.loop-walk.invariant.asks (asked_further c.settle.ensures.asks c.turn.ensures.asks)
 
-pub work_plain-requires : goal.work_plain-requires
-work_plain-requires g c =
-    let F = c.turn.new.outside.facts.now in
-    let given = given_of F c.args.context.now c.loop-walk.walk.text.now c.loop-walk.walk c.loop-walk.machine c.loop-walk.invariant.lain
-    c.loop-walk.invariant.framed in
-    record {
-      lain = lain_of F c.args.context.now c.turn.new.walk.text.now c.turn.new.walk c.turn.new.machine given
-          (c.in_ok-turn.ensures.does F (extends_refl F) given
-          (settled_more F c.args.context.now c.settle.new.walk.text.now c.settle.new.walk c.settle.new.machine given _ c.if-branch.true
-          (c.in_ok-settle.ensures.does F (extends_before c.turn.ensures.asks (extends_refl F)) given
-          (as_left F c.args.context.now c.loop-walk.walk.text.now c.loop-walk.walk c.loop-walk.machine c.loop-walk.invariant.lain
-          c.loop-walk.invariant.framed))));
-    }
-
-pub returns-in_err-work_plain-clause-does : goal.returns-in_err-work_plain-clause-does
-returns-in_err-work_plain-clause-does g c F e given left =
-    let failed =
-    c.in_err-work_plain.ensures.does F c.args.context.now given
-    (c.in_ok-turn.ensures.does F e given
-    (settled_more F c.args.context.now c.settle.new.walk.text.now c.settle.new.walk c.settle.new.machine given _ c.if-branch.true
-    (c.in_ok-settle.ensures.does F (extends_before c.turn.ensures.asks e) given
-    (c.loop-walk.invariant.left F (extends_before c.settle.ensures.asks (extends_before c.turn.ensures.asks e)) given left)))) in
-    let f = c.from_residual-in_err-work_plain.ensures in
-    search rules
-
-pub returns-in_err-work_plain-clause-asks : goal.returns-in_err-work_plain-clause-asks
-returns-in_err-work_plain-clause-asks g c = asked_further c.loop-walk.invariant.asks
-    (asked_further c.settle.ensures.asks c.turn.ensures.asks)
-
 pub loop-walk-smaller : goal.loop-walk-smaller
 loop-walk-smaller g c =
     omega (
@@ -89,7 +60,6 @@ loop-walk-smaller g c =
       c.in_ok-settle.ensures.uncounted,
       c.in_ok-turn.ensures.counts,
       c.in_ok-turn.ensures.below,
-      c.in_ok-work_plain.ensures.counts,
     )
 
 pub loop-walk-preserved : goal.loop-walk-preserved
@@ -98,22 +68,20 @@ loop-walk-preserved g c =
     let given = given_of F c.args.context.now c.loop-walk.walk.text.now c.loop-walk.walk c.loop-walk.machine c.loop-walk.invariant.lain
     c.loop-walk.invariant.framed in
     let after =
-    c.in_ok-work_plain.ensures.does F c.args.context.now given
-    (c.in_ok-turn.ensures.does F (extends_refl F) given
+    c.in_ok-turn.ensures.does F (extends_refl F) given
     (settled_more F c.args.context.now c.settle.new.walk.text.now c.settle.new.walk c.settle.new.machine given _ c.if-branch.true
     (c.in_ok-settle.ensures.does F (extends_before c.turn.ensures.asks (extends_refl F)) given
     (as_left F c.args.context.now c.loop-walk.walk.text.now c.loop-walk.walk c.loop-walk.machine c.loop-walk.invariant.lain
-    c.loop-walk.invariant.framed)))) in record {
+    c.loop-walk.invariant.framed))) in record {
       asks = asked_further c.loop-walk.invariant.asks (asked_further c.settle.ensures.asks c.turn.ensures.asks);
-      lain = lain_of F c.args.context.now c.work_plain.new.walk.text.now c.work_plain.new.walk c.work_plain.new.machine given after;
-      framed = framed_of F c.args.context.now c.work_plain.new.walk.text.now c.work_plain.new.walk c.work_plain.new.machine given after;
-      sized = c.work_plain.ensures.sized ∙ c.turn.ensures.sized ∙ c.settle.ensures.sized ∙ c.loop-walk.invariant.sized;
+      lain = lain_of F c.args.context.now c.turn.new.walk.text.now c.turn.new.walk c.turn.new.machine given after;
+      framed = framed_of F c.args.context.now c.turn.new.walk.text.now c.turn.new.walk c.turn.new.machine given after;
+      sized = c.turn.ensures.sized ∙ c.settle.ensures.sized ∙ c.loop-walk.invariant.sized;
       left = λ F e given left.
-          c.in_ok-work_plain.ensures.does F c.args.context.now given
-          (c.in_ok-turn.ensures.does F e given
+          c.in_ok-turn.ensures.does F e given
           (settled_more F c.args.context.now c.settle.new.walk.text.now c.settle.new.walk c.settle.new.machine given _ c.if-branch.true
           (c.in_ok-settle.ensures.does F (extends_before c.turn.ensures.asks e) given
-          (c.loop-walk.invariant.left F (extends_before c.settle.ensures.asks (extends_before c.turn.ensures.asks e)) given left))));
+          (c.loop-walk.invariant.left F (extends_before c.settle.ensures.asks (extends_before c.turn.ensures.asks e)) given left)));
     }
 
 pub returns-clause-does : goal.returns-clause-does
