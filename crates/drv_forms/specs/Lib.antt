@@ -1,3 +1,4 @@
+pub mod ChangesJson
 pub mod CompileCommands
 pub mod Difference
 pub mod Fits

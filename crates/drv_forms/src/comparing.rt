@@ -1,15 +1,25 @@
 //! What differs between two plans.
 
-ghost use Rattle.drv_forms.specs.Difference.{changed_text, difference as difference_text, is_among};
-ghost use Rattle.drv_forms.specs.Difference.{lines_differ, marked_line, only_text, pair_text};
+ghost use Rattle.drv_forms.specs.Difference.{added, change_text, changed_text, changes, changes_text};
+ghost use Rattle.drv_forms.specs.Difference.{difference as difference_text, is_among, lines_changes};
+ghost use Rattle.drv_forms.specs.Difference.{marked_line, only_text, pair_changes, removed, replaced};
 ghost use Rattle.drv_forms.specs.Difference.{word_line, word_text, words_of};
-ghost use Rattle.drv_words.specs.Bytes.{plus, space};
+ghost use Rattle.drv_words.specs.Bytes.{space};
 ghost use Rattle.drv_words.specs.Printed.{line_text as printed_line, quoted, words_text};
 ghost use Rattle.std.specs.List.{flat_map};
-ghost use Rattle.std.specs.Prelude.{◌≡◌, ◌∷◌, ◌++◌, IfOk, OnOk};
+ghost use Rattle.std.specs.Prelude.{◌≡◌, ◌∷◌, ◌++◌, IfOk, OnOk, map};
 
-use drv_words::{Command, Plan, PlanLine, Word, plan_lines, quote};
+use drv_words::{Command, Listing, Plan, PlanLine, Word, plan_lines, quote};
 use std::alloc::{AllocError, Global};
+
+/// A line of one plan and the line of another in its place, which differ.
+#[derive(Debug, Drop)]
+pub struct LineChange {
+    /// The line of the one plan, if it has as many.
+    pub line: Option<PlanLine>,
+    /// The line of the other plan, if that has as many.
+    pub other: Option<PlanLine>,
+}
 
 /// Whether a word is one of these.
 fn is_one_of(words: &[Word], word: &Word) -> bool
@@ -149,64 +159,134 @@ fn push_changed(
     push_only(alloc, text, b'>', &other.command, &line.command)
 }
 
+/// Adds a change.
+fn push_change(alloc: Global, text: &mut Vec<u8>, change: &LineChange) -> Result<(), AllocError>
+    ensures { OnOk result (text.new.items ≡ text.old.items ++ change_text change.now) }
+{
+    match (&change.line, &change.other) {
+        (Some(line), Some(other)) => push_changed(alloc, text, line, other),
+        (Some(line), None) => push_marked(alloc, text, b'-', line),
+        (None, Some(other)) => push_marked(alloc, text, b'+', other),
+        (None, None) => Ok(()),
+    }
+}
+
+/// Changes as text, as `diff` marks them: after two lines that differ the words that only one of
+/// them has.
+pub fn changes_text(alloc: Global, changes: &[LineChange]) -> Result<Word, AllocError>
+    ensures { IfOk result (λ text. text ≡ changes_text changes.now) }
+{
+    let mut text = Vec::new(alloc);
+    for change in changes {
+        push_change(alloc, &mut text, change)?;
+    }
+    Ok(Word::from_vec(text))
+}
+
+/// A copy of a line.
+fn copy_of(line: &PlanLine) -> Result<PlanLine, AllocError>
+    ensures { IfOk result (λ copy. copy ≡ line.now) }
+{
+    Ok(PlanLine {
+        command: line.command.clone()?,
+        piped: line.piped,
+    })
+}
+
+/// A line that only the other plan has.
+fn added(line: &PlanLine) -> Result<LineChange, AllocError>
+    ensures { IfOk result (λ change. change ≡ added line.now) }
+{
+    Ok(LineChange {
+        line: None,
+        other: Some(copy_of(line)?),
+    })
+}
+
+/// A line that only the one plan has.
+fn removed(line: &PlanLine) -> Result<LineChange, AllocError>
+    ensures { IfOk result (λ change. change ≡ removed line.now) }
+{
+    Ok(LineChange {
+        line: Some(copy_of(line)?),
+        other: None,
+    })
+}
+
+/// Two lines that differ.
+fn replaced(line: &PlanLine, other: &PlanLine) -> Result<LineChange, AllocError>
+    ensures { IfOk result (λ change. change ≡ replaced line.now other.now) }
+{
+    Ok(LineChange {
+        line: Some(copy_of(line)?),
+        other: Some(copy_of(other)?),
+    })
+}
+
 /// Adds two lines, if they differ.
 fn push_pair(
     alloc: Global,
-    text: &mut Vec<u8>,
+    changes: &mut Listing<LineChange>,
     line: &PlanLine,
     other: &PlanLine,
 ) -> Result<(), AllocError>
-    ensures { OnOk result (text.new.items ≡ text.old.items ++ pair_text line.now other.now) }
+    ensures { OnOk result (changes.new ≡ changes.old ++ pair_changes line.now other.now) }
 {
     if line_text(alloc, line)?.as_slice() == line_text(alloc, other)?.as_slice() {
         return Ok(());
     }
-    push_changed(alloc, text, line, other)
+    changes.push(replaced(line, other)?)?;
+    Ok(())
 }
 
-/// Adds lines that only the second plan has.
-fn push_added(alloc: Global, text: &mut Vec<u8>, lines: &[PlanLine]) -> Result<(), AllocError>
-    ensures { OnOk result (text.new.items
-        ≡ text.old.items ++ flat_map (marked_line plus) lines.now) }
+/// Adds lines that only the other plan has.
+fn push_added(changes: &mut Listing<LineChange>, lines: &[PlanLine]) -> Result<(), AllocError>
+    ensures { OnOk result (changes.new ≡ changes.old ++ map added lines.now) }
 {
     for line in lines {
-        push_marked(alloc, text, b'+', line)?;
+        changes.push(added(line)?)?;
     }
     Ok(())
 }
 
 /// Adds what differs between lines.
-fn push_differences(
+fn push_changes(
     alloc: Global,
-    text: &mut Vec<u8>,
+    changes: &mut Listing<LineChange>,
     lines: &[PlanLine],
     others: &[PlanLine],
 ) -> Result<(), AllocError>
-    ensures { OnOk result (text.new.items
-        ≡ text.old.items ++ lines_differ lines.now others.now) }
+    ensures { OnOk result (changes.new ≡ changes.old ++ lines_changes lines.now others.now) }
 {
     let mut left = others;
     for line in lines {
         match left {
-            [] => push_marked(alloc, text, b'-', line)?,
+            [] => changes.push(removed(line)?)?,
             [other, rest @ ..] => {
-                push_pair(alloc, text, line, other)?;
+                push_pair(alloc, changes, line, other)?;
                 left = rest;
             }
         }
     }
-    push_added(alloc, text, left)
+    push_added(changes, left)
 }
 
-/// What differs between two plans: their printed lines one by one, as `diff` marks them, and after
-/// two lines that differ the words that only one of them has. Plans with the same lines have no
-/// difference.
-pub fn difference(alloc: Global, plan: &Plan, other: &Plan) -> Result<Word, AllocError>
-    ensures { IfOk result (λ text. text ≡ difference_text plan.now other.now) }
+/// What differs between two plans: their printed lines one by one. Plans with the same lines have no
+/// changes.
+pub fn changes(alloc: Global, plan: &Plan, other: &Plan) -> Result<Listing<LineChange>, AllocError>
+    ensures { IfOk result (λ found. found ≡ changes plan.now other.now) }
 {
     let lines = plan_lines(alloc, plan)?;
     let others = plan_lines(alloc, other)?;
-    let mut text = Vec::new(alloc);
-    push_differences(alloc, &mut text, lines.as_slice(), others.as_slice())?;
-    Ok(Word::from_vec(text))
+    let mut found = Listing::new(alloc);
+    push_changes(alloc, &mut found, lines.as_slice(), others.as_slice())?;
+    Ok(found)
+}
+
+/// What differs between two plans as text.
+pub fn difference(alloc: Global, plan: &Plan, other: &Plan) -> Result<Word, AllocError>
+    ensures { IfOk result (λ text. text ≡ difference_text plan.now other.now) }
+{
+    let found = changes(alloc, plan, other)?;
+    changes_text(alloc, found.as_slice())
 }

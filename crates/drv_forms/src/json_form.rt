@@ -18,7 +18,7 @@ use std::alloc::{AllocError, Global};
 use std::str::from_utf8;
 
 /// Writes a number.
-fn put_number(out: &mut Pretty, number: usize) -> Result<(), AllocError>
+pub fn put_number(out: &mut Pretty, number: usize) -> Result<(), AllocError>
     ensures { OnOk result (out.new ≡ out.old ++ json_tokens (number_json number)) }
 {
     let mut buffer = Buffer::new();
@@ -36,8 +36,8 @@ fn put_bytes(out: &mut Pretty, bytes: &[u8]) -> Result<(), AllocError>
     out.token(Token::EndArray)
 }
 
-/// Writes a word.
-pub(crate) fn put_word(out: &mut Pretty, word: &Word) -> Result<(), AllocError>
+/// Writes a word: a string, or the list of its bytes where these aren't UTF-8.
+pub fn put_word(out: &mut Pretty, word: &Word) -> Result<(), AllocError>
     ensures { OnOk result (out.new ≡ out.old ++ json_tokens (word_json word.now)) }
 {
     match from_utf8(word.as_bytes()) {
@@ -57,7 +57,7 @@ fn put_last_words(out: &mut Pretty, words: &[Word]) -> Result<(), AllocError>
 }
 
 /// Writes words as an array.
-fn put_words(out: &mut Pretty, words: &[Word]) -> Result<(), AllocError>
+pub fn put_words(out: &mut Pretty, words: &[Word]) -> Result<(), AllocError>
     ensures { OnOk result (out.new ≡ out.old ++ json_tokens (words_json words.now)) }
 {
     out.token(Token::BeginArray)?;

@@ -2,6 +2,7 @@
 //! differs between two plans.
 #![tactic(auto)]
 
+mod changes_json;
 mod comparing;
 mod database;
 mod drawing;
@@ -10,9 +11,10 @@ mod pieces;
 mod scripting;
 mod shell;
 
-pub use comparing::difference;
+pub use changes_json::put_changes;
+pub use comparing::{LineChange, changes, changes_text, difference};
 pub use database::compile_commands;
 pub use drawing::picture;
-pub use json_form::plan_json;
+pub use json_form::{plan_json, put_number, put_word, put_words};
 pub use scripting::script;
 pub use shell::{shell_line, shell_word};

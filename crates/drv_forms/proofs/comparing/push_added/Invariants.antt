@@ -1,11 +1,8 @@
 use Rattle.drv_forms.proofs.comparing.push_added.Given as goal
-use Rattle.drv_forms.specs.Difference.{marked_line}
-use Rattle.drv_words.specs.Bytes.{plus}
-use Rattle.std.proofs.Common.{◌≡◌, ◌++◌, drop}
-use Rattle.std.specs.List.{flat_map}
+use Rattle.drv_forms.specs.Difference.{added}
+use Rattle.std.proofs.Common.{◌≡◌, ◌++◌, drop, map}
 
--- The loops of push_added (src/comparing.rt). Adds lines that only the second plan has.
+-- The loops of push_added (src/comparing.rt). Adds lines that only the other plan has.
 
 abbrev pub invariant-loop-line : goal.invariant-loop-line
-invariant-loop-line l = l.text.items ++ flat_map (marked_line plus) (drop l.line-index l.lines) ≡ l.fn.text.items
-    ++ flat_map (marked_line plus) l.lines
+invariant-loop-line l = l.changes ++ map added (drop l.line-index l.lines) ≡ l.fn.changes ++ map added l.lines

@@ -4,7 +4,7 @@ use Rattle.std.proofs.Common.{◌≡◌, ◌++◌, List, OnOk, subst, sym, ◌�
 use Rattle.std.specs.Str.{IsUtf8}
 use Rattle.drv_forms.proofs.json_form.put_word.Goals as goal
 
--- put_word (src/json_form.rt). Writes a word.
+-- put_word (src/json_form.rt). Writes a word: a string, or the list of its bytes where these aren't UTF-8.
 
 pub returns-in-Ok : goal.returns-in-Ok
 returns-in-Ok c =
