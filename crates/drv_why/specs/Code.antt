@@ -1,3 +1,4 @@
--- How the code finds what an option takes. No public contract rests on these.
+-- How the code finds what an option takes, and what it writes of a part of a text. No public contract rests on these.
 pub mod Counting
+pub mod ListedParts
 pub mod Wanting

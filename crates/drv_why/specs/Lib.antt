@@ -1,3 +1,5 @@
 pub mod Code
 pub mod Fates
+pub mod FatesJson
 pub mod Parts
+pub mod Reasons

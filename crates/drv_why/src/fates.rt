@@ -4,11 +4,14 @@ ghost use Rattle.drv_match.specs.Matching.{cancels, has_negative, is_broad, is_l
 ghost use Rattle.drv_why.specs.Fates.{argument_text, canceller, cancelled_line, cancelled_text, concerns, deed_text, fate_text};
 ghost use Rattle.drv_why.specs.Fates.{fates_text, lines_text, naming_text, namings_text, or_unnamed, pattern_of};
 ghost use Rattle.drv_why.specs.Fates.{source_text, spot_text, switch_text, takes, text_if};
+ghost use Rattle.drv_why.specs.FatesJson.{fates_report};
 ghost use Rattle.drv_words.specs.Bytes.{hyphen};
 ghost use Rattle.drv_words.specs.Printed.{quoted};
 ghost use Rattle.std.specs.Option.{option_map};
 ghost use Rattle.std.specs.Prelude.{◌≡◌, ◌∷◌, ◌++◌, IfOk, OnOk, decimal, is_none, Some};
 
+use crate::fates_json::fates_json;
+use crate::report::Report;
 use drv_args::Switch;
 use drv_check::{Deed, Naming, Source, Spot};
 use drv_place::{line_before, line_number};
@@ -69,7 +72,7 @@ fn cancels(alloc: Global, later: &[u8], name: &[u8]) -> Result<bool, AllocError>
 
 /// The name of the first of later switches that cancels one of this name.
 #[tactic(auto, using(crate::proofs::SwitchFates::cancelled, crate::proofs::SwitchFates::kept, crate::proofs::SwitchFates::none_left))]
-fn canceller<'a>(
+pub(crate) fn canceller<'a>(
     alloc: Global,
     later: &'a [Switch],
     name: &[u8],
@@ -114,7 +117,7 @@ fn takes(naming: &Naming, live: bool) -> bool
 }
 
 /// Whether a part has to do with a switch.
-fn concerns(name: &[u8], live: bool, naming: &Naming) -> bool
+pub(crate) fn concerns(name: &[u8], live: bool, naming: &Naming) -> bool
     ensures { result ≡ concerns name.now live naming.now }
 {
     is_named(naming, name) && takes(naming, live)
@@ -250,7 +253,7 @@ fn cancelled_text(alloc: Global, by: Option<&Word>) -> Result<Word, AllocError>
 }
 
 /// Whether no switch cancels one.
-fn is_live(by: Option<&Word>) -> bool
+pub(crate) fn is_live(by: Option<&Word>) -> bool
     ensures { result ≡ is_none (option_map (λ word. word.now) by.entry) }
 {
     match by {
@@ -327,11 +330,9 @@ fn push_fate(
     push_lines(text, &lines)
 }
 
-/// What becomes of the switches of a line (GCC manual, "Spec Files"): for each the first later one
-/// that cancels it, and the parts of texts that pass it on, test it or hide it, with their places in
-/// files. A part that passes on or tests takes a cancelled switch only if its pattern is broad.
+/// What becomes of the switches of a line, as text.
 #[tactic(auto, using(crate::proofs::SwitchFates::switch_next))]
-pub fn fates_text(
+fn fates_text(
     alloc: Global,
     sources: &[Source],
     namings: &[Naming],
@@ -347,4 +348,24 @@ pub fn fates_text(
         left = later;
     }
     Ok(text)
+}
+
+/// What becomes of the switches of a line, in a form (GCC manual, "Spec Files"): for each the first
+/// later one that cancels it, and the parts of texts that pass it on, test it or hide it, with their
+/// places in files. A part that passes on or tests takes a cancelled switch only if its pattern is
+/// broad.
+pub fn fates_report(
+    alloc: Global,
+    report: Report,
+    sources: &[Source],
+    namings: &[Naming],
+    switches: &[Switch],
+) -> Result<Word, AllocError>
+    ensures { IfOk result
+        (λ text. text ≡ fates_report report sources.now namings.now switches.now) }
+{
+    match report {
+        Report::Lines => fates_text(alloc, sources, namings, switches),
+        Report::Json => fates_json(alloc, sources, namings, switches),
+    }
 }

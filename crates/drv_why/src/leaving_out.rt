@@ -1,6 +1,6 @@
-//! A line without one of its parts.
+//! A part of a line, and the line without it.
 
-ghost use Rattle.drv_why.specs.Parts.{without};
+ghost use Rattle.drv_why.specs.Parts.{part_words, without};
 ghost use Rattle.std.specs.Prelude.{◌≡◌, ◌++◌, IfOk, OnOk, drop, take};
 
 use crate::parting::LinePart;
@@ -43,5 +43,15 @@ pub fn without(alloc: Global, line: &[Word], part: LinePart) -> Result<Listing<W
     push_all(&mut words, words_before(line, part.first))?;
     let rest = words_behind(line, part.first);
     push_all(&mut words, words_behind(rest, part.count))?;
+    Ok(words)
+}
+
+/// The words of a part of a line.
+pub fn part_words(alloc: Global, line: &[Word], part: LinePart) -> Result<Listing<Word>, AllocError>
+    ensures { IfOk result (λ words. words ≡ part_words line.now part) }
+{
+    let rest = words_behind(line, part.first);
+    let mut words = Listing::new(alloc);
+    push_all(&mut words, words_before(rest, part.count))?;
     Ok(words)
 }

@@ -1,12 +1,9 @@
-//! A part of a line as text.
+//! Words as text.
 
 ghost use Rattle.drv_words.specs.Bytes.{space};
 ghost use Rattle.drv_words.specs.Printed.{quoted, words_text};
-ghost use Rattle.drv_why.specs.Parts.{part_words};
 ghost use Rattle.std.specs.Prelude.{◌≡◌, ◌∷◌, ◌++◌, IfOk, OnOk};
 
-use crate::leaving_out::{words_before, words_behind};
-use crate::parting::LinePart;
 use drv_words::{Word, quote};
 use std::alloc::{AllocError, Global};
 
@@ -18,8 +15,8 @@ fn push_shown(alloc: Global, text: &mut Word, word: &Word) -> Result<(), AllocEr
     text.extend_from_slice(quote(alloc, word)?.as_bytes())
 }
 
-/// Words, each after a space.
-fn words_text(alloc: Global, words: &[Word]) -> Result<Word, AllocError>
+/// Words, each after a space, as the driver prints the words of a plan.
+pub(crate) fn words_text(alloc: Global, words: &[Word]) -> Result<Word, AllocError>
     ensures { IfOk result (λ text. text ≡ words_text words.now) }
 {
     let mut text = Word::empty(alloc);
@@ -27,12 +24,4 @@ fn words_text(alloc: Global, words: &[Word]) -> Result<Word, AllocError>
         push_shown(alloc, &mut text, word)?;
     }
     Ok(text)
-}
-
-/// The words of a part of a line, each after a space, as the driver prints the words of a plan.
-pub fn part_text(alloc: Global, line: &[Word], part: LinePart) -> Result<Word, AllocError>
-    ensures { IfOk result (λ text. text ≡ words_text (part_words line.now part)) }
-{
-    let rest = words_behind(line, part.first);
-    words_text(alloc, words_before(rest, part.count))
 }

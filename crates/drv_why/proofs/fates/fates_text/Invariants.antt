@@ -2,8 +2,7 @@ use Rattle.drv_why.proofs.fates.fates_text.Given as goal
 use Rattle.drv_why.specs.Fates.{fates_text}
 use Rattle.std.proofs.Common.{◌≡◌, ◌++◌, length}
 
--- The loops of fates_text (src/fates.rt). What becomes of the switches of a line (GCC manual, "Spec Files"): for each the first later one
--- that cancels it, and the parts of texts that pass it on, test it or hide it, with their places in files.
+-- The loops of fates_text (src/fates.rt). What becomes of the switches of a line, as text.
 
 abbrev pub invariant-loop-left : goal.invariant-loop-left
 invariant-loop-left l = l.text ++ fates_text l.sources l.namings l.left ≡ fates_text l.sources l.namings l.switches

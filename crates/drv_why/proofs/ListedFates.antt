@@ -1,0 +1,53 @@
+use Rattle.drv_args.specs.declared.line.Switch.{Switch}
+use Rattle.drv_check.specs.declared.findings.Source.{Source}
+use Rattle.drv_check.specs.declared.naming.Naming.{Naming}
+use Rattle.drv_why.specs.Code.ListedParts.{naming_tokens}
+use Rattle.drv_why.specs.Fates.{concerns}
+use Rattle.drv_why.specs.FatesJson.{fate_json, fates_items, namings_items}
+use Rattle.json.specs.Token.{Token}
+use Rattle.json.specs.Tree.{items_tokens, json_tokens}
+use Rattle.std.proofs.Common.{◌≡◌, ◌∙◌, ◌<◌, ◌+◌, ◌++◌, ◌∷◌, Bool, Err, List, Ok, OnOk, Result, [], ap, append_assoc, drop, false, length, refl, sym, true, ℕ}
+use Rattle.std.proofs.lemmas.List.{drop_more}
+use Rattle.std.specs.Prelude.{get_or}
+
+-- For fates_json: the switches of a line and the parts of texts, one after another.
+
+one_more : (sources : List Source) (name : List ℕ) (live : Bool) (naming : Naming) (namings : List Naming)
+    → items_tokens (namings_items sources name live (naming ∷ namings))
+    ≡ naming_tokens sources name live naming ++ items_tokens (namings_items sources name live namings)
+one_more sources name live naming namings = by (concerns name live naming) refl
+  where
+    by : (test : Bool) → concerns name live naming ≡ test
+        → items_tokens (namings_items sources name live (naming ∷ namings))
+        ≡ naming_tokens sources name live naming ++ items_tokens (namings_items sources name live namings)
+    by true is = rw is refl
+    by false is = rw is refl
+
+pub naming_next : (sources : List Source) (name : List ℕ) (live : Bool) (n : ℕ) (namings : List Naming) (naming : Naming)
+    (before after whole : List Token) → n < length namings → naming ≡ get_or namings n naming
+    → after ≡ before ++ naming_tokens sources name live naming
+    → before ++ items_tokens (namings_items sources name live (drop n namings)) ≡ whole
+    → after ++ items_tokens (namings_items sources name live (drop (n + 1) namings)) ≡ whole
+naming_next sources name live n namings naming before after whole below here grows is =
+    ap (λ t. t ++ items_tokens (namings_items sources name live (drop (n + 1) namings))) grows
+    ∙ append_assoc before (naming_tokens sources name live naming) (items_tokens (namings_items sources name live (drop (n + 1) namings)))
+    ∙ ap (λ t. before ++ t) (sym (one_more sources name live naming (drop (n + 1) namings)))
+    ∙ ap (λ m. before ++ items_tokens (namings_items sources name live (m ∷ drop (n + 1) namings))) here
+    ∙ ap (λ ns. before ++ items_tokens (namings_items sources name live ns)) (sym (drop_more namings n naming below)) ∙ is
+
+pub fate_next : (sources : List Source) (namings : List Naming) (switch : Switch) (later left : List Switch)
+    (before after whole : List Token)
+    → left ≡ switch ∷ later → after ≡ before ++ json_tokens (fate_json sources namings switch later)
+    → before ++ items_tokens (fates_items sources namings left) ≡ whole → after ++ items_tokens (fates_items sources namings later) ≡ whole
+fate_next sources namings switch later left before after whole cut grows is =
+    ap (λ t. t ++ items_tokens (fates_items sources namings later)) grows
+    ∙ append_assoc before (json_tokens (fate_json sources namings switch later)) (items_tokens (fates_items sources namings later))
+    ∙ ap (λ ss. before ++ items_tokens (fates_items sources namings ss)) (sym cut) ∙ is
+
+-- a member and the rest of an object
+pub member_then : {X E : Type 0} (t : Token) (xs ys before a b c : List Token) (result : Result X E) → a ≡ before ++ t ∷ [] → b ≡ a ++ xs
+    → OnOk result (c ≡ b ++ ys) → OnOk result (c ≡ before ++ t ∷ (xs ++ ys))
+member_then t xs ys before a b c (Err e) one two three = three
+member_then t xs ys before a b c (Ok x) one two three =
+    three ∙ ap (λ l. l ++ ys) (two ∙ ap (λ l. l ++ xs) one) ∙ append_assoc (before ++ t ∷ []) xs ys
+    ∙ append_assoc before (t ∷ []) (xs ++ ys)

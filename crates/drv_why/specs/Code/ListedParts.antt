@@ -1,0 +1,11 @@
+use Rattle.drv_check.specs.declared.findings.Source.{Source}
+use Rattle.drv_check.specs.declared.naming.Naming.{Naming}
+use Rattle.drv_why.specs.Fates.{concerns}
+use Rattle.drv_why.specs.FatesJson.{naming_json}
+use Rattle.json.specs.Token.{Token}
+use Rattle.json.specs.Tree.{json_tokens}
+use Rattle.std.specs.Prelude.{Bool, List, [], if◌then◌else◌, ℕ}
+
+-- what the code writes of a part, by whether it has to do with a switch
+abbrev pub naming_tokens : List Source → List ℕ → Bool → Naming → List Token
+naming_tokens sources name live naming = if concerns name live naming then json_tokens (naming_json sources naming) else []

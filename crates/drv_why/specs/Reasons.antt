@@ -1,0 +1,56 @@
+use Rattle.drv_forms.specs.ChangesJson.{changes_json}
+use Rattle.drv_forms.specs.Difference.{changes_text}
+use Rattle.drv_forms.specs.PlanJson.{list_json, word_json, words_json}
+use Rattle.drv_why.specs.declared.reasons.Reason.{Reason}
+use Rattle.drv_why.specs.declared.reasons.Rest.TheVariants.{Commands, Refused, Texts, Unlike}
+use Rattle.drv_why.specs.declared.reasons.Rest.{Rest}
+use Rattle.drv_why.specs.declared.report.Report.TheVariants.{Json as InJson, Lines}
+use Rattle.drv_why.specs.declared.report.Report.{Report}
+use Rattle.drv_words.specs.Bytes.{newline}
+use Rattle.drv_words.specs.Printed.{words_text}
+use Rattle.json.specs.Json.{Json, Members, member, no_members, object}
+use Rattle.json.specs.Layout.{pretty}
+use Rattle.json.specs.Tree.{json_tokens}
+use Rattle.std.specs.List.{flat_map}
+use Rattle.std.specs.Prelude.{List, [], ◌∷◌, ◌++◌, codes, ℕ}
+
+-- What is said of each part of a line: what the line without it is (this project's profile).
+
+-- the words before it, as the driver prints words
+abbrev pub heading : List (List ℕ) → List ℕ
+heading words = codes "without" ++ words_text words
+
+abbrev pub changed : List ℕ → List ℕ
+changed [] = codes ": no difference\n"
+changed (b ∷ text) = codes ":\n" ++ b ∷ text
+
+abbrev pub rest_text : Rest → List ℕ
+rest_text (Refused text) = codes ": " ++ text ++ codes "\n"
+rest_text (Commands changes) = changed (changes_text changes)
+rest_text (Texts text) = changed text
+rest_text Unlike = codes ": only one of the two lines has commands\n"
+
+abbrev pub reason_text : Reason → List ℕ
+reason_text reason = heading reason.part ++ rest_text reason.rest
+
+-- as JSON (RFC 8259)
+
+abbrev pub rest_members : Rest → Members
+rest_members (Refused text) = member (codes "refusal") (word_json text) no_members
+rest_members (Commands changes) = member (codes "commands") (changes_json changes) no_members
+rest_members (Texts text) = member (codes "texts") (word_json text) no_members
+rest_members Unlike = no_members
+
+abbrev pub reason_json : Reason → Json
+reason_json reason = object (member (codes "without") (words_json reason.part) (rest_members reason.rest))
+
+-- an object for each part, in an array, with a newline at its end
+abbrev pub reasons_json : List Reason → List ℕ
+reasons_json reasons = pretty (json_tokens (list_json reason_json reasons)) ++ newline ∷ []
+
+abbrev pub reasons_text : List Reason → List ℕ
+reasons_text = flat_map reason_text
+
+abbrev pub reasons_report : Report → List Reason → List ℕ
+reasons_report Lines reasons = reasons_text reasons
+reasons_report InJson reasons = reasons_json reasons
