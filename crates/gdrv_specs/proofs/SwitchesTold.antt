@@ -21,7 +21,8 @@ use Rattle.drv_system.specs.Facts.{Facts, learn, no_facts}
 use Rattle.drv_system.specs.Gives.{GivesKnown}
 use Rattle.drv_system.specs.Known.{◌>>=◌, Is}
 use Rattle.drv_system.specs.declared.event.Event.{Event}
-use Rattle.drv_why.specs.Fates.{fates_text}
+use Rattle.drv_why.specs.FatesJson.{fates_report}
+use Rattle.drv_why.specs.declared.report.Report.{Report}
 use Rattle.gdrv_specs.proofs.Told.{known}
 use Rattle.gdrv_specs.specs.Reasons.{TellsText}
 use Rattle.gdrv_specs.specs.Code.Following.{GivesLine}
@@ -34,15 +35,15 @@ use Rattle.std.proofs.lemmas.List.{append-nil}
 
 -- For `tell_switches`: the call prints what becomes of the switches of a line.
 
-pub fates_are : {E : Type 0} (F : Facts) (line : Line) (set : Set) (sources : List Source) (dump : List ℕ) (namings : List Naming)
+pub fates_are : {E : Type 0} (F : Facts) (report : Report) (line : Line) (set : Set) (sources : List Source) (dump : List ℕ) (namings : List Naming)
     (result : Result (List ℕ) E) → sources_of F line.settings.prefixes line.settings.specs ≡ Is sources → dump ≡ dumped set
-    → namings ≡ namings_of sources dump → IfOk result (λ text. text ≡ fates_text sources namings line.switches)
-    → IfOk result (λ text. fates_of F line set ≡ Is text)
-fates_are F line set sources dump namings (Err e) opens dumps names told = told
-fates_are F line set sources dump namings (Ok text) opens dumps names told =
-    ap (λ known. known >>= λ s. Is (fates_text s (namings_of s (dumped set)) line.switches)) opens
-    ∙ ap (λ d. Is (fates_text sources (namings_of sources d) line.switches)) (sym dumps)
-    ∙ ap (λ ns. Is (fates_text sources ns line.switches)) (sym names) ∙ ap Is (sym told)
+    → namings ≡ namings_of sources dump → IfOk result (λ text. text ≡ fates_report report sources namings line.switches)
+    → IfOk result (λ text. fates_of F report line set ≡ Is text)
+fates_are F report line set sources dump namings (Err e) opens dumps names told = told
+fates_are F report line set sources dump namings (Ok text) opens dumps names told =
+    ap (λ known. known >>= λ s. Is (fates_report report s (namings_of s (dumped set)) line.switches)) opens
+    ∙ ap (λ d. Is (fates_report report sources (namings_of sources d) line.switches)) (sym dumps)
+    ∙ ap (λ ns. Is (fates_report report sources ns line.switches)) (sym names) ∙ ap Is (sym told)
 
 pub builtin_given : (F : Facts) (settings : Settings) (set : Set) (result : Result Set SpecsFault) → set ≡ builtin_specs
     → GivesKnown specs_fault.Memory (λ loaded. loaded) result (specs_over F set settings)
@@ -50,17 +51,17 @@ pub builtin_given : (F : Facts) (settings : Settings) (set : Set) (result : Resu
 builtin_given F settings set result is gives =
     subst (λ s. GivesKnown specs_fault.Memory (λ loaded. loaded) result (specs_over F s settings)) is gives
 
-pub line_refused : (F : Facts) (line : Line) (fault : SpecsFault) (ending : Ending) → ending ≡ stopped_by_specs fault
-    → GivesKnown specs_fault.Memory (λ (set : Set). set) (Err fault) (specs_of F line.settings) → GivesLine F line (Err ending)
-line_refused F line fault ending is loads = (fault, loads, is)
+pub line_refused : (F : Facts) (report : Report) (line : Line) (fault : SpecsFault) (ending : Ending) → ending ≡ stopped_by_specs fault
+    → GivesKnown specs_fault.Memory (λ (set : Set). set) (Err fault) (specs_of F line.settings) → GivesLine F report line (Err ending)
+line_refused F report line fault ending is loads = (fault, loads, is)
 
-pub line_short : (F : Facts) (line : Line) → GivesLine F line (Err OutOfMemory)
-line_short F line = (specs_fault.Memory, inl refl, refl)
+pub line_short : (F : Facts) (report : Report) (line : Line) → GivesLine F report line (Err OutOfMemory)
+line_short F report line = (specs_fault.Memory, inl refl, refl)
 
-pub line_told : (F : Facts) (line : Line) (set : Set) (text : List ℕ)
-    → GivesKnown specs_fault.Memory (λ (set' : Set). set') (Ok set) (specs_of F line.settings) → fates_of F line set ≡ Is text
-    → GivesLine F line (Ok text)
-line_told F line set text loads tells = (set, loads, tells)
+pub line_told : (F : Facts) (report : Report) (line : Line) (set : Set) (text : List ℕ)
+    → GivesKnown specs_fault.Memory (λ (set' : Set). set') (Ok set) (specs_of F line.settings) → fates_of F report line set ≡ Is text
+    → GivesLine F report line (Ok text)
+line_told F report line set text loads tells = (set, loads, tells)
 
 -- a refused spec file ends the call so
 
@@ -87,20 +88,20 @@ refused_specs F args seed (specs_fault.Syntax name (syntax_fault.UnknownFunction
 refused_specs F args seed (specs_fault.Syntax name (syntax_fault.EmptyTest n)) refused = refused
 refused_specs F args seed (specs_fault.Syntax name syntax_fault.TextTooLong) refused = refused
 
-loading_ends : (F : Facts) (args : List (List ℕ)) (seed : ℕ) (line : Line) (fault : SpecsFault) → ReadsLine F args line
+pub loading_ends : (F : Facts) (args : List (List ℕ)) (seed : ℕ) (line : Line) (fault : SpecsFault) → ReadsLine F args line
     → (fault ≡ specs_fault.Memory) ⊎ (specs_of F line.settings ≡ Is (Err fault)) → Comes F args seed (Err (stopped_by_specs fault))
 loading_ends F args seed line fault reads (inl memory) = subst (λ f. Comes F args seed (Err (stopped_by_specs f))) (sym memory) tt
 loading_ends F args seed line fault reads (inr loads) = refused_specs F args seed fault (not_loaded reads.1 reads.2 loads)
 
-pub call_gives : (F : Facts) (args : List (List ℕ)) (line : Line) (result : Result (List ℕ) Ending) → ReadsLine F args line
-    → GivesLine F line result → GivesFates F args result
-call_gives F args line (Ok text) reads gives = (line, gives.0, reads, gives.1, gives.2)
-call_gives F args line (Err ending) reads gives =
+pub call_gives : (F : Facts) (report : Report) (args : List (List ℕ)) (line : Line) (result : Result (List ℕ) Ending) → ReadsLine F args line
+    → GivesLine F report line result → GivesFates F report args result
+call_gives F report args line (Ok text) reads gives = (line, gives.0, reads, gives.1, gives.2)
+call_gives F report args line (Err ending) reads gives =
     λ seed. subst (λ e. Comes F args seed (Err e)) (sym gives.2) (loading_ends F args seed line gives.0 reads gives.1)
 
-pub call_refused : (F : Facts) (args : List (List ℕ)) (ending : Ending) → ((seed : ℕ) → Comes F args seed (Err ending))
-    → GivesFates F args (Err ending)
-call_refused F args ending comes = comes
+pub call_refused : (F : Facts) (report : Report) (args : List (List ℕ)) (ending : Ending) → ((seed : ℕ) → Comes F args seed (Err ending))
+    → GivesFates F report args (Err ending)
+call_refused F report args ending comes = comes
 
 -- A call that prints them: before the text, and with it.
 
@@ -110,10 +111,10 @@ stops F args seed (Done status) comes = absurd comes
 stops F args seed (Refused refusal) comes = (comes, refl)
 stops F args seed OutOfMemory comes = refl
 
-pub switches_before : {journal journal' : List Event} {F F' : Facts} (args : List (List ℕ)) (ending : Ending) → F ≡ no_facts
-    → Asks journal journal' F F' → ((G : Facts) → Extends F' G → GivesFates G args (Err ending))
-    → TellsSwitches journal journal' args (Ended ending)
-switches_before {journal} {F' = F'} args ending empty asks gives = record {
+pub switches_before : {journal journal' : List Event} {F F' : Facts} (report : Report) (args : List (List ℕ)) (ending : Ending) → F ≡ no_facts
+    → Asks journal journal' F F' → ((G : Facts) → Extends F' G → GivesFates G report args (Err ending))
+    → TellsSwitches journal journal' report args (Ended ending)
+switches_before {journal} {F' = F'} report args ending empty asks gives = record {
   asked = asks.asked;
   told = [];
   questions = subst (λ G. AreNew G asks.asked) empty asks.questions;
@@ -124,14 +125,14 @@ switches_before {journal} {F' = F'} args ending empty asks gives = record {
       (extends_refl F') seed)));
 }
 
-pub switches_after : {journal journal' journal'' : List Event} {F F' : Facts} (args : List (List ℕ)) (text : List ℕ) (outcome : Outcome)
-    → F ≡ no_facts → Asks journal journal' F F' → ((G : Facts) → Extends F' G → GivesFates G args (Ok text))
+pub switches_after : {journal journal' journal'' : List Event} {F F' : Facts} (report : Report) (args : List (List ℕ)) (text : List ℕ) (outcome : Outcome)
+    → F ≡ no_facts → Asks journal journal' F F' → ((G : Facts) → Extends F' G → GivesFates G report args (Ok text))
     → TellsText journal' journal'' text outcome
-    → TellsSwitches journal journal'' args outcome
-switches_after {F' = F'} args text outcome empty asks gives tells = record {
+    → TellsSwitches journal journal'' report args outcome
+switches_after {F' = F'} report args text outcome empty asks gives tells = record {
   asked = asks.asked;
   told = tells.0;
   questions = subst (λ G. AreNew G asks.asked) empty asks.questions;
   journal_grows = tells.1 ∙ ap (λ events. events ++ tells.0) asks.journal_grows;
-  ends = inr (text, subst (λ G. GivesFates G args (Ok text)) (known empty asks) (gives F' (extends_refl F')), tells.2);
+  ends = inr (text, subst (λ G. GivesFates G report args (Ok text)) (known empty asks) (gives F' (extends_refl F')), tells.2);
 }

@@ -1,3 +1,5 @@
+use Rattle.drv_why.specs.declared.report.Report.TheVariants as report
+use Rattle.drv_why.specs.declared.report.Report.{Report}
 use Rattle.gdrv_specs.specs.declared.calling.Call.TheVariants.{After, Ask, Check, Database, Differ, Explain, Plan, Switches, Translate}
 use Rattle.gdrv_specs.specs.declared.calling.Call.{Call}
 use Rattle.gdrv_specs.specs.declared.calling.CallFault.TheVariants.{MissingAnswer, MissingFile, NoCommand, NoFiles, NotOneFile, NotTwoFiles}
@@ -132,8 +134,26 @@ abbrev pub asks_switches : List (List ℕ) → Bool
 asks_switches [] = false
 asks_switches (word ∷ words) = pointwise nat_eq word (codes "--switches")
 
+-- each as text, or as JSON with a word --json at the beginning, before --switches or after it
+
+abbrev pub asks_json : List (List ℕ) → Bool
+asks_json [] = false
+asks_json (word ∷ words) = pointwise nat_eq word (codes "--json")
+
+abbrev pub report_of : Report → List (List ℕ) → Report
+report_of otherwise words = if asks_json words then report.Json else otherwise
+
+abbrev pub after_json : List (List ℕ) → List (List ℕ)
+after_json words = if asks_json words then drop 1 words else words
+
+abbrev pub switches_asked : Report → List (List ℕ) → Call
+switches_asked otherwise words = Switches (report_of otherwise words) (after_json words)
+
+abbrev pub reasons_asked : Report → List (List ℕ) → Call
+reasons_asked form words = if asks_switches words then switches_asked form (drop 1 words) else Explain form words
+
 abbrev pub why_asked : List (List ℕ) → Call
-why_asked words = if asks_switches words then Switches (drop 1 words) else Explain words
+why_asked words = reasons_asked (report_of report.Lines words) (after_json words)
 
 abbrev pub asked_by : List ℕ → List (List ℕ) → Option Command → Result Call CallFault
 asked_by word words None = Err (UnknownCommand word)

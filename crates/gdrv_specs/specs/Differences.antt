@@ -1,5 +1,6 @@
 use Rattle.drv_check.specs.Differing.{texts_difference}
-use Rattle.drv_forms.specs.Difference.{difference}
+use Rattle.drv_forms.specs.Difference.{changes, difference}
+use Rattle.drv_forms.specs.declared.comparing.LineChange.{LineChange}
 use Rattle.drv_run.specs.Drives.{Comes, Drives}
 use Rattle.drv_run.specs.declared.ending.Ending.TheVariants.{Done, OutOfMemory}
 use Rattle.drv_run.specs.declared.ending.Ending.{Ending}
@@ -35,6 +36,11 @@ abbrev pub plans_difference : Option Plan → Option Plan → Option (List ℕ)
 plans_difference None other = None
 plans_difference (Some plan) None = None
 plans_difference (Some plan) (Some other) = Some (difference plan other)
+
+abbrev pub plans_changes : Option Plan → Option Plan → Option (List LineChange)
+plans_changes None other = None
+plans_changes (Some plan) None = None
+plans_changes (Some plan) (Some other) = Some (changes plan other)
 
 abbrev pub dumps_difference : Option (List ℕ) → Option (List ℕ) → Option (List ℕ)
 dumps_difference None other = None

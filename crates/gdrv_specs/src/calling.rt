@@ -3,7 +3,8 @@
 ghost use Rattle.gdrv_specs.specs.Calls.{are_compared, asks_switches, call_of, check_asked, command_named, difference_asked, form_asked};
 ghost use Rattle.gdrv_specs.specs.Calls.{line_compared, texts_compared};
 ghost use Rattle.gdrv_specs.specs.Calls.{cut_from, form_named, form_of, line_of, no_words, run_asked};
-ghost use Rattle.gdrv_specs.specs.Calls.{asks_database, plan_asked, translation_asked, why_asked};
+ghost use Rattle.gdrv_specs.specs.Calls.{after_json, asks_database, asks_json, plan_asked, reasons_asked};
+ghost use Rattle.gdrv_specs.specs.Calls.{report_of, switches_asked, translation_asked, why_asked};
 ghost use Rattle.drv_words.specs.Gives.{Gives};
 ghost use Rattle.gdrv_specs.specs.Requests.{no_request, requested_from};
 ghost use Rattle.gdrv_specs.specs.declared.calling.CallFault.TheVariants.{Memory};
@@ -14,6 +15,7 @@ use crate::differing::Comparison;
 use crate::forms::Form;
 use crate::help::Question;
 use crate::requesting::{Request, request_of};
+use drv_why::Report;
 use drv_words::{Listing, Word};
 use std::alloc::{AllocError, Global};
 
@@ -40,10 +42,16 @@ pub enum Call {
     Differ(Comparison),
     /// What is found in spec files.
     Check(Request),
-    /// What each part of a line changes.
-    Explain(Listing<Word>),
-    /// What becomes of the switches of a line.
-    Switches(Listing<Word>),
+    /// What each part of a line changes, in a form.
+    Explain {
+        report: Report,
+        line: Listing<Word>,
+    },
+    /// What becomes of the switches of a line, in a form.
+    Switches {
+        report: Report,
+        line: Listing<Word>,
+    },
 }
 
 /// Why a call asks for nothing.
@@ -318,16 +326,62 @@ fn asks_switches(words: &[Word]) -> bool
     }
 }
 
-/// What these words after the command ask for. The call allocates nothing.
-#[tactic(auto, using(crate::proofs::Calls::switches_word))]
-fn why_asked(mut words: Vec<Word>) -> Call
-    ensures { result ≡ why_asked words.items }
+/// Whether the first of these words asks for JSON.
+fn asks_json(words: &[Word]) -> bool
+    ensures { result ≡ asks_json words.now }
 {
-    if !asks_switches(words.as_slice()) {
-        return Call::Explain(Listing::from_vec(words));
+    match words {
+        [word, ..] => word.as_bytes() == b"--json".as_slice(),
+        _ => false,
+    }
+}
+
+/// The form that words ask for, or else this one, and the words after it. The call allocates
+/// nothing.
+#[tactic(auto, using(crate::proofs::Calls::json_word))]
+fn cut_report(otherwise: Report, mut words: Vec<Word>) -> (Report, Vec<Word>)
+    ensures report { result.0 ≡ report_of otherwise words.items }
+    ensures words { result.1.items ≡ after_json words.items }
+{
+    if !asks_json(words.as_slice()) {
+        return (otherwise, words);
     }
     let _ = words.remove(0);
-    Call::Switches(Listing::from_vec(words))
+    (Report::Json, words)
+}
+
+/// What becomes of the switches of the line that words ask for.
+fn switches_asked(otherwise: Report, words: Vec<Word>) -> Call
+    ensures { result ≡ switches_asked otherwise words.items }
+{
+    let (report, line) = cut_report(otherwise, words);
+    Call::Switches {
+        report,
+        line: Listing::from_vec(line),
+    }
+}
+
+/// What words ask for in this form.
+#[tactic(auto, using(crate::proofs::Calls::switches_word))]
+fn reasons_asked(report: Report, mut words: Vec<Word>) -> Call
+    ensures { result ≡ reasons_asked report words.items }
+{
+    if !asks_switches(words.as_slice()) {
+        return Call::Explain {
+            report,
+            line: Listing::from_vec(words),
+        };
+    }
+    let _ = words.remove(0);
+    switches_asked(report, words)
+}
+
+/// What these words after the command ask for. The call allocates nothing.
+fn why_asked(words: Vec<Word>) -> Call
+    ensures { result ≡ why_asked words.items }
+{
+    let (report, rest) = cut_report(Report::Lines, words);
+    reasons_asked(report, rest)
 }
 
 /// What a call with these arguments asks for.

@@ -5,7 +5,8 @@ ghost use Rattle.drv_run.specs.declared.work.Work.{Work};
 ghost use Rattle.drv_system.specs.Asking.{Asks, Extends};
 ghost use Rattle.drv_system.specs.Facts.{Facts};
 ghost use Rattle.gdrv_specs.specs.Differences.{ComesTwice, TellsDifference, TellsWorks, difference_in};
-ghost use Rattle.gdrv_specs.specs.Differences.{dumps_difference, plans_difference, with_specs};
+ghost use Rattle.gdrv_specs.specs.Differences.{dumps_difference, plans_changes, plans_difference};
+ghost use Rattle.gdrv_specs.specs.Differences.{with_specs};
 ghost use Rattle.gdrv_specs.specs.Plans.{dump_in, plan_in};
 ghost use Rattle.gdrv_specs.specs.Told.{PutsText};
 ghost use Rattle.std.specs.Option.{option_map};
@@ -13,7 +14,7 @@ ghost use Rattle.std.specs.Prelude.{◌≡◌, IfOk, OnErr, Some};
 
 use crate::outcome::Outcome;
 use drv_check::texts_difference;
-use drv_forms::difference;
+use drv_forms::{LineChange, changes, difference};
 use drv_run::{Ending, Work, status_of, work_of_call};
 use drv_system::{FactTable, System};
 use drv_words::{Listing, Plan, Word};
@@ -145,15 +146,50 @@ fn dumps_difference(
     Ok(Some(found))
 }
 
-/// What differs between two works: between their plans, or between the texts of two dumps.
-pub(crate) fn difference_in(
+/// The texts that differ between two works that dump the specs.
+pub(crate) fn dumps_of(alloc: Global, work: &Work, other: &Work) -> Result<Option<Word>, AllocError>
+    ensures { IfOk result (λ found. found
+        ≡ dumps_difference (dump_in work.now) (dump_in other.now)) }
+{
+    dumps_difference(alloc, dump_of(work), dump_of(other))
+}
+
+/// The changes between two plans.
+fn plans_changes(
+    alloc: Global,
+    plan: Option<&Plan>,
+    other: Option<&Plan>,
+) -> Result<Option<Listing<LineChange>>, AllocError>
+    ensures { IfOk result (λ found. found
+        ≡ plans_changes (option_map (λ plan. plan.now) plan.entry)
+        (option_map (λ plan. plan.now) other.entry)) }
+{
+    let Some(plan) = plan else {
+        return Ok(None);
+    };
+    let Some(other) = other else {
+        return Ok(None);
+    };
+    Ok(Some(changes(alloc, plan, other)?))
+}
+
+/// The changes between the plans of two works.
+pub(crate) fn changes_of(
     alloc: Global,
     work: &Work,
     other: &Work,
-) -> Result<Option<Word>, AllocError>
+) -> Result<Option<Listing<LineChange>>, AllocError>
+    ensures { IfOk result (λ found. found
+        ≡ plans_changes (plan_in work.now) (plan_in other.now)) }
+{
+    plans_changes(alloc, plan_of(work), plan_of(other))
+}
+
+/// What differs between two works: between their plans, or between the texts of two dumps.
+fn difference_in(alloc: Global, work: &Work, other: &Work) -> Result<Option<Word>, AllocError>
     ensures { IfOk result (λ text. text ≡ difference_in work.now other.now) }
 {
-    let found = dumps_difference(alloc, dump_of(work), dump_of(other))?;
+    let found = dumps_of(alloc, work, other)?;
     if found.is_some() {
         return Ok(found);
     }

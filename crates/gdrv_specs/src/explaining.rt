@@ -1,176 +1,294 @@
 //! Prints what each part of a line changes.
 
-ghost use Rattle.drv_run.specs.Drives.{Comes};
+ghost use Rattle.drv_run.specs.Calls.{IsWindow};
+ghost use Rattle.drv_run.specs.Code.Deciding.{ComesOfLine, ComesOfSpecs};
+ghost use Rattle.drv_run.specs.Drives.{Comes, work_of as work_given};
+ghost use Rattle.drv_run.specs.LineReads.{ComesLine, ReadsLine};
 ghost use Rattle.drv_system.specs.Asking.{Asks, Extends};
 ghost use Rattle.drv_system.specs.Facts.{Facts};
-ghost use Rattle.drv_why.specs.Parts.{parts_of};
-ghost use Rattle.gdrv_specs.specs.Code.Explaining.{answer_of};
-ghost use Rattle.gdrv_specs.specs.Reasons.{Answers, AnswersAll, Gives, TellsText, TellsWhy};
-ghost use Rattle.gdrv_specs.specs.Reasons.{changes, heading, refused_text, work_text};
+ghost use Rattle.gdrv_specs.specs.Code.Explaining.{HasSpecs, reason_of, rest_by};
+ghost use Rattle.gdrv_specs.specs.Reasons.{Answers, AnswersAll, Gives, Reports, TellsText, TellsWhy, rest_of};
 ghost use Rattle.gdrv_specs.specs.Told.{PutsText};
-ghost use Rattle.std.specs.Prelude.{◌≡◌, ◌++◌, IfOk, OnErr, Some};
+ghost use Rattle.std.specs.Cmp.Lexicographic.{pointwise};
+ghost use Rattle.std.specs.Prelude.{◌≡◌, IfOk, OnErr, Some, nat_eq, true};
 
-use crate::differing::difference_in;
+use crate::differing::{changes_of, dumps_of};
 use crate::outcome::Outcome;
-use drv_run::{Ending, Refusal, Work, refusal_text, status_of, work_of_call};
+use crate::switches::set_of;
+use drv_args::{Line, Settings};
+use drv_run::{Ending, Work, line_of_call, refusal_text, status_of, work_of};
+use drv_specs::SpecSet;
 use drv_system::{FactTable, System};
-use drv_why::{LinePart, part_text, parts_of, without};
+use drv_why::{LinePart, Reason, Report, Rest, part_words, parts_of, reasons_report, without};
 use drv_words::{Listing, Word, copy_words};
 use std::alloc::{AllocError, Global};
 
-/// A line with its work.
-#[derive(Debug, Drop)]
-struct Explained {
-    line: Listing<Word>,
-    work: Work,
+/// A line that was read, with its words and its specs.
+#[derive(Drop)]
+struct Explained<'a> {
+    args: &'a [Word],
+    line: &'a Line,
+    set: &'a SpecSet,
     seed: u32,
 }
 
-/// The words before what is said of a part.
-fn heading(alloc: Global, line: &[Word], part: LinePart) -> Result<Word, AllocError>
-    ensures { IfOk result (λ text. text ≡ heading line.now part) }
+/// What a line without a part is, by its work.
+fn rest_of(alloc: Global, work: &Work, other: &Work) -> Result<Rest, AllocError>
+    ensures { IfOk result (λ rest. rest ≡ rest_of work.now other.now) }
 {
-    let mut text = Word::from_bytes(alloc, b"without")?;
-    text.extend_from_slice(part_text(alloc, line, part)?.as_bytes())?;
-    Ok(text)
-}
-
-/// What is said of a part, by what differs between the line and the line without it.
-fn changes(alloc: Global, found: Option<Word>) -> Result<Word, AllocError>
-    ensures { IfOk result (λ text. text ≡ changes found) }
-{
-    let Some(difference) = found else {
-        return Word::from_bytes(alloc, b": only one of the two lines has commands\n");
-    };
-    if difference.is_empty() {
-        return Word::from_bytes(alloc, b": no difference\n");
+    if let Some(texts) = dumps_of(alloc, work, other)? {
+        return Ok(Rest::Texts(texts));
     }
-    let mut text = Word::from_bytes(alloc, b":\n")?;
-    text.extend_from_slice(difference.as_bytes())?;
-    Ok(text)
+    match changes_of(alloc, work, other)? {
+        Some(changes) => Ok(Rest::Commands(changes)),
+        None => Ok(Rest::Unlike),
+    }
 }
 
-/// The text about a part without which the line has another work.
-fn work_text(
-    alloc: Global,
-    explained: &Explained,
-    part: LinePart,
-    other: &Work,
-) -> Result<Word, AllocError>
-    ensures { IfOk result (λ text. text
-        ≡ work_text explained.now.line explained.now.work part other.now) }
-{
-    let found = difference_in(alloc, &explained.work, other)?;
-    let mut text = heading(alloc, explained.line.as_slice(), part)?;
-    text.extend_from_slice(changes(alloc, found)?.as_bytes())?;
-    Ok(text)
-}
-
-/// The text about a part without which the line is refused.
-fn refused_text(
-    alloc: Global,
-    line: &[Word],
-    part: LinePart,
-    refusal: &Refusal,
-) -> Result<Word, AllocError>
-    ensures { IfOk result (λ text. text ≡ refused_text line.now part refusal.now) }
-{
-    let mut text = heading(alloc, line, part)?;
-    text.extend_from_slice(b": ")?;
-    text.extend_from_slice(refusal_text(alloc, refusal)?.as_bytes())?;
-    text.push(b'\n')?;
-    Ok(text)
-}
-
-/// The text about a part, by what the line without it asks for.
-fn answer_of(
-    alloc: Global,
-    explained: &Explained,
-    part: LinePart,
-    found: &Result<Work, Ending>,
-) -> Result<Word, AllocError>
-    ensures { IfOk result (λ text. Some text
-        ≡ answer_of explained.now.line explained.now.work part found.now) }
+/// What a line without a part is, by what it asks for.
+fn rest_by(alloc: Global, work: &Work, found: &Result<Work, Ending>) -> Result<Rest, AllocError>
+    ensures { IfOk result (λ rest. Some rest ≡ rest_by work.now found.now) }
 {
     match found {
-        Ok(other) => work_text(alloc, explained, part, other),
-        Err(Ending::Refused(refusal)) => {
-            refused_text(alloc, explained.line.as_slice(), part, refusal)
-        }
+        Ok(other) => rest_of(alloc, work, other),
+        Err(Ending::Refused(refusal)) => Ok(Rest::Refused(refusal_text(alloc, refusal)?)),
         Err(_) => Err(AllocError),
     }
 }
 
-/// The text about a part.
+/// What is said of a part, by what the line without it asks for.
+fn reason_of(
+    alloc: Global,
+    args: &[Word],
+    work: &Work,
+    part: LinePart,
+    found: &Result<Work, Ending>,
+) -> Result<Reason, AllocError>
+    ensures { IfOk result (λ reason. Some reason ≡ reason_of args.now work.now part found.now) }
+{
+    let rest = rest_by(alloc, work, found)?;
+    let part = part_words(alloc, args, part)?;
+    Ok(Reason { part, rest })
+}
+
+/// What a line with these specs asks for.
+fn work_with<S: System>(
+    alloc: Global,
+    sys: &mut S,
+    facts: &mut FactTable,
+    line: &Line,
+    set: &SpecSet,
+    seed: u32,
+) -> Result<Work, Ending>
+    requires { IsWindow line.now.settings.jobs }
+    ensures asks { Asks (S.events sys.old) (S.events sys.new) facts.old facts.new }
+    ensures comes { (F : Facts) → Extends facts.new F
+        → ComesOfSpecs (work_given F line.now set.now seed) result }
+{
+    match work_of(alloc, line, set, seed, sys, facts) {
+        Ok(work) => Ok(work),
+        Err(fault) => Err(Ending::from(fault)),
+    }
+}
+
+/// Whether words are the same.
+fn are_same(words: &[Word], others: &[Word]) -> bool
+    ensures { result ≡ pointwise (pointwise nat_eq) words.now others.now }
+{
+    words == others
+}
+
+/// Whether two lines have the same spec files, found along the same prefixes.
+#[tactic(auto, using(crate::proofs::Reasons::same_words))]
+fn have_same_specs(settings: &Settings, others: &Settings) -> bool
+    ensures { result ≡ true → (settings.now.prefixes ≡ others.now.prefixes)
+        × (settings.now.specs ≡ others.now.specs) }
+{
+    if are_same(settings.prefixes.as_slice(), others.prefixes.as_slice()) {
+        return are_same(settings.specs.as_slice(), others.specs.as_slice());
+    }
+    false
+}
+
+/// What a line asks for beside one whose specs are known. They are loaded anew only if this one has
+/// other spec files.
+fn work_beside<S: System>(
+    alloc: Global,
+    sys: &mut S,
+    facts: &mut FactTable,
+    explained: &Explained<'_>,
+    line: &Line,
+) -> Result<Work, Ending>
+    requires { IsWindow line.now.settings.jobs }
+    ensures asks { Asks (S.events sys.old) (S.events sys.new) facts.old facts.new }
+    ensures comes { (F : Facts) → Extends facts.new F
+        → HasSpecs F explained.now.line.now explained.now.set.now
+        → ComesOfLine F line.now explained.now.seed result }
+{
+    if have_same_specs(&line.settings, &explained.line.settings) {
+        return work_with(alloc, sys, facts, line, explained.set, explained.seed);
+    }
+    match set_of(alloc, &line.settings, sys, facts) {
+        Ok(set) => work_with(alloc, sys, facts, line, &set, explained.seed),
+        Err(fault) => Err(Ending::from(fault)),
+    }
+}
+
+/// What words ask for beside a line whose specs are known.
+fn work_without<S: System>(
+    alloc: Global,
+    sys: &mut S,
+    facts: &mut FactTable,
+    explained: &Explained<'_>,
+    rest: Listing<Word>,
+) -> Result<Work, Ending>
+    ensures asks { Asks (S.events sys.old) (S.events sys.new) facts.old facts.new }
+    ensures comes { (F : Facts) → Extends facts.new F
+        → HasSpecs F explained.now.line.now explained.now.set.now
+        → Comes F rest explained.now.seed result }
+{
+    match line_of_call(alloc, rest, sys, facts) {
+        Ok(line) => work_beside(alloc, sys, facts, explained, &line),
+        Err(ending) => Err(ending),
+    }
+}
+
+/// What is said of a part.
 #[tactic(auto, using(drv_system::proofs::Asking::asks_nothing))]
 fn answer<S: System>(
     alloc: Global,
     sys: &mut S,
     facts: &mut FactTable,
-    explained: &Explained,
+    explained: &Explained<'_>,
+    work: &Work,
     part: &LinePart,
-) -> Result<Word, AllocError>
+) -> Result<Reason, AllocError>
     ensures asks { Asks (S.events sys.old) (S.events sys.new) facts.old facts.new }
-    ensures answers { (F : Facts) → Extends facts.new F → IfOk result
-        (Answers F explained.now.line explained.now.work explained.now.seed part.now) }
+    ensures answers { (F : Facts) → Extends facts.new F
+        → HasSpecs F explained.now.line.now explained.now.set.now → IfOk result
+        (Answers F explained.now.args.now work.now explained.now.seed part.now) }
 {
-    let rest = without(alloc, explained.line.as_slice(), *part)?;
-    let found = work_of_call(alloc, rest, explained.seed, sys, facts);
-    answer_of(alloc, explained, *part, &found)
+    let rest = without(alloc, explained.args, *part)?;
+    let found = work_without(alloc, sys, facts, explained, rest);
+    reason_of(alloc, explained.args, work, *part, &found)
 }
 
-/// The texts about parts, one after another.
+/// What is said of parts, one after another.
 #[tactic(auto, using(drv_system::proofs::Asking::asks_nothing, drv_system::proofs::Asking::asks_then))]
 fn answers<S: System>(
     alloc: Global,
     sys: &mut S,
     facts: &mut FactTable,
-    explained: &Explained,
+    explained: &Explained<'_>,
+    work: &Work,
     parts: &[LinePart],
-) -> Result<Word, AllocError>
+) -> Result<Listing<Reason>, AllocError>
     ensures asks { Asks (S.events sys.old) (S.events sys.new) facts.old facts.new }
-    ensures answers { (F : Facts) → Extends facts.new F → IfOk result
-        (AnswersAll F explained.now.line explained.now.work explained.now.seed parts.now) }
+    ensures answers { (F : Facts) → Extends facts.new F
+        → HasSpecs F explained.now.line.now explained.now.set.now → IfOk result
+        (AnswersAll F explained.now.args.now work.now explained.now.seed parts.now) }
 {
-    let mut text = Word::empty(alloc);
+    let mut reasons = Listing::new(alloc);
     for part in parts {
-        let one = answer(alloc, sys, facts, explained, part)?;
-        text.extend_from_slice(one.as_bytes())?;
+        let reason = answer(alloc, sys, facts, explained, work, part)?;
+        reasons.push(reason)?;
     }
-    Ok(text)
+    Ok(reasons)
 }
 
-/// The texts about all parts of a line with this work.
+/// The text about all parts of a line.
 #[tactic(auto, using(drv_system::proofs::Asking::asks_nothing))]
-fn reasons_of_work<S: System>(
+fn report_of<S: System>(
     alloc: Global,
     sys: &mut S,
     facts: &mut FactTable,
-    explained: &Explained,
+    report: Report,
+    explained: &Explained<'_>,
+    work: &Work,
 ) -> Result<Word, AllocError>
     ensures asks { Asks (S.events sys.old) (S.events sys.new) facts.old facts.new }
-    ensures answers { (F : Facts) → Extends facts.new F → IfOk result
-        (AnswersAll F explained.now.line explained.now.work explained.now.seed
-        (parts_of explained.now.line)) }
+    ensures reports { (F : Facts) → Extends facts.new F
+        → HasSpecs F explained.now.line.now explained.now.set.now → IfOk result
+        (Reports F report explained.now.args.now work.now explained.now.seed) }
 {
-    let parts = parts_of(alloc, explained.line.as_slice())?;
-    answers(alloc, sys, facts, explained, parts.as_slice())
+    let parts = parts_of(alloc, explained.args)?;
+    let reasons = answers(alloc, sys, facts, explained, work, parts.as_slice())?;
+    reasons_report(alloc, report, reasons.as_slice())
 }
 
-/// What a line asks for, which stays.
-#[tactic(auto, using(drv_system::proofs::Asking::asks_nothing))]
-fn work_of_line<S: System>(
+/// The reasons of a line whose specs are known, or its ending in their place.
+fn reasons_with_specs<S: System>(
     alloc: Global,
     sys: &mut S,
     facts: &mut FactTable,
-    line: &[Word],
-    seed: u32,
-) -> Result<Work, Ending>
+    report: Report,
+    explained: &Explained<'_>,
+) -> Result<Word, Ending>
+    requires { IsWindow explained.now.line.now.settings.jobs }
     ensures asks { Asks (S.events sys.old) (S.events sys.new) facts.old facts.new }
-    ensures comes { (F : Facts) → Extends facts.new F → Comes F line.now seed result }
+    ensures gives { (F : Facts) → Extends facts.new F
+        → HasSpecs F explained.now.line.now explained.now.set.now
+        → ReadsLine F explained.now.args.now explained.now.line.now
+        → Gives F report explained.now.args.now explained.now.seed result }
 {
-    match copy_words(alloc, line) {
-        Ok(copy) => work_of_call(alloc, copy, seed, sys, facts),
+    let work = match work_with(
+        alloc,
+        sys,
+        facts,
+        explained.line,
+        explained.set,
+        explained.seed,
+    ) {
+        Ok(work) => work,
+        Err(ending) => return Err(ending),
+    };
+    match report_of(alloc, sys, facts, report, explained, &work) {
+        Ok(text) => Ok(text),
+        Err(_) => Err(Ending::OutOfMemory),
+    }
+}
+
+/// The reasons of a line that was read, or its ending in their place.
+fn reasons_of_line<S: System>(
+    alloc: Global,
+    sys: &mut S,
+    facts: &mut FactTable,
+    report: Report,
+    args: &[Word],
+    line: &Line,
+    seed: u32,
+) -> Result<Word, Ending>
+    requires { IsWindow line.now.settings.jobs }
+    ensures asks { Asks (S.events sys.old) (S.events sys.new) facts.old facts.new }
+    ensures gives { (F : Facts) → Extends facts.new F → ReadsLine F args.now line.now
+        → Gives F report args.now seed result }
+{
+    let set = match set_of(alloc, &line.settings, sys, facts) {
+        Ok(set) => set,
+        Err(fault) => return Err(Ending::from(fault)),
+    };
+    let explained = Explained {
+        args,
+        line,
+        set: &set,
+        seed,
+    };
+    reasons_with_specs(alloc, sys, facts, report, &explained)
+}
+
+/// The line of words, which stay.
+#[tactic(auto, using(drv_system::proofs::Asking::asks_nothing))]
+fn line_of_words<S: System>(
+    alloc: Global,
+    sys: &mut S,
+    facts: &mut FactTable,
+    args: &[Word],
+) -> Result<Line, Ending>
+    ensures asks { Asks (S.events sys.old) (S.events sys.new) facts.old facts.new }
+    ensures comes { (F : Facts) → Extends facts.new F → ComesLine F args.now result }
+{
+    match copy_words(alloc, args) {
+        Ok(copy) => line_of_call(alloc, copy, sys, facts),
         Err(_) => Err(Ending::OutOfMemory),
     }
 }
@@ -180,19 +298,16 @@ fn reasons<S: System>(
     alloc: Global,
     sys: &mut S,
     facts: &mut FactTable,
-    line: Listing<Word>,
+    report: Report,
+    args: &[Word],
     seed: u32,
 ) -> Result<Word, Ending>
     ensures asks { Asks (S.events sys.old) (S.events sys.new) facts.old facts.new }
-    ensures gives { (F : Facts) → Extends facts.new F → Gives F line seed result }
+    ensures gives { (F : Facts) → Extends facts.new F → Gives F report args.now seed result }
 {
-    let work = match work_of_line(alloc, sys, facts, line.as_slice(), seed) {
-        Ok(work) => work,
-        Err(ending) => return Err(ending),
-    };
-    match reasons_of_work(alloc, sys, facts, &Explained { line, work, seed }) {
-        Ok(text) => Ok(text),
-        Err(_) => Err(Ending::OutOfMemory),
+    match line_of_words(alloc, sys, facts, args) {
+        Ok(line) => reasons_of_line(alloc, sys, facts, report, args, &line, seed),
+        Err(ending) => Err(ending),
     }
 }
 
@@ -216,15 +331,21 @@ pub(crate) fn tell_reasons<S: System>(sys: &mut S, text: &Word) -> Outcome
     }
 }
 
-/// Writes to standard output what each part of a line changes: what differs between the commands of
-/// the line and those of the line without that part, or why that one is refused. It asks what these
-/// need, and does nothing else: it starts no program and makes, changes and removes no file. A line
-/// that is refused writes nothing. The seed is for the names of temporaries.
-pub fn tell_why<S: System>(alloc: Global, sys: &mut S, line: Listing<Word>, seed: u32) -> Outcome
-    ensures { TellsWhy (S.events sys.old) (S.events sys.new) line seed result }
+/// Writes to standard output what each part of a line changes, in a form: what differs between the
+/// commands of the line and those of the line without that part, or why that one is refused. It asks
+/// what these need, and does nothing else: it starts no program and makes, changes and removes no
+/// file. A line that is refused writes nothing. The seed is for the names of temporaries.
+pub fn tell_why<S: System>(
+    alloc: Global,
+    sys: &mut S,
+    report: Report,
+    line: &[Word],
+    seed: u32,
+) -> Outcome
+    ensures { TellsWhy (S.events sys.old) (S.events sys.new) report line.now seed result }
 {
     let facts = &mut FactTable::new(alloc);
-    match reasons(alloc, sys, facts, line, seed) {
+    match reasons(alloc, sys, facts, report, line, seed) {
         Ok(text) => tell_reasons(sys, &text),
         Err(ending) => Outcome::Ended(ending),
     }

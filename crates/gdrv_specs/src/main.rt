@@ -27,6 +27,7 @@ use databases::tell_database;
 use differing::{Comparison, tell_difference};
 use drv_run::Ending;
 use drv_system::{HostSystem, Reporter, arguments, clock_seed, complain};
+use drv_why::Report;
 use drv_words::{Listing, Word};
 use explaining::tell_why;
 use forms::Form;
@@ -126,16 +127,16 @@ fn compare(rt: &HostRuntime, comparison: &Comparison) -> Result<Outcome, AllocEr
 }
 
 /// Tells what each part of a line changes to this process's user.
-fn explain(rt: &HostRuntime, line: Listing<Word>) -> Result<Outcome, AllocError> {
+fn explain(rt: &HostRuntime, report: Report, line: &[Word]) -> Result<Outcome, AllocError> {
     let seed = clock_seed(rt)?;
     let mut sys = HostSystem::new(rt.clone()?, Reporter::Gdrv);
-    Ok(tell_why(rt.alloc(), &mut sys, line, seed))
+    Ok(tell_why(rt.alloc(), &mut sys, report, line, seed))
 }
 
 /// Tells what becomes of the switches of a line to this process's user.
-fn follow(rt: &HostRuntime, line: Listing<Word>) -> Result<Outcome, AllocError> {
+fn follow(rt: &HostRuntime, report: Report, line: Listing<Word>) -> Result<Outcome, AllocError> {
     let mut sys = HostSystem::new(rt.clone()?, Reporter::Gdrv);
-    Ok(tell_switches(rt.alloc(), &mut sys, line))
+    Ok(tell_switches(rt.alloc(), &mut sys, report, line))
 }
 
 /// Checks spec files for this process's user.
@@ -162,8 +163,8 @@ fn act(rt: &HostRuntime, call: Call) -> Outcome {
         Call::Translate(path) => ended(translate(rt, path)),
         Call::Differ(comparison) => ended(compare(rt, &comparison)),
         Call::Check(request) => ended(check(rt, &request)),
-        Call::Explain(line) => ended(explain(rt, line)),
-        Call::Switches(line) => ended(follow(rt, line)),
+        Call::Explain { report, line } => ended(explain(rt, report, line.as_slice())),
+        Call::Switches { report, line } => ended(follow(rt, report, line)),
     }
 }
 

@@ -17,7 +17,7 @@ use drv_check::{namings_of, sources_of};
 use drv_run::{Ending, line_of_call, load_specs};
 use drv_specs::{SpecSet, SpecsFault, builtin};
 use drv_system::{FactTable, System};
-use drv_why::fates_text;
+use drv_why::{Report, fates_report};
 use drv_words::{Listing, Word};
 use std::alloc::{AllocError, Global};
 
@@ -25,6 +25,7 @@ use std::alloc::{AllocError, Global};
 #[tactic(auto, using(crate::proofs::SwitchesTold::fates_are))]
 fn fates_of<S: System>(
     alloc: Global,
+    report: Report,
     line: &Line,
     set: &SpecSet,
     sys: &mut S,
@@ -32,15 +33,16 @@ fn fates_of<S: System>(
 ) -> Result<Word, AllocError>
     ensures asks { Asks (S.events sys.old) (S.events sys.new) facts.old facts.new }
     ensures tells { (F : Facts) → Extends facts.new F
-        → IfOk result (λ text. fates_of F line.now set.now ≡ Is text) }
+        → IfOk result (λ text. fates_of F report line.now set.now ≡ Is text) }
 {
     let prefixes = line.settings.prefixes.as_slice();
     let names = line.settings.specs.as_slice();
     let sources = sources_of(alloc, prefixes, names, sys, facts)?;
     let dump = set.dump()?;
     let namings = namings_of(alloc, sources.as_slice(), dump.as_bytes())?;
-    fates_text(
+    fates_report(
         alloc,
+        report,
         sources.as_slice(),
         namings.as_slice(),
         line.switches.as_slice(),
@@ -49,7 +51,7 @@ fn fates_of<S: System>(
 
 /// The specs of a line: the built-in ones, and what the files of `-specs=` make of them.
 #[tactic(auto, using(drv_system::proofs::Asking::asks_nothing))]
-fn set_of<S: System>(
+pub(crate) fn set_of<S: System>(
     alloc: Global,
     settings: &Settings,
     sys: &mut S,
@@ -67,18 +69,19 @@ fn set_of<S: System>(
 #[tactic(auto, using(crate::proofs::SwitchesTold::line_refused, crate::proofs::SwitchesTold::line_short))]
 fn fates_of_line<S: System>(
     alloc: Global,
+    report: Report,
     line: &Line,
     sys: &mut S,
     facts: &mut FactTable,
 ) -> Result<Word, Ending>
     ensures asks { Asks (S.events sys.old) (S.events sys.new) facts.old facts.new }
-    ensures gives { (F : Facts) → Extends facts.new F → GivesLine F line.now result }
+    ensures gives { (F : Facts) → Extends facts.new F → GivesLine F report line.now result }
 {
     let set = match set_of(alloc, &line.settings, sys, facts) {
         Ok(set) => set,
         Err(fault) => return Err(Ending::from(fault)),
     };
-    match fates_of(alloc, line, &set, sys, facts) {
+    match fates_of(alloc, report, line, &set, sys, facts) {
         Ok(text) => Ok(text),
         Err(_) => Err(Ending::OutOfMemory),
     }
@@ -88,28 +91,34 @@ fn fates_of_line<S: System>(
 #[tactic(auto, using(crate::proofs::SwitchesTold::call_refused))]
 fn fates_of_call<S: System>(
     alloc: Global,
+    report: Report,
     args: Listing<Word>,
     sys: &mut S,
     facts: &mut FactTable,
 ) -> Result<Word, Ending>
     ensures asks { Asks (S.events sys.old) (S.events sys.new) facts.old facts.new }
-    ensures gives { (F : Facts) → Extends facts.new F → GivesFates F args result }
+    ensures gives { (F : Facts) → Extends facts.new F → GivesFates F report args result }
 {
     match line_of_call(alloc, args, sys, facts) {
-        Ok(line) => fates_of_line(alloc, &line, sys, facts),
+        Ok(line) => fates_of_line(alloc, report, &line, sys, facts),
         Err(ending) => Err(ending),
     }
 }
 
-/// Writes to standard output what becomes of each switch of a line: the later switch that cancels
-/// it, and the parts of texts that pass it on, test it or hide it, each with its place in a file. It
-/// asks what this needs, and does nothing else: it starts no program and makes, changes and removes
-/// no file. A line that is refused writes nothing.
-pub fn tell_switches<S: System>(alloc: Global, sys: &mut S, line: Listing<Word>) -> Outcome
-    ensures { TellsSwitches (S.events sys.old) (S.events sys.new) line result }
+/// Writes to standard output what becomes of each switch of a line, in a form: the later switch that
+/// cancels it, and the parts of texts that pass it on, test it or hide it, each with its place in a
+/// file. It asks what this needs, and does nothing else: it starts no program and makes, changes and
+/// removes no file. A line that is refused writes nothing.
+pub fn tell_switches<S: System>(
+    alloc: Global,
+    sys: &mut S,
+    report: Report,
+    line: Listing<Word>,
+) -> Outcome
+    ensures { TellsSwitches (S.events sys.old) (S.events sys.new) report line result }
 {
     let facts = &mut FactTable::new(alloc);
-    match fates_of_call(alloc, line, sys, facts) {
+    match fates_of_call(alloc, report, line, sys, facts) {
         Ok(text) => tell_reasons(sys, &text),
         Err(ending) => Outcome::Ended(ending),
     }

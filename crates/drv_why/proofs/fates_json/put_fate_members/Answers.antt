@@ -12,7 +12,7 @@ use Rattle.std.specs.Option.{option_map}
 
 pub returns : goal.returns
 returns c =
-    member_then (key (codes "cancelled_by")) (json_tokens (cancelled_json (option_map (λ word. word.now) c.args.by.entry)))
+    member_then (key (codes "cancelled_by")) (json_tokens (cancelled_json (option_map (λ word. word.now) c.args.by)))
     (members_tokens (member (codes "parts")
     (array (namings_items c.args.sources.now c.args.name.now c.args.live c.args.namings.now)) no_members))
     c.args.out.now c.token.new.self c.put_cancelled.new.out c.put_parts.new.out c.put_parts.result c.in_ok-token.ensures.ok

@@ -1,21 +1,20 @@
 use Rattle.drv_system.proofs.Asking.{asks_extends, asks_then, extends_then}
 use Rattle.gdrv_specs.proofs.Reasons.{all_answers, more_answers}
 use Rattle.gdrv_specs.proofs.explaining.answers.Goals as goal
-use Rattle.std.proofs.Common.{ap, ◌∙◌, ◌++◌}
 
--- answers (src/explaining.rt). The texts about parts, one after another.
+-- answers (src/explaining.rt). What is said of parts, one after another.
 
 pub loop-part-preserved : goal.loop-part-preserved
 loop-part-preserved g c = record {
   asks = asks_then c.loop-part.invariant.asks c.answer.ensures.asks;
-  rest = λ F e.
-      more_answers F c.args.explained.now.line c.args.explained.now.work c.args.explained.now.seed c.args.parts.now c.loop-part.part-index
-      _ c.loop-part.text c.extend_from_slice.new.self c.in_ok-one.one c.loop-part-test.true
-      (c.in_ok-one.ensures.answers F e) (c.in_ok-extend_from_slice.ensures.ok ∙ ap (λ b. c.loop-part.text ++ b) c.as_bytes.ensures)
-      (c.loop-part.invariant.rest F (extends_then (asks_extends c.answer.ensures.asks) e));
+  rest = λ F e has.
+      more_answers F c.args.explained.now.args.now c.args.work.now c.args.explained.now.seed c.args.parts.now c.loop-part.part-index
+      _ c.loop-part.reasons c.push.new.self c.in_ok-reason.reason c.loop-part-test.true
+      (c.in_ok-reason.ensures.answers F e has) c.in_ok-push.ensures.ok
+      (c.loop-part.invariant.rest F (extends_then (asks_extends c.answer.ensures.asks) e) has);
 }
 
 pub returns-clause-answers : goal.returns-clause-answers
-returns-clause-answers g c F e =
-    all_answers F c.args.explained.now.line c.args.explained.now.work c.args.explained.now.seed c.args.parts.now c.loop-part.part-index
-    c.loop-part.text c.loop-part-test.false (c.loop-part.invariant.rest F e)
+returns-clause-answers g c F e has =
+    all_answers F c.args.explained.now.args.now c.args.work.now c.args.explained.now.seed c.args.parts.now c.loop-part.part-index
+    c.loop-part.reasons c.loop-part-test.false (c.loop-part.invariant.rest F e has)

@@ -1,15 +1,17 @@
 use Rattle.drv_system.specs.Asking.{Asks, Extends}
 use Rattle.drv_system.specs.Facts.{Facts}
+use Rattle.drv_why.specs.declared.reasons.Reason.{Reason}
 use Rattle.gdrv_specs.proofs.explaining.answers.Given as goal
+use Rattle.gdrv_specs.specs.Code.Explaining.{HasSpecs}
 use Rattle.gdrv_specs.specs.Reasons.{AnswersAll}
-use Rattle.std.proofs.Common.{◌++◌, List, drop, ℕ}
+use Rattle.std.proofs.Common.{◌++◌, List, drop}
 
--- The loops of answers (src/explaining.rt). The texts about parts, one after another.
+-- The loops of answers (src/explaining.rt). What is said of parts, one after another.
 
 abbrev pub invariant-loop-part : goal.invariant-loop-part
 invariant-loop-part g l = record {
   asks : Asks (g.S.System.events l.fn.sys) (g.S.System.events l.sys) l.fn.facts l.facts;
-  rest : (F : Facts) → Extends l.facts F → (others : List ℕ)
-      → AnswersAll F l.explained.line l.explained.work l.explained.seed (drop l.part-index l.parts) others
-      → AnswersAll F l.explained.line l.explained.work l.explained.seed l.parts (l.text ++ others);
+  rest : (F : Facts) → Extends l.facts F → HasSpecs F l.explained.line.now l.explained.set.now → (others : List Reason)
+      → AnswersAll F l.explained.args.now l.work l.explained.seed (drop l.part-index l.parts) others
+      → AnswersAll F l.explained.args.now l.work l.explained.seed l.parts (l.reasons ++ others);
 }

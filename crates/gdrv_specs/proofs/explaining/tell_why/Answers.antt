@@ -1,13 +1,13 @@
 use Rattle.gdrv_specs.proofs.Reasons.{explains_after, explains_before}
 use Rattle.gdrv_specs.proofs.explaining.tell_why.Goals as goal
 
--- tell_why (src/explaining.rt). Writes to standard output what each part of a line changes: what differs between the commands of the line
--- and those of the line without that part, or why that one is refused.
+-- tell_why (src/explaining.rt). Writes to standard output what each part of a line changes, in a form: what differs between the commands of
+-- the line and those of the line without that part, or why that one is refused.
 
 pub returns-in-Ok : goal.returns-in-Ok
 returns-in-Ok g c =
-    explains_after c.args.line c.args.seed c.in-Ok.text c.tell_reasons.result c.new.ensures c.reasons.ensures.asks c.in-Ok.ensures.gives
+    explains_after c.args.report c.args.line.now c.args.seed c.in-Ok.text c.tell_reasons.result c.new.ensures c.reasons.ensures.asks c.in-Ok.ensures.gives
     c.tell_reasons.ensures
 
 pub returns : goal.returns
-returns g c = explains_before c.args.line c.args.seed c.in-Err.ending c.new.ensures c.reasons.ensures.asks c.in-Err.ensures.gives
+returns g c = explains_before c.args.report c.args.line.now c.args.seed c.in-Err.ending c.new.ensures c.reasons.ensures.asks c.in-Err.ensures.gives

@@ -9,5 +9,5 @@ returns-in-Ok-clause-asks g c = asks_then c.line_of_call.ensures.asks c.fates_of
 
 pub returns-in-Ok-clause-gives : goal.returns-in-Ok-clause-gives
 returns-in-Ok-clause-gives g c F e =
-    call_gives F c.args.args c.in-Ok.line c.fates_of_line.result
+    call_gives F c.args.report c.args.args c.in-Ok.line c.fates_of_line.result
     (c.in-Ok.ensures.comes F (extends_then (asks_extends c.fates_of_line.ensures.asks) e)) (c.fates_of_line.ensures.gives F e)

@@ -9,7 +9,7 @@ returns-in-Ok-fates_of-clause-asks g c = asks_then c.set_of.ensures.asks c.fates
 
 pub returns-in-Ok-fates_of-clause-gives : goal.returns-in-Ok-fates_of-clause-gives
 returns-in-Ok-fates_of-clause-gives g c F e =
-    line_told F c.args.line.now c.in-Ok.set c.in-Ok-fates_of.text
+    line_told F c.args.report c.args.line.now c.in-Ok.set c.in-Ok-fates_of.text
     (c.in-Ok.ensures.loads F (extends_then (asks_extends c.fates_of.ensures.asks) e)) (c.in-Ok-fates_of.ensures.tells F e)
 
 pub returns-clause-asks : goal.returns-clause-asks

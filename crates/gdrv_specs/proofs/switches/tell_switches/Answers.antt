@@ -1,13 +1,13 @@
 use Rattle.gdrv_specs.proofs.SwitchesTold.{switches_after, switches_before}
 use Rattle.gdrv_specs.proofs.switches.tell_switches.Goals as goal
 
--- tell_switches (src/switches.rt). Writes to standard output what becomes of each switch of a line: the later switch that cancels it, and
--- the parts of texts that pass it on, test it or hide it, each with its place in a file.
+-- tell_switches (src/switches.rt). Writes to standard output what becomes of each switch of a line, in a form: the later switch that
+-- cancels it, and the parts of texts that pass it on, test it or hide it, each with its place in a file.
 
 pub returns-in-Ok : goal.returns-in-Ok
 returns-in-Ok g c =
-    switches_after c.args.line c.in-Ok.text c.tell_reasons.result c.new.ensures c.fates_of_call.ensures.asks c.in-Ok.ensures.gives
+    switches_after c.args.report c.args.line c.in-Ok.text c.tell_reasons.result c.new.ensures c.fates_of_call.ensures.asks c.in-Ok.ensures.gives
     c.tell_reasons.ensures
 
 pub returns : goal.returns
-returns g c = switches_before c.args.line c.in-Err.ending c.new.ensures c.fates_of_call.ensures.asks c.in-Err.ensures.gives
+returns g c = switches_before c.args.report c.args.line c.in-Err.ending c.new.ensures c.fates_of_call.ensures.asks c.in-Err.ensures.gives

@@ -1,0 +1,18 @@
+use Rattle.drv_system.proofs.Asking.{asks_extends, asks_then, extends_then}
+use Rattle.gdrv_specs.proofs.Reasons.{reasons_without_specs}
+use Rattle.gdrv_specs.proofs.explaining.reasons_of_line.Goals as goal
+
+-- reasons_of_line (src/explaining.rt). The reasons of a line that was read, or its ending in their place.
+
+pub returns-in-Err-clause-gives : goal.returns-in-Err-clause-gives
+returns-in-Err-clause-gives g c F e reads =
+    reasons_without_specs F c.args.report c.args.args.now c.args.line.now c.args.seed c.in-Err.fault c.from.result c.from.ensures
+    (c.in-Err.ensures.loads F e) reads
+
+pub returns-clause-asks : goal.returns-clause-asks
+returns-clause-asks g c = asks_then c.set_of.ensures.asks c.reasons_with_specs.ensures.asks
+
+pub returns-clause-gives : goal.returns-clause-gives
+returns-clause-gives g c F e reads =
+    c.reasons_with_specs.ensures.gives F e
+    (c.in-Ok.ensures.loads F (extends_then (asks_extends c.reasons_with_specs.ensures.asks) e)) reads

@@ -1,0 +1,10 @@
+use Rattle.drv_run.specs.Drives.{work_of}
+use Rattle.gdrv_specs.proofs.Reasons.{plan_refused}
+use Rattle.gdrv_specs.proofs.explaining.work_with.Goals as goal
+
+-- work_with (src/explaining.rt). What a line with these specs asks for.
+
+pub returns-in-Err-clause-comes : goal.returns-in-Err-clause-comes
+returns-in-Err-clause-comes g c F e =
+    plan_refused (work_of F c.args.line.now c.args.set.now c.args.seed) c.in-Err.fault c.from.result c.from.ensures
+    (c.in-Err.ensures.works F e)
