@@ -6,7 +6,7 @@ use Rattle.drv_cc.specs.Items.{start_of, start_option, start_renamed, takes_valu
 use Rattle.drv_cc.specs.Table.{OptionRow, ignored, renames, sections, table, texts}
 use Rattle.drv_cc.specs.UnknownWords.{is_unknown}
 use Rattle.drv_cc.specs.declared.item.Item.{Item}
-use Rattle.drv_cc.specs.declared.table.Part.TheVariants.{Question, Switch, Unknown}
+use Rattle.drv_cc.specs.declared.table.Role.TheVariants.{Question, Switch, Unknown}
 use Rattle.drv_cc.specs.declared.table.Spelling.TheVariants.{Nowhere}
 use Rattle.drv_cc.specs.declared.table.Takes.TheVariants.{Attached, Either, Next, Nothing, Rest}
 use Rattle.drv_cc.specs.declared.table.Takes.{Takes}
@@ -21,7 +21,7 @@ use Rattle.std.specs.List.{list_any}
 
 -- For `Items::with_names`: reading a line again by names of options changes only the unknown words.
 
-no_row : list_any (λ r. is_unknown r.part) table ≡ false
+no_row : list_any (λ r. is_unknown r.role) table ≡ false
 unfolding sections
 no_row = refl
 
@@ -41,10 +41,10 @@ found_passes p q (x ∷ rows) r e missed = by (p x) refl e (both_false (q x) (li
     by true is e missed ih = let same_one : x ≡ r = cc in (ap p (sym same_one) ∙ is, ap q (sym same_one) ∙ missed.0)
     by false is e missed ih = ih e missed.1
 
-row_known : (word : List ℕ) (r : OptionRow) → first_row word ≡ Some r → is_unknown r.part ≡ false
-row_known word r e = (found_passes _ (λ r. is_unknown r.part) table r e no_row).1
+row_known : (word : List ℕ) (r : OptionRow) → first_row word ≡ Some r → is_unknown r.role ≡ false
+row_known word r e = (found_passes _ (λ r. is_unknown r.role) table r e no_row).1
 
-row_again : (known : List ℕ) (r : OptionRow) (argument : List ℕ) → is_unknown r.part ≡ false
+row_again : (known : List ℕ) (r : OptionRow) (argument : List ℕ) → is_unknown r.role ≡ false
     → again known (by_row r argument) ≡ by_row r argument
 row_again known r argument e = rw e refl
 
@@ -54,12 +54,12 @@ start_again known (Wants r) = Wants r
 
 abbrev IsFit : Start → Type 0
 IsFit (Whole i) = ⊤
-IsFit (Wants r) = is_unknown r.part ≡ false
+IsFit (Wants r) = is_unknown r.role ≡ false
 
 abbrev Begun : List ℕ → Start → Start → Type 0
 Begun known before after = (start_again known before ≡ after) × IsFit before
 
-rest_begun : (known : List ℕ) (takes : Takes) (r : OptionRow) (rest : List ℕ) → is_unknown r.part ≡ false
+rest_begun : (known : List ℕ) (takes : Takes) (r : OptionRow) (rest : List ℕ) → is_unknown r.role ≡ false
     → Begun known (with_rest takes r rest) (with_rest takes r rest)
 rest_begun known Nothing r rest e = (ap Whole (row_again known r [] e), tt)
 rest_begun known Next r rest e = (refl, e)
@@ -256,7 +256,7 @@ begun known (b ∷ word) = by (is_file (b ∷ word)) refl
 
 abbrev IsFitting : Option OptionRow → Type 0
 IsFitting None = ⊤
-IsFitting (Some r) = is_unknown r.part ≡ false
+IsFitting (Some r) = is_unknown r.role ≡ false
 
 items_again : (known : List ℕ) (wanting : Option OptionRow) (words : List (List ℕ)) → IsFitting wanting
     → map (again known) (items_of [] wanting words) ≡ items_of known wanting words
@@ -288,7 +288,7 @@ pub renamed_named : {E : Type 0} (known word name : List ℕ) (result : Result I
 renamed_named known word name (Ok found) same is = is ∙ ap (by_names known word) same
 renamed_named known word name (Err e) same is = tt
 
-pub asked_again : {E : Type 0} (known : List ℕ) (i : Item) (word : List ℕ) (result : Result Item E) → is_unknown i.part ≡ true
+pub asked_again : {E : Type 0} (known : List ℕ) (i : Item) (word : List ℕ) (result : Result Item E) → is_unknown i.role ≡ true
     → word ≡ i.name
     → IfOk result (λ found. found ≡ by_names known word (renamed word)) → IfOk result (λ found. found ≡ again known i)
 asked_again known i word (Ok found) unknown word_is is = is ∙ ap (λ w. by_names known w (renamed w)) word_is ∙ sym (rw unknown refl)

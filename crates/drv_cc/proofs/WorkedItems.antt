@@ -3,7 +3,7 @@ use Rattle.drv_args.specs.declared.option_table.Setting.TheVariants as setting
 use Rattle.drv_args.specs.declared.option_table.Tool.TheVariants as tool
 use Rattle.drv_cc.specs.Items.{item, plain}
 use Rattle.drv_cc.specs.LineItems.{item_of, line_item}
-use Rattle.drv_cc.specs.declared.table.Part.TheVariants.{Input, Library, Piece, Switch, Tells}
+use Rattle.drv_cc.specs.declared.table.Role.TheVariants.{Input, Library, Piece, Switch, Tells}
 use Rattle.drv_cc.specs.declared.table.Spelling.TheVariants.{Alone, Joined, Nowhere, Separate}
 use Rattle.std.proofs.Common.{◌≡◌, [], codes, refl}
 use Rattle.std.specs.Prelude.{None, Some}

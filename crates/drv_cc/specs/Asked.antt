@@ -4,8 +4,8 @@ use Rattle.drv_cc.specs.Kept.{has, has_input}
 use Rattle.drv_cc.specs.SideFiles.{compiled, is_some, sources}
 use Rattle.drv_cc.specs.Table.{texts}
 use Rattle.drv_cc.specs.declared.item.Item.{Item}
-use Rattle.drv_cc.specs.declared.table.Part.TheVariants as part
-use Rattle.drv_cc.specs.declared.table.Part.{Part}
+use Rattle.drv_cc.specs.declared.table.Role.TheVariants as role
+use Rattle.drv_cc.specs.declared.table.Role.{Role}
 use Rattle.std.specs.List.{list_any}
 use Rattle.std.specs.Prelude.{◌&&◌, ◌||◌, Bool, List, codes, false, not, true, ℕ}
 
@@ -13,12 +13,12 @@ use Rattle.std.specs.Prelude.{◌&&◌, ◌||◌, Bool, List, codes, false, not,
 
 -- Asked: the line has a question, or an argument that gcc's driver refuses in its own words; or it has an option that says more of a run,
 -- and has nothing to run.
-abbrev pub is_question : Part → Bool
-is_question part.Question = true
+abbrev pub is_question : Role → Bool
+is_question role.Question = true
 is_question _ = false
 
-abbrev pub tells : Part → Bool
-tells part.Tells = true
+abbrev pub tells : Role → Bool
+tells role.Tells = true
 tells _ = false
 
 -- a number; gcc knows more ways to write one (integral_argument)
@@ -29,7 +29,7 @@ abbrev pub has_no_number : Item → Bool
 has_no_number i = is_among numeric i.name && not (is_number i.argument)
 
 abbrev pub asks : Item → Bool
-asks i = is_question i.part || (names_no_check i || has_no_number i)
+asks i = is_question i.role || (names_no_check i || has_no_number i)
 
 -- the compiler judges what --param sets ("Optimize Options"), and it is started for sources of C that are not only preprocessed
 abbrev pub only_preprocesses : List Item → Bool
@@ -69,7 +69,7 @@ mixes_formats items = ((mixes_stabs items || mixes_xcoff items) || mixes_vms ite
 
 -- a question where there is no input
 abbrev pub tells_alone : List Item → Bool
-tells_alone items = list_any (λ i. tells i.part) items && not (has_input items)
+tells_alone items = list_any (λ i. tells i.role) items && not (has_input items)
 
 abbrev pub is_asked : List Item → Bool
 is_asked items = ((list_any asks items || tells_alone items) || sets_unjudged items) || mixes_formats items

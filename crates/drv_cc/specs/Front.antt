@@ -3,7 +3,7 @@ use Rattle.drv_args.specs.declared.option_table.Effect.TheVariants as effect
 use Rattle.drv_args.specs.declared.option_table.Setting.TheVariants as setting
 use Rattle.drv_cc.specs.Asked.{is_asked}
 use Rattle.drv_cc.specs.Items.{begins, is_among, items_of, same, words_of}
-use Rattle.drv_cc.specs.Kept.{has, is_file_part, is_vendors, kept, last_argument, refusals}
+use Rattle.drv_cc.specs.Kept.{has, is_file_role, is_vendors, kept, last_argument, refusals}
 use Rattle.drv_cc.specs.Levels.{check_words, debug_words}
 use Rattle.drv_cc.specs.LineItems.{alone, item_of, line_item}
 use Rattle.drv_cc.specs.SideFiles.{inputs, is_some, link_beginning, side_words, sources, stops, with_value, worked}
@@ -16,8 +16,8 @@ use Rattle.drv_cc.specs.declared.answer.Surroundings.{Surroundings}
 use Rattle.drv_cc.specs.declared.answer.Variable.{Variable}
 use Rattle.drv_cc.specs.declared.item.Item.{Item}
 use Rattle.drv_cc.specs.declared.refusal.Refusal.{Refusal}
-use Rattle.drv_cc.specs.declared.table.Part.TheVariants as part
-use Rattle.drv_cc.specs.declared.table.Part.{Part}
+use Rattle.drv_cc.specs.declared.table.Role.TheVariants as role
+use Rattle.drv_cc.specs.declared.table.Role.{Role}
 use Rattle.drv_words.specs.Bytes.{colon, comma, single_quote, space}
 use Rattle.std.specs.List.{ends_with, filter, filter_map, flat_map, list_any, slice_split}
 use Rattle.std.specs.Prelude.{◌==◌, ◌&&◌, ◌||◌, Bool, List, [], ◌∷◌, ◌++◌, None, Option, Some, codes, drop, false, if◌then◌else◌, length}
@@ -156,13 +156,13 @@ quoted word = single_quote ∷ flat_map quoted_byte word ++ single_quote ∷ []
 abbrev pub quoted_line : List (List ℕ) → List ℕ
 quoted_line words = drop 1 (flat_map (λ word. space ∷ quoted word) words)
 
-abbrev pub is_switch : Part → Bool
-is_switch part.Switch = true
-is_switch part.Unknown = true
+abbrev pub is_switch : Role → Bool
+is_switch role.Switch = true
+is_switch role.Unknown = true
 is_switch _ = false
 
 abbrev pub switch_words : List Item → List (List ℕ)
-switch_words items = flat_map words_of (filter (λ i. is_switch i.part) items)
+switch_words items = flat_map words_of (filter (λ i. is_switch i.role) items)
 
 abbrev pub dump_words : List Item → List (List ℕ)
 dump_words items = codes "-dumpdir" ∷ link_beginning items ∷ []
@@ -216,12 +216,12 @@ abbrev pub ends_as_source : List ℕ → Bool
 ends_as_source name = list_any (ends_with nat_eq name) (texts (codes ".c .i .h .s .S .sx"))
 
 abbrev pub is_source_file : Item → Bool
-is_source_file i = is_file_part i.part && ends_as_source i.name
+is_source_file i = is_file_role i.role && ends_as_source i.name
 
 -- Each source is of C where -x is on no file, none is standard input, and the only suffix of a source is .c.
 abbrev pub is_other_file : Item → Bool
 is_other_file i =
-    is_file_part i.part && ((ends_as_source i.name && not (ends_with nat_eq i.name (codes ".c"))) || same i.name (codes "-"))
+    is_file_role i.role && ((ends_as_source i.name && not (ends_with nat_eq i.name (codes ".c"))) || same i.name (codes "-"))
 
 -- Nor is there a preprocessor alone: -E, -M and -MM.
 abbrev pub preprocesses : Item → Bool

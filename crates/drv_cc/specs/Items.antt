@@ -2,8 +2,8 @@ use Rattle.drv_cc.specs.Table.{OptionRow, ignored, renames, rings, table, texts,
 use Rattle.drv_cc.specs.declared.item.Item.{Item}
 use Rattle.drv_cc.specs.declared.table.Spelling.TheVariants.{Alone, Joined, Nowhere, Separate}
 use Rattle.drv_cc.specs.declared.table.Spelling.{Spelling}
-use Rattle.drv_cc.specs.declared.table.Part.TheVariants.{Input, Lacking, Question, Switch, Unknown}
-use Rattle.drv_cc.specs.declared.table.Part.{Part}
+use Rattle.drv_cc.specs.declared.table.Role.TheVariants.{Input, Lacking, Question, Switch, Unknown}
+use Rattle.drv_cc.specs.declared.table.Role.{Role}
 use Rattle.drv_cc.specs.declared.table.Takes.TheVariants.{Attached, Either, Next, Nothing, Rest}
 use Rattle.drv_cc.specs.declared.table.Takes.{Takes}
 use Rattle.drv_words.specs.Bytes.{equals, hyphen, newline}
@@ -56,22 +56,22 @@ class_of spelling name = ring_or (class_by spelling name) (find (λ ring. is_amo
 
 -- Items.
 
-abbrev pub item : List ℕ → List ℕ → Spelling → Part → Item
-item name argument spelling part = record {
+abbrev pub item : List ℕ → List ℕ → Spelling → Role → Item
+item name argument spelling role = record {
   name = name;
   argument = argument;
   spelling = spelling;
-  part = part;
+  role = role;
   class =
       class_of spelling name;
 }
 
 -- a word that is no option
-abbrev pub plain : Part → List ℕ → Item
-plain part word = record { name = word; argument = []; spelling = Alone; part = part; class = [] }
+abbrev pub plain : Role → List ℕ → Item
+plain role word = record { name = word; argument = []; spelling = Alone; role = role; class = [] }
 
 abbrev pub by_row : OptionRow → List ℕ → Item
-by_row r argument = item r.name argument r.spelling r.part
+by_row r argument = item r.name argument r.spelling r.role
 
 -- how a word begins: an item, or an option that takes the next word
 pub data Start : Type 0 where

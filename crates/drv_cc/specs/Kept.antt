@@ -2,8 +2,8 @@ use Rattle.drv_cc.specs.Items.{begins, same}
 use Rattle.drv_cc.specs.declared.item.Item.{Item}
 use Rattle.drv_cc.specs.declared.refusal.Refusal.TheVariants as refusal
 use Rattle.drv_cc.specs.declared.refusal.Refusal.{Refusal}
-use Rattle.drv_cc.specs.declared.table.Part.TheVariants as part
-use Rattle.drv_cc.specs.declared.table.Part.{Part}
+use Rattle.drv_cc.specs.declared.table.Role.TheVariants as role
+use Rattle.drv_cc.specs.declared.table.Role.{Role}
 use Rattle.std.specs.Cmp.Lexicographic.{pointwise}
 use Rattle.std.specs.List.{flat_map, list_any}
 use Rattle.std.specs.Prelude.{◌&&◌, ◌-◌, Bool, List, [], ◌∷◌, ◌++◌, None, Option, Some, codes, drop, false, if◌then◌else◌, length, nat_eq}
@@ -28,17 +28,17 @@ last_argument name items = last_from None name items
 
 -- Parts of the line.
 
-abbrev pub is_input : Part → Bool
-is_input part.Input = true
-is_input part.Library = true
+abbrev pub is_input : Role → Bool
+is_input role.Input = true
+is_input role.Library = true
 is_input _ = false
 
-abbrev pub is_file_part : Part → Bool
-is_file_part part.Input = true
-is_file_part _ = false
+abbrev pub is_file_role : Role → Bool
+is_file_role role.Input = true
+is_file_role _ = false
 
 abbrev pub has_input : List Item → Bool
-has_input items = list_any (λ i. is_input i.part) items
+has_input items = list_any (λ i. is_input i.role) items
 
 -- the line names a spec file
 abbrev pub is_vendors : List Item → Bool
@@ -60,27 +60,27 @@ is_named named word = not (begins (codes "--gdrv-") word) && list_any (names (dr
 
 -- Refused: each word that is no option and that no spec file of the line names; each option without its argument; each that is not
 -- carried out here; then a line whose output has no name, or one without input.
-abbrev pub refused_part : List (List ℕ) → Part → List ℕ → List Refusal
-refused_part named part.Unknown name = if is_named named name then [] else refusal.UnknownOption name ∷ []
-refused_part named part.Lacking name = refusal.NoArgument name ∷ []
-refused_part named part.Refused name = refusal.NotTaken name ∷ []
-refused_part named part.Input name = []
-refused_part named part.Library name = []
-refused_part named part.Piece name = []
-refused_part named part.Switch name = []
-refused_part named part.Question name = []
-refused_part named part.Tells name = []
+abbrev pub refused_role : List (List ℕ) → Role → List ℕ → List Refusal
+refused_role named role.Unknown name = if is_named named name then [] else refusal.UnknownOption name ∷ []
+refused_role named role.Lacking name = refusal.NoArgument name ∷ []
+refused_role named role.Refused name = refusal.NotTaken name ∷ []
+refused_role named role.Input name = []
+refused_role named role.Library name = []
+refused_role named role.Piece name = []
+refused_role named role.Switch name = []
+refused_role named role.Question name = []
+refused_role named role.Tells name = []
 
 abbrev pub refused_item : List (List ℕ) → Item → List Refusal
-refused_item named i = refused_part named i.part i.name
+refused_item named i = refused_role named i.role i.name
 
 -- the last -o has an empty argument, or there is no input
-abbrev pub is_lacking : Part → Bool
-is_lacking part.Lacking = true
+abbrev pub is_lacking : Role → Bool
+is_lacking role.Lacking = true
 is_lacking _ = false
 
 abbrev pub unnamed_after : Item → Bool → Bool
-unnamed_after i before = if same i.name (codes "-o") && not (is_lacking i.part) then same i.argument [] else before
+unnamed_after i before = if same i.name (codes "-o") && not (is_lacking i.role) then same i.argument [] else before
 
 abbrev pub unnamed_from : Bool → List Item → Bool
 unnamed_from before [] = before

@@ -5,8 +5,8 @@ use Rattle.drv_args.specs.declared.option_table.Setting.TheVariants as setting
 use Rattle.drv_args.specs.declared.option_table.Tool.TheVariants as tool
 use Rattle.drv_cc.specs.Items.{same}
 use Rattle.drv_cc.specs.declared.item.Item.{Item}
-use Rattle.drv_cc.specs.declared.table.Part.TheVariants as part
-use Rattle.drv_cc.specs.declared.table.Part.{Part}
+use Rattle.drv_cc.specs.declared.table.Role.TheVariants as role
+use Rattle.drv_cc.specs.declared.table.Role.{Role}
 use Rattle.drv_cc.specs.declared.table.Spelling.TheVariants.{Alone, Joined, Nowhere, Separate}
 use Rattle.drv_cc.specs.declared.table.Spelling.{Spelling}
 use Rattle.std.specs.Prelude.{List, [], None, Option, Some, codes, if◌then◌else◌, ℕ}
@@ -48,8 +48,8 @@ option_effect Joined name = Some (joined_effect name)
 option_effect Separate name = Some (separate_effect name)
 option_effect Nowhere name = None
 
-abbrev pub effect_of : Part → Spelling → List ℕ → Option Effect
-effect_of part.Input spelling name = Some effect.File
+abbrev pub effect_of : Role → Spelling → List ℕ → Option Effect
+effect_of role.Input spelling name = Some effect.File
 effect_of _ spelling name = option_effect spelling name
 
 abbrev pub item_of : Effect → List ℕ → List ℕ → LineItem
@@ -60,7 +60,7 @@ with_effect None i = None
 with_effect (Some effect) i = Some (item_of effect i.name i.argument)
 
 abbrev pub line_item : Item → Option LineItem
-line_item i = with_effect (effect_of i.part i.spelling i.name) i
+line_item i = with_effect (effect_of i.role i.spelling i.name) i
 
 -- a word that is an item by itself
 abbrev pub alone : Effect → List ℕ → LineItem

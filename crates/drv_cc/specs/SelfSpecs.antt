@@ -5,7 +5,7 @@ use Rattle.drv_args.specs.declared.option_table.Setting.TheVariants as setting
 use Rattle.drv_cc.specs.Front.{added_pipe, assembler_variables, dump_words, first_words, program_items, switch_words, thread_words}
 use Rattle.drv_cc.specs.Front.{variables_by}
 use Rattle.drv_cc.specs.Items.{is_among, item, items_of, same}
-use Rattle.drv_cc.specs.Kept.{has, kept, last_argument, refused_part}
+use Rattle.drv_cc.specs.Kept.{has, kept, last_argument, refused_role}
 use Rattle.drv_cc.specs.Levels.{check_words, debug_words_of, debugged, no_debugging, toggled}
 use Rattle.drv_cc.specs.LineItems.{alone, effect_of, line_item}
 use Rattle.drv_cc.specs.SideFiles.{inputs, side_words, stops}
@@ -20,8 +20,8 @@ use Rattle.drv_cc.specs.declared.item.Item.{Item}
 use Rattle.drv_cc.specs.declared.levels.Debugging.{Debugging}
 use Rattle.drv_cc.specs.declared.refusal.Refusal.TheVariants.{GivenFile, NotTaken}
 use Rattle.drv_cc.specs.declared.refusal.Refusal.{Refusal}
-use Rattle.drv_cc.specs.declared.table.Part.TheVariants as part
-use Rattle.drv_cc.specs.declared.table.Part.{Part}
+use Rattle.drv_cc.specs.declared.table.Role.TheVariants as role
+use Rattle.drv_cc.specs.declared.table.Role.{Role}
 use Rattle.drv_cc.specs.declared.table.Spelling.TheVariants.{Alone}
 use Rattle.std.specs.List.{filter, filter_map, flat_map, starts_with}
 use Rattle.std.specs.Prelude.{◌||◌, Bool, List, [], ◌∷◌, ◌++◌, None, Option, Some, codes, drop, false, if◌then◌else◌, length, map, nat_eq}
@@ -32,7 +32,7 @@ use Rattle.std.specs.Prelude.{nat_lt, not, true, ℕ}
 
 -- What the text sees: what stays of the line, and the threads that it needs.
 abbrev pub thread_item : List ℕ → Item
-thread_item word = item word [] Alone part.Switch
+thread_item word = item word [] Alone role.Switch
 
 abbrev pub seen : List Item → List Item
 seen items = items ++ map thread_item (thread_words items)
@@ -57,7 +57,7 @@ written_if None i = []
 written_if (Some effect) i = written_by effect i.name i.argument
 
 abbrev pub written : Item → List (List ℕ)
-written i = written_if (effect_of i.part i.spelling i.name) i
+written i = written_if (effect_of i.role i.spelling i.name) i
 
 -- Hidden for good: a switch that the text hid. `left` are the words of those that it left, in their order. Switches of one name are hidden
 -- alike, so the first word tells.
@@ -81,14 +81,14 @@ given_items known words = filter (λ i. not (is_late i)) (kept (items_of known N
 abbrev pub is_machine : List ℕ → Bool
 is_machine name = starts_with nat_eq name (codes "-m")
 
-abbrev pub given_refused : List (List ℕ) → Part → List ℕ → List Refusal
-given_refused named part.Input name = GivenFile name ∷ []
-given_refused named part.Question name = NotTaken name ∷ []
-given_refused named part.Switch name = if is_machine name then NotTaken name ∷ [] else []
-given_refused named other name = refused_part named other name
+abbrev pub given_refused : List (List ℕ) → Role → List ℕ → List Refusal
+given_refused named role.Input name = GivenFile name ∷ []
+given_refused named role.Question name = NotTaken name ∷ []
+given_refused named role.Switch name = if is_machine name then NotTaken name ∷ [] else []
+given_refused named other name = refused_role named other name
 
 abbrev pub given_refusals : List (List ℕ) → List Item → List Refusal
-given_refusals named given = flat_map (λ i. given_refused named i.part i.name) given
+given_refusals named given = flat_map (λ i. given_refused named i.role i.name) given
 
 -- The level of debugging goes on from that of the line, whose toggle is not turned again.
 abbrev pub settled : Debugging → Debugging

@@ -1,5 +1,5 @@
 use Rattle.drv_cc.specs.Items.{is_among, same}
-use Rattle.drv_cc.specs.Kept.{has, is_file_part, last_argument}
+use Rattle.drv_cc.specs.Kept.{has, is_file_role, last_argument}
 use Rattle.drv_cc.specs.Table.{texts}
 use Rattle.drv_cc.specs.declared.item.Item.{Item}
 use Rattle.drv_words.specs.Bytes.{period}
@@ -34,11 +34,11 @@ are_several (name ∷ []) = false
 are_several (name ∷ other ∷ names) = true
 
 abbrev pub files : List Item → List (List ℕ)
-files items = map (λ i. i.name) (filter (λ i. is_file_part i.part) items)
+files items = map (λ i. i.name) (filter (λ i. is_file_role i.role) items)
 
 -- those that are looked for: - is the standard input
 abbrev pub is_looked_for : Item → Bool
-is_looked_for i = is_file_part i.part && not (same i.name (codes "-"))
+is_looked_for i = is_file_role i.role && not (same i.name (codes "-"))
 
 abbrev pub inputs : List Item → List (List ℕ)
 inputs items = map (λ i. i.name) (filter is_looked_for items)
@@ -62,7 +62,7 @@ abbrev pub language_by : List ℕ → Item → List ℕ
 language_by language i = if same i.name (codes "-x") then (if same i.argument (codes "none") then [] else i.argument) else language
 
 abbrev pub source_by : List ℕ × List ℕ → List ℕ → Item → List (List ℕ)
-source_by kinds language i = if is_file_part i.part && is_source kinds language i.name then i.name ∷ [] else []
+source_by kinds language i = if is_file_role i.role && is_source kinds language i.name then i.name ∷ [] else []
 
 abbrev pub sources_from : List ℕ × List ℕ → List ℕ → List Item → List (List ℕ)
 sources_from kinds language [] = []

@@ -1,7 +1,7 @@
 use Rattle.drv_cc.specs.declared.table.Spelling.TheVariants.{Alone, Joined, Nowhere, Separate}
 use Rattle.drv_cc.specs.declared.table.Spelling.{Spelling}
-use Rattle.drv_cc.specs.declared.table.Part.TheVariants.{Library, Piece, Question, Refused, Switch, Tells}
-use Rattle.drv_cc.specs.declared.table.Part.{Part}
+use Rattle.drv_cc.specs.declared.table.Role.TheVariants.{Library, Piece, Question, Refused, Switch, Tells}
+use Rattle.drv_cc.specs.declared.table.Role.{Role}
 use Rattle.drv_cc.specs.declared.table.Takes.TheVariants.{Attached, Either, Next, Nothing, Rest}
 use Rattle.drv_cc.specs.declared.table.Takes.{Takes}
 use Rattle.drv_words.specs.Bytes.{greater_than, space}
@@ -17,17 +17,17 @@ pub record OptionRow : Type 0 where
   pub takes : Takes
   pub name : List ℕ
   pub spelling : Spelling
-  pub part : Part
+  pub role : Role
 
 -- options that are alike, in one text: between blanks an option, or an option, a > and the name that it is called by
 pub record Section : Type 0 where
   pub takes : Takes
   pub spelling : Spelling
-  pub part : Part
+  pub role : Role
   pub entries : List ℕ
 
-abbrev pub section : Takes → Spelling → Part → List ℕ → Section
-section takes spelling part entries = record { takes = takes; spelling = spelling; part = part; entries = entries }
+abbrev pub section : Takes → Spelling → Role → List ℕ → Section
+section takes spelling role entries = record { takes = takes; spelling = spelling; role = role; entries = entries }
 
 -- in a text of names each blank is between two
 abbrev pub texts : List ℕ → List (List ℕ)
@@ -52,7 +52,7 @@ row_of s entry = record {
   name = or_itself (name_after entry) entry;
   spelling =
       s.spelling;
-  part = s.part;
+  role = s.role;
 }
 
 abbrev pub section_rows : Section → List OptionRow

@@ -13,7 +13,7 @@ use crate::classes::{is, is_one_of};
 use crate::item::Item;
 use crate::keeping::{has, has_input};
 use crate::sources::has_compiled;
-use crate::table::Part;
+use crate::table::Role;
 use crate::values::is_number;
 
 /// Options that ask for records in a format that is still in use (GCC manual, "Debugging Options").
@@ -47,14 +47,14 @@ fn has_no_number(item: &Item) -> bool
 fn asks(item: &Item) -> bool
     ensures { result ≡ asks item.now }
 {
-    matches!(item.part, Part::Question) || names_no_check(item) || has_no_number(item)
+    matches!(item.role, Role::Question) || names_no_check(item) || has_no_number(item)
 }
 
 /// Whether an item is a question where there is no input.
 fn tells(item: &Item) -> bool
-    ensures { result ≡ tells item.now.part }
+    ensures { result ≡ tells item.now.role }
 {
-    matches!(item.part, Part::Tells)
+    matches!(item.role, Role::Tells)
 }
 
 /// Whether one is among them that asks.
@@ -66,7 +66,7 @@ fn has_question(items: &[Item]) -> bool
 
 /// Whether a question is among them that is one where there is no input.
 fn has_telling(items: &[Item]) -> bool
-    ensures { result ≡ list_any (λ i. tells i.part) items.now }
+    ensures { result ≡ list_any (λ i. tells i.role) items.now }
 {
     items.iter().any(tells)
 }

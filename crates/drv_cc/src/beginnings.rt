@@ -4,18 +4,18 @@ ghost use Rattle.drv_cc.specs.Code.Building.{shown};
 ghost use Rattle.drv_cc.specs.Code.Groups.{begun_at};
 ghost use Rattle.std.specs.Prelude.{◌≡◌, ◌<◌, map};
 
-use crate::table::{Part, Row, Spelling, Takes};
+use crate::table::{Role, Row, Spelling, Takes};
 
 /// A group of rows: of each its option, the name that it is called by, how the option takes its
 /// argument, how the name is spelled, and what it is on the line.
 macro_rules! group {
-    ($($option:literal $name:literal $takes:ident $spelling:ident $part:ident)*) => {
+    ($($option:literal $name:literal $takes:ident $spelling:ident $role:ident)*) => {
         &[$(Row {
             option: $option,
             takes: Takes::$takes,
             name: $name,
             spelling: Spelling::$spelling,
-            part: Part::$part,
+            role: Role::$role,
         }),*]
     };
 }

@@ -27,7 +27,7 @@ use crate::line_items::add_kept;
 use crate::reading::items_of;
 use crate::sides::add_side_words;
 use crate::sources::inputs;
-use crate::table::{Part, Spelling};
+use crate::table::{Role, Spelling};
 use crate::{Answer, Call, Refusal, Stages, Surroundings};
 use drv_words::{Listing, Word};
 use std::alloc::{AllocError, Global};
@@ -58,7 +58,7 @@ fn add_thread_items(
     ensures { OnOk result (items.new ≡ items.old ++ map thread_item words.now) }
 {
     for word in words {
-        items.push(Item::new(alloc, word.as_bytes(), b"", Spelling::Alone, Part::Switch)?)?;
+        items.push(Item::new(alloc, word.as_bytes(), b"", Spelling::Alone, Role::Switch)?)?;
     }
     Ok(())
 }
@@ -155,12 +155,12 @@ fn refuse_given(
     refusals: &mut Listing<Refusal>,
 ) -> Result<(), AllocError>
     ensures { OnOk result (refusals.new
-        ≡ refusals.old ++ given_refused named.now item.now.part item.now.name) }
+        ≡ refusals.old ++ given_refused named.now item.now.role item.now.name) }
 {
-    match item.part {
-        Part::Input => refusals.push(Refusal::GivenFile(item.name.clone()?))?,
-        Part::Question => refusals.push(Refusal::NotTaken(item.name.clone()?))?,
-        Part::Switch if item.name.as_bytes().starts_with(b"-m") => {
+    match item.role {
+        Role::Input => refusals.push(Refusal::GivenFile(item.name.clone()?))?,
+        Role::Question => refusals.push(Refusal::NotTaken(item.name.clone()?))?,
+        Role::Switch if item.name.as_bytes().starts_with(b"-m") => {
             refusals.push(Refusal::NotTaken(item.name.clone()?))?;
         }
         _ => refuse(named, item, refusals)?,

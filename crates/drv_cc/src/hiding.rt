@@ -42,7 +42,7 @@ fn written(alloc: Global, item: &Item) -> Result<Listing<Word>, AllocError>
     ensures { IfOk result (λ words. words ≡ written item.now) }
 {
     let name = item.name.as_bytes();
-    match effect_of(item.part, item.spelling, name) {
+    match effect_of(item.role, item.spelling, name) {
         Some(effect) => written_by(alloc, effect, name, item.argument.as_bytes()),
         None => Ok(Listing::new(alloc)),
     }

@@ -5,7 +5,7 @@ ghost use Rattle.drv_cc.specs.Items.{by_row, item, plain, words_of};
 ghost use Rattle.std.specs.Prelude.{◌≡◌, ◌++◌, IfOk, OnOk};
 
 use crate::classes::class_of;
-use crate::table::{Part, Row, Spelling};
+use crate::table::{Role, Row, Spelling};
 use drv_words::{Listing, Word};
 use std::alloc::{AllocError, Global};
 
@@ -19,7 +19,7 @@ pub(crate) struct Item {
     /// How it is spelled.
     pub(crate) spelling: Spelling,
     /// What it is on the line.
-    pub(crate) part: Part,
+    pub(crate) role: Role,
     /// The class of which the last item stays; empty where it has none.
     pub(crate) class: Word,
 }
@@ -32,7 +32,7 @@ impl Clone for Item {
             name: self.name.clone()?,
             argument: self.argument.clone()?,
             spelling: self.spelling,
-            part: self.part,
+            role: self.role,
             class: self.class.clone()?,
         })
     }
@@ -45,28 +45,28 @@ impl Item {
         name: &[u8],
         argument: &[u8],
         spelling: Spelling,
-        part: Part,
+        role: Role,
     ) -> Result<Item, AllocError>
-        ensures { IfOk result (λ made. made ≡ item name.now argument.now spelling part) }
+        ensures { IfOk result (λ made. made ≡ item name.now argument.now spelling role) }
     {
         Ok(Item {
             name: Word::from_bytes(alloc, name)?,
             argument: Word::from_bytes(alloc, argument)?,
             spelling,
-            part,
+            role,
             class: class_of(alloc, spelling, name)?,
         })
     }
 
     /// A word that is no option.
-    pub(crate) fn plain(alloc: Global, part: Part, word: &[u8]) -> Result<Item, AllocError>
-        ensures { IfOk result (λ made. made ≡ plain part word.now) }
+    pub(crate) fn plain(alloc: Global, role: Role, word: &[u8]) -> Result<Item, AllocError>
+        ensures { IfOk result (λ made. made ≡ plain role word.now) }
     {
         Ok(Item {
             name: Word::from_bytes(alloc, word)?,
             argument: Word::empty(alloc),
             spelling: Spelling::Alone,
-            part,
+            role,
             class: Word::empty(alloc),
         })
     }
@@ -75,7 +75,7 @@ impl Item {
     pub(crate) fn by_row(alloc: Global, row: Row, argument: &[u8]) -> Result<Item, AllocError>
         ensures { IfOk result (λ made. made ≡ by_row (shown row) argument.now) }
     {
-        Item::new(alloc, row.name, argument, row.spelling, row.part)
+        Item::new(alloc, row.name, argument, row.spelling, row.role)
     }
 
     /// Adds the words that it is spelled as.

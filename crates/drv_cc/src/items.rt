@@ -11,31 +11,31 @@ use crate::asking::is_asked;
 use crate::fronting::answer_of;
 use crate::item::Item;
 use crate::reading::{by_own_name, items_of};
-use crate::table::Part;
+use crate::table::Role;
 use crate::{Answer, Surroundings};
 use drv_words::{Listing, Word};
 use std::alloc::{AllocError, Global};
 use std::marker::Model;
 
-/// Whether a part is an unknown word.
-fn is_unknown(part: Part) -> bool
-    ensures { result ≡ is_unknown part }
+/// Whether an item of this role is an unknown word.
+fn is_unknown(role: Role) -> bool
+    ensures { result ≡ is_unknown role }
 {
-    matches!(part, Part::Unknown)
+    matches!(role, Role::Unknown)
 }
 
 /// Whether some item is an unknown word.
 fn are_unknown(items: &[Item]) -> bool
-    ensures { result ≡ list_any (λ i. is_unknown i.part) items.now }
+    ensures { result ≡ list_any (λ i. is_unknown i.role) items.now }
 {
-    items.iter().any(|item| is_unknown(item.part))
+    items.iter().any(|item| is_unknown(item.role))
 }
 
 /// An item, by names of options. One that is unknown is none that is passed over.
 fn again(alloc: Global, known: &[u8], item: Item) -> Result<Item, AllocError>
     ensures { IfOk result (λ found. found ≡ again known.now item) }
 {
-    if !is_unknown(item.part) {
+    if !is_unknown(item.role) {
         return Ok(item);
     }
     by_own_name(alloc, known, item.name.as_bytes())

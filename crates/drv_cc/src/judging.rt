@@ -12,7 +12,7 @@ use crate::classes::is;
 use crate::item::Item;
 use crate::keeping::{has, has_input};
 use crate::reading::rest_after;
-use crate::table::Part;
+use crate::table::Role;
 use drv_words::{Listing, Word};
 use std::alloc::{AllocError, Global};
 
@@ -69,21 +69,21 @@ pub(crate) fn refuse(
 ) -> Result<(), AllocError>
     ensures { OnOk result (refusals.new ≡ refusals.old ++ refused_item named.now item.now) }
 {
-    match item.part {
-        Part::Unknown if is_named(named, item.name.as_bytes()) => {}
-        Part::Unknown => refusals.push(Refusal::UnknownOption(item.name.clone()?))?,
-        Part::Lacking => refusals.push(Refusal::NoArgument(item.name.clone()?))?,
-        Part::Refused => refusals.push(Refusal::NotTaken(item.name.clone()?))?,
+    match item.role {
+        Role::Unknown if is_named(named, item.name.as_bytes()) => {}
+        Role::Unknown => refusals.push(Refusal::UnknownOption(item.name.clone()?))?,
+        Role::Lacking => refusals.push(Refusal::NoArgument(item.name.clone()?))?,
+        Role::Refused => refusals.push(Refusal::NotTaken(item.name.clone()?))?,
         _ => {}
     }
     Ok(())
 }
 
 /// Whether an option lacks its argument.
-fn is_lacking(part: Part) -> bool
-    ensures { result ≡ is_lacking part }
+fn is_lacking(role: Role) -> bool
+    ensures { result ≡ is_lacking role }
 {
-    matches!(part, Part::Lacking)
+    matches!(role, Role::Lacking)
 }
 
 /// Whether the last `-o` has an empty argument.
@@ -92,7 +92,7 @@ fn is_unnamed(items: &[Item]) -> bool
 {
     let mut unnamed = false;
     for item in items {
-        if is(item.name.as_bytes(), b"-o") && !is_lacking(item.part) {
+        if is(item.name.as_bytes(), b"-o") && !is_lacking(item.role) {
             unnamed = is(item.argument.as_bytes(), b"");
         }
     }

@@ -6,7 +6,7 @@ ghost use Rattle.std.specs.Option.{option_map};
 ghost use Rattle.std.specs.Prelude.{◌≡◌, IfOk, OnOk, reverse};
 
 use crate::item::Item;
-use crate::table::Part;
+use crate::table::Role;
 use drv_words::{Listing, Word};
 use std::alloc::{AllocError, Global};
 use std::collections::HashSet;
@@ -31,11 +31,11 @@ pub(crate) fn last_argument<'a>(items: &'a [Item], name: &[u8]) -> Option<&'a [u
     found
 }
 
-/// Whether a part is an input.
+/// Whether an item is an input.
 fn is_input(item: &Item) -> bool
-    ensures { result ≡ is_input item.now.part }
+    ensures { result ≡ is_input item.now.role }
 {
-    matches!(item.part, Part::Input | Part::Library)
+    matches!(item.role, Role::Input | Role::Library)
 }
 
 /// Whether there is a file or a library.

@@ -6,7 +6,7 @@ ghost use Rattle.std.specs.List.{filter_map};
 ghost use Rattle.std.specs.Prelude.{◌≡◌, ◌++◌, IfOk, OnOk};
 
 use crate::item::Item;
-use crate::table::{Part, Spelling};
+use crate::table::{Role, Spelling};
 use drv_args::{Effect, Setting, Tool};
 use drv_words::Listing;
 use std::alloc::AllocError;
@@ -81,11 +81,11 @@ fn option_effect(spelling: Spelling, name: &[u8]) -> Option<Effect>
 }
 
 /// The effect of an item in the driver's line, if it has one.
-pub(crate) fn effect_of(part: Part, spelling: Spelling, name: &[u8]) -> Option<Effect>
-    ensures { result ≡ effect_of part spelling name.now }
+pub(crate) fn effect_of(role: Role, spelling: Spelling, name: &[u8]) -> Option<Effect>
+    ensures { result ≡ effect_of role spelling name.now }
 {
-    match part {
-        Part::Input => Some(Effect::File),
+    match role {
+        Role::Input => Some(Effect::File),
         _ => option_effect(spelling, name),
     }
 }
@@ -94,7 +94,7 @@ pub(crate) fn effect_of(part: Part, spelling: Spelling, name: &[u8]) -> Option<E
 fn line_item(item: &Item) -> Result<Option<drv_args::Item>, AllocError>
     ensures { IfOk result (λ given. given ≡ line_item item.now) }
 {
-    let Some(effect) = effect_of(item.part, item.spelling, item.name.as_bytes()) else {
+    let Some(effect) = effect_of(item.role, item.spelling, item.name.as_bytes()) else {
         return Ok(None);
     };
     Ok(Some(drv_args::Item {

@@ -14,7 +14,7 @@ use crate::item::Item;
 use crate::keeping::has;
 use crate::leading::{link_beginning, stops};
 use crate::reading::rest_after;
-use crate::table::Part;
+use crate::table::Role;
 use crate::words::add_word;
 use crate::{Surroundings, Variable};
 use drv_words::{Listing, Word};
@@ -60,9 +60,9 @@ fn quoted_line(alloc: Global, words: &[Word]) -> Result<Word, AllocError>
 
 /// Whether an item is a switch.
 fn is_switch(item: &Item) -> bool
-    ensures { result ≡ is_switch item.now.part }
+    ensures { result ≡ is_switch item.now.role }
 {
-    matches!(item.part, Part::Switch | Part::Unknown)
+    matches!(item.role, Role::Switch | Role::Unknown)
 }
 
 /// Adds the words of the switches.

@@ -6,14 +6,14 @@ ghost use Rattle.drv_cc.specs.Items.{begins, beyond, first_row, is_among, is_fil
 ghost use Rattle.drv_cc.specs.Items.{known_item, machine_item, machine_name, paired, plain, renamed};
 ghost use Rattle.drv_cc.specs.Items.{start_of, start_renamed, with_rest};
 ghost use Rattle.drv_cc.specs.Table.{ignored, texts};
-ghost use Rattle.drv_cc.specs.declared.table.Part.TheVariants as lacking;
+ghost use Rattle.drv_cc.specs.declared.table.Role.TheVariants as lacking;
 ghost use Rattle.std.specs.Prelude.{◌≡◌, ◌∷◌, ◌++◌, [], IfOk, None, OnOk, codes, drop, length};
 
 use crate::classes::{is_ignored, paired};
 use crate::item::Item;
 use crate::known::is_known_line;
 use crate::renaming::{is_renamed, renamed};
-use crate::table::{Part, Row, Spelling, Takes, first_row};
+use crate::table::{Role, Row, Spelling, Takes, first_row};
 use crate::values::{accepts, judges, turns_off};
 use drv_words::{Listing, Word};
 use std::alloc::{AllocError, Global};
@@ -43,7 +43,7 @@ fn with_rest(alloc: Global, row: Row, rest: &[u8]) -> Result<Start, AllocError>
         Takes::Next => Ok(Start::Wants(row)),
         Takes::Either if rest.is_empty() => Ok(Start::Wants(row)),
         Takes::Attached if rest.is_empty() => {
-            Ok(Start::Whole(Item::plain(alloc, Part::Lacking, row.option)?))
+            Ok(Start::Whole(Item::plain(alloc, Role::Lacking, row.option)?))
         }
         Takes::Attached | Takes::Rest | Takes::Either => {
             Ok(Start::Whole(Item::by_row(alloc, row, rest)?))
@@ -67,7 +67,7 @@ fn machine_item(alloc: Global, known: &[u8], machine: &[u8]) -> Result<Item, All
     ensures { IfOk result (λ item. item ≡ machine_item known.now machine.now) }
 {
     let name = machine_name(known);
-    Item::new(alloc, name, machine, Spelling::Joined, Part::Switch)
+    Item::new(alloc, name, machine, Spelling::Joined, Role::Switch)
 }
 
 /// Whether an option names a machine.
@@ -84,7 +84,7 @@ fn known_item(alloc: Global, known: &[u8], name: &[u8]) -> Result<Item, AllocErr
     if names_machine(name) {
         return machine_item(alloc, known, rest_after(name, b"-mcpu="));
     }
-    Item::new(alloc, name, b"", Spelling::Alone, Part::Switch)
+    Item::new(alloc, name, b"", Spelling::Alone, Role::Switch)
 }
 
 /// A word that no row fits and that is not passed over, by the name that it has.
@@ -94,12 +94,12 @@ fn by_names(alloc: Global, known: &[u8], word: &[u8], name: &[u8]) -> Result<Ite
     if turns_off(alloc, known, word)? || accepts(alloc, known, name)? {
         return known_item(alloc, known, name);
     }
-    let part = if judges(alloc, known, name)? {
-        Part::Question
+    let role = if judges(alloc, known, name)? {
+        Role::Question
     } else {
-        Part::Unknown
+        Role::Unknown
     };
-    Item::plain(alloc, part, word)
+    Item::plain(alloc, role, word)
 }
 
 /// The same, by the name that the word has itself.
@@ -132,7 +132,7 @@ fn beyond(alloc: Global, known: &[u8], word: &[u8], name: &[u8]) -> Result<Item,
     ensures { IfOk result (λ item. item ≡ beyond known.now word.now name.now) }
 {
     if is_passed_over(alloc, name)? {
-        return Item::new(alloc, name, b"", Spelling::Nowhere, Part::Switch);
+        return Item::new(alloc, name, b"", Spelling::Nowhere, Role::Switch);
     }
     by_names(alloc, known, word, name)
 }
@@ -166,7 +166,7 @@ fn start_of(alloc: Global, known: &[u8], word: &[u8]) -> Result<Start, AllocErro
     ensures { IfOk result (λ start. start_shown start ≡ start_of known.now word.now) }
 {
     if is_file(word) {
-        return Ok(Start::Whole(Item::plain(alloc, Part::Input, word)?));
+        return Ok(Start::Whole(Item::plain(alloc, Role::Input, word)?));
     }
     match first_row(word) {
         Some(row) => with_rest(alloc, row, rest_after(word, row.option)),
@@ -220,7 +220,7 @@ fn note_words(
 fn add_lacking(alloc: Global, row: Row, items: &mut Listing<Item>) -> Result<(), AllocError>
     ensures { OnOk result (items.new ≡ items.old ++ plain lacking.Lacking row.option.now ∷ []) }
 {
-    items.push(Item::plain(alloc, Part::Lacking, row.option)?)?;
+    items.push(Item::plain(alloc, Role::Lacking, row.option)?)?;
     Ok(())
 }
 

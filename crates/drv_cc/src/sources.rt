@@ -3,7 +3,7 @@
 ghost use Rattle.drv_cc.specs.Code.Building.{Zero, all_noted, count_of, count_shown};
 ghost use Rattle.drv_cc.specs.Code.Building.{counted, counted_only, is_counted, is_many};
 ghost use Rattle.drv_cc.specs.Code.Building.{kinds_shown, noted};
-ghost use Rattle.drv_cc.specs.Kept.{is_file_part};
+ghost use Rattle.drv_cc.specs.Kept.{is_file_role};
 ghost use Rattle.drv_cc.specs.SideFiles.{are_several, files, inputs, is_looked_for, is_some, is_source};
 ghost use Rattle.drv_cc.specs.SideFiles.{is_other, language_by, only, other_suffixes, sources};
 ghost use Rattle.drv_cc.specs.SideFiles.{compiled, preprocessed, worked};
@@ -13,7 +13,7 @@ ghost use Rattle.std.specs.Prelude.{◌≡◌, IfOk};
 use crate::classes::{is, stands_in};
 use crate::item::Item;
 use crate::names::suffix;
-use crate::table::Part;
+use crate::table::Role;
 use drv_words::{Listing, Word};
 use std::alloc::{AllocError, Global};
 
@@ -123,9 +123,9 @@ impl<'a> Count<'a> {
 
 /// Whether an item is a file.
 pub(crate) fn is_file(item: &Item) -> bool
-    ensures { result ≡ is_file_part item.now.part }
+    ensures { result ≡ is_file_role item.now.role }
 {
-    matches!(item.part, Part::Input)
+    matches!(item.role, Role::Input)
 }
 
 /// Whether an item is a file that is looked for; `-` is the standard input.

@@ -40,7 +40,7 @@ pub(crate) enum Spelling {
 
 /// What an item is on the line.
 #[derive(Clone, Copy)]
-pub(crate) enum Part {
+pub(crate) enum Role {
     /// A file.
     Input,
     /// A library, or a word for the linker.
@@ -73,7 +73,7 @@ pub(crate) struct Row {
     /// How that is spelled.
     pub(crate) spelling: Spelling,
     /// What it is on the line.
-    pub(crate) part: Part,
+    pub(crate) role: Role,
 }
 
 impl Takes {

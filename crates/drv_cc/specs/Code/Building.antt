@@ -17,7 +17,7 @@ use Rattle.std.specs.Prelude.{◌≡◌, Bool, List, [], ◌∷◌, ◌++◌, No
 -- The code's values without their references, and how the code goes over a line. Only private clauses cite them.
 
 abbrev pub shown : Row → OptionRow
-shown r = record { option = r.option.now; takes = r.takes; name = r.name.now; spelling = r.spelling; part = r.part }
+shown r = record { option = r.option.now; takes = r.takes; name = r.name.now; spelling = r.spelling; role = r.role }
 
 abbrev pub row_shown : Option Row → Option OptionRow
 row_shown found = option_map shown found

@@ -1,7 +1,7 @@
 use Rattle.drv_cc.specs.Items.{accepts, judges, known_item, plain, renamed, turns_off}
 use Rattle.drv_cc.specs.UnknownWords.{is_unknown}
 use Rattle.drv_cc.specs.declared.item.Item.{Item}
-use Rattle.drv_cc.specs.declared.table.Part.TheVariants.{Question, Unknown}
+use Rattle.drv_cc.specs.declared.table.Role.TheVariants.{Question, Unknown}
 use Rattle.drv_words.specs.Bytes.{newline}
 use Rattle.std.specs.Prelude.{◌==◌, ◌||◌, Bool, List, [], ◌∷◌, if◌then◌else◌, true, ℕ}
 
@@ -21,4 +21,4 @@ by_names known word name =
 
 -- an item of a line that was read without names of options, by these names: what is unknown is none that is passed over
 abbrev pub again : List ℕ → Item → Item
-again known i = if is_unknown i.part then by_names known i.name (renamed i.name) else i
+again known i = if is_unknown i.role then by_names known i.name (renamed i.name) else i
