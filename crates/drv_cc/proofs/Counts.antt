@@ -7,25 +7,30 @@ use Rattle.std.specs.List.{list_all}
 
 -- For the sources and suffixes of a line: what the code counts of a list is what the definitions say of it.
 
+-- Once there are more than one, a further name changes nothing of the count.
 many_stays : (names : List (List ℕ)) → all_counted Many names ≡ Many
 many_stays [] = refl
 many_stays (name ∷ names) = many_stays names
 
+-- For `only_file` and `only_source` (src/sources.rt): the count knows the only name.
 pub only_of : (names : List (List ℕ)) → counted_only (count_of names) ≡ only names
 only_of [] = refl
 only_of (name ∷ []) = refl
 only_of (name ∷ other ∷ names) = ap counted_only (many_stays names)
 
+-- For `has_source` and `has_compiled`: the count knows whether there is a name.
 pub some_of : (names : List (List ℕ)) → is_counted (count_of names) ≡ is_some names
 some_of [] = refl
 some_of (name ∷ []) = refl
 some_of (name ∷ other ∷ names) = ap is_counted (many_stays names)
 
+-- For `has_several_files`: the count knows whether there are several.
 pub many_of : (names : List (List ℕ)) → is_many (count_of names) ≡ are_several names
 many_of [] = refl
 many_of (name ∷ []) = refl
 many_of (name ∷ other ∷ names) = ap is_many (many_stays names)
 
+-- Once two different suffixes are noted, a further one changes nothing.
 many_noted : (names : List (List ℕ)) → all_noted Many names ≡ Many
 many_noted [] = refl
 many_noted (name ∷ names) = many_noted names
@@ -41,6 +46,7 @@ one_noted end (other ∷ others) = by (same end other) refl (one_noted end other
     by true is rest = rw is rest
     by false is rest = rw is (many_noted others)
 
+-- For `add_suffix` (src/sides.rt): the words that the code adds by what it noted are those of the list of suffixes.
 pub suffixes_of : (ends : List (List ℕ)) → suffixes_words (all_noted Zero ends) ≡ suffix_words ends
 suffixes_of [] = refl
 suffixes_of (end ∷ others) = by (list_all (same end) others) refl

@@ -8,6 +8,7 @@ use Rattle.std.specs.List.{position, position_or_len}
 
 -- For the name of an option up to its `=`: a text is cut at the first byte of a kind.
 
+-- The test of a byte by which std's `position` looks.
 abbrev is_mark : ℕ → ℕ → Bool
 is_mark mark b = b == mark
 
@@ -15,6 +16,7 @@ is_mark mark b = b == mark
 abbrev before : ℕ → List ℕ → ℕ
 before mark text = position_or_len (is_mark mark) text
 
+-- The place that std's search finds is the number of bytes before it.
 place_is : (mark : ℕ) (text : List ℕ) (i : ℕ) → position (is_mark mark) text ≡ Some i → before mark text ≡ i
 place_is mark text i is = by (nat_lt (before mark text) (length text)) is
   where
@@ -22,6 +24,7 @@ place_is mark text i is = by (nat_lt (before mark text) (length text)) is
     by true e = cc
     by false e = absurd cc
 
+-- Where the search finds none, the whole text comes before the mark.
 no_place : (mark : ℕ) (text : List ℕ) → position (is_mark mark) text ≡ None → length text ≤ before mark text
 no_place mark text none = by (nat_lt (before mark text) (length text)) refl none
   where
@@ -30,9 +33,11 @@ no_place mark text none = by (nat_lt (before mark text) (length text)) refl none
     by true is e = absurd cc
     by false is e = grind (arith, nat_tests, is)
 
+-- For the length of a head after one more byte: sums of ℕ are compared here once.
 one_more : (n : ℕ) → 1 + n + 1 ≡ suc (n + 1)
 one_more n = omega arith
 
+-- The definition's `head_of` (specs/Items.antt) goes byte by byte; this says that it cuts behind the first `=`.
 head_is : (text : List ℕ) → take (before equals text + 1) text ≡ head_of text
 head_is [] = refl
 head_is (b ∷ text) = by (b == equals) (head_is text)
@@ -45,8 +50,10 @@ head_is (b ∷ text) = by (b == equals) (head_is text)
     by true rest = refl
     by false rest = ap (λ m. take m (b ∷ text)) (one_more n) ∙ ap (λ l. b ∷ l) rest
 
+-- For `head_of` (src/values.rt), where the name has a `=`.
 pub head_at : (text : List ℕ) (i : ℕ) → position (is_mark equals) text ≡ Some i → take (i + 1) text ≡ head_of text
 head_at text i is = sym (ap (λ n. take (n + 1) text) (place_is equals text i is)) ∙ head_is text
 
+-- For `head_of`, where it has none.
 pub head_whole : (text : List ℕ) → position (is_mark equals) text ≡ None → text ≡ head_of text
 head_whole text none = sym (take_all (before equals text + 1) text (omega (arith, no_place equals text none))) ∙ head_is text

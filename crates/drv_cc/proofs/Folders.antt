@@ -7,9 +7,11 @@ use Rattle.std.specs.List.{flat_map}
 
 -- For the folders of COMPILER_PATH and LIBRARY_PATH: each folder of such a path gives its words.
 
+-- For `add_path` (src/adding.rt) before its first folder.
 pub no_folder : (f : List ℕ → List (List ℕ)) (words : List (List ℕ)) → words ≡ words ++ flat_map f (map named_folder [])
 no_folder f words = sym (append-nil words)
 
+-- For `add_path` after each folder: the words of those that were added so far and of this one.
 pub next_folder : (f : List ℕ → List (List ℕ)) (old words words' done after : List (List ℕ)) (folder : List ℕ)
     → words ≡ old ++ flat_map f (map named_folder done) → words' ≡ words ++ f (named_folder folder) → after ≡ done ++ folder ∷ []
     → words' ≡ old ++ flat_map f (map named_folder after)
@@ -23,5 +25,6 @@ words_themselves : (words : List (List ℕ)) → flat_map (words_for Any) words 
 words_themselves [] = refl
 words_themselves (word ∷ words) = ap (λ following. word ∷ following) (words_themselves words)
 
+-- For `folders` (src/line_adding.rt): where each folder is a word, the words of a path are its folders.
 pub words_alone : (path : Option (List ℕ)) → flat_map (words_for Any) (folders path) ≡ folders path
 words_alone path = words_themselves (folders path)

@@ -5,6 +5,7 @@ use Rattle.std.proofs.Common.{◌≡◌, Bool, List, ◌∷◌, ◌++◌, ◌∙
 
 -- For `front_with`: the switches that a self spec leaves, and those that it hides.
 
+-- The definition `live` (specs/SelfSpecs.antt) takes the words of one item and goes on with those that are left after it.
 live_more : (i : Item) (tail : List Item) (left : List (List ℕ)) → live (i ∷ tail) left ≡ live_item i left ++ live tail (left_after i left)
 live_more i tail left = by (is_left (written i) left) refl
   where

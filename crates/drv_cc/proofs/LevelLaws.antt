@@ -8,10 +8,12 @@ use Rattle.std.specs.Option.{is_some, unwrap_or}
 
 -- For last_level_counts: of the options of debugging the last one that names a level decides.
 
+-- The options of a line are read in turn, so those after an option start from what those before it set.
 append_debugged : (d : Debugging) (before after : List Item) → debugged d (before ++ after) ≡ debugged (debugged d before) after
 append_debugged d [] after = refl
 append_debugged d (i ∷ before) after = append_debugged (debugged_by d i.name) before after
 
+-- To be raised to the usual level by one option and then by others is to be raised once, if any of them asks for records.
 raised_twice : (first rest : Bool) (level : ℕ) → raised_by rest (raised_by first level) ≡ raised_by (first || rest) level
 raised_twice false rest level = refl
 raised_twice true rest level = by (nat_lt level 50) rest refl
@@ -22,16 +24,19 @@ raised_twice true rest level = by (nat_lt level 50) rest refl
     by false true e = rw (e, e) refl
     by false false e = rw e refl
 
+-- What one option does to the level, by the level that it names.
 step_level : (d : Debugging) (name : List ℕ) (o : Option ℕ) → level_named name ≡ o
     → (debugged_by d name).level ≡ unwrap_or o (raised_by (asks_for_records name) d.level)
 unfolding debugged_by
 step_level d name o e = ap (λ o. unwrap_or o (raised_by (asks_for_records name) d.level)) e
 
+-- What one option does to the version, by the version that it names.
 step_version : (d : Debugging) (name : List ℕ) (o : Option ℕ) → version_named name ≡ o
     → (debugged_by d name).version ≡ unwrap_or o d.version
 unfolding debugged_by
 step_version d name o e = ap (λ o. unwrap_or o d.version) e
 
+-- What one option does to the toggle, by the toggle that it names.
 step_toggle : (d : Debugging) (name : List ℕ) (o : Option Bool) → toggle_named name ≡ o
     → (debugged_by d name).toggled ≡ unwrap_or o d.toggled
 unfolding debugged_by
@@ -39,6 +44,7 @@ step_toggle d name o e = ap (λ o. unwrap_or o d.toggled) e
 
 -- Options that name none.
 
+-- Options that name no level can still raise it (`level_after`, specs/LevelRules.antt).
 no_level : (d : Debugging) (items : List Item) → NoneNames level_named items → (debugged d items).level ≡ level_after items d.level
 no_level d [] e = refl
 no_level d (i ∷ items) e = by (level_named i.name) refl e (no_level (debugged_by d i.name) items)
@@ -51,6 +57,7 @@ no_level d (i ∷ items) e = by (level_named i.name) refl e (no_level (debugged_
         others none ∙ ap (level_after items) (step_level d i.name None s)
         ∙ raised_twice (asks_for_records i.name) (list_any (λ i. asks_for_records i.name) items) d.level
 
+-- Options that name no version leave it.
 no_version : (d : Debugging) (items : List Item) → NoneNames version_named items → (debugged d items).version ≡ d.version
 no_version d [] e = refl
 no_version d (i ∷ items) e = by (version_named i.name) refl e (no_version (debugged_by d i.name) items)
@@ -61,6 +68,7 @@ no_version d (i ∷ items) e = by (version_named i.name) refl e (no_version (deb
     by (Some n) s none others = absurd cc
     by None s none others = others none ∙ step_version d i.name None s
 
+-- Options that name no toggle leave it.
 no_toggle : (d : Debugging) (items : List Item) → NoneNames toggle_named items → (debugged d items).toggled ≡ d.toggled
 no_toggle d [] e = refl
 no_toggle d (i ∷ items) e = by (toggle_named i.name) refl e (no_toggle (debugged_by d i.name) items)
@@ -73,6 +81,7 @@ no_toggle d (i ∷ items) e = by (toggle_named i.name) refl e (no_toggle (debugg
 
 -- The last option that names one.
 
+-- The clause `level` of the law: what precedes the last option that names a level doesn't count.
 pub last_level : (before after : List Item) (i : Item) (level : ℕ) → level_named i.name ≡ Some level → NoneNames level_named after
     → (debugged no_debugging (before ++ i ∷ after)).level ≡ level_after after level
 last_level before after i level names none =
@@ -80,6 +89,7 @@ last_level before after i level names none =
     ∙ no_level (debugged_by (debugged no_debugging before) i.name) after none
     ∙ ap (level_after after) (step_level (debugged no_debugging before) i.name (Some level) names)
 
+-- The clause `version`.
 pub last_version : (before after : List Item) (i : Item) (version : ℕ) → version_named i.name ≡ Some version → NoneNames version_named after
     → (debugged no_debugging (before ++ i ∷ after)).version ≡ version
 last_version before after i version names none =
@@ -87,6 +97,7 @@ last_version before after i version names none =
     ∙ no_version (debugged_by (debugged no_debugging before) i.name) after none
     ∙ step_version (debugged no_debugging before) i.name (Some version) names
 
+-- The clause `toggle`.
 pub last_toggle : (before after : List Item) (i : Item) (toggle : Bool) → toggle_named i.name ≡ Some toggle → NoneNames toggle_named after
     → (debugged no_debugging (before ++ i ∷ after)).toggled ≡ toggle
 last_toggle before after i toggle names none =
@@ -94,12 +105,15 @@ last_toggle before after i toggle names none =
     ∙ no_toggle (debugged_by (debugged no_debugging before) i.name) after none
     ∙ step_toggle (debugged no_debugging before) i.name (Some toggle) names
 
+-- The clause `no_level`: without such an option the level is the first one, raised or not.
 pub first_level : (items : List Item) → NoneNames level_named items
     → (debugged no_debugging items).level ≡ level_after items no_debugging.level
 first_level = no_level no_debugging
 
+-- The clause `no_version`.
 pub first_version : (items : List Item) → NoneNames version_named items → (debugged no_debugging items).version ≡ no_debugging.version
 first_version = no_version no_debugging
 
+-- The clause `no_toggle`.
 pub first_toggle : (items : List Item) → NoneNames toggle_named items → (debugged no_debugging items).toggled ≡ false
 first_toggle = no_toggle no_debugging

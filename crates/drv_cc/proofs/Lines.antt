@@ -14,16 +14,20 @@ use Rattle.std.specs.Prelude.{slice_index_or}
 
 -- For the look-up of a word among the known names: a line of a text begins with it, or doesn't.
 
+-- The test of a byte by which std's `slice_split` cuts lines.
 abbrev ends : ℕ → Bool
 ends b = b == newline
 
+-- The lines of a text, of which each is a known name.
 abbrev lines : List ℕ → List (List ℕ)
 lines text = slice_split ends text
 
+-- A name among the lines of the second half of a text is among all.
 or_true : (a b : Bool) → b ≡ true → (a || b) ≡ true
 or_true true b is = refl
 or_true false b is = is
 
+-- A text has a line at least, so a byte put before its first line changes nothing of what follows.
 onto_more : (b : ℕ) (xs ys : List (List ℕ)) → 0 < length xs → onto_first b (xs ++ ys) ≡ onto_first b xs ++ ys
 onto_more b [] ys some = absurd (omega arith)
 onto_more b (x ∷ xs) ys some = refl
@@ -51,6 +55,7 @@ after_end n text rest line is known =
     ∙ list_any-append (same line) (lines (take n text)) (lines rest)
     ∙ or_true (list_any (same line) (lines (take n text))) (list_any (same line) (lines rest)) known
 
+-- A line without the end of one has none in its first byte and none in the others.
 both_false : (a b : Bool) → (a || b) ≡ false → (a ≡ false) × (b ≡ false)
 both_false true b e = absurd cc
 both_false false b e = (refl, e)
@@ -61,30 +66,37 @@ alone [] e = refl
 alone (b ∷ line) e = let none = both_false (ends b) (list_any ends line) e in slice_split-cons_no ends b line none.0
     ∙ ap (onto_first b) (alone line none.1)
 
+-- A name is among lines of which it is the first.
 is_first : (line : List ℕ) (others : List (List ℕ)) → list_any (same line) (line ∷ others) ≡ true
 is_first line others = ap (λ b. b || list_any (same line) others) (nat_list_eq_equiv.refl line)
 
+-- A text that is this line alone has it.
 begun_alone : (line : List ℕ) → list_any ends line ≡ false → is_known (line ++ []) line ≡ true
 begun_alone line whole = ap (λ l. is_known l line) (append-nil line) ∙ ap (list_any (same line)) (alone line whole) ∙ is_first line []
 
+-- A text that begins with this line and goes on in another one has it.
 begun_before : (line more : List ℕ) → list_any ends line ≡ false → is_known (line ++ newline ∷ more) line ≡ true
 begun_before line more whole =
     ap (list_any (same line)) (cut line more ∙ ap (λ l. l ++ lines more) (alone line whole)) ∙ is_first line (lines more)
 
+-- Both cases, by the byte that follows the line (`is_ended`, specs/Code/Known.antt).
 begun_ended : (line rest : List ℕ) → is_ended rest ≡ true → list_any ends line ≡ false → is_known (line ++ rest) line ≡ true
 begun_ended line [] ended whole = begun_alone line whole
 begun_ended line (b ∷ rest) ended whole = ap (λ c. is_known (line ++ c ∷ rest) line) (eqb-true b newline ended)
     ∙ begun_before line rest whole
 
+-- A text that begins with a line is that and the rest.
 text_is : (text line rest : List ℕ) → starts_with nat_eq text line ≡ true → rest ≡ drop (length line) text → text ≡ line ++ rest
 text_is text line rest begins is =
     sym (take-append-drop (length line) text) ∙ ap (λ l. l ++ drop (length line) text)
     (sym (same_text line (take (length line) text) (sym begins))) ∙ ap (λ l. line ++ l) (sym is)
 
+-- The code joins its three tests without branches; here they are parted again.
 both_true : (a b : Bool) → (a && b) ≡ true → (a ≡ true) × (b ≡ true)
 both_true true b e = (refl, e)
 both_true false b e = absurd cc
 
+-- The name that was looked for has no end of a line within.
 not_true : (a : Bool) → not a ≡ true → a ≡ false
 not_true true e = absurd cc
 not_true false e = refl
@@ -99,9 +111,11 @@ begun text line rest begins ended ends_within begins_is rest_is ended_is within 
     ap (λ t. is_known t line) (text_is text line rest (sym begins_is ∙ inner.0) rest_is)
     ∙ begun_ended line rest (sym ended_is ∙ inner.1) (sym within ∙ not_true ends_within outer.1)
 
+-- The pattern `[byte, rest @ ..]` leaves all bytes but the first.
 all_left : (b : ℕ) (rest : List ℕ) → take (length (b ∷ rest) - 1) rest ≡ rest
 all_left b rest = take_all (length (b ∷ rest) - 1) rest (omega arith)
 
+-- For `stands_at` (src/known.rt), where the line is not the first: the end of another precedes it.
 pub further : (n : ℕ) (text left line : List ℕ) (begins : Bool) → left ≡ drop n text → 1 ≤ length left
     → (begins ≡ true → is_known (take (length left - 1) (drop 1 left)) line ≡ true)
     → (nat_eq (slice_index_or left 0 0) newline && begins) ≡ true → is_known text line ≡ true

@@ -5,10 +5,12 @@ use Rattle.std.proofs.Common.{◌≡◌, ◌∙◌, List, None, Option, Some, ap
 
 -- For `link_beginning`: what leads the names of a link's side files is what the base and the folder that options give lead to.
 
+-- The code takes the folder of the options as an argument, which the definition looks up.
 leading_so : (items : List Item) (base : Option (List ℕ)) → link_leading_in items base (given_folder items) ≡ link_leading_by items base
 leading_so items None = refl
 leading_so items (Some name) = refl
 
+-- For `link_beginning` (src/leading.rt), which looks -dumpbase and the folders up once.
 pub link_leads : (items : List Item) (base folder leading : Option (List ℕ)) → base ≡ given_base items → folder ≡ given_folder items
     → leading ≡ link_leading_in items base folder → leading ≡ link_leading items
 link_leads items base folder leading base_is folder_is is =

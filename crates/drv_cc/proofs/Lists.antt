@@ -30,19 +30,23 @@ passing p (other ∷ names) name here = by (p other) refl (passing p names name 
     by true e rest = rw e (ap (λ t. same name other || t) rest)
     by false e rest = rw (e, differs p name other here e) rest
 
+-- A name passes the test of its own group.
 own_key : (name : List ℕ) (key : ℕ) → key ≡ list_key name → is_at key name ≡ true
 own_key name key is = eq-eqb (list_key name) key (sym is)
 
+-- For `is_ignored` (src/classes.rt): looking through the group is looking through the whole list.
 pub among_ignored : (name : List ℕ) (key : ℕ) (names : List (List ℕ)) (found : Bool) → key ≡ list_key name → names ≡ ignored_at key
     → found ≡ is_among names name → found ≡ is_among (texts ignored) name
 among_ignored name key names found is are sought =
     sought ∙ ap (λ l. is_among l name) are ∙ passing (is_at key) (texts ignored) name (own_key name key is)
 
+-- For `is_unpaired`, in the same way.
 pub among_unpaired : (name : List ℕ) (key : ℕ) (names : List (List ℕ)) (found : Bool) → key ≡ list_key name → names ≡ unpaired_at key
     → found ≡ is_among names name → found ≡ is_among (texts unpaired) name
 among_unpaired name key names found is are sought =
     sought ∙ ap (λ l. is_among l name) are ∙ passing (is_at key) (texts unpaired) name (own_key name key is)
 
+-- The test by which a name is looked up among options with their rings.
 abbrev option_is : List ℕ → List ℕ × List ℕ → Bool
 option_is name r = same name r.0
 
@@ -57,6 +61,7 @@ found_passing p name here (r ∷ options) = by (p r.0) refl (found_passing p nam
     by true e rest = rw e (ap (cond (same name r.0) (Some r)) rest)
     by false e rest = rw (e, differs p name r.0 here e) rest
 
+-- Among the options of one ring a name is found with that ring, or not at all.
 in_ring : (name ring : List ℕ) (others : Option (List ℕ × List ℕ)) (options : List (List ℕ))
     → option_map (λ r. r.1) (option_or (find (option_is name) (map (λ option. (option, ring)) options)) others)
     ≡ (if is_among options name then Some ring else option_map (λ r. r.1) others)
@@ -71,6 +76,7 @@ in_ring name ring others (option ∷ options) = by (same name option) refl (in_r
     by true e rest = rw e refl
     by false e rest = rw e rest
 
+-- So the first option of this name, of all options of all rings, has the first ring that has the name.
 in_rings : (name : List ℕ) (rings : List (List ℕ))
     → option_map (λ r. r.1) (find (option_is name) (flat_map ringed_by rings)) ≡ find (λ ring. is_among (texts ring) name) rings
 in_rings name [] = refl
@@ -86,6 +92,7 @@ in_rings name (ring ∷ rings) =
     by true e rest = rw e refl
     by false e rest = rw e rest
 
+-- For `ring_of` (src/classes.rt), which looks through the group of the name's key.
 pub ring_found : (name : List ℕ) (key : ℕ) (options : List (List ℕ × List ℕ)) (found : Option (List ℕ)) → key ≡ list_key name
     → options ≡ ringed_at key → found ≡ option_map (λ r. r.1) (find (λ r. same name r.0) options)
     → found ≡ find (λ ring. is_among (texts ring) name) rings

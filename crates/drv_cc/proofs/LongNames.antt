@@ -4,6 +4,7 @@ use Rattle.std.proofs.Common.{◌≡◌, ◌==◌, ◌&&◌, ◌∙◌, Bool, Li
 
 -- For the options that long names mean: all long names begin with two hyphens.
 
+-- For `rename_of` (src/renaming.rt), which tests the two hyphens first: a word without them is no long name.
 pub no_rename : (word : List ℕ) (long : Bool) → long ≡ begins (codes "--") word → long ≡ false → None ≡ find (is_longer word) renames
 no_rename [] long is short = refl
 no_rename (a ∷ []) long is short = by (45 == a) refl

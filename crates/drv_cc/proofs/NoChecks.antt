@@ -11,9 +11,11 @@ use Rattle.std.specs.List.{list_any}
 
 -- For the libraries of checks: a line that turns no check on needs none.
 
+-- The option that turns checks on. A line without it is what the code asks for first (`add_check_words`, src/checks.rt).
 abbrev turns_on : List ℕ
 turns_on = codes "-fsanitize="
 
+-- The code and the definition compare the two names in other orders.
 differs : (name : List ℕ) → same turns_on name ≡ false → same name turns_on ≡ false
 differs name other = by (same name turns_on) refl
   where
@@ -29,6 +31,7 @@ stays_off check i e = rw e (by (same i.name (codes "-fno-sanitize=") && speaks_o
     by true = refl
     by false = refl
 
+-- So each check is off at the end of the line.
 off : (check : List ℕ) (items : List Item) → has turns_on items ≡ false → checked_from false check items ≡ false
 off check [] e = refl
 off check (i ∷ items) e = by (same turns_on i.name) refl e (off check items)
@@ -39,18 +42,22 @@ off check (i ∷ items) e = by (same turns_on i.name) refl e (off check items)
     by true is e rest = absurd cc
     by false is e rest = ap (λ on. checked_from on check items) (stays_off check i (differs i.name is)) ∙ rest e
 
+-- And so is each of those that need the library of undefined behaviour.
 all_off : (items : List Item) (checks : List (List ℕ)) → has turns_on items ≡ false → list_any (is_checked items) checks ≡ false
 all_off items [] e = refl
 all_off items (check ∷ checks) e = rw (off check items e) (all_off items checks e)
 
+-- A library that a check needs under a further condition is not needed where that check is off.
 first_off : (a b : Bool) → a ≡ false → (a && b) ≡ false
 first_off a b e = rw e refl
 
+-- Where none of the five libraries is needed, no word is added.
 no_library : (a h t l u : Bool) → a ≡ false → h ≡ false → t ≡ false → l ≡ false → u ≡ false
     → library_word a (codes "asan") ++ library_word h (codes "hwasan") ++ library_word t (codes "tsan") ++ library_word l (codes "lsan")
     ++ library_word u (codes "ubsan") ≡ []
 no_library a h t l u ea eh et el eu = rw (ea, eh, et, el, eu) refl
 
+-- For `add_check_words`: without -fsanitize= it adds nothing.
 pub none_needed : (words : List (List ℕ)) (items : List Item) → has (codes "-fsanitize=") items ≡ false → words ≡ words ++ check_words items
 none_needed words items e = sym (ap (λ more. words ++ more) none ∙ append-nil words)
   where

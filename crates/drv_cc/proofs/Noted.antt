@@ -5,15 +5,18 @@ use Rattle.std.proofs.Common.{◌≡◌, ◌∙◌, List, [], ◌∷◌, ◌++�
 
 -- For `front`: each word of a line is noted as the table says.
 
+-- For `note_word` (src/reading.rt), where an option waited for this word as its argument.
 pub wanted_noted : (known : List ℕ) (items : List Item) (word : List ℕ) (r : OptionRow) (rest : List (List ℕ))
     → (items ++ by_row r word ∷ []) ++ items_of known None rest ≡ items ++ items_of known (Some r) (word ∷ rest)
 wanted_noted known items word r rest = append_assoc items (by_row r word ∷ []) (items_of known None rest)
 
+-- For `note_word`, where the word is an option that waits for the next one.
 pub wants_noted : (known : List ℕ) (items : List Item) (word : List ℕ) (r : OptionRow) (rest : List (List ℕ))
     → Wants r ≡ start_of known word
     → items ++ items_of known (Some r) rest ≡ items ++ items_of known None (word ∷ rest)
 wants_noted known items word r rest is = ap (λ s. items ++ with_start s (λ wanting. items_of known wanting rest)) is
 
+-- For `note_word`, where the word is an item by itself.
 pub whole_noted : (known : List ℕ) (items : List Item) (word : List ℕ) (i : Item) (rest : List (List ℕ)) → Whole i ≡ start_of known word
     → (items ++ i ∷ []) ++ items_of known None rest ≡ items ++ items_of known None (word ∷ rest)
 whole_noted known items word i rest is =

@@ -6,9 +6,11 @@ use Rattle.std.proofs.lemmas.Bool.{eq-eqb, eqb-true}
 
 -- For the level of debugging: an option that doesn't begin with -g changes nothing of it.
 
+-- Two bytes that are those of -g make a word begin with it.
 both : (x y : Bool) → x ≡ true → y ≡ true → (x && (y && true)) ≡ true
 both x y ex ey = rw (ex, ey) refl
 
+-- For `Debugging::after` (src/levels.rt), which looks at the first two bytes of an option before it compares names.
 pub others_keep : (d : Debugging) (name : List ℕ) → begins (codes "-g") name ≡ false → d ≡ debugged_by d name
 unfolding debugged_by
 others_keep d [] e = refl

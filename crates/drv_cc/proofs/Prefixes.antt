@@ -5,6 +5,7 @@ use Rattle.std.proofs.Common.{◌≡◌, ◌∙◌, List, ◌++◌, ap, append_a
 
 -- For the folders that the front adds as -B: those of COMPILER_PATH, then gcc's own.
 
+-- For `add_all_prefixes` (src/line_adding.rt), which adds those two lists one after the other.
 pub all_added : (around : Surroundings) (old first second : List LineItem) (named own : List (List ℕ))
     → named ≡ folders around.compiler_path → own ≡ around.folders
     → first ≡ old ++ map program_prefix named → second ≡ first ++ map prefix own → second ≡ old ++ prefixes around
