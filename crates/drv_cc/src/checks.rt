@@ -37,11 +37,12 @@ const CHECKS: &[u8] =
       signed-integer-overflow bool enum bounds alignment nonnull-attribute \
       returns-nonnull-attribute object-size vptr pointer-overflow builtin";
 
-/// Whether an option may have this name between its commas: a check's name, or nothing.
+/// Whether an option may have this name between its commas: a check's name, or nothing. The tests
+/// are joined without branches, for speed.
 fn is_check(option: &[u8], name: &[u8]) -> bool
     ensures { result ≡ is_check option.now name.now }
 {
-    (name.len() == 0) | stands_in(CHECKS, name) | (is(option, b"-fno-sanitize=") & is(name, b"all"))
+    name.is_empty() | stands_in(CHECKS, name) | (is(option, b"-fno-sanitize=") & is(name, b"all"))
 }
 
 /// Whether an option may not have one of the names between its commas.
@@ -63,7 +64,7 @@ pub(crate) fn names_no_check(item: &Item) -> bool
         && has_no_check(name, item.argument.as_bytes())
 }
 
-/// Whether a name includes a check.
+/// Whether a name includes a check. The tests are joined without branches, for speed.
 fn stands_for(check: &[u8], name: &[u8]) -> bool
     ensures { result ≡ stands_for check.now name.now }
 {
@@ -114,9 +115,9 @@ fn needs_leak_library(items: &[Item]) -> bool
     ensures { result ≡ needs_leak_library items.now }
 {
     is_checked(items, b"leak")
-        & !(is_checked(items, b"address")
-            | is_checked(items, b"kernel-address")
-            | is_checked(items, b"thread"))
+        && !(is_checked(items, b"address")
+            || is_checked(items, b"kernel-address")
+            || is_checked(items, b"thread"))
 }
 
 /// Whether one of the checks of undefined behaviour is on.
@@ -132,7 +133,7 @@ fn is_undefined_checked(items: &[Item]) -> bool
 fn needs_undefined_library(items: &[Item]) -> bool
     ensures { result ≡ needs_undefined_library items.now }
 {
-    is_undefined_checked(items) & !has(items, b"-fsanitize-undefined-trap-on-error")
+    is_undefined_checked(items) && !has(items, b"-fsanitize-undefined-trap-on-error")
 }
 
 /// Adds the word of a library if the link needs it.

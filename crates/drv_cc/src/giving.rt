@@ -127,8 +127,8 @@ fn is_late(item: &Item) -> bool
     is(name, b"-specs=") || is(name, b"-x")
 }
 
-/// The items that count.
-fn counted(alloc: Global, items: &[Item]) -> Result<Listing<Item>, AllocError>
+/// The items that count: those that don't come too late.
+fn early_items(alloc: Global, items: &[Item]) -> Result<Listing<Item>, AllocError>
     ensures { IfOk result (λ some. some ≡ filter (λ i. not (is_late i)) items.now) }
 {
     let mut some = Listing::new(alloc);
@@ -145,7 +145,7 @@ fn given_items(alloc: Global, known: &[u8], words: &[Word]) -> Result<Listing<It
     ensures { IfOk result (λ given. given ≡ given_items known.now words.now) }
 {
     let items = line_kept(alloc, known, words)?;
-    counted(alloc, items.as_slice())
+    early_items(alloc, items.as_slice())
 }
 
 /// Adds the refusal of an option that is given, if it is refused.
@@ -291,10 +291,10 @@ fn refused_or_run_with(
         around.now items.now left.now given.now (given_refusals named.now given.now)) }
 {
     let refused = given_refusals(alloc, named, given)?;
-    if 0 < refused.len() {
-        Ok(Answer::Refuse(refused))
-    } else {
+    if refused.is_empty() {
         run_with(alloc, around, items, left, given)
+    } else {
+        Ok(Answer::Refuse(refused))
     }
 }
 

@@ -35,7 +35,7 @@ fn output(items: &[Item]) -> Option<&[u8]>
     ensures { option_map (λ name. name.now) result ≡ output items.now }
 {
     let output = last_argument(items, b"-o")?;
-    if is(output, b"-") | is(output, b"/dev/null") {
+    if is(output, b"-") || is(output, b"/dev/null") {
         None
     } else {
         Some(output)
@@ -106,7 +106,7 @@ fn folder_by<'a>(base: Option<&[u8]>, around: &'a [u8]) -> &'a [u8]
     ensures { result.now ≡ folder_by (option_map (λ name. name.now) base.entry) around.now }
 {
     match base {
-        Some(name) if 0 < folder(name).len() => &[],
+        Some(name) if !folder(name).is_empty() => &[],
         _ => around,
     }
 }
@@ -139,7 +139,7 @@ pub(crate) fn without_end<'a>(name: &'a [u8], end: Option<&[u8]>) -> &'a [u8]
 fn usual_program(output: &[u8]) -> &[u8]
     ensures { result.now ≡ usual_program output.now }
 {
-    if is(base(output), b"a.out") | is(suffix(output), b".exe") {
+    if is(base(output), b"a.out") || is(suffix(output), b".exe") {
         stem(output)
     } else {
         base(output)
@@ -164,7 +164,7 @@ fn is_named(items: &[Item]) -> bool
     ensures { result ≡ is_named (program items.now) (only (sides.files items.now)) }
 {
     match only_file(items) {
-        Some(file) => is(program(items), stem(file)) & (0 < suffix(file).len()),
+        Some(file) => is(program(items), stem(file)) && !suffix(file).is_empty(),
         None => false,
     }
 }
@@ -180,7 +180,7 @@ fn leads(items: &[Item]) -> bool
 fn leading_base<'a>(items: &'a [Item], name: &'a [u8]) -> Option<&'a [u8]>
     ensures { option_map (λ bytes. bytes.now) result ≡ leading_base items.now name.now }
 {
-    if 0 < name.len() && leads(items) {
+    if !name.is_empty() && leads(items) {
         Some(without_end(name, given_end(items)))
     } else {
         None
@@ -212,10 +212,10 @@ fn leading(items: &[Item]) -> Option<&[u8]>
 fn link_base<'a>(items: &'a [Item], name: &'a [u8]) -> &'a [u8]
     ensures { result.now ≡ link_base items.now name.now }
 {
-    if 0 < name.len() {
-        without_end(name, given_end(items))
-    } else {
+    if name.is_empty() {
         program(items)
+    } else {
+        without_end(name, given_end(items))
     }
 }
 
@@ -287,7 +287,7 @@ pub(crate) fn source_base(items: &[Item]) -> Option<&[u8]>
     ensures { option_map (λ name. name.now) result ≡ source_base items.now }
 {
     match given_base(items) {
-        Some(name) if 0 < name.len() && !leads(items) => Some(name),
+        Some(name) if !name.is_empty() && !leads(items) => Some(name),
         _ => None,
     }
 }

@@ -231,7 +231,7 @@ fn add_dependencies(
 ) -> Result<(), AllocError>
     ensures { OnOk result (words.new ≡ words.old ++ dependencies_asked items.now) }
 {
-    if has(items, b"-MD") | has(items, b"-MMD") {
+    if has(items, b"-MD") || has(items, b"-MMD") {
         add_output_dependencies(alloc, items, words)?;
     }
     Ok(())
@@ -241,7 +241,7 @@ fn add_dependencies(
 fn saves(items: &[Item]) -> bool
     ensures { result ≡ saves items.now }
 {
-    has(items, b"-save-temps") | has(items, b"-save-temps=cwd") | has(items, b"-save-temps=obj")
+    has(items, b"-save-temps") || has(items, b"-save-temps=cwd") || has(items, b"-save-temps=obj")
 }
 
 /// Adds the name of files that stay beside a source's output.
@@ -278,7 +278,7 @@ fn add_only_aux(alloc: Global, items: &[Item], words: &mut Listing<Word>) -> Res
 fn add_aux(alloc: Global, items: &[Item], words: &mut Listing<Word>) -> Result<(), AllocError>
     ensures { OnOk result (words.new ≡ words.old ++ aux_asked items.now) }
 {
-    if saves(items) | has(items, b"-gsplit-dwarf") {
+    if saves(items) || has(items, b"-gsplit-dwarf") {
         add_only_aux(alloc, items, words)?;
     }
     Ok(())

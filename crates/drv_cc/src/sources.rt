@@ -55,10 +55,10 @@ impl Kinds {
     fn is_source(self, language: &[u8], name: &[u8]) -> bool
         ensures { result ≡ is_source (kinds_shown self) language.now name.now }
     {
-        if 0 < language.len() {
-            stands_in(self.languages(), language)
-        } else {
+        if language.is_empty() {
             stands_in(self.suffixes(), suffix(name))
+        } else {
+            stands_in(self.languages(), language)
         }
     }
 }
@@ -192,7 +192,7 @@ fn sources(kinds: Kinds, items: &[Item]) -> Count<'_>
 fn is_other(end: &[u8]) -> bool
     ensures { result ≡ is_other end.now }
 {
-    0 < end.len() && !stands_in(Kinds::Preprocessed.suffixes(), end)
+    !end.is_empty() && !stands_in(Kinds::Preprocessed.suffixes(), end)
 }
 
 /// The suffixes of sources of these kinds that only their language makes sources.

@@ -59,7 +59,7 @@ pub(crate) fn add_value(
 ) -> Result<(), AllocError>
     ensures { OnOk result (words.new ≡ words.old ++ with_value option.now value.now) }
 {
-    if 0 < value.len() {
+    if !value.is_empty() {
         add_joined(alloc, words, option, value)?;
     }
     Ok(())
