@@ -1,18 +1,18 @@
 use Rattle.drv_cc.proofs.LongNames.{no_rename}
 use Rattle.drv_cc.specs.Code.Known.{again, by_names}
 use Rattle.drv_cc.specs.Items.{Start, Wants, Whole, accepts, begins, beyond, by_row, first_row, head_of, is_among, is_file, is_known}
-use Rattle.drv_cc.specs.Items.{is_longer, is_number, is_open, item, items_of, judges, known_item, paired, plain, renamed, renamed_by}
+use Rattle.drv_cc.specs.Items.{is_longer, is_number, is_open, item, items_of, judges, known_item, machine_item, paired, plain, renamed, renamed_by}
 use Rattle.drv_cc.specs.Items.{start_of, start_option, start_renamed, takes_value, turns_off, value_of, with_rest, with_start}
 use Rattle.drv_cc.specs.Table.{OptionRow, ignored, renames, sections, table, texts}
 use Rattle.drv_cc.specs.UnknownWords.{is_unknown}
 use Rattle.drv_cc.specs.declared.item.Item.{Item}
 use Rattle.drv_cc.specs.declared.table.Role.TheVariants.{Question, Switch, Unknown}
-use Rattle.drv_cc.specs.declared.table.Spelling.TheVariants.{Nowhere}
+use Rattle.drv_cc.specs.declared.table.Spelling.TheVariants.{Alone, Nowhere}
 use Rattle.drv_cc.specs.declared.table.Takes.TheVariants.{Attached, Either, Next, Nothing, Rest}
 use Rattle.drv_cc.specs.declared.table.Takes.{Takes}
 use Rattle.drv_words.specs.Bytes.{equals}
 use Rattle.std.proofs.Common.{Err, IfOk, Ok, Result, ◌≡◌, ◌==◌, ◌&&◌, ◌||◌, ◌∙◌, ◌<◌, ◌++◌, Bool, List, [], ◌∷◌, None, Option, Some, ap}
-use Rattle.std.proofs.Common.{arith, codes, cond, drop, false, find, length, map, nat_eq, nat_lt, not, refl, sym, true, ℕ}
+use Rattle.std.proofs.Common.{arith, codes, cond, drop, false, find, if◌then◌else◌, length, map, nat_eq, nat_lt, not, refl, sym, true, ℕ}
 use Rattle.std.proofs.lemmas.Bool.{eqb-true}
 use Rattle.std.proofs.lemmas.Bool.Decides.{nat_tests}
 use Rattle.std.proofs.lemmas.List.{append-nil, length-drop}
@@ -21,10 +21,12 @@ use Rattle.std.specs.List.{list_any}
 
 -- For `Items::with_names`: reading a line again by names of options changes only the unknown words.
 
+-- No row of the option table is for an unknown word, so an option of the table is never asked again. The table is computed to see it.
 no_row : list_any (λ r. is_unknown r.role) table ≡ false
 unfolding sections
 no_row = refl
 
+-- Parts the test of a list into that of its first row and that of the others.
 both_false : (a b : Bool) → (a || b) ≡ false → (a ≡ false) × (b ≡ false)
 both_false true b e = absurd cc
 both_false false b e = (refl, e)
@@ -41,24 +43,30 @@ found_passes p q (x ∷ rows) r e missed = by (p x) refl e (both_false (q x) (li
     by true is e missed ih = let same_one : x ≡ r = cc in (ap p (sym same_one) ∙ is, ap q (sym same_one) ∙ missed.0)
     by false is e missed ih = ih e missed.1
 
+-- A row that `first_row` finds (specs/Items.antt) is none of an unknown word.
 row_known : (word : List ℕ) (r : OptionRow) → first_row word ≡ Some r → is_unknown r.role ≡ false
 row_known word r e = (found_passes _ (λ r. is_unknown r.role) table r e no_row).1
 
+-- So an option of the table stays as it is when the line is asked again.
 row_again : (known : List ℕ) (r : OptionRow) (argument : List ℕ) → is_unknown r.role ≡ false
     → again known (by_row r argument) ≡ by_row r argument
 row_again known r argument e = rw e refl
 
+-- How a word begins, once what is unknown of it is asked again by names.
 abbrev start_again : List ℕ → Start → Start
 start_again known (Whole i) = Whole (again known i)
 start_again known (Wants r) = Wants r
 
+-- A row that waits for its argument is none of an unknown word: its item comes later, and must stay too.
 abbrev IsFit : Start → Type 0
 IsFit (Whole i) = ⊤
 IsFit (Wants r) = is_unknown r.role ≡ false
 
+-- What a word begins with no names known, asked again, is what it begins with these names.
 abbrev Begun : List ℕ → Start → Start → Type 0
 Begun known before after = (start_again known before ≡ after) × IsFit before
 
+-- A word that a row of the table fits is read alike with and without names, in each way that an option takes its argument.
 rest_begun : (known : List ℕ) (takes : Takes) (r : OptionRow) (rest : List ℕ) → is_unknown r.role ≡ false
     → Begun known (with_rest takes r rest) (with_rest takes r rest)
 rest_begun known Nothing r rest e = (ap Whole (row_again known r [] e), tt)
@@ -74,6 +82,7 @@ unknown_some : (name : List ℕ) → 0 < length name → is_known [] name ≡ fa
 unknown_some [] some = absurd (omega (arith, some))
 unknown_some (b ∷ name) some = refl
 
+-- An option's name up to its `=` is not empty, so `unknown_some` says that no name is known that begins with it.
 some_head : (b : ℕ) (name more : List ℕ) → 0 < length (head_of (b ∷ name) ++ more)
 some_head b name more = by (b == equals)
   where
@@ -81,6 +90,7 @@ some_head b name more = by (b == equals)
     by true = omega arith
     by false = omega arith
 
+-- Without names no option is known by its name up to `=` (`takes_value`, specs/Items.antt).
 no_value : (b : ℕ) (name : List ℕ) → takes_value [] (b ∷ name) ≡ false
 no_value b name =
     let head : is_known [] (head_of (b ∷ name)) ≡ false =
@@ -92,6 +102,7 @@ no_value b name =
     by true head = unknown_some (head_of (b ∷ name) ++ codes "#") (some_head b name (codes "#"))
     by false head = head
 
+-- Nor is an option known in any other way: the code asks no further where it has no names.
 none_accepted : (b : ℕ) (name : List ℕ) → accepts [] (b ∷ name) ≡ false
 none_accepted b name = by (is_open (b ∷ name))
   where
@@ -99,6 +110,7 @@ none_accepted b name = by (is_open (b ∷ name))
     by true = no_value b name
     by false = no_value b name
 
+-- And the compiler's driver judges the argument of none.
 none_judged : (b : ℕ) (name : List ℕ) → judges [] (b ∷ name) ≡ false
 none_judged b name =
     rw (
@@ -106,11 +118,13 @@ none_judged b name =
       unknown_some (head_of (b ∷ name) ++ codes "#") (some_head b name (codes "#")),
     ) refl
 
+-- For `accepts` (src/values.rt), which returns early where there are no names.
 pub no_names_accept : (known name : List ℕ) → (length known == 0) ≡ true → (length name == 0) ≡ false → false ≡ accepts known name
 no_names_accept known [] none some = absurd cc
 no_names_accept (k ∷ known) (b ∷ name) none some = absurd (omega (arith, eqb-true (length (k ∷ known)) 0 none))
 no_names_accept [] (b ∷ name) none some = sym (none_accepted b name)
 
+-- For `judges` (src/values.rt), which returns early too.
 pub no_names_judge : (known name : List ℕ) → (length known == 0) ≡ true → (length name == 0) ≡ false → false ≡ judges known name
 no_names_judge known [] none some = absurd cc
 no_names_judge (k ∷ known) (b ∷ name) none some = absurd (omega (arith, eqb-true (length (k ∷ known)) 0 none))
@@ -139,6 +153,7 @@ off_alone true false is = (refl, refl)
 off_alone true true is = absurd cc
 off_alone false e is = absurd cc
 
+-- A word that turns a warning off begins with one hyphen, so it is no long name.
 off_begins : (word : List ℕ) → begins (codes "-Wno-") word ≡ true → false ≡ begins (codes "--") word
 off_begins [] e = absurd cc
 off_begins (a ∷ []) e = by (45 == a)
@@ -154,9 +169,11 @@ off_begins (a ∷ b ∷ word) e = by (45 == a) (45 == b) (87 == b) refl refl e
     by true u false m w e = absurd cc
     by true true true m w e = absurd (omega (arith, eqb-true 45 b m, eqb-true 87 b w))
 
+-- So `renamed` leaves it as it is (LongNames.antt has the look-up of long names).
 off_named : (word : List ℕ) → begins (codes "-Wno-") word ≡ true → renamed word ≡ word
 off_named word e = ap (renamed_by word) (sym (no_rename word false (off_begins word e) refl))
 
+-- A word that turns a warning off without names is a switch with any names, by its own name.
 off_again : (known word : List ℕ) (b : ℕ) (name : List ℕ) → renamed word ≡ b ∷ name → turns_off [] word ≡ true
     → (turns_off known word ≡ true) × (begins (codes "-mcpu=") (b ∷ name) ≡ false)
 off_again known word b name is off =
@@ -167,6 +184,7 @@ off_again known word b name is off =
 abbrev chosen : Bool → Bool → Bool → Item → Item → Item → Item
 chosen off taken judged known question unknown = cond (off || taken) known (cond judged question unknown)
 
+-- Without names a word that no row fits, that is not passed over and turns no warning off, is unknown.
 unknown_first : (word : List ℕ) (b : ℕ) (name : List ℕ) → is_among (texts ignored) (paired (b ∷ name)) ≡ false → turns_off [] word ≡ false
     → beyond [] word (b ∷ name) ≡ plain Unknown word
 unknown_first word b name e off =
@@ -177,6 +195,7 @@ unknown_first word b name e off =
     (none_accepted b name)
     ∙ ap (λ t. chosen false false t (known_item [] (b ∷ name)) (plain Question word) (plain Unknown word)) (none_judged b name)
 
+-- What names make of such a word is what `beyond` makes of it, since it is not passed over.
 named_then : (known word : List ℕ) (b : ℕ) (name : List ℕ) → is_among (texts ignored) (paired (b ∷ name)) ≡ false
     → by_names known word (b ∷ name) ≡ beyond known word (b ∷ name)
 named_then known word b name e = sym (ap (λ t. cond t (item (b ∷ name) [] Nowhere Switch) (by_names known word (b ∷ name))) e)
@@ -194,6 +213,7 @@ beyond_again known word b name is = by (is_among (texts ignored) (paired (b ∷ 
         rw (e, e', off, other) refl
     by false false e e' = ap (again known) (unknown_first word b name e e') ∙ ap (by_names known word) is ∙ named_then known word b name e
 
+-- A long name goes on after its beginning, so something of the word is left.
 some_left : (n : ℕ) (word : List ℕ) → n < length word → (b : ℕ) × (rest : List ℕ) × (drop n word ≡ b ∷ rest)
 some_left n word less = by (drop n word) refl
   where
@@ -201,10 +221,12 @@ some_left n word less = by (drop n word) refl
     by [] e = absurd (omega (arith, less, sym (length-drop n word) ∙ ap length e))
     by (b ∷ rest) e = (b, rest, e)
 
+-- What begins an option, and that rest, is not empty together.
 appended : (some more : List ℕ) → (b : ℕ) × (rest : List ℕ) × (more ≡ b ∷ rest) → (b : ℕ) × (rest : List ℕ) × (some ++ more ≡ b ∷ rest)
 appended [] more (b, rest, e) = (b, rest, e)
 appended (x ∷ some) more e = (x, some ++ more, refl)
 
+-- Of two tests that both pass the second passes: `is_longer` asks first how a word begins, and then its length.
 two_true : (a b : Bool) → (a && b) ≡ true → b ≡ true
 two_true true b e = e
 two_true false b e = absurd cc
@@ -226,6 +248,7 @@ some_named b word = by (find (is_longer (b ∷ word)) renames) refl
         let less : length r.0 < length (b ∷ word) = grind (arith, nat_tests) in
         appended r.1 (drop (length r.0) (b ∷ word)) (some_left (length r.0) (b ∷ word) less)
 
+-- The same as `begun` for a word that no row fits: its long name may have a row, and else names decide.
 renamed_begun : (known word : List ℕ) (b : ℕ) (name : List ℕ) → renamed word ≡ b ∷ name
     → Begun known (start_renamed [] word (b ∷ name) (first_row (b ∷ name))) (start_renamed known word (b ∷ name) (first_row (b ∷ name)))
 renamed_begun known word b name is = by (first_row (b ∷ name)) refl
@@ -235,6 +258,7 @@ renamed_begun known word b name is = by (first_row (b ∷ name)) refl
     by None e = (ap Whole (beyond_again known word b name is), tt)
     by (Some r) e = rest_begun known r.takes r (drop (length r.option) (b ∷ name)) (row_known (b ∷ name) r e)
 
+-- The same for a word that is an option.
 option_begun : (known : List ℕ) (b : ℕ) (word : List ℕ)
     → Begun known (start_option [] (b ∷ word) (first_row (b ∷ word))) (start_option known (b ∷ word) (first_row (b ∷ word)))
 option_begun known b word = by (first_row (b ∷ word)) refl
@@ -246,6 +270,7 @@ option_begun known b word = by (first_row (b ∷ word)) refl
         rw is (renamed_begun known (b ∷ word) c name is)
     by (Some r) e = rest_begun known r.takes r (drop (length r.option) (b ∷ word)) (row_known (b ∷ word) r e)
 
+-- Each word begins as it would with names, once it is asked again. `items_again` goes on from here to the next word.
 begun : (known word : List ℕ) → Begun known (start_of [] word) (start_of known word)
 begun known [] = (refl, tt)
 begun known (b ∷ word) = by (is_file (b ∷ word)) refl
@@ -254,10 +279,12 @@ begun known (b ∷ word) = by (is_file (b ∷ word)) refl
     by true e = rw e (refl, tt)
     by false e = rw e (option_begun known b word)
 
+-- An option that waits for its argument before the next word is none of an unknown word.
 abbrev IsFitting : Option OptionRow → Type 0
 IsFitting None = ⊤
 IsFitting (Some r) = is_unknown r.role ≡ false
 
+-- All items of a line, by induction on its words.
 items_again : (known : List ℕ) (wanting : Option OptionRow) (words : List (List ℕ)) → IsFitting wanting
     → map (again known) (items_of [] wanting words) ≡ items_of known wanting words
 items_again known None [] fit = refl
@@ -273,23 +300,55 @@ items_again known None (word ∷ words) fit = by (start_of [] word) (start_of kn
     by (Whole i) after (is, fit) ih = rw (sym is, ih None tt) refl
     by (Wants r) after (is, fit) ih = rw (sym is, ih (Some r) fit) refl
 
+-- For `Items::with_names` (src/items.rt): its loop asks each item again, and so gives the line as names read it.
 pub all_again : (known : List ℕ) (args : List (List ℕ)) (before after : List Item) → before ≡ items_of [] None args
     → after ≡ map (again known) before
     → after ≡ items_of known None args
 all_again known args before after is are = are ∙ ap (map (again known)) is ∙ items_again known None args tt
 
+-- For `by_own_name` (src/reading.rt), where the word is no long name.
 pub unrenamed_named : {E : Type 0} (known word : List ℕ) (result : Result Item E) → renamed word ≡ word
     → IfOk result (λ found. found ≡ by_names known word word) → IfOk result (λ found. found ≡ by_names known word (renamed word))
 unrenamed_named known word (Ok found) same is = is ∙ ap (by_names known word) (sym same)
 unrenamed_named known word (Err e) same is = tt
 
+-- For `by_own_name`, where the word is a long name.
 pub renamed_named : {E : Type 0} (known word name : List ℕ) (result : Result Item E) → name ≡ renamed word
     → IfOk result (λ found. found ≡ by_names known word name) → IfOk result (λ found. found ≡ by_names known word (renamed word))
 renamed_named known word name (Ok found) same is = is ∙ ap (by_names known word) same
 renamed_named known word name (Err e) same is = tt
 
+-- For `again` (src/items.rt), where the item is an unknown word.
 pub asked_again : {E : Type 0} (known : List ℕ) (i : Item) (word : List ℕ) (result : Result Item E) → is_unknown i.role ≡ true
     → word ≡ i.name
     → IfOk result (λ found. found ≡ by_names known word (renamed word)) → IfOk result (λ found. found ≡ again known i)
 asked_again known i word (Ok found) unknown word_is is = is ∙ ap (λ w. by_names known w (renamed w)) word_is ∙ sym (rw unknown refl)
 asked_again known i word (Err e) unknown word_is is = tt
+
+-- For `is_own_switch` (src/reading.rt): a word that is no long name and names no machine is a switch of its name, once names have it.
+pub own_switch : (known word : List ℕ) (machine off taken : Bool) → renamed word ≡ word → machine ≡ begins (codes "-mcpu=") word
+    → machine ≡ false → off ≡ turns_off known word → taken ≡ accepts known word → (off || taken) ≡ true
+    → by_names known word (renamed word) ≡ item word [] Alone Switch
+own_switch known word machine off taken same machine_is other off_is taken_is either =
+    let none : begins (codes "-mcpu=") word ≡ false = sym machine_is ∙ other in
+    let found : (turns_off known word || accepts known word) ≡ true =
+    ap (λ t. t || accepts known word) (sym off_is) ∙ ap (λ t. off || t) (sym taken_is) ∙ either in
+    ap (by_names known word) same ∙ by (turns_off known word || accepts known word) found ∙ ap
+    (λ t. if t then machine_item known (drop (length (codes "-mcpu=")) word) else item word [] Alone Switch) none
+  where
+    by : (t : Bool) → t ≡ true
+        → (if t then known_item known word else if judges known word then plain Question word else plain Unknown word) ≡ known_item known word
+    by true e = refl
+    by false e = absurd cc
+
+-- For `again` (src/items.rt), where the unknown word is such a switch.
+pub switched_again : {E : Type 0} (known : List ℕ) (i : Item) (word : List ℕ) (unknown own : Bool) (result : Result Item E)
+    → unknown ≡ is_unknown i.role → unknown ≡ true → word ≡ i.name
+    → (own ≡ true → by_names known word (renamed word) ≡ item word [] Alone Switch) → own ≡ true
+    → IfOk result (λ made. made ≡ item i.name [] Alone Switch) → IfOk result (λ found. found ≡ again known i)
+switched_again known i word unknown own (Ok made) unknown_is here word_is switch so is =
+    let named : by_names known i.name (renamed i.name) ≡ item i.name [] Alone Switch =
+    ap (λ w. by_names known w (renamed w)) (sym word_is) ∙ switch so ∙ ap (λ w. item w [] Alone Switch) word_is in
+    let asked : is_unknown i.role ≡ true = sym unknown_is ∙ here in
+    is ∙ sym named ∙ sym (rw asked refl)
+switched_again known i word unknown own (Err e) unknown_is here word_is switch so is = tt

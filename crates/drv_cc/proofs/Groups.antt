@@ -1,10 +1,10 @@
-use Rattle.drv_cc.specs.Code.Groups.{begun_at, begun_key, is_begun, is_whole, third, whole_at, whole_key}
+use Rattle.drv_cc.specs.Code.Groups.{begun_at, begun_key, is_begun, is_parted, is_short, is_whole, key_of, third, whole_at, whole_key}
 use Rattle.drv_cc.specs.Items.{begins, first_row, fits, option_fits, same, takes_rest}
 use Rattle.drv_cc.specs.Table.{OptionRow, sections, table}
 use Rattle.drv_cc.specs.declared.table.Takes.TheVariants.{Attached, Either, Next, Nothing, Rest}
 use Rattle.drv_cc.specs.declared.table.Takes.{Takes}
 use Rattle.std.proofs.Common.{arith, ◌≡◌, ◌==◌, ◌&&◌, ◌||◌, ◌∙◌, ◌++◌, ◌<◌, ◌%◌, Bool, List, [], ◌∷◌, None, Option, Some, ap, cond, false}
-use Rattle.std.proofs.Common.{find, length, nat_lt, not, refl, sym, true, ℕ}
+use Rattle.std.proofs.Common.{find, length, not, refl, sym, true, ℕ}
 use Rattle.std.proofs.lemmas.Bool.{eq-eqb, eqb-true}
 use Rattle.std.proofs.lemmas.List.Folds.{find-append}
 use Rattle.std.specs.List.{filter}
@@ -25,6 +25,7 @@ find_both p a b follows (r ∷ rows) = by (p r) (a r) (b r) refl refl refl (find
     by false true false ep ea eb ih = rw (ea, eb, ep) ih
     by true true false ep ea eb ih = absurd (let both : true ≡ false = sym (follows r ep ea) ∙ eb in cc)
 
+-- Two texts that `same` finds equal are one, so what holds of an option holds of the word.
 pub same_is : (a b : List ℕ) → same a b ≡ true → a ≡ b
 same_is [] [] e = refl
 same_is [] (y ∷ b) e = absurd cc
@@ -44,32 +45,66 @@ whole_alike Attached option word e w = absurd cc
 whole_alike Rest option word e w = absurd cc
 whole_alike Either option word e w = absurd cc
 
+-- Of the three tests of a beginning of two bytes and more, the second one is that of the second byte.
 second_true : (a b c : Bool) → (a && (b && c)) ≡ true → b ≡ true
 second_true true true c e = refl
 second_true true false c e = e
 second_true false b c e = absurd cc
 
+-- A word of one byte begins with no option of two.
 never : (a : Bool) → (a && false) ≡ true → ⊥
 never true e = absurd cc
 never false e = absurd cc
 
+-- A word of two bytes begins with no option of three.
+never_two : (a b : Bool) → (a && (b && false)) ≡ true → ⊥
+never_two true true e = absurd cc
+never_two true false e = absurd cc
+never_two false b e = absurd cc
+
+-- An option of the key is in the group, whether it is short or not.
 or_true : (a b : Bool) → b ≡ true → (a || b) ≡ true
 or_true true b e = refl
 or_true false b e = e
 
--- an option that the word begins with has its second byte, or has none
+-- Of the four tests of a beginning of three bytes and more, the third one is that of the third byte.
+third_true : (a b c d : Bool) → (a && (b && (c && d))) ≡ true → c ≡ true
+third_true true true true d e = refl
+third_true true true false d e = e
+third_true true false c d e = absurd cc
+third_true false b c d e = absurd cc
+
+-- An option of two bytes is in each group, if its letter is parted by the third byte; else it has the word's key.
+two_alike : (a b x y : ℕ) (word : List ℕ) → b ≡ y
+    → (is_short (a ∷ b ∷ []) || (begun_key (a ∷ b ∷ []) == begun_key (x ∷ y ∷ word))) ≡ true
+two_alike a b x y word same_byte = by (is_parted b) refl
+  where
+    by : (t : Bool) → is_parted b ≡ t → (is_short (a ∷ b ∷ []) || (begun_key (a ∷ b ∷ []) == begun_key (x ∷ y ∷ word))) ≡ true
+    by true e = rw e refl
+    by false e =
+        let here : key_of b 0 ≡ b % 30 = rw e refl in
+        let other : is_parted y ≡ false = ap is_parted (sym same_byte) ∙ e in
+        let there : key_of y (third (x ∷ y ∷ word)) ≡ y % 30 = rw other refl in
+        or_true (is_short (a ∷ b ∷ [])) (begun_key (a ∷ b ∷ []) == begun_key (x ∷ y ∷ word))
+        (eq-eqb (begun_key (a ∷ b ∷ [])) (begun_key (x ∷ y ∷ word)) (here ∙ ap (λ z. z % 30) same_byte ∙ sym there))
+
+-- an option that the word begins with has its second and its third byte, or is short
 begins_alike : (option word : List ℕ) → begins option word ≡ true
-    → (nat_lt (length option) 2 || (begun_key option == begun_key word)) ≡ true
+    → (is_short option || (begun_key option == begun_key word)) ≡ true
 begins_alike [] word e = refl
 begins_alike (a ∷ []) word e = refl
 begins_alike (a ∷ b ∷ option) [] e = absurd cc
 begins_alike (a ∷ b ∷ option) (x ∷ []) e = absurd (never (a == x) e)
-begins_alike (a ∷ b ∷ option) (x ∷ y ∷ word) e =
-    or_true (nat_lt (length (a ∷ b ∷ option)) 2) (begun_key (a ∷ b ∷ option) == begun_key (x ∷ y ∷ word))
-    (eq-eqb (b % 30) (y % 30) (ap (λ z. z % 30) (eqb-true b y (second_true (a == x) (b == y) (begins option word) e))))
+begins_alike (a ∷ b ∷ []) (x ∷ y ∷ word) e = two_alike a b x y word (eqb-true b y (second_true (a == x) (b == y) (begins [] word) e))
+begins_alike (a ∷ b ∷ c ∷ option) (x ∷ y ∷ []) e = absurd (never_two (a == x) (b == y) e)
+begins_alike (a ∷ b ∷ c ∷ option) (x ∷ y ∷ z ∷ word) e =
+    or_true (is_short (a ∷ b ∷ c ∷ option)) (begun_key (a ∷ b ∷ c ∷ option) == begun_key (x ∷ y ∷ z ∷ word))
+    (eq-eqb (key_of b c) (key_of y z) (ap (λ l. key_of l c) (eqb-true b y (second_true (a == x) (b == y) (begins (c ∷ option) (z ∷ word)) e))
+    ∙ ap (key_of y) (eqb-true c z (third_true (a == x) (b == y) (c == z) (begins option word) e))))
 
+-- An option that takes a rest and fits a word has the key of the word, or is in each group.
 begun_alike : (takes : Takes) (option word : List ℕ) → option_fits takes word option ≡ true → takes_rest takes ≡ true
-    → (nat_lt (length option) 2 || (begun_key option == begun_key word)) ≡ true
+    → (is_short option || (begun_key option == begun_key word)) ≡ true
 begun_alike Nothing option word e b = absurd cc
 begun_alike Next option word e b = absurd cc
 begun_alike Attached option word e b = begins_alike option word e
@@ -81,33 +116,40 @@ in_two : filter is_whole table ++ filter is_begun table ≡ table
 unfolding sections
 in_two = refl
 
+-- So looking through the group of a word's key finds what looking through all whole options finds.
 among_whole : (word : List ℕ) → find (fits word) (whole_at (whole_key word)) ≡ find (fits word) (filter is_whole table)
 among_whole word =
     find_both (fits word) is_whole (λ r. whole_key r.option == whole_key word) (λ r. whole_alike r.takes r.option word) table
 
+-- The same for the options that a word begins with.
 among_begun : (word : List ℕ) → find (fits word) (begun_at (begun_key word)) ≡ find (fits word) (filter is_begun table)
 among_begun word =
-    find_both (fits word) is_begun (λ r. nat_lt (length r.option) 2 || (begun_key r.option == begun_key word))
+    find_both (fits word) is_begun (λ r. is_short r.option || (begun_key r.option == begun_key word))
     (λ r. begun_alike r.takes r.option word) table
 
+-- The code looks first among whole options and then among beginnings. As those follow these in the table, it finds the first row that
+-- fits.
 found_by : (word : List ℕ) (whole begun : Option OptionRow) → whole ≡ find (fits word) (whole_at (whole_key word))
     → begun ≡ find (fits word) (begun_at (begun_key word)) → option_or whole begun ≡ first_row word
 found_by word whole begun w b =
     ap (λ f. option_or f begun) (w ∙ among_whole word) ∙ ap (option_or (find (fits word) (filter is_whole table))) (b ∙ among_begun word)
     ∙ sym (find-append (fits word) (filter is_whole table) (filter is_begun table)) ∙ ap (find (fits word)) in_two
 
+-- For `first_row` (src/table.rt), where the word is a whole option.
 pub found_whole : (word : List ℕ) (rows : List OptionRow) (row : OptionRow) → rows ≡ whole_at (whole_key word)
     → Some row ≡ find (fits word) rows
     → Some row ≡ first_row word
 found_whole word rows row is found = found_by word (Some row) (find (fits word) (begun_at (begun_key word)))
     (found ∙ ap (find (fits word)) is) refl
 
+-- For `first_row`, where it is none.
 pub found_begun : (word : List ℕ) (rows begun : List OptionRow) (found : Option OptionRow) → rows ≡ whole_at (whole_key word)
     → None ≡ find (fits word) rows
     → begun ≡ begun_at (begun_key word) → found ≡ find (fits word) begun → found ≡ first_row word
 found_begun word rows begun found is none are sought =
     found_by word None found (none ∙ ap (find (fits word)) is) (sought ∙ ap (find (fits word)) are)
 
+-- A test joined with one that fails fails, whatever the first gives.
 and_false : (t : Bool) → (t && false) ≡ false
 and_false true = refl
 and_false false = refl
@@ -118,11 +160,13 @@ longer_begins [] word less = absurd (omega (arith, less))
 longer_begins (a ∷ option) [] less = refl
 longer_begins (a ∷ option) (x ∷ word) less = ap (λ t. (a == x) && t) (longer_begins option word (omega (arith, less))) ∙ and_false (a == x)
 
+-- Nor is an option equal to a word that is shorter.
 longer_same : (option word : List ℕ) → length word < length option → same option word ≡ false
 longer_same [] word less = absurd (omega (arith, less))
 longer_same (a ∷ option) [] less = refl
 longer_same (a ∷ option) (x ∷ word) less = ap (λ t. (a == x) && t) (longer_same option word (omega (arith, less))) ∙ and_false (a == x)
 
+-- For `Takes::fits` (src/table.rt), which compares lengths before bytes.
 pub longer_fits : (takes : Takes) (word option : List ℕ) → length word < length option → option_fits takes word option ≡ false
 longer_fits Nothing word option less = longer_same option word less
 longer_fits Next word option less = longer_same option word less

@@ -10,9 +10,11 @@ mod Lists
 mod LongNames
 mod NoChecks
 mod Noted
+mod OtherNames
 mod OtherOptions
 mod Prefixes
 mod Staying
+mod Unasked
 pub mod LevelLaws
 pub mod WorkedGiven
 pub mod WorkedItems

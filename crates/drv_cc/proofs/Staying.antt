@@ -1,9 +1,12 @@
-use Rattle.drv_cc.specs.Code.Staying.{Keeping, Notes, kept_before, stays_before}
+use Rattle.drv_cc.specs.Code.Staying.{Keeping, KeepingAll, Notes, kept_before, stays_before}
+use Rattle.drv_cc.specs.Front.{run_of}
 use Rattle.drv_cc.specs.Items.{same}
 use Rattle.drv_cc.specs.Kept.{goes, kept}
+use Rattle.drv_cc.specs.declared.answer.Answer.{Answer}
+use Rattle.drv_cc.specs.declared.answer.Surroundings.{Surroundings}
 use Rattle.drv_cc.specs.declared.item.Item.{Item}
 use Rattle.std.proofs.Common.{◌≡◌, ◌<◌, ◌≤◌, ◌+◌, ◌-◌, ◌∙◌, ◌&&◌, ◌||◌, Bool, List, [], ◌∷◌, ◌++◌, ap, append-nil, append_assoc, arith}
-use Rattle.std.proofs.Common.{cond, false, get_or, if◌then◌else◌, length, nat_lt, not, refl, sym, take, true, ℕ}
+use Rattle.std.proofs.Common.{Err, IfOk, Ok, Result, cond, false, get_or, if◌then◌else◌, length, nat_lt, not, refl, sym, take, true, ℕ}
 use Rattle.std.proofs.Math.Seq.{take-length}
 use Rattle.std.proofs.lemmas.Cmp.{nat_list_eq_equiv}
 use Rattle.std.proofs.lemmas.List.{reverse-append, take_more}
@@ -33,6 +36,7 @@ goes_by i following seen are = by i.class refl
     by [] is = refl
     by (b ∷ class) is = ap (λ t. nat_lt 0 (length (b ∷ class)) && t) (sym (are (b ∷ class) (omega arith)))
 
+-- One more item at the front of those that stay, by whether the code found that it stays.
 kept_on : (i : Item) (following : List Item) (stays : Bool) → stays ≡ not (goes i following)
     → kept (i ∷ following) ≡ (if stays then i ∷ kept following else kept following)
 kept_on i following stays is = by (goes i following) refl
@@ -55,6 +59,7 @@ not_same : (p : List ℕ) → 0 < length p → same p [] ≡ false
 not_same [] some = absurd (omega (arith, some))
 not_same (b ∷ p) some = refl
 
+-- For `note_class` (src/keeping.rt), where the item has no class: what was seen stays the same.
 pub not_noted : (p class : List ℕ) (old : Bool) → 0 < length p → class ≡ [] → old ≡ (same p class || old)
 not_noted p class old some none = ap (λ b. b || old) (sym (ap (same p) none ∙ not_same p some))
 
@@ -87,3 +92,34 @@ keeping_more items left before stay now i seen new h parts is notes = record {
 pub keeping_ends : (items left stay : List Item) (seen : List ℕ → Bool) → Keeping items left stay seen → left ≡ []
     → reverse stay ≡ kept items
 keeping_ends items left stay seen h none = h.stays ∙ ap kept (ap (λ l. l ++ h.following) (sym none) ∙ h.parts)
+
+-- For `do_all_stay` (src/keeping.rt), which goes over the same items but makes no list: before its loop,
+pub all_start : (items : List Item) (seen : List ℕ → Bool) → ((p : List ℕ) → seen p ≡ false) → KeepingAll items items seen
+all_start items seen none = record {
+  following = [];
+  parts = append-nil items;
+  stays = refl;
+  seen_are = λ p some. none p;
+}
+
+-- after an item that stays,
+pub all_more : (items left before : List Item) (i : Item) (seen new : List ℕ → Bool) → KeepingAll items left seen → left ≡ before ++ i ∷ []
+    → true ≡ stays_before i.class seen → Notes i.class seen new → KeepingAll items before new
+all_more items left before i seen new h parts is notes = record {
+  following = i ∷ h.following;
+  parts = sym (append_assoc before (i ∷ []) h.following) ∙ ap (λ l. l ++ h.following) (sym parts) ∙ h.parts;
+  stays = kept_on i h.following true (is ∙ ap not (sym (goes_by i h.following seen h.seen_are))) ∙ ap (λ l. i ∷ l) h.stays;
+  seen_are = λ p some. notes p some ∙ ap (λ b. same p i.class || b) (h.seen_are p some);
+}
+
+-- and where none is left.
+pub all_end : (items left : List Item) (seen : List ℕ → Bool) → KeepingAll items left seen → left ≡ [] → kept items ≡ items
+all_end items left seen h none = let all : h.following ≡ items = ap (λ l. l ++ h.following) (sym none) ∙ h.parts in
+    ap kept (sym all) ∙ h.stays ∙ all
+
+-- For `call_of_kept` (src/fronting.rt), where all items stay: the call is made of the items themselves.
+pub all_called : {E : Type 0} (around : Surroundings) (items : List Item) (all : Bool) (result : Result Answer E)
+    → (all ≡ true → kept items ≡ items) → all ≡ true → IfOk result (λ answer. answer ≡ run_of around items)
+    → IfOk result (λ answer. answer ≡ run_of around (kept items))
+all_called around items all (Ok answer) stay so is = is ∙ ap (run_of around) (sym (stay so))
+all_called around items all (Err e) stay so is = tt

@@ -4,16 +4,17 @@ ghost use Rattle.drv_cc.specs.Asked.{asks, has_no_number, has_vms_or_newer, is_a
 ghost use Rattle.drv_cc.specs.Asked.{is_stabs, is_xcoff, mixes_formats, mixes_newer, mixes_stabs};
 ghost use Rattle.drv_cc.specs.Asked.{mixes_vms, mixes_xcoff, numeric, only_preprocesses};
 ghost use Rattle.drv_cc.specs.Asked.{sets_unjudged, tells, tells_alone};
-ghost use Rattle.drv_cc.specs.Items.{is_among};
+ghost use Rattle.drv_cc.specs.Code.Asking.{is_judged, is_speaking, may_ask};
+ghost use Rattle.drv_cc.specs.Items.{begins, is_among};
 ghost use Rattle.std.specs.List.{list_any};
-ghost use Rattle.std.specs.Prelude.{◌≡◌};
+ghost use Rattle.std.specs.Prelude.{◌≡◌, codes};
 
 use crate::checks::names_no_check;
 use crate::classes::{is, is_one_of};
 use crate::item::Item;
 use crate::keeping::{has, has_input};
 use crate::sources::has_compiled;
-use crate::table::Role;
+use crate::table::{Role, last_byte};
 use crate::values::is_number;
 
 /// Options that ask for records in a format that is still in use (GCC manual, "Debugging Options").
@@ -140,7 +141,7 @@ fn has_vms_or_newer(items: &[Item]) -> bool
 fn mixes_stabs(items: &[Item]) -> bool
     ensures { result ≡ mixes_stabs items.now }
 {
-    has_stabs(items) && (has_xcoff(items) | has_vms_or_newer(items))
+    has_stabs(items) && (has_xcoff(items) || has_vms_or_newer(items))
 }
 
 /// Whether xcoff is asked for, and another format.
@@ -168,19 +169,65 @@ fn mixes_newer(items: &[Item]) -> bool
 fn mixes_formats(items: &[Item]) -> bool
     ensures { result ≡ mixes_formats items.now }
 {
-    mixes_stabs(items) | mixes_xcoff(items) | mixes_vms(items) | mixes_newer(items)
+    mixes_stabs(items) || mixes_xcoff(items) || mixes_vms(items) || mixes_newer(items)
 }
 
 /// Whether there is a question that is one where there is no input, and no input.
 fn tells_alone(items: &[Item]) -> bool
     ensures { result ≡ tells_alone items.now }
 {
-    has_telling(items) & !has_input(items)
+    has_telling(items) && !has_input(items)
 }
 
-/// Whether a line is a question for the compiler.
+/// Whether a line is a question for the compiler, question by question.
+fn has_asked(items: &[Item]) -> bool
+    ensures { result ≡ is_asked items.now }
+{
+    has_question(items) || tells_alone(items) || sets_unjudged(items) || mixes_formats(items)
+}
+
+/// Whether a name begins as the options of debugging do.
+fn is_of_debugging(name: &[u8]) -> bool
+    ensures { result ≡ begins (codes "-g") name.now }
+{
+    matches!(name, [b'-', b'g', ..])
+}
+
+/// Whether the compiler's driver may judge an option of this name.
+fn is_judged(name: &[u8]) -> bool
+    ensures { result ≡ is_judged name.now }
+{
+    is_of_debugging(name) || last_byte(name) == b'='
+}
+
+/// Whether an item of this role is a question, or one where there is no input.
+fn is_speaking(role: Role) -> bool
+    ensures { result ≡ is_speaking role }
+{
+    matches!(role, Role::Question | Role::Tells)
+}
+
+/// Whether an item may make its line a question for the compiler.
+fn may_ask(item: &Item) -> bool
+    ensures { result ≡ may_ask item.now }
+{
+    is_speaking(item.role) || is_judged(item.name.as_bytes())
+}
+
+/// Whether one of the items may make the line a question for the compiler.
+fn has_asking(items: &[Item]) -> bool
+    ensures { result ≡ list_any may_ask items.now }
+{
+    items.iter().any(may_ask)
+}
+
+/// Whether a line is a question for the compiler. Few lines have an item that may make them one.
+#[tactic(auto, using(crate::proofs::Unasked::none_asks))]
 pub(crate) fn is_asked(items: &[Item]) -> bool
     ensures { result ≡ is_asked items.now }
 {
-    has_question(items) | tells_alone(items) | sets_unjudged(items) | mixes_formats(items)
+    if !has_asking(items) {
+        return false;
+    }
+    has_asked(items)
 }

@@ -66,24 +66,6 @@ const GROUP_11: &[Row] = group! {
 };
 
 const GROUP_12: &[Row] = group! {
-    b"-fhelp=" b"-fhelp=" Attached Joined Question
-    b"-fcompare-debug=" b"-fcompare-debug=" Attached Joined Refused
-    b"-ffixed-line-length-" b"-ffixed-line-length-" Rest Joined Question
-    b"-fsanitize=" b"-fsanitize=" Attached Joined Switch
-    b"-fno-sanitize=" b"-fno-sanitize=" Attached Joined Switch
-    b"-ftree-parallelize-loops=" b"-ftree-parallelize-loops=" Attached Joined Switch
-    b"-flto=" b"-flto=" Attached Joined Switch
-    b"-finline-limit-" b"-finline-limit=" Attached Joined Switch
-    b"-fno-builtin-" b"-fno-builtin-" Attached Joined Switch
-    b"-fbuiltin-" b"-fbuiltin-" Attached Joined Switch
-    b"-fcall-saved-" b"-fcall-saved-" Attached Joined Switch
-    b"-fcall-used-" b"-fcall-used-" Attached Joined Switch
-    b"-fdisable-" b"-fdisable-" Attached Joined Switch
-    b"-fdump-" b"-fdump-" Attached Joined Switch
-    b"-fenable-" b"-fenable-" Attached Joined Switch
-    b"-ffixed-" b"-ffixed-" Attached Joined Switch
-    b"-fopt-info-" b"-fopt-info-" Attached Joined Switch
-    b"-fplugin-arg-" b"-fplugin-arg-" Attached Joined Switch
 };
 
 const GROUP_13: &[Row] = group! {
@@ -190,11 +172,6 @@ const GROUP_26: &[Row] = group! {
 };
 
 const GROUP_27: &[Row] = group! {
-    b"-Wno-larger-than-" b"-Wno-larger-than-" Rest Joined Question
-    b"-Wlarger-than-" b"-Wlarger-than=" Attached Joined Switch
-    b"-Wa," b"-Wa," Rest Joined Piece
-    b"-Wp," b"-Wp," Rest Joined Piece
-    b"-Wl," b"-Wl," Rest Joined Library
     b"-u" b"-u" Either Separate Switch
 };
 

@@ -8,7 +8,7 @@ ghost use Rattle.std.specs.Option.{option_map};
 ghost use Rattle.std.specs.Prelude.{◌≡◌, ◌<◌, IfOk, find, map};
 
 use crate::name_groups::{Ringed, ignored_group, ringed_group, unpaired_group};
-use crate::table::{Spelling, third};
+use crate::table::{Spelling, last_byte, third};
 use drv_words::Word;
 use std::alloc::{AllocError, Global};
 
@@ -17,7 +17,7 @@ pub(crate) fn is_one_of(names: &[&[u8]], name: &[u8]) -> bool
     ensures { result ≡ is_among (map (λ other. other.now) names.now) name.now }
 {
     for other in names {
-        if name == *other {
+        if is(name, other) {
             return true;
         }
     }
@@ -55,11 +55,12 @@ pub(crate) fn stands_in(text: &[u8], name: &[u8]) -> bool
     text.split(|byte| *byte == b' ').any(|other| name == other)
 }
 
-/// Whether a name is this one.
+/// Whether a name is this one. Most differ in their lengths or in their last bytes.
+#[tactic(auto, using(crate::proofs::OtherNames::other_length, crate::proofs::OtherNames::other_end))]
 pub(crate) fn is(name: &[u8], other: &[u8]) -> bool
     ensures { result ≡ same name.now other.now }
 {
-    name == other
+    name.len() == other.len() && last_byte(name) == last_byte(other) && name == other
 }
 
 /// The ring of a name among options of rings.
@@ -68,7 +69,7 @@ fn ring_among(options: &'static [Ringed], name: &[u8]) -> Option<&'static [u8]>
         ≡ option_map (λ r. r.1) (find (λ r. same name.now r.0) (map ringed_shown options.now)) }
 {
     for ringed in options {
-        if name == ringed.option {
+        if is(name, ringed.option) {
             return Some(ringed.ring);
         }
     }

@@ -7,7 +7,7 @@ ghost use Rattle.std.specs.Prelude.{◌≡◌, IfOk, codes};
 use crate::asking::is_asked;
 use crate::item::Item;
 use crate::judging::refusals;
-use crate::keeping::{kept, last_argument};
+use crate::keeping::{do_all_stay, kept, last_argument};
 use crate::line_adding::add_items;
 use crate::line_items::add_kept;
 use crate::quoting::children;
@@ -59,10 +59,13 @@ fn call_of(alloc: Global, around: &Surroundings, items: &[Item]) -> Result<Answe
     }))
 }
 
-/// The call of a line with these items, of which some may go.
-fn run(alloc: Global, around: &Surroundings, items: &[Item]) -> Result<Answer, AllocError>
+/// The call of a line with those of these items that stay. Where all stay, none is copied for it.
+fn call_of_kept(alloc: Global, around: &Surroundings, items: &[Item]) -> Result<Answer, AllocError>
     ensures { IfOk result (λ answer. answer ≡ run_of around.now (kept items.now)) }
 {
+    if do_all_stay(alloc, items)? {
+        return call_of(alloc, around, items);
+    }
     let kept = kept(alloc, items)?;
     call_of(alloc, around, kept.as_slice())
 }
@@ -78,10 +81,10 @@ fn refused_or_run(
         ≡ refused_or_run around.now items.now (refusals named.now items.now)) }
 {
     let refused = refusals(alloc, named, items)?;
-    if 0 < refused.len() {
-        Ok(Answer::Refuse(refused))
+    if refused.is_empty() {
+        call_of_kept(alloc, around, items)
     } else {
-        run(alloc, around, items)
+        Ok(Answer::Refuse(refused))
     }
 }
 

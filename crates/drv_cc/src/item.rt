@@ -2,7 +2,9 @@
 
 ghost use Rattle.drv_cc.specs.Code.Building.{shown};
 ghost use Rattle.drv_cc.specs.Items.{by_row, item, plain, words_of};
-ghost use Rattle.std.specs.Prelude.{◌≡◌, ◌++◌, IfOk, OnOk};
+ghost use Rattle.drv_cc.specs.declared.table.Role.TheVariants.{Switch};
+ghost use Rattle.drv_cc.specs.declared.table.Spelling.TheVariants.{Alone};
+ghost use Rattle.std.specs.Prelude.{◌≡◌, ◌++◌, [], IfOk, OnOk};
 
 use crate::classes::class_of;
 use crate::table::{Role, Row, Spelling};
@@ -38,6 +40,16 @@ impl Clone for Item {
     }
 }
 
+/// The word of an argument. Most options have none, and an empty word is no copy.
+fn word_of(alloc: Global, argument: &[u8]) -> Result<Word, AllocError>
+    ensures { IfOk result (λ word. word ≡ argument.now) }
+{
+    match argument {
+        [] => Ok(Word::empty(alloc)),
+        _ => Word::from_bytes(alloc, argument),
+    }
+}
+
 impl Item {
     /// An option with its argument.
     pub(crate) fn new(
@@ -51,10 +63,24 @@ impl Item {
     {
         Ok(Item {
             name: Word::from_bytes(alloc, name)?,
-            argument: Word::from_bytes(alloc, argument)?,
+            argument: word_of(alloc, argument)?,
             spelling,
             role,
             class: class_of(alloc, spelling, name)?,
+        })
+    }
+
+    /// The switch of this name, which is not copied.
+    pub(crate) fn own_switch(alloc: Global, name: Word) -> Result<Item, AllocError>
+        ensures { IfOk result (λ made. made ≡ item name [] Alone Switch) }
+    {
+        let class = class_of(alloc, Spelling::Alone, name.as_bytes())?;
+        Ok(Item {
+            name,
+            argument: Word::empty(alloc),
+            spelling: Spelling::Alone,
+            role: Role::Switch,
+            class,
         })
     }
 
@@ -72,8 +98,8 @@ impl Item {
     }
 
     /// The option of a row with its argument.
-    pub(crate) fn by_row(alloc: Global, row: Row, argument: &[u8]) -> Result<Item, AllocError>
-        ensures { IfOk result (λ made. made ≡ by_row (shown row) argument.now) }
+    pub(crate) fn by_row(alloc: Global, row: &Row, argument: &[u8]) -> Result<Item, AllocError>
+        ensures { IfOk result (λ made. made ≡ by_row (shown row.now) argument.now) }
     {
         Item::new(alloc, row.name, argument, row.spelling, row.role)
     }

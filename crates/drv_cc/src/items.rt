@@ -10,7 +10,7 @@ ghost use Rattle.std.specs.Prelude.{◌≡◌, ◌∷◌, ◌++◌, [], IfOk, Li
 use crate::asking::is_asked;
 use crate::fronting::answer_of;
 use crate::item::Item;
-use crate::reading::{by_own_name, items_of};
+use crate::reading::{by_own_name, is_own_switch, items_of};
 use crate::table::Role;
 use crate::{Answer, Surroundings};
 use drv_words::{Listing, Word};
@@ -32,11 +32,15 @@ fn are_unknown(items: &[Item]) -> bool
 }
 
 /// An item, by names of options. One that is unknown is none that is passed over.
+#[tactic(auto, using(crate::proofs::Again::switched_again))]
 fn again(alloc: Global, known: &[u8], item: Item) -> Result<Item, AllocError>
     ensures { IfOk result (λ found. found ≡ again known.now item) }
 {
     if !is_unknown(item.role) {
         return Ok(item);
+    }
+    if is_own_switch(alloc, known, item.name.as_bytes())? {
+        return Item::own_switch(alloc, item.name);
     }
     by_own_name(alloc, known, item.name.as_bytes())
 }

@@ -35,8 +35,8 @@ fn names(switch: &[u8], name: &[u8]) -> bool
     ensures { result ≡ names switch.now name.now }
 {
     match before_star(name) {
-        None => name == switch,
-        Some(beginning) => 0 < beginning.len() && switch.starts_with(beginning),
+        None => is(name, switch),
+        Some(beginning) => !beginning.is_empty() && switch.starts_with(beginning),
     }
 }
 

@@ -3,8 +3,9 @@
 ghost use Rattle.drv_cc.specs.Code.Staying.{Notes, is_seen, kept_before, stays_before};
 ghost use Rattle.drv_cc.specs.Kept.{has, has_input, is_input, kept, last_argument};
 ghost use Rattle.std.specs.Option.{option_map};
-ghost use Rattle.std.specs.Prelude.{◌≡◌, IfOk, OnOk, reverse};
+ghost use Rattle.std.specs.Prelude.{◌≡◌, IfOk, OnOk, reverse, true};
 
+use crate::classes::is;
 use crate::item::Item;
 use crate::table::Role;
 use drv_words::{Listing, Word};
@@ -15,7 +16,7 @@ use std::collections::HashSet;
 pub(crate) fn has(items: &[Item], name: &[u8]) -> bool
     ensures { result ≡ has name.now items.now }
 {
-    items.iter().any(|item| name == item.name.as_bytes())
+    items.iter().any(|item| is(name, item.name.as_bytes()))
 }
 
 /// The argument of the last option of a name.
@@ -24,7 +25,7 @@ pub(crate) fn last_argument<'a>(items: &'a [Item], name: &[u8]) -> Option<&'a [u
 {
     let mut found = None;
     for item in items {
-        if name == item.name.as_bytes() {
+        if is(name, item.name.as_bytes()) {
             found = Some(item.argument.as_bytes());
         }
     }
@@ -76,6 +77,24 @@ fn keep_item<'i>(
         stay.push(item.clone()?)?;
     }
     Ok(())
+}
+
+/// Whether all items stay: no two are of one class. The search ends at the first that goes, from the
+/// end of the line on.
+#[tactic(auto, using(crate::proofs::Staying::all_start, crate::proofs::Staying::all_end))]
+pub(crate) fn do_all_stay(alloc: Global, items: &[Item]) -> Result<bool, AllocError>
+    ensures { IfOk result (λ all. all ≡ true → kept items.now ≡ items.now) }
+{
+    let mut seen = HashSet::new(alloc);
+    let mut left = items;
+    while let [before @ .., item] = left {
+        let stays = note_class(&mut seen, &item.class)?;
+        if !stays {
+            return Ok(false);
+        }
+        left = before;
+    }
+    Ok(true)
 }
 
 /// The items that stay, the last one first.

@@ -24,6 +24,7 @@ mod line_adding;
 mod line_items;
 mod name_groups;
 mod names;
+mod parted_beginnings;
 mod piping;
 mod places;
 mod placing;

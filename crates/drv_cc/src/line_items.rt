@@ -5,6 +5,7 @@ ghost use Rattle.drv_cc.specs.LineItems.{option_effect, separate_effect};
 ghost use Rattle.std.specs.List.{filter_map};
 ghost use Rattle.std.specs.Prelude.{◌≡◌, ◌++◌, IfOk, OnOk};
 
+use crate::classes::is;
 use crate::item::Item;
 use crate::table::{Role, Spelling};
 use drv_args::{Effect, Setting, Tool};
@@ -15,13 +16,13 @@ use std::alloc::AllocError;
 fn alone_effect(name: &[u8]) -> Effect
     ensures { result ≡ alone_effect name.now }
 {
-    if name == b"-###".as_slice() {
+    if is(name, b"-###") {
         Effect::TurnsOn(Setting::Dry)
-    } else if name == b"-v".as_slice() {
+    } else if is(name, b"-v") {
         Effect::TurnsOn(Setting::Verbose)
-    } else if name == b"-pass-exit-codes".as_slice() {
+    } else if is(name, b"-pass-exit-codes") {
         Effect::TurnsOn(Setting::PassCodes)
-    } else if name == b"-pipe".as_slice() {
+    } else if is(name, b"-pipe") {
         Effect::TurnsOn(Setting::Pipe)
     } else {
         Effect::Switch
@@ -32,15 +33,15 @@ fn alone_effect(name: &[u8]) -> Effect
 fn joined_effect(name: &[u8]) -> Effect
     ensures { result ≡ joined_effect name.now }
 {
-    if name == b"-specs=".as_slice() {
+    if is(name, b"-specs=") {
         Effect::Specs
-    } else if name == b"-l".as_slice() {
+    } else if is(name, b"-l") {
         Effect::Library
-    } else if name == b"-Wl,".as_slice() {
+    } else if is(name, b"-Wl,") {
         Effect::Pieces(Tool::Linker)
-    } else if name == b"-Wa,".as_slice() {
+    } else if is(name, b"-Wa,") {
         Effect::Pieces(Tool::Assembler)
-    } else if name == b"-Wp,".as_slice() {
+    } else if is(name, b"-Wp,") {
         Effect::Pieces(Tool::Preprocessor)
     } else {
         Effect::JoinedSwitch
@@ -51,17 +52,17 @@ fn joined_effect(name: &[u8]) -> Effect
 fn separate_effect(name: &[u8]) -> Effect
     ensures { result ≡ separate_effect name.now }
 {
-    if name == b"-x".as_slice() {
+    if is(name, b"-x") {
         Effect::Language
-    } else if name == b"-o".as_slice() {
+    } else if is(name, b"-o") {
         Effect::Output
-    } else if name == b"-B".as_slice() {
+    } else if is(name, b"-B") {
         Effect::Prefix
-    } else if name == b"-Xlinker".as_slice() {
+    } else if is(name, b"-Xlinker") {
         Effect::Piece(Tool::Linker)
-    } else if name == b"-Xassembler".as_slice() {
+    } else if is(name, b"-Xassembler") {
         Effect::Piece(Tool::Assembler)
-    } else if name == b"-Xpreprocessor".as_slice() {
+    } else if is(name, b"-Xpreprocessor") {
         Effect::Piece(Tool::Preprocessor)
     } else {
         Effect::SwitchWithArgument

@@ -2,12 +2,14 @@
 
 ghost use Rattle.drv_cc.specs.Code.Building.{Notes, row_shown, shown, start_shown};
 ghost use Rattle.drv_cc.specs.Code.Known.{by_names};
-ghost use Rattle.drv_cc.specs.Items.{begins, beyond, first_row, is_among, is_file, items_of};
+ghost use Rattle.drv_cc.specs.Items.{begins, beyond, first_row, is_among, is_file, item, items_of};
 ghost use Rattle.drv_cc.specs.Items.{known_item, machine_item, machine_name, paired, plain, renamed};
 ghost use Rattle.drv_cc.specs.Items.{start_of, start_renamed, with_rest};
 ghost use Rattle.drv_cc.specs.Table.{ignored, texts};
 ghost use Rattle.drv_cc.specs.declared.table.Role.TheVariants as lacking;
-ghost use Rattle.std.specs.Prelude.{◌≡◌, ◌∷◌, ◌++◌, [], IfOk, None, OnOk, codes, drop, length};
+ghost use Rattle.drv_cc.specs.declared.table.Role.TheVariants.{Switch};
+ghost use Rattle.drv_cc.specs.declared.table.Spelling.TheVariants.{Alone};
+ghost use Rattle.std.specs.Prelude.{◌≡◌, ◌∷◌, ◌++◌, [], IfOk, None, OnOk, codes, drop, length, true};
 
 use crate::classes::{is_ignored, paired};
 use crate::item::Item;
@@ -35,13 +37,14 @@ pub(crate) fn rest_after<'a>(word: &'a [u8], option: &[u8]) -> &'a [u8]
 }
 
 /// An option with what follows it in its word.
-fn with_rest(alloc: Global, row: Row, rest: &[u8]) -> Result<Start, AllocError>
-    ensures { IfOk result (λ start. start_shown start ≡ with_rest row.takes (shown row) rest.now) }
+fn with_rest(alloc: Global, row: &Row, rest: &[u8]) -> Result<Start, AllocError>
+    ensures { IfOk result (λ start. start_shown start
+        ≡ with_rest row.now.takes (shown row.now) rest.now) }
 {
     match row.takes {
         Takes::Nothing => Ok(Start::Whole(Item::by_row(alloc, row, b"")?)),
-        Takes::Next => Ok(Start::Wants(row)),
-        Takes::Either if rest.is_empty() => Ok(Start::Wants(row)),
+        Takes::Next => Ok(Start::Wants(*row)),
+        Takes::Either if rest.is_empty() => Ok(Start::Wants(*row)),
         Takes::Attached if rest.is_empty() => {
             Ok(Start::Whole(Item::plain(alloc, Role::Lacking, row.option)?))
         }
@@ -112,6 +115,19 @@ pub(crate) fn by_own_name(alloc: Global, known: &[u8], word: &[u8]) -> Result<It
     }
     let name = renamed(alloc, word)?;
     by_names(alloc, known, word, name.as_bytes())
+}
+
+/// Whether a word is a switch of its own name by names of options: they have it as it is, or it
+/// turns a warning off.
+#[tactic(auto, using(crate::proofs::Again::own_switch))]
+pub(crate) fn is_own_switch(alloc: Global, known: &[u8], word: &[u8]) -> Result<bool, AllocError>
+    ensures { IfOk result (λ is. is ≡ true
+        → by_names known.now word.now (renamed word.now) ≡ item word.now [] Alone Switch) }
+{
+    if is_renamed(word) || names_machine(word) {
+        return Ok(false);
+    }
+    Ok(turns_off(alloc, known, word)? || accepts(alloc, known, word)?)
 }
 
 /// Whether an option is passed over, or its other sign is.
@@ -187,7 +203,7 @@ fn note_word(
     ensures { IfOk result (Notes known.now items.old items.new (row_shown wanting) word.now) }
 {
     if let Some(row) = wanting {
-        items.push(Item::by_row(alloc, row, word)?)?;
+        items.push(Item::by_row(alloc, &row, word)?)?;
         return Ok(None);
     }
     match start_of(alloc, known, word)? {

@@ -62,7 +62,7 @@ fn is_other_file(item: &Item) -> bool
     ensures { result ≡ is_other_file item.now }
 {
     let name = item.name.as_bytes();
-    is_file(item) && ((ends_as_source(name) && !name.ends_with(b".c")) || name == b"-".as_slice())
+    is_file(item) && ((ends_as_source(name) && !name.ends_with(b".c")) || is(name, b"-"))
 }
 
 /// Whether some item is a source of another language than C, or standard input.
@@ -91,7 +91,7 @@ fn has_preprocessing(items: &[Item]) -> bool
 fn is_c_alone(items: &[Item]) -> bool
     ensures { result ≡ is_c_alone items.now }
 {
-    !has(items, b"-x") && !(has_other_file(items) | has_preprocessing(items))
+    !has(items, b"-x") && !(has_other_file(items) || has_preprocessing(items))
 }
 
 /// Whether a link may have the library of a check.

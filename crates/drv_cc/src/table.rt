@@ -1,13 +1,16 @@
 //! The option table: a row an option. The first row that fits a word decides.
 
 ghost use Rattle.drv_cc.specs.Code.Building.{shown};
-ghost use Rattle.drv_cc.specs.Code.Groups.{begun_at, begun_key, second, third, whole_at, whole_key};
+ghost use Rattle.drv_cc.specs.Code.Groups.{begun_at, begun_key, is_parted, last_byte, second, third};
+ghost use Rattle.drv_cc.specs.Code.Groups.{whole_at, whole_key};
 ghost use Rattle.drv_cc.specs.Items.{begins, first_row, fits, option_fits, takes_rest};
 ghost use Rattle.std.specs.Option.{option_map};
 ghost use Rattle.std.specs.Prelude.{◌≡◌, false, find, map, true};
 
 use crate::beginnings::begun_group;
+use crate::classes::is;
 use crate::later_options::later_whole_group;
+use crate::parted_beginnings::parted_begun_group;
 use crate::whole_options::whole_group;
 
 /// How an option takes its argument.
@@ -94,7 +97,7 @@ impl Takes {
         } else if self.takes_rest() {
             begins(option, word)
         } else {
-            option == word
+            is(option, word)
         }
     }
 }
@@ -105,6 +108,16 @@ pub(crate) fn third(word: &[u8]) -> u8
 {
     match word {
         [_, _, letter, ..] => *letter,
+        _ => 0,
+    }
+}
+
+/// The last byte of a word, or 0.
+pub(crate) fn last_byte(word: &[u8]) -> u8
+    ensures { result ≡ last_byte word.now }
+{
+    match word {
+        [.., byte] => *byte,
         _ => 0,
     }
 }
@@ -154,20 +167,33 @@ fn whole_rows(word: &[u8]) -> &'static [Row]
     }
 }
 
+/// Whether options that begin with this letter are parted by their third byte too.
+fn is_parted(letter: u8) -> bool
+    ensures { result ≡ is_parted letter }
+{
+    letter == b'f' || letter == b'W'
+}
+
 /// The options among which those are that a word begins with.
 fn begun_rows(word: &[u8]) -> &'static [Row]
     ensures { map shown result.now ≡ begun_at (begun_key word.now) }
 {
-    begun_group(usize::from(second(word)) % 30)
+    let letter = second(word);
+    if is_parted(letter) {
+        parted_begun_group((usize::from(letter) + usize::from(third(word))) % 16)
+    } else {
+        begun_group(usize::from(letter) % 30)
+    }
 }
 
 /// The first of these rows that fits a word.
-fn row_among(rows: &'static [Row], word: &[u8]) -> Option<Row>
-    ensures { option_map shown result ≡ find (fits word.now) (map shown rows.now) }
+fn row_among(rows: &'static [Row], word: &[u8]) -> Option<&'static Row>
+    ensures { option_map (λ row. shown row.now) result
+        ≡ find (fits word.now) (map shown rows.now) }
 {
     for row in rows {
         if row.takes.fits(row.option, word) {
-            return Some(*row);
+            return Some(row);
         }
     }
     None
@@ -175,8 +201,8 @@ fn row_among(rows: &'static [Row], word: &[u8]) -> Option<Row>
 
 /// The row of a word.
 #[tactic(auto, using(crate::proofs::Groups::found_whole, crate::proofs::Groups::found_begun))]
-pub(crate) fn first_row(word: &[u8]) -> Option<Row>
-    ensures { option_map shown result ≡ first_row word.now }
+pub(crate) fn first_row(word: &[u8]) -> Option<&'static Row>
+    ensures { option_map (λ row. shown row.now) result ≡ first_row word.now }
 {
     if let Some(row) = row_among(whole_rows(word), word) {
         return Some(row);

@@ -50,11 +50,11 @@ fn are_digits(value: &[u8]) -> bool
 pub(crate) fn is_number(value: &[u8]) -> bool
     ensures { result ≡ is_number value.now }
 {
-    0 < value.len() && are_digits(value)
+    !value.is_empty() && are_digits(value)
 }
 
 /// The name of an option up to its argument, with a mark.
-fn marked(alloc: Global, name: &[u8], mark: &[u8]) -> Result<Word, AllocError>
+fn head_with_mark(alloc: Global, name: &[u8], mark: &[u8]) -> Result<Word, AllocError>
     ensures { IfOk result (λ line. line ≡ head_of name.now ++ mark.now) }
 {
     let mut line = Word::from_bytes(alloc, head_of(name))?;
@@ -67,7 +67,7 @@ fn numbered(alloc: Global, name: &[u8]) -> Result<Word, AllocError>
     ensures { IfOk result (λ line. line ≡ numbered name.now) }
 {
     if is_number(value_of(name)) {
-        marked(alloc, name, b"#")
+        head_with_mark(alloc, name, b"#")
     } else {
         Word::from_bytes(alloc, head_of(name))
     }
@@ -118,8 +118,8 @@ pub(crate) fn judges(alloc: Global, known: &[u8], name: &[u8]) -> Result<bool, A
     if known.is_empty() && !name.is_empty() {
         return Ok(false);
     }
-    let listed = marked(alloc, name, b"?")?;
-    let number = marked(alloc, name, b"#")?;
+    let listed = head_with_mark(alloc, name, b"?")?;
+    let number = head_with_mark(alloc, name, b"#")?;
     Ok(are_known(known, name, listed.as_bytes(), number.as_bytes()))
 }
 

@@ -2,10 +2,10 @@ use Rattle.drv_cc.specs.Items.{takes_rest}
 use Rattle.drv_cc.specs.Table.{OptionRow, ignored, rings, table, texts, unpaired}
 use Rattle.drv_cc.specs.declared.name_groups.Ringed.{Ringed}
 use Rattle.std.specs.List.{filter, flat_map}
-use Rattle.std.specs.Prelude.{◌==◌, ◌&&◌, ◌||◌, ◌+◌, ◌*◌, ◌%◌, Bool, List, get_or, length, map, nat_lt, not, ℕ}
+use Rattle.std.specs.Prelude.{◌==◌, ◌&&◌, ◌||◌, ◌+◌, ◌-◌, ◌*◌, ◌%◌, Bool, List, get_or, if◌then◌else◌, length, map, nat_lt, not, ℕ}
 
--- How the code looks up a row of the option table: rows whose option is the word by their second and third byte and their
--- length, and rows whose option the word begins with by their second byte. Only private clauses cite it.
+-- How the code looks up a row of the option table. It finds rows whose option is the word by their second and third byte and their length.
+-- It finds those whose option the word begins with by their second byte, and some by their third too. Only private clauses cite it.
 
 abbrev pub second : List ℕ → ℕ
 second word = get_or word 1 0
@@ -13,11 +13,25 @@ second word = get_or word 1 0
 abbrev pub third : List ℕ → ℕ
 third word = get_or word 2 0
 
+abbrev pub last_byte : List ℕ → ℕ
+last_byte word = get_or word (length word - 1) 0
+
 abbrev pub whole_key : List ℕ → ℕ
 whole_key word = (second word + third word + 7 * (length word % 32)) % 64
 
+-- many options begin with -f and with -W: these are parted by their third byte too
+abbrev pub is_parted : ℕ → Bool
+is_parted b = b == 102 || b == 87
+
+abbrev pub key_of : ℕ → ℕ → ℕ
+key_of b c = if is_parted b then (b + c) % 16 + 30 else b % 30
+
 abbrev pub begun_key : List ℕ → ℕ
-begun_key word = second word % 30
+begun_key word = key_of (second word) (third word)
+
+-- an option of so few bytes has not the key of each word that begins with it
+abbrev pub is_short : List ℕ → Bool
+is_short option = nat_lt (length option) 2 || (nat_lt (length option) 3 && is_parted (second option))
 
 abbrev pub is_whole : OptionRow → Bool
 is_whole r = not (takes_rest r.takes)
@@ -29,7 +43,7 @@ abbrev pub is_begun : OptionRow → Bool
 is_begun r = takes_rest r.takes
 
 abbrev pub is_begun_at : ℕ → OptionRow → Bool
-is_begun_at key r = is_begun r && (nat_lt (length r.option) 2 || begun_key r.option == key)
+is_begun_at key r = is_begun r && (is_short r.option || begun_key r.option == key)
 
 abbrev pub whole_at : ℕ → List OptionRow
 whole_at key = filter (is_whole_at key) table

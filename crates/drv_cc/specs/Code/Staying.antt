@@ -21,6 +21,13 @@ kept_before i seen stay = if stays_before i.class seen then stay ++ i ∷ [] els
 abbrev pub Notes : List ℕ → (List ℕ → Bool) → (List ℕ → Bool) → Type 0
 Notes class old new = (p : List ℕ) → 0 < length p → new p ≡ (same p class || old p)
 
+-- what was seen are the classes of the items after those that are left, and all of these items stay
+pub record KeepingAll (items left : List Item) (seen : List ℕ → Bool) : Type 0 where
+  pub following : List Item
+  pub parts : left ++ following ≡ items
+  pub stays : kept following ≡ following
+  pub seen_are : (p : List ℕ) → 0 < length p → seen p ≡ list_any (λ j. same p j.class) following
+
 -- what was seen are the classes of the items after those that are left, and these items stay, the last one first
 pub record Keeping (items left stay : List Item) (seen : List ℕ → Bool) : Type 0 where
   pub following : List Item

@@ -7,5 +7,5 @@ use Rattle.std.proofs.Common.{◌∙◌, sym}
 pub returns : goal.returns
 returns c =
     asked_again c.args.known.now c.args.item _ c.by_own_name.result
-    (sym c.is_unknown.ensures ∙ c.if-not-is_unknown.false) c.as_bytes.ensures
+    (sym c.is_unknown.ensures ∙ c.if-not-is_unknown.false) c.as_bytes-2.ensures
     c.by_own_name.ensures

@@ -1,0 +1,14 @@
+use Rattle.drv_cc.proofs.Staying.{all_more, last_part}
+use Rattle.drv_cc.proofs.keeping.do_all_stay.Goals as goal
+use Rattle.drv_cc.specs.Code.Staying.{is_seen}
+use Rattle.std.proofs.Common.{◌-◌, ◌∙◌, length, sym, take}
+
+-- do_all_stay (src/keeping.rt). Whether all items stay.
+
+pub loop-left-preserved : goal.loop-left-preserved
+loop-left-preserved c =
+    all_more c.args.items.now c.loop-left.left.now (take (length c.loop-left.left.now - 1) c.loop-left.left.now) c.item-item.result
+    (is_seen c.loop-left.seen.keys (λ k. k.now)) _
+    c.loop-left.invariant (last_part c.loop-left.left.now c.item-item.result c.in-len1-up.len_at_least c.item-item.is)
+    (sym c.if-not-stays.false ∙ c.in_ok-stays.ensures.stays)
+    c.in_ok-stays.ensures.noted
