@@ -11,6 +11,8 @@ mod JsonWords
 mod Judged
 mod LinesNumbered
 mod Lost
+mod MarkLaws
+mod MarkSteps
 mod Marks
 mod Namings
 mod OwnTrees
@@ -19,6 +21,7 @@ mod PiecesChecked
 mod PiecesRead
 mod RefusedFirst
 mod Reports
+mod SpotLaws
 mod SwitchNames
 mod TextOrigins
 mod TokenMarks

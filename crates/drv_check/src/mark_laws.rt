@@ -1,0 +1,25 @@
+//! Laws of marks.
+
+ghost use Rattle.drv_check.specs.MarkWords.{Marked, marked_text};
+ghost use Rattle.drv_check.specs.Origins.{byte_at, files_from, spot_at, text_spots};
+ghost use Rattle.drv_check.specs.declared.findings.Source.{Source};
+ghost use Rattle.drv_check.specs.declared.findings.Spot.{Spot};
+ghost use Rattle.drv_check.specs.declared.marking.MarkedPart.{MarkedPart};
+ghost use Rattle.std.specs.Prelude.{◌≡◌, List, Some, length, slice_get, ℕ};
+
+/// The law that a dump with marks is that dump with marks between its bytes, as many as there are
+/// parts and numbered one after another. It takes and gives nothing.
+#[tactic(auto, using(crate::proofs::MarkLaws::marks_in_order))]
+pub fn marks_are_in_order()
+    ensures { (dump : List ℕ) (parts : List MarkedPart)
+        → Marked 0 (length parts) dump (marked_text dump parts) }
+{}
+
+/// The law that a file has each byte of a text that has a spot, at that spot. It takes and gives
+/// nothing.
+#[tactic(auto, using(crate::proofs::SpotLaws::spot_has_byte))]
+pub fn spots_have_bytes()
+    ensures { (sources : List Source) (head text : List ℕ) (n : ℕ) (spot : Spot)
+        → spot_at (text_spots sources (files_from 0 sources) head text) (length text) n ≡ Some spot
+        → byte_at sources spot ≡ slice_get text n }
+{}
