@@ -50,6 +50,7 @@ abbrev known_or : {X : Type 0} → X → Known X → X
 known_or x Unasked = x
 known_or x (Is y) = y
 
+-- Two known values that are equal know equal things: so the end of a check is named.
 pub same_in : {X : Type 0} {x y : X} → Is x ≡ Is y → x ≡ y
 same_in {x = x} is = ap (known_or x) is
 
@@ -61,13 +62,16 @@ faults_both (finding ∷ first) second =
     ap (λ fs. fault_of finding ++ fs) (faults_both first second)
     ∙ sym (append_assoc (fault_of finding) (faults_of first) (faults_of second))
 
+-- Findings without a fault change no list of faults: so warnings may be left out of the comparison.
 faults_with : (first second : List Finding) → faults_of second ≡ [] → faults_of (first ++ second) ≡ faults_of first
 faults_with first second none = faults_both first second ∙ ap (λ fs. faults_of first ++ fs) none ∙ append-nil (faults_of first)
 
+-- The warnings of a piece hold no fault.
 no_faults : (file : OpenFile) (piece : Piece) (marks : List Mark) → faults_of (map (finding_of file piece) marks) ≡ []
 no_faults file piece [] = refl
 no_faults file piece (mark ∷ marks) = no_faults file piece marks
 
+-- A fault that is noted comes last in the list of faults.
 pub noted_faults : (c : Checking) (spot : Option Spot) (fault : SpecsFault)
     → faults_of (noted c spot (Fault fault)).findings ≡ faults_of c.findings ++ fault ∷ []
 noted_faults c spot fault = faults_both c.findings (record { spot = spot; note = Fault fault } ∷ [])
@@ -77,17 +81,20 @@ noted_faults c spot fault = faults_both c.findings (record { spot = spot; note =
 abbrev pub carried_of : Checking → Carried
 carried_of c = record { set = c.set; files = c.files }
 
+-- A check ends as the driver does: with no new fault and the driver's set, or with its refusal as the first new fault.
 abbrev pub Follows : List SpecsFault → Checking → Known (Result Carried SpecsFault) → Type 0
 Follows before c Unasked = ⊥
 Follows before c (Is (Ok d)) = (faults_of c.findings ≡ before) × (carried_of c ≡ d)
 Follows before c (Is (Err fault)) = (more : List SpecsFault) × (faults_of c.findings ≡ before ++ fault ∷ more)
 
+-- However the driver ends, the faults so far stay at the front of the list: this lets two steps be joined.
 grows : (before : List SpecsFault) (c : Checking) (known : Known (Result Carried SpecsFault)) → Follows before c known
     → (more : List SpecsFault) × (faults_of c.findings ≡ before ++ more)
 grows before c Unasked follows = absurd follows
 grows before c (Is (Ok d)) follows = ([], follows.0 ∙ sym (append-nil before))
 grows before c (Is (Err fault)) follows = (fault ∷ follows.0, follows.1)
 
+-- Two steps that each end as the driver does end so one after the other: the proof for a list of pieces rests on it.
 pub joins : (before : List SpecsFault) (c c' : Checking) (known : Known (Result Carried SpecsFault))
     (next : Carried → Known (Result Carried SpecsFault))
     → Follows before c known → Follows (faults_of c.findings) c' (next (carried_of c)) → Follows before c' (then_by known next)
@@ -103,19 +110,23 @@ joins before c c' (Is (Err fault)) next first second =
 -- a directive that includes no file
 
 module _ (c : Checking) (file : OpenFile) (piece : Piece) where
+  -- What a piece is warned of adds no fault.
   warned_faults : faults_of (warned c file piece).findings ≡ faults_of c.findings
   warned_faults = faults_with c.findings (map (finding_of file piece) (marks_of c.set piece.text))
       (no_faults file piece (marks_of c.set piece.text))
 
+  -- What the check makes of a piece that includes no file, where this is what the driver makes of it.
   abbrev Alone : Enters → Result Set SpecsFault → Checking → Type 0
   Alone enters result c' =
       (put_aside (changed (warned c file piece) file piece (Is result)) >>= λ next. entered enters next.0 next.1) ≡ Is c'
 
+  -- Where the driver changes the set, the check has the same set and no new fault.
   changed_well : (enters : Enters) (set : Set) (c' : Checking) → Alone enters (Ok set) c'
       → Follows (faults_of c.findings) c' (Is (Ok (record { set = set; files = c.files })))
   changed_well enters set c' is =
       subst (λ x. Follows (faults_of c.findings) x (Is (Ok (record { set = set; files = c.files })))) (same_in is) (warned_faults, refl)
 
+  -- Where the driver refuses a piece, the check notes that fault, with the number of the piece's line.
   changed_ill : (enters : Enters) (fault told : SpecsFault) (c' : Checking) → numbered piece.number fault ≡ told
       → Alone enters (Err fault) c'
       → Follows (faults_of c.findings) c' (Is (Err told))
@@ -126,11 +137,13 @@ module _ (c : Checking) (file : OpenFile) (piece : Piece) where
             ∙ ap (λ f. faults_of c.findings ++ f ∷ []) same,
       )
 
+  -- In both cases the check ends as the driver does, where the fault has no line number of its own.
   changed_as : (enters : Enters) (result : Result Set SpecsFault) (c' : Checking) → Same piece.number result → Alone enters result c'
       → Follows (faults_of c.findings) c' (load.changed c.files result)
   changed_as enters (Ok set) c' same is = changed_well enters set c' is
   changed_as enters (Err fault) c' same is = changed_ill enters fault fault c' same is
 
+-- The line number that a directive carries: it is needed where the directive is none.
 abbrev number_in : Directive → ℕ
 number_in (Bad n) = n
 number_in (Text name body) = 0
@@ -145,14 +158,17 @@ module _ (F : Facts) (prefixes : Prefixes) where
   change_alone (Ok set) = refl
   change_alone (Err fault) = refl
 
+  -- The driver loads a piece by itself as the one directive that the piece is.
   loaded_alone : (set : Set) (text : List ℕ) (directive : Directive) → directives_of text ≡ directive ∷ []
       → loaded F prefixes set text ≡ worked F prefixes set most_files (directive ∷ [])
   unfolding loaded
   loaded_alone set text directive is = ap (worked F prefixes set most_files) is
 
+  -- A check of one piece ends with this.
   abbrev pub One : Enters → ℕ → Checking → OpenFile → Piece → Checking → Type 0
   One enters levels c file piece c' = (step F prefixes levels c file piece >>= λ next. entered enters next.0 next.1) ≡ Is c'
 
+  -- The check of a piece that includes no file changes the set by what the driver makes of the piece.
   stays : (enters : Enters) (levels : ℕ) (c c' : Checking) (file : OpenFile) (piece : Piece) (result : Result Set SpecsFault)
       → inclusion_in piece.text ≡ None
       → loaded F prefixes c.set piece.text ≡ Is result → One enters levels c file piece c'

@@ -16,23 +16,29 @@ use Rattle.std.specs.Prelude.{nat_le, nat_lt}
 
 -- A pattern that names all that another one names hits a switch wherever that one does.
 
+-- Equal by comparison is equal: tests of words become equations.
 same : (a b : List ℕ) → pointwise nat_eq a b ≡ true → a ≡ b
 same a b is = (slice_eq-Decides Decides-eqb a b (pointwise nat_eq a b) refl).0 is
 
+-- A word is equal to itself by comparison: this is wanted for a pattern without a star.
 same_back : (a : List ℕ) → pointwise nat_eq a a ≡ true
 same_back a = (slice_eq-Decides Decides-eqb a a (pointwise nat_eq a a) refl).1 refl
 
+-- A word that begins with another is that one and a rest.
 begins : (s p : List ℕ) → starts_with nat_eq s p ≡ true → s ≡ p ++ drop (length p) s
 begins s p is = (starts_is Decides-eqb s p (starts_with nat_eq s p) refl).0 is
 
+-- A word and a rest begin with that word.
 begins_back : (s p rest : List ℕ) → s ≡ p ++ rest → starts_with nat_eq s p ≡ true
 begins_back s p rest is = (starts_is Decides-eqb s p (starts_with nat_eq s p) refl).1 rest is
 
+-- What a word begins with begins with what that begins with: one starred pattern then covers a longer one.
 through : (p q name : List ℕ) → starts_with nat_eq q p ≡ true → starts_with nat_eq name q ≡ true → starts_with nat_eq name p ≡ true
 through p q name one two =
     begins_back name p (drop (length p) q ++ drop (length q) name)
     (begins name q two ∙ ap (λ s. s ++ drop (length q) name) (begins q p one) ∙ append_assoc p (drop (length p) q) (drop (length q) name))
 
+-- A name that the second pattern has, the first has, where it names all that the second one names.
 named_too : (a b : Bool) (p q name : List ℕ) → (if a then starts_with nat_eq q p else not b && pointwise nat_eq q p) ≡ true
     → (if b then starts_with nat_eq name q else pointwise nat_eq name q) ≡ true
     → (if a then starts_with nat_eq name p else pointwise nat_eq name p) ≡ true
@@ -41,12 +47,14 @@ named_too true false p q name all is = subst (λ n. starts_with nat_eq n p ≡ t
 named_too false true p q name all is = absurd cc
 named_too false false p q name all is = subst (λ n. pointwise nat_eq n p ≡ true) (sym (same name q is)) all
 
+-- A word is no longer than one that begins with it.
 shorter : (p q : List ℕ) → starts_with nat_eq q p ≡ true → length p ≤ length q
 shorter p q is =
     let whole : length q ≡ length p + length (drop (length p) q) = ap (λ s. length s) (begins q p is)
     ∙ length-append p (drop (length p) q) in
     omega (arith, whole)
 
+-- A pattern that names all of a broad one's switches is broad too, so that it hits the same dead switches.
 broad_too : (a b : Bool) (p q : List ℕ) → (if a then starts_with nat_eq q p else not b && pointwise nat_eq q p) ≡ true
     → (b && nat_le (length q) 1) ≡ true → (a && nat_le (length p) 1) ≡ true
 broad_too true true p q all is =
@@ -55,6 +63,7 @@ broad_too true true p q all is =
 broad_too a false p q all is = absurd cc
 broad_too false true p q all is = absurd cc
 
+-- The tests of a hit, taken together, pass from one pattern to the other.
 both_too : (h l m n b c : Bool) → (m ≡ true → n ≡ true) → (b ≡ true → c ≡ true) → (h && m && (b || l)) ≡ true → (h && n && (c || l)) ≡ true
 both_too false l m n b c f g e = absurd cc
 both_too true l false n b c f g e = absurd cc
@@ -62,6 +71,7 @@ both_too true l true n true c f g e = rw (f refl, g refl) refl
 both_too true true true n false c f g e = rw (f refl) (or-true c)
 both_too true false true n false c f g e = absurd cc
 
+-- A switch that the second pattern hits, the first one hits.
 hit_too : (names : List (List ℕ)) (hidden : List Bool) (first second : Label) → names_all first second ≡ true → (i : ℕ)
     → is_hit names hidden (pattern_of second) i ≡ true → is_hit names hidden (pattern_of first) i ≡ true
 hit_too names hidden first second all i =
@@ -71,6 +81,7 @@ hit_too names hidden first second all i =
     (named_too first.starred second.starred first.word second.word (name_at names i) all)
     (broad_too first.starred second.starred first.word second.word all)
 
+-- Where each item that passes one test passes another, and some pass the first, some pass the second.
 some_too : (f g : ℕ → Bool) → ((i : ℕ) → f i ≡ true → g i ≡ true) → (xs : List ℕ) → nat_lt 0 (length (filter f xs)) ≡ true
     → nat_lt 0 (length (filter g xs)) ≡ true
 some_too f g more [] is = absurd cc
@@ -85,12 +96,14 @@ some_too f g more (x ∷ xs) is = by (f x) (g x) refl refl (some_too f g more xs
     by true false has has' ih e = absurd (let clash : true ≡ false = sym (more x has) ∙ has' in cc)
     by false false has has' ih e = ih e
 
+-- So a line that has a switch for the second pattern has one for the first.
 switch_too : (names : List (List ℕ)) (hidden : List Bool) (first second : Label) → names_all first second ≡ true
     → has_switch names hidden second ≡ true → has_switch names hidden first ≡ true
 switch_too names hidden first second all =
     some_too (is_hit names hidden (pattern_of second)) (is_hit names hidden (pattern_of first)) (hit_too names hidden first second all)
     (range_with_len 0 (length names))
 
+-- With negations on either side the tests still pass from one to the other: all cases, by themselves.
 turned_too : (m n A B C D : Bool) → (C ≡ true → B ≡ true → A ≡ true) → (D ≡ true → A ≡ true → B ≡ true)
     → (if m then n && D else not n && C) ≡ true → (if n then not B else B) ≡ true → (if m then not A else A) ≡ true
 turned_too true true true true C D f g e t = absurd cc
@@ -100,6 +113,7 @@ turned_too true false A B C D f g e t = absurd cc
 turned_too false true A B C D f g e t = absurd cc
 turned_too false false A B C D f g e t = f e t
 
+-- Two tests of switches cover one another as their patterns do.
 covers_by : (k l : TestKind) (first second : Label) → k ≡ asking.Switch → l ≡ asking.Switch
     → (if first.negated then second.negated && asks_all l k second first else not second.negated && asks_all k l first second) ≡ true
     → (if first.negated then second.negated && names_all second first else not second.negated && names_all first second) ≡ true
@@ -109,6 +123,7 @@ covers_by k l first second is is' e =
     (subst (λ j. (if first.negated then second.negated && asks_all j k second first else not second.negated && asks_all k j first second)
     ≡ true) is' e)
 
+-- A test that covers another is true on each line where that is: no line reaches a branch behind it.
 pub covered : (names : List (List ℕ)) (hidden : List Bool) (first second : Label) → first.asks ≡ asking.Switch → second.asks ≡ asking.Switch
     → covers first second ≡ true → is_true names hidden second ≡ true → is_true names hidden first ≡ true
 covered names hidden first second is is' covers =
@@ -119,12 +134,14 @@ covered names hidden first second is is' covers =
 
 -- a pattern that names no switch which another one doesn't name
 
+-- A word isn't itself and also longer by a byte: one switch more tells a starred pattern from a plain one.
 no_longer : (p q : List ℕ) → q ≡ p → q ++ 0 ∷ [] ≡ p → ⊥
 no_longer p q is longer =
     let one : length q ≡ length p = ap (λ s. length s) is in
     let more : length q + 1 ≡ length p = sym (length-append q (0 ∷ [])) ∙ ap (λ s. length s) longer in
     omega (arith, one, more)
 
+-- A pattern that names each switch that another names is found by the comparison of the two words.
 whole_by : (a b : Bool) (p q : List ℕ)
     → ((name : List ℕ) → (if b then starts_with nat_eq name q else pointwise nat_eq name q) ≡ true
     → (if a then starts_with nat_eq name p else pointwise nat_eq name p) ≡ true)
@@ -136,6 +153,7 @@ whole_by false true p q names =
     absurd (no_longer p q (same q p (names q (begins_back q q [] (sym (append-nil q)))))
     (same (q ++ 0 ∷ []) p (names (q ++ 0 ∷ []) (begins_back (q ++ 0 ∷ []) q (0 ∷ []) refl))))
 
+-- So the definition finds every pattern that names all that another one names.
 pub whole : (first second : Label)
     → ((name : List ℕ) → is_named (pattern_of second) name ≡ true → is_named (pattern_of first) name ≡ true) → names_all first second ≡ true
 whole first second = whole_by first.starred second.starred first.word second.word

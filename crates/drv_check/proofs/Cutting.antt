@@ -16,11 +16,13 @@ first_of : (text line rest : List ℕ) → text ≡ line ++ newline ∷ rest →
 first_of text line rest is clean =
     ap lines_of is ∙ pieces_then line [] rest ∙ ap (λ lines. lines ++ lines_of rest) (one_piece line [] clean)
 
+-- The line up to the first newline is the first line of the text, and the rest gives the others.
 pub first_line : (text : List ℕ) (found : Option ℕ) (at : ℕ) → IsFirstByte (is_byte newline) text found → found ≡ Some at
     → lines_of text ≡ take at text ∷ lines_of (drop (at + 1) text)
 first_line text found at h is =
     first_of text (take at text) (drop (at + 1) text) (line_found text found at h is) (line_clean text found at h is)
 
+-- A text without a newline is one line.
 pub only_line : (text : List ℕ) (found : Option ℕ) → IsFirstByte (is_byte newline) text found → found ≡ None → lines_of text ≡ text ∷ []
 only_line text found h is = one_piece text [] (line_alone text found h is)
 
@@ -32,6 +34,7 @@ more : (begun : Option Piece) (n at : ℕ) (line : List ℕ) (rest : List (List 
 more None n at line rest = refl
 more (Some piece) n at line rest = refl
 
+-- The loop takes one more line: the pieces that it ends are added, and the piece that goes on is kept.
 pub pieces_more : (before after all : List Piece) (begun next : Option Piece) (n at : ℕ) (line : List ℕ) (lines rest : List (List ℕ))
     → before ++ pieces_from begun n at lines ≡ all → lines ≡ line ∷ rest → after ≡ before ++ ended_by begun n at line
     → next ≡ begun_after begun n at line

@@ -5,6 +5,7 @@ use Rattle.std.specs.List.{flat_map}
 
 -- For `texts_difference`: what differs between two dumps, step by step.
 
+-- The loop takes one more line of a directive, with its mark.
 pub lines_next : (mark before after line all : List ℕ) (lines rest : List (List ℕ)) → lines ≡ line ∷ rest
     → after ≡ before ++ marked_line mark line
     → before ++ flat_map (marked_line mark) lines ≡ all → after ++ flat_map (marked_line mark) rest ≡ all
@@ -13,6 +14,7 @@ lines_next mark before after line all lines rest cut grows is =
     ∙ append_assoc before (marked_line mark line) (flat_map (marked_line mark) rest)
     ∙ ap (λ ls. before ++ flat_map (marked_line mark) ls) (sym cut) ∙ is
 
+-- The loop takes one more directive, which is told unless the other dump has it.
 pub missing_next : (mark text : List ℕ) (others pieces : List Piece) (piece : Piece)
     → (text ++ unless_there mark others piece) ++ missing mark others pieces ≡ text ++ missing mark others (piece ∷ pieces)
 missing_next mark text others pieces piece = append_assoc text (unless_there mark others piece) (missing mark others pieces)

@@ -20,6 +20,7 @@ use Rattle.std.proofs.Common.{◌≡◌, ◌∙◌, ◌++◌, ◌∷◌, Err, If
 -- For `fault_note`: files are checked, and what is found first is noted.
 
 module _ (F : Facts) (prefixes : Prefixes) (set : Set) (names : List (List ℕ)) where
+  -- The note is that of the check which starts over the set: so it is the one that the definition names.
   pub notes_along : {E : Type 0} (start c : Checking) (result : Result (List ℕ) E) → start ≡ unchecked_over set
       → all_until F prefixes start names ≡ Is c → IfOk result (λ note. note ≡ note_of c)
       → IfOk result (λ note. noted_along F prefixes set names ≡ Is note)
@@ -28,6 +29,7 @@ module _ (F : Facts) (prefixes : Prefixes) (set : Set) (names : List (List ℕ))
       ap (λ s. all_until F prefixes s names >>= λ d. Is (note_of d)) (sym starts) ∙ ap (λ k. k >>= λ d. Is (note_of d)) goes
       ∙ ap Is (sym notes)
 
+  -- The folders of the call give the prefixes, and along these the files are checked.
   pub notes_files : {E : Type 0} (folders : List (List ℕ)) (result : Result (List ℕ) E) → prefixes_of F folders ≡ Is prefixes
       → IfOk result (λ note. noted_along F prefixes set names ≡ Is note) → IfOk result (λ note. fault_note F set folders names ≡ Is note)
   unfolding fault_note
@@ -37,15 +39,19 @@ module _ (F : Facts) (prefixes : Prefixes) (set : Set) (names : List (List ℕ))
 -- For `noted_fault_is_refusal`: the first fault is the first of all faults.
 
 module _ (finding : Finding) (findings : List Finding) where
+  -- A fault that comes first is the first fault.
   takes : (fault : SpecsFault) → finding.note ≡ Fault fault → first_fault (finding ∷ findings) ≡ Some finding
   takes fault is = ap (λ t. if t then Some finding else first_fault findings) (ap is_fault is)
 
+  -- A warning that comes first is passed over.
   passes : (warning : Warning) → finding.note ≡ Warned warning → first_fault (finding ∷ findings) ≡ first_fault findings
   passes warning is = ap (λ t. if t then Some finding else first_fault findings) (ap is_fault is)
 
+  -- The faults of findings are that of the first one, if it tells one, and those of the rest.
   both : (note : Note) → finding.note ≡ note → faults_of (finding ∷ findings) ≡ fault_in note ++ faults_of findings
   both note is = ap (λ n. fault_in n ++ faults_of findings) is
 
+-- Where there are no faults there is no first one.
 none_first : (findings : List Finding) → faults_of findings ≡ [] → first_fault findings ≡ None
 none_first [] none = refl
 none_first (finding ∷ findings) none = by finding.note refl (none_first findings)
@@ -56,13 +62,16 @@ none_first (finding ∷ findings) none = by finding.note refl (none_first findin
         cc)
     by (Warned warning) is later = passes finding findings warning is ∙ later (sym (both finding findings (Warned warning) is) ∙ none)
 
+-- The first of several faults, or else this one.
 abbrev first_of : SpecsFault → List SpecsFault → SpecsFault
 first_of fault [] = fault
 first_of fault (other ∷ faults) = other
 
+-- The first fault of these findings is this one, wherever it is.
 abbrev Finds : List Finding → SpecsFault → Type 0
 Finds findings fault = (spot : Option Spot) × (first_fault findings ≡ Some (record { spot = spot; note = Fault fault }))
 
+-- The fault is found where it comes first.
 found_here : (finding : Finding) (findings : List Finding) (other fault : SpecsFault) (more : List SpecsFault) → finding.note ≡ Fault other
     → other ∷ faults_of findings ≡ fault ∷ more → Finds (finding ∷ findings) fault
 found_here finding findings other fault more is all = (
@@ -71,10 +80,12 @@ found_here finding findings other fault more is all = (
       ∙ ap (λ n. Some (record { spot = finding.spot; note = n })) (is ∙ ap (λ faults. Fault (first_of fault faults)) all),
 )
 
+-- It is found behind a warning.
 found_later : (finding : Finding) (findings : List Finding) (warning : Warning) (fault : SpecsFault) → finding.note ≡ Warned warning
     → Finds findings fault → Finds (finding ∷ findings) fault
 found_later finding findings warning fault is rest = (rest.0, passes finding findings warning is ∙ rest.1)
 
+-- So the first of the faults is the first fault that is found.
 some_first : (findings : List Finding) (fault : SpecsFault) (more : List SpecsFault) → faults_of findings ≡ fault ∷ more
     → Finds findings fault
 some_first [] fault more are = absurd cc
@@ -85,12 +96,14 @@ some_first (finding ∷ findings) fault more are = by finding.note refl (some_fi
     by (Warned warning) is later =
         found_later finding findings warning fault is (later (sym (both finding findings (Warned warning) is) ∙ are))
 
+-- And the driver's refusal, which is the first of the faults, is the fault whose place is noted.
 first_is : (findings : List Finding) (known : Known (Result Set SpecsFault)) → Agrees (faults_of findings) known
     → IsFirst (first_fault findings) known
 first_is findings Unasked agrees = agrees
 first_is findings (Is (Ok set)) agrees = none_first findings agrees
 first_is findings (Is (Err fault)) agrees = some_first findings fault agrees.0 agrees.1
 
+-- The law for a whole call: the files are checked up to the first fault.
 pub noted_first : (F : Facts) (prefixes : Prefixes) (set : Set) (names : List (List ℕ)) (c : Checking)
     → all_until F prefixes (unchecked_over set) names ≡ Is c → IsFirst (first_fault c.findings) (all_loaded F prefixes set names)
 noted_first F prefixes set names c is = first_is c.findings _ (until_agrees F prefixes (unchecked_over set) c names refl is)

@@ -14,6 +14,7 @@ use Rattle.std.specs.Prelude.{filter}
 
 -- For check_files: of files that are loaded first, the faults stay and the warnings go.
 
+-- One finding more is kept or not, by itself: the loop takes the findings one by one.
 more_kept : (findings : List Finding) (finding : Finding)
     → filter tells_fault (findings ++ finding ∷ []) ≡ filter tells_fault findings ++ filter tells_fault (finding ∷ [])
 more_kept [] finding = refl
@@ -25,12 +26,14 @@ more_kept (first ∷ findings) finding = by (tells_fault first) (more_kept findi
     by true more = ap (λ fs. first ∷ fs) more
     by false more = more
 
+-- The loop keeps a fault.
 pub fault_stays : (kept after yielded : List Finding) (finding : Finding) → is_fault finding.note ≡ true → kept ≡ filter tells_fault yielded
     → after ≡ kept ++ finding ∷ [] → after ≡ filter tells_fault (yielded ++ finding ∷ [])
 fault_stays kept after yielded finding is before grows =
     grows ∙ ap (λ fs. fs ++ finding ∷ []) before
     ∙ ap (λ t. filter tells_fault yielded ++ (if t then finding ∷ [] else [])) (sym is) ∙ sym (more_kept yielded finding)
 
+-- The loop leaves out a warning.
 pub warning_goes : (kept yielded : List Finding) (finding : Finding) → is_fault finding.note ≡ false → kept ≡ filter tells_fault yielded
     → kept ≡ filter tells_fault (yielded ++ finding ∷ [])
 warning_goes kept yielded finding is before =
@@ -38,6 +41,7 @@ warning_goes kept yielded finding is before =
     ∙ ap (λ t. filter tells_fault yielded ++ (if t then finding ∷ [] else [])) (sym is) ∙ sym (more_kept yielded finding)
 
 module _ (F : Facts) (prefixes : Prefixes) (over : List (List ℕ)) where
+  -- The files that are loaded first are checked over nothing, and their faults alone are kept.
   pub base_checked : {E : Type 0} (start loaded : Checking) (result : Result Checking E) → start ≡ unchecked
       → all_called F prefixes start over ≡ Is loaded → IfOk result (λ kept. kept ≡ faults_alone loaded)
       → IfOk result (λ kept. based F prefixes over ≡ Is kept)
@@ -46,6 +50,7 @@ module _ (F : Facts) (prefixes : Prefixes) (over : List (List ℕ)) where
       ap (λ s. all_called F prefixes s over >>= λ c. Is (faults_alone c)) (sym starts) ∙ ap (λ k. k >>= λ c. Is (faults_alone c)) loads
       ∙ ap Is (sym keeps)
 
+  -- The files of the call are checked over these, and what shows in the whole of them is added.
   pub over_checked : (names : List (List ℕ)) (base c whole : Checking) (first : ℕ) → based F prefixes over ≡ Is base
       → first ≡ length base.sources
       → all_called F prefixes base names ≡ Is c → whole ≡ judged first c → checked_over F prefixes over names ≡ Is whole
@@ -54,6 +59,7 @@ module _ (F : Facts) (prefixes : Prefixes) (over : List (List ℕ)) where
       ∙ ap (λ k. k >>= λ d. Is (judged (length base.sources) d)) goes
       ∙ ap (λ n. Is (judged n c)) (sym at) ∙ ap Is (sym judges)
 
+  -- The prefixes that the call finds are those of the definition.
   pub checks_files : {E : Type 0} (names dirs : List (List ℕ)) (result : Result Checking E) → dirs ≡ [] → prefixes_of F dirs ≡ Is prefixes
       → IfOk result (λ c. checked_over F prefixes over names ≡ Is c) → IfOk result (λ c. checked F over names ≡ Is c)
   unfolding checked

@@ -18,18 +18,22 @@ use Rattle.std.proofs.Common.{◌≡◌, ◌∙◌, ◌<◌, ◌-◌, Err, IfOk,
 -- For check_files: an included file is opened within the limits, or the reason is noted.
 
 module _ (F : Facts) (prefixes : Prefixes) (c : Checking) (from : Option Spot) (inclusion : Inclusion) where
+  -- No file is opened within too many others: the reason is noted.
   deep : (levels : ℕ) → levels ≡ 0 → opened F prefixes levels c from inclusion ≡ Is (noted c from (Fault IncludeTooDeep), None)
   deep zero is = refl
   deep (suc levels) is = absurd cc
 
+  -- Within fewer, the count of files decides.
   within : (levels : ℕ) → 0 < levels → opened F prefixes levels c from inclusion ≡ opened_of F prefixes c.files c from inclusion
   within zero is = absurd (omega (arith, is))
   within (suc levels) is = refl
 
+  -- No file is opened after too many others: the reason is noted.
   many : (left : ℕ) → left ≡ 0 → opened_of F prefixes left c from inclusion ≡ Is (noted c from (Fault TooManyIncludes), None)
   many zero is = refl
   many (suc left) is = absurd cc
 
+  -- Else its text is looked for, and one file fewer may be read.
   one_read : (left : ℕ) → 0 < left
       → opened_of F prefixes left c from inclusion
       ≡ (found_text F prefixes inclusion >>= λ found. Is (by_text (record c { files = left - 1 }) from found.0 found.1))
@@ -38,14 +42,17 @@ module _ (F : Facts) (prefixes : Prefixes) (c : Checking) (from : Option Spot) (
       let less : left ≡ suc left - 1 = omega arith in
       ap (λ n. found_text F prefixes inclusion >>= λ found. Is (by_text (record c { files = n }) from found.0 found.1)) less
 
+  -- For the exit of the code where the file is nested too deep.
   pub opens_deep : (levels : ℕ) (new : Checking) → levels ≡ 0 → new ≡ noted c from (Fault IncludeTooDeep)
       → opened F prefixes levels c from inclusion ≡ Is (new, None)
   opens_deep levels new is noted_so = deep levels is ∙ ap (λ d. Is (d, None)) (sym noted_so)
 
+  -- For its exit where too many files were read.
   pub opens_none : (levels : ℕ) (new : Checking) → 0 < levels → c.files ≡ 0 → new ≡ noted c from (Fault TooManyIncludes)
       → opened F prefixes levels c from inclusion ≡ Is (new, None)
   opens_none levels new some is noted_so = within levels some ∙ many c.files is ∙ ap (λ d. Is (d, None)) (sym noted_so)
 
+  -- For its end: the text that was found is taken, or why there is none.
   pub opens : {E : Type 0} (levels : ℕ) (d new : Checking) (path : List ℕ) (text : Result (List ℕ) SpecsFault)
       (result : Result (Option OpenFile) E)
       → 0 < levels → 0 < c.files → found_text F prefixes inclusion ≡ Is (path, text) → d ≡ record c { files = c.files - 1 }

@@ -19,11 +19,13 @@ use Rattle.std.specs.declared.cmp.Ordering.TheVariants.{Equal, Greater, Less}
 
 -- For first_fault_is_refusal and pieces_are_directives: the file that a piece includes is the one that its directive includes.
 
+-- An ordering that is tested as equal is equal.
 is_equal : (o : Ordering) → is_eq o ≡ true → o ≡ Equal
 is_equal Less e = absurd cc
 is_equal Equal e = refl
 is_equal Greater e = absurd cc
 
+-- Words that compare as equal are equal: a line's first word is then a keyword.
 same_bytes : (xs ys : List ℕ) → pointwise nat_eq xs ys ≡ true → xs ≡ ys
 same_bytes xs ys e = exact_bytes xs ys (is_equal _ (sym (texts_ties xs ys) ∙ e))
 
@@ -39,6 +41,7 @@ answers_alike missing may reads misses fails large path read.Missing = misses pa
 answers_alike missing may reads misses fails large path read.Failed = fails path
 answers_alike missing may reads misses fails large path read.TooLarge = large path
 
+-- A line %include names the same file in the check and for the driver, or is no directive for both.
 included_as : (m n : ℕ) (missing : _) (may : Bool) (text : List ℕ)
     → ((path : List ℕ) (answer : ReadAnswer) → text_read missing path answer ≡ read_text may path answer)
     → IncludesAs (inclusion_of may (included m missing text)) (included n missing text)
@@ -50,6 +53,7 @@ included_as m n missing may (b ∷ text) alike = by (b == less_than && ends_with
     by true = (may, refl, alike)
     by false = refl
 
+-- A line %rename includes no file for either.
 renamed_as : (m n : ℕ) (may : Bool) (words : List (List ℕ)) → IncludesAs (inclusion_of may (renamed m words)) (renamed n words)
 renamed_as m n may [] = refl
 renamed_as m n may (old ∷ []) = refl
@@ -67,15 +71,18 @@ Alike m n line word words = IncludesAs (inclusion_of (may_miss (word ∷ words))
 abbrev pub refusing : (missing : _) × (name : List ℕ) × (by_keyword 0 (codes "%include <a>") (codes "%include" ∷ []) ≡ Include missing name)
 refusing = (_, codes "a", refl)
 
+-- How the driver reads an answer for %include_noerr, where the file may be missing.
 abbrev passing : (missing : _) × (name : List ℕ) × (by_keyword 0 (codes "%include_noerr <a>") (codes "%include_noerr" ∷ [])
     ≡ Include missing name)
 passing = (_, codes "a", refl)
 
+-- The check and the driver read %include alike.
 refuses : (m n : ℕ) (line : List ℕ) (words : List (List ℕ)) → Alike m n line (codes "%include") words
 refuses m n line words =
     included_as m n refusing.0 false (trimmed (drop (length (codes "%include")) line))
     (answers_alike refusing.0 false (λ path text. refl) (λ path. refl) (λ path. refl) (λ path. refl))
 
+-- They read %include_noerr alike.
 passes : (m n : ℕ) (line : List ℕ) (words : List (List ℕ)) → Alike m n line (codes "%include_noerr") words
 passes m n line words =
     included_as m n passing.0 true (trimmed (drop (length (codes "%include_noerr")) line))
@@ -111,17 +118,20 @@ front_kept (b ∷ line) rest full = by (is_blank b) refl full (front_kept line r
     by true is empty shorter = shorter empty
     by false is empty shorter = refl
 
+-- A line that opens a body includes nothing.
 by_kind : (may c k : Bool) (x x' y y' : Directive) → kind_of (if c then Passed else if k then Alone x else WithBody y) ≡ kind.Opens
     → inclusion_at may (if c then Passed else if k then Alone x' else WithBody y') ≡ None
 by_kind may true k x x' y y' is = absurd cc
 by_kind may false true x x' y y' is = absurd cc
 by_kind may false false x x' y y' is = refl
 
+-- A body with more lines includes nothing either.
 body_stays : (line rest : List ℕ) (may : Bool) → kind_of (start_of 1 line []) ≡ kind.Opens
     → inclusion_at may (start_of 1 (line ++ rest) []) ≡ None
 body_stays [] rest may opens = absurd cc
 body_stays (b ∷ line) rest may opens = by_kind may (b == number_sign) (b == percent) _ _ _ _ opens
 
+-- So a piece with a body includes no file, whatever its lines are.
 pub body_as : (text first rest : List ℕ) → text ≡ first ++ rest → is_empty_line first ≡ false
     → kind_of (start_of 1 (without_front is_blank first) []) ≡ kind.Opens → inclusion_in text ≡ None
 body_as text first rest begins full opens =

@@ -5,12 +5,14 @@ use Rattle.std.specs.Cmp.Lexicographic.{pointwise}
 
 -- For check_files: a line that renames a text includes no file.
 
+-- However many words a line %rename has, it includes nothing.
 none_renamed : (missing : Bool) (words : List (List ℕ)) → inclusion_of missing (renamed 1 words) ≡ None
 none_renamed missing [] = refl
 none_renamed missing (old ∷ []) = refl
 none_renamed missing (old ∷ new ∷ []) = refl
 none_renamed missing (old ∷ new ∷ word ∷ words) = refl
 
+-- For the exit of the code where the first word is %rename.
 pub renames : (line word : List ℕ) (words all : List (List ℕ)) → all ≡ word ∷ words → pointwise nat_eq word (codes "%rename") ≡ true
     → None ≡ inclusion_of (may_miss all) (by_keyword 1 line all)
 renames line word words all is named = rw is (rw named (sym (none_renamed (may_miss (word ∷ words)) words)))

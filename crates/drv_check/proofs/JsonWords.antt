@@ -8,9 +8,11 @@ use Rattle.std.specs.Str.{IsUtf8, is_utf8}
 
 -- For report_json: a word is a string if its bytes are UTF-8, or else a list of bytes.
 
+-- A word that is UTF-8 is a string.
 pub text_word : (word : List ℕ) → IsUtf8 word → word_json word ≡ string word
 text_word word is = rw (is_utf8-from_IsUtf8 word is) refl
 
+-- A word that isn't is the list of its bytes.
 pub bytes_word : (word : List ℕ) → ¬ (IsUtf8 word) → word_json word ≡ list_json number_json word
 bytes_word word isnt = by (is_utf8 word) refl
   where
@@ -18,9 +20,11 @@ bytes_word word isnt = by (is_utf8 word) refl
     by true is = absurd (isnt (IsUtf8-from_is_utf8 word is))
     by false is = refl
 
+-- For the exit of the code that writes a string.
 pub text_tokens : (word text : List ℕ) → text ≡ word → IsUtf8 word → Token.string text ∷ [] ≡ json_tokens (word_json word)
 text_tokens word text is utf8 = ap (λ t. Token.string t ∷ []) is ∙ sym (ap json_tokens (text_word word utf8))
 
+-- For its exit that writes the bytes.
 pub bytes_tokens : (word bytes : List ℕ) → bytes ≡ word → ¬ (IsUtf8 word)
     → json_tokens (list_json number_json bytes) ≡ json_tokens (word_json word)
 bytes_tokens word bytes is isnt = ap (λ b. json_tokens (list_json number_json b)) is ∙ sym (ap json_tokens (bytes_word word isnt))

@@ -11,6 +11,7 @@ use Rattle.std.specs.Prelude.{get_or, map}
 
 -- For check_files: the warnings that show in the whole of the files, piece by piece.
 
+-- The loop takes one more piece of a file, with what shows over those behind it.
 pub pieces_next : (set : Set) (worked : List (List ℕ)) (file : OpenFile) (piece : Piece) (later left : List Piece)
     (before after whole : List Finding)
     → left ≡ piece ∷ later → after ≡ before ++ map (finding_of file piece) (whole_marks set worked later piece.text)
@@ -20,6 +21,7 @@ pieces_next set worked file piece later left before after whole cut grows is =
     ∙ append_assoc before (map (finding_of file piece) (whole_marks set worked later piece.text)) (pieces_judged set worked file later)
     ∙ ap (λ ps. before ++ pieces_judged set worked file ps) (sym cut) ∙ is
 
+-- The loop takes one more file.
 pub sources_next : (set : Set) (worked : List (List ℕ)) (n : ℕ) (file : OpenFile) (source : Source) (sources : List Source)
     (before after whole : List Finding)
     → n < length sources → source ≡ get_or sources n source → file ≡ open_file n source.text → after ≡ before ++ file_judged set worked file

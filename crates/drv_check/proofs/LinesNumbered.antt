@@ -18,18 +18,22 @@ use Rattle.std.specs.Prelude.{⊤}
 
 -- For first_fault_is_refusal: the faults of a directive have no number of a line, unless the line is none.
 
+-- A refusal stays as it is when it gets the number of a line.
 abbrev pub Same : ℕ → {X : Type 0} → Result X SpecsFault → Type 0
 Same n (Ok x) = ⊤
 Same n (Err fault) = numbered n fault ≡ fault
 
+-- The refusal of a text by the grammar has no number.
 tree_same : (n : ℕ) {X : Type 0} (name : List ℕ) (x : X) (tree : Result Items SyntaxFault) → Same n (by_tree name x tree)
 tree_same n name x (Ok tree) = tt
 tree_same n name x (Err fault) = refl
 
+-- Of two results that have none, the one that a test chooses has none.
 if_same : (n : ℕ) {X : Type 0} (t : Bool) (x y : Result X SpecsFault) → Same n x → Same n y → Same n (if t then x else y)
 if_same n true x y first second = first
 if_same n false x y first second = second
 
+-- A body that is put or added has none.
 body_same : (n : ℕ) (set : Set) (name body : List ℕ) → Same n (with_body set name body)
 body_same n set name [] = tt
 body_same n set name (b ∷ text) =
@@ -39,11 +43,13 @@ body_same n set name (b ∷ text) =
     (tree_same n name _ (parsed (appended_text (text_of set name) text))))
     (tree_same n name _ (parsed (b ∷ text))))
 
+-- A named text has none, whatever is wrong with it.
 pub text_same : (n : ℕ) (set : Set) (name body : List ℕ) → Same n (with_text set name body)
 text_same n set name body =
     if_same n (not (is_name name)) (Err (BadName name)) _ refl
     (if_same n (ends_with_backslash body) (Err (TrailingBackslash name)) (with_body set name body) refl (body_same n set name body))
 
+-- The text of a pair has none.
 pair_same : (n : ℕ) (set : Set) (key text : List ℕ) → Same n (with_pair_text set key text)
 pair_same n set key text =
     if_same n (ends_with_backslash text) (Err (TrailingBackslash key)) _ refl
@@ -51,10 +57,12 @@ pair_same n set key text =
     (if_same n (is_no_text text) (Ok (with_pair set key text)) (by_tree key (with_pair set key text) (parsed text)) tt
     (tree_same n key (with_pair set key text) (parsed text))))
 
+-- A pair has none, whatever is wrong with its key.
 pub pair_body_same : (n : ℕ) (set : Set) (key body : List ℕ) → Same n (with_pair_body set key body)
 pair_body_same n set key body =
     if_same n (is_key key) (with_pair_text set key (pair_text body)) (Err (BadName key)) (pair_same n set key (pair_text body)) refl
 
+-- A name that changes has none.
 pub name_same : (n : ℕ) (set : Set) (old new : List ℕ) → Same n (with_name set old new)
 name_same n set old new =
     if_same n (not (is_name old)) (Err (BadName old)) _ refl

@@ -5,6 +5,7 @@ use Rattle.std.proofs.Common.{◌≡◌, ◌∙◌, ◌++◌, ◌∷◌, Bool, L
 
 -- Directives that mark no word, one after another.
 
+-- The loop takes one more token, which is lost or not by those beside it.
 pub lost_next : (start : ℕ) (last next : Option Token) (token : Token) (left rest : List Token) (lost : Bool)
     (before after whole : List Mark) → left ≡ token ∷ rest
     → next ≡ Some token → lost ≡ is_lost last token rest → after ≡ before ++ lost_mark start token lost

@@ -17,6 +17,7 @@ use Rattle.std.specs.Prelude.{get_or}
 
 -- For namings_of: the parts of a text that name switches, one after another.
 
+-- The loop takes one more token, and the naming that it is.
 pub tokens_next : (head text : List ℕ) (spots : List Spot) (items : Items) (n : ℕ) (tokens : List Token) (token : Token)
     (before after whole : List Naming) → n < length tokens → token ≡ get_or tokens n token
     → after ≡ before ++ token_namings head text spots token (label_at items n)
@@ -29,6 +30,7 @@ tokens_next head text spots items n tokens token before after whole below here g
     ∙ ap (λ t. before ++ tokens_namings head text spots items n (t ∷ drop (n + 1) tokens)) here
     ∙ ap (λ ts. before ++ tokens_namings head text spots items n ts) (sym (drop_more tokens n token below)) ∙ is
 
+-- For the exit of the code where the text of a piece has a tree.
 pub of_tree : {X E : Type 0} (sources : List Source) (files : List OpenFile) (head text tree : List ℕ) (own : Option (List ℕ))
     (spots : List Spot)
     (before after : List Naming) (result : Result X E) → own ≡ Some tree → tree_or_none own ≡ own_tree text → tree ≡ own_text text
@@ -41,6 +43,7 @@ of_tree sources files head text tree own spots before after (Ok x) has is same a
     ∙ ap (λ t. before ++ tree_namings head tree (text_spots sources files head tree) t) (sym (ap tree_or_none has) ∙ is)
     ∙ ap (λ t. before ++ tree_namings head t (text_spots sources files head t) (own_tree text)) same
 
+-- For its exit where it has none, which names nothing.
 pub of_none : (sources : List Source) (files : List OpenFile) (head text : List ℕ) (own : Option (List ℕ)) (before : List Naming)
     → own ≡ None
     → tree_or_none own ≡ own_tree text

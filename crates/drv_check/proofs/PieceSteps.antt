@@ -17,10 +17,12 @@ use Rattle.std.proofs.Common.{◌≡◌, ◌∙◌, Err, IfOk, None, Ok, Option,
 
 -- For check_files: a piece changes the set, adds its fault, or opens a file.
 
+-- Where the driver changes the set, so does the check.
 pub changes : (c : Checking) (file : OpenFile) (piece : Piece) (known : Known (Result Set SpecsFault)) (set : Set)
     → known ≡ Is (Ok set) → changed c file piece known ≡ Is (record c { set = set })
 changes c file piece known set is = ap (changed c file piece) is
 
+-- Where the driver refuses, the check adds the fault.
 pub faults : {E X : Type 0} (c d new : Checking) (file : OpenFile) (piece : Piece) (known : Known (Result Set SpecsFault))
     (fault : SpecsFault)
     (result : Result X E) → known ≡ Is (Err fault) → d ≡ c → IfOk result (λ _. new ≡ faulty d file piece fault)
@@ -30,6 +32,7 @@ faults c d new file piece known fault (Ok done) is same adds =
     ap (changed c file piece) is ∙ ap (λ x. Is (faulty x file piece fault)) (sym same) ∙ ap Is (sym adds)
 
 module _ (F : Facts) (prefixes : Prefixes) (levels : ℕ) (c : Checking) (file : OpenFile) (piece : Piece) where
+  -- A piece that includes a file opens it, at the spot of its first byte that is no blank.
   pub steps_in : {E : Type 0} (inclusion : Inclusion) (spot : Spot) (new : Checking) (result : Result (Option OpenFile) E)
       → Some inclusion ≡ inclusion_in piece.text → Some spot ≡ spot_in file piece (front_length is_blank piece.text)
       → IfOk result (λ next. opened F prefixes levels c (Some spot) inclusion ≡ Is (new, next))
@@ -38,6 +41,7 @@ module _ (F : Facts) (prefixes : Prefixes) (levels : ℕ) (c : Checking) (file :
   steps_in inclusion spot new (Ok next) is at goes =
       ap (stepped F prefixes levels c file piece) (sym is) ∙ ap (λ s. opened F prefixes levels c s inclusion) (sym at) ∙ goes
 
+  -- Another piece changes the set and opens nothing.
   pub steps_on : (d new : Checking) → None ≡ inclusion_in piece.text → d ≡ warned c file piece
       → changed d file piece (loaded F prefixes d.set piece.text) ≡ Is new → step F prefixes levels c file piece ≡ Is (new, None)
   steps_on d new is warns goes =

@@ -21,6 +21,7 @@ module _ (F : Facts) (prefixes : Prefixes) where
       let less : levels ≡ suc levels - 1 = omega arith in
       ap (file_checked F prefixes) less
 
+  -- A file's pieces are checked as the file is, however deep it is nested.
   pub begins : (levels : ℕ) (c : Checking) (file : OpenFile)
       → pieces_checked F prefixes levels (enters_at F prefixes levels) c file file.pieces ≡ file_checked F prefixes levels c file
   unfolding file_checked
@@ -28,6 +29,7 @@ module _ (F : Facts) (prefixes : Prefixes) where
   begins (suc levels) c file = refl
 
   module _ (levels : ℕ) (enters : Enters) (c : Checking) (file : OpenFile) (pieces : List Piece) (n : ℕ) (piece : Piece) where
+    -- The loop takes one more piece.
     one : n < length pieces → piece ≡ get_or pieces n piece
         → pieces_checked F prefixes levels enters c file (drop n pieces)
         ≡ (step F prefixes levels c file piece >>= λ next. entered enters next.0 next.1
@@ -37,6 +39,7 @@ module _ (F : Facts) (prefixes : Prefixes) where
         ∙ ap (λ p. step F prefixes levels c file p >>= λ next. entered enters next.0 next.1
         >>= λ c'. pieces_checked F prefixes levels enters c' file (drop (n + 1) pieces)) (sym here)
 
+    -- So the loop's state after it gives the same end.
     pub piece_done : (new after : Checking) (next : Option OpenFile) (whole : Known Checking) → n < length pieces
         → piece ≡ get_or pieces n piece
         → step F prefixes levels c file piece ≡ Is (new, next) → entered enters new next ≡ Is after
@@ -61,6 +64,7 @@ module _ (F : Facts) (prefixes : Prefixes) where
         → called F prefixes c name ≡ Is d
     called_out opens = ap (λ k. k >>= λ next. entered (file_checked F prefixes 15) next.0 next.1) opens
 
+  -- The loop takes one more file of the call.
   pub name_done : (c after : Checking) (names : List (List ℕ)) (n : ℕ) (name : List ℕ) (whole : Known Checking) → n < length names
       → name ≡ get_or names n name → called F prefixes c name ≡ Is after → all_called F prefixes c (drop n names) ≡ whole
       → all_called F prefixes after (drop (n + 1) names) ≡ whole
@@ -69,6 +73,7 @@ module _ (F : Facts) (prefixes : Prefixes) where
       ∙ ap (λ m. called F prefixes c m >>= λ c'. all_called F prefixes c' (drop (n + 1) names)) (sym here)
       ∙ ap (λ k. k >>= λ c'. all_called F prefixes c' (drop (n + 1) names)) checks) ∙ before
 
+-- The same loop over the list that the code holds, which is the file's.
 pub piece_gone : (F : Facts) (prefixes : Prefixes) (levels : ℕ) (c : Checking) (file : OpenFile) (items : List Piece) (n : ℕ)
     (piece : Piece)
     (new after : Checking) (next : Option OpenFile) (whole : Known Checking) → items ≡ file.pieces → n < length items

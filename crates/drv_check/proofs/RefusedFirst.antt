@@ -39,6 +39,7 @@ abbrev has_some : List SpecsFault → Bool
 has_some [] = false
 has_some (fault ∷ faults) = true
 
+-- A finding tells a fault exactly where the list of faults has one.
 some_told : (findings : List Finding) → list_any tells_fault findings ≡ has_some (faults_of findings)
 some_told [] = refl
 some_told (finding ∷ findings) = by finding.note (some_told findings)
@@ -48,12 +49,14 @@ some_told (finding ∷ findings) = by finding.note (some_told findings)
     by (Fault fault) later = refl
     by (Warned warning) later = later
 
+-- Two checks with the same faults are both refused or neither.
 refused_alike : (c d : Checking) → faults_of c.findings ≡ faults_of d.findings → is_refused c ≡ is_refused d
 refused_alike c d same = some_told c.findings ∙ ap has_some same ∙ sym (some_told d.findings)
 
 module _ (F : Facts) (prefixes : Prefixes) where
   -- what follows a step: nothing after a fault, and else the rest
 
+  -- After a fault the check ends, as the driver does with its refusal.
   ends_here : (c c' c'' : Checking) (known : Known (Result Carried SpecsFault)) (next : Carried → Known (Result Carried SpecsFault))
       → is_refused c ≡ false → is_refused c'' ≡ true → c'' ≡ c' → Follows (faults_of c.findings) c'' known
       → Follows (faults_of c.findings) c' (then_by known next)
@@ -63,14 +66,17 @@ module _ (F : Facts) (prefixes : Prefixes) where
   ends_here c c' c'' (Is (Err fault)) next goes refused same first =
       subst (λ x. Follows (faults_of c.findings) x (Is (Err fault))) same first
 
+  -- What is claimed of files that are opened before a fault, for one count of levels.
   abbrev OpensUntil : ℕ → Type 0
   OpensUntil levels = (c : Checking) → is_refused c ≡ false → OpensFrom F prefixes (enters_until F prefixes levels) levels c
 
+  -- What is claimed of pieces before a fault, for one count of levels.
   abbrev ChecksUntil : ℕ → Type 0
   ChecksUntil levels = (c c' : Checking) (file : OpenFile) (pieces : List Piece) (directives : List Directive) → AreRead pieces directives
       → is_refused c ≡ false → pieces_until F prefixes levels (enters_until F prefixes levels) c file pieces ≡ Is c'
       → Follows (faults_of c.findings) c' (all_carried (including F prefixes levels) (carried_of c) directives)
 
+  -- The pieces of a file, where the files that they include are known to agree: each is one step, which ends or goes on.
   checks_at : (levels : ℕ) → OpensUntil levels → ChecksUntil levels
   checks_at levels opens c c' file [] [] are goes is =
       subst (λ x. Follows (faults_of c.findings) x (Is (Ok (carried_of c)))) (same_in is) (refl, refl)
@@ -121,15 +127,18 @@ module _ (F : Facts) (prefixes : Prefixes) where
 
   -- an included file
 
+  -- Too deep: both note the same fault.
   opens_none : OpensUntil zero
   unfolding including
   opens_none c goes c' from may missing name alike is =
       subst (λ x. Follows (faults_of c.findings) x (Is (Err IncludeTooDeep))) (same_in is) ([], noted_faults c from IncludeTooDeep)
 
+  -- What the check makes of an included file's text.
   abbrev opens_text : ℕ → ℕ → Checking → Option Spot → List ℕ → Result (List ℕ) SpecsFault → Known Checking
   opens_text levels left c from path text =
       Is (by_text (record c { files = left }) from path text) >>= λ next. entered (file_until F prefixes levels) next.0 next.1
 
+  -- The text of an included file, or why it has none.
   by_result : (levels left : ℕ) → ChecksUntil levels → (c c' : Checking) (from : Option Spot) (path : List ℕ)
       (text : Result (List ℕ) SpecsFault)
       → is_refused c ≡ false → opens_text levels left c from path text ≡ Is c'
@@ -154,6 +163,7 @@ module _ (F : Facts) (prefixes : Prefixes) where
         (known >>= λ found. Is (by_text (record c { files = left }) from found.0 found.1))
         >>= λ next. entered (file_until F prefixes levels) next.0 next.1
 
+    -- By what the system answered for its path.
     by_answer : (missing : _) → ((path : List ℕ) (answer : ReadAnswer) → text_read missing path answer ≡ read_text may path answer)
         → (path : List ℕ) (answer : Option ReadAnswer) → goes (asked answer >>= λ a. Is (path, read_text may path a)) ≡ Is c'
         → Follows (faults_of c.findings) c' (then_by (asked answer >>= λ a. Is (text_read missing path a))
@@ -165,6 +175,7 @@ module _ (F : Facts) (prefixes : Prefixes) where
         (sym (alike path answer))
         (by_result levels left checks c c' from path (read_text may path answer) well is)
 
+    -- By whether its path is known.
     by_path : (missing : _) → ((path : List ℕ) (answer : ReadAnswer) → text_read missing path answer ≡ read_text may path answer)
         → (known : Known (List ℕ)) → goes (texts known) ≡ Is c'
         → Follows (faults_of c.findings) c' (then_by (known >>= λ path. asked (read_of F path) >>= λ a. Is (text_read missing path a))
@@ -172,6 +183,7 @@ module _ (F : Facts) (prefixes : Prefixes) where
     by_path missing alike Unasked is = absurd cc
     by_path missing alike (Is path) is = by_answer missing alike path (read_of F path) is
 
+  -- By how many files may still be read.
   by_files : (levels : ℕ) → ChecksUntil levels → (n : ℕ) (c c' : Checking) (from : Option Spot) (may : Bool) (missing : _) (name : List ℕ)
       → ((path : List ℕ) (answer : ReadAnswer) → text_read missing path answer ≡ read_text may path answer) → is_refused c ≡ false
       → (opened_of F prefixes n c from (record { may_miss = may; file = name })
@@ -182,17 +194,20 @@ module _ (F : Facts) (prefixes : Prefixes) where
   by_files levels checks (suc left) c c' from may missing name alike goes is =
       by_path levels left checks c c' from may name goes missing alike (file_found F prefixes name) is
 
+  -- So one more level agrees, where the levels below do.
   opens_some : (levels : ℕ) → ChecksUntil levels → OpensUntil (suc levels)
   unfolding including
   opens_some levels checks c goes c' from may missing name alike is =
       by_files levels checks c.files c c' from may missing name alike goes is
 
+  -- And all levels agree.
   all_open : (levels : ℕ) → OpensUntil levels
   all_open zero = opens_none
   all_open (suc levels) = opens_some levels (checks_at levels (all_open levels))
 
   -- the files of the call
 
+  -- One file of the call is loaded as the driver loads it.
   one_loads : (c c' : Checking) (name : List ℕ) → is_refused c ≡ false → called_until F prefixes c name ≡ Is c'
       → Loads F prefixes (faults_of c.findings) c' (file_loaded F prefixes c.set name)
   unfolding file_loaded
@@ -201,6 +216,7 @@ module _ (F : Facts) (prefixes : Prefixes) where
       (all_open most_levels (record c { files = most_files }) goes c' None false refusing.0 name
       (answers_alike refusing.0 false (λ path text. refl) (λ path. refl) (λ path. refl) (λ path. refl)) is)
 
+  -- After a fault the call ends, as the driver does with its refusal.
   loading_ends : (c c' c'' : Checking) (known : Known (Result Set SpecsFault)) (next : Set → Known (Result Set SpecsFault))
       → is_refused c ≡ false → is_refused c'' ≡ true → c'' ≡ c' → Loads F prefixes (faults_of c.findings) c'' known
       → Loads F prefixes (faults_of c.findings) c' (then_by known next)
@@ -210,6 +226,7 @@ module _ (F : Facts) (prefixes : Prefixes) where
   loading_ends c c' c'' (Is (Err fault)) next goes refused same first =
       subst (λ x. Loads F prefixes (faults_of c.findings) x (Is (Err fault))) same first
 
+  -- The files of the call agree, one after another.
   all_load : (c c' : Checking) (names : List (List ℕ)) → is_refused c ≡ false → all_until F prefixes c names ≡ Is c'
       → Loads F prefixes (faults_of c.findings) c' (all_loaded F prefixes c.set names)
   all_load c c' [] goes is = subst (λ x. Loads F prefixes (faults_of c.findings) x (Is (Ok c.set))) (same_in is) (refl, refl)
@@ -237,6 +254,7 @@ module _ (F : Facts) (prefixes : Prefixes) where
       by later Unasked calls more = absurd cc
       by later (Is c'') calls more = by_end later c'' calls more (is_refused c'') refl
 
+-- So the whole call agrees: this is what the law of the first fault needs.
 pub until_agrees : (F : Facts) (prefixes : Prefixes) (c c' : Checking) (names : List (List ℕ)) → c.findings ≡ []
     → all_until F prefixes c names ≡ Is c' → Agrees (faults_of c'.findings) (all_loaded F prefixes c.set names)
 until_agrees F prefixes c c' names none is =

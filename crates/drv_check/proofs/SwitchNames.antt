@@ -19,6 +19,7 @@ use Rattle.std.specs.Prelude.{◌||◌, get_or}
 -- The switches that texts name, part by part.
 
 module _ (name : List ℕ) (items : Items) (n : ℕ) (tokens : List Token) (token : Token) where
+  -- What parts name is what the next one names, or what the rest does.
   parts_at : n < length tokens → token ≡ get_or tokens n token
       → parts_name name items n (drop n tokens) ≡ (part_names token.kind (label_at items n) name
       || parts_name name items (n + 1) (drop (n + 1) tokens))
@@ -26,25 +27,30 @@ module _ (name : List ℕ) (items : Items) (n : ℕ) (tokens : List Token) (toke
       ap (parts_name name items n) (drop_more tokens n token below)
       ∙ ap (λ t. part_names t.kind (label_at items n) name || parts_name name items (n + 1) (drop (n + 1) tokens)) (sym here)
 
+  -- The loop passes over a part that doesn't name the switch.
   pub parts_next : (whole : Bool) → n < length tokens → token ≡ get_or tokens n token
       → part_names token.kind (label_at items n) name ≡ false
       → parts_name name items n (drop n tokens) ≡ whole → parts_name name items (n + 1) (drop (n + 1) tokens) ≡ whole
   parts_next whole below here is rest =
       sym (parts_at below here ∙ ap (λ b. b || parts_name name items (n + 1) (drop (n + 1) tokens)) is) ∙ rest
 
+  -- It ends at a part that does.
   pub parts_here : (whole : Bool) → n < length tokens → token ≡ get_or tokens n token → part_names token.kind (label_at items n) name ≡ true
       → parts_name name items n (drop n tokens) ≡ whole → true ≡ whole
   parts_here whole below here is rest =
       sym (parts_at below here ∙ ap (λ b. b || parts_name name items (n + 1) (drop (n + 1) tokens)) is) ∙ rest
 
+-- For the exit of the code where the text has a tree.
 pub tree_has : (name : List ℕ) (piece : Piece) (tree : List ℕ) (own : Option (List ℕ)) (is : Bool) → own ≡ Some tree
     → tree_or_none own ≡ own_tree piece.text → is ≡ tree_names name (tree_of tree) → is ≡ piece_names name piece
 tree_has name piece tree own is has gives names = names ∙ ap (λ t. tree_names name t) (sym (ap tree_or_none has) ∙ gives)
 
+-- For its exit where the text has none, which names nothing.
 pub tree_lacks : (name : List ℕ) (piece : Piece) (own : Option (List ℕ)) → own ≡ None → tree_or_none own ≡ own_tree piece.text
     → false ≡ piece_names name piece
 tree_lacks name piece own has gives = ap (λ t. tree_names name t) (sym (ap tree_or_none has) ∙ gives)
 
+-- The pieces that the code reads are those of the set's dump.
 pub set_names : {E : Type 0} (set : Set) (name dump left : List ℕ) (pieces : List Piece) (result : Result Bool E) → dump ≡ dumped set
     → left ≡ settled dump → pieces ≡ pieces_of left → IfOk result (λ is. is ≡ list_any (piece_names name) pieces)
     → IfOk result (λ is. is ≡ names_switch set name)

@@ -15,6 +15,7 @@ use Rattle.std.specs.Prelude.{get_or}
 
 -- For sources_of: the prefixes are found first.
 
+-- The prefixes that the call finds are those of the definition.
 pub opens_sources : {E : Type 0} (F : Facts) (found : Prefixes) (prefixes names : List (List ℕ)) (result : Result (List Source) E)
     → prefixes_of F prefixes ≡ Is found → IfOk result (λ sources. sources_found F found names ≡ Is sources)
     → IfOk result (λ sources. sources_of F prefixes names ≡ Is sources)
@@ -23,6 +24,7 @@ opens_sources F found prefixes names (Ok sources) is opens = ap (λ known. known
 
 -- For namings_of: the places of bytes, file by file and piece by piece.
 
+-- The loop opens one more file.
 pub files_next : (n : ℕ) (sources : List Source) (source : Source) (file : OpenFile) (before after whole : List OpenFile)
     → n < length sources
     → source ≡ get_or sources n source → file ≡ open_file n source.text → after ≡ before ++ file ∷ []
@@ -34,6 +36,7 @@ files_next n sources source file before after whole below here opens grows is =
     ∙ ap (λ s. before ++ files_from n (s ∷ drop (n + 1) sources)) here
     ∙ ap (λ ss. before ++ files_from n ss) (sym (drop_more sources n source below)) ∙ is
 
+-- The loop takes one more piece of a file, which may put the text or add to it.
 pub piece_next : (head : List ℕ) (file : OpenFile) (n : ℕ) (pieces : List Piece) (piece : Piece) (spots spots' whole : List Spot)
     → n < length pieces
     → piece ≡ get_or pieces n piece → spots' ≡ spots_by head file spots piece
@@ -43,6 +46,7 @@ piece_next head file n pieces piece spots spots' whole below here grows is =
     ∙ ap (λ p. pieces_spots head file (spots_by head file spots p) (drop (n + 1) pieces)) here
     ∙ ap (λ ps. pieces_spots head file spots ps) (sym (drop_more pieces n piece below)) ∙ is
 
+-- The loop takes one more file, in the order in which they were opened.
 pub file_next : (head : List ℕ) (n : ℕ) (files : List OpenFile) (file : OpenFile) (spots spots' whole : List Spot) → n < length files
     → file ≡ get_or files n file → spots' ≡ pieces_spots head file spots file.pieces
     → files_spots head spots (drop n files) ≡ whole → files_spots head spots' (drop (n + 1) files) ≡ whole
@@ -51,6 +55,7 @@ file_next head n files file spots spots' whole below here grows is =
     ∙ ap (λ f. files_spots head (pieces_spots head f spots f.pieces) (drop (n + 1) files)) here
     ∙ ap (λ fs. files_spots head spots fs) (sym (drop_more files n file below)) ∙ is
 
+-- The loop compares one more byte with the one at its spot.
 pub agree_next : (sources : List Source) (spot : Spot) (spots spots' : List Spot) (byte : ℕ) (bytes bytes' : List ℕ)
     → spots ≡ spot ∷ spots' → bytes ≡ byte ∷ bytes' → is_byte (byte_at sources spot) byte ≡ true
     → agree sources spots bytes ≡ agree sources spots' bytes'

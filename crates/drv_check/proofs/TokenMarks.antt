@@ -15,6 +15,7 @@ use Rattle.std.specs.Prelude.{get_or}
 
 -- For check_files: the warnings of the tokens of a text, one after another.
 
+-- The loop takes one more token, with its warning.
 pub marks_next : (set : Set) (text : List ℕ) (items : Items) (start n at : ℕ) (tokens : List Token) (token : Token)
     (warning : Option Warning)
     (before after whole : List Mark) → n < length tokens → token ≡ get_or tokens n token
@@ -32,6 +33,7 @@ marks_next set text items start n at tokens token warning before after whole bel
 
 -- of the tree of the text that a piece gives
 
+-- For the exit of the code where the text of a piece has a tree.
 pub marks_of_tree : {X E : Type 0} (set : Set) (text tree : List ℕ) (start : ℕ) (own : Option (List ℕ)) (before after : List Mark)
     (result : Result X E)
     → own ≡ Some tree → tree_or_none own ≡ own_tree text → tree ≡ own_text text → start ≡ own_start text
@@ -44,6 +46,7 @@ marks_of_tree set text tree start own before after (Ok x) has is same at grows =
     ∙ ap (λ t. before ++ tree_marks set t (own_tree text) start) same
     ∙ ap (λ n. before ++ tree_marks set (own_text text) (own_tree text) n) at
 
+-- For its exit where it has none, which warns of nothing.
 pub marks_of_none : (set : Set) (text : List ℕ) (own : Option (List ℕ)) (before : List Mark) → own ≡ None → tree_or_none own ≡ own_tree text
     → before ≡ before ++ own_marks set text
 marks_of_none set text own before has is =

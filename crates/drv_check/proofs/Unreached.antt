@@ -16,22 +16,26 @@ use Rattle.std.specs.Prelude.{get_or, nat_lt}
 
 -- what the parts inside a part give
 
+-- Behind the end of a part nothing more is inside it.
 pub parts_done : {X : Type 0} → (f : ℕ → Token → List X) (end next n : ℕ) (tokens : List Token) → nat_lt n end ≡ false
     → parts_from f end next n tokens ≡ []
 parts_done f end next n [] out = refl
 parts_done f end next n (token ∷ tokens) out =
     ap (λ t. if t then here f next n token ++ parts_from f end (beyond next n token) (n + 1) tokens else []) out
 
+-- For the exit of the loop at the end of the part.
 pub parts_past : {X : Type 0} → (f : ℕ → Token → List X) (end next n : ℕ) (tokens : List Token) (before whole : List X) → end ≤ n
     → before ++ parts_from f end next n (drop n tokens) ≡ whole → before ≡ whole
 parts_past f end next n tokens before whole past is =
     sym (append-nil before) ∙ ap (λ xs. before ++ xs) (sym (parts_done f end next n (drop n tokens) (le-ltb n end past))) ∙ is
 
+-- For its exit at the end of the text.
 pub parts_over : {X : Type 0} → (f : ℕ → Token → List X) (end next n : ℕ) (all tokens : List Token) (before whole : List X) → all ≡ tokens
     → length all ≤ n → before ++ parts_from f end next n (drop n tokens) ≡ whole → before ≡ whole
 parts_over f end next n all tokens before whole are over is =
     sym (append-nil before) ∙ ap (λ ts. before ++ parts_from f end next n ts) (sym (ap (drop n) (sym are) ∙ drop_all n all over)) ∙ is
 
+-- The loop takes one more part, and what is inside it is passed over.
 parts_next : {X : Type 0} → (f : ℕ → Token → List X) (end next n : ℕ) (tokens : List Token) (token : Token) (before after whole : List X)
     → n < length tokens → token ≡ get_or tokens n token → nat_lt n end ≡ true → after ≡ before ++ here f next n token
     → before ++ parts_from f end next n (drop n tokens) ≡ whole

@@ -22,6 +22,7 @@ module _ (F : Facts) (prefixes : Prefixes) where
       let less : levels ≡ suc levels - 1 = omega arith in
       ap (file_until F prefixes) less
 
+  -- A file's pieces are checked as the file is, however deep it is nested.
   pub begins_until : (levels : ℕ) (c : Checking) (file : OpenFile)
       → pieces_until F prefixes levels (enters_until F prefixes levels) c file file.pieces ≡ file_until F prefixes levels c file
   unfolding file_until
@@ -37,6 +38,7 @@ module _ (F : Facts) (prefixes : Prefixes) where
       else (step F prefixes levels c file piece >>= λ next. entered enters next.0 next.1
       >>= λ c'. pieces_until F prefixes levels enters c' file pieces)) refused
 
+  -- After a fault the files of the call that are left change nothing.
   pub names_kept : (c : Checking) (names : List (List ℕ)) → is_refused c ≡ true → all_until F prefixes c names ≡ Is c
   names_kept c [] refused = refl
   names_kept c (name ∷ names) refused =
@@ -53,12 +55,14 @@ module _ (F : Facts) (prefixes : Prefixes) where
       else (step F prefixes levels c file piece >>= λ next. entered enters next.0 next.1
       >>= λ c'. pieces_until F prefixes levels enters c' file pieces)) goes
 
+  -- Before one, the next file of the call is checked, and then the rest.
   pub names_next : (c : Checking) (name : List ℕ) (names : List (List ℕ)) → is_refused c ≡ false
       → all_until F prefixes c (name ∷ names) ≡ (called_until F prefixes c name >>= λ c'. all_until F prefixes c' names)
   names_next c name names goes =
       ap (λ t. if t then Is c else (called_until F prefixes c name >>= λ c'. all_until F prefixes c' names)) goes
 
   module _ (levels : ℕ) (enters : Enters) (c : Checking) (file : OpenFile) (pieces : List Piece) (n : ℕ) (piece : Piece) where
+    -- The loop takes one more piece, before a fault.
     one : n < length pieces → piece ≡ get_or pieces n piece → is_refused c ≡ false
         → pieces_until F prefixes levels enters c file (drop n pieces)
         ≡ (step F prefixes levels c file piece >>= λ next. entered enters next.0 next.1
@@ -68,6 +72,7 @@ module _ (F : Facts) (prefixes : Prefixes) where
         ∙ ap (λ p. pieces_until F prefixes levels enters c file (p ∷ drop (n + 1) pieces)) (sym here)
         ∙ pieces_next levels enters c file piece (drop (n + 1) pieces) goes
 
+    -- So the loop's state after it gives the same end.
     done : (new after : Checking) (next : Option OpenFile) (whole : Known Checking) → n < length pieces
         → piece ≡ get_or pieces n piece → is_refused c ≡ false
         → step F prefixes levels c file piece ≡ Is (new, next) → entered enters new next ≡ Is after
@@ -87,6 +92,7 @@ module _ (F : Facts) (prefixes : Prefixes) where
     called_in_until file new (Err e) opens goes = goes
     called_in_until file new (Ok x) opens goes = ap (λ k. k >>= λ next. entered (file_until F prefixes 15) next.0 next.1) opens ∙ goes
 
+  -- The loop takes one more file of the call, before a fault.
   pub name_gone : (c after : Checking) (names : List (List ℕ)) (n : ℕ) (name : List ℕ) (whole : Known Checking) → n < length names
       → name ≡ get_or names n name → is_refused c ≡ false → called_until F prefixes c name ≡ Is after
       → all_until F prefixes c (drop n names) ≡ whole
@@ -97,6 +103,7 @@ module _ (F : Facts) (prefixes : Prefixes) where
       ∙ names_next c name (drop (n + 1) names) goes
       ∙ ap (λ k. k >>= λ c'. all_until F prefixes c' (drop (n + 1) names)) checks) ∙ before
 
+-- The same loop over the list that the code holds, which is the file's.
 pub piece_gone_until : (F : Facts) (prefixes : Prefixes) (levels : ℕ) (c : Checking) (file : OpenFile) (items : List Piece) (n : ℕ)
     (piece : Piece)
     (new after : Checking) (next : Option OpenFile) (whole : Known Checking) → items ≡ file.pieces → n < length items
