@@ -41,6 +41,7 @@ written_byte (Reads Later kind place depth) r next at b is =
     ∙ ap (λ l. l ++ b ∷ []) (sym (written_more r.done r.last.kind r.last.bytes))
 written_byte (Refused misfit) r next at b is = absurd cc
 
+-- what a reader has read, and the rest of the text, are written back
 pub kept_from : (text : List ℕ) (r : Reader) (at : ℕ) (pieces : List Piece) → read_from r at text ≡ Ok pieces
     → written pieces ≡ written (closed r) ++ text
 kept_from [] r at pieces is = by (is_whole r.place r.depth) is
@@ -58,5 +59,6 @@ kept_from (b ∷ text) r at pieces is = by (read_at r at b) refl (λ next. kept_
         ∙ append_assoc (written (closed r)) (b ∷ []) text
     by (Err fault) goes rest is = absurd cc
 
+-- a text that is read from its beginning is written back
 pub text_law : (text : List ℕ) (pieces : List Piece) → pieces_of text ≡ Ok pieces → written pieces ≡ text
 text_law text pieces is = kept_from text begun 0 pieces is

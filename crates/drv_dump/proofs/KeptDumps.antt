@@ -33,6 +33,7 @@ begun_entry Named name text = byte.asterisk ∷ (name ++ (byte.colon ∷ []))
 begun_entry Text name text = byte.asterisk ∷ (name ++ (byte.colon ∷ byte.newline ∷ text))
 begun_entry NewLine name text = byte.asterisk ∷ (name ++ (byte.colon ∷ byte.newline ∷ (text ++ (byte.newline ∷ []))))
 
+-- what is read so far, as it was written
 abbrev read_so_far : Line → DumpReader → List ℕ
 read_so_far line r = written_all r.done ++ begun_entry line r.name r.text
 
@@ -48,9 +49,11 @@ Unbegun NewLine name text = Unit {0}
 abbrev Longer : Line → DumpReader → DumpReader → ℕ → Type 0
 Longer line r next b = (read_so_far next.line next ≡ read_so_far line r ++ (b ∷ [])) × Unbegun next.line next.name next.text
 
+-- one more part at the end of the second one is at the end of both
 put_after : (front mine more all : List ℕ) → all ≡ mine ++ more → front ++ all ≡ (front ++ mine) ++ more
 put_after front mine more all is = ap (λ l. front ++ l) is ∙ sym (append_assoc front mine more)
 
+-- between two texts an asterisk begins a name
 longer_between : (r next : DumpReader) (at b : ℕ) → (r.name ≡ []) × (r.text ≡ []) → entry_step Between r at b ≡ Ok next
     → Longer Between r next b
 longer_between r next at b none is = by (b == byte.asterisk) refl is
@@ -64,6 +67,7 @@ longer_between r next at b none is = by (b == byte.asterisk) refl is
     )
     by false e is = absurd cc
 
+-- the line of a name ends, and its text begins
 longer_named : (r next : DumpReader) (at b : ℕ) → r.text ≡ [] → entry_step Named r at b ≡ Ok next → Longer Named r next b
 longer_named r next at b none is = by (b == byte.newline) refl is
   where
@@ -79,6 +83,7 @@ longer_named r next at b none is = by (b == byte.newline) refl is
     )
     by false e is = absurd cc
 
+-- a byte of a name, or the colon at its end
 longer_name : (r next : DumpReader) (at b : ℕ) → r.line ≡ Name → r.text ≡ [] → entry_step Name r at b ≡ Ok next → Longer Name r next b
 longer_name r next at b here none is = by (b == byte.colon) (b == byte.newline) refl is
   where
@@ -96,9 +101,11 @@ longer_name r next at b here none is = by (b == byte.colon) (b == byte.newline) 
         (Ok (record r { name = r.name ++ b ∷ [] })) refl is)
         (rw here (put_after (written_all r.done) (byte.asterisk ∷ r.name) (b ∷ []) (byte.asterisk ∷ (r.name ++ (b ∷ []))) refl, none))
 
+-- how a byte of a text is read
 abbrev text_step : Bool → DumpReader → ℕ → Result DumpReader DumpFault
 text_step t r b = if t then Ok (record r { line = NewLine }) else Ok (record r { text = r.text ++ b ∷ [] })
 
+-- a byte of a text, or the end of its line
 longer_text : (r next : DumpReader) (at b : ℕ) → r.line ≡ Text → entry_step Text r at b ≡ Ok next → Longer Text r next b
 longer_text r next at b here is = by (b == byte.newline) refl is
   where
@@ -123,6 +130,7 @@ longer_text r next at b here is = by (b == byte.newline) refl is
           tt,
         ))
 
+-- an empty line ends a text
 longer_ended : (r : DumpReader) → Longer NewLine r (ended r) byte.newline
 longer_ended r = (
   append-nil (written_all (ended r).done)
@@ -137,6 +145,7 @@ longer_ended r = (
   (refl, refl),
 )
 
+-- after the end of a line, the text ends or goes on
 longer_new_line : (r : DumpReader) (b : ℕ) → Longer NewLine r (after_newline r b) b
 longer_new_line r b = by (b == byte.newline) refl
   where
@@ -155,6 +164,7 @@ longer_new_line r b = by (b == byte.newline) refl
       tt,
     )
 
+-- each byte that is read makes what is read that byte longer
 longer : (line : Line) (r next : DumpReader) (at b : ℕ) → r.line ≡ line → Unbegun line r.name r.text → entry_step line r at b ≡ Ok next
     → Longer line r next b
 longer Between r next at b here none is = longer_between r next at b none is
@@ -164,6 +174,7 @@ longer Text r next at b here none is = longer_text r next at b here is
 longer NewLine r next at b here none is =
     subst (λ n. Longer NewLine r n b) (same_value (after_newline r b) next (entry_step NewLine r at b) refl is) (longer_new_line r b)
 
+-- what is read so far, and the rest of the dump, are written back
 kept_entries : (dump : List ℕ) (r : DumpReader) (at : ℕ) (entries : List Entry) → Unbegun r.line r.name r.text
     → entries_from r at dump ≡ Ok entries
     → written_all entries ≡ read_so_far r.line r ++ dump
@@ -203,6 +214,7 @@ kept_entry entry text is = by (pieces_of entry.text) refl is
     by (Err text_fault.Memory) e is = absurd cc
     by (Err (text_fault.Unreadable misfit at)) e is = absurd cc
 
+-- texts that were read are written as they were
 kept_texts : (entries : List Entry) (texts : List DumpedText) → all_texts entries ≡ Ok texts → written_texts texts ≡ written_all entries
 kept_texts [] texts is = ap written_texts (sym (same_value [] texts (all_texts []) refl is))
 kept_texts (entry ∷ entries) texts is = by (text_of_entry entry) (all_texts entries) refl (kept_texts entries) is
@@ -217,6 +229,7 @@ kept_texts (entry ∷ entries) texts is = by (text_of_entry entry) (all_texts en
     by (Ok text) (Err fault) e rest is = absurd cc
     by (Err fault) others e rest is = absurd cc
 
+-- a dump that was read is written back
 pub dump_law : (dump : List ℕ) (texts : List DumpedText) → texts_of dump ≡ Ok texts → written_texts texts ≡ dump
 dump_law dump texts is = by (entries_of dump) refl is
   where

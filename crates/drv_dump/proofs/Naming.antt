@@ -10,6 +10,7 @@ use Rattle.std.proofs.lemmas.List.{take_all}
 
 -- For `translate_text`: the loops that replace the names of files by named texts.
 
+-- all that follows the first one
 after_first : {X : Type 0} (x : X) (xs : List X) → take (length (x ∷ xs) - 1) xs ≡ xs
 after_first x xs = take_all (length (x ∷ xs) - 1) xs (omega arith)
 
@@ -25,6 +26,7 @@ split_white (c ∷ text) front word whole b d some first white before =
     (sym white ∙ ap is_white first)
     ∙ before
 
+-- a byte of the last word, or the end of a word before it
 pub split_next : (left front word : List ℕ) (whole : LastWord) (b d : ℕ) → 1 ≤ length left → b ≡ get_or left 0 d → is_white b ≡ false
     → split_from front word left ≡ whole
     → split_from front (word ++ (b ∷ [])) (take (length left - 1) (drop 1 left)) ≡ whole

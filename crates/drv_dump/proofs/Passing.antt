@@ -13,6 +13,7 @@ option_put copy mid after word one put = put ∙ ap (λ l. l ++ word) one ∙ ap
 
 -- The steps of the loop over plain bytes.
 
+-- all that follows the first byte
 after_first : (b : ℕ) (text : List ℕ) → take (length (b ∷ text) - 1) text ≡ text
 after_first b text = take_all (length (b ∷ text) - 1) text (omega arith)
 
@@ -32,6 +33,7 @@ ended_next (c ∷ text) word copy mid after whole b d some first white passed pu
     (sym white ∙ ap is_white first)
     ∙ before
 
+-- a byte of a word
 pub word_next : (left word copy whole : List ℕ) (b d : ℕ) → 1 ≤ length left → b ≡ get_or left 0 d → is_white b ≡ false
     → copy ++ passed_from word left ≡ whole → copy ++ passed_from (word ++ (b ∷ [])) (take (length left - 1) (drop 1 left)) ≡ whole
 word_next [] word copy whole b d some first other before = absurd (omega (arith, some))

@@ -13,6 +13,7 @@ use Rattle.drv_dump.proofs.Kept.{same_value}
 
 -- For `translate_text`: the loops that replace forms of gcc by those of the driver.
 
+-- all that follows the first byte
 after_first : (b : ℕ) (text : List ℕ) → take (length (b ∷ text) - 1) text ≡ text
 after_first b text = take_all (length (b ∷ text) - 1) text (omega arith)
 
@@ -36,6 +37,7 @@ form_next (b ∷ text) word whole form skip some none is before =
     ∙ ap (λ f. word ++ put_form (λ skip. replaced skip text) f b) (sym is)
     ∙ ap (λ n. word ++ replaced n (b ∷ text)) (sym none) ∙ before
 
+-- a byte at which no form begins stays
 pub byte_next : (left word whole : List ℕ) (b skip d : ℕ) → 1 ≤ length left → b ≡ get_or left 0 d → skip ≡ 0 → form_at left ≡ None
     → word ++ replaced skip left ≡ whole
     → (word ++ (b ∷ [])) ++ replaced skip (take (length left - 1) (drop 1 left)) ≡ whole
@@ -60,7 +62,7 @@ name_next (c ∷ text) word whole b d some first goes before =
     ∙ ap (λ t. word ++ (if t then [] else c ∷ name_from text)) (sym goes ∙ ap (λ x. x == byte.opening_parenthesis) first)
     ∙ before
 
--- the arguments of a function begin after this byte, or later
+-- the arguments of a function begin after this byte
 pub arguments_here : (left word whole : List ℕ) (b d : ℕ) → 1 ≤ length left → b ≡ get_or left 0 d → (b == byte.opening_parenthesis) ≡ true
     → word ++ arguments_from left ≡ whole
     → word ++ take (length left - 1) (drop 1 left) ≡ whole
@@ -69,6 +71,7 @@ arguments_here (c ∷ text) word whole b d some first is before =
     ap (λ l. word ++ l) (after_first c text)
     ∙ ap (λ t. word ++ (if t then text else arguments_from text)) (sym is ∙ ap (λ x. x == byte.opening_parenthesis) first) ∙ before
 
+-- what follows a byte before the parenthesis has the same arguments
 pub arguments_next : (left word whole : List ℕ) (b d : ℕ) → 1 ≤ length left → b ≡ get_or left 0 d → (b == byte.opening_parenthesis) ≡ false
     → word ++ arguments_from left ≡ whole
     → word ++ arguments_from (take (length left - 1) (drop 1 left)) ≡ whole
@@ -86,12 +89,14 @@ put_rest (Some ws) before after bytes (Ok more) is =
     (same_value (before ++ ws) after (put_words before (Some ws) bytes) refl is))
 put_rest (Some ws) before after bytes (Err fault) is = refl
 
+-- a piece that is refused ends all
 put_refused : (ws : Option (List ℕ)) (before bytes : List ℕ) (fault : OursFault) (rest : Result (List ℕ) OursFault)
     → put_words before ws bytes ≡ Err fault
     → words_before before (with_words ws bytes rest) ≡ Err fault
 put_refused None before bytes fault rest is = is
 put_refused (Some ws) before bytes fault rest is = absurd cc
 
+-- one more piece in other words
 pub piece_put : (pieces : List Piece) (i : ℕ) (piece : Piece) (before after : List ℕ) (whole : Result (List ℕ) OursFault)
     → i < length pieces → piece ≡ get_or pieces i piece
     → put before piece ≡ Ok after → words_before before (all_words (drop i pieces)) ≡ whole
@@ -101,6 +106,7 @@ piece_put pieces i piece before after whole below is goes left =
     ∙ ap (λ p. words_before before (all_words (p ∷ drop (i + 1) pieces))) is
     ∙ sym (at_drop_more (λ l. words_before before (all_words l)) pieces i piece below) ∙ left
 
+-- a piece that has no other words refuses the text
 pub piece_refused : (pieces : List Piece) (i : ℕ) (piece : Piece) (before : List ℕ) (none fault : OursFault)
     (whole : Result (List ℕ) OursFault) → i < length pieces → piece ≡ get_or pieces i piece
     → (fault ≡ none) ⊎ (put before piece ≡ Err fault) → words_before before (all_words (drop i pieces)) ≡ whole

@@ -27,12 +27,14 @@ next_byte text at b d r below is =
     at_drop_more (read_from r at) text at d below ∙ ap
     (λ x. then_read (λ next. read_from next (at + 1) (drop (at + 1) text)) (read_at r at x)) (sym is)
 
+-- a byte of a text is taken
 pub byte_taken : (text : List ℕ) (at b d : ℕ) (r next : Reader) (whole : Result (List Piece) TextFault) → at < length text
     → b ≡ get_or text at d
     → read_at r at b ≡ Ok next → read_from r at (drop at text) ≡ whole → read_from next (at + 1) (drop (at + 1) text) ≡ whole
 byte_taken text at b d r next whole below is goes left =
     sym (next_byte text at b d r below is ∙ ap (then_read (λ n. read_from n (at + 1) (drop (at + 1) text))) goes) ∙ left
 
+-- a byte of a text is refused, and so is the text
 pub byte_refused : (text : List ℕ) (at b d : ℕ) (r : Reader) (none fault : TextFault) (whole : Result (List Piece) TextFault)
     → at < length text → b ≡ get_or text at d
     → (fault ≡ none) ⊎ (read_at r at b ≡ Err fault) → read_from r at (drop at text) ≡ whole → (fault ≡ none) ⊎ (whole ≡ Err fault)
@@ -48,6 +50,7 @@ next_of_dump dump at b d r below is =
     at_drop_more (dumps.entries_from r at) dump at d below
     ∙ ap (λ x. dumps.then_read (λ next. dumps.entries_from next (at + 1) (drop (at + 1) dump)) (dumps.entry_at r at x)) (sym is)
 
+-- a byte of a dump is taken
 pub dump_taken : (dump : List ℕ) (at b d : ℕ) (r next : DumpReader) (whole : Result (List Entry) DumpFault) → at < length dump
     → b ≡ get_or dump at d
     → dumps.entry_at r at b ≡ Ok next → dumps.entries_from r at (drop at dump) ≡ whole
@@ -55,6 +58,7 @@ pub dump_taken : (dump : List ℕ) (at b d : ℕ) (r next : DumpReader) (whole :
 dump_taken dump at b d r next whole below is goes left =
     sym (next_of_dump dump at b d r below is ∙ ap (dumps.then_read (λ n. dumps.entries_from n (at + 1) (drop (at + 1) dump))) goes) ∙ left
 
+-- a byte of a dump is refused, and so is the dump
 pub dump_refused : (dump : List ℕ) (at b d : ℕ) (r : DumpReader) (none fault : DumpFault) (whole : Result (List Entry) DumpFault)
     → at < length dump → b ≡ get_or dump at d
     → (fault ≡ none) ⊎ (dumps.entry_at r at b ≡ Err fault) → dumps.entries_from r at (drop at dump) ≡ whole

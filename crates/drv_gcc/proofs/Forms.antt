@@ -6,6 +6,7 @@ use Rattle.std.specs.List.{starts_with}
 
 -- For `replace`: the steps of the loop that replaces a form.
 
+-- all that follows the first byte
 after_first : (b : ℕ) (text : List ℕ) → take (length (b ∷ text) - 1) text ≡ text
 after_first b text = take_all (length (b ∷ text) - 1) text (omega arith)
 
@@ -19,7 +20,7 @@ skipped_next (b ∷ text) form other word whole (suc k) some more before =
     let e : suc k - 1 ≡ k = omega arith in
     rw e (ap (λ l. word ++ replaced form other k l) (after_first b text) ∙ before)
 
--- the text begins with the form, or not
+-- the text begins with the form: the other one takes its place
 pub form_next : (left form other word after whole : List ℕ) (skip next : ℕ) → 1 ≤ length left → skip ≡ 0
     → starts_with nat_eq left form ≡ true
     → after ≡ word ++ other → next ≡ length form - 1 → word ++ replaced form other skip left ≡ whole
@@ -33,6 +34,7 @@ form_next (b ∷ text) form other word after whole skip next some none is put so
     ∙ ap (λ t. word ++ put_other other (λ skip. replaced form other skip text) t (length form - 1) b) (sym is)
     ∙ ap (λ n. word ++ replaced form other n (b ∷ text)) (sym none) ∙ before
 
+-- the text doesn't begin with the form: its first byte stays
 pub byte_next : (left form other word after whole : List ℕ) (b skip d : ℕ) → 1 ≤ length left → b ≡ get_or left 0 d → skip ≡ 0
     → starts_with nat_eq left form ≡ false → after ≡ word ++ (b ∷ []) → word ++ replaced form other skip left ≡ whole
     → after ++ replaced form other skip (take (length left - 1) (drop 1 left)) ≡ whole

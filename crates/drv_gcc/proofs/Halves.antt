@@ -7,6 +7,7 @@ use Rattle.std.specs.Prelude.{◌/◌}
 
 -- For words that a program refuses: halves find each of them.
 
+-- one word of which some are refused is refused itself
 all_found_of_one : (refuses : List ℕ → Bool) (word : List ℕ) → list_any refuses (word ∷ []) ≡ true → word ∷ [] ≡ filter refuses (word ∷ [])
 all_found_of_one refuses word is = by (refuses word) refl
   where
@@ -14,6 +15,7 @@ all_found_of_one refuses word is = by (refuses word) refl
     by true is_refused = rw is_refused refl
     by false is_taken = absurd (let both : false ≡ true = ap (λ b. b || false) (sym is_taken) ∙ is in cc)
 
+-- the words that are refused are that one, or those of each half
 pub all_found : (refuses : List ℕ → Bool) (words : List (List ℕ)) → list_any refuses words ≡ true
     → alone words ++ flat_map (filter refuses) (halves words) ≡ filter refuses words
 all_found refuses [] is = refl

@@ -6,16 +6,18 @@ use Rattle.std.proofs.lemmas.List.{take_all}
 
 -- For `named_texts`, `values` and `options`: the steps of the loops that look for names.
 
+-- all that follows the first byte
 after_first : (b : ℕ) (text : List ℕ) → take (length (b ∷ text) - 1) text ≡ text
 after_first b text = take_all (length (b ∷ text) - 1) text (omega arith)
 
+-- the names that begin at the first byte are noted, and the text is one byte shorter
 pub next_byte : (left beginning : List ℕ) (names after whole : List (List ℕ)) → 1 ≤ length left → after ≡ with_named beginning names left
     → names_from beginning names left ≡ whole → names_from beginning after (take (length left - 1) (drop 1 left)) ≡ whole
 next_byte [] beginning names after whole some is before = absurd (omega (arith, some))
 next_byte (b ∷ text) beginning names after whole some is before =
     ap (names_from beginning after) (after_first b text) ∙ ap (λ n. names_from beginning n text) is ∙ before
 
--- a byte before the parenthesis; before the blank; before the equals sign, and that
+-- a byte before the parenthesis is one of the name
 pub name_next : (left word whole : List ℕ) (b d : ℕ) → 1 ≤ length left → b ≡ get_or left 0 d → (b == byte.closing_parenthesis) ≡ false
     → word ++ name_before left ≡ whole
     → (word ++ (b ∷ [])) ++ name_before (take (length left - 1) (drop 1 left)) ≡ whole
@@ -27,6 +29,7 @@ name_next (c ∷ text) word whole b d some first goes before =
     ∙ ap (λ t. word ++ (if t then [] else c ∷ name_before text)) (sym goes ∙ ap (λ x. x == byte.closing_parenthesis) first)
     ∙ before
 
+-- a byte before the blank is one of the word
 pub word_next : (left word whole : List ℕ) (b d : ℕ) → 1 ≤ length left → b ≡ get_or left 0 d → (b == byte.space) ≡ false
     → word ++ first_word left ≡ whole
     → (word ++ (b ∷ [])) ++ first_word (take (length left - 1) (drop 1 left)) ≡ whole
@@ -38,6 +41,7 @@ word_next (c ∷ text) word whole b d some first goes before =
     ∙ ap (λ t. word ++ (if t then [] else c ∷ first_word text)) (sym goes ∙ ap (λ x. x == byte.space) first)
     ∙ before
 
+-- a byte before the equals sign is one of the name
 pub head_next : (left word after whole : List ℕ) (b d : ℕ) → 1 ≤ length left → b ≡ get_or left 0 d → (b == byte.equals) ≡ false
     → after ≡ word ++ (b ∷ [])
     → word ++ head left ≡ whole → after ++ head (take (length left - 1) (drop 1 left)) ≡ whole
@@ -50,6 +54,7 @@ head_next (c ∷ text) word after whole b d some first goes put before =
     ∙ ap (λ t. word ++ (if t then c ∷ [] else c ∷ head text)) (sym goes ∙ ap (λ x. x == byte.equals) first)
     ∙ before
 
+-- the equals sign is the last byte of the name
 pub head_here : (left word after whole : List ℕ) (b d : ℕ) → 1 ≤ length left → b ≡ get_or left 0 d → (b == byte.equals) ≡ true
     → after ≡ word ++ (b ∷ [])
     → word ++ head left ≡ whole → after ≡ whole
