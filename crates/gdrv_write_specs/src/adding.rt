@@ -1,5 +1,6 @@
 //! The words for options of a machine are added beside a spec file.
 
+use crate::alike::FolderName;
 use crate::asked::{Asked, Places};
 use crate::asking::{named, text};
 use crate::checking::Pair;
@@ -9,7 +10,7 @@ use crate::natives::with_natives;
 use crate::placing::{driver_at, stem_of};
 use crate::room::{Room, joined, write};
 use crate::row_texts::Ways;
-use crate::rows::{Row, push_names, push_row, row_of};
+use crate::rows::{Row, naming_in, push_names, push_row, row_of};
 use drv_gcc::values;
 use drv_words::{Listing, Word};
 use std::alloc::Global;
@@ -96,6 +97,7 @@ fn row_for(
     room: &Room,
     gcc: &Word,
     folders: &[Word],
+    naming: FolderName,
     key: &Word,
 ) -> Result<Row, Fault> {
     let asked = Asked {
@@ -106,7 +108,7 @@ fn row_for(
         places: Places::Searched,
     };
     let (_, probes) = with_natives(asked, asked.own_texts()?, Ways::Rows)?;
-    match row_of(asked, probes.as_slice(), folders)? {
+    match row_of(asked, probes.as_slice(), folders, naming)? {
         Some(row) => Ok(row),
         None => Err(Fault::NoRow(key.clone()?)),
     }
@@ -143,7 +145,8 @@ fn add_in(
     copy_files(rt, room, stem)?;
     let whole = text_of(rt.alloc(), lines)?;
     let folders = values(rt.alloc(), b"folder ", whole.as_bytes())?;
-    let row = row_for(rt, room, gcc, folders.as_slice(), key)?;
+    let naming = naming_in(rt.alloc(), whole.as_bytes())?;
+    let row = row_for(rt, room, gcc, folders.as_slice(), naming, key)?;
     put_row(rt, room, stem, lines, &row)?;
     if (Pair { rt, room, gcc }).is_other(key)? {
         return Err(Fault::NoRow(key.clone()?));

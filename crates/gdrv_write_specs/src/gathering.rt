@@ -1,5 +1,6 @@
 //! What is known of a gcc is gathered from its answers.
 
+use crate::alike::{folder_name, named_so};
 use crate::asked::{Asked, Places};
 use crate::asking::{commands, named};
 use crate::defaults::with_defaults;
@@ -9,16 +10,16 @@ use crate::machines::{Facts, MachineText, choice, facts_for, machine_of, own_fol
 use crate::natives::with_natives;
 use crate::programs::is_folder;
 use crate::room::Room;
-use crate::row_texts::{Ways, add_row_values, multilib_facts};
+use crate::row_texts::{Ways, multilib_facts};
 use crate::rows::{Row, rows_of};
+use crate::texts_by_name::named_for;
 use crate::wording::{own_records, with_other_words};
 use drv_dump::{OurDump, pass_libraries, translate_dump};
 use drv_gcc::{
-    Choice, Included, MachineOptions, MachineWord, NamedText, Programs, Toolchain, folder_text,
-    named_texts, values,
+    Choice, Included, MachineOptions, MachineWord, NamedText, Programs, Toolchain, named_texts,
+    values,
 };
 use drv_words::{Listing, Word};
-use itoa::Buffer;
 use std::alloc::Global;
 
 /// A spec file that shows what the folders of gcc are (`%I`, `%D`).
@@ -375,76 +376,6 @@ fn machine_options(
     })
 }
 
-/// Named texts that find files.
-fn add_files(
-    alloc: Global,
-    names: &[Word],
-    own: &Facts,
-    others: &[Facts],
-    texts: &mut Listing<NamedText>,
-) -> Result<(), Fault> {
-    for (n, name) in names.iter().enumerate() {
-        texts.push(NamedText {
-            name: named(alloc, b"file_", name.as_bytes())?,
-            choice: choice(alloc, own, others, MachineText::Place(n))?,
-        })?;
-    }
-    Ok(())
-}
-
-/// Named texts of folders of files.
-fn add_folders_of(
-    alloc: Global,
-    folders: &[Word],
-    texts: &mut Listing<NamedText>,
-) -> Result<(), Fault> {
-    for (n, folder) in folders.iter().enumerate() {
-        let mut choice = nothing(alloc);
-        choice.own = folder_text(alloc, folder.as_bytes())?;
-        texts.push(NamedText {
-            name: named(alloc, b"in_", Buffer::new().format(n).as_bytes())?,
-            choice,
-        })?;
-    }
-    Ok(())
-}
-
-/// Named texts of what a function finds out about the machine of the call.
-fn add_natives(
-    alloc: Global,
-    probes: &[Word],
-    own: &Facts,
-    others: &[Facts],
-    texts: &mut Listing<NamedText>,
-) -> Result<(), Fault> {
-    for (n, probe) in probes.iter().enumerate() {
-        texts.push(NamedText {
-            name: probe.clone()?,
-            choice: choice(alloc, own, others, MachineText::Value(n))?,
-        })?;
-    }
-    Ok(())
-}
-
-/// The named texts of files, of their folders, and of what a function finds out.
-fn named_for(
-    alloc: Global,
-    names: &[Word],
-    probes: &[Word],
-    own: &Facts,
-    others: &[Facts],
-    ways: Ways,
-) -> Result<Listing<NamedText>, Fault> {
-    let mut texts = Listing::new(alloc);
-    add_files(alloc, names, own, others, &mut texts)?;
-    add_folders_of(alloc, own.folders.as_slice(), &mut texts)?;
-    match ways {
-        Ways::Texts => add_natives(alloc, probes, own, others, &mut texts)?,
-        Ways::Rows => add_row_values(alloc, probes, &mut texts)?,
-    }
-    Ok(texts)
-}
-
 /// The tests of options that choose a machine.
 fn tests_of(alloc: Global, others: &[Facts]) -> Result<Listing<Word>, Fault> {
     let mut tests = Listing::new(alloc);
@@ -502,9 +433,12 @@ impl Gathered {
 
     /// Asks for the rows.
     pub fn add_rows(&mut self, rt: &HostRuntime, room: &Room, gcc: &Word) -> Result<(), Fault> {
-        self.others = multilib_facts(rt, room, gcc, &self.folder, self.names.as_slice())?;
+        let libraries = multilib_facts(rt, room, gcc, &self.folder, self.names.as_slice())?;
+        let all = libraries.as_slice();
+        let naming = folder_name(rt.alloc(), &self.own, all, self.names.len())?;
+        self.others = named_so(rt.alloc(), libraries, naming);
         let folders = self.toolchain.folders.as_slice();
-        self.rows = rows_of(rt, room, gcc, self.probes.as_slice(), folders)?;
+        self.rows = rows_of(rt, room, gcc, self.probes.as_slice(), folders, naming)?;
         Ok(())
     }
 

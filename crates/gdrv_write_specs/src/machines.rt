@@ -1,5 +1,6 @@
 //! What a gcc does for each machine that an option chooses.
 
+use crate::alike::for_all;
 use crate::asked::{Asked, Places};
 use crate::asking::named;
 use crate::fault::Fault;
@@ -44,6 +45,8 @@ pub struct Facts {
     added: Added,
     /// What its function finds out about the machine of the call.
     values: Listing<Word>,
+    /// The folder of its libraries, if it is one of their own for which rows have a word.
+    pub library: Word,
 }
 
 /// One of these texts.
@@ -439,6 +442,7 @@ pub fn facts_for(
         values: shown_by(asked, probes)?,
         test: test_of(alloc, asked.option.as_bytes())?,
         added: added_texts(alloc, machine)?,
+        library: Word::empty(alloc),
     })
 }
 
@@ -492,8 +496,15 @@ pub fn choice(
     others: &[Facts],
     part: MachineText,
 ) -> Result<Choice, Fault> {
+    let mut chosen = differing(alloc, own, others, part)?;
+    if !chosen.is_empty() {
+        if let Some(one) = for_all(alloc, others, part)? {
+            chosen = Listing::new(alloc);
+            chosen.push(one)?;
+        }
+    }
     Ok(Choice {
         own: Word::from_bytes(alloc, own.text(part))?,
-        others: differing(alloc, own, others, part)?,
+        others: chosen,
     })
 }

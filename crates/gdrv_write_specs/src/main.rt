@@ -2,6 +2,7 @@
 #![tactic(auto)]
 
 mod adding;
+mod alike;
 mod asked;
 mod asking;
 mod calling;
@@ -24,6 +25,7 @@ mod room;
 mod row_texts;
 mod rows;
 mod shortening;
+mod texts_by_name;
 mod wording;
 
 use adding::add_words;

@@ -1,5 +1,6 @@
 //! Texts of a gcc whose words for its machines are in rows.
 
+use crate::alike::FolderName;
 use crate::asked::{Asked, Places};
 use crate::asking::named;
 use crate::fault::Fault;
@@ -113,8 +114,9 @@ pub fn multilib_facts(
         let asked = Asked { option, ..own };
         let place = asked.answer(b"-print-multi-directory", b"")?;
         let mut facts = facts_for(asked, folder, names, &[], &[])?;
-        let switch = folder_switch(rt.alloc(), &place)?;
+        let switch = folder_switch(rt.alloc(), &place, FolderName::Tested)?;
         facts.test = named(rt.alloc(), b"-", switch.as_bytes())?;
+        facts.library = place;
         found.push(facts)?;
     }
     Ok(found)

@@ -1,6 +1,7 @@
 //! Rows for the machines of a gcc: the options that choose one, and the words that gcc makes of
 //! them. gdrv-cc hands on the words of a row in the place of its options.
 
+use crate::alike::FolderName;
 use crate::asked::{Asked, Places};
 use crate::asking::named;
 use crate::fault::Fault;
@@ -55,21 +56,40 @@ fn add_places(
 }
 
 /// Adds the words for the folder of the libraries, if they are in one of their own.
-fn add_folder(asked: Asked<'_>, folders: &[Word], words: &mut Listing<Word>) -> Result<(), Fault> {
+fn add_folder(
+    asked: Asked<'_>,
+    folders: &[Word],
+    naming: FolderName,
+    words: &mut Listing<Word>,
+) -> Result<(), Fault> {
     let name = asked.answer(b"-print-multi-directory", b"")?;
     if name.as_bytes() == b".".as_slice() {
         return Ok(());
     }
-    let switch = folder_switch(asked.alloc(), &name)?;
+    let switch = folder_switch(asked.alloc(), &name, naming)?;
     words.push(named(asked.alloc(), b"--", switch.as_bytes())?)?;
     add_places(asked, &name, folders, words)
 }
 
-/// The switch for libraries in a folder of this name, as a test of a text has it: no test has a
-/// slash.
-pub fn folder_switch(alloc: Global, name: &Word) -> Result<Word, Fault> {
+/// The switch for libraries in a folder of this name.
+pub fn folder_switch(alloc: Global, name: &Word, naming: FolderName) -> Result<Word, Fault> {
     let switch = named(alloc, b"gdrv-multi=", name.as_bytes())?;
-    Ok(replace(alloc, switch.as_bytes(), b"/", b",")?)
+    match naming {
+        FolderName::Plain => Ok(switch),
+        FolderName::Tested => Ok(replace(alloc, switch.as_bytes(), b"/", b",")?),
+    }
+}
+
+/// How the rows in a text name the folders of libraries.
+pub fn naming_in(alloc: Global, text: &[u8]) -> Result<FolderName, Fault> {
+    for line in values(alloc, b"machine", text)?.as_slice() {
+        for word in line.as_bytes().split(|byte| *byte == b'\t') {
+            if word.starts_with(b"--gdrv-multi=") && word.contains(&b',') {
+                return Ok(FolderName::Tested);
+            }
+        }
+    }
+    Ok(FolderName::Plain)
 }
 
 /// The beginning of the words for the function of this number.
@@ -98,11 +118,16 @@ fn add_values(
 }
 
 /// The row of these options, for a gcc with these folders; none where it refuses them.
-pub fn row_of(asked: Asked<'_>, probes: &[Word], folders: &[Word]) -> Result<Option<Row>, Fault> {
+pub fn row_of(
+    asked: Asked<'_>,
+    probes: &[Word],
+    folders: &[Word],
+    naming: FolderName,
+) -> Result<Option<Row>, Fault> {
     let Some(mut words) = collected(asked)? else {
         return Ok(None);
     };
-    add_folder(asked, folders, &mut words)?;
+    add_folder(asked, folders, naming, &mut words)?;
     for (number, probe) in probes.iter().enumerate() {
         add_values(asked, number, probe, &mut words)?;
     }
@@ -249,11 +274,12 @@ pub fn rows_of(
     gcc: &Word,
     probes: &[Word],
     folders: &[Word],
+    naming: FolderName,
 ) -> Result<Listing<Row>, Fault> {
     let none = Word::empty(rt.alloc());
     let mut rows = Listing::new(rt.alloc());
     for key in keys_of(asked_with(rt, room, gcc, &none))?.as_slice() {
-        if let Some(row) = row_of(asked_with(rt, room, gcc, key), probes, folders)? {
+        if let Some(row) = row_of(asked_with(rt, room, gcc, key), probes, folders, naming)? {
             rows.push(row)?;
         }
     }
