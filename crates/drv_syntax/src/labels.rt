@@ -114,14 +114,15 @@ impl Labels {
         let start = self.words.len();
         self.words.extend_from_slice(word)?;
         let end = self.words.len();
-        self.marks.push(LabelMark {
+        self.marks.reserve(1)?;
+        self.marks.push_reserved(LabelMark {
             start,
             end,
             starred,
             negated,
             asks,
             holds_star: false,
-        })?;
+        });
         Ok(())
     }
 
@@ -135,14 +136,15 @@ impl Labels {
         self.words.push(mark)?;
         self.words.extend_from_slice(word)?;
         let end = self.words.len();
-        self.marks.push(LabelMark {
+        self.marks.reserve(1)?;
+        self.marks.push_reserved(LabelMark {
             start,
             end,
             starred,
             negated: false,
             asks: TestKind::Switch,
             holds_star: false,
-        })?;
+        });
         Ok(())
     }
 
@@ -155,14 +157,15 @@ impl Labels {
         let start = self.words.len();
         self.words.push(b)?;
         let end = self.words.len();
-        self.marks.push(LabelMark {
+        self.marks.reserve(1)?;
+        self.marks.push_reserved(LabelMark {
             start,
             end,
             starred: false,
             negated: false,
             asks: TestKind::Switch,
             holds_star: false,
-        })?;
+        });
         Ok(())
     }
 
@@ -187,14 +190,15 @@ impl Labels {
     pub fn push_none(&mut self) -> Result<(), SyntaxFault>
         ensures { Gives SyntaxFault.Memory (λ _. self.new) result (Ok (self.old ++ no_label ∷ [])) }
     {
-        self.marks.push(LabelMark {
+        self.marks.reserve(1)?;
+        self.marks.push_reserved(LabelMark {
             start: 0,
             end: 0,
             starred: false,
             negated: false,
             asks: TestKind::Switch,
             holds_star: false,
-        })?;
+        });
         Ok(())
     }
 

@@ -14,7 +14,6 @@ fn stands(kind: ListKind, b: u8) -> bool
     ensures { result ≡ plain.runs kind b }
 {
     b.is_ascii_lowercase()
-        || (b'-' <= b && b <= b'9')
         || match b {
             b'\\' | b'%' | b'|' | b' ' | b'\t' | b'\n' => false,
             b';' | b'}' => !matches!(kind, ListKind::InX),

@@ -107,7 +107,8 @@ impl Tokens {
         ensures { Gives SyntaxFault.Memory (λ _. self.new) result
             (Ok (self.old ++ open_token kind start ∷ [])) }
     {
-        self.list.push(opened(kind, start))?;
+        self.list.reserve(1)?;
+        self.list.push_reserved(opened(kind, start));
         Ok(())
     }
 
@@ -118,12 +119,13 @@ impl Tokens {
             (Ok (self.old ++ whole_token kind start end (length self.old + 1) ∷ [])) }
     {
         let next = self.list.len() + 1;
-        self.list.push(Token {
+        self.list.reserve(1)?;
+        self.list.push_reserved(Token {
             kind,
             start,
             end,
             next,
-        })?;
+        });
         Ok(())
     }
 

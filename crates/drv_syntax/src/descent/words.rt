@@ -43,7 +43,7 @@ fn run_length(class: Class, text: &[u8]) -> usize
     ensures within { result ≤ length text.now }
 {
     let mut length = 0;
-    while length < text.len() && text[length] != b'\\' && belongs(class, text[length]) {
+    while length < text.len() && belongs(class, text[length]) && text[length] != b'\\' {
         length += 1;
     }
     length
