@@ -18,8 +18,8 @@ use Rattle.std.proofs.lemmas.Option.{get_or_from_slice_get, slice_get-get_or, sl
 module _ (tokens : List Token) (words : List ℕ) (marks : List LabelMark) where
   -- a part that is a plain byte, whose word is kept at `stop`, is the byte there
   pub byte_there : (at stop : ℕ) (e : Token) (d : LabelMark) → at < length tokens → at < length marks
-      → (get_or tokens at e).kind ≡ kinds.Plain → (get_or marks at d).start ≡ stop → (get_or marks at d).end ≡ stop + 1 → stop < length words
-      → IsByte tokens (marked_labels words marks) at (get_or words stop 0)
+      → (get_or tokens at e).kind ≡ kinds.Plain → (get_or marks at d).start ≡ stop → (get_or marks at d).end ≡ stop + 1
+      → stop < length words → IsByte tokens (marked_labels words marks) at (get_or words stop 0)
   byte_there at stop e d in_tokens in_marks plain begins ends inside = record {
     token = get_or tokens at e;
     there = slice_get-get_or tokens at e in_tokens;
@@ -139,6 +139,7 @@ module _ (tokens : List Token) (words : List ℕ) (marks : List LabelMark) where
           here = omega (arith, begins, reached, same)
 
 -- a slice with bytes isn't empty
-pub some_bytes : (words : List ℕ) (start stop : ℕ) → start < stop → stop ≤ length words → 0 < length (take (stop - start) (drop start words))
+pub some_bytes : (words : List ℕ) (start stop : ℕ) → start < stop → stop ≤ length words
+    → 0 < length (take (stop - start) (drop start words))
 some_bytes words start stop some inside =
     omega (arith, some, length-take-le (stop - start) (drop start words) (omega (arith, inside, length-drop start words)))

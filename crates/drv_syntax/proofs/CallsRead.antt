@@ -1,4 +1,3 @@
-use Rattle.drv_words.specs.Bytes as ascii
 use Rattle.drv_syntax.proofs.Failing.{Failure, Fails, around, failed, past_fails, within_then}
 use Rattle.drv_syntax.proofs.PartsRead.{Reads, byte_next, function_reads, past_past, reads_past}
 use Rattle.drv_syntax.specs.Bytes.{is_function}
@@ -8,7 +7,7 @@ use Rattle.drv_syntax.specs.Descent.{Lists, Operand, Read, Took, past, then_read
 use Rattle.drv_syntax.specs.Spelling as s
 use Rattle.drv_syntax.specs.Spelling.{AreItems, At, IsCall}
 use Rattle.drv_syntax.specs.Tree.{Items}
-use Rattle.std.proofs.Common.{◌≡◌, ◌∙◌, ◌+◌, ◌++◌, Bool, false, true, List, [], ◌∷◌, ap, arith, drop, drop-drop, length, refl, subst}
+use Rattle.std.proofs.Common.{◌≡◌, ◌∙◌, ◌+◌, ◌++◌, Bool, false, true, List, [], ◌∷◌, ap, arith, drop, drop-drop, length, refl}
 use Rattle.std.proofs.Common.{suc, sym, ℕ}
 use Rattle.std.specs.Prelude.{◌-◌, ◌==◌}
 

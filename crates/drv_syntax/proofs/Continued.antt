@@ -25,7 +25,6 @@ use Rattle.drv_syntax.specs.Spelling.{AreItems, At, IsDirective, IsItem, IsPatte
 use Rattle.drv_syntax.specs.Tokens.{kind_of, tokens_of}
 use Rattle.drv_syntax.specs.Tree.{AddOption, ArgumentsFile, Blank, Braces, BuiltinText, Escape, FailureFile, Function, Hide, Item, Items}
 use Rattle.drv_syntax.specs.Tree.{Leaf, NamedText, Newline, Notice, Pattern, Pipe, Plain, Span, Star, TempName, UserError, more, none}
-use Rattle.drv_syntax.specs.declared.descent.ending.Ending.TheVariants as endings
 use Rattle.drv_syntax.specs.declared.descent.ending.Ending.{Ending}
 use Rattle.drv_syntax.specs.declared.descent.simple.Tail.{Tail}
 use Rattle.drv_syntax.specs.declared.directives.Directive.{Directive}
@@ -34,7 +33,7 @@ use Rattle.drv_syntax.specs.declared.directives.SayKind.{SayKind}
 use Rattle.drv_syntax.specs.declared.fault.SyntaxFault.TheVariants.{Unclosed}
 use Rattle.drv_syntax.specs.declared.fault.SyntaxFault.{SyntaxFault}
 use Rattle.drv_syntax.specs.declared.token.Token.{Token}
-use Rattle.std.proofs.Common.{◌≡◌, ◌∙◌, ◌+◌, ◌-◌, ◌++◌, Bool, false, true, if◌then◌else◌, List, [], ◌∷◌, ap, arith, length, length-append}
+use Rattle.std.proofs.Common.{◌≡◌, ◌∙◌, ◌+◌, ◌-◌, ◌++◌, Bool, false, true, List, [], ◌∷◌, ap, arith, length, length-append}
 use Rattle.std.proofs.Common.{refl, subst, suc, sym, ℕ}
 use Rattle.std.proofs.lemmas.Bool.Decides.{nat_tests}
 use Rattle.std.specs.Prelude.{◌==◌, Err, None, Ok, Option, Result, Some, slice_get}

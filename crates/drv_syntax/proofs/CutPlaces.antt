@@ -12,11 +12,11 @@ use Rattle.drv_syntax.specs.Directives.{directive_of}
 use Rattle.drv_syntax.specs.Faults.{IsCutAt, IsOpenAt, after_item, is_closed_by_end, open_byte, open_directive, open_last}
 use Rattle.drv_syntax.specs.Fronts as cuts
 use Rattle.drv_syntax.specs.Fronts.{AreFrontItems, CutsItem}
-use Rattle.drv_syntax.specs.Outcome.{Cut, Got, Out, outcome, read}
+use Rattle.drv_syntax.specs.Outcome.{Cut, Got, outcome, read}
 use Rattle.drv_syntax.specs.Spelling.{At, IsItem, Spells}
 use Rattle.drv_syntax.specs.Tree.{Item, Items, none}
 use Rattle.std.proofs.Common.{◌≡◌, ◌∙◌, ◌+◌, ◌-◌, ◌⊎◌, Bool, false, true, if◌then◌else◌, List, [], ◌∷◌, ap, arith, inl, inr, length}
-use Rattle.std.proofs.Common.{refl, subst}
+use Rattle.std.proofs.Common.{refl}
 use Rattle.std.proofs.Common.{suc, sym, ℕ}
 
 -- A text that is cut short is cut at the place of what is open at its end, and at no other: the law `cut_at_open`. Descent is the grammar

@@ -1,6 +1,6 @@
 use Rattle.drv_syntax.specs.Contexts.{top}
 use Rattle.drv_syntax.specs.Descent.{levels}
-use Rattle.drv_syntax.specs.Outcome.{Out, depth, descent, outcome}
+use Rattle.drv_syntax.specs.Outcome.{depth, descent, outcome}
 use Rattle.std.proofs.Common.{◌≡◌, List, [], ◌∷◌, ap, refl, ℕ}
 
 -- Each text may have 64 levels of braces and arguments within one another: the definition computes that number from the text, and it is

@@ -1,15 +1,15 @@
 use Rattle.drv_words.specs.Bytes as ascii
 use Rattle.drv_syntax.proofs.Leads.{differs}
 use Rattle.drv_syntax.proofs.Names.{bracket_ends, front_front}
-use Rattle.drv_syntax.specs.Bytes.{is_function, is_function_front, is_name_byte, is_option, is_word}
-use Rattle.drv_syntax.specs.Contexts.{ListContext, Mixed, Nobody}
+use Rattle.drv_syntax.specs.Bytes.{is_function_front, is_name_byte, is_option, is_word}
+use Rattle.drv_syntax.specs.Contexts.{ListContext}
 use Rattle.drv_syntax.specs.Descent as d
 use Rattle.drv_syntax.specs.Descent.{Lists, Quoted, Read, Run, Stops, Took, past, quoted, then_read}
 use Rattle.drv_syntax.specs.Refusals as r
 use Rattle.drv_syntax.specs.Refusals.{Breaks, Empty, IsNoFunction, nests}
 use Rattle.drv_syntax.specs.Spelling as s
 use Rattle.drv_syntax.specs.Spelling.{IsRun}
-use Rattle.drv_syntax.specs.Tree.{Hide, Item, Pattern, pattern}
+use Rattle.drv_syntax.specs.Tree.{pattern}
 use Rattle.drv_syntax.specs.declared.directives.Directive.TheVariants as kinds
 use Rattle.drv_syntax.specs.declared.directives.Directive.{Directive}
 use Rattle.drv_syntax.specs.declared.fault.SyntaxFault.TheVariants.{BadDirective, EmptyTest, TooNested, UnknownFunction}

@@ -1,4 +1,3 @@
-use Rattle.drv_words.specs.Bytes as ascii
 use Rattle.drv_syntax.proofs.CallsRead.{ListReads, call_fails, call_reads}
 use Rattle.drv_syntax.proofs.ChoicesRead.{brace_ends, brace_reads}
 use Rattle.drv_syntax.proofs.Failing.{AtEnd, EndsOut, HangsOut, runs_out}
@@ -6,26 +5,25 @@ use Rattle.drv_syntax.proofs.PartsRead.{Reads, name_reads, option_reads, pattern
 use Rattle.drv_syntax.proofs.PartsRead.{suffix_reads}
 use Rattle.drv_syntax.proofs.TestsEnd.{ListEnds, name_ends}
 use Rattle.drv_syntax.specs.Bytes.{is_name_byte, is_option, is_word}
-use Rattle.drv_syntax.specs.Contexts.{ListContext, Starred, in_arguments, in_braces, in_x, is_said}
+use Rattle.drv_syntax.specs.Contexts.{ListContext, in_arguments, in_braces, in_x, is_said}
 use Rattle.drv_syntax.specs.Descent as d
 use Rattle.drv_syntax.specs.Descent.{Ends, Hangs, Lists, Quoted, Read, Run, Took, past, quoted, then_read}
-use Rattle.drv_syntax.specs.Directives.{braced, directive_of, said, text_of}
+use Rattle.drv_syntax.specs.Directives.{braced, said}
 use Rattle.drv_syntax.specs.Faults.{is_closed_by_end}
 use Rattle.drv_syntax.specs.Fronts as cuts
 use Rattle.drv_syntax.specs.Fronts.{CutsBrace, CutsDirective, RunsOut}
-use Rattle.drv_syntax.specs.Refusals.{AtFront}
 use Rattle.drv_syntax.specs.Spelling as s
 use Rattle.drv_syntax.specs.Spelling.{At, IsBrace, IsCall, IsDirective, IsRun}
-use Rattle.drv_syntax.specs.Tree.{Brace, BuiltinText, Function, Hide, Item, Items, Leaf, Star, Tests, pattern}
+use Rattle.drv_syntax.specs.Tree.{Brace, Function, Hide, Item, Items, Tests, pattern}
 use Rattle.drv_syntax.specs.declared.directives.BraceKind.TheVariants.{InPlace}
 use Rattle.drv_syntax.specs.declared.directives.BraceKind.{BraceKind}
-use Rattle.drv_syntax.specs.declared.directives.Directive.TheVariants.{WithCall, WithPattern, WithSaying}
+use Rattle.drv_syntax.specs.declared.directives.Directive.TheVariants.{WithPattern, WithSaying}
 use Rattle.drv_syntax.specs.declared.directives.Directive.{Directive}
 use Rattle.drv_syntax.specs.declared.directives.SayKind.{SayKind}
 use Rattle.drv_syntax.specs.declared.fault.SyntaxFault.TheVariants.{TooNested}
 use Rattle.std.proofs.Common.{◌≡◌, ◌≤◌, ◌∙◌, ◌+◌, ◌-◌, ◌++◌, ◌⊎◌, Bool, false, true, if◌then◌else◌, List, [], ◌∷◌, ap, append_assoc}
-use Rattle.std.proofs.Common.{arith, drop, inl}
-use Rattle.std.proofs.Common.{inr, length, length-append, refl, subst, suc, sym, ℕ}
+use Rattle.std.proofs.Common.{arith, inl}
+use Rattle.std.proofs.Common.{inr, length, length-append, refl, subst, sym, ℕ}
 use Rattle.std.proofs.lemmas.Bool.Decides.{nat_tests}
 use Rattle.std.specs.Prelude.{◌==◌, nat_le}
 

@@ -1,9 +1,8 @@
-use Rattle.drv_words.specs.Bytes as ascii
 use Rattle.drv_syntax.proofs.Failing.{Failure, failed, then_fails}
 use Rattle.drv_syntax.proofs.Heads.{no_sign, no_white, pattern_head}
 use Rattle.drv_syntax.proofs.Leads.{differs, other}
 use Rattle.drv_syntax.proofs.MeantRuns.{empty_run}
-use Rattle.drv_syntax.proofs.PartsRead.{Reads, RunsTo, byte_next, reads_as, reads_past, runs_to}
+use Rattle.drv_syntax.proofs.PartsRead.{Reads, byte_next, reads_as, reads_past, runs_to}
 use Rattle.drv_syntax.proofs.PatternsRead.{patterns_read}
 use Rattle.drv_syntax.proofs.TestsRead.{from_reads, mark_is, mark_reads, switch_reads, test_goes, tests_go}
 use Rattle.drv_syntax.specs.Bytes.{is_mark, is_of, is_white, is_word}
@@ -17,7 +16,6 @@ use Rattle.drv_syntax.specs.Tree.{Pattern, Span, pattern}
 use Rattle.std.proofs.Common.{◌≡◌, ◌∙◌, ◌+◌, ◌⊎◌, Bool, false, true, if◌then◌else◌, List, [], ◌∷◌, ap, arith, drop, drop-drop, inl, inr}
 use Rattle.std.proofs.Common.{length}
 use Rattle.std.proofs.Common.{refl, subst, suc, sym, ℕ}
-use Rattle.std.specs.List.{prefix_len}
 use Rattle.std.specs.Prelude.{◌==◌, Some}
 
 -- What the grammar says of patterns at the front of braces, where tests could be as well, Descent makes of it. It serves the laws

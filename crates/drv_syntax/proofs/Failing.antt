@@ -1,10 +1,9 @@
-use Rattle.drv_syntax.proofs.PartsRead.{Reads}
 use Rattle.drv_syntax.specs.Descent as d
 use Rattle.drv_syntax.specs.Descent.{Ends, Quoted, Read, Run, Stops, Took, past, quoted, then_read, with_byte, within}
 use Rattle.drv_syntax.specs.Fronts as cuts
 use Rattle.drv_syntax.specs.Fronts.{RunsOut}
 use Rattle.drv_syntax.specs.declared.fault.SyntaxFault.{SyntaxFault}
-use Rattle.std.proofs.Common.{◌≡◌, ◌∙◌, ◌+◌, ◌⊎◌, Bool, List, [], ◌∷◌, ap, arith, drop, drop-drop, inl, inr, length, refl, subst, sym, ℕ}
+use Rattle.std.proofs.Common.{◌≡◌, ◌∙◌, ◌+◌, ◌⊎◌, Bool, List, [], ◌∷◌, ap, arith, drop, drop-drop, inl, inr, length, refl, sym, ℕ}
 
 -- How Descent fails on a text that the grammar says is cut short or refused. It serves the laws `front_is_unrefused` and `refusal_kinds`. A
 -- `Failure` is one of the two ways to fail. `r ≡ failed f` says that the result r fails in the way f. `around at f` is how the directive

@@ -8,7 +8,7 @@ use Rattle.drv_syntax.specs.Tree.{Asked, Brace, Choices, Item, Items, Pattern, S
 use Rattle.drv_syntax.specs.declared.token.Token.{Token}
 use Rattle.drv_syntax.specs.declared.token.TokenKind.TheVariants as kinds
 use Rattle.drv_syntax.specs.declared.token.TokenKind.{TokenKind}
-use Rattle.std.proofs.Common.{◌≡◌, ℕ, ◌+◌, ◌-◌, List, [], ◌∷◌, ◌++◌, length, refl, sym, ap, subst, ◌∙◌, arith, append_assoc, length-append}
+use Rattle.std.proofs.Common.{◌≡◌, ℕ, ◌+◌, List, [], ◌∷◌, ◌++◌, length, refl, sym, ap, subst, ◌∙◌, arith, append_assoc, length-append}
 
 -- The tokens of a tree are those of its parts, one after the other, with as many labels. It serves `SpecTree::tokens`, `word` and their
 -- like, and what the reader writes.

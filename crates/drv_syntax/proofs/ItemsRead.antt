@@ -4,9 +4,9 @@ use Rattle.drv_syntax.proofs.DirectivesRead.{cut_place, directive_out, directive
 use Rattle.drv_syntax.proofs.Leads.{AllOf, differs, each, not_of, other}
 use Rattle.drv_syntax.proofs.PartsRead.{Reads, reads_as, reads_past, skipped}
 use Rattle.drv_syntax.proofs.TestsEnd.{ListEnds}
-use Rattle.drv_syntax.specs.Bytes.{is_blank, is_of, is_plain}
+use Rattle.drv_syntax.specs.Bytes.{is_of, is_plain}
 use Rattle.drv_syntax.specs.Contexts.{InArguments, InX, Kind, ListContext, Top, bar_in, in_arguments, in_braces, in_x, is_end}
-use Rattle.drv_syntax.specs.Contexts.{newline_in, top}
+use Rattle.drv_syntax.specs.Contexts.{newline_in}
 use Rattle.drv_syntax.specs.Descent as d
 use Rattle.drv_syntax.specs.Descent.{Ends, Lists, Read, Took, past, then_read}
 use Rattle.drv_syntax.specs.Directives.{directive_of, is_allowed}
@@ -14,7 +14,7 @@ use Rattle.drv_syntax.specs.Fronts as cuts
 use Rattle.drv_syntax.specs.Fronts.{AreFrontItems, CutsItem}
 use Rattle.drv_syntax.specs.Spelling as s
 use Rattle.drv_syntax.specs.Spelling.{AreItems, At, IsItem, span}
-use Rattle.drv_syntax.specs.Tree.{Blank, Escape, Item, Items, Plain, Tests, more, none}
+use Rattle.drv_syntax.specs.Tree.{Blank, Item, Items, Plain, Tests, more, none}
 use Rattle.drv_syntax.specs.declared.fault.SyntaxFault.TheVariants.{BadDirective}
 use Rattle.std.proofs.Common.{◌≡◌, ◌∙◌, ◌+◌, ◌-◌, ◌⊎◌, Bool, false, true, if◌then◌else◌, List, [], ◌∷◌, ap, arith, drop, drop-drop, inl}
 use Rattle.std.proofs.Common.{inr}

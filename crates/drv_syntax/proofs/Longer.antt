@@ -1,5 +1,4 @@
 use Rattle.drv_syntax.specs.Contexts.{Kind, ListContext}
-use Rattle.drv_syntax.specs.Directives.{directive_of}
 use Rattle.drv_syntax.specs.declared.directives.Directive.{Directive}
 use Rattle.drv_syntax.specs.Refusals as r
 use Rattle.drv_syntax.specs.Refusals.{Due, Refuses}
@@ -8,7 +7,7 @@ use Rattle.drv_syntax.specs.Spelling.{AreChoices, AreItems, AreLater, ArePattern
 use Rattle.drv_syntax.specs.Spelling.{IsDirective, IsItem, IsPattern, IsQuoted, IsRun, IsSign, IsSuffix}
 use Rattle.drv_syntax.specs.Tree.{Asked, Brace, Choices, Item, Items, Pattern, Span, Tests}
 use Rattle.drv_syntax.specs.declared.fault.SyntaxFault.{SyntaxFault}
-use Rattle.std.proofs.Common.{◌≡◌, ◌+◌, ◌++◌, Bool, List, [], ◌∷◌, append_assoc, arith, length, length-append, subst, sym, ℕ}
+use Rattle.std.proofs.Common.{◌+◌, ◌++◌, Bool, List, [], ◌∷◌, append_assoc, arith, length, length-append, subst, sym, ℕ}
 
 -- A part of a text is the same part where more bytes q follow that text, if a byte is left after the part: with that byte its end is
 -- settled. It serves the law `refusal_kinds` and `SpecTree::extended`. `Filled t` says that the text t has a byte. The text is t, the

@@ -1,8 +1,8 @@
 use Rattle.drv_words.specs.Bytes as ascii
 use Rattle.drv_syntax.proofs.Leads.{same}
 use Rattle.drv_syntax.proofs.Meant.{AtByte, Meant, Takes, meant_past, meant_then, meant_took, meant_within}
-use Rattle.drv_syntax.proofs.MeantRuns.{NameBad, NameCuts, NameIs, function_meant}
-use Rattle.drv_syntax.proofs.Steps.{Far, Near, Step, near_self, same_byte, then_byte}
+use Rattle.drv_syntax.proofs.MeantRuns.{NameIs, function_meant}
+use Rattle.drv_syntax.proofs.Steps.{Far, Near, near_self, same_byte, then_byte}
 use Rattle.drv_syntax.specs.Bytes.{is_function}
 use Rattle.drv_syntax.specs.Contexts.{InArguments, InX, Kind, ListContext, Top, in_arguments, is_end}
 use Rattle.drv_syntax.specs.Descent as d

@@ -3,13 +3,13 @@ use Rattle.drv_syntax.proofs.Leads.{differs, same}
 use Rattle.drv_syntax.proofs.Meant as meant
 use Rattle.drv_syntax.proofs.Meant.{AtByte, Meant, PastPercent, Takes, breaks_after, breaks_here, choose, meant_after, meant_as, meant_ends}
 use Rattle.drv_syntax.proofs.Meant.{meant_past, meant_stops, meant_then, meant_took, meant_within}
-use Rattle.drv_syntax.proofs.MeantCalls.{Ended, ListBad, ListCuts, ListIs, ListMeant, list_ended, past_then}
-use Rattle.drv_syntax.proofs.MeantForms.{FormMeant, IsForm, form_patterns, form_tests, tests_meant}
+use Rattle.drv_syntax.proofs.MeantCalls.{Ended, ListIs, ListMeant, list_ended, past_then}
+use Rattle.drv_syntax.proofs.MeantForms.{IsForm, form_patterns, form_tests, tests_meant}
 use Rattle.drv_syntax.proofs.MeantPatterns.{at_rest, at_start, from_start}
 use Rattle.drv_syntax.proofs.MeantRuns.{Spaced, spaces}
-use Rattle.drv_syntax.proofs.MeantTests.{TestBad, TestCuts, cut_pattern, cut_test, emit_bad, near_head, test_bad}
-use Rattle.drv_syntax.proofs.Steps.{Near, Step, byte_step, near_self, no_step, resized, same_byte, steps, then_byte}
-use Rattle.drv_syntax.specs.Bytes.{is_of, is_white}
+use Rattle.drv_syntax.proofs.MeantTests.{TestBad, TestCuts, cut_pattern, cut_test, emit_bad, test_bad}
+use Rattle.drv_syntax.proofs.Steps.{Near, Step, near_self, resized, same_byte, steps, then_byte}
+use Rattle.drv_syntax.specs.Bytes.{is_white}
 use Rattle.drv_syntax.specs.Contexts.{InX, ListContext, in_arguments, in_braces, in_x, is_end}
 use Rattle.drv_syntax.specs.Descent as d
 use Rattle.drv_syntax.specs.Descent.{Alternative, Form, Lists, Patterns, Read, Stops, Took, past, then_read}
@@ -23,7 +23,7 @@ use Rattle.drv_syntax.specs.Spelling.{AreChoices, AreItems, AreLater, ArePattern
 use Rattle.drv_syntax.specs.Tree.{Asked, Brace, Choices, Choose, Emit, Items, Pattern, Span, Tests, alternative, no_choice, no_test, test}
 use Rattle.drv_syntax.specs.declared.fault.SyntaxFault.TheVariants.{EmptyTest}
 use Rattle.drv_syntax.specs.declared.fault.SyntaxFault.{SyntaxFault}
-use Rattle.std.proofs.Common.{◌≡◌, ◌∙◌, ◌+◌, ◌⊎◌, Bool, false, true, if◌then◌else◌, List, [], ◌∷◌, ap, arith, drop, drop-drop, inl, inr}
+use Rattle.std.proofs.Common.{◌≡◌, ◌∙◌, ◌+◌, Bool, false, true, if◌then◌else◌, List, [], ◌∷◌, ap, arith, drop, drop-drop}
 use Rattle.std.proofs.Common.{length, refl, subst, suc, sym, zero, ℕ}
 use Rattle.std.specs.List.{prefix_len}
 use Rattle.std.specs.Prelude.{◌-◌, ◌==◌}

@@ -6,7 +6,7 @@ use Rattle.drv_syntax.proofs.MeantPatterns.{PatternsBad, PatternsMeant, at_rest,
 use Rattle.drv_syntax.proofs.MeantTests.{Bared, IsOperand, IsTried, TestBad, TestCuts, asked_marked, by_bare, by_mark, by_result, by_star}
 use Rattle.drv_syntax.proofs.MeantTests.{by_switch, cut_pattern, cut_test, emit_bad, emits_at, is_tried, mark_plain, mark_word, near_head}
 use Rattle.drv_syntax.proofs.MeantTests.{one_test_meant, test_bad, tried_from, unsigned}
-use Rattle.drv_syntax.proofs.Steps.{Near, Step, near_self, same_byte}
+use Rattle.drv_syntax.proofs.Steps.{Near, near_self, same_byte}
 use Rattle.drv_syntax.specs.Bytes.{is_mark, is_of, is_white}
 use Rattle.drv_syntax.specs.Contexts.{ListContext, in_arguments, in_braces}
 use Rattle.drv_syntax.specs.Descent as d

@@ -3,15 +3,15 @@ use Rattle.drv_syntax.proofs.Depth.{depth_is}
 use Rattle.drv_syntax.proofs.Leads.{differs, not_of, same}
 use Rattle.drv_syntax.proofs.Meant.{AtByte, Meant, PastPercent, Takes, breaks_here, choose, meant_after, meant_as, meant_ends, meant_far}
 use Rattle.drv_syntax.proofs.Meant.{meant_past, meant_stops, meant_then, meant_took}
-use Rattle.drv_syntax.proofs.MeantCalls.{CallBad, Ended, ListBad, ListCuts, ListIs, ListMeant, Listed, call_meant, in_list, no_function}
+use Rattle.drv_syntax.proofs.MeantCalls.{CallBad, Ended, ListIs, ListMeant, Listed, call_meant, in_list, no_function}
 use Rattle.drv_syntax.proofs.MeantChoices.{brace_meant}
 use Rattle.drv_syntax.proofs.MeantLeaves.{Bursts, DirBad, DirCuts, DirIs, DirMeant, breaks, hide_meant, hides, inside, name_meant}
 use Rattle.drv_syntax.proofs.MeantLeaves.{option_meant}
 use Rattle.drv_syntax.proofs.MeantLeaves.{saying_meant, suffix_meant, unknown}
 use Rattle.drv_syntax.proofs.MeantPatterns.{at_rest, at_start, from_start}
-use Rattle.drv_syntax.proofs.Steps.{Far, Near, Step, both_end, byte_step, far_end, far_more, far_other, near_far, near_self, no_step}
+use Rattle.drv_syntax.proofs.Steps.{Far, Near, Step, both_end, byte_step, far_end, far_more, far_other, near_far, no_step}
 use Rattle.drv_syntax.proofs.Steps.{same_byte, steps}
-use Rattle.drv_syntax.specs.Bytes.{is_blank, is_of, is_plain}
+use Rattle.drv_syntax.specs.Bytes.{is_blank, is_plain}
 use Rattle.drv_syntax.specs.Contexts.{InArguments, InX, Kind, ListContext, Mixed, Nobody, Owner, Starred, Top, bar_in, in_arguments}
 use Rattle.drv_syntax.specs.Contexts.{in_braces}
 use Rattle.drv_syntax.specs.Contexts.{in_x, is_end, newline_in, top}
@@ -25,18 +25,16 @@ use Rattle.drv_syntax.specs.Refusals as r
 use Rattle.drv_syntax.specs.Refusals.{AnItem, Breaks, Due, Reaches, ReachesIn, Refuses}
 use Rattle.drv_syntax.specs.Spelling as s
 use Rattle.drv_syntax.specs.Spelling.{AreItems, At, IsDirective, IsItem, span}
-use Rattle.drv_syntax.specs.Tree.{Blank, Brace, BuiltinText, Escape, Function, Item, Items, Leaf, Plain, Star, Tests, more, none}
+use Rattle.drv_syntax.specs.Tree.{Blank, BuiltinText, Function, Item, Items, Leaf, Plain, Star, more, none}
 use Rattle.drv_syntax.specs.declared.directives.BraceKind.TheVariants.{InPlace}
 use Rattle.drv_syntax.specs.declared.directives.BraceKind.{BraceKind}
-use Rattle.drv_syntax.specs.declared.directives.BuiltinName.{BuiltinName}
 use Rattle.drv_syntax.specs.declared.directives.Directive.TheVariants.{Named, Nowhere, OfStar, Whole, WithBraces, WithCall}
 use Rattle.drv_syntax.specs.declared.directives.Directive.TheVariants.{WithMarkedBraces, WithName, WithOption, WithPattern, WithSaying}
 use Rattle.drv_syntax.specs.declared.directives.Directive.TheVariants.{WithSuffix}
 use Rattle.drv_syntax.specs.declared.directives.Directive.{Directive}
 use Rattle.drv_syntax.specs.declared.fault.SyntaxFault.TheVariants.{BadDirective, MixedStar, StarOutside, TooNested}
 use Rattle.drv_syntax.specs.declared.fault.SyntaxFault.{SyntaxFault}
-use Rattle.drv_syntax.specs.declared.token.Leaf as leaf
-use Rattle.std.proofs.Common.{◌≡◌, ◌∙◌, ◌+◌, Bool, false, true, if◌then◌else◌, List, [], ◌∷◌, ap, arith, drop, drop-drop, length, refl}
+use Rattle.std.proofs.Common.{◌≡◌, ◌∙◌, ◌+◌, Bool, false, true, if◌then◌else◌, List, [], ◌∷◌, ap, arith, drop, drop-drop, refl}
 use Rattle.std.proofs.Common.{subst}
 use Rattle.std.proofs.Common.{suc, sym, zero, ℕ}
 use Rattle.std.specs.Prelude.{◌-◌, ◌==◌}

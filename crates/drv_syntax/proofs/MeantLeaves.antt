@@ -4,29 +4,28 @@ use Rattle.drv_syntax.proofs.Meant as meant
 use Rattle.drv_syntax.proofs.Meant.{Meant, PastPercent, breaks_after, breaks_here, choose, meant_ends, meant_past, meant_stops, meant_then}
 use Rattle.drv_syntax.proofs.Meant.{meant_as, meant_took}
 use Rattle.drv_syntax.proofs.MeantRuns.{QuotedRun, Quotes, empty_run, pattern_meant, quotes, runs}
-use Rattle.drv_syntax.proofs.Steps.{Far, Near, Step, byte_step, far_end, far_more, far_other, near_far, near_stops, no_step, same_byte}
+use Rattle.drv_syntax.proofs.Steps.{Far, Near, byte_step, far_end, far_more, far_other, near_far, near_stops, no_step, same_byte}
 use Rattle.drv_syntax.proofs.Steps.{steps}
 use Rattle.drv_syntax.proofs.Steps.{then_byte}
 use Rattle.drv_syntax.specs.Bytes.{is_name_byte, is_option, is_suffix}
 use Rattle.drv_syntax.specs.Contexts.{ListContext, is_said}
 use Rattle.drv_syntax.specs.Descent as d
 use Rattle.drv_syntax.specs.Descent.{Hangs, Quoted, Read, Run, Took, quoted}
-use Rattle.drv_syntax.specs.Directives.{said}
 use Rattle.drv_syntax.specs.Fronts as cuts
 use Rattle.drv_syntax.specs.Fronts.{CutsDirective}
 use Rattle.drv_syntax.specs.Refusals as r
 use Rattle.drv_syntax.specs.Refusals.{Breaks, Due, Empty, IsNoFunction, ReachesIn, Refuses}
 use Rattle.drv_syntax.specs.Spelling as s
 use Rattle.drv_syntax.specs.Spelling.{IsDirective, IsRun, IsSuffix}
-use Rattle.drv_syntax.specs.Tree.{AddOption, Hide, Item, NamedText, TempName}
+use Rattle.drv_syntax.specs.Tree.{Hide, Item, NamedText, TempName}
 use Rattle.drv_syntax.specs.declared.directives.Directive.TheVariants.{WithCall, WithName, WithOption, WithPattern, WithSaying, WithSuffix}
 use Rattle.drv_syntax.specs.declared.directives.Directive.{Directive}
 use Rattle.drv_syntax.specs.declared.directives.SayKind.{SayKind}
 use Rattle.drv_syntax.specs.declared.fault.SyntaxFault.TheVariants.{BadDirective, EmptyTest, UnknownFunction}
 use Rattle.drv_syntax.specs.declared.fault.SyntaxFault.{SyntaxFault}
 use Rattle.drv_syntax.specs.declared.token.TempKind.{TempKind}
-use Rattle.std.proofs.Common.{◌≡◌, ◌≤◌, ◌∙◌, ◌+◌, ◌++◌, ◌⊎◌, Bool, false, true, if◌then◌else◌, List, [], ◌∷◌, ap, append-nil, append_assoc}
-use Rattle.std.proofs.Common.{arith, drop, drop-drop, inl, inr, length, length-append, refl, subst, sym, ℕ}
+use Rattle.std.proofs.Common.{◌≡◌, ◌≤◌, ◌∙◌, ◌+◌, ◌++◌, Bool, false, true, if◌then◌else◌, List, [], ◌∷◌, ap, append-nil, append_assoc}
+use Rattle.std.proofs.Common.{arith, drop, drop-drop, length, length-append, refl, subst, sym, ℕ}
 use Rattle.std.proofs.lemmas.Bool.Decides.{nat_tests}
 use Rattle.std.specs.List.{prefix_len}
 use Rattle.std.specs.Prelude.{◌==◌, nat_le}

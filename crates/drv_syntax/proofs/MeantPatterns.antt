@@ -1,12 +1,12 @@
 use Rattle.drv_words.specs.Bytes as ascii
 use Rattle.drv_syntax.proofs.Leads.{same}
-use Rattle.drv_syntax.proofs.Meant.{AtByte, Looks, Meant, Takes, breaks_after, choose, meant_as, meant_ends, meant_past, meant_stops}
+use Rattle.drv_syntax.proofs.Meant.{AtByte, Looks, Meant, Takes, breaks_after, choose, meant_ends, meant_past, meant_stops}
 use Rattle.drv_syntax.proofs.Meant.{meant_then, meant_took}
 use Rattle.drv_syntax.proofs.MeantCalls.{past_then}
-use Rattle.drv_syntax.proofs.MeantRuns.{PatternIs, Spaced, pattern_meant, spaces}
+use Rattle.drv_syntax.proofs.MeantRuns.{Spaced, pattern_meant, spaces}
 use Rattle.drv_syntax.proofs.MeantTests.{ByteIs, byte_is, byte_meant, first, near_head}
-use Rattle.drv_syntax.proofs.Steps.{Near, Step, dropped, near_self, near_stops, same_byte, then_byte}
-use Rattle.drv_syntax.specs.Bytes.{is_of, is_white, is_word}
+use Rattle.drv_syntax.proofs.Steps.{Near, Step, near_self, near_stops, same_byte, then_byte}
+use Rattle.drv_syntax.specs.Bytes.{is_white}
 use Rattle.drv_syntax.specs.Descent as d
 use Rattle.drv_syntax.specs.Descent.{Read, Stops, Took, past, then_read}
 use Rattle.drv_syntax.specs.Fronts as cuts
@@ -18,7 +18,7 @@ use Rattle.drv_syntax.specs.Spelling.{ArePatterns, AreSpaces, At, IsPattern, spa
 use Rattle.drv_syntax.specs.Tree.{Pattern, Span}
 use Rattle.drv_syntax.specs.declared.fault.SyntaxFault.TheVariants.{BadDirective}
 use Rattle.drv_syntax.specs.declared.fault.SyntaxFault.{SyntaxFault}
-use Rattle.std.proofs.Common.{◌≡◌, ◌∙◌, ◌+◌, Bool, false, true, if◌then◌else◌, List, [], ◌∷◌, ap, arith, drop, length, refl, subst, suc}
+use Rattle.std.proofs.Common.{◌≡◌, ◌∙◌, ◌+◌, false, List, [], ◌∷◌, ap, arith, drop, length, refl, subst, suc}
 use Rattle.std.proofs.Common.{sym, zero}
 use Rattle.std.proofs.Common.{ℕ}
 use Rattle.std.specs.List.{prefix_len}

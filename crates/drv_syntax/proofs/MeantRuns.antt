@@ -1,7 +1,7 @@
 use Rattle.drv_words.specs.Bytes as ascii
 use Rattle.drv_syntax.proofs.Leads.{same}
 use Rattle.drv_syntax.proofs.Meant.{AtByte, Meant, breaks_after, breaks_here, choose, meant_ends, meant_past, meant_stops, meant_took}
-use Rattle.drv_syntax.proofs.Steps.{Near, Step, both_end, byte_step, near_self, near_stops, no_step, same_byte, steps, then_byte}
+use Rattle.drv_syntax.proofs.Steps.{Near, Step, both_end, byte_step, near_stops, no_step, same_byte, steps, then_byte}
 use Rattle.drv_syntax.specs.Bytes.{is_function, is_function_front, is_white, is_word}
 use Rattle.drv_syntax.specs.Descent as d
 use Rattle.drv_syntax.specs.Descent.{Hangs, Quoted, Run, quoted, with_byte}
@@ -13,9 +13,9 @@ use Rattle.drv_syntax.specs.Spelling.{AreSpaces, IsPattern, IsQuoted, IsRun}
 use Rattle.drv_syntax.specs.Tree.{Pattern, pattern}
 use Rattle.drv_syntax.specs.declared.fault.SyntaxFault.TheVariants.{EmptyTest, UnknownFunction}
 use Rattle.drv_syntax.specs.declared.fault.SyntaxFault.{SyntaxFault}
-use Rattle.std.proofs.Common.{◌≡◌, ◌∙◌, ◌+◌, ◌++◌, Bool, false, true, if◌then◌else◌, List, [], ◌∷◌, ap, append-nil, append_assoc, arith}
+use Rattle.std.proofs.Common.{◌≡◌, ◌∙◌, ◌+◌, ◌++◌, Bool, false, true, List, [], ◌∷◌, ap, append-nil, append_assoc, arith}
 use Rattle.std.proofs.Common.{drop}
-use Rattle.std.proofs.Common.{drop-drop, length, refl, subst, suc, sym, take, ℕ}
+use Rattle.std.proofs.Common.{drop-drop, refl, subst, suc, sym, take, ℕ}
 use Rattle.std.specs.List.{prefix_len}
 use Rattle.std.specs.Prelude.{◌==◌}
 

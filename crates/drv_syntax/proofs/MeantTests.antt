@@ -1,11 +1,11 @@
 use Rattle.drv_words.specs.Bytes as ascii
 use Rattle.drv_syntax.proofs.Leads.{differs, each, other, same}
-use Rattle.drv_syntax.proofs.Meant.{AtByte, Meant, Takes, breaks_after, breaks_here, choose, meant_as, meant_ends, meant_past, meant_stops}
+use Rattle.drv_syntax.proofs.Meant.{AtByte, Meant, breaks_after, breaks_here, choose, meant_as, meant_ends, meant_past, meant_stops}
 use Rattle.drv_syntax.proofs.Meant.{meant_then, meant_took}
-use Rattle.drv_syntax.proofs.MeantCalls.{CallBad, CallIs, CallMeant, ListMeant, call_meant, in_list, no_function}
-use Rattle.drv_syntax.proofs.MeantRuns.{PatternBad, PatternCuts, PatternIs, QuotedRun, Quotes, Spaced, empty_run, pattern_meant, quotes}
+use Rattle.drv_syntax.proofs.MeantCalls.{CallBad, CallMeant, ListMeant, call_meant, in_list, no_function}
+use Rattle.drv_syntax.proofs.MeantRuns.{QuotedRun, Quotes, Spaced, empty_run, pattern_meant, quotes}
 use Rattle.drv_syntax.proofs.MeantRuns.{spaces}
-use Rattle.drv_syntax.proofs.Steps.{Near, Step, byte_step, near_self, near_stops, no_step, resized, same_byte, then_byte}
+use Rattle.drv_syntax.proofs.Steps.{Near, byte_step, near_self, near_stops, no_step, resized, same_byte, then_byte}
 use Rattle.drv_syntax.specs.Bytes.{is_mark, is_of, is_white, is_word}
 use Rattle.drv_syntax.specs.Contexts.{ListContext, in_arguments, in_braces}
 use Rattle.drv_syntax.specs.Descent as d
@@ -17,10 +17,10 @@ use Rattle.drv_syntax.specs.Refusals.{AtBar, AtFront, AtNext, Due, Order, Reache
 use Rattle.drv_syntax.specs.Refusals.{ends_test, is_default, may_emit}
 use Rattle.drv_syntax.specs.Spelling as s
 use Rattle.drv_syntax.specs.Spelling.{AreSpaces, At, IsAsked, IsCall, IsPattern, IsQuoted, IsSign, span}
-use Rattle.drv_syntax.specs.Tree.{Asked, HasLanguage, HasResult, HasSuffix, HasSwitch, Items, Pattern, Span, pattern}
-use Rattle.drv_syntax.specs.declared.fault.SyntaxFault.TheVariants.{BadDirective, EmptyTest, TooNested, UnknownFunction}
+use Rattle.drv_syntax.specs.Tree.{Asked, HasLanguage, HasResult, HasSuffix, HasSwitch, Items, Pattern, pattern}
+use Rattle.drv_syntax.specs.declared.fault.SyntaxFault.TheVariants.{BadDirective, EmptyTest, TooNested}
 use Rattle.drv_syntax.specs.declared.fault.SyntaxFault.{SyntaxFault}
-use Rattle.std.proofs.Common.{◌≡◌, ◌∙◌, ◌+◌, ◌++◌, ◌⊎◌, Bool, false, true, if◌then◌else◌, List, [], ◌∷◌, ap, arith, drop, inl, inr, length}
+use Rattle.std.proofs.Common.{◌≡◌, ◌∙◌, ◌+◌, ◌⊎◌, Bool, false, true, if◌then◌else◌, List, [], ◌∷◌, ap, arith, drop, inl, inr}
 use Rattle.std.proofs.Common.{refl, subst, sym, ℕ}
 use Rattle.std.specs.List.{prefix_len}
 use Rattle.std.specs.Prelude.{◌-◌, ◌==◌}

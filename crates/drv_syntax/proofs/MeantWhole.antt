@@ -1,19 +1,18 @@
-use Rattle.drv_syntax.proofs.Meant.{AtByte, Meant, Takes, of_ends, of_stops, of_took}
+use Rattle.drv_syntax.proofs.Meant.{AtByte, Takes, of_ends, of_stops, of_took}
 use Rattle.drv_syntax.proofs.MeantCalls.{ListBad, ListIs, ListMeant}
 use Rattle.drv_syntax.proofs.MeantItems.{text_read}
 use Rattle.drv_syntax.proofs.Steps.{near_self}
 use Rattle.drv_syntax.specs.Contexts.{ListContext, top}
-use Rattle.drv_syntax.specs.Descent as d
 use Rattle.drv_syntax.specs.Descent.{Ends, Read, Stops, Took, levels}
 use Rattle.drv_syntax.specs.Fronts as cuts
 use Rattle.drv_syntax.specs.Fronts.{AreFrontItems, Front}
-use Rattle.drv_syntax.specs.Outcome.{Bad, Cut, Got, Out, Unrefused, depth, outcome, read}
+use Rattle.drv_syntax.specs.Outcome.{Bad, Cut, Got, Unrefused, depth, outcome, read}
 use Rattle.drv_syntax.specs.Refusals.{IsRefused}
 use Rattle.drv_syntax.specs.Spelling as s
 use Rattle.drv_syntax.specs.Spelling.{AreItems, Spells}
 use Rattle.drv_syntax.specs.Tree.{Items}
 use Rattle.drv_syntax.specs.declared.fault.SyntaxFault.{SyntaxFault}
-use Rattle.std.proofs.Common.{◌≡◌, ◌∙◌, ◌+◌, ◌⊎◌, List, [], ap, arith, drop, inl, inr, length, refl, subst, sym, take, ℕ}
+use Rattle.std.proofs.Common.{◌≡◌, ◌∙◌, ◌+◌, List, [], ap, arith, drop, inl, inr, length, refl, subst, sym, take, ℕ}
 
 -- What Descent makes of a text is what the grammar says of it: the laws `read_is_spelled`, `unrefused_is_front` and `refused_kinds`.
 -- Descent is the grammar as functions (specs/Descent). The grammar itself has cases (specs/Spelling, Fronts, Refusals).

@@ -1,6 +1,6 @@
 use Rattle.drv_syntax.proofs.Leads.{differs}
 use Rattle.drv_syntax.specs.Bytes.{any_of, functions, is_front, is_function, is_function_front, is_of, is_same}
-use Rattle.std.proofs.Common.{◌≡◌, ◌∙◌, ◌+◌, ◌++◌, Bool, false, true, List, [], ◌∷◌, ap, append-nil, append_assoc, refl, sym, ℕ}
+use Rattle.std.proofs.Common.{◌≡◌, ◌++◌, Bool, false, true, List, [], ◌∷◌, refl, sym, ℕ}
 use Rattle.std.specs.Prelude.{◌==◌}
 
 -- The names of functions: each front of one is a front, and none has a bracket. It serves the laws `spelled_is_read` and

@@ -1,6 +1,6 @@
 use Rattle.drv_words.specs.Bytes as ascii
 use Rattle.drv_syntax.proofs.Names.{bracket_ends, function_front}
-use Rattle.drv_syntax.specs.Bytes.{is_function, is_function_front, is_name_byte, is_option, is_suffix, is_white, is_word}
+use Rattle.drv_syntax.specs.Bytes.{is_function, is_function_front, is_name_byte, is_option, is_suffix, is_white}
 use Rattle.drv_syntax.specs.Contexts.{Kind, is_said}
 use Rattle.drv_syntax.specs.Descent as d
 use Rattle.drv_syntax.specs.Descent.{Quoted, Read, Run, Took, past, quoted, then_read, with_byte}

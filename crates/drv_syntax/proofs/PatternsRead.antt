@@ -1,4 +1,3 @@
-use Rattle.drv_words.specs.Bytes as ascii
 use Rattle.drv_syntax.proofs.Failing.{AtEnd, EndsOut, Failure, HangsOut, failed, past_fails, runs_out, then_fails}
 use Rattle.drv_syntax.proofs.Heads.{no_white, out_head, pattern_head}
 use Rattle.drv_syntax.proofs.PartsRead.{Reads, byte_next, pattern_reads, reads_after, reads_as, reads_past, skipped, spaces_to}
@@ -10,11 +9,10 @@ use Rattle.drv_syntax.specs.Fronts.{CutsPatterns, RunsOut}
 use Rattle.drv_syntax.specs.Spelling as s
 use Rattle.drv_syntax.specs.Spelling.{ArePatterns, AreSpaces, At, IsPattern, span}
 use Rattle.drv_syntax.specs.Tree.{Pattern, Span, pattern}
-use Rattle.std.proofs.Common.{◌≡◌, ◌∙◌, ◌+◌, ◌⊎◌, Bool, false, true, List, [], ◌∷◌, ap, arith, drop, drop-drop, inl, inr, length, refl}
+use Rattle.std.proofs.Common.{◌≡◌, ◌∙◌, ◌+◌, ◌⊎◌, false, List, [], ◌∷◌, ap, arith, drop, drop-drop, inl, inr, length, refl}
 use Rattle.std.proofs.Common.{subst, suc}
-use Rattle.std.proofs.Common.{sym, zero, ℕ}
+use Rattle.std.proofs.Common.{sym, ℕ}
 use Rattle.std.specs.List.{prefix_len}
-use Rattle.std.specs.Prelude.{◌==◌}
 
 -- What the grammar says of patterns after an ampersand, Descent makes of it. It serves the laws `spelled_is_read`, `front_is_unrefused` and
 -- `refusal_kinds`. `Reads r text x rest` says that the result r took x from the text and left this rest (PartsRead). `failed f` is a result

@@ -4,15 +4,14 @@ use Rattle.drv_syntax.proofs.Refusals as fronts
 use Rattle.drv_syntax.proofs.WholeRead.{refusal_kinds, spelled_is_read}
 use Rattle.drv_syntax.specs.Faults.{IsCutAt, Refused, cut_short, misfit, too_long}
 use Rattle.drv_syntax.specs.Fronts.{Front}
-use Rattle.drv_syntax.specs.Outcome.{Bad, Cut, Out, judged, parsed, read, text_limit}
+use Rattle.drv_syntax.specs.Outcome.{Cut, judged, parsed, read, text_limit}
 use Rattle.drv_syntax.specs.Refusals.{IsRefused}
 use Rattle.drv_syntax.specs.Spelling.{Spells}
 use Rattle.drv_syntax.specs.Tree.{Items}
 use Rattle.drv_syntax.specs.declared.fault.SyntaxFault.{SyntaxFault}
 use Rattle.drv_syntax.specs.declared.fault.SyntaxFault.TheVariants.{TextTooLong, Unclosed}
-use Rattle.std.proofs.Common.{◌≡◌, ◌<◌, ◌≤◌, ◌∙◌, ◌+◌, ◌-◌, ◌++◌, List, false, true, ap, arith, drop, length, refl, subst, sym, take}
+use Rattle.std.proofs.Common.{◌≡◌, ◌<◌, ◌≤◌, ◌+◌, ◌++◌, List, false, ap, arith, drop, length, subst, sym, take}
 use Rattle.std.proofs.Common.{take-append-drop, ℕ}
-use Rattle.std.proofs.Math.Seq.{take-length}
 use Rattle.std.proofs.lemmas.Bool.Decides.{nat_tests}
 use Rattle.std.specs.Prelude.{Bool, Err, Ok, if◌then◌else◌, nat_le}
 

@@ -1,12 +1,10 @@
 use Rattle.drv_words.specs.Bytes as ascii
-use Rattle.drv_syntax.proofs.Leads.{same}
 use Rattle.drv_syntax.specs.Spelling as s
 use Rattle.drv_syntax.specs.Spelling.{At}
-use Rattle.std.proofs.Common.{◌≡◌, ◌∙◌, ◌+◌, ◌++◌, Bool, false, true, List, [], ◌∷◌, ap, arith, drop, drop-drop, length, refl, subst}
+use Rattle.std.proofs.Common.{◌≡◌, ◌∙◌, ◌+◌, Bool, false, List, [], ◌∷◌, ap, arith, drop, drop-drop, length, refl, subst}
 use Rattle.std.proofs.Common.{suc, sym}
-use Rattle.std.proofs.Common.{take, zero, ℕ}
-use Rattle.std.specs.List.{prefix_len}
-use Rattle.std.specs.Prelude.{◌==◌, if◌then◌else◌}
+use Rattle.std.proofs.Common.{take, ℕ}
+use Rattle.std.specs.Prelude.{◌==◌}
 
 -- A text of which the front is taken, with another rest after that front. Nothing here knows the grammar. It serves what Descent makes of a
 -- text (Meant): whether a part is taken depends on its bytes and on how the rest begins, not on the whole rest. Descent is the grammar as

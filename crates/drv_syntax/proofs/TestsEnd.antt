@@ -1,15 +1,15 @@
 use Rattle.drv_words.specs.Bytes as ascii
 use Rattle.drv_syntax.proofs.CallsRead.{ListReads, result_fails}
 use Rattle.drv_syntax.proofs.EmitsRead.{emit_fails, follows, operates, starred_operates}
-use Rattle.drv_syntax.proofs.Failing.{AtEnd, EndsOut, Failure, HangsOut, past_fails, runs_out, then_fails}
+use Rattle.drv_syntax.proofs.Failing.{AtEnd, EndsOut, HangsOut, past_fails, runs_out, then_fails}
 use Rattle.drv_syntax.proofs.Heads.{NoHead, asked_head, no_percent, no_sign, no_white, out_head, pattern_head, unstarred_end}
-use Rattle.drv_syntax.proofs.Leads.{differs, other}
+use Rattle.drv_syntax.proofs.Leads.{differs}
 use Rattle.drv_syntax.proofs.MeantTests.{mark_word}
 use Rattle.drv_syntax.proofs.Names.{front_front}
 use Rattle.drv_syntax.proofs.PartsRead.{Reads, byte_next, reads_as, reads_past}
 use Rattle.drv_syntax.proofs.PatternsRead.{patterns_end}
 use Rattle.drv_syntax.proofs.TestsRead.{asked_reads, asking, from_ends, mark_is, next_goes, test_goes, tests_fail}
-use Rattle.drv_syntax.specs.Bytes.{is_function, is_function_front, is_mark, is_white, is_word}
+use Rattle.drv_syntax.specs.Bytes.{is_function_front, is_mark, is_white, is_word}
 use Rattle.drv_syntax.specs.Contexts.{ListContext, in_arguments, in_braces}
 use Rattle.drv_syntax.specs.Descent as d
 use Rattle.drv_syntax.specs.Descent.{Ends, Lists, Operand, Quoted, Read, Run, Took, Tried, past, quoted, then_read}
@@ -18,11 +18,10 @@ use Rattle.drv_syntax.specs.Fronts.{AreFrontItems, CutsAsked, CutsCall, CutsPatt
 use Rattle.drv_syntax.specs.Refusals.{AtBar, AtFront, Order, may_emit}
 use Rattle.drv_syntax.specs.Spelling as s
 use Rattle.drv_syntax.specs.Spelling.{AreSpaces, At, IsAsked, IsPattern, IsQuoted, IsSign, span}
-use Rattle.drv_syntax.specs.Tree.{Asked, Items, Pattern, pattern}
-use Rattle.std.proofs.Common.{◌≡◌, ◌∙◌, ◌+◌, ◌++◌, ◌⊎◌, Bool, false, true, List, [], ◌∷◌, ap, append-nil, append_assoc, arith, drop}
+use Rattle.drv_syntax.specs.Tree.{Pattern, pattern}
+use Rattle.std.proofs.Common.{◌≡◌, ◌∙◌, ◌+◌, ◌++◌, ◌⊎◌, Bool, false, true, List, [], ◌∷◌, ap, append_assoc, arith, drop}
 use Rattle.std.proofs.Common.{inl, inr, length}
 use Rattle.std.proofs.Common.{refl, subst, suc, sym, ℕ}
-use Rattle.std.specs.List.{prefix_len}
 use Rattle.std.specs.Prelude.{◌-◌, ◌==◌}
 
 -- Where a text ends in a test, Descent says that the braces aren't closed. It serves the law `front_is_unrefused`. A mark is the `.` or `,`

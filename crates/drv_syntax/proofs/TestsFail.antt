@@ -1,17 +1,16 @@
-use Rattle.drv_words.specs.Bytes as ascii
 use Rattle.drv_syntax.proofs.CallsRead.{ListReads, result_fails, result_reads}
 use Rattle.drv_syntax.proofs.DirectivesFail.{function_stops, none_quoted, pattern_stops, stops_at}
 use Rattle.drv_syntax.proofs.EmitsRead.{bare_mark, emit_fails, starred_mark}
-use Rattle.drv_syntax.proofs.Failing.{AtByte, Failure, failed, past_fails, then_fails}
-use Rattle.drv_syntax.proofs.Heads.{asked_head, no_sign, no_white, pattern_head, unstarred_spaces}
+use Rattle.drv_syntax.proofs.Failing.{AtByte, past_fails, then_fails}
+use Rattle.drv_syntax.proofs.Heads.{no_white, pattern_head}
 use Rattle.drv_syntax.proofs.Leads.{differs, each, not_of, other, same}
-use Rattle.drv_syntax.proofs.Longer.{asked_filled, asked_longer, pattern_filled, pattern_longer, place_longer, quoted_longer, sign_longer}
+use Rattle.drv_syntax.proofs.Longer.{asked_filled, asked_longer, pattern_filled, pattern_longer, quoted_longer, sign_longer}
 use Rattle.drv_syntax.proofs.Longer.{refuses_filled, spaces_filled, spaces_longer, stops_longer}
 use Rattle.drv_syntax.proofs.MeantRuns.{empty_run}
-use Rattle.drv_syntax.proofs.MeantTests.{mark_plain, mark_word}
+use Rattle.drv_syntax.proofs.MeantTests.{mark_word}
 use Rattle.drv_syntax.proofs.PartsRead.{Reads, byte_next, reads_as, reads_past, runs_to}
 use Rattle.drv_syntax.proofs.PatternsRead as patterns
-use Rattle.drv_syntax.proofs.TestsRead.{asked_reads, asking, call_level, from_reads, mark_is, mark_reads, next_goes, switch_reads}
+use Rattle.drv_syntax.proofs.TestsRead.{asking, call_level, from_reads, mark_is, mark_reads, next_goes, switch_reads}
 use Rattle.drv_syntax.proofs.TestsRead.{test_goes, tests_fail, tests_go}
 use Rattle.drv_syntax.specs.Bytes.{is_mark, is_of, is_white, is_word}
 use Rattle.drv_syntax.specs.Contexts.{ListContext, in_arguments, in_braces}
@@ -29,7 +28,7 @@ use Rattle.drv_syntax.specs.declared.fault.SyntaxFault.{SyntaxFault}
 use Rattle.std.proofs.Common.{◌≡◌, ◌∙◌, ◌+◌, ◌++◌, ◌⊎◌, Bool, false, true, if◌then◌else◌, List, [], ◌∷◌, ap, append_assoc, arith, drop}
 use Rattle.std.proofs.Common.{inl, inr, length}
 use Rattle.std.proofs.Common.{length-append, refl, subst, suc, sym, ℕ}
-use Rattle.std.specs.Prelude.{◌-◌, ◌==◌, None, Option, Some}
+use Rattle.std.specs.Prelude.{◌-◌, ◌==◌, None, Option}
 
 -- Where a byte in braces doesn't fit, Descent stops at it: tests and patterns. It serves the law `refusal_kinds`. `Reaches.. t due last`
 -- says that the text t leads to a place where `due` is due, and leaves `last` there. `Refuses` says that `last` ends in a byte that doesn't

@@ -1,6 +1,6 @@
 use Rattle.drv_words.specs.Bytes as ascii
 use Rattle.drv_syntax.proofs.CallsRead.{ListReads, result_reads}
-use Rattle.drv_syntax.proofs.Failing.{Failure, failed, past_fails, then_fails}
+use Rattle.drv_syntax.proofs.Failing.{Failure, failed, then_fails}
 use Rattle.drv_syntax.proofs.Heads.{asked_head, no_white, pattern_head, no_percent, sign_white, unstarred_spaces}
 use Rattle.drv_syntax.proofs.PartsRead.{Reads, byte_next, past_none, past_past, pattern_reads, reads_after, reads_as, reads_past}
 use Rattle.drv_syntax.proofs.PartsRead.{reads_then, runs_to}
@@ -13,10 +13,10 @@ use Rattle.drv_syntax.specs.Descent.{then_read}
 use Rattle.drv_syntax.specs.Refusals.{AtBar, Order, may_emit}
 use Rattle.drv_syntax.specs.Spelling as s
 use Rattle.drv_syntax.specs.Spelling.{AreSpaces, AreTests, At, IsAsked, IsCall, IsPattern, IsQuoted, IsSign, span}
-use Rattle.drv_syntax.specs.Tree.{Asked, HasLanguage, HasResult, HasSuffix, HasSwitch, Items, Pattern, Span, Tests, no_test, pattern, test}
-use Rattle.std.proofs.Common.{◌≡◌, ◌∙◌, ◌+◌, ◌++◌, Bool, false, true, List, [], ◌∷◌, ap, arith, drop, drop-drop, length, refl, subst}
+use Rattle.drv_syntax.specs.Tree.{Asked, HasLanguage, HasResult, HasSuffix, HasSwitch, Items, Pattern, Span, Tests, no_test, test}
+use Rattle.std.proofs.Common.{◌≡◌, ◌∙◌, ◌+◌, Bool, false, true, List, [], ◌∷◌, ap, arith, drop, drop-drop, length, refl, subst}
 use Rattle.std.proofs.Common.{suc, sym}
-use Rattle.std.proofs.Common.{zero, ℕ}
+use Rattle.std.proofs.Common.{ℕ}
 use Rattle.std.specs.List.{prefix_len}
 use Rattle.std.specs.Prelude.{◌-◌, ◌==◌, Some}
 

@@ -4,8 +4,7 @@ use Rattle.drv_syntax.proofs.ItemsRead.{Both, Inner, inner, items_out, levels_bo
 use Rattle.drv_syntax.proofs.Longer.{Filled, refuses_filled}
 use Rattle.drv_syntax.proofs.PartsRead.{Reads}
 use Rattle.drv_syntax.specs.Contexts.{Top, top}
-use Rattle.drv_syntax.specs.Descent as d
-use Rattle.drv_syntax.specs.Descent.{Ends, Read, Stops, Took, levels}
+use Rattle.drv_syntax.specs.Descent.{Ends, Stops, levels}
 use Rattle.drv_syntax.specs.Fronts.{Front}
 use Rattle.drv_syntax.specs.Outcome.{Bad, Cut, Got, Out, Unrefused, depth, outcome, read}
 use Rattle.drv_syntax.specs.Refusals.{IsRefused, Reaches, Refuses}

@@ -61,9 +61,9 @@ returns-clause-begins c b below byte =
 
     later : c.args.place < c.loop-at.at
     later = elim c.loop-at-test.branch [
-      | then-loop-at-test+else-is_byte_at w ↦ later_part c.args.tokens.now c.self.inside.words.now c.self.inside.marks.now c.args.place c.loop-at.at _
-          c.loop-at.stop b _ _ c.loop-at.invariant.later c.loop-at.invariant.stop within.0 within.1 refl c.self.invariant
-          (w.if-is_byte_at.ensures.other refl)
+      | then-loop-at-test+else-is_byte_at w ↦ later_part c.args.tokens.now c.self.inside.words.now c.self.inside.marks.now
+          c.args.place c.loop-at.at _ c.loop-at.stop b _ _ c.loop-at.invariant.later c.loop-at.invariant.stop within.0 within.1 refl
+          c.self.invariant (w.if-is_byte_at.ensures.other refl)
           (subst (λ labels. IsByte c.args.tokens.now labels c.args.place b) (sym c.self.view_is) byte)
       | else-loop-at-test w ↦ omega (arith, w.loop-at-test.false, c.if-place-last.false)
     ]
