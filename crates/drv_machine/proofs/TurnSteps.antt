@@ -86,16 +86,6 @@ module _ (text : List ℕ) (w : Walk) (item : AtItem text w) (token : Token)
   pub inner_later : Lain text w → w.at + 1 ≤ token.next
   inner_later lain = let inner = inner_there lain in stand_grows _ _ (w.at + 1) inner.nodes token.next inner.stands
 
-  -- the parts after the item are items of the innermost part
-  pub lain_after : Lain text w → Lain text (record w { at = token.next })
-  lain_after lain =
-      let r = reached text w.at lain.rest w.end item.before_end item.no_alternative lain.lies in
-      record {
-        rest = r.others;
-        lies = subst (λ (k : ℕ). Lies text k r.others w.end)
-            (sym (next_at text w.at token (kind_of r.item) (label_of r.item) r.next there r.part)) r.following;
-      }
-
   -- what is left of the walk gives `given`
   module _ (F : Facts) (C : Context) (s : Machine) (given : Answer (Unit {0} × Machine)) (left : Left F C text w s given) where
     -- the item that is reached, and what `Left` says is left after it

@@ -233,6 +233,33 @@ impl Machine {
         Ok(())
     }
 
+    /// A byte goes into the open word, or opens one. Lack of memory is the only error.
+    fn put_byte(&mut self, byte: u8) -> Result<(), AllocError>
+        ensures does { (F : Facts) (C : specs.Context) → OnOk result
+            (run F C self.old (step.bytes (byte ∷ [])) ≡ Is (Ok (tt, self.new))) }
+        ensures sized { length self.new.world.hidden ≡ length self.old.world.hidden }
+        ensures uncounted { OnOk result (self.new.world.items ≡ self.old.world.items) }
+    {
+        self.word.push(byte)?;
+        self.is_open = true;
+        self.is_stray |= self.is_piped;
+        Ok(())
+    }
+
+    /// The bytes of an item go into the open word, or open one: mostly one byte, which has a
+    /// shorter path. Lack of memory is the only error.
+    pub(crate) fn put_item(&mut self, bytes: &[u8]) -> Result<(), AllocError>
+        ensures does { (F : Facts) (C : specs.Context) → OnOk result
+            (run F C self.old (step.bytes bytes.now) ≡ Is (Ok (tt, self.new))) }
+        ensures sized { length self.new.world.hidden ≡ length self.old.world.hidden }
+        ensures uncounted { OnOk result (self.new.world.items ≡ self.old.world.items) }
+    {
+        if bytes.len() == 1 {
+            return self.put_byte(bytes[0]);
+        }
+        self.put_bytes(bytes)
+    }
+
     /// The bytes of plain items go into the open word, or open one. Each counts, but for the first,
     /// which was counted. Lack of memory is the only error.
     pub(crate) fn put_run(&mut self, run: &[u8]) -> Result<(), AllocError>

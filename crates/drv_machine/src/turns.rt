@@ -12,12 +12,16 @@ ghost use Rattle.drv_machine.specs.Code.Walking.{hits_left, text_around, weight}
 ghost use Rattle.drv_machine.specs.Code.PlainRuns.{AtByte};
 ghost use Rattle.drv_machine.specs.Working.{Answer, counted, most_items, most_open};
 ghost use Rattle.drv_syntax.specs.Parsed.{tree_of};
+ghost use Rattle.drv_syntax.specs.Tokens.{tokens_of};
 ghost use Rattle.drv_syntax.specs.Tree as tree;
+ghost use Rattle.drv_syntax.specs.declared.token.Token.{Token};
+ghost use Rattle.drv_syntax.specs.declared.token.TokenKind.TheVariants as kinds;
 ghost use Rattle.drv_system.specs.Asking.{Extends};
 ghost use Rattle.drv_system.specs.Facts.{Facts};
 ghost use Rattle.drv_system.specs.Gives.{GivesKnown};
 ghost use Rattle.drv_system.specs.Known.{Is};
-ghost use Rattle.std.specs.Prelude.{◌≡◌, ◌+◌, ◌-◌, ◌<◌, ◌≤◌, [], IfOk, IsTrue, Ok, OnOk, length};
+ghost use Rattle.std.specs.Prelude.{◌≡◌, ◌+◌, ◌-◌, ◌<◌, ◌≤◌, [], IfOk, IsTrue, Ok, OnOk, Some};
+ghost use Rattle.std.specs.Prelude.{length, slice_get};
 
 use crate::braces::{answer, choose};
 use crate::calling::open_call;
@@ -171,6 +175,17 @@ fn settle<S: System>(
     Ok(true)
 }
 
+/// Whether a plain byte is at this place, before this end.
+#[inline(always)]
+fn has_byte(text: &SpecTree, at: usize, end: usize) -> bool
+    ensures before { IsTrue result → at < end }
+    ensures plain { IsTrue result → (token : Token) × (slice_get (tokens_of (tree_of text.now)) at
+        ≡ Some token) × (token.kind ≡ kinds.Plain) }
+{
+    let tokens = text.tokens();
+    at < end && at < tokens.len() && matches!(tokens[at].kind, TokenKind::Plain)
+}
+
 /// Works the plain bytes from the place that is reached, up to another item or the end of the
 /// innermost part, as many as may be reached. The first was counted.
 #[inline(never)]
@@ -236,7 +251,14 @@ fn turn<'w, S: System>(
         TokenKind::ArgumentsFile => {
             work_filed(text, context, at + 1, next, walk, machine, outside)
         }
-        TokenKind::Plain => work_run(text, walk, machine),
+        TokenKind::Plain => {
+            if has_byte(text, next, walk.end) {
+                return work_run(text, walk, machine);
+            }
+            walk.at = next;
+            machine.put_item(text.word(at))?;
+            Ok(())
+        }
         _ => {
             walk.at = next;
             work_item(text, context, at, token, walk.star, machine, outside)

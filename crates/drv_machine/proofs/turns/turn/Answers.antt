@@ -1,9 +1,9 @@
 use Rattle.drv_machine.proofs.Onward.{went_in}
 use Rattle.drv_machine.proofs.TurnSteps.{at_place, inner_later, inner_there, turn_builtin, turn_choose, turn_failure, turn_filed}
-use Rattle.drv_machine.proofs.TurnSteps.{turn_function, turn_item, turn_text, turn_uncounted}
+use Rattle.drv_machine.proofs.TurnSteps.{turn_function, turn_item, turn_plain, turn_text, turn_uncounted}
 use Rattle.drv_machine.proofs.turns.turn.Goals as goal
 use Rattle.drv_machine.specs.declared.walk.Walk.{Walk}
-use Rattle.std.proofs.Common.{ap, arith, rules}
+use Rattle.std.proofs.Common.{Ok, ap, arith, rules}
 
 -- turn (src/turns.rt). Works the item that is reached.
 
@@ -36,6 +36,9 @@ work_run-requires-clause-at_byte g c = record {
   there = c.token_at-token.ensures;
   plain = c.in-Plain.is;
 }
+
+pub word-requires-in-Plain : goal.word-requires-in-Plain
+word-requires-in-Plain g c = at_place c.args.walk.now.text.now c.args.walk.now c.requires.lain c.requires.at_item
 
 pub word-requires : goal.word-requires
 word-requires g c = at_place c.args.walk.now.text.now c.args.walk.now c.requires.lain c.requires.at_item
@@ -99,11 +102,18 @@ returns-in_default-clause-does g c F e given left =
     (c.in_ok-count.ensures.does F c.args.context.now) c.work_item.result c.work_item.new.machine
     (λ levels inner means. c.work_item.ensures.does F e levels inner means)
 
-pub returns-in-Plain-clause-does : goal.returns-in-Plain-clause-does
-returns-in-Plain-clause-does g c F e given left =
+pub returns-then-has_byte-clause-does : goal.returns-then-has_byte-clause-does
+returns-then-has_byte-clause-does g c F e given left =
     went_in F c.args.context.now c.args.walk.now.text.now c.work_run.new.walk.text.now c.work_run.new.walk c.work_run.new.machine given
     c.work_run.result (ap (λ (w : Walk). w.text.now) c.work_run.ensures.same)
     (c.work_run.ensures.does F c.args.context.now c.args.machine.now given (c.in_ok-count.ensures.does F c.args.context.now) left)
+
+pub returns-in_ok-put_item-in-Plain-clause-does : goal.returns-in_ok-put_item-in-Plain-clause-does
+returns-in_ok-put_item-in-Plain-clause-does g c F e given left =
+    turn_plain c.args.walk.now.text.now c.args.walk.now c.requires.at_item c.token_at-token.result c.token_at-token.ensures F
+    c.args.context.now c.args.machine.now given left c.count.new.self
+    (c.in_ok-count.ensures.does F c.args.context.now) c.in-Plain.is c.word-in-Plain.result.now c.word-in-Plain.ensures
+    (Ok tt) c.put_item.new.self (c.in_ok-put_item-in-Plain.ensures.does F c.args.context.now)
 
 pub returns-in-NamedText-clause-does : goal.returns-in-NamedText-clause-does
 returns-in-NamedText-clause-does g c F e given left =
