@@ -18,10 +18,12 @@ use Rattle.std.specs.Prelude.{get_or, is_some}
 abbrev pub after_text : List ℕ → Known (List ℕ) → Known (List ℕ)
 after_text done others = others >>= λ lines. Is (done ++ lines)
 
+-- `absent` begins with no text: all of it is still to come
 pub text_begins : (others : Known (List ℕ)) → after_text [] others ≡ others
 text_begins Unasked = refl
 text_begins (Is lines) = refl
 
+-- a line that it adds is the first of what was still to come
 text_further : (done after line : List ℕ) (others : Known (List ℕ)) → after ≡ done ++ line
     → after_text after others ≡ after_text done (others >>= λ lines. Is (line ++ lines))
 text_further done after line Unasked is = refl
@@ -48,6 +50,7 @@ set_objects F name inputs value (Err e) known some is = tt
 set_objects F name inputs None (Ok text) known some is = absurd (false≢true some)
 set_objects F name inputs (Some set) (Ok text) known some is = ap (λ v. v >>= λ w. objection_by F name inputs w) known ∙ ap Is (sym is)
 
+-- `objection` goes on to the inputs where the variable is not set
 pub unset_objects : {E : Type 0} (F : Facts) (name : List ℕ) (inputs : List (List ℕ)) (value : Option (List ℕ)) (result : Result (List ℕ) E)
     → asked (variable_of F (codes "GCC_EXEC_PREFIX")) ≡ Is value → is_some value ≡ false
     → IfOk result (λ text. absent_of F name inputs ≡ Is text)
@@ -106,10 +109,12 @@ reaches_none path inputs i before so past (events, is, so_far) = (
 
 -- an output
 
+-- `overwrites` asks the host nothing for a line without an output,
 pub none_written : (inputs : List (List ℕ)) (given : Option (List ℕ)) (notes : List HostEvent) → given ≡ None
     → Noted notes notes (λ events. Overwrites inputs given events false)
 none_written inputs given notes none = ([], sym (append-nil notes), subst (λ o. Overwrites inputs o [] false) (sym none) no_output)
 
+-- one thing for an output that is not there,
 pub new_written : (inputs : List (List ℕ)) (given : Option (List ℕ)) (output : List ℕ) (found : Option (List ℕ))
     (before after : List HostEvent) → given ≡ Some output → found ≡ None
     → after ≡ before ++ Resolved output found ∷ [] → Noted before after (λ events. Overwrites inputs given events false)
@@ -119,6 +124,7 @@ new_written inputs given output found before after some none grown = (
   subst (λ o. Overwrites inputs o (Resolved output None ∷ []) false) (sym some) new_output,
 )
 
+-- and else for the inputs too, whose answer it hands on
 pub old_written : {E : Type 0} (inputs : List (List ℕ)) (given : Option (List ℕ)) (output path : List ℕ) (found : Option (List ℕ))
     (before mid after : List HostEvent) (result : Result Bool E)
     → given ≡ Some output → found ≡ Some path → mid ≡ before ++ Resolved output found ∷ []

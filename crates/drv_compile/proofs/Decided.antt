@@ -17,6 +17,7 @@ use Rattle.std.proofs.Common.{◌≡◌, ◌∙◌, Err, IfOk, List, Ok, Option,
 
 -- For `decided`: what was asked, one thing after another, gives the decision.
 
+-- `file_of_variable` asks for the variable by a word that it makes of its name
 pub named_by_variable : {E : Type 0} (F : Facts) (name : List ℕ) (value : Option (List ℕ)) (result : Result (Option (List ℕ)) E)
     → name ≡ codes "GDRV_CC_SPECS" → variable_of F name ≡ Some value → IfOk result (λ path. path ≡ given_by value)
     → IfOk result (λ path. file_of_variable F ≡ Is path)
@@ -24,6 +25,7 @@ named_by_variable F name value (Err e) named known is = tt
 named_by_variable F name value (Ok path) named known is =
     ap (λ v. asked v >>= λ w. Is (given_by w)) (ap (variable_of F) (sym named) ∙ known) ∙ ap Is (sym is)
 
+-- `texts_asked` asks whether the part for a line is there, and then whether the file that it takes is whole
 pub texts_found : {E : Type 0} (F : Facts) (specs : List ℕ) (items : List Item) (stages : Stages) (part path : List ℕ) (kind : PathKind)
     (result : Result Texts E)
     → part ≡ texts_for specs items stages → kind_of F part ≡ Some kind → path ≡ texts_or specs part kind
@@ -34,6 +36,7 @@ texts_found F specs items stages part path kind (Ok texts) part_is known path_is
     ∙ ap (λ k. asked k >>= λ k'. texts_at F (texts_or specs part k')) known
     ∙ ap (texts_at F) (sym path_is) ∙ is
 
+-- `decided_around` reads the line by the bytes of the spec file's path, and decides by what it read
 pub around_read : {E : Type 0} (F : Facts) (specs slice : List ℕ) (words : List (List ℕ)) (around : Surroundings) (reading : Option Reading)
     (result : Result Decision E)
     → slice ≡ specs → line_read F slice around words ≡ Is reading → IfOk result (λ decision. decision ≡ of_reading specs around reading)
@@ -42,6 +45,7 @@ around_read F specs slice words around reading (Err e) same read is = tt
 around_read F specs slice words around reading (Ok decision) same read is =
     ap (λ k. k >>= λ r. Is (of_reading specs around r)) (ap (λ s. line_read F s around words) (sym same) ∙ read) ∙ ap Is (sym is)
 
+-- `decided_by` asks for two variables, and hands on where the compiler looks
 pub compiler_given : {E : Type 0} (F : Facts) (specs : List ℕ) (words : List (List ℕ)) (text : List ℕ) (given : Option (List ℕ))
     (compiler : List ℕ) (folders : List (List ℕ))
     (programs libraries : Option (List ℕ)) (result : Result Decision E)
@@ -58,6 +62,7 @@ compiler_given F specs words text given compiler folders programs libraries (Ok 
     ∙ ap (λ f. decided_around F specs words (surroundings compiler f programs libraries)) (sym folders_are)
     ∙ is
 
+-- `decided_with` reads the file that names the compiler, by the bytes of the spec file's path
 pub specs_given : {E : Type 0} (F : Facts) (own : Option (List ℕ)) (words : List (List ℕ)) (found : Option (List ℕ)) (specs slice : List ℕ)
     (text : Option (List ℕ)) (result : Result Decision E)
     → found ≡ Some specs → slice ≡ specs → written_beside F slice (codes ".gcc") ≡ Is text
@@ -68,6 +73,7 @@ specs_given F own words found specs slice text (Ok decision) some same written i
     ap (decided_with F own words) some
     ∙ ap (λ k. k >>= λ t. decided_over F specs words t) (ap (λ s. written_beside F s (codes ".gcc")) (sym same) ∙ written) ∙ is
 
+-- `decided` takes its own place twice, since the look for the spec file uses the first copy up
 pub decided_so : {E : Type 0} (F : Facts) (own : Option (List ℕ)) (words : List (List ℕ)) (place found again : Option (List ℕ))
     (result : Result Decision E)
     → place ≡ own → spec_file F place ≡ Is found → again ≡ own

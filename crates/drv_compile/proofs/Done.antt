@@ -43,6 +43,7 @@ pub record Setting (at : ℕ) (children : List Variable) (i : ℕ) (before so : 
   pub grown : so ≡ before ++ events
   pub rest : events ++ settings at (drop i children) ≡ settings at children
 
+-- `set_children` sets one variable more,
 pub set_more : (at : ℕ) (children : List Variable) (i : ℕ) (variable : Variable) (at' : ℕ) (before so after : List HostEvent)
     → i < length children
     → variable ≡ get_or children i variable → at' ≡ at → after ≡ so ++ Set at' variable ∷ [] → Setting at children i before so
@@ -58,9 +59,11 @@ set_more at children i variable at' before so after below here same grown settin
       (drop_more children i variable below ∙ ap (λ v. v ∷ drop (i + 1) children) (sym here))) ∙ setting.rest;
 }
 
+-- none at first,
 pub none_set : (at : ℕ) (children : List Variable) (before : List HostEvent) → Setting at children 0 before before
 none_set at children before = record { events = []; grown = sym (append-nil before); rest = refl }
 
+-- all at the end,
 pub all_set : (at : ℕ) (children : List Variable) (i : ℕ) (before so : List HostEvent) → length children ≤ i
     → Setting at children i before so
     → Noted before so (λ events. events ≡ settings at children)
@@ -70,6 +73,7 @@ all_set at children i before so past setting = (
   sym (append-nil setting.events) ∙ ap (λ xs. setting.events ++ settings at xs) (sym (drop_all i children past)) ∙ setting.rest,
 )
 
+-- and some where memory lacked: then nothing is said of them
 pub some_set : {X E : Type 0} (at : ℕ) (children : List Variable) (i : ℕ) (before so after : List HostEvent) (result : Result X E)
     (what : E → Type 0)
     → Setting at children i before so → after ≡ so → IsErrAnd result what
@@ -79,16 +83,19 @@ some_set at children i before so after (Err e) what setting same is = (setting.e
 
 -- a text after a work
 
+-- `closed` says no text where it has none,
 pub nothing_closed : (journal : List Event) (text : List ℕ) (status : ℕ) → length text ≤ 0
     → IsClosed journal journal text status (Done status)
 nothing_closed journal [] status none = ([], sym (append-nil journal), closed)
 nothing_closed journal (b ∷ text) status none = absurd (omega (arith, none))
 
+-- the whole text where it has one,
 pub text_closed : (journal journal' : List Event) (text : List ℕ) (status : ℕ) (answer : TellAnswer) → 0 < length text
     → journal' ≡ journal ++ Say text answer ∷ [] → IsClosed journal journal' text status (Done status)
 text_closed journal journal' [] status answer some says = absurd (omega (arith, some))
 text_closed journal journal' (b ∷ text) status answer some says = (Say (b ∷ text) answer ∷ [], says, noted)
 
+-- and nothing where memory lacked for it, as the outcome says
 pub text_unclosed : (journal journal' : List Event) (text : List ℕ) (status : ℕ) → 0 < length text → journal' ≡ journal
     → IsClosed journal journal' text status (Unnoted status)
 text_unclosed journal journal' [] status some same = absurd (omega (arith, some))
@@ -112,21 +119,25 @@ after_all prepared shown journal before same =
 
 -- no pipe is pending after a text
 
+-- a text that is said starts nothing,
 pub no_pipe_after_text : (journal journal' : List Event) (text : List ℕ) (told : TellAnswer) → journal' ≡ journal ++ Say text told ∷ []
     → pipe_pending (run_of journal) ≡ false → pipe_pending (run_of journal') ≡ false
 no_pipe_after_text journal journal' text told says before = no_pipe_after_texts journal journal' (Say text told ∷ [], says, tt) before
 
+-- and a journal that is the same has no other runs
 pub no_pipe_in_same : (journal journal' : List Event) → journal' ≡ journal → pipe_pending (run_of journal) ≡ false
     → pipe_pending (run_of journal') ≡ false
 no_pipe_in_same journal journal' same before = ap (λ j. pipe_pending (run_of j)) same ∙ before
 
 -- a work, and the hint or the remark after it
 
+-- `done` counts the events before a work: `noted` may look behind them, since the journal only grows
 pub longer_than : (shown journal journal' : List Event) (name : List ℕ) (prepared : Prepared) (status : ℕ) → shown ≡ journal
     → DoesWork name journal journal' prepared.work status → length shown ≤ length journal'
 longer_than shown journal journal' name prepared status same does =
     let first = ap length same in let grown = ap length does.1 ∙ length-append journal does.0 in omega (arith, first, grown)
 
+-- a work, and what is said after it, make one list of events
 by_note : (name : List ℕ) (journal journal' journal'' : List Event) (prepared : Prepared) (status : ℕ) (outcome : Outcome)
     → DoesWork name journal journal' prepared.work status
     → Noting journal' journal'' (length journal) prepared status outcome → DoesNoted name journal journal'' prepared outcome
@@ -141,16 +152,19 @@ by_note name journal journal' journal'' prepared status outcome does notes = rec
       (ap (drop (length journal)) does.1 ∙ drop-append_seam journal does.0) notes.2;
 }
 
+-- an outcome after a work: it is no lack of memory
 abbrev pub IsEnd : Outcome → Type 0
 IsEnd OutOfMemory = ⊥
 IsEnd (Done status) = ⊤
 IsEnd (Unnoted status) = ⊤
 
+-- `closed` ends so
 is_end : {status : ℕ} {text : List ℕ} {outcome : Outcome} {events : List Event} → Closes status text outcome events → IsEnd outcome
 is_end closed = tt
 is_end noted = tt
 is_end unnoted = tt
 
+-- `done` does its work whole where it says something after it
 pub work_noted : (name : List ℕ) (journal journal' journal'' : List Event) (prepared : Prepared) (status before : ℕ) (outcome : Outcome)
     → before ≡ length journal
     → DoesWork name journal journal' prepared.work status → Noting journal' journal'' before prepared status outcome
@@ -165,29 +179,35 @@ work_noted name journal journal' journal'' prepared status before (Unnoted code)
 
 -- after a text
 
+-- `is_empty` says that a text has no bytes,
 pub no_bytes : (text : List ℕ) (empty : Bool) → (IsTrue empty ↔ (text ≡ [])) → empty ≡ true → length text ≤ 0
 no_bytes text empty means is = let none = ap length (means.0 is) in omega (arith, none)
 
+-- or that it has some
 pub some_bytes : (text : List ℕ) (empty : Bool) → (IsTrue empty ↔ (text ≡ [])) → empty ≡ false → 0 < length text
 some_bytes [] empty means is = absurd (false≢true (sym is ∙ means.1 refl))
 some_bytes (b ∷ text) empty means is = omega (arith)
 
+-- `opened` says nothing where it has no text,
 pub nothing_opened : (journal : List Event) (said : List ℕ) → length said ≤ 0 → IsOpened journal journal said
 nothing_opened journal [] none = ([], silent, sym (append-nil journal))
 nothing_opened journal (b ∷ said) none = absurd (omega (arith, none))
 
+-- and the whole text where it has one
 pub text_opened : (journal journal' : List Event) (said : List ℕ) (answer : TellAnswer) → 0 < length said
     → journal' ≡ journal ++ Say said answer ∷ []
     → IsOpened journal journal' said
 text_opened journal journal' [] answer some says = absurd (omega (arith, some))
 text_opened journal journal' (b ∷ said) answer some says = (Say (b ∷ said) answer ∷ [], spoken, says)
 
+-- a call that only said texts after a first one only said texts
 only_says_more : {said : List ℕ} {opened : List Event} → Opens said opened → (journal journal' : List Event)
     → OnlySays (journal ++ opened) journal' → OnlySays journal journal'
 only_says_more silent journal journal' only = subst (λ j. OnlySays j journal') (append-nil journal) only
 only_says_more (spoken {b} {text} {told}) journal journal' (said, grown, are) =
     (Say (b ∷ text) told ∷ said, grown ∙ append_assoc journal (Say (b ∷ text) told ∷ []) said, are)
 
+-- `spoken` does the work after the text, or ends where memory lacked
 pub work_spoken : (name : List ℕ) (journal journal' journal'' : List Event) (prepared : Prepared) (said : List ℕ) (outcome : Outcome)
     → said ≡ prepared.said
     → IsOpened journal journal' said → Worked name journal' journal'' prepared outcome → Spoken name journal journal'' prepared outcome
@@ -200,6 +220,7 @@ work_spoken name journal journal' journal'' prepared said (Unnoted status) same 
 
 -- after its variables were set
 
+-- `carried_out` hands on what was done after all variables were set,
 pub carried : (name : List ℕ) (journal journal' journal'' : List Event) (prepared : Prepared) (children : List Variable)
     (before after : List HostEvent) (outcome : Outcome)
     → children ≡ prepared.children → Noted before after (λ events. events ≡ settings (length journal) children) → journal' ≡ journal
@@ -212,6 +233,7 @@ carried name journal journal' journal'' prepared children before after (Done sta
 carried name journal journal' journal'' prepared children before after (Unnoted status) are (events, grown, set) same does =
     (events, grown, (set ∙ ap (settings (length journal)) are, subst (λ j. OpensWork name j journal'' prepared (Unnoted status)) same does))
 
+-- and did nothing where memory lacked for one of them
 pub nothing_carried : (name : List ℕ) (journal journal' : List Event) (prepared : Prepared) (before after : List HostEvent)
     → Noted before after (λ events. ⊤) → journal' ≡ journal
     → Noted before after (λ events. Carried name journal journal' prepared events OutOfMemory)
@@ -220,9 +242,11 @@ nothing_carried name journal journal' prepared before after (events, grown, set)
 
 -- the whole call
 
+-- `prepare` holds for all facts that say what the table says
 abbrev pub Prepares : Facts → Calling → Option (List ℕ) → List (List ℕ) → ℕ → Prepared → List HostEvent → Type 0
 Prepares F' calling own args seed prepared events = (G : Facts) → Extends F' G → Comes G calling own args seed events prepared
 
+-- the events of all steps make the journal and the notes of the call
 with_notes : {journal mid journal'' : List Event} {F' : Facts} {first notes notes' notes'' : List HostEvent} (calling : Calling)
     (own : Option (List ℕ)) (args : List (List ℕ)) (seed : ℕ)
     (prepared : Prepared) (outcome : Outcome) → Going journal mid first notes F'
@@ -251,6 +275,7 @@ with_notes {journal} {F' = F'} calling own args seed prepared outcome before (re
           (worked opened does.did (comes F' (extends_refl F')) opens does.does does.told);
     }
 
+-- `compile_settled` ends as its work does: done, or for lack of memory
 compiled_by : {journal mid journal'' : List Event} {F' : Facts} {first notes notes' notes'' : List HostEvent} (calling : Calling)
     (own : Option (List ℕ)) (args : List (List ℕ)) (seed : ℕ)
     (prepared : Prepared) (outcome : Outcome) → Going journal mid first notes F'
@@ -275,6 +300,7 @@ compiled_by {F' = F'} calling own args seed prepared OutOfMemory before (resolve
   ends = cut_short only.2;
 }
 
+-- it carries out what was prepared, in the name of the call
 pub compiled_done : {journal mid journal'' : List Event} {F' : Facts} {first notes notes' notes'' : List HostEvent} (calling : Calling)
     (own : Option (List ℕ)) (args : List (List ℕ)) (seed : ℕ)
     (prepared : Prepared) (name : List ℕ) (outcome : Outcome) → name ≡ calling.name → Going journal mid first notes F'
@@ -286,9 +312,11 @@ compiled_done {mid = mid} {journal'' = journal''} {notes' = notes'}
     compiled_by calling own args seed prepared outcome before prepares
     (subst (λ n. Noted notes' notes'' (λ events. Carried n mid journal'' prepared events outcome)) named carries)
 
+-- the text that `prepare` refuses with holds for all facts that say what the table says
 abbrev pub Declined : Facts → Calling → Option (List ℕ) → List (List ℕ) → ℕ → Stop → List HostEvent → Type 0
 Declined F' calling own args seed stop events = (G : Facts) → Extends F' G → IfTold stop (Refuses G calling own args seed events)
 
+-- `stopped` says that text with the status 1,
 refusal_said : {journal mid journal'' : List Event} {F' : Facts} {first notes notes' : List HostEvent} (calling : Calling)
     (own : Option (List ℕ)) (args : List (List ℕ)) (seed : ℕ)
     (text : List ℕ) (status : ℕ) → Going journal mid first notes F' → Noted notes notes' (Declined F' calling own args seed (Told text))
@@ -310,6 +338,7 @@ refusal_said {journal} {F' = F'} {first = first} calling own args seed text stat
           (refused (refuses F' (extends_refl F')));
     }
 
+-- and nothing where memory lacked: both are ends of a call
 pub compiled_stopped : {journal mid journal'' : List Event} {F' : Facts} {first notes notes' : List HostEvent} (calling : Calling)
     (own : Option (List ℕ)) (args : List (List ℕ)) (seed : ℕ)
     (stop : Stop) (outcome : Outcome) → Going journal mid first notes F' → Noted notes notes' (Declined F' calling own args seed stop)
@@ -335,6 +364,7 @@ compiled_stopped {journal} {F' = F'} {first = first} calling own args seed stop 
 
 -- memory lacked before
 
+-- `compile` ends without facts where memory lacked for the folder of temporaries
 pub compiled_by_none : {journal mid : List Event} {notes notes' : List HostEvent} (calling : Calling) (own : Option (List ℕ))
     (args : List (List ℕ)) (seed : ℕ)
     → BeginsToGo journal mid notes notes' → Compiled journal mid notes notes' calling own args seed OutOfMemory

@@ -57,23 +57,27 @@ pub text_worked : (found : Known (Result Outcome PlanFault)) (done : Outcome) (w
     → found ≡ Is (Ok done) → worked ≡ of_job done.job → of_outcome found ≡ Is (Ok worked)
 text_worked found done worked is job = ap of_outcome is ∙ ap (λ w. Is (Ok w)) (sym job)
 
+-- `worked_in` makes the context before it works the text in it
 pub context_made : (F : Facts) (set : Set) (text : List ℕ) (line : Line) (prefixes : Prefixes) (context : Context)
     → context ≡ context_of line set prefixes 0
     → worked_along F set text line prefixes ≡ of_outcome (of_text (outcome F context (tree_of text)))
 context_made F set text line prefixes context made = ap (λ c. of_outcome (of_text (outcome F c (tree_of text)))) (sym made)
 
+-- `worked_line` looks for the prefixes of the line that the driver is called with
 pub prefixes_made : (F : Facts) (settings : Settings) (set : Set) (text : List ℕ) (line : Line) (dirs : List (List ℕ)) (prefixes : Prefixes)
     → dirs ≡ settings.prefixes → prefixes_of F dirs ≡ Is prefixes
     → worked_for F settings set text (Ok line) ≡ worked_along F set text line prefixes
 prefixes_made F settings set text line dirs prefixes same known =
     ap (λ d. prefixes_of F d >>= worked_along F set text line) (sym same) ∙ ap (λ k. k >>= worked_along F set text line) known
 
+-- a fault of the plan ends the call, unless it is lack of memory
 by_plan : (fault : PlanFault) (found : Known (Result Outcome PlanFault)) (defined : Ended Worked) → defined ≡ of_outcome found
     → (fault ≡ plan_fault.Memory) ⊎ (found ≡ Is (Err fault))
     → (stopped_by_plan fault ≡ OutOfMemory) ⊎ (defined ≡ Is (Err (stopped_by_plan fault)))
 by_plan fault found defined same (inl memory) = inl (ap stopped_by_plan memory)
 by_plan fault found defined same (inr refused) = inr (same ∙ ap of_outcome refused)
 
+-- so `worked_in` hands it on
 pub text_refused : (found : Known (Result Outcome PlanFault)) (fault : PlanFault) (result : Result Worked Ending)
     → IsErrAnd result (λ e. e ≡ stopped_by_plan fault) → (fault ≡ plan_fault.Memory) ⊎ (found ≡ Is (Err fault))
     → GivesKnown OutOfMemory (λ worked. worked) result (of_outcome found)
@@ -88,6 +92,7 @@ by_args : (fault : ArgsFault) (read : Result Line ArgsFault) (next : Result Line
 by_args fault read next stops (inl memory) = inl (ap stopped_by_args memory)
 by_args fault read next stops (inr refused) = inr (ap next refused ∙ stops)
 
+-- so `worked_for` and `self_worked` hand on the refusal of a line
 pub line_refused : (fault : ArgsFault) (read : Result Line ArgsFault) (next : Result Line ArgsFault → Ended Worked)
     (result : Result Worked Ending) → next (Err fault) ≡ Is (Err (stopped_by_args fault))
     → IsErrAnd result (λ e. e ≡ stopped_by_args fault) → (fault ≡ args_fault.Memory) ⊎ (read ≡ Err fault)
@@ -102,6 +107,7 @@ by_specs : (fault : SpecsFault) (F : Facts) (own : Line) (judged read : Result L
 by_specs fault F own judged read reads (inl memory) = inl (ap stopped_by_specs memory)
 by_specs fault F own judged read reads (inr refused) = inr (ap (worked_of F judged) reads ∙ ap (worked_over F own.settings judged) refused)
 
+-- so `self_worked` hands on the refusal of a spec file
 pub specs_refused : (fault : SpecsFault) (F : Facts) (own : Line) (judged read : Result Line ArgsFault) (result : Result Worked Ending)
     → read ≡ Ok own
     → IsErrAnd result (λ e. e ≡ stopped_by_specs fault) → (fault ≡ specs_fault.Memory) ⊎ (specs_of F own.settings ≡ Is (Err fault))
@@ -109,6 +115,7 @@ pub specs_refused : (fault : SpecsFault) (F : Facts) (own : Line) (judged read :
 specs_refused fault F own judged read result reads is given =
     ends_as (stopped_by_specs fault) result (λ worked. worked) (worked_of F judged read) is (by_specs fault F own judged read reads given)
 
+-- it works the text of the set that was loaded
 pub specs_go : (F : Facts) (own : Line) (set : Set) (judged read : Result Line ArgsFault) → read ≡ Ok own
     → specs_of F own.settings ≡ Is (Ok set)
     → worked_of F judged read ≡ worked_by F own.settings set judged (text_of set (codes "gdrv_self"))
@@ -120,6 +127,7 @@ pub text_there : {T : Type 0} (now : T → List ℕ) (lent : Option T) (text : T
     → option_map now lent ≡ found → lent ≡ Some text → worked_by F settings set line found ≡ worked_for F settings set (now text) line
 text_there now lent text F settings set line found shows is = ap (worked_by F settings set line) (sym shows ∙ ap (option_map now) is)
 
+-- where the set has no such text, the spec files give nothing
 pub no_text : {T : Type 0} (now : T → List ℕ) (lent : Option T) (F : Facts) (settings : Settings) (set : Set) (line : Result Line ArgsFault)
     (found : Option (List ℕ))
     → option_map now lent ≡ found → lent ≡ None → worked_by F settings set line found ≡ Is (Ok Nothing)
@@ -129,6 +137,7 @@ no_text now lent F settings set line found shows is = ap (worked_by F settings s
 abbrev with_names : Surroundings → List ℕ → List (List ℕ) → Given → Option (List ℕ) → List (List ℕ) → Ended (Option Answer)
 with_names around known args given options named = Is (Ok (Some (front_with (unwrap_or options known) named around args given)))
 
+-- `answer_with` takes the names in the line's own spec files with those of the compiler's options
 pub options_given : {E : Type 0} (F : Facts) (specs : List ℕ) (around : Surroundings) (known : List ℕ) (args : List (List ℕ))
     (first : DriverLine) (given : Given)
     (options : Option (List ℕ)) (all : List Item) (named : List (List ℕ)) (names : List ℕ) (slice : List (List ℕ))
@@ -149,6 +158,7 @@ options_given F specs around known args first given options all named names slic
 abbrev after_work : Facts → List ℕ → Surroundings → List ℕ → List (List ℕ) → DriverLine → List Item → Ended (Option Answer)
 after_work F specs around known args first items = answer_after F specs around known args first (self_worked F first items)
 
+-- the end of the work is that of the answer,
 by_work : (F : Facts) (specs : List ℕ) (around : Surroundings) (known : List ℕ) (args : List (List ℕ)) (first : DriverLine)
     (items : List Item) (ending : Ending)
     → items ≡ seen_items known args → (ending ≡ OutOfMemory) ⊎ (self_worked F first items ≡ Is (Err ending))
@@ -157,6 +167,7 @@ by_work F specs around known args first items ending are (inl memory) = inl memo
 by_work F specs around known args first items ending are (inr ends) =
     inr (ap (after_work F specs around known args first) (sym are) ∙ ap (answer_after F specs around known args first) ends)
 
+-- so `answer_of_specs` hands it on,
 pub work_ends : (F : Facts) (specs : List ℕ) (around : Surroundings) (known : List ℕ) (args : List (List ℕ)) (first : DriverLine)
     (items : List Item) (ending : Ending) (result : Result (Option Answer) Ending)
     → items ≡ seen_items known args → IsErrAnd result (λ e. e ≡ ending)
@@ -166,6 +177,7 @@ work_ends F specs around known args first items ending result are is given =
     ends_as ending result (λ answer. answer) (after_work F specs around known args first (seen_items known args)) is
     (by_work F specs around known args first items ending are given)
 
+-- and answers by what was given
 pub work_answers : (F : Facts) (specs : List ℕ) (around : Surroundings) (known : List ℕ) (args : List (List ℕ)) (first : DriverLine)
     (items : List Item) (worked : Worked) (answer : Option Answer)
     → items ≡ seen_items known args → self_worked F first items ≡ Is (Ok worked)

@@ -7,6 +7,7 @@ pub mod Files
 pub mod Given
 pub mod Joined
 pub mod Leading
+pub mod MachineRows
 pub mod Names
 pub mod PlacesNoted
 pub mod Prepared

@@ -1,6 +1,7 @@
 use Rattle.drv_args.specs.declared.items.Item.{Item}
 use Rattle.drv_cc.specs.Front.{answer_of, front_of}
 use Rattle.drv_cc.specs.Items.{items_of}
+use Rattle.drv_cc.specs.UnknownWords.{has_unknown}
 use Rattle.drv_cc.specs.declared.answer.Answer.TheVariants.{Ask, Refuse, Run}
 use Rattle.drv_cc.specs.declared.answer.Answer.{Answer}
 use Rattle.drv_cc.specs.declared.answer.Surroundings.{Surroundings}
@@ -9,7 +10,7 @@ use Rattle.drv_cc.specs.declared.refusal.Refusal.{Refusal}
 use Rattle.drv_compile.specs.Beside.{bytes_read, known_names}
 use Rattle.drv_compile.specs.Code.Naming.{items_at, items_beside, items_named}
 use Rattle.drv_compile.specs.Places.{companion}
-use Rattle.drv_compile.specs.Reading.{answer_names, file_names, files_names, folders_given, has_unknown, items_names, kept, known_answer}
+use Rattle.drv_compile.specs.Reading.{answer_names, file_names, files_names, folders_given, items_names, kept, known_answer}
 use Rattle.drv_compile.specs.Reading.{line_read, names_read, or_by_files, read_beside, read_by, reads_again, refused_answer, specs_given}
 use Rattle.drv_compile.specs.Reading.{unknown_switches}
 use Rattle.drv_compile.specs.Written.{whole_lines}
@@ -34,11 +35,13 @@ use Rattle.std.specs.Prelude.{get_or}
 abbrev pub after_names : List (List ℕ) → Known (List (List ℕ)) → Known (List (List ℕ))
 after_names done others = others >>= λ names. Is (done ++ names)
 
+-- names that are added are the first of those still to come
 following_more : (done after names : List (List ℕ)) (others : Known (List (List ℕ))) → after ≡ done ++ names
     → after_names after others ≡ after_names done (others >>= λ rest. Is (names ++ rest))
 following_more done after names Unasked is = refl
 following_more done after names (Is rest) is = rw (is, append_assoc) refl
 
+-- `files_names` begins with no name
 pub names_begin : (others : Known (List (List ℕ))) → after_names [] others ≡ others
 names_begin Unasked = refl
 names_begin (Is names) = refl
@@ -106,6 +109,7 @@ ended F known around words Ask not_refused = refl
 ended F known around words (Refuse refusals) not_refused = absurd (not_refused refusals refl)
 ended F known around words (Run call) not_refused = refl
 
+-- `known_answer` takes the first answer where that is no refusal,
 pub known_ended : (F : Facts) (known : List ℕ) (around : Surroundings) (words : List (List ℕ)) (items : List Read) (answer : Answer)
     → items ≡ items_of known None words → answer ≡ answer_of [] around items → ((refusals : List Refusal) → answer ≡ Refuse refusals → ⊥)
     → known_answer F known around words ≡ Is answer
@@ -113,6 +117,7 @@ known_ended F known around words items answer items_are is not_refused =
     ap (or_by_files F known around words) (ap (answer_of [] around) (sym items_are) ∙ sym is)
     ∙ ended F known around words answer not_refused
 
+-- and else reads the spec files of the line
 pub known_refused : {E : Type 0} (F : Facts) (known : List ℕ) (around : Surroundings) (words : List (List ℕ)) (items : List Read)
     (answer : Answer)
     (refusals slice : List Refusal) (result : Result Answer E) → items ≡ items_of known None words → answer ≡ answer_of [] around items
@@ -125,20 +130,24 @@ known_refused F known around words items answer refusals slice (Ok a) items_are 
 
 -- with names of options that are known, or without them
 
+-- whether something was asked, and found
 abbrev is_there : {X : Type 0} → Known (Option X) → Bool
 is_there Unasked = false
 is_there (Is None) = false
 is_there (Is (Some x)) = true
 
+-- whether it was asked
 abbrev is_asked : {X : Type 0} → Known X → Bool
 is_asked Unasked = false
 is_asked (Is x) = true
 
+-- what was found, or nothing
 abbrev or_nothing : {X : Type 0} → Known (Option (List X)) → List X
 or_nothing Unasked = []
 or_nothing (Is None) = []
 or_nothing (Is (Some xs)) = xs
 
+-- `items_in` reads the words again by the names in a whole file
 pub whole_named : (words : List (List ℕ)) (answer : ReadAnswer) (text slice : List ℕ) (found : Option (List ℕ)) (names : List ℕ)
     (named : List Read)
     → answer ≡ read_answer.Read text → slice ≡ text → found ≡ whole_lines slice → found ≡ Some names → named ≡ items_of names None words
@@ -147,6 +156,7 @@ whole_named words answer text slice found names named is same seen some named_is
     ap Some named_is ∙ ap (items_named words) (sym some ∙ seen ∙ ap whole_lines same)
     ∙ ap (λ a. items_named words (option_and_then whole_lines (bytes_read a))) (sym is)
 
+-- `items_at` takes that file if it is a plain one
 pub items_read_at : {E : Type 0} (F : Facts) (path : List ℕ) (words : List (List ℕ)) (kind : PathKind) (answer : ReadAnswer)
     (result : Result (Option (List Read)) E)
     → is_plain kind ≡ true → kind_of F path ≡ Some kind → read_of F path ≡ Some answer
@@ -155,12 +165,14 @@ pub items_read_at : {E : Type 0} (F : Facts) (path : List ℕ) (words : List (Li
 items_read_at F path words kind answer (Ok named) plain known read is = rw (known, plain, read, is) refl
 items_read_at F path words kind answer (Err e) plain known read is = tt
 
+-- `items_beside` takes the one beside the spec file
 pub items_known : {E : Type 0} (F : Facts) (specs path : List ℕ) (words : List (List ℕ)) (result : Result (Option (List Read)) E)
     → path ≡ companion specs (codes ".options")
     → IfOk result (λ named. items_at F path words ≡ Is named) → IfOk result (λ named. items_beside F specs words ≡ Is named)
 items_known F specs path words (Ok named) is read = ap (λ p. items_at F p words) (sym is) ∙ read
 items_known F specs path words (Err e) is read = tt
 
+-- `names_kept` reads the names again where the answer needs them, and finds them there
 pub kept_so : (F : Facts) (specs : List ℕ) (answer : Answer) (known : List ℕ) (found : Option (List ℕ)) (names : List ℕ)
     → reads_again answer ≡ true
     → known_names F specs ≡ Is (Some known) → known_names F specs ≡ Is found → names ≡ unwrap_or found [] → names ≡ kept answer known
@@ -170,6 +182,7 @@ kept_so F specs answer known found names reads some is names_are = rw reads (nam
     from_found None = refl
     from_found (Some xs) = refl
 
+-- `read_by` answers by the items that it read with the names,
 pub read_named : (F : Facts) (specs : List ℕ) (around : Surroundings) (words : List (List ℕ)) (named : Option (List Read))
     (items : List Read) (answer : Answer) (names : List ℕ)
     → items_beside F specs words ≡ Is named → named ≡ Some items
@@ -187,6 +200,7 @@ read_named F specs around words named items answer names asked some answers keep
         (answers known (sym (ap or_nothing (there ∙ ap Is some))))
         ∙ ap (λ n. Is (Some (record { known = n; answer = answer }))) (sym (keeps known is))
 
+-- and has no answer where their file is not whole
 pub read_unnamed : (F : Facts) (specs : List ℕ) (around : Surroundings) (words : List (List ℕ)) (named : Option (List Read))
     → items_beside F specs words ≡ Is named → named ≡ None → read_beside F specs around words ≡ Is None
 read_unnamed F specs around words named asked none = by (known_names F specs) asked
@@ -198,19 +212,21 @@ read_unnamed F specs around words named asked none = by (known_names F specs) as
     by (Is (Some known)) is = absurd (false≢true (sym (ap is_there (is ∙ ap Is none))))
 
 -- a line with an unknown word
-pub line_unknown : {E : Type 0} (F : Facts) (specs : List ℕ) (around : Surroundings) (words : List (List ℕ)) (answer : Answer)
+pub line_unknown : {E : Type 0} (F : Facts) (specs : List ℕ) (around : Surroundings) (words : List (List ℕ)) (items : List Read)
     (result : Result (Option Reading) E)
-    → answer ≡ front_of [] [] around words → has_unknown answer ≡ true
+    → items ≡ items_of [] None words → has_unknown items ≡ true
     → IfOk result (λ reading. read_beside F specs around words ≡ Is reading)
     → IfOk result (λ reading. line_read F specs around words ≡ Is reading)
-line_unknown F specs around words answer (Err e) is unknown reading_is = tt
-line_unknown F specs around words answer (Ok reading) is unknown reading_is = rw (ap has_unknown (sym is) ∙ unknown) reading_is
+line_unknown F specs around words items (Err e) are unknown reading_is = tt
+line_unknown F specs around words items (Ok reading) are unknown reading_is =
+    rw (ap has_unknown (sym are) ∙ unknown) reading_is
 
 -- a line without one
-pub line_known : (F : Facts) (specs : List ℕ) (around : Surroundings) (words : List (List ℕ)) (answer : Answer) (known : List ℕ)
-    → answer ≡ front_of [] [] around words → has_unknown answer ≡ false → known ≡ []
+pub line_known : (F : Facts) (specs : List ℕ) (around : Surroundings) (words : List (List ℕ)) (items : List Read) (answer : Answer)
+    (known : List ℕ)
+    → items ≡ items_of [] None words → has_unknown items ≡ false → answer ≡ answer_of [] around items → known ≡ []
     → line_read F specs around words ≡ Is (Some (record { known = known; answer = answer }))
-line_known F specs around words answer known is none empty =
-    rw (ap has_unknown (sym is) ∙ none)
-    (ap (λ a. Is (Some (record { known = []; answer = a }))) (sym is)
+line_known F specs around words items answer known are none is empty =
+    rw (ap has_unknown (sym are) ∙ none)
+    (ap (λ a. Is (Some (record { known = []; answer = a }))) (ap (answer_of [] around) (sym are) ∙ sym is)
     ∙ ap (λ k. Is (Some (record { known = k; answer = answer }))) (sym empty))

@@ -1,8 +1,6 @@
-use Rattle.drv_args.specs.declared.line.Line.{Line}
-use Rattle.drv_args.specs.declared.line.Settings.{Settings}
 use Rattle.drv_check.specs.FaultNotes.{fault_note}
 use Rattle.drv_compile.specs.Notes.{IsNote, IsSaid, NotesPlace}
-use Rattle.drv_compile.specs.Runs.{line_given}
+use Rattle.drv_compile.specs.Reading.{folders_given, specs_given}
 use Rattle.drv_compile.specs.Words.{told_refusal}
 use Rattle.drv_compile.specs.declared.running.DriverLine.{DriverLine}
 use Rattle.drv_run.specs.declared.ending.Refusal.{Refusal}
@@ -14,19 +12,24 @@ use Rattle.std.proofs.Common.{◌≡◌, ◌∙◌, ◌++◌, Err, IfOk, List, O
 
 -- For what is said of a refused line of the driver: the text of the refusal, and where its spec file has the fault.
 
-pub note_of_suffixes : {E : Type 0} (F : Facts) (settings : Settings) (set : Set) (folders names : List (List ℕ))
-    (result : Result (List ℕ) E) → set ≡ suffixes → folders ≡ settings.prefixes → names ≡ settings.specs
-    → IfOk result (λ note. fault_note F set folders names ≡ Is note)
-    → IfOk result (λ note. fault_note F suffixes settings.prefixes settings.specs ≡ Is note)
-note_of_suffixes F settings set folders names (Err e) one two three notes = notes
-note_of_suffixes F settings set folders names (Ok note) one two three notes =
-    ap (λ s. fault_note F s settings.prefixes settings.specs) (sym one) ∙ ap (λ fs. fault_note F set fs settings.specs) (sym two)
-    ∙ ap (λ ns. fault_note F set folders ns) (sym three) ∙ notes
+-- `note_over` loads the files over a copy of the suffixes
+pub note_of_suffixes : {E : Type 0} (F : Facts) (set : Set) (folders names : List (List ℕ)) (result : Result (List ℕ) E)
+    → set ≡ suffixes → IfOk result (λ note. fault_note F set folders names ≡ Is note)
+    → IfOk result (λ note. fault_note F suffixes folders names ≡ Is note)
+note_of_suffixes F set folders names (Err e) same notes = notes
+note_of_suffixes F set folders names (Ok note) same notes = ap (λ s. fault_note F s folders names) (sym same) ∙ notes
 
-pub note_placed : (F : Facts) (given : DriverLine) (line : Line) (note : List ℕ) → line_given given ≡ Ok line
-    → fault_note F suffixes line.settings.prefixes line.settings.specs ≡ Is note → NotesPlace F given note
-note_placed F given line note reads is = (line, reads, is)
+-- `place_noted` takes the files and folders from the items of the line
+pub note_placed : {E : Type 0} (F : Facts) (given : DriverLine) (folders names slice slice' : List (List ℕ)) (result : Result (List ℕ) E)
+    → slice ≡ folders → folders ≡ folders_given given.items → slice' ≡ names → names ≡ specs_given given.items
+    → IfOk result (λ note. fault_note F suffixes slice slice' ≡ Is note)
+    → IfOk result (λ note. NotesPlace F given note)
+note_placed F given folders names slice slice' (Err e) one two three four notes = notes
+note_placed F given folders names slice slice' (Ok note) one two three four notes =
+    ap (λ fs. fault_note F suffixes fs (specs_given given.items)) (sym (one ∙ two)) ∙ ap (fault_note F suffixes slice) (sym (three ∙ four))
+    ∙ notes
 
+-- `said` adds the note to the text
 pub said_with : (F : Facts) (name : List ℕ) (given : DriverLine) (refusal : Refusal) (told note slice text : List ℕ)
     → told ≡ told_refusal name refusal → IsNote F given refusal note → slice ≡ note → text ≡ told ++ slice
     → IsSaid F name given refusal text

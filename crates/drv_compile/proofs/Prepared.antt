@@ -3,11 +3,11 @@ use Rattle.drv_args.specs.declared.line.Expanded.{Expanded}
 use Rattle.drv_cc.specs.declared.answer.Call.{Call}
 use Rattle.drv_cc.specs.declared.answer.Variable.{Variable}
 use Rattle.drv_compile.proofs.Worded.{memory_stops, stop_stays, told_as}
-use Rattle.drv_compile.specs.Code.Preparing.{IsFailure, IsOverwriting, IsPlanned, IsQuestion, IsTaskDone, IsTaskRefused, IsUnplanned}
-use Rattle.drv_compile.specs.Compiles.{Comes, Fails, Performs, Refuses, asks, declines, fails, no_words, objected, overwriting, performs}
-use Rattle.drv_compile.specs.Compiles.{stopped, undriven}
+use Rattle.drv_compile.specs.Code.Preparing.{IsFailure, IsOverwriting, IsPrepared, IsQuestion, IsTaskDone, IsTaskRefused, IsUnplanned}
+use Rattle.drv_compile.specs.Compiles.{Comes, Fails, IsPlanned, Performs, Refuses, asks, declines, drives, fails, handed_on, hands_on}
+use Rattle.drv_compile.specs.Compiles.{no_words, objected, overwriting, performs, stopped, undriven}
 use Rattle.drv_compile.specs.Decides.{decided}
-use Rattle.drv_compile.specs.Driven.{Drives, Undriven}
+use Rattle.drv_compile.specs.Driven.{IsWorker, Undriven}
 use Rattle.drv_compile.specs.Inputs.{Noted, Overwrites, new_output, no_output, objection, old_output}
 use Rattle.drv_compile.specs.Opening.{opening}
 use Rattle.drv_compile.specs.Runs.{Works}
@@ -18,6 +18,8 @@ use Rattle.drv_compile.specs.Wrapper.{wrapper_of}
 use Rattle.drv_compile.specs.declared.calling.Calling.{Calling}
 use Rattle.drv_compile.specs.declared.deciding.Decision.{Decision}
 use Rattle.drv_compile.specs.declared.driving.Driven.{Driven}
+use Rattle.drv_compile.specs.declared.driving.Worker.TheVariants.{Compiler, Driver}
+use Rattle.drv_compile.specs.declared.driving.Worker.{Worker}
 use Rattle.drv_compile.specs.declared.host.HostEvent.{HostEvent}
 use Rattle.drv_compile.specs.declared.preparing.Prepared.{Prepared}
 use Rattle.drv_compile.specs.declared.stop.Stop.TheVariants.{Memory}
@@ -40,12 +42,14 @@ use Rattle.std.specs.Prelude.{MatchResult, is_some}
 pub none_noted : (notes : List HostEvent) (what : List HostEvent → Type 0) → what [] → Noted notes notes what
 none_noted notes what is = ([], sym (append-nil notes), is)
 
+-- what was noted, said in other words
 pub noted_as : (before after : List HostEvent) (what what' : List HostEvent → Type 0)
     → ((events : List HostEvent) → what events → what' events) → Noted before after what → Noted before after what'
 noted_as before after what what' turns (events, grown, is) = (events, grown, turns events is)
 
 -- lack of memory
 
+-- a step that notes what it asked hands on that memory lacked
 pub memory_noted : {X : Type 0} (before after : List HostEvent) (what : List HostEvent → Type 0) (result : Result X Stop)
     (done : List HostEvent → X → Type 0)
     (told : List HostEvent → List ℕ → Type 0) → Noted before after what → IsErrAnd result (λ s. s ≡ Memory)
@@ -55,6 +59,7 @@ memory_noted before after what result done told (events, grown, is) memory =
 
 -- an output that is an input, or none
 
+-- a line without an output overwrites nothing
 none_overwrites : {inputs : List (List ℕ)} {given : Option (List ℕ)} {events : List HostEvent} {found : Bool}
     → Overwrites inputs given events found → given ≡ None → found ≡ false
 none_overwrites no_output none = refl
@@ -64,6 +69,7 @@ none_overwrites (old_output reaches) none = absurd (some_is_none none)
     some_is_none : {path : List ℕ} → Some path ≡ None → ⊥
     some_is_none is = absurd (false≢true (sym (ap is_some is)))
 
+-- `refuse_overwriting` lets pass a line without an output,
 pub no_overwriting : (slice inputs : List (List ℕ)) (given : Option (List ℕ)) (found : Bool) (before after : List HostEvent)
     → slice ≡ inputs → given ≡ None
     → Noted before after (λ events. Overwrites slice given events found)
@@ -75,6 +81,7 @@ no_overwriting slice inputs given found before after same none (events, grown, o
       (subst (λ f. Overwrites slice given events f) (none_overwrites overwrites none) overwrites),
 )
 
+-- and one whose output is no input,
 pub not_overwriting : (slice inputs : List (List ℕ)) (given : Option (List ℕ)) (found : Bool) (before after : List HostEvent)
     → slice ≡ inputs → found ≡ false
     → Noted before after (λ events. Overwrites slice given events found)
@@ -82,6 +89,7 @@ pub not_overwriting : (slice inputs : List (List ℕ)) (given : Option (List ℕ
 not_overwriting slice inputs given found before after same is (events, grown, overwrites) =
     (events, grown, subst (λ xs. Overwrites xs given events false) same (subst (λ f. Overwrites slice given events f) is overwrites))
 
+-- and refuses any other by the name of its output
 pub overwriting_told : (name text output slice : List ℕ) (call : Call) (inputs : List (List ℕ)) (found : Bool)
     (before after : List HostEvent) → call.output ≡ Some output
     → slice ≡ output → inputs ≡ call.inputs → found ≡ true → Noted before after (λ events. Overwrites inputs call.output events found)
@@ -100,33 +108,26 @@ overwriting_told name text output slice call inputs found before after some same
 
 -- the steps of a line
 
-pub fails_planned : (F : Facts) (calling : Calling) (chain : Toolchain) (call : Call) (given : Expanded) (seed : ℕ)
+-- `compilation` carries a line out that nothing speaks against, or refuses it for want of work
+pub fails_planned : (F : Facts) (calling : Calling) (chain : Toolchain) (call : Call) (args : List (List ℕ)) (given : Expanded) (seed : ℕ)
     (events : List HostEvent) (result : Result Prepared Stop)
     → objection F calling.name call.inputs ≡ Is [] → Overwrites call.inputs call.output events false
-    → MatchResult result (λ prepared. IsPlanned F calling chain call given seed prepared)
+    → MatchResult result (λ prepared. IsPrepared F calling chain call args given seed prepared)
     (λ stop. IfTold stop (IsUnplanned F calling chain call given seed))
-    → MatchResult result (λ prepared. Performs F calling chain call given seed events prepared)
+    → MatchResult result (λ prepared. Performs F calling chain call args given seed events prepared)
     (λ stop. IfTold stop (Fails F calling chain call given seed events))
-fails_planned F calling chain call given seed events (Ok prepared) free apart planned =
-    record {
-      driven = planned.driven;
-      free = free;
-      apart = apart;
-      drives = planned.drives;
-      opens = planned.opens;
-      works = planned.works;
-      children = planned.children;
-      wrapper = planned.wrapper;
-      hint = planned.hint;
-      remark = planned.remark;
-    }
-fails_planned F calling chain call given seed events (Err stop) free apart unplanned =
+fails_planned F calling chain call args given seed events (Ok prepared) free apart (inl (driven, works, planned)) =
+    drives free apart works planned
+fails_planned F calling chain call args given seed events (Ok prepared) free apart (inr (options, works, is)) =
+    hands_on free apart works is
+fails_planned F calling chain call args given seed events (Err stop) free apart unplanned =
     told_as stop (IsUnplanned F calling chain call given seed) (Fails F calling chain call given seed events) by unplanned
   where
     by : (text : List ℕ) → IsUnplanned F calling chain call given seed text → Fails F calling chain call given seed events text
     by text (inl un) = undriven free apart un
-    by text (inr (driven, drives, (refusal, stops, said))) = stopped free apart drives stops said
+    by text (inr (driven, works, (refusal, stops, said))) = stopped free apart works stops said
 
+-- `compilation` refuses a line that something speaks against, by that text,
 pub objected_as : (F : Facts) (calling : Calling) (chain : Toolchain) (call : Call) (given : Expanded) (seed : ℕ) (name text : List ℕ)
     (inputs : List (List ℕ)) (found : Bool)
     → name ≡ calling.name → inputs ≡ call.inputs → objection F name inputs ≡ Is text → IsTrue found ↔ (text ≡ []) → found ≡ false
@@ -135,25 +136,27 @@ objected_as F calling chain call given seed name [] inputs found named are is em
 objected_as F calling chain call given seed name (b ∷ text) inputs found named are is empty not =
     objected (ap (objection F calling.name) (sym are) ∙ ap (λ n. objection F n inputs) (sym named) ∙ is)
 
+-- and goes on where no text was made
 pub free_as : (F : Facts) (calling : Calling) (call : Call) (name text : List ℕ) (inputs : List (List ℕ)) (found : Bool)
     → name ≡ calling.name → inputs ≡ call.inputs → objection F name inputs ≡ Is text → IsTrue found ↔ (text ≡ []) → found ≡ true
     → objection F calling.name call.inputs ≡ Is []
 free_as F calling call name text inputs found named are is empty so =
     ap (objection F calling.name) (sym are) ∙ ap (λ n. objection F n inputs) (sym named) ∙ is ∙ ap Is (empty.0 so)
 
-pub overwriting_fails : (calling : Calling) (chain : Toolchain) (name : List ℕ) (call : Call) (given : Expanded) (seed : ℕ) (stop : Stop)
-    (before after : List HostEvent) (result : Result Prepared Stop)
+-- it refuses a line whose output is an input: nothing else spoke against that
+pub overwriting_fails : (calling : Calling) (chain : Toolchain) (name : List ℕ) (call : Call) (args : List (List ℕ)) (given : Expanded)
+    (seed : ℕ) (stop : Stop) (before after : List HostEvent) (result : Result Prepared Stop)
     (knows : Facts → Type 0) → name ≡ calling.name → IsErrAnd result (λ s. s ≡ stop)
     → ((F : Facts) → knows F → objection F calling.name call.inputs ≡ Is [])
     → Noted before after (λ events. IfTold stop (IsOverwriting name call events))
     → Noted before after (λ events. (F : Facts) → knows F
-    → MatchResult result (λ prepared. Performs F calling chain call given seed events prepared)
+    → MatchResult result (λ prepared. Performs F calling chain call args given seed events prepared)
     (λ s. IfTold s (Fails F calling chain call given seed events)))
-overwriting_fails calling chain name call given seed stop before after result knows named is free (events, grown, tells) = (
+overwriting_fails calling chain name call args given seed stop before after result knows named is free (events, grown, tells) = (
   events,
   grown,
   λ F k.
-      stop_stays result stop (λ prepared. Performs F calling chain call given seed events prepared)
+      stop_stays result stop (λ prepared. Performs F calling chain call args given seed events prepared)
       (Fails F calling chain call given seed events) is
       (told_as stop (IsOverwriting name call events) (Fails F calling chain call given seed events) (by F k) tells),
 )
@@ -163,27 +166,28 @@ overwriting_fails calling chain name call given seed stop before after result kn
         subst (λ t. Fails F calling chain call given seed events t) (sym (same_text ∙ ap (λ n. overwritten_text n output) named))
         (overwriting (free F k) some overwrites)
 
-pub performs_noted : (calling : Calling) (chain : Toolchain) (call : Call) (given : Expanded) (seed : ℕ) (before after : List HostEvent)
-    (result : Result Prepared Stop) (knows : Facts → Type 0)
+-- it notes what it asked the host, and carries the line out
+pub performs_noted : (calling : Calling) (chain : Toolchain) (call : Call) (args : List (List ℕ)) (given : Expanded) (seed : ℕ)
+    (before after : List HostEvent) (result : Result Prepared Stop) (knows : Facts → Type 0)
     → ((F : Facts) → knows F → objection F calling.name call.inputs ≡ Is [])
     → Noted before after (λ events. Overwrites call.inputs call.output events false)
-    → ((F : Facts) → knows F → MatchResult result (λ prepared. IsPlanned F calling chain call given seed prepared)
+    → ((F : Facts) → knows F → MatchResult result (λ prepared. IsPrepared F calling chain call args given seed prepared)
     (λ stop. IfTold stop (IsUnplanned F calling chain call given seed)))
     → Noted before after (λ events. (F : Facts) → knows F
-    → MatchResult result (λ prepared. Performs F calling chain call given seed events prepared)
+    → MatchResult result (λ prepared. Performs F calling chain call args given seed events prepared)
     (λ s. IfTold s (Fails F calling chain call given seed events)))
-performs_noted calling chain call given seed before after result knows free (events, grown, apart) plans =
-    (events, grown, λ F k. fails_planned F calling chain call given seed events result (free F k) apart (plans F k))
+performs_noted calling chain call args given seed before after result knows free (events, grown, apart) plans =
+    (events, grown, λ F k. fails_planned F calling chain call args given seed events result (free F k) apart (plans F k))
 
 -- the work of a line
 
-pub planned_so : (F : Facts) (calling : Calling) (chain : Toolchain) (call : Call) (given : Expanded) (seed : ℕ) (driven : Driven)
+-- `planned` makes what is done of the parts of what the driver is called with
+pub planned_so : (F : Facts) (calling : Calling) (chain : Toolchain) (seed : ℕ) (driven : Driven)
     (specs wrapper said hint remark : List ℕ) (items : List Item)
     (children : List Variable) (work : Work) → specs ≡ chain.specs → items ≡ driven.line.items → children ≡ driven.children
-    → Drives F chain call given driven
     → wrapper ≡ wrapper_of items → opening F specs items children ≡ Is said → Works F driven.line seed work
     → hint ≡ gone_text calling.name chain.specs calling.machine → remark ≡ []
-    → IsPlanned F calling chain call given seed (record {
+    → IsPlanned F calling chain driven seed (record {
       work = work;
       children = driven.children;
       wrapper = wrapper;
@@ -192,10 +196,8 @@ pub planned_so : (F : Facts) (calling : Calling) (chain : Toolchain) (call : Cal
           hint;
       remark = remark;
     })
-planned_so F calling chain call given seed driven specs wrapper said hint remark items children work same are set drives wraps opens works
-    hints none = record {
-      driven = driven;
-      drives = drives;
+planned_so F calling chain seed driven specs wrapper said hint remark items children work same are set wraps opens works hints none =
+    record {
       opens =
           sym (ap (λ s. opening F s items children) same ∙ ap (λ w. opening F chain.specs w children) are
           ∙ ap (opening F chain.specs driven.line.items) set) ∙ opens;
@@ -206,28 +208,53 @@ planned_so F calling chain call given seed driven specs wrapper said hint remark
       remark = none;
     }
 
-pub undriven_plan : (F : Facts) (calling : Calling) (chain : Toolchain) (call : Call) (given : Expanded) (seed : ℕ) (stop : Stop)
+-- it refuses a line by the name that it lends
+pub failed_so : (F : Facts) (calling : Calling) (chain : Toolchain) (seed : ℕ) (driven : Driven) (name : List ℕ) (stop : Stop)
     (result : Result Prepared Stop)
+    → name ≡ calling.name → IsErrAnd result (λ s. s ≡ stop) → IfTold stop (IsFailure F name driven.line seed)
+    → MatchResult result (λ prepared. IsPlanned F calling chain driven seed prepared)
+    (λ s. IfTold s (IsFailure F calling.name driven.line seed))
+failed_so F calling chain seed driven name stop result named is tells =
+    stop_stays result stop (λ prepared. IsPlanned F calling chain driven seed prepared) (IsFailure F calling.name driven.line seed) is
+    (subst (λ n. IfTold stop (IsFailure F n driven.line seed)) named tells)
+
+-- `prepared_plan` hands on why nobody carries a line out,
+pub undriven_plan : (F : Facts) (calling : Calling) (chain : Toolchain) (call : Call) (args : List (List ℕ)) (given : Expanded) (seed : ℕ)
+    (stop : Stop) (result : Result Prepared Stop)
     → IsErrAnd result (λ s. s ≡ stop) → IfTold stop (Undriven F calling chain call given)
-    → MatchResult result (λ prepared. IsPlanned F calling chain call given seed prepared)
+    → MatchResult result (λ prepared. IsPrepared F calling chain call args given seed prepared)
     (λ s. IfTold s (IsUnplanned F calling chain call given seed))
-undriven_plan F calling chain call given seed stop result is tells =
-    stop_stays result stop (λ prepared. IsPlanned F calling chain call given seed prepared) (IsUnplanned F calling chain call given seed) is
+undriven_plan F calling chain call args given seed stop result is tells =
+    stop_stays result stop (λ prepared. IsPrepared F calling chain call args given seed prepared) (IsUnplanned F calling chain call given seed)
+    is
     (told_as stop (Undriven F calling chain call given) (IsUnplanned F calling chain call given seed) (λ text un. inl un) tells)
 
-pub failed_plan : (F : Facts) (calling : Calling) (chain : Toolchain) (call : Call) (given : Expanded) (seed : ℕ) (driven : Driven)
-    (name : List ℕ) (stop : Stop) (result : Result Prepared Stop)
-    → name ≡ calling.name → Drives F chain call given driven → IsErrAnd result (λ s. s ≡ stop)
-    → IfTold stop (IsFailure F name driven.line seed)
-    → MatchResult result (λ prepared. IsPlanned F calling chain call given seed prepared)
+-- lets the driver do it,
+pub prepared_by_driver : (F : Facts) (calling : Calling) (chain : Toolchain) (call : Call) (args : List (List ℕ)) (given : Expanded)
+    (seed : ℕ) (worker : Worker) (driven : Driven) (result : Result Prepared Stop)
+    → IsWorker F chain call given worker → worker ≡ Driver driven
+    → MatchResult result (λ prepared. IsPlanned F calling chain driven seed prepared)
+    (λ s. IfTold s (IsFailure F calling.name driven.line seed))
+    → MatchResult result (λ prepared. IsPrepared F calling chain call args given seed prepared)
     (λ s. IfTold s (IsUnplanned F calling chain call given seed))
-failed_plan F calling chain call given seed driven name stop result named drives is tells =
-    stop_stays result stop (λ prepared. IsPlanned F calling chain call given seed prepared) (IsUnplanned F calling chain call given seed) is
-    (told_as stop (IsFailure F name driven.line seed) (IsUnplanned F calling chain call given seed)
-    (λ text un. inr (driven, drives, subst (λ n. IsFailure F n driven.line seed text) named un)) tells)
+prepared_by_driver F calling chain call args given seed worker driven (Ok prepared) works is planned =
+    inl (driven, subst (IsWorker F chain call given) is works, planned)
+prepared_by_driver F calling chain call args given seed worker driven (Err stop) works is tells =
+    told_as stop (IsFailure F calling.name driven.line seed) (IsUnplanned F calling chain call given seed)
+    (λ text un. inr (driven, subst (IsWorker F chain call given) is works, un)) tells
+
+-- or the compiler
+pub prepared_by_compiler : (F : Facts) (calling : Calling) (chain : Toolchain) (call : Call) (args : List (List ℕ)) (given : Expanded)
+    (seed : ℕ) (worker : Worker) (options slice : List ℕ) (prepared : Prepared)
+    → IsWorker F chain call given worker → worker ≡ Compiler options → slice ≡ options
+    → prepared ≡ handed_on calling chain slice args given
+    → IsPrepared F calling chain call args given seed prepared
+prepared_by_compiler F calling chain call args given seed worker options slice prepared works is same hands =
+    inr (options, subst (IsWorker F chain call given) is works, hands ∙ ap (λ o. handed_on calling chain o args given) same)
 
 -- a task
 
+-- `task_prepared` asks the compiler by the bytes of the spec file's path,
 pub question_done : (F : Facts) (calling : Calling) (args : List (List ℕ)) (given : Expanded) (seed : ℕ) (task : Task)
     (specs slice compiler : List ℕ) (prepared : Prepared)
     → task ≡ Question specs compiler → slice ≡ specs → IsQuestion calling slice compiler args prepared
@@ -236,11 +263,12 @@ question_done F calling args given seed task specs slice compiler prepared is sa
     subst (λ t. IsTaskDone F calling args given seed t [] prepared) (sym is)
     (refl, subst (λ s. IsQuestion calling s compiler args prepared) same asked)
 
+-- or carries the line out
 pub compilation_done : (calling : Calling) (args : List (List ℕ)) (given : Expanded) (seed : ℕ) (task : Task) (chain : Toolchain)
     (call : Call) (before after : List HostEvent)
     (result : Result Prepared Stop) (knows : Facts → Type 0) → task ≡ Compilation chain call
     → Noted before after (λ events. (F : Facts) → knows F
-    → MatchResult result (λ prepared. Performs F calling chain call given seed events prepared)
+    → MatchResult result (λ prepared. Performs F calling chain call args given seed events prepared)
     (λ s. IfTold s (Fails F calling chain call given seed events)))
     → Noted before after (λ events. (F : Facts) → knows F
     → MatchResult result (λ prepared. IsTaskDone F calling args given seed task events prepared)
@@ -256,6 +284,7 @@ compilation_done calling args given seed task chain call before after result kno
 
 -- the whole
 
+-- what a task makes of a call is what its words ask for
 pub task_comes : (F : Facts) (calling : Calling) (own : Option (List ℕ)) (args : List (List ℕ)) (seed : ℕ) (words : Expanded)
     (decision : Decision) (task : Task)
     (events : List HostEvent) (result : Result Prepared Stop) → Words F calling args words → decided F own words.words ≡ Is decision
@@ -275,11 +304,13 @@ task_comes F calling own args seed words decision (Compilation chain call) event
     told_as stop (Fails F calling chain call words seed events) (Refuses F calling own args seed events)
     (λ text is. fails gives decides leads is) tells
 
+-- `prepare` hands on why the words are refused,
 pub words_refused : (F : Facts) (calling : Calling) (own : Option (List ℕ)) (args : List (List ℕ)) (seed : ℕ) (stop : Stop)
     → IfTold stop (RefusesWords F calling args) → IfTold stop (Refuses F calling own args seed [])
 words_refused F calling own args seed stop tells =
     told_as stop (RefusesWords F calling args) (Refuses F calling own args seed []) (λ text is. no_words is) tells
 
+-- and why the decision is
 pub decision_declined : (F : Facts) (calling : Calling) (own : Option (List ℕ)) (args : List (List ℕ)) (seed : ℕ) (words : Expanded)
     (decision : Decision) (stop : Stop)
     → Words F calling args words → decided F own words.words ≡ Is decision → IfTold stop (Declines calling decision)
@@ -287,6 +318,7 @@ pub decision_declined : (F : Facts) (calling : Calling) (own : Option (List ℕ)
 decision_declined F calling own args seed words decision stop gives decides tells =
     told_as stop (Declines calling decision) (Refuses F calling own args seed []) (λ text is. declines gives decides is) tells
 
+-- it does the task that the decision leads to
 pub prepares : (calling : Calling) (own : Option (List ℕ)) (args : List (List ℕ)) (seed : ℕ) (words : Expanded) (slice : List (List ℕ))
     (decision : Decision) (task : Task)
     (before after : List HostEvent) (result : Result Prepared Stop) (knows : Facts → Type 0) → slice ≡ words.words
@@ -304,6 +336,7 @@ prepares calling own args seed words slice decision task before after result kno
       (ap (decided F own) (sym same) ∙ decides F k) leads (done F k),
 )
 
+-- words that are refused end it: the host was asked nothing
 pub words_stop : (F : Facts) (calling : Calling) (own : Option (List ℕ)) (args : List (List ℕ)) (seed : ℕ) (stop : Stop)
     (result : Result Prepared Stop) → IsErrAnd result (λ s. s ≡ stop)
     → IfTold stop (RefusesWords F calling args)
@@ -312,6 +345,7 @@ words_stop F calling own args seed stop result is tells =
     stop_stays result stop (λ prepared. Comes F calling own args seed [] prepared) (Refuses F calling own args seed []) is
     (words_refused F calling own args seed stop tells)
 
+-- a decision that leads to no task ends it likewise
 pub decision_stops : (F : Facts) (calling : Calling) (own : Option (List ℕ)) (args : List (List ℕ)) (seed : ℕ) (words : Expanded)
     (slice : List (List ℕ)) (decision : Decision) (stop : Stop)
     (result : Result Prepared Stop) → slice ≡ words.words → Words F calling args words → decided F own slice ≡ Is decision

@@ -31,26 +31,31 @@ Worked F line set seed result = MatchResult result (λ work. IsWorked F line set
 abbrev pub Comes : Facts → DriverLine → ℕ → Result Work Ending → Type 0
 Comes F own seed result = MatchResult result (λ work. Works F own seed work) (λ ending. Stops F own seed ending)
 
+-- a step that fails is the end of `work_of_items`
 ended_as : (F : Facts) (own : DriverLine) (seed : ℕ) (ending : Ending) (result : Result Work Ending) → IsErrAnd result (λ e. e ≡ ending)
     → Stops F own seed ending → Comes F own seed result
 ended_as F own seed ending (Ok work) is stops = absurd is
 ended_as F own seed ending (Err e) is stops = subst (λ e'. Stops F own seed e') (sym is) stops
 
+-- the refusal of a line ends it, or lack of memory,
 args_stop : (F : Facts) (own : DriverLine) (seed : ℕ) (fault : ArgsFault) → (fault ≡ args_fault.Memory) ⊎ (line_given own ≡ Err fault)
     → Stops F own seed (stopped_by_args fault)
 args_stop F own seed fault (inl memory) = subst (λ f. Stops F own seed (stopped_by_args f)) (sym memory) lacks_memory
 args_stop F own seed fault (inr is) = not_read is
 
+-- so it hands on what `line_given` answers
 pub reading_ends : (F : Facts) (own : DriverLine) (seed : ℕ) (fault : ArgsFault) (result : Result Work Ending)
     → IsErrAnd result (λ e. e ≡ stopped_by_args fault)
     → (fault ≡ args_fault.Memory) ⊎ (line_given own ≡ Err fault) → Comes F own seed result
 reading_ends F own seed fault result is given = ended_as F own seed (stopped_by_args fault) result is (args_stop F own seed fault given)
 
+-- the refusal of a spec file ends it, or lack of memory,
 specs_stop : (F : Facts) (own : DriverLine) (seed : ℕ) (line : Line) (fault : SpecsFault) → line_given own ≡ Ok line
     → (fault ≡ specs_fault.Memory) ⊎ (specs_of F line.settings ≡ Is (Err fault)) → Stops F own seed (stopped_by_specs fault)
 specs_stop F own seed line fault reads (inl memory) = subst (λ f. Stops F own seed (stopped_by_specs f)) (sym memory) lacks_memory
 specs_stop F own seed line fault reads (inr is) = not_loaded reads is
 
+-- so it hands on what `specs_of` answers
 pub loading_ends : (F : Facts) (own : DriverLine) (seed : ℕ) (line : Line) (fault : SpecsFault) (result : Result Work Ending)
     → IsErrAnd result (λ e. e ≡ stopped_by_specs fault)
     → line_given own ≡ Ok line → (fault ≡ specs_fault.Memory) ⊎ (specs_of F line.settings ≡ Is (Err fault)) → Comes F own seed result
@@ -59,29 +64,34 @@ loading_ends F own seed line fault result is reads given =
 
 -- several sources with one output, and the plan
 
+-- a step that fails is the end of `line_work`
 unworked_as : (F : Facts) (line : Line) (set : Set) (seed : ℕ) (ending : Ending) (result : Result Work Ending)
     → IsErrAnd result (λ e. e ≡ ending) → IsUnworked F line set seed ending
     → Worked F line set seed result
 unworked_as F line set seed ending (Ok work) is unworked = absurd is
 unworked_as F line set seed ending (Err e) is unworked = subst (λ e'. IsUnworked F line set seed e') (sym is) unworked
 
+-- several sources with one output end it, or lack of memory,
 many_unworked : (F : Facts) (line : Line) (set : Set) (seed : ℕ) (fault : ArgsFault)
     → (fault ≡ args_fault.Memory) ⊎ ((fault ≡ args_fault.OutputWithMany) × (has_several set line ≡ true))
     → IsUnworked F line set seed (stopped_by_args fault)
 many_unworked F line set seed fault (inl memory) = subst (λ f. IsUnworked F line set seed (stopped_by_args f)) (sym memory) no_room
 many_unworked F line set seed fault (inr (is, two)) = subst (λ f. IsUnworked F line set seed (stopped_by_args f)) (sym is) (of_many two)
 
+-- so it hands on what `refuse_several` answers
 pub many_end : (F : Facts) (line : Line) (set : Set) (seed : ℕ) (fault : ArgsFault) (result : Result Work Ending)
     → IsErrAnd result (λ e. e ≡ stopped_by_args fault)
     → (fault ≡ args_fault.Memory) ⊎ ((fault ≡ args_fault.OutputWithMany) × (has_several set line ≡ true)) → Worked F line set seed result
 many_end F line set seed fault result is given = unworked_as F line set seed (stopped_by_args fault) result is
     (many_unworked F line set seed fault given)
 
+-- the refusal of a plan ends it, or lack of memory,
 plan_unworked : (F : Facts) (line : Line) (set : Set) (seed : ℕ) (fault : PlanFault) → has_several set line ≡ false
     → (fault ≡ plan_fault.Memory) ⊎ (work_of F line set seed ≡ Is (Err fault)) → IsUnworked F line set seed (stopped_by_plan fault)
 plan_unworked F line set seed fault single (inl memory) = subst (λ f. IsUnworked F line set seed (stopped_by_plan f)) (sym memory) no_room
 plan_unworked F line set seed fault single (inr is) = of_plan single is
 
+-- so it hands on what `work_of` answers
 pub planning_ends : (F : Facts) (line : Line) (set : Set) (seed : ℕ) (fault : PlanFault) (result : Result Work Ending)
     → IsErrAnd result (λ e. e ≡ stopped_by_plan fault)
     → has_several set line ≡ false → (fault ≡ plan_fault.Memory) ⊎ (work_of F line set seed ≡ Is (Err fault))
@@ -89,6 +99,7 @@ pub planning_ends : (F : Facts) (line : Line) (set : Set) (seed : ℕ) (fault : 
 planning_ends F line set seed fault result is single given =
     unworked_as F line set seed (stopped_by_plan fault) result is (plan_unworked F line set seed fault single given)
 
+-- `work_of_items` hands on what `line_work` makes of a line that was read and a set that was loaded
 pub working_comes : (F : Facts) (own : DriverLine) (seed : ℕ) (line : Line) (set : Set) (result : Result Work Ending)
     → line_given own ≡ Ok line → specs_of F line.settings ≡ Is (Ok set)
     → Worked F line set seed result → Comes F own seed result

@@ -34,6 +34,7 @@ use Rattle.std.specs.Prelude.{◌≢◌, get_or, if◌then◌else◌, is_some}
 
 -- the names
 
+-- `push_named` adds the value of a variable, if it is set,
 pub name_pushed : {X E : Type 0} (F : Facts) (variable : List ℕ) (value : Option (List ℕ)) (before after : List (List ℕ))
     (result : Result X E)
     → asked (variable_of F variable) ≡ Is value → OnOk result (after ≡ before ++ if_set value)
@@ -41,6 +42,7 @@ pub name_pushed : {X E : Type 0} (F : Facts) (variable : List ℕ) (value : Opti
 name_pushed F variable value before after (Err e) is grown = tt
 name_pushed F variable value before after (Ok x) is grown = (if_set value, ap (λ k. k >>= λ v. Is (if_set v)) is, grown)
 
+-- `push_names` adds those of three, and then the usual folders
 pub names_pushed : {X E : Type 0} (F : Facts) (none first second third all : List (List ℕ)) (result : Result X E)
     → Adds (named_by F (codes "TMPDIR")) none first → Adds (named_by F (codes "TMP")) first second
     → Adds (named_by F (codes "TEMP")) second third
@@ -58,16 +60,19 @@ names_pushed F none first second third all (Ok x) (tmpdir, is1, grown1) (tmp, is
     regrouped a b c d e =
         ap (λ n. n ++ d ++ e) (append_assoc a b c) ∙ ap (λ n. n ++ e) (append_assoc a (b ++ c) d) ∙ append_assoc a (b ++ c ++ d) e
 
+-- `folder_names` begins with no name, so it has them all
 pub names_known : (F : Facts) (none all : List (List ℕ)) → none ≡ [] → Adds (folder_names F) none all → folder_names F ≡ Is all
 names_known F none all empty (names, is, grown) = is ∙ ap Is (sym (grown ∙ ap (λ n. n ++ names) empty))
 
 -- one name more
 
+-- `chosen` tried the names so far in vain, and the choice is among the rest
 abbrev pub Choosing : List (List ℕ) → ℕ → List HostEvent → List HostEvent → Type 0
 Choosing names i before so =
     Noted before so (λ events. (more : List HostEvent) (folder : List ℕ) → Chooses (drop i names) more folder
     → Chooses names (events ++ more) folder)
 
+-- it goes on behind a folder that is not usable,
 pub chooses_later : (names : List (List ℕ)) (i : ℕ) (name : List ℕ) (answer : Bool) (before so after : List HostEvent) → i < length names
     → name ≡ get_or names i name
     → answer ≡ false → after ≡ so ++ Tried name answer ∷ [] → Choosing names i before so → Choosing names (i + 1) before after
@@ -83,6 +88,7 @@ chooses_later names i name answer before so after below here says grown (events,
       (unusable chooses))),
 )
 
+-- takes the first one that is,
 pub chooses_it : {E : Type 0} (names : List (List ℕ)) (i : ℕ) (name : List ℕ) (answer : Bool) (before so after : List HostEvent)
     (result : Result (List ℕ) E) → i < length names
     → name ≡ get_or names i name → answer ≡ true → after ≡ so ++ Tried name answer ∷ [] → Choosing names i before so
@@ -104,6 +110,7 @@ chooses_it names i name answer before so after (Ok folder) below here says grown
       (sym (drop_more names i name below ∙ ap (λ x. x ∷ drop (i + 1) names) (sym here))) usable)),
 )
 
+-- and the current folder where none is
 pub chooses_own : {E : Type 0} (names : List (List ℕ)) (i : ℕ) (before so : List HostEvent) (result : Result (List ℕ) E) → length names ≤ i
     → Choosing names i before so
     → IfOk result (λ folder. folder ≡ codes ".") → Noted before so (λ events. IfOk result (λ folder. Chooses names events folder))
@@ -118,12 +125,15 @@ chooses_own names i before so (Ok folder) past (events, is, so_far) same = (
 
 -- the same for what was tried
 
+-- the names so far were tried, and the rest may be
 abbrev pub Trying : List (List ℕ) → ℕ → List HostEvent → List HostEvent → Type 0
 Trying names i before so = Noted before so (λ events. (more : List HostEvent) → Tries (drop i names) more → Tries names (events ++ more))
 
+-- none at first,
 pub tries_none_yet : (names : List (List ℕ)) (before : List HostEvent) → Trying names 0 before before
 tries_none_yet names before = ([], sym (append-nil before), λ more tries. tries)
 
+-- one more in vain,
 pub tries_later : (names : List (List ℕ)) (i : ℕ) (name : List ℕ) (answer : Bool) (before so after : List HostEvent) → i < length names
     → name ≡ get_or names i name
     → answer ≡ false → after ≡ so ++ Tried name answer ∷ [] → Trying names i before so → Trying names (i + 1) before after
@@ -138,6 +148,7 @@ tries_later names i name answer before so after below here says grown (events, i
       (tries_next tries))),
 )
 
+-- one more, after which memory lacked,
 pub tries_it : (names : List (List ℕ)) (i : ℕ) (name : List ℕ) (answer : Bool) (before so after : List HostEvent) → i < length names
     → name ≡ get_or names i name
     → after ≡ so ++ Tried name answer ∷ [] → Trying names i before so → Noted before after (Tries names)
@@ -149,6 +160,7 @@ tries_it names i name answer before so after below here grown (events, is, so_fa
       tries_last),
 )
 
+-- or memory lacked before the next
 pub tries_no_more : (names : List (List ℕ)) (i : ℕ) (before so after : List HostEvent) → after ≡ so → Trying names i before so
     → Noted before after (Tries names)
 tries_no_more names i before so after same (events, is, so_far) =
@@ -163,6 +175,7 @@ chooses_none names i before so after (Err e) what chosen (events, grown, so_far)
 
 -- the folder by its names
 
+-- `folder_asked` chooses among the names that it asked for,
 pub folder_chosen : {E : Type 0} (known : Facts) (names slice : List (List ℕ)) (before after : List HostEvent) (result : Result (List ℕ) E)
     → slice ≡ names
     → ((F : Facts) → Extends known F → folder_names F ≡ Is names)
@@ -172,23 +185,27 @@ folder_chosen known names slice before after (Err e) same told (events, grown, c
 folder_chosen known names slice before after (Ok folder) same told (events, grown, chooses) =
     (events, grown, λ F e. (names, told F e, subst (λ xs. Chooses xs events folder) same chooses))
 
+-- tried some of them where memory lacked,
 pub folder_tried : (known : Facts) (names slice : List (List ℕ)) (before after : List HostEvent) → slice ≡ names
     → ((F : Facts) → Extends known F → folder_names F ≡ Is names) → Noted before after (Tries slice)
     → Noted before after (λ events. (F : Facts) → Extends known F → IsTried F events)
 folder_tried known names slice before after same told (events, grown, tries) =
     (events, grown, λ F e. inr (names, told F e, subst (λ xs. Tries xs events) same tries))
 
+-- or none where it lacked for their names
 pub nothing_tried : (known : Facts) (notes : List HostEvent)
     → Noted notes notes (λ events. (F : Facts) → Extends known F → IsTried F events)
 nothing_tried known notes = ([], sym (append-nil notes), λ F e. inl refl)
 
 -- a table with the folder
 
+-- the table tells a name from another that is not the same
 apart_at : (name key : List ℕ) (same : Bool) → is_at (slice_cmp nat_cmp name) key ≡ same → name ≢ key
     → is_at (slice_cmp nat_cmp name) key ≡ false
 apart_at name key true is apart = absurd (apart (exact_bytes name key ((Equal-is (slice_cmp nat_cmp name key)).0 is)))
 apart_at name key false is apart = is
 
+-- `settle` puts the folder in the place of TMPDIR, and leaves all else as it was
 pub settled_with : (F : Facts) (folder : List ℕ) → IsSettled F folder (with_value F (codes "TMPDIR") (Some folder))
 settled_with F folder = record {
   reads = λ path. refl;
@@ -200,6 +217,7 @@ settled_with F folder = record {
 
 -- one answer more in both
 
+-- a table has the same answers as another where both learn one more
 answers_alike : {Y : Type 0} (gs fs : List (List ℕ × Y)) (key other : List ℕ) (answer : Y) → answer_to gs other ≡ answer_to fs other
     → answer_to (with_answer gs key answer) other ≡ answer_to (with_answer fs key answer) other
 answers_alike gs fs key other answer same =
@@ -207,9 +225,11 @@ answers_alike gs fs key other answer same =
     ∙ ap (λ known. option_or known (if is_at (slice_cmp nat_cmp other) key then Some answer else None)) same
     ∙ sym (answer_to-with_answer fs key other answer)
 
+-- what a table knows is not asked again
 not_new : {X : Type 0} {x : X} {known : Option X} → known ≡ Some x → known ≡ None → ⊥
 not_new had new = absurd (false≢true (sym (ap is_some new) ∙ ap is_some had))
 
+-- an answer that is new to the table with the folder is new to that without it
 settled_learnt : (F G : Facts) (folder : List ℕ) (event : Event) → IsSettled F folder G → IsNew G event
     → IsNew F event × IsSettled (learnt F event) folder (learnt G event)
 settled_learnt F G folder (Read path answer) is new = (
@@ -243,6 +263,7 @@ settled_learnt F G folder (Say text answer) is new = absurd new
 settled_learnt F G folder (Put text answer) is new = absurd new
 settled_learnt F G folder (Run e) is new = absurd new
 
+-- and so are all that follow: no question was asked twice
 settled_learn : (F G : Facts) (folder : List ℕ) (events : List Event) → IsSettled F folder G → AreNew G events
     → AreNew F events × IsSettled (learn F events) folder (learn G events)
 settled_learn F G folder [] is new = (tt, is)
@@ -252,6 +273,7 @@ settled_learn F G folder (event ∷ events) is new =
 
 -- what a call goes by
 
+-- `settle` ends before its first question,
 pub nothing_begun : (journal : List Event) (notes : List HostEvent) → BeginsToGo journal journal notes notes
 nothing_begun journal notes = record {
   asked = [];
@@ -263,6 +285,7 @@ nothing_begun journal notes = record {
   is_tried = inl refl;
 }
 
+-- or before it has a folder: its questions and tries are those of the call
 pub begun : {journal journal' : List Event} {F known : Facts} {notes notes' : List HostEvent} → F ≡ no_facts → Asks journal journal' F known
     → Noted notes notes' (λ events. (G : Facts) → Extends known G → IsTried G events) → BeginsToGo journal journal' notes notes'
 begun {known = known} empty asks (tried, grown, is_tried) =
@@ -275,11 +298,13 @@ begun {known = known} empty asks (tried, grown, is_tried) =
       is_tried = subst (λ G. IsTried G tried) known_is (is_tried known (extends_refl known));
     }
 
+-- then the call goes by no facts
 pub tried_goes : {asked : List Event} {tried : List HostEvent} → IsTried (learn no_facts asked) tried
     → GoesBy asked tried OutOfMemory no_facts
 tried_goes {asked} (inl none) = subst (λ t. GoesBy asked t OutOfMemory no_facts) (sym none) unnamed
 tried_goes (inr (names, known, tries)) = unsettled known tries
 
+-- it has a folder: the call goes by the table with it
 pub going : {journal journal' : List Event} {F known : Facts} {notes notes' : List HostEvent} (folder : List ℕ) (table : Facts)
     → F ≡ no_facts
     → Asks journal journal' F known → Noted notes notes' (λ events. (G : Facts) → Extends known G → IsFolder G events folder)
@@ -297,6 +322,7 @@ going {known = known} folder table empty asks (tried, grown, is_folder) put =
           (subst (λ T. IsSettled known folder T) (sym put) (settled_with known folder));
     }
 
+-- it puts the folder into the table by its own word for TMPDIR
 pub table_settled : {X E : Type 0} {journal journal' : List Event} {F known : Facts} (notes notes' : List HostEvent) (result : Result X E)
     (folder name : List ℕ)
     (before table : Facts) → name ≡ codes "TMPDIR" → before ≡ known → F ≡ no_facts → Asks journal journal' F known
@@ -308,6 +334,7 @@ table_settled notes notes' (Ok x) folder name before table named same empty asks
     going folder table empty asks chosen (put ∙ ap (λ n. with_value before n (Some folder)) named
     ∙ ap (λ K. with_value K (codes "TMPDIR") (Some folder)) same)
 
+-- `compile_settled` asks more, and still goes by that folder
 pub going_further : {journal mid journal' : List Event} {notes notes' : List HostEvent} {G G' : Facts} → Going journal mid notes notes' G
     → Asks mid journal' G G'
     → Going journal journal' notes notes' G'
@@ -327,16 +354,19 @@ going_further {journal} {G = G} {G' = G'} before asks =
           (subst (λ T. IsSettled (learn (learn no_facts before.asked) asks.asked) before.folder T) (sym asks.facts_grow) both.1);
     }
 
+-- a call with a folder goes by it,
 by_folder : {asked : List Event} {tried : List HostEvent} {folder : List ℕ} {G : Facts} {outcome : Outcome}
     → IsFolder (learn no_facts asked) tried folder
     → IsSettled (learn no_facts asked) folder G → GoesBy asked tried outcome G
 by_folder (names, known, chooses) settles = settled known chooses settles
 
+-- and so does each that got so far
 pub goes_by : {journal journal' : List Event} {notes notes' : List HostEvent} {G : Facts} (outcome : Outcome)
     (all : Going journal journal' notes notes' G)
     → GoesBy all.asked all.tried outcome G
 goes_by outcome all = by_folder (all.is_folder (learn no_facts all.asked) (extends_refl (learn no_facts all.asked))) all.settles
 
+-- questions start nothing, so no pipe is pending after `settle`
 pub no_pipe_begun : {journal journal' : List Event} {notes notes' : List HostEvent} → BeginsToGo journal journal' notes notes'
     → pipe_pending (run_of journal) ≡ false
     → pipe_pending (run_of journal') ≡ false

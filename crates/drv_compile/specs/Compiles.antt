@@ -2,21 +2,24 @@ use Rattle.drv_args.specs.declared.line.Expanded.{Expanded}
 use Rattle.drv_cc.specs.declared.answer.Call.{Call}
 use Rattle.drv_cc.specs.declared.answer.Variable.{Variable}
 use Rattle.drv_compile.specs.Decides.{decided}
-use Rattle.drv_compile.specs.Driven.{Drives, Undriven}
+use Rattle.drv_compile.specs.Driven.{IsWorker, Undriven}
 use Rattle.drv_compile.specs.Inputs.{Overwrites, objection}
 use Rattle.drv_compile.specs.Notes.{IsSaid}
 use Rattle.drv_compile.specs.Opening.{opening}
 use Rattle.drv_compile.specs.Runs.{Stops, Works}
 use Rattle.drv_compile.specs.Tasks.{Declines, Leads}
 use Rattle.drv_compile.specs.TempFolder.{Chooses, IsSettled, Tries, folder_names}
-use Rattle.drv_compile.specs.Texts.{gone_text, help_text, overwritten_text, version_text}
+use Rattle.drv_compile.specs.Texts.{gone_text, handed_text, help_text, overwritten_text, version_text}
 use Rattle.drv_compile.specs.Words.{RefusesWords, Words}
 use Rattle.drv_compile.specs.Wrapper.{wrapper_of}
 use Rattle.drv_compile.specs.declared.calling.Calling.{Calling}
+use Rattle.drv_compile.specs.declared.calling.Front.TheVariants.{C99, Gcc}
+use Rattle.drv_compile.specs.declared.calling.Front.{Front}
 use Rattle.drv_compile.specs.declared.compiling.Outcome.TheVariants.{Done, OutOfMemory, Unnoted}
 use Rattle.drv_compile.specs.declared.compiling.Outcome.{Outcome}
 use Rattle.drv_compile.specs.declared.deciding.Decision.{Decision}
 use Rattle.drv_compile.specs.declared.driving.Driven.{Driven}
+use Rattle.drv_compile.specs.declared.driving.Worker.TheVariants.{Compiler, Driver}
 use Rattle.drv_compile.specs.declared.host.HostEvent.TheVariants.{Set}
 use Rattle.drv_compile.specs.declared.host.HostEvent.{HostEvent}
 use Rattle.drv_compile.specs.declared.preparing.Prepared.{Prepared}
@@ -66,19 +69,41 @@ abbrev pub question : List ℕ → List (List ℕ) → Work
 question compiler args = CarryOut (one_command (record { program = compiler; words = args }))
     (record { telling = Notices; pass_codes = GreatestCode; window = 1 })
 
--- A line that is carried out: nothing speaks against it, its output is no input, and the items that the driver is called with denote work.
-pub record Performs (F : Facts) (calling : Calling) (chain : Toolchain) (call : Call) (given : Expanded) (seed : ℕ)
-    (events : List HostEvent) (prepared : Prepared) : Type 0 where
-  pub driven : Driven
-  pub free : objection F calling.name call.inputs ≡ Is []
-  pub apart : Overwrites call.inputs call.output events false
-  pub drives : Drives F chain call given driven
+-- What is done for a line that the driver is called with so: its work.
+pub record IsPlanned (F : Facts) (calling : Calling) (chain : Toolchain) (driven : Driven) (seed : ℕ) (prepared : Prepared) : Type 0 where
   pub opens : opening F chain.specs driven.line.items driven.children ≡ Is prepared.said
   pub works : Works F driven.line seed prepared.work
   pub children : prepared.children ≡ driven.children
   pub wrapper : prepared.wrapper ≡ wrapper_of driven.line.items
   pub hint : prepared.hint ≡ gone_text calling.name chain.specs calling.machine
   pub remark : prepared.remark ≡ []
+
+-- What is done for a line of which no row has the words for its machine: the compiler gets it, with the same words, those of c99 turned
+-- into gcc's. So no words are guessed, and a note says how they are added.
+abbrev pub words_for : Front → List (List ℕ) → Expanded → List (List ℕ)
+words_for Gcc args given = args
+words_for C99 args given = given.words
+
+abbrev pub handed_on : Calling → Toolchain → List ℕ → List (List ℕ) → Expanded → Prepared
+handed_on calling chain options args given = record {
+  work = question chain.around.compiler (words_for calling.front args given);
+  children = [];
+  wrapper = [];
+  said = handed_text calling.name chain.specs options;
+  hint = gone_text calling.name chain.specs calling.machine;
+  remark = [];
+}
+
+-- A line that is carried out: nothing speaks against it, its output is no input, and the items that the driver is called with denote work,
+-- or the compiler gets it.
+pub data Performs (F : Facts) (calling : Calling) (chain : Toolchain) (call : Call) (args : List (List ℕ)) (given : Expanded) (seed : ℕ)
+    (events : List HostEvent) (prepared : Prepared) : Type 0 where
+  drives : {driven : Driven} → objection F calling.name call.inputs ≡ Is [] → Overwrites call.inputs call.output events false
+      → IsWorker F chain call given (Driver driven) → IsPlanned F calling chain driven seed prepared
+      → Performs F calling chain call args given seed events prepared
+  hands_on : {options : List ℕ} → objection F calling.name call.inputs ≡ Is [] → Overwrites call.inputs call.output events false
+      → IsWorker F chain call given (Compiler options) → prepared ≡ handed_on calling chain options args given
+      → Performs F calling chain call args given seed events prepared
 
 -- or the text of its refusal
 pub data Fails (F : Facts) (calling : Calling) (chain : Toolchain) (call : Call) (given : Expanded) (seed : ℕ) : List HostEvent → List ℕ
@@ -92,7 +117,7 @@ pub data Fails (F : Facts) (calling : Calling) (chain : Toolchain) (call : Call)
       → Undriven F calling chain call given text → Fails F calling chain call given seed events text
   stopped : {events : List HostEvent} {driven : Driven} {refusal : Refusal} {text : List ℕ} → objection F calling.name call.inputs ≡ Is []
       → Overwrites call.inputs call.output events false
-      → Drives F chain call given driven → Stops F driven.line seed (Refused refusal) → IsSaid F calling.name driven.line refusal text
+      → IsWorker F chain call given (Driver driven) → Stops F driven.line seed (Refused refusal) → IsSaid F calling.name driven.line refusal text
       → Fails F calling chain call given seed events text
 
 -- What arguments ask for, with what the host was asked: a question to the compiler, a line that is carried out, or a refusal. `own` is
@@ -113,7 +138,7 @@ pub data Comes (F : Facts) (calling : Calling) (own : Option (List ℕ)) (args :
   performs : {words : Expanded} {decision : Decision} {chain : Toolchain} {call : Call} {events : List HostEvent} {prepared : Prepared}
       → Words F calling args words
       → decided F own words.words ≡ Is decision → Leads decision (Compilation chain call)
-      → Performs F calling chain call words seed events prepared → Comes F calling own args seed events prepared
+      → Performs F calling chain call args words seed events prepared → Comes F calling own args seed events prepared
 
 pub data Refuses (F : Facts) (calling : Calling) (own : Option (List ℕ)) (args : List (List ℕ)) (seed : ℕ) : List HostEvent → List ℕ
     → Type 0 where

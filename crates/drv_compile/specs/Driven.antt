@@ -8,15 +8,18 @@ use Rattle.drv_cc.specs.declared.answer.Call.{Call}
 use Rattle.drv_cc.specs.declared.refusal.Refusal.{Refusal}
 use Rattle.drv_compile.specs.Beside.{written_beside}
 use Rattle.drv_compile.specs.Compilers.{values}
-use Rattle.drv_compile.specs.Machines.{key_of, machined_by}
+use Rattle.drv_compile.specs.Machines.{machined_by}
 use Rattle.drv_compile.specs.Near.{AreTold}
 use Rattle.drv_compile.specs.Notes.{IsSaid}
 use Rattle.drv_compile.specs.Parts.{texts_of}
 use Rattle.drv_compile.specs.SelfSpecs.{Ended, answer_given}
 use Rattle.drv_compile.specs.Suffixes.{suffixed_by}
-use Rattle.drv_compile.specs.Texts.{damaged_text, unasked_text}
+use Rattle.drv_compile.specs.Texts.{damaged_text}
 use Rattle.drv_compile.specs.declared.calling.Calling.{Calling}
 use Rattle.drv_compile.specs.declared.driving.Driven.{Driven}
+use Rattle.drv_compile.specs.declared.driving.Worker.TheVariants.{Compiler, Driver}
+use Rattle.drv_compile.specs.declared.driving.Worker.{Worker}
+use Rattle.drv_compile.specs.declared.machines.MachineItems.TheVariants.{Lacks, Made}
 use Rattle.drv_compile.specs.declared.parts.Texts.TheVariants.{Damaged, Whole}
 use Rattle.drv_compile.specs.declared.running.DriverLine.{DriverLine}
 use Rattle.drv_compile.specs.declared.tasks.Toolchain.{Toolchain}
@@ -24,10 +27,11 @@ use Rattle.drv_run.specs.declared.ending.Ending.TheVariants.{Refused}
 use Rattle.drv_run.specs.declared.ending.Refusal as driver
 use Rattle.drv_system.specs.Facts.{Facts}
 use Rattle.drv_system.specs.Known.{Is, Known}
-use Rattle.std.specs.Prelude.{◌≡◌, List, [], ◌∷◌, None, Ok, Err, Option, Some, codes, drop, ℕ}
+use Rattle.std.specs.Prelude.{◌≡◌, List, [], ◌∷◌, None, Ok, Err, Option, Some, codes, ℕ}
 
--- What the driver is called with for a line, over facts: the file that has its texts and the items of the line, with the options that its
--- spec files give it (GCC, "gcc.cc", set_up_specs, do_self_spec; GCC manual, "Overall Options", -specs=).
+-- Who carries out a line, over facts: the driver, with the file that has the line's texts and its items, with the options that its spec
+-- files give it (GCC, "gcc.cc", set_up_specs, do_self_spec; GCC manual, "Overall Options", -specs=). Or it is the compiler of the spec file,
+-- where no row has the words for the line's machine: another row's words would make another object.
 
 -- The items of the driver's line: the spec file, that a front precedes it, and those of the front.
 abbrev pub driver_items : List ℕ → List Item → List Item
@@ -36,36 +40,33 @@ driver_items path items = item_of effect.Specs (codes "-specs=") path ∷ alone 
 abbrev pub driver_line : List ℕ → List Item → Expanded → DriverLine
 driver_line path items given = record { items = driver_items path items; from_file = given.from_file }
 
--- with the words for its machine, by the rows of the file that names the compiler, if they have it
-abbrev pub IsMachined : List ℕ → Option (List ℕ) → Call → Expanded → Driven → Type 0
-IsMachined path rows call given driven =
-    (items : List Item) × (machined_by rows call.items ≡ Some items)
+-- with the words for its machine, by the rows of the file that names the compiler, if they have them
+abbrev pub IsMachined : List ℕ → Option (List ℕ) → Call → Expanded → Worker → Type 0
+IsMachined path rows call given (Driver driven) =
+    (items : List Item) × (machined_by rows call.items ≡ Made items)
     × (driven ≡ record { line = driver_line path (suffixed_by rows items) given; children = call.children })
-
-abbrev pub IsUnasked : List ℕ → List ℕ → Option (List ℕ) → Call → List ℕ → Type 0
-IsUnasked name specs rows call text = (machined_by rows call.items ≡ None) × (text ≡ unasked_text name specs (drop 1 (key_of call.items)))
+IsMachined path rows call given (Compiler options) = machined_by rows call.items ≡ Lacks options
 
 abbrev pub rows_of : Facts → List ℕ → Known (Option (List ℕ))
 rows_of F specs = written_beside F specs (codes ".gcc")
 
--- a line with the file that has its texts, if that is whole
-abbrev pub IsCalled : Facts → List ℕ → Call → Expanded → Driven → Type 0
-IsCalled F specs call given driven =
+-- a line by itself, with the file that has its texts, if that is whole
+abbrev pub IsCalled : Facts → List ℕ → Call → Expanded → Worker → Type 0
+IsCalled F specs call given worker =
     (path : List ℕ) × (rows : Option (List ℕ)) × (texts_of F specs call.items call.stages ≡ Is (Whole path)) × (rows_of F specs ≡ Is rows)
-    × IsMachined path rows call given driven
+    × IsMachined path rows call given worker
 
 -- or the text of its refusal
-pub data IsUncalled (F : Facts) (calling : Calling) (specs : List ℕ) (call : Call) : List ℕ → Type 0 where
-  damaged : {path : List ℕ} → texts_of F specs call.items call.stages ≡ Is (Damaged path)
-      → IsUncalled F calling specs call (damaged_text calling.name path specs calling.machine)
-  unasked : {rows : Option (List ℕ)} {text : List ℕ} → rows_of F specs ≡ Is rows → IsUnasked calling.name specs rows call text
-      → IsUncalled F calling specs call text
+abbrev pub IsUncalled : Facts → Calling → List ℕ → Call → List ℕ → Type 0
+IsUncalled F calling specs call text =
+    (path : List ℕ) × (texts_of F specs call.items call.stages ≡ Is (Damaged path))
+    × (text ≡ damaged_text calling.name path specs calling.machine)
 
 -- what its spec files give it: the line stays as it is, or another line takes its place
-pub data IsAnswered (F : Facts) (specs : List ℕ) (given : Expanded) (first : Driven) : Option Answer → Driven → Type 0 where
-  stays : IsAnswered F specs given first None first
-  asks : IsAnswered F specs given first (Some Ask) first
-  runs : {call : Call} {driven : Driven} → IsCalled F specs call given driven → IsAnswered F specs given first (Some (Run call)) driven
+pub data IsAnswered (F : Facts) (specs : List ℕ) (given : Expanded) (first : Driven) : Option Answer → Worker → Type 0 where
+  stays : IsAnswered F specs given first None (Driver first)
+  asks : IsAnswered F specs given first (Some Ask) (Driver first)
+  runs : {call : Call} {worker : Worker} → IsCalled F specs call given worker → IsAnswered F specs given first (Some (Run call)) worker
 
 -- or its refusal
 pub data IsDenied (F : Facts) (calling : Calling) (chain : Toolchain) : Option Answer → List ℕ → Type 0 where
@@ -81,19 +82,25 @@ abbrev pub IsUnanswered : Facts → List ℕ → Toolchain → Expanded → Driv
 IsUnanswered F name chain given first text =
     (refusal : driver.Refusal) × (answer_of F chain given first ≡ Is (Err (Refused refusal))) × IsSaid F name first.line refusal text
 
--- What the driver is called with for a line,
-pub record Drives (F : Facts) (chain : Toolchain) (call : Call) (given : Expanded) (driven : Driven) : Type 0 where
-  pub first : Driven
-  pub answer : Option Answer
-  pub called : IsCalled F chain.specs call given first
-  pub answers : answer_of F chain given first ≡ Is (Ok answer)
-  pub answered : IsAnswered F chain.specs given first answer driven
+-- a line that the driver would be called with so, after its spec files
+abbrev pub IsWorkerAfter : Facts → Toolchain → Expanded → Driven → Worker → Type 0
+IsWorkerAfter F chain given first worker =
+    (answer : Option Answer) × (answer_of F chain given first ≡ Is (Ok answer)) × IsAnswered F chain.specs given first answer worker
+
+pub data IsUndrivenAfter (F : Facts) (calling : Calling) (chain : Toolchain) (given : Expanded) (first : Driven) (text : List ℕ)
+    : Type 0 where
+  not_answered : IsUnanswered F calling.name chain given first text → IsUndrivenAfter F calling chain given first text
+  denied : {answer : Option Answer} → answer_of F chain given first ≡ Is (Ok answer) → IsDenied F calling chain answer text
+      → IsUndrivenAfter F calling chain given first text
+
+-- Who carries out a line,
+pub data IsWorker (F : Facts) (chain : Toolchain) (call : Call) (given : Expanded) : Worker → Type 0 where
+  at_once : {options : List ℕ} → IsCalled F chain.specs call given (Compiler options) → IsWorker F chain call given (Compiler options)
+  later : {first : Driven} {worker : Worker} → IsCalled F chain.specs call given (Driver first) → IsWorkerAfter F chain given first worker
+      → IsWorker F chain call given worker
 
 -- or the text of the refusal in its place.
 pub data Undriven (F : Facts) (calling : Calling) (chain : Toolchain) (call : Call) (given : Expanded) (text : List ℕ) : Type 0 where
   uncalled : IsUncalled F calling chain.specs call text → Undriven F calling chain call given text
-  not_answered : {first : Driven} → IsCalled F chain.specs call given first → IsUnanswered F calling.name chain given first text
+  undriven_after : {first : Driven} → IsCalled F chain.specs call given (Driver first) → IsUndrivenAfter F calling chain given first text
       → Undriven F calling chain call given text
-  denied : {first : Driven} {answer : Option Answer} → IsCalled F chain.specs call given first
-      → answer_of F chain given first ≡ Is (Ok answer)
-      → IsDenied F calling chain answer text → Undriven F calling chain call given text

@@ -3,10 +3,12 @@ use Rattle.drv_args.specs.declared.option_table.Effect.TheVariants as effect
 use Rattle.drv_cc.specs.LineItems.{alone, item_of}
 use Rattle.drv_compile.specs.Compilers.{values}
 use Rattle.drv_compile.specs.Decides.{first_of}
+use Rattle.drv_compile.specs.declared.machines.MachineItems.TheVariants.{Lacks, Made}
+use Rattle.drv_compile.specs.declared.machines.MachineItems.{MachineItems}
 use Rattle.drv_words.specs.Bytes as byte
 use Rattle.std.specs.Cmp.Lexicographic.{pointwise}
 use Rattle.std.specs.List.{flat_map, slice_split, starts_with}
-use Rattle.std.specs.Prelude.{◌==◌, ◌||◌, Bool, List, [], ◌∷◌, ◌++◌, None, Option, Some, codes, drop, if◌then◌else◌, nat_eq, ℕ}
+use Rattle.std.specs.Prelude.{◌==◌, ◌||◌, Bool, List, [], ◌∷◌, ◌++◌, None, Option, Some, codes, drop, if◌then◌else◌, length, nat_eq, ℕ}
 
 -- The options of a line that choose its machine, and the words that gcc makes of them (GCC, "gcc.cc", DRIVER_SELF_SPECS and
 -- OPTION_DEFAULT_SPECS, set_multilib_dir; in no dump). The file beside the spec file may have rows: `machine`, these options with a blank
@@ -33,7 +35,7 @@ abbrev pub folder_option : List ℕ
 folder_option = codes "--gdrv-in="
 
 abbrev pub folder_item : List ℕ → Item
-folder_item word = item_of effect.Prefix folder_option (drop 10 word)
+folder_item word = item_of effect.Prefix folder_option (drop (length folder_option) word)
 
 abbrev pub word_item : List ℕ → Item
 word_item word = if starts_with nat_eq word folder_option then folder_item word else alone effect.Switch word
@@ -52,19 +54,20 @@ plain_item i = if is_machine i.option then [] else i ∷ []
 abbrev pub plain_items : List Item → List Item
 plain_items items = flat_map plain_item items
 
-abbrev pub with_row : List Item → Option (List ℕ) → Option (List Item)
-with_row items None = None
-with_row items (Some row) = Some (row_items row ++ plain_items items)
+-- a line of which no row has the words: its options for a machine, a blank between two
+abbrev pub with_row : List Item → Option (List ℕ) → MachineItems
+with_row items None = Lacks (drop 1 (key_of items))
+with_row items (Some row) = Made (row_items row ++ plain_items items)
 
--- the items of a line by the rows of a text; none where it has rows, and none for the line
-abbrev pub by_rows : List ℕ → List Item → Option (List ℕ) → Option (List Item)
-by_rows text items None = Some items
+-- the items of a line by the rows of a text; where it has none, the line stays as it is
+abbrev pub by_rows : List ℕ → List Item → Option (List ℕ) → MachineItems
+by_rows text items None = Made items
 by_rows text items (Some first) = with_row items (first_of (values (row_beginning items) text))
 
-abbrev pub machined : List ℕ → List Item → Option (List Item)
+abbrev pub machined : List ℕ → List Item → MachineItems
 machined text items = by_rows text items (first_of (values (codes "machine") text))
 
 -- where the file is not whole, the line stays as it is
-abbrev pub machined_by : Option (List ℕ) → List Item → Option (List Item)
-machined_by None items = Some items
+abbrev pub machined_by : Option (List ℕ) → List Item → MachineItems
+machined_by None items = Made items
 machined_by (Some text) items = machined text items

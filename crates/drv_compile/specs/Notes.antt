@@ -1,6 +1,5 @@
-use Rattle.drv_args.specs.declared.line.Line.{Line}
 use Rattle.drv_check.specs.FaultNotes.{fault_note}
-use Rattle.drv_compile.specs.Runs.{line_given}
+use Rattle.drv_compile.specs.Reading.{folders_given, specs_given}
 use Rattle.drv_compile.specs.Words.{told_refusal}
 use Rattle.drv_compile.specs.declared.running.DriverLine.{DriverLine}
 use Rattle.drv_run.specs.declared.ending.Refusal.TheVariants as refusal
@@ -8,14 +7,13 @@ use Rattle.drv_run.specs.declared.ending.Refusal.{Refusal}
 use Rattle.drv_specs.specs.Builtin.{suffixes}
 use Rattle.drv_system.specs.Facts.{Facts}
 use Rattle.drv_system.specs.Known.{Is}
-use Rattle.std.specs.Prelude.{◌≡◌, List, [], ◌++◌, Ok, ℕ}
+use Rattle.std.specs.Prelude.{◌≡◌, List, [], ◌++◌, ℕ}
 
 -- What is said of a refused line of the driver: the text of its refusal, and after that of a spec file a note (GNU coding standards,
 -- "Formatting Error Messages"). It says where the fault is, in the files of -specs= that the line names, loaded over the suffixes.
 
 abbrev pub NotesPlace : Facts → DriverLine → List ℕ → Type 0
-NotesPlace F given note =
-    (line : Line) × (line_given given ≡ Ok line) × (fault_note F suffixes line.settings.prefixes line.settings.specs ≡ Is note)
+NotesPlace F given note = fault_note F suffixes (folders_given given.items) (specs_given given.items) ≡ Is note
 
 abbrev pub IsNote : Facts → DriverLine → Refusal → List ℕ → Type 0
 IsNote F given (refusal.Specs fault) note = NotesPlace F given note

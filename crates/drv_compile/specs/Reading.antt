@@ -1,6 +1,8 @@
 use Rattle.drv_args.specs.Lines.{prefix_of, spec_of}
 use Rattle.drv_args.specs.declared.items.Item.{Item}
 use Rattle.drv_cc.specs.Front.{front_of}
+use Rattle.drv_cc.specs.Items.{items_of}
+use Rattle.drv_cc.specs.UnknownWords.{has_unknown}
 use Rattle.drv_cc.specs.declared.answer.Answer.TheVariants.{Ask, Refuse, Run}
 use Rattle.drv_cc.specs.declared.answer.Answer.{Answer}
 use Rattle.drv_cc.specs.declared.answer.Surroundings.{Surroundings}
@@ -23,22 +25,7 @@ use Rattle.std.specs.Prelude.{Bool, List, [], ◌∷◌, ◌++◌, None, Option,
 -- The answer to a line, over facts: by the names of the compiler's options, and by those that the spec files of the line have (GCC,
 -- "gcc.cc", validate_switches). Neither is asked for where no word of the line is unknown.
 
--- a line that is refused for a word that is no option
-abbrev pub is_unknown : Refusal → Bool
-is_unknown (UnknownOption word) = true
-is_unknown (NoArgument option) = false
-is_unknown (NotTaken option) = false
-is_unknown (GivenFile name) = false
-is_unknown GivenMore = false
-is_unknown EmptyOutput = false
-is_unknown NoInput = false
-
-abbrev pub has_unknown : Answer → Bool
-has_unknown Ask = false
-has_unknown (Refuse refusals) = list_any is_unknown refusals
-has_unknown (Run call) = false
-
--- such words as switches: without their hyphen
+-- the words that are no options, as switches: without their hyphen
 abbrev pub without_hyphen : List ℕ → List (List ℕ)
 without_hyphen [] = []
 without_hyphen (b ∷ switch) = switch ∷ []
@@ -120,7 +107,8 @@ read_by F around words (Some known) = known_answer F known around words
 abbrev pub read_beside : Facts → List ℕ → Surroundings → List (List ℕ) → Known (Option Reading)
 read_beside F specs around words = known_names F specs >>= λ known. read_by F around words known
 
+-- the names are asked for where a word of the line is no option that is known without them
 abbrev pub line_read : Facts → List ℕ → Surroundings → List (List ℕ) → Known (Option Reading)
 line_read F specs around words =
-    if has_unknown (front_of [] [] around words) then read_beside F specs around words
+    if has_unknown (items_of [] None words) then read_beside F specs around words
     else Is (Some (record { known = []; answer = front_of [] [] around words }))

@@ -2,11 +2,13 @@ use Rattle.drv_cc.specs.declared.answer.Variable.{Variable}
 use Rattle.drv_cc.specs.declared.refusal.Refusal.TheVariants.{EmptyOutput, GivenFile, GivenMore, NoArgument, NoInput, NotTaken}
 use Rattle.drv_cc.specs.declared.refusal.Refusal.TheVariants.{UnknownOption}
 use Rattle.drv_cc.specs.declared.refusal.Refusal.{Refusal}
+use Rattle.drv_compile.specs.Calling.{before_ending}
 use Rattle.drv_compile.specs.Places.{companion}
 use Rattle.drv_words.specs.Bytes.{at_sign}
+use Rattle.drv_words.specs.FileNames.{base}
 use Rattle.std.specs.Cmp.Lexicographic.{pointwise}
 use Rattle.std.specs.List.{flat_map}
-use Rattle.std.specs.Prelude.{◌==◌, ◌||◌, Bool, List, [], ◌∷◌, ◌++◌, None, Option, Some, codes, if◌then◌else◌, nat_eq, ℕ}
+use Rattle.std.specs.Prelude.{◌==◌, ◌||◌, Bool, List, [], ◌∷◌, ◌++◌, None, Option, Some, codes, false, if◌then◌else◌, nat_eq, ℕ}
 
 -- What the user reads, in the words of gcc's driver where it has them.
 
@@ -98,9 +100,16 @@ switches_line v = if is v.name (codes "COLLECT_GCC_OPTIONS") then codes "COLLECT
 abbrev pub said_text : List (List ℕ) → List Variable → List ℕ
 said_text lines children = flat_map line_of lines ++ flat_map switches_line children
 
--- the command that writes the spec file of a machine
+-- The command that writes the spec file of a machine. A file of another name may be for any gcc: the user says for which.
+abbrev pub is_for : List ℕ → Option (List ℕ) → Bool
+is_for machine None = false
+is_for machine (Some stem) = is stem machine
+
+abbrev pub gcc_of : List ℕ → List ℕ → List ℕ
+gcc_of specs machine = if is_for machine (before_ending (codes ".specs") (base specs)) then machine else codes "GCC"
+
 abbrev pub writing : List ℕ → List ℕ → List ℕ
-writing specs machine = codes "'gdrv-write-specs -o " ++ specs ++ codes " " ++ machine ++ codes "' writes it"
+writing specs machine = codes "'gdrv-write-specs -o " ++ specs ++ codes " " ++ gcc_of specs machine ++ codes "' writes it"
 
 -- a file that this command writes, and that is not there or is not what it writes
 abbrev pub unwritten_text : List ℕ → List ℕ → List ℕ → List ℕ → List ℕ → List ℕ
@@ -155,8 +164,13 @@ abbrev pub damaged_text : List ℕ → List ℕ → List ℕ → List ℕ → Li
 damaged_text name path specs machine = unwritten_text name (codes "missing or damaged file '") path specs machine
 
 -- options for a machine of which no words are beside the spec file, and the command that asks the compiler for them
-abbrev pub adding : List ℕ → List ℕ → List ℕ
-adding specs key = codes "'gdrv-write-specs --add " ++ specs ++ codes " " ++ key ++ codes "' asks the compiler for them"
+abbrev pub note_line : List ℕ → List ℕ → List ℕ
+note_line name text = name ++ codes ": note: " ++ text ++ codes "\n"
 
-abbrev pub unasked_text : List ℕ → List ℕ → List ℕ → List ℕ
-unasked_text name specs key = error_line name (quoted (codes "the words for '") key (codes "' are not known; ") ++ adding specs key)
+abbrev pub adding : List ℕ → List ℕ → List ℕ
+adding specs options = codes "'gdrv-write-specs --add " ++ specs ++ codes " " ++ options ++ codes "' asks it for them"
+
+abbrev pub handed_text : List ℕ → List ℕ → List ℕ → List ℕ
+handed_text name specs options =
+    note_line name (quoted (codes "the words for '") options (codes "' are not known, and the compiler gets the line as it is; ")
+    ++ adding specs options)

@@ -1,10 +1,10 @@
 //! What the files beside a spec file say: for which compiler it was written, and the names of that
 //! compiler's options. And the names in a spec file of the line.
 
-ghost use Rattle.drv_compile.specs.Code.CutLines.{lines_from};
+ghost use Rattle.drv_compile.specs.Code.CutLines.{begins_with, lines_from};
 ghost use Rattle.drv_compile.specs.Compilers.{is_between, lines, names_in, value_in, values};
 ghost use Rattle.drv_compile.specs.Decides.{first_of};
-ghost use Rattle.std.specs.List.{starts_with};
+ghost use Rattle.std.specs.List.{list_any, starts_with};
 ghost use Rattle.std.specs.Option.{option_map};
 ghost use Rattle.std.specs.Prelude.{◌≡◌, ◌<◌, ◌∷◌, ◌++◌, IfOk, IfSome, OnOk, drop, find, length};
 ghost use Rattle.std.specs.Prelude.{nat_eq};
@@ -61,8 +61,30 @@ fn first_line<'t>(key: &[u8], text: &'t [u8]) -> Option<&'t [u8]>
     ensures { option_map (λ line. line.now) result
         ≡ find (λ line. starts_with nat_eq line key.now) (lines text.now) }
 {
-    text.split(|byte| *byte == b'\n')
-        .find(|line| line.starts_with(key))
+    let mut left = Some(text);
+    while let Some(text) = left {
+        let (line, following) = cut_line(text);
+        if line.starts_with(key) {
+            return Some(line);
+        }
+        left = following;
+    }
+    None
+}
+
+/// Whether a line of a text begins with one of two keys.
+pub(crate) fn has_either(one: &[u8], other: &[u8], text: &[u8]) -> bool
+    ensures { result ≡ list_any (begins_with one.now other.now) (lines text.now) }
+{
+    let mut left = Some(text);
+    while let Some(text) = left {
+        let (line, following) = cut_line(text);
+        if line.starts_with(one) || line.starts_with(other) {
+            return true;
+        }
+        left = following;
+    }
+    false
 }
 
 /// The first value of a key in a text, if there is one.

@@ -1,19 +1,19 @@
 //! What the driver is called with for a line.
 
-ghost use Rattle.drv_compile.specs.Driven.{Drives, IsAnswered, IsCalled, IsDenied, IsMachined};
-ghost use Rattle.drv_compile.specs.Driven.{IsUnanswered, IsUnasked, IsUncalled, Undriven};
-ghost use Rattle.drv_compile.specs.Driven.{answer_of, driver_items};
+ghost use Rattle.drv_compile.specs.Driven.{IsAnswered, IsCalled, IsDenied, IsMachined};
+ghost use Rattle.drv_compile.specs.Driven.{IsUnanswered, IsUncalled, IsUndrivenAfter, IsWorker};
+ghost use Rattle.drv_compile.specs.Driven.{IsWorkerAfter, Undriven, answer_of, driver_items};
 ghost use Rattle.drv_compile.specs.Tasks.{IfTold};
 ghost use Rattle.drv_system.specs.Asking.{Extends};
 ghost use Rattle.drv_system.specs.Code.Asked.{Asked};
 ghost use Rattle.drv_system.specs.Facts.{Facts};
 ghost use Rattle.drv_system.specs.Known.{Is};
 ghost use Rattle.std.specs.Option.{option_copied};
-ghost use Rattle.std.specs.Prelude.{◌≡◌, IfOk, MatchResult, Ok, drop};
+ghost use Rattle.std.specs.Prelude.{◌≡◌, IfOk, MatchResult, Ok};
 
 use crate::calling::Calling;
 use crate::finding::written_beside;
-use crate::machines::{key_of, machined_by};
+use crate::machines::{MachineItems, for_machines, machined_by};
 use crate::parts::{Texts, texts_asked};
 use crate::refusing::stop_after;
 use crate::running::DriverLine;
@@ -22,7 +22,7 @@ use crate::stop::Stop;
 use crate::suffixing::suffixed_by;
 use crate::tasks::Toolchain;
 use crate::telling::refusals_text;
-use crate::wording::{damaged_text, unasked_text};
+use crate::wording::damaged_text;
 use drv_args::{Effect, Expanded, Item};
 use drv_cc::{Answer, Call, Variable};
 use drv_system::{Outside, System};
@@ -36,6 +36,15 @@ pub(crate) struct Driven {
     pub(crate) line: DriverLine,
     /// The variables that are set for its children.
     pub(crate) children: Listing<Variable>,
+}
+
+/// Who carries out a line.
+#[derive(Drop)]
+pub(crate) enum Worker {
+    /// The driver, which is called so.
+    Driver(Driven),
+    /// The compiler of the spec file: no row has the words for these options of the line.
+    Compiler(Word),
 }
 
 /// The items of the driver's line: the spec file, that a front precedes it, and those of the front.
@@ -61,13 +70,6 @@ fn driver_items(
     Ok(Listing::from_vec(all))
 }
 
-/// Options without the blank before them.
-fn without_blank(key: &[u8]) -> &[u8]
-    ensures { result.now ≡ drop 1 key.now }
-{
-    key.get(1..).unwrap_or(&[])
-}
-
 /// The bytes of a text, if there is one.
 fn slice_of(text: &Option<Word>) -> Option<&[u8]>
     ensures { option_copied result ≡ text.now }
@@ -78,44 +80,40 @@ fn slice_of(text: &Option<Word>) -> Option<&[u8]>
     }
 }
 
-/// What the driver is called with for a line by itself, with this file that has its texts, and by
-/// these rows for its machines.
-///
-/// # Errors
-/// The text about options of which no row has the words.
+/// Who carries out a line by itself, with this file that has its texts, and by these rows for its
+/// machines.
 fn machined_call(
     alloc: Global,
-    calling: &Calling,
-    specs: &[u8],
     path: Word,
-    rows: Option<Word>,
+    rows: Option<&[u8]>,
     call: Call,
     given: &Expanded,
-) -> Result<Driven, Stop>
-    ensures { MatchResult result (λ driven. IsMachined path rows call given.now driven)
-        (λ stop. IfTold stop (IsUnasked calling.now.name specs.now rows call)) }
+) -> Result<Worker, AllocError>
+    ensures { IfOk result (λ worker. IsMachined path (option_copied rows.entry) call given.now
+        worker) }
 {
-    let key = key_of(alloc, call.items.as_slice())?;
-    let text = slice_of(&rows);
-    let Some(items) = machined_by(alloc, text, call.items)? else {
-        let options = without_blank(key.as_bytes());
-        let text = unasked_text(alloc, calling.name.as_bytes(), specs, options)?;
-        return Err(Stop::Told(text));
-    };
-    let from_file = given.from_file;
-    let items = suffixed_by(alloc, text, items)?;
-    let items = driver_items(alloc, path, items)?;
-    Ok(Driven {
-        line: DriverLine { items, from_file },
-        children: call.children,
-    })
+    let text = for_machines(rows);
+    match machined_by(alloc, text, call.items)? {
+        MachineItems::Lacks(options) => Ok(Worker::Compiler(options)),
+        MachineItems::Made(items) => {
+            let suffixed = suffixed_by(alloc, text, items)?;
+            let all = driver_items(alloc, path, suffixed)?;
+            let line = DriverLine {
+                items: all,
+                from_file: given.from_file,
+            };
+            Ok(Worker::Driver(Driven {
+                line,
+                children: call.children,
+            }))
+        }
+    }
 }
 
-/// What the driver is called with for a line by itself, with the file that has its texts.
+/// Who carries out a line by itself, with the file that has its texts.
 ///
 /// # Errors
-/// The text about a file that is missing or not whole, or about options of which no row has the
-/// words.
+/// The text about a file that is missing or not whole.
 fn called<S: System>(
     alloc: Global,
     calling: &Calling,
@@ -123,16 +121,19 @@ fn called<S: System>(
     call: Call,
     given: &Expanded,
     outside: &mut Outside<'_, S>,
-) -> Result<Driven, Stop>
+) -> Result<Worker, Stop>
     ensures asks { Asked S.events outside.old outside.new }
     ensures calls { (F : Facts) → Extends outside.new.facts.now F
-        → MatchResult result (λ driven. IsCalled F specs.now call given.now driven)
+        → MatchResult result (λ worker. IsCalled F specs.now call given.now worker)
         (λ stop. IfTold stop (IsUncalled F calling.now specs.now call)) }
 {
     let rows = written_beside(alloc, specs, b".gcc", outside)?;
     let texts = texts_asked(alloc, specs, call.items.as_slice(), call.stages, outside)?;
     match texts {
-        Texts::Whole(path) => machined_call(alloc, calling, specs, path, rows, call, given),
+        Texts::Whole(path) => {
+            let worker = machined_call(alloc, path, slice_of(&rows), call, given)?;
+            Ok(worker)
+        }
         Texts::Damaged(path) => {
             let name = calling.name.as_bytes();
             let machine = calling.machine.as_bytes();
@@ -175,7 +176,7 @@ fn answer<S: System>(
     }
 }
 
-/// What the driver is called with by what the spec files of a line gave it.
+/// Who carries out a line, by what its spec files gave it.
 ///
 /// # Errors
 /// The text of the refusal of what they gave.
@@ -187,11 +188,11 @@ fn answered<S: System>(
     given: &Expanded,
     first: Driven,
     outside: &mut Outside<'_, S>,
-) -> Result<Driven, Stop>
+) -> Result<Worker, Stop>
     ensures asks { Asked S.events outside.old outside.new }
     ensures drives { (F : Facts) → Extends outside.new.facts.now F
         → MatchResult result
-        (λ driven. IsAnswered F chain.now.specs given.now first answer driven)
+        (λ worker. IsAnswered F chain.now.specs given.now first answer worker)
         (λ stop. IfTold stop (IsDenied F calling.now chain.now answer)) }
 {
     match answer {
@@ -204,38 +205,57 @@ fn answered<S: System>(
             let text = refusals_text(alloc, name, known, refusals.as_slice())?;
             Err(Stop::Told(text))
         }
-        Some(Answer::Ask) => Ok(first),
-        None => Ok(first),
+        Some(Answer::Ask) => Ok(Worker::Driver(first)),
+        None => Ok(Worker::Driver(first)),
     }
 }
 
-/// What the driver is called with for a line, with the options that its spec files give it. It asks
-/// the system only where the table has no answer.
+/// Who carries out a line that the driver would be called with so, with the options that the spec
+/// files of the line give it.
 ///
 /// # Errors
 /// The text of a refusal.
 #[tactic(auto, using(drv_system::proofs::AskedCalls::asked_further))]
-pub(crate) fn driver_call<S: System>(
+fn worker_after<S: System>(
+    alloc: Global,
+    calling: &Calling,
+    chain: &Toolchain,
+    given: &Expanded,
+    first: Driven,
+    outside: &mut Outside<'_, S>,
+) -> Result<Worker, Stop>
+    ensures asks { Asked S.events outside.old outside.new }
+    ensures drives { (F : Facts) → Extends outside.new.facts.now F
+        → MatchResult result
+        (λ worker. IsWorkerAfter F chain.now given.now first worker)
+        (λ stop. IfTold stop (IsUndrivenAfter F calling.now chain.now given.now first)) }
+{
+    let name = calling.name.as_bytes();
+    let answer = answer(alloc, name, chain, given, &first, outside)?;
+    answered(alloc, calling, chain, answer, given, first, outside)
+}
+
+/// Who carries out a line, with the options that its spec files give it. It asks the system only
+/// where the table has no answer.
+///
+/// # Errors
+/// The text of a refusal.
+#[tactic(auto, using(drv_system::proofs::AskedCalls::asked_further))]
+pub(crate) fn worker_of<S: System>(
     alloc: Global,
     calling: &Calling,
     chain: &Toolchain,
     call: Call,
     given: &Expanded,
     outside: &mut Outside<'_, S>,
-) -> Result<Driven, Stop>
+) -> Result<Worker, Stop>
     ensures asks { Asked S.events outside.old outside.new }
     ensures drives { (F : Facts) → Extends outside.new.facts.now F
-        → MatchResult result (λ driven. Drives F chain.now call given.now driven)
+        → MatchResult result (λ worker. IsWorker F chain.now call given.now worker)
         (λ stop. IfTold stop (Undriven F calling.now chain.now call given.now)) }
 {
-    let first = called(alloc, calling, chain.specs.as_bytes(), call, given, outside)?;
-    let answer = answer(
-        alloc,
-        calling.name.as_bytes(),
-        chain,
-        given,
-        &first,
-        outside,
-    )?;
-    answered(alloc, calling, chain, answer, given, first, outside)
+    match called(alloc, calling, chain.specs.as_bytes(), call, given, outside)? {
+        Worker::Driver(first) => worker_after(alloc, calling, chain, given, first, outside),
+        Worker::Compiler(options) => Ok(Worker::Compiler(options)),
+    }
 }

@@ -3,14 +3,25 @@
 ghost use Rattle.drv_compile.specs.Machines.{by_rows, folder_item, is_machine, key_of, key_word};
 ghost use Rattle.drv_compile.specs.Machines.{machined, machined_by, plain_item, row_beginning};
 ghost use Rattle.drv_compile.specs.Machines.{row_items, with_row, word_item, word_items};
+ghost use Rattle.drv_compile.specs.Suffixes.{suffixed_by};
+ghost use Rattle.drv_args.specs.declared.items.Item.{Item};
 ghost use Rattle.std.specs.List.{flat_map};
 ghost use Rattle.std.specs.Option.{option_copied};
-ghost use Rattle.std.specs.Prelude.{◌≡◌, ◌++◌, IfOk, OnOk, drop};
+ghost use Rattle.std.specs.Prelude.{◌≡◌, ◌++◌, IfOk, List, OnOk, drop};
 
-use crate::compilers::first_value;
+use crate::compilers::{first_value, has_either, rest_of};
 use drv_args::{Effect, Item};
 use drv_words::{Listing, Word};
 use std::alloc::{AllocError, Global};
+
+/// The items of a line with the words for its machine.
+#[derive(Drop)]
+pub(crate) enum MachineItems {
+    /// The items: the words of the line's row are in the place of its options for a machine.
+    Made(Listing<Item>),
+    /// The options of the line for its machine, of which no row has the words.
+    Lacks(Word),
+}
 
 /// Whether an option chooses a machine.
 fn is_machine(option: &[u8]) -> bool
@@ -42,7 +53,7 @@ fn push_keys(key: &mut Word, items: &[Item]) -> Result<(), AllocError>
 }
 
 /// The options that choose a machine, each after a blank.
-pub(crate) fn key_of(alloc: Global, items: &[Item]) -> Result<Word, AllocError>
+fn key_of(alloc: Global, items: &[Item]) -> Result<Word, AllocError>
     ensures { IfOk result (λ key. key ≡ key_of items.now) }
 {
     let mut key = Word::empty(alloc);
@@ -63,13 +74,6 @@ fn row_beginning(alloc: Global, items: &[Item]) -> Result<Word, AllocError>
 /// The word of a row for a folder of its libraries begins so.
 const FOLDER: &[u8] = b"--gdrv-in=";
 
-/// The folder of such a word.
-fn folder_of(word: &[u8]) -> &[u8]
-    ensures { result.now ≡ drop 10 word.now }
-{
-    word.get(10..).unwrap_or(&[])
-}
-
 /// A folder of libraries as a prefix.
 fn folder_item(alloc: Global, word: &[u8]) -> Result<Item, AllocError>
     ensures { IfOk result (λ item. item ≡ folder_item word.now) }
@@ -77,7 +81,7 @@ fn folder_item(alloc: Global, word: &[u8]) -> Result<Item, AllocError>
     Ok(Item {
         effect: Effect::Prefix,
         option: Word::from_bytes(alloc, FOLDER)?,
-        argument: Word::from_bytes(alloc, folder_of(word))?,
+        argument: Word::from_bytes(alloc, rest_of(FOLDER, word))?,
     })
 }
 
@@ -116,14 +120,14 @@ fn row_items(alloc: Global, row: &[u8]) -> Result<Listing<Item>, AllocError>
     Ok(items)
 }
 
-/// A copy of an item.
-fn copied(item: &Item) -> Result<Item, AllocError>
-    ensures { IfOk result (λ copy. copy ≡ item.now) }
+/// An item with another argument.
+pub(crate) fn with_argument(item: &Item, argument: Word) -> Result<Item, AllocError>
+    ensures { IfOk result (λ made. made ≡ record item.now { argument = argument }) }
 {
     Ok(Item {
         effect: item.effect,
         option: item.option.clone()?,
-        argument: item.argument.clone()?,
+        argument,
     })
 }
 
@@ -132,7 +136,7 @@ fn push_plain(item: &Item, items: &mut Listing<Item>) -> Result<(), AllocError>
     ensures { OnOk result (items.new ≡ items.old ++ plain_item item.now) }
 {
     if !is_machine(item.option.as_bytes()) {
-        items.push(copied(item)?)?;
+        items.push(with_argument(item, item.argument.clone()?)?)?;
     }
     Ok(())
 }
@@ -147,36 +151,36 @@ fn push_all_plain(items: &[Item], plain: &mut Listing<Item>) -> Result<(), Alloc
     Ok(())
 }
 
+/// Options without the blank before them.
+fn without_blank(alloc: Global, key: &[u8]) -> Result<Word, AllocError>
+    ensures { IfOk result (λ options. options ≡ drop 1 key.now) }
+{
+    Word::from_bytes(alloc, key.get(1..).unwrap_or(&[]))
+}
+
 /// The items of a line after the words of its row, if it has one.
-fn with_row(
-    alloc: Global,
-    items: &[Item],
-    row: Option<Word>,
-) -> Result<Option<Listing<Item>>, AllocError>
+fn with_row(alloc: Global, items: &[Item], row: Option<Word>) -> Result<MachineItems, AllocError>
     ensures { IfOk result (λ made. made ≡ with_row items.now row) }
 {
     let Some(row) = row else {
-        return Ok(None);
+        let key = key_of(alloc, items)?;
+        let options = without_blank(alloc, key.as_bytes())?;
+        return Ok(MachineItems::Lacks(options));
     };
     let mut plain = Listing::new(alloc);
     push_all_plain(items, &mut plain)?;
     let words = row_items(alloc, row.as_bytes())?;
     let mut made = words.into_vec();
     made.append(&mut plain.into_vec())?;
-    Ok(Some(Listing::from_vec(made)))
+    Ok(MachineItems::Made(Listing::from_vec(made)))
 }
 
-/// The items of a line by the rows of a text: with the words of the line's row in the place of its
-/// options for a machine, and as they are where the text has no rows. None where it has no such row.
-pub(crate) fn machined(
-    alloc: Global,
-    text: &[u8],
-    items: Listing<Item>,
-) -> Result<Option<Listing<Item>>, AllocError>
+/// The items of a line by the rows of a text. Where it has none, the line stays as it is.
+fn machined(alloc: Global, text: &[u8], items: Listing<Item>) -> Result<MachineItems, AllocError>
     ensures { IfOk result (λ made. made ≡ machined text.now items) }
 {
     if first_value(alloc, b"machine", text)?.is_none() {
-        return Ok(Some(items));
+        return Ok(MachineItems::Made(items));
     }
     let beginning = row_beginning(alloc, items.as_slice())?;
     let row = first_value(alloc, beginning.as_bytes(), text)?;
@@ -188,11 +192,28 @@ pub(crate) fn machined_by(
     alloc: Global,
     text: Option<&[u8]>,
     items: Listing<Item>,
-) -> Result<Option<Listing<Item>>, AllocError>
+) -> Result<MachineItems, AllocError>
     ensures { IfOk result (λ made. made ≡ machined_by (option_copied text.entry) items) }
 {
     match text {
         Some(text) => machined(alloc, text, items),
-        None => Ok(Some(items)),
+        None => Ok(MachineItems::Made(items)),
     }
+}
+
+/// The text, if it has rows for machines or names a suffix of programs. A line by any other text
+/// stays as it is.
+pub(crate) fn for_machines(text: Option<&[u8]>) -> Option<&[u8]>
+    ensures rows { (items : List Item)
+        → machined_by (option_copied result) items ≡ machined_by (option_copied text.entry) items }
+    ensures suffix { (items : List Item)
+        → suffixed_by (option_copied result) items ≡ suffixed_by (option_copied text.entry) items }
+{
+    let Some(text) = text else {
+        return None;
+    };
+    if has_either(b"machine", b"suffix ", text) {
+        return Some(text);
+    }
+    None
 }

@@ -1,9 +1,9 @@
 //! What a call does, before it is done.
 
-ghost use Rattle.drv_compile.specs.Compiles.{Comes, Fails, Performs, Refuses};
-ghost use Rattle.drv_compile.specs.Compiles.{one_command, question};
+ghost use Rattle.drv_compile.specs.Compiles.{Comes, Fails, IsPlanned, Performs, Refuses};
+ghost use Rattle.drv_compile.specs.Compiles.{handed_on, one_command, question, words_for};
 ghost use Rattle.drv_compile.specs.Inputs.{Noted, Overwrites};
-ghost use Rattle.drv_compile.specs.Code.Preparing.{IsFailure, IsOverwriting, IsPlanned};
+ghost use Rattle.drv_compile.specs.Code.Preparing.{IsFailure, IsOverwriting, IsPrepared};
 ghost use Rattle.drv_compile.specs.Code.Preparing.{IsQuestion, IsTaskDone, IsTaskRefused};
 ghost use Rattle.drv_compile.specs.Code.Preparing.{IsUnplanned};
 ghost use Rattle.drv_compile.specs.Runs.{Works};
@@ -14,9 +14,9 @@ ghost use Rattle.drv_system.specs.Code.Asked.{Asked};
 ghost use Rattle.drv_system.specs.Facts.{Facts};
 ghost use Rattle.std.specs.Prelude.{◌≡◌, IfOk, MatchResult, false};
 
-use crate::calling::Calling;
+use crate::calling::{Calling, Front};
 use crate::deciding::decided;
-use crate::driving::driver_call;
+use crate::driving::{Driven, Worker, worker_of};
 use crate::expanding::line_words;
 use crate::host::Host;
 use crate::inputs::{objection, overwrites};
@@ -25,7 +25,7 @@ use crate::running::{DriverLine, work_of_items};
 use crate::speaking::opening;
 use crate::stop::Stop;
 use crate::tasks::{Task, Toolchain, task_of};
-use crate::wording::{gone, help_text, overwritten, version_text};
+use crate::wording::{gone, handed_text, help_text, overwritten, version_text};
 use crate::wrapping::wrapper_of;
 use drv_args::Expanded;
 use drv_cc::{Call, Variable};
@@ -147,31 +147,29 @@ fn refuse_overwriting<S: System, H: Host<S>>(
     Err(Stop::Told(text))
 }
 
-/// A line that nothing refuses, with what the driver is called with and its work.
+/// What a call does for a line that the driver is called with so.
 ///
 /// # Errors
 /// The text of its refusal.
 #[tactic(auto, using(drv_system::proofs::AskedCalls::asked_further))]
-fn prepared_plan<S: System>(
+fn planned<S: System>(
     alloc: Global,
     calling: &Calling,
     chain: &Toolchain,
-    call: Call,
-    given: &Expanded,
+    driven: Driven,
     seed: u32,
     outside: &mut Outside<'_, S>,
 ) -> Result<Prepared, Stop>
     ensures asks { Asked S.events outside.old outside.new }
     ensures plans { (F : Facts) → Extends outside.new.facts.now F
         → MatchResult result
-        (λ prepared. IsPlanned F calling.now chain.now call given.now seed prepared)
-        (λ stop. IfTold stop (IsUnplanned F calling.now chain.now call given.now seed)) }
+        (λ prepared. IsPlanned F calling.now chain.now driven seed prepared)
+        (λ stop. IfTold stop (IsFailure F calling.now.name driven.line seed)) }
     ensures window { IfOk result (λ prepared. HasWindow prepared.work) }
 {
     let name = calling.name.as_bytes();
     let specs = chain.specs.as_bytes();
     let hint = gone(alloc, name, specs, calling.machine.as_bytes())?;
-    let driven = driver_call(alloc, calling, chain, call, given, outside)?;
     let items = driven.line.items.as_slice();
     let wrapper = Word::from_bytes(alloc, wrapper_of(items))?;
     let said = opening(alloc, specs, items, driven.children.as_slice(), outside)?;
@@ -186,6 +184,77 @@ fn prepared_plan<S: System>(
     })
 }
 
+/// The words that the compiler gets of a line that it carries out: those of c99 turned into gcc's.
+fn words_for<'w>(front: Front, args: &'w Listing<Word>, given: &'w Expanded) -> &'w Listing<Word>
+    ensures { result.now ≡ words_for front args.now given.now }
+{
+    match front {
+        Front::Gcc => args,
+        Front::C99 => &given.words,
+    }
+}
+
+/// What a call does for a line that the compiler carries out, since no row has the words for these
+/// options.
+fn handed_on(
+    alloc: Global,
+    calling: &Calling,
+    chain: &Toolchain,
+    options: &[u8],
+    args: &Listing<Word>,
+    given: &Expanded,
+) -> Result<Prepared, AllocError>
+    ensures hands { IfOk result (λ prepared. prepared
+        ≡ handed_on calling.now chain.now options.now args.now given.now) }
+    ensures window { IfOk result (λ prepared. HasWindow prepared.work) }
+{
+    let name = calling.name.as_bytes();
+    let specs = chain.specs.as_bytes();
+    let hint = gone(alloc, name, specs, calling.machine.as_bytes())?;
+    let said = handed_text(alloc, name, specs, options)?;
+    let compiler = chain.around.compiler.clone()?;
+    let work = question(alloc, compiler, words_for(calling.front, args, given))?;
+    Ok(Prepared {
+        work,
+        children: Listing::new(alloc),
+        wrapper: Word::empty(alloc),
+        said,
+        hint,
+        remark: Word::empty(alloc),
+    })
+}
+
+/// What a call does for a line that nothing refuses.
+///
+/// # Errors
+/// The text of its refusal.
+#[tactic(auto, using(drv_system::proofs::AskedCalls::asked_further))]
+fn prepared_plan<S: System>(
+    alloc: Global,
+    calling: &Calling,
+    chain: &Toolchain,
+    call: Call,
+    args: &Listing<Word>,
+    given: &Expanded,
+    seed: u32,
+    outside: &mut Outside<'_, S>,
+) -> Result<Prepared, Stop>
+    ensures asks { Asked S.events outside.old outside.new }
+    ensures plans { (F : Facts) → Extends outside.new.facts.now F
+        → MatchResult result
+        (λ prepared. IsPrepared F calling.now chain.now call args.now given.now seed prepared)
+        (λ stop. IfTold stop (IsUnplanned F calling.now chain.now call given.now seed)) }
+    ensures window { IfOk result (λ prepared. HasWindow prepared.work) }
+{
+    match worker_of(alloc, calling, chain, call, given, outside)? {
+        Worker::Driver(driven) => planned(alloc, calling, chain, driven, seed, outside),
+        Worker::Compiler(options) => {
+            let prepared = handed_on(alloc, calling, chain, options.as_bytes(), args, given)?;
+            Ok(prepared)
+        }
+    }
+}
+
 /// A line that is carried out.
 ///
 /// # Errors
@@ -196,6 +265,7 @@ fn compilation<S: System, H: Host<S>>(
     calling: &Calling,
     chain: &Toolchain,
     call: Call,
+    args: &Listing<Word>,
     given: &Expanded,
     seed: u32,
     outside: &mut Outside<'_, S>,
@@ -205,7 +275,7 @@ fn compilation<S: System, H: Host<S>>(
     ensures performs { Noted (H.notes host.old) (H.notes host.new)
         (λ events. (F : Facts) → Extends outside.new.facts.now F
         → MatchResult result
-        (λ prepared. Performs F calling.now chain.now call given.now seed events prepared)
+        (λ prepared. Performs F calling.now chain.now call args.now given.now seed events prepared)
         (λ stop. IfTold stop (Fails F calling.now chain.now call given.now seed events))) }
     ensures window { IfOk result (λ prepared. HasWindow prepared.work) }
 {
@@ -215,7 +285,7 @@ fn compilation<S: System, H: Host<S>>(
         return Err(Stop::Told(text));
     }
     refuse_overwriting(alloc, name, &call, host)?;
-    prepared_plan(alloc, calling, chain, call, given, seed, outside)
+    prepared_plan(alloc, calling, chain, call, args, given, seed, outside)
 }
 
 /// What a call does whose line is a question to a compiler.
@@ -273,7 +343,9 @@ fn task_prepared<S: System, H: Host<S>>(
             Ok(prepared)
         }
         Task::Compilation(chain, call) => {
-            compilation(alloc, calling, &chain, call, given, seed, outside, host)
+            compilation(
+                alloc, calling, &chain, call, args, given, seed, outside, host,
+            )
         }
     }
 }

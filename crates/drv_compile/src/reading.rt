@@ -3,12 +3,11 @@
 ghost use Rattle.drv_args.specs.Lines.{prefix_of, spec_of};
 ghost use Rattle.drv_cc.specs.Items.{items_of};
 ghost use Rattle.drv_compile.specs.Reading.{answer_names, file_names, files_names, folders_given};
-ghost use Rattle.drv_compile.specs.Reading.{has_unknown, is_unknown, known_answer, line_read};
+ghost use Rattle.drv_compile.specs.Reading.{known_answer, line_read};
 ghost use Rattle.drv_compile.specs.Reading.{names_read, read_beside, refused_answer, specs_given};
 ghost use Rattle.drv_compile.specs.Reading.{unknown_switch, unknown_switches, items_names};
 ghost use Rattle.drv_search.specs.Code.Telling.{Tells, TellsMore};
 ghost use Rattle.drv_system.specs.Code.Asked.{Asked};
-ghost use Rattle.std.specs.List.{list_any};
 ghost use Rattle.std.specs.Option.{option_copied};
 ghost use Rattle.std.specs.Prelude.{◌≡◌, ◌++◌, [], IfOk, List, None, OnOk, ℕ};
 
@@ -29,30 +28,6 @@ pub(crate) struct Reading {
     pub(crate) known: Word,
     /// The answer to the line.
     pub(crate) answer: Answer,
-}
-
-/// Whether a refusal is of a word that is no option.
-fn is_unknown(refusal: &Refusal) -> bool
-    ensures { result ≡ is_unknown refusal.now }
-{
-    matches!(refusal, Refusal::UnknownOption(_))
-}
-
-/// Whether some refusal is of a word that is no option.
-fn are_unknown(refusals: &[Refusal]) -> bool
-    ensures { result ≡ list_any is_unknown refusals.now }
-{
-    refusals.iter().any(is_unknown)
-}
-
-/// Whether a line is refused for a word that is no option.
-fn has_unknown(answer: &Answer) -> bool
-    ensures { result ≡ has_unknown answer.now }
-{
-    match answer {
-        Answer::Refuse(refusals) => are_unknown(refusals.as_slice()),
-        Answer::Ask | Answer::Run(_) => false,
-    }
 }
 
 /// Adds the word of a refusal that is no option, as a switch: without its hyphen.
@@ -116,7 +91,7 @@ pub(crate) fn specs_given(alloc: Global, items: &[Item]) -> Result<Listing<Word>
 }
 
 /// The folders of `-B` among items of the driver's line.
-fn folders_given(alloc: Global, items: &[Item]) -> Result<Listing<Word>, AllocError>
+pub(crate) fn folders_given(alloc: Global, items: &[Item]) -> Result<Listing<Word>, AllocError>
     ensures { IfOk result (λ folders. folders ≡ folders_given items.now) }
 {
     let mut folders = Listing::new(alloc);
@@ -291,10 +266,10 @@ pub(crate) fn read_line<S: System>(
     ensures reading { Tells outside.new result (λ F. line_read F specs.now around.now words.now) }
 {
     let items = Items::of(alloc, b"", words)?;
-    let answer = items.answer(alloc, &[], around)?;
-    if has_unknown(&answer) {
+    if items.has_unknown() {
         return read_by(alloc, specs, around, items, outside);
     }
+    let answer = items.answer(alloc, &[], around)?;
     let known = Word::empty(alloc);
     Ok(Some(Reading { known, answer }))
 }

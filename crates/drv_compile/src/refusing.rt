@@ -11,10 +11,10 @@ ghost use Rattle.drv_system.specs.Facts.{Facts};
 ghost use Rattle.drv_system.specs.Known.{Is};
 ghost use Rattle.std.specs.Prelude.{◌≡◌, IfOk};
 
-use crate::running::{DriverLine, line_given};
+use crate::reading::{folders_given, specs_given};
+use crate::running::DriverLine;
 use crate::stop::Stop;
 use crate::wording::told_refusal;
-use drv_args::{ArgsFault, Settings};
 use drv_check::fault_note;
 use drv_run::{Ending, Refusal};
 use drv_specs::suffixes;
@@ -22,19 +22,18 @@ use drv_system::{Outside, System};
 use drv_words::Word;
 use std::alloc::{AllocError, Global};
 
-/// Where the spec files of a line are refused, as a note.
+/// Where these spec files are refused, as a note.
 fn note_over<S: System>(
     alloc: Global,
-    settings: &Settings,
+    folders: &[Word],
+    names: &[Word],
     outside: &mut Outside<'_, S>,
 ) -> Result<Word, AllocError>
     ensures asks { Asked S.events outside.old outside.new }
     ensures note { (F : Facts) → Extends outside.new.facts.now F → IfOk result (λ note.
-        fault_note F suffixes settings.now.prefixes settings.now.specs ≡ Is note) }
+        fault_note F suffixes folders.now names.now ≡ Is note) }
 {
     let set = suffixes(alloc)?;
-    let folders = settings.prefixes.as_slice();
-    let names = settings.specs.as_slice();
     fault_note(alloc, set, folders, names, outside.sys, outside.facts)
 }
 
@@ -43,14 +42,15 @@ fn place_noted<S: System>(
     alloc: Global,
     given: &DriverLine,
     outside: &mut Outside<'_, S>,
-) -> Result<Word, ArgsFault>
+) -> Result<Word, AllocError>
     ensures asks { Asked S.events outside.old outside.new }
     ensures note { (F : Facts) → Extends outside.new.facts.now F
         → IfOk result (λ note. NotesPlace F given.now note) }
 {
-    let line = line_given(alloc, given)?;
-    let note = note_over(alloc, &line.settings, outside)?;
-    Ok(note)
+    let items = given.items.as_slice();
+    let folders = folders_given(alloc, items)?;
+    let names = specs_given(alloc, items)?;
+    note_over(alloc, folders.as_slice(), names.as_slice(), outside)
 }
 
 /// The note after a refusal of a line of the driver.
@@ -59,7 +59,7 @@ fn note_of<S: System>(
     given: &DriverLine,
     refusal: &Refusal,
     outside: &mut Outside<'_, S>,
-) -> Result<Word, ArgsFault>
+) -> Result<Word, AllocError>
     ensures asks { Asked S.events outside.old outside.new }
     ensures note { (F : Facts) → Extends outside.new.facts.now F
         → IfOk result (λ note. IsNote F given.now refusal.now note) }
@@ -77,7 +77,7 @@ fn said<S: System>(
     given: &DriverLine,
     refusal: &Refusal,
     outside: &mut Outside<'_, S>,
-) -> Result<Word, ArgsFault>
+) -> Result<Word, AllocError>
     ensures asks { Asked S.events outside.old outside.new }
     ensures text { (F : Facts) → Extends outside.new.facts.now F
         → IfOk result (λ text. IsSaid F name.now given.now refusal.now text) }

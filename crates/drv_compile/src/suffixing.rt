@@ -7,6 +7,7 @@ ghost use Rattle.std.specs.Option.{option_copied};
 ghost use Rattle.std.specs.Prelude.{◌≡◌, ◌++◌, IfOk, OnOk};
 
 use crate::compilers::first_value;
+use crate::machines::with_argument;
 use drv_args::{Effect, Item};
 use drv_words::{Listing, Word, base};
 use std::alloc::{AllocError, Global};
@@ -65,11 +66,7 @@ fn are_unlinked(items: &[Item]) -> bool
 fn push_suffixed(item: &Item, suffix: &[u8], made: &mut Listing<Item>) -> Result<(), AllocError>
     ensures { OnOk result (made.new ≡ made.old ++ with_suffix suffix.now item.now) }
 {
-    made.push(Item {
-        effect: item.effect,
-        option: item.option.clone()?,
-        argument: argument_of(item, suffix)?,
-    })?;
+    made.push(with_argument(item, argument_of(item, suffix)?)?)?;
     Ok(())
 }
 

@@ -5,22 +5,26 @@ ghost use Rattle.drv_compile.specs.Texts.{gone_text, help_text, if_only, lacking
 ghost use Rattle.drv_compile.specs.Texts.{overwritten_text, quoted, version_text};
 ghost use Rattle.drv_compile.specs.Texts.{refusal_text};
 ghost use Rattle.drv_compile.specs.Texts.{takes_file, takes_goal, takes_macro, takes_path};
-ghost use Rattle.drv_compile.specs.Texts.{unasked_text, unknown_text, unwritten_text, writing};
+ghost use Rattle.drv_compile.specs.Texts.{gcc_of, handed_text, is_for, unknown_text, unwritten_text, writing};
 ghost use Rattle.drv_compile.specs.Texts.{damaged_text, no_compiler_text, no_place_text};
 ghost use Rattle.drv_compile.specs.Texts.{no_specs_text, unread_text, variable_text};
 ghost use Rattle.drv_compile.specs.Words.{told_refusal};
 ghost use Rattle.std.specs.Option.{option_copied};
 ghost use Rattle.std.specs.Prelude.{◌≡◌, ◌++◌, [], IfOk, List, OnOk, if◌then◌else◌, ℕ};
 
+use crate::calling::before_ending;
 use crate::places::companion;
 use drv_cc::Refusal;
 use drv_plan::PlanFault;
 use drv_run::refusal_text;
-use drv_words::Word;
+use drv_words::{Word, base};
 use std::alloc::{AllocError, Global};
 
 /// What is said of a language that no spec file of this program is for.
 const NOT_SUPPORTED: &[u8] = b" is not supported: gdrv-cc compiles C and assembler";
+
+/// What is said of options of which no row has the words.
+const NOT_KNOWN: &[u8] = b"' are not known, and the compiler gets the line as it is; ";
 
 /// Adds three texts.
 fn add(text: &mut Word, before: &[u8], word: &[u8], after: &[u8]) -> Result<(), AllocError>
@@ -266,12 +270,33 @@ pub(crate) fn overwritten(alloc: Global, name: &[u8], output: &[u8]) -> Result<W
     Ok(text)
 }
 
+/// Whether a spec file is named for a machine.
+fn is_for(machine: &[u8], stem: Option<&[u8]>) -> bool
+    ensures { result ≡ is_for machine.now (option_copied stem.entry) }
+{
+    match stem {
+        Some(stem) => stem == machine,
+        None => false,
+    }
+}
+
+/// The machine, if a spec file is named for it; else the user says for which gcc the file is.
+fn gcc_of<'m>(specs: &[u8], machine: &'m [u8]) -> &'m [u8]
+    ensures { result.now ≡ gcc_of specs.now machine.now }
+{
+    if is_for(machine, before_ending(b".specs", base(specs))) {
+        machine
+    } else {
+        b"GCC"
+    }
+}
+
 /// Adds the command that writes the spec file of a machine.
 fn add_writing(text: &mut Word, specs: &[u8], machine: &[u8]) -> Result<(), AllocError>
     ensures { OnOk result (text.new ≡ text.old ++ writing specs.now machine.now) }
 {
     add(text, b"'gdrv-write-specs -o ", specs, b" ")?;
-    text.extend_from_slice(machine)?;
+    text.extend_from_slice(gcc_of(specs, machine))?;
     text.extend_from_slice(b"' writes it")
 }
 
@@ -455,27 +480,27 @@ pub(crate) fn damaged_text(
 }
 
 /// Adds the command that asks the compiler for the words of options.
-fn add_adding(text: &mut Word, specs: &[u8], key: &[u8]) -> Result<(), AllocError>
-    ensures { OnOk result (text.new ≡ text.old ++ adding specs.now key.now) }
+fn add_adding(text: &mut Word, specs: &[u8], options: &[u8]) -> Result<(), AllocError>
+    ensures { OnOk result (text.new ≡ text.old ++ adding specs.now options.now) }
 {
     add(text, b"'gdrv-write-specs --add ", specs, b" ")?;
-    text.extend_from_slice(key)?;
-    text.extend_from_slice(b"' asks the compiler for them")
+    text.extend_from_slice(options)?;
+    text.extend_from_slice(b"' asks it for them")
 }
 
-/// The text about options for a machine of which no words are known.
-pub(crate) fn unasked_text(
+/// What is said before the compiler carries out a line, since no row has the words for these options.
+pub(crate) fn handed_text(
     alloc: Global,
     name: &[u8],
     specs: &[u8],
-    key: &[u8],
+    options: &[u8],
 ) -> Result<Word, AllocError>
-    ensures { IfOk result (λ line. line ≡ unasked_text name.now specs.now key.now) }
+    ensures { IfOk result (λ line. line ≡ handed_text name.now specs.now options.now) }
 {
     let mut line = Word::from_bytes(alloc, name)?;
-    line.extend_from_slice(b": error: ")?;
-    add(&mut line, b"the words for '", key, b"' are not known; ")?;
-    add_adding(&mut line, specs, key)?;
+    line.extend_from_slice(b": note: ")?;
+    add(&mut line, b"the words for '", options, NOT_KNOWN)?;
+    add_adding(&mut line, specs, options)?;
     line.push(b'\n')?;
     Ok(line)
 }

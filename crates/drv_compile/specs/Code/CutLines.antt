@@ -1,5 +1,6 @@
 use Rattle.drv_compile.specs.Compilers.{lines}
-use Rattle.std.specs.Prelude.{List, [], None, Option, Some, length, suc, zero, ℕ}
+use Rattle.std.specs.List.{starts_with}
+use Rattle.std.specs.Prelude.{◌||◌, Bool, List, [], None, Option, Some, length, nat_eq, suc, zero, ℕ}
 
 -- How the code goes over the lines of a text: what is left of it. Only private clauses cite it.
 
@@ -10,3 +11,7 @@ lines_from (Some text) = lines text
 abbrev pub size_left : Option (List ℕ) → ℕ
 size_left None = zero
 size_left (Some text) = suc (length text)
+
+-- whether a line begins with one of two keys
+abbrev pub begins_with : List ℕ → List ℕ → List ℕ → Bool
+begins_with one other line = starts_with nat_eq line one || starts_with nat_eq line other

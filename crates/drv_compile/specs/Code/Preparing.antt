@@ -1,15 +1,14 @@
 use Rattle.drv_args.specs.declared.line.Expanded.{Expanded}
 use Rattle.drv_cc.specs.declared.answer.Call.{Call}
-use Rattle.drv_compile.specs.Compiles.{Fails, Performs, question}
-use Rattle.drv_compile.specs.Driven.{Drives, Undriven}
+use Rattle.drv_compile.specs.Compiles.{Fails, IsPlanned, Performs, handed_on, question}
+use Rattle.drv_compile.specs.Driven.{IsWorker, Undriven}
 use Rattle.drv_compile.specs.Inputs.{Overwrites}
 use Rattle.drv_compile.specs.Notes.{IsSaid}
-use Rattle.drv_compile.specs.Opening.{opening}
-use Rattle.drv_compile.specs.Runs.{Stops, Works}
+use Rattle.drv_compile.specs.Runs.{Stops}
 use Rattle.drv_compile.specs.Texts.{gone_text, help_text, overwritten_text, version_text}
-use Rattle.drv_compile.specs.Wrapper.{wrapper_of}
 use Rattle.drv_compile.specs.declared.calling.Calling.{Calling}
 use Rattle.drv_compile.specs.declared.driving.Driven.{Driven}
+use Rattle.drv_compile.specs.declared.driving.Worker.TheVariants.{Compiler, Driver}
 use Rattle.drv_compile.specs.declared.host.HostEvent.{HostEvent}
 use Rattle.drv_compile.specs.declared.preparing.Prepared.{Prepared}
 use Rattle.drv_compile.specs.declared.running.DriverLine.{DriverLine}
@@ -19,7 +18,6 @@ use Rattle.drv_compile.specs.declared.tasks.Toolchain.{Toolchain}
 use Rattle.drv_run.specs.declared.ending.Ending.TheVariants.{Refused}
 use Rattle.drv_run.specs.declared.ending.Refusal.{Refusal}
 use Rattle.drv_system.specs.Facts.{Facts}
-use Rattle.drv_system.specs.Known.{Is}
 use Rattle.std.specs.Prelude.{◌≡◌, ◌⊎◌, List, [], Some, true, ℕ}
 
 -- The steps of a line that is carried out. Only private clauses cite them.
@@ -33,22 +31,16 @@ abbrev pub IsOverwriting : List ℕ → Call → List HostEvent → List ℕ →
 IsOverwriting name call events text =
     (output : List ℕ) × (call.output ≡ Some output) × Overwrites call.inputs call.output events true × (text ≡ overwritten_text name output)
 
--- what the driver is called with, and its work
-pub record IsPlanned (F : Facts) (calling : Calling) (chain : Toolchain) (call : Call) (given : Expanded) (seed : ℕ)
-    (prepared : Prepared) : Type 0 where
-  pub driven : Driven
-  pub drives : Drives F chain call given driven
-  pub opens : opening F chain.specs driven.line.items driven.children ≡ Is prepared.said
-  pub works : Works F driven.line seed prepared.work
-  pub children : prepared.children ≡ driven.children
-  pub wrapper : prepared.wrapper ≡ wrapper_of driven.line.items
-  pub hint : prepared.hint ≡ gone_text calling.name chain.specs calling.machine
-  pub remark : prepared.remark ≡ []
+-- what is done for a line, by who carries it out
+abbrev pub IsPrepared : Facts → Calling → Toolchain → Call → List (List ℕ) → Expanded → ℕ → Prepared → Type 0
+IsPrepared F calling chain call args given seed prepared =
+    ((driven : Driven) × IsWorker F chain call given (Driver driven) × IsPlanned F calling chain driven seed prepared)
+    ⊎ ((options : List ℕ) × IsWorker F chain call given (Compiler options) × (prepared ≡ handed_on calling chain options args given))
 
 abbrev pub IsUnplanned : Facts → Calling → Toolchain → Call → Expanded → ℕ → List ℕ → Type 0
 IsUnplanned F calling chain call given seed text =
     Undriven F calling chain call given text
-    ⊎ ((driven : Driven) × Drives F chain call given driven × IsFailure F calling.name driven.line seed text)
+    ⊎ ((driven : Driven) × IsWorker F chain call given (Driver driven) × IsFailure F calling.name driven.line seed text)
 
 -- what is done for a question
 abbrev pub IsQuestion : Calling → List ℕ → List ℕ → List (List ℕ) → Prepared → Type 0
@@ -66,7 +58,8 @@ IsQuestion calling specs compiler args prepared =
 abbrev pub IsTaskDone : Facts → Calling → List (List ℕ) → Expanded → ℕ → Task → List HostEvent → Prepared → Type 0
 IsTaskDone F calling args given seed (Question specs compiler) events prepared =
     (events ≡ []) × IsQuestion calling specs compiler args prepared
-IsTaskDone F calling args given seed (Compilation chain call) events prepared = Performs F calling chain call given seed events prepared
+IsTaskDone F calling args given seed (Compilation chain call) events prepared =
+    Performs F calling chain call args given seed events prepared
 
 abbrev pub IsTaskRefused : Facts → Calling → Expanded → ℕ → Task → List HostEvent → List ℕ → Type 0
 IsTaskRefused F calling given seed (Question specs compiler) events text = ⊥

@@ -2,7 +2,7 @@ use Rattle.drv_compile.proofs.DriverCalls.{answered_ask, answered_none, answered
 use Rattle.drv_compile.proofs.driving.answered.Goals as goal
 use Rattle.std.proofs.Common.{◌∙◌, Some, ap}
 
--- answered (src/driving.rt). What the driver is called with by what the spec files of a line gave it.
+-- answered (src/driving.rt). Who carries out a line, by what its spec files gave it.
 
 pub returns-in-Some-Run-clause-drives : goal.returns-in-Some-Run-clause-drives
 returns-in-Some-Run-clause-drives g c F e =

@@ -3,8 +3,9 @@ use Rattle.drv_compile.proofs.driving.called.Goals as goal
 use Rattle.drv_system.proofs.AskedCalls.{asked_further, extends_before}
 use Rattle.drv_system.specs.Known.{Is}
 use Rattle.std.proofs.Common.{◌∙◌, ap}
+use Rattle.std.specs.Option.{option_copied}
 
--- called (src/driving.rt). What the driver is called with for a line by itself, with the file that has its texts.
+-- called (src/driving.rt). Who carries out a line by itself, with the file that has its texts.
 
 pub returns-in_err-texts-clause-asks : goal.returns-in_err-texts-clause-asks
 returns-in_err-texts-clause-asks g c = asked_further c.written_beside.ensures.asks c.texts_asked.ensures.asks
@@ -12,15 +13,18 @@ returns-in_err-texts-clause-asks g c = asked_further c.written_beside.ensures.as
 pub returns-in_err-text-in-Damaged-clause-asks : goal.returns-in_err-text-in-Damaged-clause-asks
 returns-in_err-text-in-Damaged-clause-asks g c = asked_further c.written_beside.ensures.asks c.texts_asked.ensures.asks
 
-pub returns-in-Whole-clause-asks : goal.returns-in-Whole-clause-asks
-returns-in-Whole-clause-asks g c = asked_further c.written_beside.ensures.asks c.texts_asked.ensures.asks
+pub returns-in_err-worker-in-Whole-clause-asks : goal.returns-in_err-worker-in-Whole-clause-asks
+returns-in_err-worker-in-Whole-clause-asks g c = asked_further c.written_beside.ensures.asks c.texts_asked.ensures.asks
 
-pub returns-in-Whole-clause-calls : goal.returns-in-Whole-clause-calls
-returns-in-Whole-clause-calls g c F e =
-    called_whole F c.args.calling.now c.args.specs.now c.args.call c.args.given.now _ c.in-Whole.path c.in_ok-rows.rows
-    c.machined_call.result c.as_slice.ensures
+pub returns-in_ok-worker-in-Whole-clause-asks : goal.returns-in_ok-worker-in-Whole-clause-asks
+returns-in_ok-worker-in-Whole-clause-asks g c = asked_further c.written_beside.ensures.asks c.texts_asked.ensures.asks
+
+pub returns-in_ok-worker-in-Whole-clause-calls : goal.returns-in_ok-worker-in-Whole-clause-calls
+returns-in_ok-worker-in-Whole-clause-calls g c F e =
+    called_whole F c.args.specs.now c.args.call c.args.given.now _ c.in-Whole.path c.in_ok-rows.rows (option_copied c.slice_of.result)
+    c.in_ok-worker-in-Whole.worker c.as_slice.ensures
     (c.in_ok-texts.ensures.texts F e ∙ ap Is c.in-Whole.is)
-    (c.in_ok-rows.ensures.lines F (extends_before c.texts_asked.ensures.asks e)) c.machined_call.ensures
+    (c.in_ok-rows.ensures.lines F (extends_before c.texts_asked.ensures.asks e)) c.slice_of.ensures c.in_ok-worker-in-Whole.ensures
 
 pub returns-in_ok-text-in-Damaged-clause-asks : goal.returns-in_ok-text-in-Damaged-clause-asks
 returns-in_ok-text-in-Damaged-clause-asks g c = asked_further c.written_beside.ensures.asks c.texts_asked.ensures.asks

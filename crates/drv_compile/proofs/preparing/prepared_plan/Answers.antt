@@ -1,40 +1,25 @@
-use Rattle.drv_compile.proofs.Prepared.{failed_plan, planned_so, undriven_plan}
+use Rattle.drv_compile.proofs.Prepared.{prepared_by_compiler, prepared_by_driver, undriven_plan}
 use Rattle.drv_compile.proofs.preparing.prepared_plan.Goals as goal
-use Rattle.drv_compile.specs.Texts.{gone_text}
 use Rattle.drv_system.proofs.AskedCalls.{asked_further, extends_before}
-use Rattle.std.proofs.Common.{◌∙◌, ap}
 
--- prepared_plan (src/preparing.rt). A line that nothing refuses, with what the driver is called with and its work.
+-- prepared_plan (src/preparing.rt). What a call does for a line that nothing refuses.
 
 pub returns-in_err-driven-clause-plans : goal.returns-in_err-driven-clause-plans
 returns-in_err-driven-clause-plans g c F e =
-    undriven_plan F c.args.calling.now c.args.chain.now c.args.call c.args.given.now c.args.seed _ c.from_residual-in_err-driven.result
-    c.from_residual-in_err-driven.ensures.1
-    (c.in_err-driven.ensures.drives F e)
+    undriven_plan F c.args.calling.now c.args.chain.now c.args.call c.args.args.now c.args.given.now c.args.seed _ c.from_residual.result
+    c.from_residual.ensures.1 (c.in_err-driven.ensures.drives F e)
 
-pub returns-in_err-work-clause-plans : goal.returns-in_err-work-clause-plans
-returns-in_err-work-clause-plans g c F e =
-    failed_plan F c.args.calling.now c.args.chain.now c.args.call c.args.given.now c.args.seed c.in_ok-driven.driven
-    c.as_bytes-name.result.now _ c.from_residual-in_err-work.result
-    c.as_bytes-name.ensures (c.in_ok-driven.ensures.drives F
-    (extends_before c.opening.ensures.asks (extends_before c.work_or_stop.ensures.asks e))) c.from_residual-in_err-work.ensures.1
-    (c.in_err-work.ensures.works F e)
+pub returns-in-Driver-clause-asks : goal.returns-in-Driver-clause-asks
+returns-in-Driver-clause-asks g c = asked_further c.worker_of.ensures.asks c.planned.ensures.asks
 
-pub returns-clause-plans : goal.returns-clause-plans
-returns-clause-plans g c F e =
-    planned_so F c.args.calling.now c.args.chain.now c.args.call c.args.given.now c.args.seed c.in_ok-driven.driven
-    c.as_bytes-specs.result.now c.in_ok-wrapper.wrapper c.in_ok-said.said c.in_ok-hint.hint c.empty.result
-    c.as_slice-items.result.now c.as_slice.result.now c.in_ok-work.work c.as_bytes-specs.ensures c.as_slice-items.ensures c.as_slice.ensures
-    (c.in_ok-driven.ensures.drives F (extends_before c.opening.ensures.asks (extends_before c.work_or_stop.ensures.asks e)))
-    (c.in_ok-wrapper.ensures ∙ c.wrapper_of.ensures) (c.in_ok-said.ensures.text F (extends_before c.work_or_stop.ensures.asks e))
-    (c.in_ok-work.ensures.works F e)
-    (c.in_ok-hint.ensures ∙ ap (λ n. gone_text n c.as_bytes-specs.result.now c.as_bytes.result.now) c.as_bytes-name.ensures
-    ∙ ap (λ s. gone_text c.args.calling.now.name s c.as_bytes.result.now) c.as_bytes-specs.ensures
-    ∙ ap (gone_text c.args.calling.now.name c.args.chain.now.specs) c.as_bytes.ensures) c.empty.ensures
+pub returns-in-Driver-clause-plans : goal.returns-in-Driver-clause-plans
+returns-in-Driver-clause-plans g c F e =
+    prepared_by_driver F c.args.calling.now c.args.chain.now c.args.call c.args.args.now c.args.given.now c.args.seed _ c.in-Driver.driven
+    c.planned.result (c.in_ok-driven.ensures.drives F (extends_before c.planned.ensures.asks e)) c.in-Driver.is
+    (c.planned.ensures.plans F e)
 
-pub returns-in_err-work-clause-asks : goal.returns-in_err-work-clause-asks
-returns-in_err-work-clause-asks g c = asked_further
-    (asked_further c.driver_call.ensures.asks c.opening.ensures.asks) c.work_or_stop.ensures.asks
-
-pub returns-clause-asks : goal.returns-clause-asks
-returns-clause-asks g c = asked_further (asked_further c.driver_call.ensures.asks c.opening.ensures.asks) c.work_or_stop.ensures.asks
+pub returns-in_ok-prepared-in-Compiler-clause-plans : goal.returns-in_ok-prepared-in-Compiler-clause-plans
+returns-in_ok-prepared-in-Compiler-clause-plans g c F e =
+    prepared_by_compiler F c.args.calling.now c.args.chain.now c.args.call c.args.args.now c.args.given.now c.args.seed _
+    c.in-Compiler.options _ c.in_ok-prepared-in-Compiler.prepared (c.in_ok-driven.ensures.drives F e) c.in-Compiler.is c.as_bytes.ensures
+    c.in_ok-prepared-in-Compiler.ensures.hands

@@ -1,0 +1,19 @@
+use Rattle.drv_compile.proofs.wording.handed_text.Goals as goal
+use Rattle.drv_compile.specs.Texts.{adding, note_line, quoted}
+use Rattle.std.proofs.Common.{◌≡◌, ◌∙◌, ◌++◌, List, ap, append_assoc, codes, ℕ}
+
+-- handed_text (src/wording.rt). What is said before the compiler carries out a line, since no row has the words for these options.
+
+lined : (name text more : List ℕ) → (((name ++ codes ": note: ") ++ text) ++ more) ++ codes "\n" ≡ note_line name (text ++ more)
+lined name text more = ap (λ line. line ++ codes "\n") (append_assoc (name ++ codes ": note: ") text more)
+
+pub returns : goal.returns
+returns c =
+    let text = quoted (codes "the words for '") c.args.options.now (codes "' are not known, and the compiler gets the line as it is; ") in
+    let more = adding c.args.specs.now c.args.options.now in
+    c.in_ok-push.ensures.ok
+    ∙ ap (λ line. line ++ codes "\n") c.in_ok-add_adding.ensures
+    ∙ ap (λ line. (line ++ more) ++ codes "\n") c.in_ok-add.ensures
+    ∙ ap (λ line. ((line ++ text) ++ more) ++ codes "\n") c.in_ok-extend_from_slice.ensures.ok
+    ∙ ap (λ line. (((line ++ codes ": note: ") ++ text) ++ more) ++ codes "\n") c.in_ok-line.ensures
+    ∙ lined c.args.name.now text more
