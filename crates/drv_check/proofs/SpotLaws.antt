@@ -3,7 +3,7 @@ use Rattle.drv_check.specs.declared.findings.Source.{Source}
 use Rattle.drv_check.specs.declared.findings.Spot.{Spot}
 use Rattle.drv_check.specs.declared.opening.OpenFile.{OpenFile}
 use Rattle.std.proofs.Common.{◌≡◌, ◌∙◌, ◌&&◌, ◌+◌, ◌-◌, ◌∷◌, Bool, List, None, Option, Some, [], ap, arith, drop, false, if◌then◌else◌}
-use Rattle.std.proofs.Common.{length, refl, subst, suc, sym, true, zero, ℕ}
+use Rattle.std.proofs.Common.{length, refl, subst, suc, true, zero, ℕ}
 use Rattle.std.proofs.lemmas.Bool.Decides.{nat_tests}
 use Rattle.std.specs.Prelude.{nat_lt, slice_get}
 

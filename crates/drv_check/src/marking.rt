@@ -16,7 +16,7 @@ use crate::opening::OpenFile;
 use crate::origins::{head_in, open_all, spot_at, text_spots};
 use crate::own_text::{own_start, own_tree};
 use crate::pieces::{Piece, pieces_of};
-use drv_syntax::{SpecTree, Token, TokenKind};
+use drv_syntax::{Token, TokenKind};
 use drv_words::{Listing, Word};
 use std::alloc::{AllocError, Global};
 
