@@ -130,7 +130,7 @@ fn is_ended(rest: &[u8]) -> bool
     }
 }
 
-/// Whether a text begins with this line.
+/// Whether a text begins with this line. The tests are joined without branches: one proof has all.
 #[tactic(auto, using(crate::proofs::Lines::begun))]
 fn begins_with(text: &[u8], line: &[u8]) -> bool
     ensures { result ≡ true → is_known text.now line.now ≡ true }
@@ -146,7 +146,7 @@ fn rest_from(text: &[u8], at: usize) -> &[u8]
     text.get(at..).unwrap_or(&[])
 }
 
-/// Whether this line begins at a place of a text.
+/// Whether this line begins at a place of a text. Its two tests are joined in the same way.
 fn stands_at(text: &[u8], at: usize, line: &[u8]) -> bool
     ensures { result ≡ true → is_known text.now line.now ≡ true }
 {
