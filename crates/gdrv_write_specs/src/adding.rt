@@ -8,9 +8,9 @@ use crate::fault::Fault;
 use crate::names::sorted;
 use crate::natives::with_natives;
 use crate::placing::{driver_at, stem_of};
-use crate::room::{Room, joined, write};
 use crate::row_texts::Ways;
 use crate::rows::{Row, naming_in, push_names, push_row, row_of};
+use crate::work_folder::{WorkFolder, joined, write};
 use drv_gcc::values;
 use drv_words::{Listing, Word};
 use std::alloc::Global;
@@ -76,14 +76,14 @@ fn other_lines(alloc: Global, lines: &[Word], key: &Word) -> Result<Listing<Word
     Ok(others)
 }
 
-/// Copies the files of a spec file into a room.
-fn copy_files(rt: &HostRuntime, room: &Room, stem: &Word) -> Result<(), Fault> {
+/// Copies the files of a spec file into a folder of work.
+fn copy_files(rt: &HostRuntime, work: &WorkFolder, stem: &Word) -> Result<(), Fault> {
     for ending in ENDINGS {
         let path = joined(rt.alloc(), stem, ending)?;
         if let Ok(content) = fs::read(rt, text(path.as_bytes())?) {
             write(
                 rt,
-                &joined(rt.alloc(), &room.stem, ending)?,
+                &joined(rt.alloc(), &work.stem, ending)?,
                 content.as_slice(),
             )?;
         }
@@ -94,7 +94,7 @@ fn copy_files(rt: &HostRuntime, room: &Room, stem: &Word) -> Result<(), Fault> {
 /// The row of these options, for a gcc with these folders.
 fn row_for(
     rt: &HostRuntime,
-    room: &Room,
+    work: &WorkFolder,
     gcc: &Word,
     folders: &[Word],
     naming: FolderName,
@@ -102,7 +102,7 @@ fn row_for(
 ) -> Result<Row, Fault> {
     let asked = Asked {
         rt,
-        room,
+        work,
         gcc,
         option: key,
         places: Places::Searched,
@@ -117,7 +117,7 @@ fn row_for(
 /// Adds a row to these lines of the file that names the gcc, and its options to the names.
 fn put_row(
     rt: &HostRuntime,
-    room: &Room,
+    work: &WorkFolder,
     stem: &Word,
     lines: &[Word],
     row: &Row,
@@ -126,33 +126,33 @@ fn put_row(
     let others = other_lines(alloc, lines, &row.key)?;
     let mut whole = text_of(alloc, others.as_slice())?;
     push_row(&mut whole, row)?;
-    room.put(rt, b".gcc", &whole)?;
+    work.put(rt, b".gcc", &whole)?;
     let options = lines_of(rt, &joined(alloc, stem, b".options")?)?;
     let mut names = text_of(alloc, options.as_slice())?;
     push_names(&mut names, row)?;
-    room.put(rt, b".options", &sorted(alloc, &names)?)
+    work.put(rt, b".options", &sorted(alloc, &names)?)
 }
 
-/// Adds the row of these options in a room, tries it, and puts it in place.
+/// Adds the row of these options in a folder of work, tries it, and puts it in place.
 fn add_in(
     rt: &HostRuntime,
-    room: &Room,
+    work: &WorkFolder,
     stem: &Word,
     lines: &[Word],
     gcc: &Word,
     key: &Word,
 ) -> Result<(), Fault> {
-    copy_files(rt, room, stem)?;
+    copy_files(rt, work, stem)?;
     let whole = text_of(rt.alloc(), lines)?;
     let folders = values(rt.alloc(), b"folder ", whole.as_bytes())?;
     let naming = naming_in(rt.alloc(), whole.as_bytes())?;
-    let row = row_for(rt, room, gcc, folders.as_slice(), naming, key)?;
-    put_row(rt, room, stem, lines, &row)?;
-    if (Pair { rt, room, gcc }).is_other(key)? {
+    let row = row_for(rt, work, gcc, folders.as_slice(), naming, key)?;
+    put_row(rt, work, stem, lines, &row)?;
+    if (Pair { rt, work, gcc }).is_other(key)? {
         return Err(Fault::NoRow(key.clone()?));
     }
-    room.place_file(rt, stem, b".options")?;
-    room.place_file(rt, stem, b".gcc")
+    work.place_file(rt, stem, b".options")?;
+    work.place_file(rt, stem, b".gcc")
 }
 
 /// The gcc of a file that names one and has rows.
@@ -174,8 +174,8 @@ pub fn add_words(rt: &HostRuntime, output: &Word, options: &[Word]) -> Result<()
     let lines = lines_of(rt, &path)?;
     let gcc = gcc_with_rows(rt.alloc(), &path, lines.as_slice())?;
     let key = key_of(rt.alloc(), options)?;
-    let room = Room::new(rt, &stem, &driver_at(rt)?)?;
-    let done = add_in(rt, &room, &stem, lines.as_slice(), &gcc, &key);
-    room.remove(rt);
+    let work = WorkFolder::new(rt, &stem, &driver_at(rt)?)?;
+    let done = add_in(rt, &work, &stem, lines.as_slice(), &gcc, &key);
+    work.remove(rt);
     done
 }

@@ -2,7 +2,7 @@
 
 use crate::asking::{Said, answer, ask, commands, named};
 use crate::fault::Fault;
-use crate::room::Room;
+use crate::work_folder::WorkFolder;
 use drv_words::{Listing, Word};
 use std::alloc::Global;
 
@@ -15,12 +15,12 @@ pub enum Places {
     Fixed,
 }
 
-/// A gcc that is asked in a room, by its path, with an option that chooses its machine or an empty
-/// word.
+/// A gcc that is asked in a folder of work, by its path, with an option that chooses its machine or
+/// an empty word.
 #[derive(Clone, Copy)]
 pub struct Asked<'a> {
     pub rt: &'a HostRuntime,
-    pub room: &'a Room,
+    pub work: &'a WorkFolder,
     pub gcc: &'a Word,
     pub option: &'a Word,
     pub places: Places,
@@ -41,14 +41,14 @@ impl<'a> Asked<'a> {
     /// Asks with the words of a line.
     pub fn ask(self, line: &[u8]) -> Result<Said, Fault> {
         let whole = self.with_option(line)?;
-        Ok(ask(self.rt, &self.room.lines, self.gcc, whole.as_bytes())?)
+        Ok(ask(self.rt, &self.work.lines, self.gcc, whole.as_bytes())?)
     }
 
     /// The answer to a question about a name.
     pub fn answer(self, question: &[u8], name: &[u8]) -> Result<Word, Fault> {
         let line = named(self.alloc(), question, name)?;
         let whole = self.with_option(line.as_bytes())?;
-        answer(self.rt, &self.room.lines, self.gcc, whole.as_bytes())
+        answer(self.rt, &self.work.lines, self.gcc, whole.as_bytes())
     }
 
     /// The path of a file; empty where gcc doesn't find it.

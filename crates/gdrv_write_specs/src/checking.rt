@@ -3,7 +3,7 @@
 use crate::asking::{Said, ask, commands};
 use crate::fault::Fault;
 use crate::refusing::{Answer, answer_to};
-use crate::room::Room;
+use crate::work_folder::WorkFolder;
 use drv_gcc::{options, same_commands};
 use drv_words::{Listing, Word};
 use std::alloc::Global;
@@ -98,11 +98,11 @@ const OTHERS: [&[u8]; 15] = [
     b"-fno-fast-math",
 ];
 
-/// Two drivers that are compared in a room.
+/// Two drivers that are compared in a folder of work.
 #[derive(Clone, Copy)]
 pub struct Pair<'a> {
     pub rt: &'a HostRuntime,
-    pub room: &'a Room,
+    pub work: &'a WorkFolder,
     pub gcc: &'a Word,
 }
 
@@ -139,13 +139,13 @@ fn has_pipe(shown: &[u8]) -> bool {
 impl<'a> Pair<'a> {
     /// What a program shows for a line.
     fn show(self, program: &Word, line: &Word) -> Result<Said, Fault> {
-        Ok(ask(self.rt, &self.room.lines, program, line.as_bytes())?)
+        Ok(ask(self.rt, &self.work.lines, program, line.as_bytes())?)
     }
 
     /// How the two drivers take a line with an option. This driver adds `-pipe` by itself.
     fn verdict(self, line: &[u8], option: &[u8]) -> Result<Verdict, Fault> {
         let alloc = self.rt.alloc();
-        let ours = self.show(&self.room.driver, &shown_line(alloc, line, option, false)?)?;
+        let ours = self.show(&self.work.driver, &shown_line(alloc, line, option, false)?)?;
         let pipe = has_pipe(ours.err.as_bytes());
         let theirs = self.show(self.gcc, &shown_line(alloc, line, option, pipe)?)?;
         if !theirs.is_done || !ours.is_done {
@@ -235,7 +235,7 @@ impl<'a> Pair<'a> {
         let mut unnamed = Listing::new(self.rt.alloc());
         for option in NAMED {
             let word = Word::from_bytes(self.rt.alloc(), option)?;
-            if let Answer::Lacks = answer_to(self.rt, self.room, self.gcc, &word)? {
+            if let Answer::Lacks = answer_to(self.rt, self.work, self.gcc, &word)? {
                 unnamed.push(word)?;
             }
         }
@@ -245,7 +245,7 @@ impl<'a> Pair<'a> {
     /// The options for a machine that a gcc lists, each with a value if it takes one.
     pub fn machines(self) -> Result<Listing<Word>, Fault> {
         let alloc = self.rt.alloc();
-        let listed = ask(self.rt, &self.room.lines, self.gcc, b"--completion=-m")?;
+        let listed = ask(self.rt, &self.work.lines, self.gcc, b"--completion=-m")?;
         let mut machines = Listing::new(alloc);
         for option in options(alloc, listed.out.as_bytes())?.as_slice() {
             let name = option.as_bytes();

@@ -38,7 +38,7 @@ const IF_EXISTS: &[u8] = b"%:if-exists(";
 impl<'a> Asked<'a> {
     /// What the gcc dumps.
     fn dump(self) -> Result<Word, Fault> {
-        let Ok(said) = ask(self.rt, &self.room.lines, self.gcc, b"-dumpspecs") else {
+        let Ok(said) = ask(self.rt, &self.work.lines, self.gcc, b"-dumpspecs") else {
             return Err(Fault::NoGcc(self.gcc.clone()?));
         };
         if !said.is_done || said.out.is_empty() {
@@ -49,7 +49,7 @@ impl<'a> Asked<'a> {
 
     /// The spec files that it reads for each line, as `musl-gcc` does, which calls another gcc.
     fn files_read(self) -> Result<Listing<Word>, Fault> {
-        let Ok(said) = ask(self.rt, &self.room.lines, self.gcc, b"-v") else {
+        let Ok(said) = ask(self.rt, &self.work.lines, self.gcc, b"-v") else {
             return Err(Fault::NoGcc(self.gcc.clone()?));
         };
         Ok(values(self.alloc(), b"Reading specs from ", said.err.as_bytes())?)

@@ -9,11 +9,11 @@ use crate::finding::{command_named, has_word, word_beginning};
 use crate::machines::{Facts, MachineText, choice, facts_for, machine_of, own_folder};
 use crate::natives::with_natives;
 use crate::programs::is_folder;
-use crate::room::Room;
 use crate::row_texts::{Ways, multilib_facts};
 use crate::rows::{Row, rows_of};
 use crate::texts_by_name::named_for;
 use crate::wording::{own_records, with_other_words};
+use crate::work_folder::WorkFolder;
 use drv_dump::{OurDump, pass_libraries, translate_dump};
 use drv_gcc::{
     Choice, Included, MachineOptions, MachineWord, NamedText, Programs, Toolchain, named_texts,
@@ -159,7 +159,7 @@ impl<'a> Asked<'a> {
 
     /// Whether the linker is given the root of the line.
     fn is_rooted(self) -> Result<bool, Fault> {
-        let words = named(self.alloc(), b"--sysroot=", self.room.root.as_bytes())?;
+        let words = named(self.alloc(), b"--sysroot=", self.work.root.as_bytes())?;
         Ok(self.root_with(words.as_bytes())?.as_bytes() == words.as_bytes())
     }
 
@@ -432,13 +432,18 @@ impl Gathered {
     }
 
     /// Asks for the rows.
-    pub fn add_rows(&mut self, rt: &HostRuntime, room: &Room, gcc: &Word) -> Result<(), Fault> {
-        let libraries = multilib_facts(rt, room, gcc, &self.folder, self.names.as_slice())?;
+    pub fn add_rows(
+        &mut self,
+        rt: &HostRuntime,
+        work: &WorkFolder,
+        gcc: &Word,
+    ) -> Result<(), Fault> {
+        let libraries = multilib_facts(rt, work, gcc, &self.folder, self.names.as_slice())?;
         let all = libraries.as_slice();
         let naming = folder_name(rt.alloc(), &self.own, all, self.names.len())?;
         self.others = named_so(rt.alloc(), libraries, naming);
         let folders = self.toolchain.folders.as_slice();
-        self.rows = rows_of(rt, room, gcc, self.probes.as_slice(), folders, naming)?;
+        self.rows = rows_of(rt, work, gcc, self.probes.as_slice(), folders, naming)?;
         Ok(())
     }
 
@@ -446,13 +451,13 @@ impl Gathered {
     pub fn add_machine(
         &mut self,
         rt: &HostRuntime,
-        room: &Room,
+        work: &WorkFolder,
         gcc: &Word,
         option: &Word,
     ) -> Result<(), Fault> {
         let asked = Asked {
             rt,
-            room,
+            work,
             gcc,
             option,
             places: self.places,
@@ -471,11 +476,11 @@ impl Gathered {
 }
 
 /// Where the texts of a gcc look for its files.
-fn places_of(rt: &HostRuntime, room: &Room, gcc: &Word) -> Result<Places, Fault> {
+fn places_of(rt: &HostRuntime, work: &WorkFolder, gcc: &Word) -> Result<Places, Fault> {
     let option = Word::empty(rt.alloc());
     let asked = Asked {
         rt,
-        room,
+        work,
         gcc,
         option: &option,
         places: Places::Searched,
@@ -484,14 +489,19 @@ fn places_of(rt: &HostRuntime, room: &Room, gcc: &Word) -> Result<Places, Fault>
 }
 
 /// Asks a gcc for all that its spec file is made of. The texts for its machines are not chosen yet.
-pub fn gather(rt: &HostRuntime, room: &Room, gcc: &Word, ways: Ways) -> Result<Gathered, Fault> {
+pub fn gather(
+    rt: &HostRuntime,
+    work: &WorkFolder,
+    gcc: &Word,
+    ways: Ways,
+) -> Result<Gathered, Fault> {
     let option = Word::empty(rt.alloc());
     let asked = Asked {
         rt,
-        room,
+        work,
         gcc,
         option: &option,
-        places: places_of(rt, room, gcc)?,
+        places: places_of(rt, work, gcc)?,
     };
     let Known {
         translated,

@@ -5,7 +5,7 @@ use crate::asked::{Asked, Places};
 use crate::asking::named;
 use crate::fault::Fault;
 use crate::finding::{command_named, has_word, words_between};
-use crate::room::make_all;
+use crate::work_folder::make_all;
 use drv_gcc::{
     Choice, ForMachine, MachineWord, file_text, libraries, machine_words, options, placed_text,
     rooted_text, values, words_text,
@@ -244,7 +244,7 @@ fn maybe_rooted(alloc: Global, plain: Word, rooted: &Word, root: &Word) -> Resul
 /// The texts for the folders, also with another root.
 fn all_folders(asked: Asked<'_>, own: &Word) -> Result<Folders, Fault> {
     let alloc = asked.alloc();
-    let root = &asked.room.root;
+    let root = &asked.work.root;
     make_below(asked, root)?;
     let words = named(alloc, b"--sysroot=", root.as_bytes())?;
     let plain = folders_with(asked, own, b"")?;

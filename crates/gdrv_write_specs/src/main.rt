@@ -21,12 +21,12 @@ mod parts;
 mod placing;
 mod programs;
 mod refusing;
-mod room;
 mod row_texts;
 mod rows;
 mod shortening;
 mod texts_by_name;
 mod wording;
+mod work_folder;
 
 use adding::add_words;
 use calling::{Call, CallFault, call_of};

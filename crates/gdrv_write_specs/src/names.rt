@@ -4,14 +4,14 @@ use crate::asking::{ask, ask_words, commands, named};
 use crate::fault::Fault;
 use crate::finding::has_word;
 use crate::refusing::{Answer, answer_to, refused_of};
-use crate::room::Room;
+use crate::work_folder::WorkFolder;
 use drv_gcc::{option_lines, options, values};
 use drv_words::{Listing, Word, split};
 use std::alloc::Global;
 
 /// Whether a gcc calls `-mcpu=` by another name.
-fn calls_cpu_tune(rt: &HostRuntime, room: &Room, gcc: &Word) -> Result<bool, Fault> {
-    let shown = ask(rt, &room.lines, gcc, b"-### -S x.i -o made -mcpu=x")?;
+fn calls_cpu_tune(rt: &HostRuntime, work: &WorkFolder, gcc: &Word) -> Result<bool, Fault> {
+    let shown = ask(rt, &work.lines, gcc, b"-### -S x.i -o made -mcpu=x")?;
     let planned = commands(rt.alloc(), shown.err.as_bytes())?;
     Ok(
         planned.as_slice().iter().any(|command| {
@@ -172,23 +172,23 @@ fn judged_in(alloc: Global, line: &[u8]) -> Result<Option<Judged>, Fault> {
 }
 
 /// What a gcc says of these words.
-fn said_of(rt: &HostRuntime, room: &Room, gcc: &Word, tried: &[Word]) -> Result<Word, Fault> {
+fn said_of(rt: &HostRuntime, work: &WorkFolder, gcc: &Word, tried: &[Word]) -> Result<Word, Fault> {
     let mut words = split(rt.alloc(), b"-### -c x.s")?;
     for word in tried {
         words.push(word.clone()?)?;
     }
-    Ok(ask_words(rt, &room.lines, gcc, words.as_slice())?.err)
+    Ok(ask_words(rt, &work.lines, gcc, words.as_slice())?.err)
 }
 
 /// What a gcc says of the values of these options.
 fn judgements(
     rt: &HostRuntime,
-    room: &Room,
+    work: &WorkFolder,
     gcc: &Word,
     tried: &[Word],
 ) -> Result<Listing<Judged>, Fault> {
     let alloc = rt.alloc();
-    let said = said_of(rt, room, gcc, tried)?;
+    let said = said_of(rt, work, gcc, tried)?;
     let mut found = Listing::new(alloc);
     for line in said.as_bytes().split(|byte| *byte == b'\n') {
         if let Some(one) = judged_in(alloc, line)? {
@@ -232,14 +232,14 @@ struct OptionNames {
 /// Notes what a gcc makes of a word with the option of this name.
 fn note(
     rt: &HostRuntime,
-    room: &Room,
+    work: &WorkFolder,
     gcc: &Word,
     name: &[u8],
     word: &Word,
     options: &mut OptionNames,
 ) -> Result<(), Fault> {
     let alloc = rt.alloc();
-    match answer_to(rt, room, gcc, word)? {
+    match answer_to(rt, work, gcc, word)? {
         Answer::Takes => Ok(()),
         Answer::Refuses => Ok(options.names.push(named(alloc, name, b"?")?)?),
         Answer::Lacks => Ok(options.lacking.push(Word::from_bytes(alloc, name)?)?),
@@ -250,19 +250,19 @@ fn note(
 /// option has.
 fn note_refused(
     rt: &HostRuntime,
-    room: &Room,
+    work: &WorkFolder,
     gcc: &Word,
     whole: Listing<Word>,
     tried: &[Word],
     options: &mut OptionNames,
 ) -> Result<(), Fault> {
-    for word in refused_of(rt, room, gcc, whole)?.as_slice() {
-        note(rt, room, gcc, word.as_bytes(), word, options)?;
+    for word in refused_of(rt, work, gcc, whole)?.as_slice() {
+        note(rt, work, gcc, word.as_bytes(), word, options)?;
     }
     for word in tried {
         let bytes = word.as_bytes();
         let name = bytes.strip_suffix(b"?".as_slice()).unwrap_or(bytes);
-        note(rt, room, gcc, name, word, options)?;
+        note(rt, work, gcc, name, word, options)?;
     }
     Ok(())
 }
@@ -297,15 +297,15 @@ fn speaks_of(found: &[Judged], name: &Word) -> bool {
 /// follows `NAME=`. Numbers up to a small one are a list.
 fn add_judged(
     rt: &HostRuntime,
-    room: &Room,
+    work: &WorkFolder,
     gcc: &Word,
     tried: &[Word],
     names: &mut Listing<Word>,
 ) -> Result<(), Fault> {
     let alloc = rt.alloc();
-    let found = judgements(rt, room, gcc, tried)?;
+    let found = judgements(rt, work, gcc, tried)?;
     let large = with_large(alloc, found.as_slice())?;
-    let few = judgements(rt, room, gcc, large.as_slice())?;
+    let few = judgements(rt, work, gcc, large.as_slice())?;
     for it in found.as_slice() {
         add_values(alloc, it, names)?;
         if !speaks_of(few.as_slice(), &it.name) && matches!(it.takes, Takes::Number) {
@@ -322,7 +322,7 @@ fn add_judged(
 /// than those that are listed.
 fn sorted_out(
     rt: &HostRuntime,
-    room: &Room,
+    work: &WorkFolder,
     gcc: &Word,
     known: &[Word],
 ) -> Result<OptionNames, Fault> {
@@ -333,8 +333,8 @@ fn sorted_out(
     };
     let tried = with_no_value(alloc, known)?;
     let whole = whole_of(alloc, known)?;
-    note_refused(rt, room, gcc, whole, tried.as_slice(), &mut options)?;
-    add_judged(rt, room, gcc, tried.as_slice(), &mut options.names)?;
+    note_refused(rt, work, gcc, whole, tried.as_slice(), &mut options)?;
+    add_judged(rt, work, gcc, tried.as_slice(), &mut options.names)?;
     Ok(options)
 }
 
@@ -396,17 +396,27 @@ fn add_negatives(alloc: Global, said: &[u8], known: &mut Listing<Word>) -> Resul
 }
 
 /// Adds the name by which a gcc calls `-mcpu=`, if it is another one.
-fn add_tune(rt: &HostRuntime, room: &Room, gcc: &Word, lines: &mut Word) -> Result<(), Fault> {
-    if calls_cpu_tune(rt, room, gcc)? {
+fn add_tune(
+    rt: &HostRuntime,
+    work: &WorkFolder,
+    gcc: &Word,
+    lines: &mut Word,
+) -> Result<(), Fault> {
+    if calls_cpu_tune(rt, work, gcc)? {
         lines.extend_from_slice(b"-mcpu=>-mtune=\n")?;
     }
     Ok(())
 }
 
 /// The sorted lines of these names.
-fn sorted_lines(rt: &HostRuntime, room: &Room, gcc: &Word, names: &[Word]) -> Result<Word, Fault> {
+fn sorted_lines(
+    rt: &HostRuntime,
+    work: &WorkFolder,
+    gcc: &Word,
+    names: &[Word],
+) -> Result<Word, Fault> {
     let mut lines = option_lines(rt.alloc(), names)?;
-    add_tune(rt, room, gcc, &mut lines)?;
+    add_tune(rt, work, gcc, &mut lines)?;
     sorted(rt.alloc(), &lines)
 }
 
@@ -422,12 +432,12 @@ fn add_known(known: &[Word], judged: &OptionNames, names: &mut Listing<Word>) ->
 /// The names of the options that a gcc lists, with what it says of them.
 fn names_among(
     rt: &HostRuntime,
-    room: &Room,
+    work: &WorkFolder,
     gcc: &Word,
     said: &[u8],
     known: &mut Listing<Word>,
 ) -> Result<Listing<Word>, Fault> {
-    let judged = sorted_out(rt, room, gcc, known.as_slice())?;
+    let judged = sorted_out(rt, work, gcc, known.as_slice())?;
     add_negatives(rt.alloc(), said, known)?;
     let mut names = Listing::new(rt.alloc());
     add_known(known.as_slice(), &judged, &mut names)?;
@@ -435,17 +445,17 @@ fn names_among(
 }
 
 /// The lines of the options in what a gcc says of itself.
-fn lines_in(rt: &HostRuntime, room: &Room, gcc: &Word, said: &[u8]) -> Result<Word, Fault> {
+fn lines_in(rt: &HostRuntime, work: &WorkFolder, gcc: &Word, said: &[u8]) -> Result<Word, Fault> {
     let mut known = options(rt.alloc(), said)?;
     if known.is_empty() {
         return Err(Fault::NoOptions(gcc.clone()?));
     }
-    let names = names_among(rt, room, gcc, said, &mut known)?;
-    sorted_lines(rt, room, gcc, names.as_slice())
+    let names = names_among(rt, work, gcc, said, &mut known)?;
+    sorted_lines(rt, work, gcc, names.as_slice())
 }
 
 /// All options that a gcc knows, by their names, a line each.
-pub fn names_of(rt: &HostRuntime, room: &Room, gcc: &Word) -> Result<Word, Fault> {
-    let said = ask(rt, &room.lines, gcc, b"--completion=-")?;
-    lines_in(rt, room, gcc, said.out.as_bytes())
+pub fn names_of(rt: &HostRuntime, work: &WorkFolder, gcc: &Word) -> Result<Word, Fault> {
+    let said = ask(rt, &work.lines, gcc, b"--completion=-")?;
+    lines_in(rt, work, gcc, said.out.as_bytes())
 }

@@ -3,8 +3,8 @@
 use crate::asked::Asked;
 use crate::asking::named;
 use crate::fault::Fault;
-use crate::room::{joined, write};
 use crate::row_texts::Ways;
+use crate::work_folder::{joined, write};
 use drv_gcc::{named_texts, replace};
 use drv_words::{Listing, Word};
 use itoa::Buffer;
@@ -53,7 +53,7 @@ fn write_probe(asked: Asked<'_>, name: &Word, call: &Word) -> Result<(), Fault> 
     let alloc = asked.alloc();
     let mut body = named(alloc, b"*link_command:\nPROBE-V ", call.as_bytes())?;
     body.extend_from_slice(b" PROBE-END\n\n")?;
-    let folder = joined(alloc, &asked.room.lines, b"/")?;
+    let folder = joined(alloc, &asked.work.lines, b"/")?;
     let path = joined(alloc, &folder, name.as_bytes())?;
     write(asked.rt, &path, body.as_bytes())
 }

@@ -8,9 +8,9 @@ use crate::gathering::{Gathered, gather};
 use crate::names::{names_of, sorted};
 use crate::parts::{PARTS, part_of, whole_of};
 use crate::programs::{is_file, program_at};
-use crate::room::{Room, absolute, joined};
 use crate::row_texts::Ways;
 use crate::rows::{push_names, push_rows, suffix_of};
+use crate::work_folder::{WorkFolder, absolute, joined};
 use drv_gcc::{gcc_file, spec_file, values};
 use drv_system::complain;
 use drv_words::{Listing, Word, parted};
@@ -70,57 +70,67 @@ fn add_values(
 /// Adds what a gcc says of its version.
 fn add_version(
     rt: &HostRuntime,
-    room: &Room,
+    work: &WorkFolder,
     gcc: &Word,
     lines: &mut Listing<Word>,
 ) -> Result<(), Fault> {
-    let version = ask(rt, &room.lines, gcc, b"-v")?;
+    let version = ask(rt, &work.lines, gcc, b"-v")?;
     add_lines(rt.alloc(), version.err.as_bytes(), lines)
 }
 
 /// Adds the folders that a gcc searches.
 fn add_folders(
     rt: &HostRuntime,
-    room: &Room,
+    work: &WorkFolder,
     gcc: &Word,
     lines: &mut Listing<Word>,
 ) -> Result<(), Fault> {
-    let shown = ask(rt, &room.lines, gcc, b"-### -c -x c /dev/null")?;
+    let shown = ask(rt, &work.lines, gcc, b"-### -c -x c /dev/null")?;
     add_values(rt.alloc(), b"COMPILER_PATH=", shown.err.as_bytes(), lines)?;
     add_values(rt.alloc(), b"LIBRARY_PATH=", shown.err.as_bytes(), lines)
 }
 
 /// What a gcc says of itself where commands are shown.
-fn said(rt: &HostRuntime, room: &Room, gcc: &Word) -> Result<Listing<Word>, Fault> {
+fn said(rt: &HostRuntime, work: &WorkFolder, gcc: &Word) -> Result<Listing<Word>, Fault> {
     let mut lines = Listing::new(rt.alloc());
-    add_version(rt, room, gcc, &mut lines)?;
-    add_folders(rt, room, gcc, &mut lines)?;
+    add_version(rt, work, gcc, &mut lines)?;
+    add_folders(rt, work, gcc, &mut lines)?;
     Ok(lines)
 }
 
 /// Writes the files beside the spec file.
-fn put_beside(rt: &HostRuntime, room: &Room, gcc: &Word, gathered: &Gathered) -> Result<(), Fault> {
-    let mut names = names_of(rt, room, gcc)?;
+fn put_beside(
+    rt: &HostRuntime,
+    work: &WorkFolder,
+    gcc: &Word,
+    gathered: &Gathered,
+) -> Result<(), Fault> {
+    let mut names = names_of(rt, work, gcc)?;
     for row in gathered.rows.as_slice() {
         push_names(&mut names, row)?;
     }
-    room.put(rt, b".options", &sorted(rt.alloc(), &names)?)?;
-    put_gcc(rt, room, gcc, gathered)
+    work.put(rt, b".options", &sorted(rt.alloc(), &names)?)?;
+    put_gcc(rt, work, gcc, gathered)
 }
 
 /// Writes the file beside the spec file that names the gcc, and has its rows.
-fn put_gcc(rt: &HostRuntime, room: &Room, gcc: &Word, gathered: &Gathered) -> Result<(), Fault> {
-    let lines = said(rt, room, gcc)?;
+fn put_gcc(
+    rt: &HostRuntime,
+    work: &WorkFolder,
+    gcc: &Word,
+    gathered: &Gathered,
+) -> Result<(), Fault> {
+    let lines = said(rt, work, gcc)?;
     let folders = gathered.toolchain.folders.as_slice();
     let mut text = gcc_file(rt.alloc(), gcc.as_bytes(), folders, lines.as_slice())?;
-    let suffix = suffix_of(rt, room, gcc)?;
+    let suffix = suffix_of(rt, work, gcc)?;
     if !suffix.is_empty() {
         text.extend_from_slice(b"suffix ")?;
         text.extend_from_slice(suffix.as_bytes())?;
         text.push(b'\n')?;
     }
     push_rows(&mut text, gathered.rows.as_slice())?;
-    room.put(rt, b".gcc", &text)
+    work.put(rt, b".gcc", &text)
 }
 
 /// Names some words to the user, on one line.
@@ -148,18 +158,18 @@ fn differ(rt: &HostRuntime, gcc: &Word, lines: &[Word]) -> Result<Fault, Fault> 
     Ok(Fault::Differs(text))
 }
 
-/// Writes the spec file in the room.
+/// Writes the spec file in the folder of work.
 fn put_specs(pair: Pair<'_>, gathered: &Gathered) -> Result<(), Fault> {
     let specs = spec_file(pair.rt.alloc(), &gathered.toolchain)?;
     for part in PARTS {
-        pair.room.put_part(
+        pair.work.put_part(
             pair.rt,
             part.ending,
             part_of(pair.rt.alloc(), &specs, &part)?,
         )?;
     }
     let whole = whole_of(pair.rt.alloc(), &specs)?.unwrap_or(specs);
-    pair.room.put(pair.rt, b".specs", &whole)
+    pair.work.put(pair.rt, b".specs", &whole)
 }
 
 /// How many options that choose another machine have texts of their own.
@@ -186,7 +196,7 @@ fn refuse(gathered: &mut Gathered, options: &[Word]) -> Result<(), Fault> {
 fn check_machines(pair: Pair<'_>, gathered: &mut Gathered) -> Result<Listing<Word>, Fault> {
     let others = pair.others(pair.machines()?.as_slice())?;
     for option in others.as_slice().iter().take(MACHINES) {
-        gathered.add_machine(pair.rt, pair.room, pair.gcc, option)?;
+        gathered.add_machine(pair.rt, pair.work, pair.gcc, option)?;
     }
     gathered.choose(pair.rt.alloc())?;
     put_specs(pair, gathered)?;
@@ -233,7 +243,7 @@ fn check_rows(pair: Pair<'_>, gathered: &mut Gathered) -> Result<(), Fault> {
         b"no row, since it would make something else:",
         others.as_slice(),
     )?;
-    put_gcc(pair.rt, pair.room, pair.gcc, gathered)
+    put_gcc(pair.rt, pair.work, pair.gcc, gathered)
 }
 
 /// Compares the plans by texts alone, and has the options refused that would give others.
@@ -271,7 +281,7 @@ fn put_gathered(pair: Pair<'_>, manner: Manner, gathered: &mut Gathered) -> Resu
         b"texts that cannot be translated, so lines that use them are refused:",
         gathered.lacking.as_slice(),
     )?;
-    put_beside(pair.rt, pair.room, pair.gcc, gathered)?;
+    put_beside(pair.rt, pair.work, pair.gcc, gathered)?;
     refuse(gathered, pair.unnamed_options()?.as_slice())?;
     put_specs(pair, gathered)?;
     check(pair, manner, gathered)
@@ -279,30 +289,30 @@ fn put_gathered(pair: Pair<'_>, manner: Manner, gathered: &mut Gathered) -> Resu
 
 /// Makes the files of a gcc whose words for its machines are in rows, and tries them.
 fn put_with_rows(pair: Pair<'_>, manner: Manner) -> Result<(), Fault> {
-    let mut gathered = gather(pair.rt, pair.room, pair.gcc, Ways::Rows)?;
-    gathered.add_rows(pair.rt, pair.room, pair.gcc)?;
+    let mut gathered = gather(pair.rt, pair.work, pair.gcc, Ways::Rows)?;
+    gathered.add_rows(pair.rt, pair.work, pair.gcc)?;
     put_gathered(pair, manner, &mut gathered)
 }
 
 /// Makes the files of a gcc, and tries them. If the texts alone give other plans, rows do the work.
 fn put_all(pair: Pair<'_>, manner: Manner) -> Result<(), Fault> {
-    let mut gathered = gather(pair.rt, pair.room, pair.gcc, Ways::Texts)?;
+    let mut gathered = gather(pair.rt, pair.work, pair.gcc, Ways::Texts)?;
     match put_gathered(pair, manner, &mut gathered) {
         Err(Fault::Differs(_)) => put_with_rows(pair, manner),
         done => done,
     }
 }
 
-/// Makes the files of a gcc in a room, tries them, and puts them in place.
+/// Makes the files of a gcc in a folder of work, tries them, and puts them in place.
 fn write_in(
     rt: &HostRuntime,
-    room: &Room,
+    work: &WorkFolder,
     manner: Manner,
     stem: &Word,
     gcc: &Word,
 ) -> Result<(), Fault> {
-    put_all(Pair { rt, room, gcc }, manner)?;
-    room.place(rt, stem)
+    put_all(Pair { rt, work, gcc }, manner)?;
+    work.place(rt, stem)
 }
 
 /// The path of a spec file without its ending.
@@ -325,8 +335,8 @@ pub fn write_file(
         return Err(Fault::NoGcc(gcc.clone()?));
     };
     let stem = stem_of(rt, output)?;
-    let room = Room::new(rt, &stem, &driver_at(rt)?)?;
-    let done = write_in(rt, &room, manner, &stem, &path);
-    room.remove(rt);
+    let work = WorkFolder::new(rt, &stem, &driver_at(rt)?)?;
+    let done = write_in(rt, &work, manner, &stem, &path);
+    work.remove(rt);
     done
 }

@@ -4,7 +4,7 @@ use crate::asked::Asked;
 use crate::asking::{named, text};
 use crate::fault::Fault;
 use crate::finding::{word_after, word_after_start};
-use crate::room::absolute;
+use crate::work_folder::absolute;
 use drv_gcc::{Finding, Linker, Program, Programs};
 use drv_words::{Listing, Word, base};
 use std::env::var;

@@ -3,7 +3,7 @@
 use crate::asking::{Said, ask_words};
 use crate::fault::Fault;
 use crate::finding::has_bytes;
-use crate::room::Room;
+use crate::work_folder::WorkFolder;
 use drv_gcc::halve;
 use drv_words::{Listing, Word, split};
 use std::slice;
@@ -21,18 +21,23 @@ pub enum Answer {
 
 /// What a gcc says of these words. The input after each of them is the argument of an option that
 /// takes the next word.
-fn tried(rt: &HostRuntime, room: &Room, gcc: &Word, words: &[Word]) -> Result<Said, Fault> {
+fn tried(rt: &HostRuntime, work: &WorkFolder, gcc: &Word, words: &[Word]) -> Result<Said, Fault> {
     let mut line = split(rt.alloc(), b"-###")?;
     for word in words {
         line.push(word.clone()?)?;
         line.push(Word::from_bytes(rt.alloc(), b"-Wl,x")?)?;
     }
-    Ok(ask_words(rt, &room.lines, gcc, line.as_slice())?)
+    Ok(ask_words(rt, &work.lines, gcc, line.as_slice())?)
 }
 
 /// What a gcc makes of a word.
-pub fn answer_to(rt: &HostRuntime, room: &Room, gcc: &Word, word: &Word) -> Result<Answer, Fault> {
-    let said = tried(rt, room, gcc, slice::from_ref(word))?;
+pub fn answer_to(
+    rt: &HostRuntime,
+    work: &WorkFolder,
+    gcc: &Word,
+    word: &Word,
+) -> Result<Answer, Fault> {
+    let said = tried(rt, work, gcc, slice::from_ref(word))?;
     Ok(if said.is_done {
         Answer::Takes
     } else if has_bytes(said.err.as_bytes(), b"unrecognized command") {
@@ -51,13 +56,13 @@ const HALVINGS: usize = 20;
 /// Asks a gcc of words. Those that it refuses are halved.
 fn ask_of(
     rt: &HostRuntime,
-    room: &Room,
+    work: &WorkFolder,
     gcc: &Word,
     words: &[Word],
     halves: &mut Listing<Listing<Word>>,
     refused: &mut Listing<Word>,
 ) -> Result<(), Fault> {
-    if AT_ONCE < words.len() || !tried(rt, room, gcc, words)?.is_done {
+    if AT_ONCE < words.len() || !tried(rt, work, gcc, words)?.is_done {
         halve(rt.alloc(), words, halves, refused)?;
     }
     Ok(())
@@ -66,14 +71,14 @@ fn ask_of(
 /// Asks a gcc of each of these lists of words, and gives the halves of those that it refuses.
 fn halves_of(
     rt: &HostRuntime,
-    room: &Room,
+    work: &WorkFolder,
     gcc: &Word,
     waiting: &[Listing<Word>],
     refused: &mut Listing<Word>,
 ) -> Result<Listing<Listing<Word>>, Fault> {
     let mut halves = Listing::new(rt.alloc());
     for words in waiting {
-        ask_of(rt, room, gcc, words.as_slice(), &mut halves, refused)?;
+        ask_of(rt, work, gcc, words.as_slice(), &mut halves, refused)?;
     }
     Ok(halves)
 }
@@ -81,7 +86,7 @@ fn halves_of(
 /// Those of these words that a gcc refuses, each by itself.
 pub fn refused_of(
     rt: &HostRuntime,
-    room: &Room,
+    work: &WorkFolder,
     gcc: &Word,
     words: Listing<Word>,
 ) -> Result<Listing<Word>, Fault> {
@@ -89,7 +94,7 @@ pub fn refused_of(
     let mut waiting = Listing::new(rt.alloc());
     waiting.push(words)?;
     for _ in 0..HALVINGS {
-        waiting = halves_of(rt, room, gcc, waiting.as_slice(), &mut refused)?;
+        waiting = halves_of(rt, work, gcc, waiting.as_slice(), &mut refused)?;
     }
     Ok(refused)
 }

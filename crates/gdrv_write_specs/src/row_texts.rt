@@ -6,8 +6,8 @@ use crate::asking::named;
 use crate::fault::Fault;
 use crate::gathering::nothing;
 use crate::machines::{Facts, facts_for};
-use crate::room::Room;
 use crate::rows::{folder_switch, multilibs};
+use crate::work_folder::WorkFolder;
 use drv_gcc::{Choice, NamedText, replace};
 use drv_words::{Listing, Word};
 use itoa::Buffer;
@@ -96,7 +96,7 @@ pub fn add_row_values(
 /// What the gcc does for each of its libraries in a folder of its own, by a test of that folder.
 pub fn multilib_facts(
     rt: &HostRuntime,
-    room: &Room,
+    work: &WorkFolder,
     gcc: &Word,
     folder: &Word,
     names: &[Word],
@@ -104,7 +104,7 @@ pub fn multilib_facts(
     let none = Word::empty(rt.alloc());
     let own = Asked {
         rt,
-        room,
+        work,
         gcc,
         option: &none,
         places: Places::Searched,

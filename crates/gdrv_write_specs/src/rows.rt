@@ -7,7 +7,7 @@ use crate::asking::named;
 use crate::fault::Fault;
 use crate::finding::{command_named, has_word, word_after, words_between};
 use crate::programs::is_folder;
-use crate::room::Room;
+use crate::work_folder::WorkFolder;
 use drv_gcc::{options, replace, values};
 use drv_words::{Listing, Word, split};
 use itoa::Buffer;
@@ -251,16 +251,16 @@ fn keys_of(asked: Asked<'_>) -> Result<Listing<Word>, Fault> {
     Ok(keys)
 }
 
-/// The same gcc, asked with other options. `room` is the folder in which the spec file is tried.
+/// The same gcc, asked with other options.
 fn asked_with<'a>(
     rt: &'a HostRuntime,
-    room: &'a Room,
+    work: &'a WorkFolder,
     gcc: &'a Word,
     option: &'a Word,
 ) -> Asked<'a> {
     Asked {
         rt,
-        room,
+        work,
         gcc,
         option,
         places: Places::Searched,
@@ -270,7 +270,7 @@ fn asked_with<'a>(
 /// The rows of a gcc with these folders, whose functions have these probes.
 pub fn rows_of(
     rt: &HostRuntime,
-    room: &Room,
+    work: &WorkFolder,
     gcc: &Word,
     probes: &[Word],
     folders: &[Word],
@@ -278,8 +278,8 @@ pub fn rows_of(
 ) -> Result<Listing<Row>, Fault> {
     let none = Word::empty(rt.alloc());
     let mut rows = Listing::new(rt.alloc());
-    for key in keys_of(asked_with(rt, room, gcc, &none))?.as_slice() {
-        if let Some(row) = row_of(asked_with(rt, room, gcc, key), probes, folders, naming)? {
+    for key in keys_of(asked_with(rt, work, gcc, &none))?.as_slice() {
+        if let Some(row) = row_of(asked_with(rt, work, gcc, key), probes, folders, naming)? {
             rows.push(row)?;
         }
     }
@@ -287,9 +287,9 @@ pub fn rows_of(
 }
 
 /// The suffix that gcc gives the name of a program; empty if none.
-pub fn suffix_of(rt: &HostRuntime, room: &Room, gcc: &Word) -> Result<Word, Fault> {
+pub fn suffix_of(rt: &HostRuntime, work: &WorkFolder, gcc: &Word) -> Result<Word, Fault> {
     let none = Word::empty(rt.alloc());
-    let asked = asked_with(rt, room, gcc, &none);
+    let asked = asked_with(rt, work, gcc, &none);
     let planned = asked.planned(b"-### x.o -o made")?;
     let link = match planned.as_slice().last() {
         Some(link) => link.as_slice(),

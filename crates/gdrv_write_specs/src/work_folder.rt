@@ -11,12 +11,12 @@ use std::{env, fs, process};
 
 /// A folder beside the spec file. Its own files are those that gcc-like drivers are tried with.
 #[derive(Drop)]
-pub struct Room {
+pub struct WorkFolder {
     /// The folder.
     pub path: Word,
     /// The folder in which lines are tried.
     pub lines: Word,
-    /// A copy of the driver, which looks for its spec file in the room.
+    /// A copy of the driver, which looks for its spec file in this folder.
     pub driver: Word,
     /// A folder that lines name as another root.
     pub root: Word,
@@ -82,8 +82,8 @@ pub fn make_all(rt: &HostRuntime, path: &[u8]) -> Result<(), Fault> {
     Ok(fs::create_dir_all(rt, text(path)?)?)
 }
 
-/// The place of the room for a spec file: in the same folder, by the number of this process.
-fn room_path(rt: &HostRuntime, specs: &Word) -> Result<Word, Fault> {
+/// The place of the folder for a spec file: in the same one, by the number of this process.
+fn work_path(rt: &HostRuntime, specs: &Word) -> Result<Word, Fault> {
     let folder = match parted(b'/', specs.as_bytes()) {
         Some((folder, _)) => folder,
         None => b".",
@@ -94,10 +94,10 @@ fn room_path(rt: &HostRuntime, specs: &Word) -> Result<Word, Fault> {
     Ok(path)
 }
 
-impl Room {
-    /// The room at a path, of which nothing is made yet.
-    fn at(alloc: Global, path: Word) -> Result<Room, Fault> {
-        Ok(Room {
+impl WorkFolder {
+    /// The folder at a path, of which nothing is made yet.
+    fn at(alloc: Global, path: Word) -> Result<WorkFolder, Fault> {
+        Ok(WorkFolder {
             lines: joined(alloc, &path, b"/lines")?,
             driver: joined(alloc, &path, b"/bin/checked-gdrv-cc")?,
             root: joined(alloc, &path, b"/root")?,
@@ -131,19 +131,19 @@ impl Room {
         self.write_line_file(rt, b"/probe", PROBE)
     }
 
-    /// Copies a driver into the room.
+    /// Copies a driver into it.
     fn copy_driver(&self, rt: &HostRuntime, driver: &Word) -> Result<(), Fault> {
         fs::copy(rt, text(driver.as_bytes())?, text(self.driver.as_bytes())?)?;
         Ok(())
     }
 
-    /// The room for a spec file, with the copy of a driver in it.
-    pub fn new(rt: &HostRuntime, specs: &Word, driver: &Word) -> Result<Room, Fault> {
-        let room = Room::at(rt.alloc(), room_path(rt, specs)?)?;
-        room.make_folders(rt)?;
-        room.copy_driver(rt, driver)?;
-        room.write_line_files(rt)?;
-        Ok(room)
+    /// The folder for a spec file, with the copy of a driver in it.
+    pub fn new(rt: &HostRuntime, specs: &Word, driver: &Word) -> Result<WorkFolder, Fault> {
+        let work = WorkFolder::at(rt.alloc(), work_path(rt, specs)?)?;
+        work.make_folders(rt)?;
+        work.copy_driver(rt, driver)?;
+        work.write_line_files(rt)?;
+        Ok(work)
     }
 
     /// Writes a file of this ending, with its mark.
@@ -186,7 +186,7 @@ impl Room {
         }
     }
 
-    /// Puts the files of the room in place. The parts of an earlier spec file, which gdrv-cc would
+    /// Puts its files in place. The parts of an earlier spec file, which gdrv-cc would
     /// read in its place, go first.
     pub fn place(&self, rt: &HostRuntime, stem: &Word) -> Result<(), Fault> {
         for ending in PARTS {
@@ -198,7 +198,7 @@ impl Room {
         Ok(())
     }
 
-    /// Removes the room.
+    /// Removes it.
     pub fn remove(&self, rt: &HostRuntime) {
         if let Ok(path) = text(self.path.as_bytes()) {
             let _ = fs::remove_dir_all(rt, path);
