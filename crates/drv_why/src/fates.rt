@@ -350,10 +350,10 @@ fn fates_text(
     Ok(text)
 }
 
-/// What becomes of the switches of a line, in a form (GCC manual, "Spec Files"): for each the first
-/// later one that cancels it, and the parts of texts that pass it on, test it or hide it, with their
-/// places in files. A part that passes on or tests takes a cancelled switch only if its pattern is
-/// broad.
+/// What becomes of the switches of a line, in a form (GCC manual, "Spec Files"). For each that is the
+/// first later one that cancels it, and the parts of texts that pass it on, test it or hide it, with
+/// their places in files. A part that passes on or tests takes a cancelled switch only if its pattern
+/// is broad.
 pub fn fates_report(
     alloc: Global,
     report: Report,

@@ -104,22 +104,23 @@ same_bytes : (xs ys : List ℕ) → pointwise nat_eq xs ys ≡ true → xs ≡ y
 same_bytes [] [] is = refl
 same_bytes [] (y ∷ ys) is = absurd cc
 same_bytes (x ∷ xs) [] is = absurd cc
-same_bytes (x ∷ xs) (y ∷ ys) is = by (nat_eq x y) refl is
+same_bytes (x ∷ xs) (y ∷ ys) is = by (nat_eq x y) refl (λ k. same_bytes xs ys k) is
   where
-    by : (test : Bool) → nat_eq x y ≡ test → (test && pointwise nat_eq xs ys) ≡ true → (x ∷ xs) ≡ (y ∷ ys)
-    by true same rest = ap (λ z. z ∷ xs) (eqb-true x y same) ∙ ap (λ zs. y ∷ zs) (same_bytes xs ys rest)
-    by false same rest = absurd cc
+    by : (test : Bool) → nat_eq x y ≡ test → (pointwise nat_eq xs ys ≡ true → xs ≡ ys) → (test && pointwise nat_eq xs ys) ≡ true
+        → (x ∷ xs) ≡ (y ∷ ys)
+    by true same others rest = ap (λ z. z ∷ xs) (eqb-true x y same) ∙ ap (λ zs. y ∷ zs) (others rest)
+    by false same others rest = absurd cc
 
 pub same_words : (words others : List (List ℕ)) → pointwise (pointwise nat_eq) words others ≡ true → words ≡ others
 same_words [] [] is = refl
 same_words [] (other ∷ others) is = absurd cc
 same_words (word ∷ words) [] is = absurd cc
-same_words (word ∷ words) (other ∷ others) is = by (pointwise nat_eq word other) refl is
+same_words (word ∷ words) (other ∷ others) is = by (pointwise nat_eq word other) refl (λ k. same_words words others k) is
   where
-    by : (test : Bool) → pointwise nat_eq word other ≡ test → (test && pointwise (pointwise nat_eq) words others) ≡ true
-        → (word ∷ words) ≡ (other ∷ others)
-    by true same rest = ap (λ w. w ∷ words) (same_bytes word other same) ∙ ap (λ ws. other ∷ ws) (same_words words others rest)
-    by false same rest = absurd cc
+    by : (test : Bool) → pointwise nat_eq word other ≡ test → (pointwise (pointwise nat_eq) words others ≡ true → words ≡ others)
+        → (test && pointwise (pointwise nat_eq) words others) ≡ true → (word ∷ words) ≡ (other ∷ others)
+    by true same rest both = ap (λ w. w ∷ words) (same_bytes word other same) ∙ ap (λ ws. other ∷ ws) (rest both)
+    by false same rest both = absurd cc
 
 -- with the same spec files
 pub known_specs : (F : Facts) (line explained : Line) (set : Set)

@@ -105,10 +105,10 @@ fn fates_of_call<S: System>(
     }
 }
 
-/// Writes to standard output what becomes of each switch of a line, in a form: the later switch that
-/// cancels it, and the parts of texts that pass it on, test it or hide it, each with its place in a
-/// file. It asks what this needs, and does nothing else: it starts no program and makes, changes and
-/// removes no file. A line that is refused writes nothing.
+/// Writes to standard output what becomes of each switch of a line, in a form. That is the later
+/// switch that cancels it, and the parts of texts that pass it on, test it or hide it, each with its
+/// place in a file. It asks what this needs, and does nothing else: it starts no program and makes,
+/// changes and removes no file. A line that is refused writes nothing.
 pub fn tell_switches<S: System>(
     alloc: Global,
     sys: &mut S,

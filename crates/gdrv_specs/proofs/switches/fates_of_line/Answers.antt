@@ -1,5 +1,5 @@
 use Rattle.drv_system.proofs.Asking.{asks_extends, asks_then, extends_then}
-use Rattle.gdrv_specs.proofs.SwitchesTold.{line_told}
+use Rattle.gdrv_specs.proofs.SwitchesTold.{line_short, line_told}
 use Rattle.gdrv_specs.proofs.switches.fates_of_line.Goals as goal
 
 -- fates_of_line (src/switches.rt). The text about the switches of a line, or its ending in its place.
@@ -14,3 +14,6 @@ returns-in-Ok-fates_of-clause-gives g c F e =
 
 pub returns-clause-asks : goal.returns-clause-asks
 returns-clause-asks g c = asks_then c.set_of.ensures.asks c.fates_of.ensures.asks
+
+pub returns-clause-gives : goal.returns-clause-gives
+returns-clause-gives g c F e = line_short F c.args.report c.args.line.now

@@ -1,8 +1,7 @@
 use Rattle.gdrv_specs.proofs.SwitchesTold.{switches_after, switches_before}
 use Rattle.gdrv_specs.proofs.switches.tell_switches.Goals as goal
 
--- tell_switches (src/switches.rt). Writes to standard output what becomes of each switch of a line, in a form: the later switch that
--- cancels it, and the parts of texts that pass it on, test it or hide it, each with its place in a file.
+-- tell_switches (src/switches.rt). Writes to standard output what becomes of each switch of a line, in a form.
 
 pub returns-in-Ok : goal.returns-in-Ok
 returns-in-Ok g c =
