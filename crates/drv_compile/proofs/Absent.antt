@@ -1,5 +1,6 @@
-use Rattle.drv_compile.specs.Inputs.{Noted, Overwrites, Reaches, absent_by, absent_of, is_at, new_output, no_output, objection}
-use Rattle.drv_compile.specs.Inputs.{objection_by, old_output, to_another, to_it, to_none}
+use Rattle.drv_compile.specs.Inputs.{IsRead, Noted, Overwrites, Reaches, absent_by, absent_of, file_of, is_at, new_output, no_output}
+use Rattle.drv_compile.specs.Inputs.{objection, objection_by, old_output, to_another, to_it, to_none}
+use Rattle.drv_compile.specs.Suffixes.{is_no_file}
 use Rattle.drv_compile.specs.Texts.{variable_text}
 use Rattle.drv_compile.specs.declared.host.HostEvent.TheVariants.{Resolved}
 use Rattle.drv_compile.specs.declared.host.HostEvent.{HostEvent}
@@ -7,7 +8,7 @@ use Rattle.drv_system.specs.Facts.{Facts, kind_of, variable_of}
 use Rattle.drv_system.specs.Known.{◌>>=◌, Is, Known, Unasked, asked}
 use Rattle.drv_system.specs.declared.event.PathKind.{PathKind}
 use Rattle.std.proofs.Common.{◌≡◌, ◌<◌, ◌≤◌, ◌+◌, ◌∙◌, ◌∷◌, ◌++◌, [], Bool, Err, IfOk, List, None, Ok, Option, Result, Some, ap}
-use Rattle.std.proofs.Common.{append_assoc, codes, drop, false, length, refl, subst, sym, true, ℕ}
+use Rattle.std.proofs.Common.{append_assoc, codes, drop, false, if◌then◌else◌, length, refl, subst, sym, true, ℕ}
 use Rattle.std.proofs.lemmas.Bool.{false≢true}
 use Rattle.std.proofs.lemmas.List.{append-nil, drop_all, drop_more}
 use Rattle.std.specs.Prelude.{get_or, is_some}
@@ -109,36 +110,48 @@ reaches_none path inputs i before so past (events, is, so_far) = (
 
 -- an output
 
--- `overwrites` asks the host nothing for a line without an output,
+-- an output that is no file (`-`, `/dev/null`) leaves none to ask of, and any other is a file of its own
+no_file : (given : Option (List ℕ)) (output : List ℕ) → given ≡ Some output → is_no_file output ≡ true → file_of given ≡ None
+no_file given output some is = ap file_of some ∙ ap (λ t. if t then None else Some output) is
+
+own_file : (given : Option (List ℕ)) (output : List ℕ) → given ≡ Some output → is_no_file output ≡ false → file_of given ≡ Some output
+own_file given output some is = ap file_of some ∙ ap (λ t. if t then None else Some output) is
+
+-- `overwrites` asks the host nothing for a line without an output, nor for an output that is no file,
 pub none_written : (inputs : List (List ℕ)) (given : Option (List ℕ)) (notes : List HostEvent) → given ≡ None
     → Noted notes notes (λ events. Overwrites inputs given events false)
-none_written inputs given notes none = ([], sym (append-nil notes), subst (λ o. Overwrites inputs o [] false) (sym none) no_output)
+none_written inputs given notes none = ([], sym (append-nil notes), subst (λ o. IsRead inputs o [] false) (sym (ap file_of none)) no_output)
+
+pub sink_written : (inputs : List (List ℕ)) (given : Option (List ℕ)) (output : List ℕ) (notes : List HostEvent) → given ≡ Some output
+    → is_no_file output ≡ true → Noted notes notes (λ events. Overwrites inputs given events false)
+sink_written inputs given output notes some is =
+    ([], sym (append-nil notes), subst (λ o. IsRead inputs o [] false) (sym (no_file given output some is)) no_output)
 
 -- one thing for an output that is not there,
 pub new_written : (inputs : List (List ℕ)) (given : Option (List ℕ)) (output : List ℕ) (found : Option (List ℕ))
-    (before after : List HostEvent) → given ≡ Some output → found ≡ None
+    (before after : List HostEvent) → given ≡ Some output → is_no_file output ≡ false → found ≡ None
     → after ≡ before ++ Resolved output found ∷ [] → Noted before after (λ events. Overwrites inputs given events false)
-new_written inputs given output found before after some none grown = (
+new_written inputs given output found before after some file none grown = (
   Resolved output None ∷ [],
   grown ∙ ap (λ f. before ++ Resolved output f ∷ []) none,
-  subst (λ o. Overwrites inputs o (Resolved output None ∷ []) false) (sym some) new_output,
+  subst (λ o. IsRead inputs o (Resolved output None ∷ []) false) (sym (own_file given output some file)) new_output,
 )
 
 -- and else for the inputs too, whose answer it hands on
 pub old_written : {E : Type 0} (inputs : List (List ℕ)) (given : Option (List ℕ)) (output path : List ℕ) (found : Option (List ℕ))
     (before mid after : List HostEvent) (result : Result Bool E)
-    → given ≡ Some output → found ≡ Some path → mid ≡ before ++ Resolved output found ∷ []
+    → given ≡ Some output → is_no_file output ≡ false → found ≡ Some path → mid ≡ before ++ Resolved output found ∷ []
     → Noted mid after (λ events. IfOk result (λ so. Reaches path inputs events so))
     → Noted before after (λ events. IfOk result (λ so. Overwrites inputs given events so))
-old_written inputs given output path found before mid after (Err e) some is grown (events, after_grown, reaches) = (
+old_written inputs given output path found before mid after (Err e) some file is grown (events, after_grown, reaches) = (
   Resolved output (Some path) ∷ events,
   after_grown ∙ ap (λ m. m ++ events) (grown ∙ ap (λ f. before ++ Resolved output f ∷ []) is)
       ∙ append_assoc before (Resolved output (Some path) ∷ []) events,
   tt,
 )
-old_written inputs given output path found before mid after (Ok so) some is grown (events, after_grown, reaches) = (
+old_written inputs given output path found before mid after (Ok so) some file is grown (events, after_grown, reaches) = (
   Resolved output (Some path) ∷ events,
   after_grown ∙ ap (λ m. m ++ events) (grown ∙ ap (λ f. before ++ Resolved output f ∷ []) is)
       ∙ append_assoc before (Resolved output (Some path) ∷ []) events,
-  subst (λ o. Overwrites inputs o (Resolved output (Some path) ∷ events) so) (sym some) (old_output reaches),
+  subst (λ o. IsRead inputs o (Resolved output (Some path) ∷ events) so) (sym (own_file given output some file)) (old_output reaches),
 )

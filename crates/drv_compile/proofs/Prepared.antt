@@ -8,7 +8,7 @@ use Rattle.drv_compile.specs.Compiles.{Comes, Fails, IsPlanned, Performs, Refuse
 use Rattle.drv_compile.specs.Compiles.{no_words, objected, overwriting, performs, stopped, undriven}
 use Rattle.drv_compile.specs.Decides.{decided}
 use Rattle.drv_compile.specs.Driven.{IsWorker, Undriven}
-use Rattle.drv_compile.specs.Inputs.{Noted, Overwrites, new_output, no_output, objection, old_output}
+use Rattle.drv_compile.specs.Inputs.{IsRead, Noted, Overwrites, file_of, new_output, no_output, objection, old_output}
 use Rattle.drv_compile.specs.Opening.{opening}
 use Rattle.drv_compile.specs.Runs.{Works}
 use Rattle.drv_compile.specs.Tasks.{Declines, IfTold, Leads}
@@ -59,12 +59,12 @@ memory_noted before after what result done told (events, grown, is) memory =
 
 -- an output that is an input, or none
 
--- a line without an output overwrites nothing
-none_overwrites : {inputs : List (List ℕ)} {given : Option (List ℕ)} {events : List HostEvent} {found : Bool}
-    → Overwrites inputs given events found → given ≡ None → found ≡ false
-none_overwrites no_output none = refl
-none_overwrites new_output none = refl
-none_overwrites (old_output reaches) none = absurd (some_is_none none)
+-- a line without an output, or whose output is no file, overwrites nothing
+none_is_read : {inputs : List (List ℕ)} {file : Option (List ℕ)} {events : List HostEvent} {found : Bool}
+    → IsRead inputs file events found → file ≡ None → found ≡ false
+none_is_read no_output none = refl
+none_is_read new_output none = refl
+none_is_read (old_output reaches) none = absurd (some_is_none none)
   where
     some_is_none : {path : List ℕ} → Some path ≡ None → ⊥
     some_is_none is = absurd (false≢true (sym (ap is_some is)))
@@ -78,7 +78,7 @@ no_overwriting slice inputs given found before after same none (events, grown, o
   events,
   grown,
   subst (λ xs. Overwrites xs given events false) same
-      (subst (λ f. Overwrites slice given events f) (none_overwrites overwrites none) overwrites),
+      (subst (λ f. Overwrites slice given events f) (none_is_read overwrites (ap file_of none)) overwrites),
 )
 
 -- and one whose output is no input,

@@ -1,3 +1,4 @@
+use Rattle.drv_compile.specs.Suffixes.{is_no_file}
 use Rattle.drv_compile.specs.Texts.{absent_text, variable_text}
 use Rattle.drv_compile.specs.declared.host.HostEvent.TheVariants.{Resolved}
 use Rattle.drv_compile.specs.declared.host.HostEvent.{HostEvent}
@@ -6,7 +7,8 @@ use Rattle.drv_system.specs.Known.{◌>>=◌, Is, Known, asked}
 use Rattle.drv_system.specs.declared.event.PathKind.TheVariants.{Dir, Missing, Other, Plain}
 use Rattle.drv_system.specs.declared.event.PathKind.{PathKind}
 use Rattle.std.specs.Cmp.Lexicographic.{pointwise}
-use Rattle.std.specs.Prelude.{◌≡◌, Bool, List, [], ◌∷◌, ◌++◌, None, Option, Some, codes, false, nat_eq, true, ℕ}
+use Rattle.std.specs.Prelude.{◌≡◌, Bool, List, [], ◌∷◌, ◌++◌, None, Option, Some, codes, false, if◌then◌else◌, nat_eq, true}
+use Rattle.std.specs.Prelude.{ℕ}
 
 -- What is asked of a line that is carried out, before anything is started (GCC, "gcc.cc", process_command).
 
@@ -47,11 +49,21 @@ pub data Reaches (path : List ℕ) : List (List ℕ) → List HostEvent → Bool
       → is_at path answer ≡ false
       → Reaches path inputs events found → Reaches path (input ∷ inputs) (Resolved input answer ∷ events) found
 
-pub data Overwrites (inputs : List (List ℕ)) : Option (List ℕ) → List HostEvent → Bool → Type 0 where
-  no_output : Overwrites inputs None [] false
-  new_output : {output : List ℕ} → Overwrites inputs (Some output) (Resolved output None ∷ []) false
+-- whether a file is one of the inputs by whatever path, with the questions for that: the file's own path, and then each input's until one is it
+pub data IsRead (inputs : List (List ℕ)) : Option (List ℕ) → List HostEvent → Bool → Type 0 where
+  no_output : IsRead inputs None [] false
+  new_output : {output : List ℕ} → IsRead inputs (Some output) (Resolved output None ∷ []) false
   old_output : {output path : List ℕ} {events : List HostEvent} {found : Bool} → Reaches path inputs events found
-      → Overwrites inputs (Some output) (Resolved output (Some path) ∷ events) found
+      → IsRead inputs (Some output) (Resolved output (Some path) ∷ events) found
+
+-- the file of an output: `-` and /dev/null are none
+abbrev pub file_of : Option (List ℕ) → Option (List ℕ)
+file_of None = None
+file_of (Some output) = if is_no_file output then None else Some output
+
+-- whether an output is an input (GCC, "gcc.cc", process_command); nothing is asked of one that is no file
+abbrev pub Overwrites : List (List ℕ) → Option (List ℕ) → List HostEvent → Bool → Type 0
+Overwrites inputs output events found = IsRead inputs (file_of output) events found
 
 -- events that were added after others
 abbrev pub Noted : List HostEvent → List HostEvent → (List HostEvent → Type 0) → Type 0

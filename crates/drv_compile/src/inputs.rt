@@ -8,6 +8,7 @@ ghost use Rattle.std.specs.Prelude.{◌≡◌, ◌++◌, IfOk, OnOk};
 
 use crate::deciding::variable;
 use crate::host::Host;
+use crate::suffixing::is_no_file;
 use crate::wording::{add_absent, variable_text};
 use drv_system::{Outside, PathKind, System};
 use drv_words::Word;
@@ -95,7 +96,8 @@ fn reaches<S: System, H: Host<S>>(
     Ok(false)
 }
 
-/// Whether an output is an input, by whatever path (GCC, "gcc.cc", process_command).
+/// Whether an output is an input, by whatever path; `-` and `/dev/null` are none (GCC, "gcc.cc",
+/// process_command).
 pub(crate) fn overwrites<S: System, H: Host<S>>(
     inputs: &[Word],
     output: &Option<Word>,
@@ -107,6 +109,9 @@ pub(crate) fn overwrites<S: System, H: Host<S>>(
     let Some(output) = output else {
         return Ok(false);
     };
+    if is_no_file(output.as_bytes()) {
+        return Ok(false);
+    }
     let found = host.resolved(output)?;
     let Some(path) = found else {
         return Ok(false);

@@ -13,7 +13,7 @@ use drv_words::{Listing, Word, base};
 use std::alloc::{AllocError, Global};
 
 /// Whether a path names no file.
-fn is_no_file(path: &[u8]) -> bool
+pub(crate) fn is_no_file(path: &[u8]) -> bool
     ensures { result ≡ is_no_file path.now }
 {
     path == b"-".as_slice() || path == b"/dev/null".as_slice()

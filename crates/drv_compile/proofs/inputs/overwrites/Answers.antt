@@ -1,16 +1,27 @@
-use Rattle.drv_compile.proofs.Absent.{new_written, none_written, old_written}
+use Rattle.drv_compile.proofs.Absent.{new_written, none_written, old_written, sink_written}
 use Rattle.drv_compile.proofs.inputs.overwrites.Goals as goal
+use Rattle.drv_compile.specs.Suffixes.{is_no_file}
+use Rattle.std.proofs.Common.{◌∙◌, ap, sym}
 
--- overwrites (src/inputs.rt). Whether an output is an input, by whatever path (GCC, "gcc.cc", process_command).
+-- overwrites (src/inputs.rt). Whether an output is an input, by whatever path; `-` and `/dev/null` are none (GCC, "gcc.cc",
+-- process_command).
 
 pub returns-in_default : goal.returns-in_default
 returns-in_default g c = none_written c.args.inputs.now c.args.output.now _ c.in_default.is
 
+pub returns-then-is_no_file : goal.returns-then-is_no_file
+returns-then-is_no_file g c =
+    sink_written c.args.inputs.now c.args.output.now _ _ c.in-Some.is
+    (sym (ap is_no_file c.as_bytes.ensures) ∙ sym c.is_no_file.ensures ∙ c.if-is_no_file.true)
+
 pub returns-in_default-found : goal.returns-in_default-found
 returns-in_default-found g c =
-    new_written c.args.inputs.now c.args.output.now _ c.in_ok-found.found _ _ c.in-Some.is c.in_default-found.is c.in_ok-found.ensures.event
+    new_written c.args.inputs.now c.args.output.now _ c.in_ok-found.found _ _ c.in-Some.is
+    (sym (ap is_no_file c.as_bytes.ensures) ∙ sym c.is_no_file.ensures ∙ c.if-is_no_file.false) c.in_default-found.is
+    c.in_ok-found.ensures.event
 
 pub returns : goal.returns
 returns g c =
-    old_written c.args.inputs.now c.args.output.now _ _ c.in_ok-found.found _ _ _ c.reaches.result c.in-Some.is c.in-Some-found.is
+    old_written c.args.inputs.now c.args.output.now _ _ c.in_ok-found.found _ _ _ c.reaches.result c.in-Some.is
+    (sym (ap is_no_file c.as_bytes.ensures) ∙ sym c.is_no_file.ensures ∙ c.if-is_no_file.false) c.in-Some-found.is
     c.in_ok-found.ensures.event c.reaches.ensures
