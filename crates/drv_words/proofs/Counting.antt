@@ -11,14 +11,20 @@ use Rattle.std.proofs.lemmas.Bool.Decides.{nat_tests}
 use Rattle.std.proofs.lemmas.List.{length-append}
 
 -- For `split_within`: the words that are made become no fewer, and their number is that of the text's words.
+-- Names: `text` is a text, as a list of bytes. `words` is the words so far, or those that are found. `s` is the splitter between two bytes.
+-- `made` is the words that were made, and `most` how many may be. `words_of s text` is the words that the splitter `s` makes of the text.
+-- `following words` is the splitter that adds to these words.
 
+-- the end of a word takes none away
 ended_grows : (word : Option (List ℕ)) (s : Splitter) → length s.words ≤ length (word_ended word s).words
 ended_grows None s = omega arith
 ended_grows (Some word) s = omega (arith, length-append s.words (word ∷ []))
 
+-- nor does a byte
 step_grows : (s : Splitter) (b : ℕ) → length s.words ≤ length (step s b).words
 step_grows s b = by s.escaped s.quote
   where
+    -- Plan: by where the splitter is: after a backslash, in quotes (`quoted`), or outside (`plain`); a word may end, and none goes.
     same : length s.words ≤ length s.words
     same = omega arith
 
@@ -43,14 +49,17 @@ step_grows s b = by s.escaped s.quote
     by false (Some mark) = quoted (b == 92) (b == mark)
     by false None = plain (is_space b) (b == 92) (is_quote b)
 
+-- nor does a text
 pub words_grow : (s : Splitter) (text : List ℕ) → length s.words ≤ length (words_of s text)
 words_grow s [] = ended_grows s.word s
 words_grow s (b ∷ text) = omega (arith, step_grows s b, words_grow (step s b) text)
 
+-- at the end of a text the splitter has all its words
 pub ends_all : (s : Splitter) (text : List ℕ) → true ≡ (length text == 0) → length (ended s).words ≡ length (words_of s text)
 ends_all s [] e = refl
 ends_all s (b ∷ text) e = omega (arith, eqb-true (length (b ∷ text)) 0 (sym e))
 
+-- the words that the grammar gives are as many as those that the code counts
 pub counted : (text : List ℕ) (words : List (List ℕ)) → Splits text words → length words ≡ words_in text
 counted text words splits = ap length (sym (splits_split splits []))
 
@@ -68,6 +77,7 @@ pub within : (text : List ℕ) (words made : List (List ℕ)) (most : ℕ)
     → nat_le (length made - length words) most ≡ not (nat_lt most (words_in text))
 within text words made most all more = by (nat_le (length made - length words) most) refl
   where
+    -- Plan: by whether the words that were made are few enough: then they are all, else the text has more.
     by : (fits : Bool) → nat_le (length made - length words) most ≡ fits → fits ≡ not (nat_lt most (words_in text))
     by true is =
         let few : length made - length words ≤ most = grind (arith, nat_tests, is) in
@@ -77,6 +87,7 @@ within text words made most all more = by (nat_le (length made - length words) m
         let many : most < length made - length words = grind (arith, nat_tests, is) in
         grind (arith, nat_tests, more many, added text words)
 
+-- if the words that were made fit, they are all words of the text
 pub fitting : (text : List ℕ) (words made : List (List ℕ)) (most : ℕ)
     → (length made - length words ≤ most → made ≡ words_of (following words) text)
     → IsTrue (nat_le (length made - length words) most) → SplitsOnto text words made

@@ -5,21 +5,23 @@ use Rattle.std.proofs.lemmas.Bool.Decides.{nat_tests}
 use Rattle.std.proofs.lemmas.List.{drop_more, get_or-drop, length-drop, take-append-drop, take_all}
 
 -- For `parted`: a search from the end of a name finds the last byte of a kind.
+-- Names: `mark` is a byte: a quotation mark, or the one that a search looks for. `name` is the name of a file.
 
 -- the byte is at the front, and none comes after it
 parted_here : (mark b : ℕ) (name : List ℕ) → (b == mark) ≡ true → parted mark name ≡ None → parted mark (b ∷ name) ≡ Some ([], name)
 parted_here mark b name is none = rw (none, is) refl
 
+-- equal numbers pass the code's test
 equal : (a b : ℕ) → a ≡ b → (a == b) ≡ true
 equal a b same = grind (arith, nat_tests)
 
--- it is found in the rest of the name
+-- a name with a front before it is parted at the same byte
 parted_after : (mark : ℕ) (front name before following : List ℕ) → parted mark name ≡ Some (before, following)
     → parted mark (front ++ name) ≡ Some (front ++ before, following)
 parted_after mark [] name before following is = is
 parted_after mark (b ∷ front) name before following is = rw (parted_after mark front name before following is) refl
 
--- the name has no such byte
+-- a name without the byte is not parted
 pub parted_nowhere : (mark : ℕ) (name : List ℕ) → ((k : ℕ) → k < length name → get_or name k 0 ≢ mark) → parted mark name ≡ None
 parted_nowhere mark [] none = refl
 parted_nowhere mark (b ∷ name) none = rw (
@@ -32,7 +34,7 @@ parted_nowhere mark (b ∷ name) none = rw (
     other true h = absurd (none 0 (omega arith) (eqb-true b mark h))
     other false h = h
 
--- the byte is at this index
+-- a name that has the byte at this index, and none after it, is parted there
 pub parted_at : (mark i : ℕ) (name : List ℕ) → i < length name → get_or name i 0 ≡ mark → parted mark (drop (i + 1) name) ≡ None
     → Some (take i name, take (length name - (i + 1)) (drop (i + 1) name)) ≡ parted mark name
 parted_at mark i name within is none =
@@ -45,7 +47,7 @@ parted_at mark i name within is none =
     ∙ sym (parted_after mark (take i name) (drop i name) [] (drop (i + 1) name) here)
     ∙ ap (parted mark) (take-append-drop i name)
 
--- no such byte follows this index
+-- past the last index no byte of the kind follows
 pub nowhere_after : (mark i : ℕ) (name : List ℕ) → ((k : ℕ) → i + 1 ≤ k → k < length name → get_or name k 0 ≢ mark)
     → parted mark (drop (i + 1) name) ≡ None
 nowhere_after mark i name none = parted_nowhere mark (drop (i + 1) name) (λ k within same.

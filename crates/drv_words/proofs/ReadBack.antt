@@ -13,18 +13,26 @@ use Rattle.std.proofs.Math.Seq.{append_snoc}
 use Rattle.std.specs.List.{list_all}
 
 -- For `read_back`: reading a printed text gives its lines. The reader goes over the text as a derivation of `Shows` is built.
+-- Names: `text` is a text, as a list of bytes. `words` is the words so far, or those that are found. `word` is one word. `rest` is the text
+-- that follows. `lines` is the lines of a plan. `program` is the program of the line that is read, once it has one. `next` is the text
+-- after the word. `b` is one byte. `front` is the part of the word, or the lines, before those at hand. `read reader text` is the reader
+-- after the text. `Shows text lines` says, by the grammar, that the text shows these lines. `ShowsWords` says that the text shows these
+-- words, each after a blank. `longer reader b place` adds a byte to the word at hand.
 
--- a reader with these fields
+-- a reader that has these lines, program, words and word so far, at this place of a line
 abbrev pub at : List PlanLine → Option (List ℕ) → List (List ℕ) → List ℕ → Standing → LineReader
 at lines program words word place = record { lines = lines; program = program; words = words; word = word; standing = place }
 
+-- a text is read in two parts, one after the other
 pub read-append : (reader : LineReader) (a b : List ℕ) → read reader (a ++ b) ≡ read (read reader a) b
 read-append reader [] b = refl
 read-append reader (x ∷ a) b = read-append (step reader x) a b
 
+-- in quotes a byte that is not special joins the word
 inside_other : (reader : LineReader) (b : ℕ) → is_special b ≡ false → inside reader b ≡ longer reader b reader.standing
 inside_other reader b e = by (b == 34) (b == 92) (b == 36) e
   where
+    -- Plan: by the three special bytes: this one is none of them.
     by : (quote backslash dollar : Bool) → (quote || backslash || dollar) ≡ false
         → (if backslash then r.placed reader Escaped else if quote then r.closed reader else if dollar then r.placed reader
         Wrong else longer reader b reader.standing) ≡ longer reader b reader.standing
@@ -33,6 +41,7 @@ inside_other reader b e = by (b == 34) (b == 92) (b == 36) e
     by false true d h = cc
     by true q d h = cc
 
+-- in quotes the escaped bytes of a word are read as the word
 escapes_read : {text word : List ℕ} → Escapes text word → (lines : List PlanLine) (program : Option (List ℕ)) (words : List (List ℕ))
     (front : List ℕ)
     → read (at lines program words front Quoted) text ≡ at lines program words (front ++ word) Quoted
@@ -44,10 +53,12 @@ escapes_read (other {b} {text} {word} e rest) lines program words front =
 escapes_read (special {b} {text} {word} e rest) lines program words front =
     rw e (escapes_read rest lines program words (front ++ b ∷ []) ∙ ap (λ w. at lines program words w Quoted) (append_snoc front b word))
 
+-- two tests that hold together, hold each
 and_both : (a b : Bool) → (a && b) ≡ true → (a ≡ true) × (b ≡ true)
 and_both true b e = (refl, e)
 and_both false b e = absurd cc
 
+-- the bytes of a bare word are read as the word
 bytes_read : (word : List ℕ) → list_all is_plain word ≡ true → (lines : List PlanLine) (program : Option (List ℕ)) (words : List (List ℕ))
     (front : List ℕ)
     → read (at lines program words front Bare) word ≡ at lines program words (front ++ word) Bare
@@ -69,6 +80,7 @@ between_anywhere : (lines : List PlanLine) (program : Option (List ℕ)) (words 
     → r.between (with_word (at lines program words word Bare)) b ≡ r.between (with_word (at lines program words word Between)) b
 between_anywhere lines None words word b = by (b == 32) (b == 10)
   where
+    -- Plan: by whether the byte is a blank or a newline.
     by : (space newline : Bool)
         → (if space then at lines (Some word) words [] AtWord else if newline then r.with_line (at lines (Some word) words [] Bare)
         false else at lines (Some word) words [] Wrong)
@@ -79,6 +91,7 @@ between_anywhere lines None words word b = by (b == 32) (b == 10)
     by false false = refl
 between_anywhere lines (Some program) words word b = by (b == 32) (b == 10)
   where
+    -- Plan: by the same; `more` is the words with the one that has ended.
     more : List (List ℕ)
     more = words ++ word ∷ []
 
@@ -91,6 +104,7 @@ between_anywhere lines (Some program) words word b = by (b == 32) (b == 10)
     by false true = refl
     by false false = refl
 
+-- a plain byte begins a bare word
 word_begins : (b : ℕ) → is_plain b ≡ true → (lines : List PlanLine) (program : Option (List ℕ)) (words : List (List ℕ))
     → r.at_word (at lines program words [] AtWord) b ≡ at lines program words (b ∷ []) Bare
 word_begins b e lines program words = rw e refl
@@ -108,6 +122,7 @@ bare_read (b ∷ word) next e ends lines program words =
     ∙ ap (λ s. read s next) (bytes_read word both.1 lines program words (b ∷ []))
     ∙ ended (b ∷ word) next ends lines program words
   where
+    -- Plan: a plain byte makes the word longer (`stepped`); what may come after a word ends it (`ended`).
     stepped : (word : List ℕ) (first : ℕ) (rest : List ℕ) → is_plain first ≡ false → (lines : List PlanLine) (program : Option (List ℕ))
         (words : List (List ℕ))
         → read (at lines program words word Bare) (first ∷ rest) ≡ read (with_word (at lines program words word Between)) (first ∷ rest)
@@ -122,7 +137,7 @@ bare_read (b ∷ word) next e ends lines program words =
         ∙ stepped word ends.first ends.rest ends.unplain lines program words
         ∙ sym (ap (λ t. read (with_word (at lines program words word Between)) t) ends.is)
 
--- a quoted word
+-- a printed word in quotes, with what ends it after it, is read as the word
 quoted_read : {text word : List ℕ} → is_bare word ≡ false → Escapes text word
     → (next : List ℕ) (lines : List PlanLine) (program : Option (List ℕ)) (words : List (List ℕ))
     → read (at lines program words [] AtWord) ((34 ∷ text ++ 34 ∷ []) ++ next) ≡ read (with_word (at lines program words word Between)) next
@@ -137,6 +152,7 @@ quoted_read {text} {word} e inside next lines program words =
     close None = rw e refl
     close (Some program) = rw e refl
 
+-- a printed word, before what may end it, is read as that word
 word_read : {text word : List ℕ} → ShowsWord text word → (next : List ℕ) → Ends next → (lines : List PlanLine) (program : Option (List ℕ))
     (words : List (List ℕ))
     → read (at lines program words [] AtWord) (text ++ next) ≡ read (with_word (at lines program words word Between)) next
@@ -149,6 +165,7 @@ words_end no_word next ends = ends
 words_end (one_more {text} {word} {rest} first others) next ends =
     record { first = 32; rest = (text ++ rest) ++ next; is = refl; unplain = refl }
 
+-- printed words are read as these words
 words_read : {text : List ℕ} {words : List (List ℕ)} → ShowsWords text words → (next : List ℕ) → Ends next
     → (lines : List PlanLine) (program : List ℕ) (front : List (List ℕ))
     → read (at lines (Some program) front [] Between) (text ++ next) ≡ read (at lines (Some program) (front ++ words) [] Between) next
@@ -159,7 +176,7 @@ words_read (one_more {text} {word} {rest} {words} first others) next ends lines 
     ∙ words_read others next ends lines program (front ++ word ∷ [])
     ∙ ap (λ ws. read (at lines (Some program) ws [] Between) next) (append_snoc front word words)
 
--- a line
+-- the end of a printed line is read: the line is complete
 end_read : {end : List ℕ} {piped : Bool} → ShowsEnd end piped → (rest : List ℕ) (lines : List PlanLine) (program : List ℕ)
     (words : List (List ℕ))
     → Ends (end ++ rest) × (read (at lines (Some program) words [] Between) (end ++ rest)
@@ -167,6 +184,7 @@ end_read : {end : List ℕ} {piped : Bool} → ShowsEnd end piped → (rest : Li
 end_read into_next rest lines program words = (record { first = 32; rest = 124 ∷ 10 ∷ rest; is = refl; unplain = refl }, refl)
 end_read no_pipe rest lines program words = (record { first = 10; rest = rest; is = refl; unplain = refl }, refl)
 
+-- a printed line is read as that line
 line_read : {text end : List ℕ} {program : List ℕ} {words : List (List ℕ)} {piped : Bool} → ShowsWords text (program ∷ words)
     → ShowsEnd end piped → (rest : List ℕ) (lines : List PlanLine)
     → read (at lines None [] [] Between) (text ++ end ++ rest)
@@ -178,6 +196,7 @@ line_read {end = end} (one_more {text} {word} {rest} {words} first shown) ends t
     ∙ words_read shown (end ++ tail) ending.0 lines word []
     ∙ ending.1
 
+-- printed lines are read as these lines
 lines_are_read : {text : List ℕ} {lines : List PlanLine} → Shows text lines → (front : List PlanLine)
     → read (at front None [] [] Between) text ≡ at (front ++ lines) None [] [] Between
 lines_are_read no_line front = ap (λ ls. at ls None [] [] Between) (sym (append-nil front))

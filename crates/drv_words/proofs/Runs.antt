@@ -12,8 +12,12 @@ use Rattle.std.specs.List.{position, position_or_len}
 use Rattle.std.specs.Prelude.{unwrap_or}
 
 -- For `split_onto`: taking a run of plain bytes at once equals taking its bytes one by one.
+-- Names: `text` is a text, as a list of bytes. `words` is the words so far, or those that are found. `word` is one word. `rest` is the text
+-- that follows. `b` is one byte. `s` is the splitter between two bytes. `run` is a run of plain bytes, and `count` its length. `marked` is
+-- whether a byte is a blank, a quotation mark or a backslash. `words_of s text` is the words that the splitter `s` makes of the text.
+-- `open_word` is the word that is open, or an empty one.
 
--- a splitter outside quotes
+-- a splitter outside quotes, with these words and perhaps an open one
 abbrev outside : List (List ℕ) → Option (List ℕ) → Splitter
 outside words word = record { words = words; word = word; quote = None; escaped = false }
 
@@ -23,6 +27,7 @@ record Plain (b : ℕ) : Type 0 where
   quote : is_quote b ≡ false
   slash : (b == 92) ≡ false
 
+-- a byte that is not marked is plain in each way
 plain_is : (b : ℕ) → is_marked b ≡ false → Plain b
 plain_is b e = by (is_space b) refl (is_quote b) refl (b == 92) refl e
   where
@@ -33,11 +38,12 @@ plain_is b e = by (is_space b) refl (is_quote b) refl (b == 92) refl e
     by false s false q true f e = absurd cc
     by false s false q false f e = record { space = s; quote = q; slash = f }
 
--- one plain byte
+-- one plain byte makes the open word longer
 one_taken : (b : ℕ) (text : List ℕ) (words : List (List ℕ)) (word : List ℕ) → is_marked b ≡ false
     → words_of (outside words (Some word)) (b ∷ text) ≡ words_of (outside words (Some (word ++ b ∷ []))) text
 one_taken b text words word e = let p : Plain b = plain_is b e in rw (p.space, p.slash, p.quote) refl
 
+-- a plain byte opens a word
 first_taken : (b : ℕ) (text : List ℕ) (words : List (List ℕ)) → is_marked b ≡ false
     → words_of (outside words None) (b ∷ text) ≡ words_of (outside words (Some (b ∷ []))) text
 first_taken b text words e = let p : Plain b = plain_is b e in rw (p.space, p.slash, p.quote) refl
@@ -51,6 +57,7 @@ plain_within (b ∷ text) = by (is_marked b) (plain_within text)
     by true rest = omega arith
     by false rest = omega (arith, rest)
 
+-- the code's search finds the end of the plain bytes at the front
 plain_first : (text : List ℕ) → position_or_len is_marked text ≡ plain_length text
 plain_first text = sym (is_position_or_len plain_length is_marked refl (λ b rest. next (is_marked b) (plain_length rest)) text)
   where
@@ -58,6 +65,7 @@ plain_first text = sym (is_position_or_len plain_length is_marked refl (λ b res
     next true n = refl
     next false n = omega arith
 
+-- the same, as the code writes it
 pub plain_place : (text : List ℕ) → unwrap_or (position is_marked text) (length text) ≡ plain_length text
 plain_place text = ap (λ n. unwrap_or (cond (nat_lt n (length text)) (Some n) None) (length text)) (plain_first text)
     ∙ by (nat_lt (plain_length text) (length text)) refl
@@ -76,6 +84,7 @@ run_taken : (text : List ℕ) (words : List (List ℕ)) (word : List ℕ)
 run_taken [] words word = ap (λ w. words_of (outside words (Some w)) []) (append-nil word)
 run_taken (b ∷ text) words word = by (is_marked b) refl (run_taken text words (word ++ b ∷ []))
   where
+    -- Plan: by whether the next byte is marked: then the run is empty, else it is one byte longer.
     n : Bool → ℕ
     n marked = if marked then 0 else suc (plain_length text)
 
@@ -94,6 +103,7 @@ run_taken (b ∷ text) words word = by (is_marked b) refl (run_taken text words 
 none_there : 0 < 0 → ⊥
 none_there some = omega (arith, some)
 
+-- a run of plain bytes at the front opens a word with all of them
 run_opens : (text : List ℕ) (words : List (List ℕ)) → 0 < plain_length text
     → words_of (outside words (Some (take (plain_length text) text))) (drop (plain_length text) text) ≡ words_of (outside words None) text
 run_opens [] words some = absurd (none_there some)
@@ -105,7 +115,7 @@ run_opens (b ∷ text) words some = by (is_marked b) refl some
     by true e some = absurd (none_there some)
     by false e some = run_taken text words (b ∷ []) ∙ sym (first_taken b text words e)
 
--- a splitter outside quotes
+-- a splitter that is outside is such a one
 outside_is : (s : Splitter) → is_outside s ≡ true → s ≡ outside s.words s.word
 outside_is s is = by s.escaped refl s.quote refl is
   where
@@ -115,12 +125,14 @@ outside_is s is = by s.escaped refl s.quote refl is
     by false e (Some mark) q is = absurd cc
     by false e None q is = ap (λ quote. record s { quote = quote }) q ∙ ap (λ escaped. record s { quote = None; escaped = escaped }) e
 
+-- or makes the open word longer by all of them
 any_run : (text : List ℕ) (words : List (List ℕ)) (word : Option (List ℕ)) → 0 < plain_length text
     → words_of (outside words (Some (open_word word ++ take (plain_length text) text))) (drop (plain_length text) text)
     ≡ words_of (outside words word) text
 any_run text words None some = run_opens text words some
 any_run text words (Some word) some = run_taken text words word
 
+-- so after a run is taken, the words of the rest are those of the text
 after_run : (s : Splitter) (text run rest : List ℕ) (count : ℕ) → is_outside s ≡ true → count ≡ plain_length text → 0 < count
     → run ≡ take count text → rest ≡ drop count text → words_of (outside s.words (Some (open_word s.word ++ run))) rest ≡ words_of s text
 after_run s text run rest count is counted some front following =
@@ -138,6 +150,7 @@ run_goes s after text run rest count is counted some front following taken =
     ap (λ a. words_of a rest) (taken ∙ ap (λ (t : Splitter). record t { word = Some (open_word s.word ++ run) }) (outside_is s is))
     ∙ after_run s text run rest count is counted some front following
 
+-- where the code sees no word there is none
 no_word : (word : Option (List ℕ)) (none : Bool) → is_some word ≡ not none → none ≡ true → word ≡ None
 no_word None none e is = refl
 no_word (Some word) none e is = absurd (let z : true ≡ false = e ∙ ap not is in cc)

@@ -5,6 +5,8 @@ use Rattle.drv_words.specs.declared.plan.PlanLine.{PlanLine}
 use Rattle.std.proofs.Common.{◌≡◌, Bool, false, true, List, [], ◌∷◌, ◌++◌, if◌then◌else◌, refl, sym, subst, ap, ◌∙◌, ℕ}
 
 -- For `render` and `read_back`: the grammar of printed lines agrees with the functions that print them.
+-- Names: `text` is a text, as a list of bytes. `word` is one word. `lines` is the lines of a plan. `ShowsWord text word` says that the text
+-- shows this word. `Shows text lines` says, by the grammar, that the text shows these lines. `quoted word` is a word as it is printed.
 
 -- the escaped text shows the bytes
 pub escapes_of : (word : List ℕ) → Escapes (escaped word) word
@@ -24,10 +26,12 @@ shows_word word = by (is_bare word) refl
     by true e = bare e
     by false e = in_quotes e (escapes_of word)
 
+-- words, as the functions print them, are so by the grammar
 pub shows_words : (words : List (List ℕ)) → ShowsWords (words_text words) words
 shows_words [] = no_word
 shows_words (word ∷ words) = one_more (shows_word word) (shows_words words)
 
+-- and the end of a line
 pub shows_end : (piped : Bool) → ShowsEnd (end_text piped) piped
 shows_end true = into_next
 shows_end false = no_pipe
@@ -43,19 +47,23 @@ text_of_escapes no_byte = refl
 text_of_escapes (other {b} e rest) = rw e (ap (λ t. b ∷ t) (text_of_escapes rest))
 text_of_escapes (special {b} e rest) = rw e (ap (λ t. 92 ∷ b ∷ t) (text_of_escapes rest))
 
+-- a text that shows a word by the grammar is what the function prints
 pub text_of_word : {text word : List ℕ} → ShowsWord text word → text ≡ quoted word
 text_of_word (bare e) = rw e refl
 text_of_word (in_quotes e inside) = rw e (ap (λ t. 34 ∷ t ++ 34 ∷ []) (text_of_escapes inside))
 
+-- the same of words
 pub text_of_words : {text : List ℕ} {words : List (List ℕ)} → ShowsWords text words → text ≡ words_text words
 text_of_words no_word = refl
 text_of_words (one_more {text} {word} {rest} {words} first others) =
     ap (λ t. 32 ∷ t ++ rest) (text_of_word first) ∙ ap (λ t. 32 ∷ quoted word ++ t) (text_of_words others)
 
+-- of the end of a line
 pub text_of_end : {text : List ℕ} {piped : Bool} → ShowsEnd text piped → text ≡ end_text piped
 text_of_end into_next = refl
 text_of_end no_pipe = refl
 
+-- and of lines
 pub text_of_lines : {text : List ℕ} {lines : List PlanLine} → Shows text lines → text ≡ lines_text lines
 text_of_lines no_line = refl
 text_of_lines (line {words} {end} {rest} {l} {lines} shown ends others) =
@@ -67,5 +75,6 @@ text_of_lines (line {words} {end} {rest} {l} {lines} shown ends others) =
 pub shown_text : (text : List ℕ) (lines : List PlanLine) → text ≡ lines_text lines → Shows text lines
 shown_text text lines e = let P : List ℕ → Type 0 = λ t. Shows t lines in subst P (sym e) (shows_lines lines)
 
+-- a text that is the printed word shows it
 pub shown_word : (text word : List ℕ) → text ≡ quoted word → ShowsWord text word
 shown_word text word e = let P : List ℕ → Type 0 = λ t. ShowsWord t word in subst P (sym e) (shows_word word)

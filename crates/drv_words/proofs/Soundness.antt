@@ -19,6 +19,10 @@ use Rattle.std.specs.List.{list_all}
 use Rattle.std.specs.Option.{IfSome}
 
 -- For `read_back`: the printed form of what the reader holds is the text that it has read. So a text that it accepts shows the lines.
+-- Names: `text` is a text, as a list of bytes. `words` is the words so far, or those that are found. `word` is one word. `lines` is the
+-- lines of a plan. `program` is the program of the line that is read, once it has one. `b` is one byte. `place` is where the reader is in a
+-- line. `quoted word` is a word as it is printed. `step` takes one byte. `Shows text lines` says, by the grammar, that the text shows these
+-- lines. `read reader text` is the reader after the text.
 
 -- the text of the open line
 abbrev open_text : Option (List ℕ) → List (List ℕ) → List ℕ
@@ -54,11 +58,13 @@ Took Wrong reader text = Unit {0}
 Took place reader text = (text ≡ lines_text reader.lines ++ open_text reader.program reader.words ++ part place reader.word)
     × NoWords reader.program reader.words × Held place reader.word
 
+-- the text that was read is the printed form of what the reader holds
 abbrev Takes : LineReader → List ℕ → Type 0
 Takes reader text = Took reader.standing reader text
 
 -- texts
 
+-- the escapes of two parts of a word are those of both
 escaped-append : (word more : List ℕ) → escaped (word ++ more) ≡ escaped word ++ escaped more
 escaped-append [] more = refl
 escaped-append (b ∷ word) more = by (is_special b) (escaped-append word more)
@@ -69,26 +75,32 @@ escaped-append (b ∷ word) more = by (is_special b) (escaped-append word more)
     by true e = ap (λ t. 92 ∷ b ∷ t) e
     by false e = ap (λ t. b ∷ t) e
 
+-- the text of lines with one more ends with its text
 lines_more : (lines : List PlanLine) (l : PlanLine) → lines_text (lines ++ l ∷ []) ≡ lines_text lines ++ line_text l
 lines_more lines l = flat_map-append line_text lines (l ∷ []) ∙ ap (λ t. lines_text lines ++ t) (append-nil (line_text l))
 
+-- the text of words with one more ends with its text
 words_more : (words : List (List ℕ)) (word : List ℕ) → words_text (words ++ word ∷ []) ≡ words_text words ++ 32 ∷ quoted word
 words_more words word = flat_map-append (λ w. 32 ∷ quoted w) words (word ∷ []) ∙ ap (λ t. words_text words ++ t)
     (append-nil (32 ∷ quoted word))
 
+-- two tests that hold together, hold each
 and_both : (a b : Bool) → (a && b) ≡ true → (a ≡ true) × (b ≡ true)
 and_both true b e = (refl, e)
 and_both false b e = absurd cc
 
+-- if all bytes of a word are plain, and one more is, all are
 all_more : (word : List ℕ) (b : ℕ) → list_all is_plain word ≡ true → is_plain b ≡ true → list_all is_plain (word ++ b ∷ []) ≡ true
 all_more [] b all e = rw e refl
 all_more (c ∷ word) b all e =
     let both : (is_plain c ≡ true) × (list_all is_plain word ≡ true) = and_both (is_plain c) (list_all is_plain word) all in
     rw both.0 (all_more word b both.1 e)
 
+-- a word with a byte is not empty
 has_byte : (b : ℕ) (word : List ℕ) → nat_lt 0 (length (b ∷ word)) ≡ true
 has_byte b word = grind (arith, nat_tests)
 
+-- a bare word stays bare with one more plain byte
 bare_more : (word : List ℕ) (b : ℕ) → is_bare word ≡ true → is_plain b ≡ true → is_bare (word ++ b ∷ []) ≡ true
 bare_more [] b bare e = both_true (has_byte b []) (all_more [] b refl e)
 bare_more (c ∷ word) b bare e =
@@ -114,12 +126,13 @@ line_takes lines (Some program) words place piped front text ends is = (
   refl,
 )
 
--- a byte between words
+-- what the reader holds is the text that it has read, also after a byte between words
 between_takes : (lines : List PlanLine) (program : Option (List ℕ)) (words : List (List ℕ)) (place : Standing) (b : ℕ) (text : List ℕ)
     → text ≡ lines_text lines ++ open_text program words → NoWords program words
     → Takes (r.between (at lines program words [] place) b) (text ++ b ∷ [])
 between_takes lines program words place b text is none = by (b == 32) refl (b == 10) refl
   where
+    -- Plan: by whether the byte is a blank or a newline; any other is no printed text.
     by : (space : Bool) → (b == 32) ≡ space → (newline : Bool) → (b == 10) ≡ newline
         → Takes (if space then at lines program words [] AtWord else if newline then r.with_line (at lines program words [] place)
         false else at lines program words [] Wrong) (text ++ b ∷ [])
@@ -165,12 +178,13 @@ closed_word (Some program) lines words word text is none = (
   refl,
 )
 
--- a closing quote
+-- also after a closing quote
 closed_takes : (lines : List PlanLine) (program : Option (List ℕ)) (words : List (List ℕ)) (word text : List ℕ)
     → text ≡ lines_text lines ++ open_text program words ++ 32 ∷ 34 ∷ escaped word → NoWords program words
     → Takes (r.closed (at lines program words word Quoted)) (text ++ 34 ∷ [])
 closed_takes lines program words word text is none = by (is_bare word) refl
   where
+    -- Plan: by whether the word needs quotes: one that needs none is no printed text.
     by : (t : Bool) → is_bare word ≡ t
         → Takes (if t then at lines program words word Wrong else r.placed (r.with_word (at lines program words word Quoted)) Between)
         (text ++ 34 ∷ [])
@@ -186,6 +200,7 @@ at_word_takes : (lines : List PlanLine) (program : Option (List ℕ)) (words : L
     → Takes (r.at_word (at lines program words [] AtWord) b) (text ++ b ∷ [])
 at_word_takes lines program words b text is none = by (is_plain b) refl (b == 34) refl (b == 124) refl (is_some program)
   where
+    -- Plan: by the byte: it begins a bare word, opens quotes, is the bar of a pipe, or none of these.
     more : text ++ b ∷ [] ≡ lines_text lines ++ open_text program words ++ 32 ∷ b ∷ []
     more = ap (λ t. t ++ b ∷ []) is ∙ append_assoc (lines_text lines ++ open_text program words) (32 ∷ []) (b ∷ [])
 
@@ -209,6 +224,7 @@ bare_takes : (lines : List PlanLine) (program : Option (List ℕ)) (words : List
     → Takes (r.bare (at lines program words word Bare) b) (text ++ b ∷ [])
 bare_takes lines program words word b text is none bare = by (is_plain b) refl
   where
+    -- Plan: by the byte: it makes the word longer, or ends it, and then a blank or a newline follows.
     shown : text ≡ lines_text lines ++ open_text program words ++ 32 ∷ quoted word
     shown = rw bare is
 
@@ -228,12 +244,13 @@ bare_takes lines program words word b text is none bare = by (is_plain b) refl
     )
     by false e = ended program shown none
 
--- a byte between quotes
+-- also after a byte between quotes
 inside_takes : (lines : List PlanLine) (program : Option (List ℕ)) (words : List (List ℕ)) (word : List ℕ) (b : ℕ) (text : List ℕ)
     → text ≡ lines_text lines ++ open_text program words ++ 32 ∷ 34 ∷ escaped word → NoWords program words
     → Takes (r.inside (at lines program words word Quoted) b) (text ++ b ∷ [])
 inside_takes lines program words word b text is none = by (b == 92) refl (b == 34) refl (b == 36) refl
   where
+    -- Plan: by the byte: a backslash, a closing quote, a dollar that has no backslash, or a byte of the word.
     more : text ++ b ∷ [] ≡ lines_text lines ++ open_text program words ++ 32 ∷ 34 ∷ (escaped word ++ b ∷ [])
     more = ap (λ t. t ++ b ∷ []) is ∙ append_assoc (lines_text lines ++ open_text program words) (32 ∷ 34 ∷ escaped word) (b ∷ [])
 
@@ -258,12 +275,13 @@ inside_takes lines program words word b text is none = by (b == 92) refl (b == 3
           tt,
         )
 
--- a byte after a backslash
+-- also after a byte behind a backslash
 escape_takes : (lines : List PlanLine) (program : Option (List ℕ)) (words : List (List ℕ)) (word : List ℕ) (b : ℕ) (text : List ℕ)
     → text ≡ lines_text lines ++ open_text program words ++ 32 ∷ 34 ∷ (escaped word ++ 92 ∷ []) → NoWords program words
     → Takes (r.escape (at lines program words word Escaped) b) (text ++ b ∷ [])
 escape_takes lines program words word b text is none = by (is_special b) refl
   where
+    -- Plan: only a special byte has a backslash, which the printed word has too (`one`).
     one : is_special b ≡ true → escaped (b ∷ []) ≡ 92 ∷ b ∷ []
     one e = rw e refl
 
@@ -280,7 +298,7 @@ escape_takes lines program words word b text is none = by (is_special b) refl
     )
     by false e = tt
 
--- a byte after the bar
+-- also after the byte behind the bar of a pipe
 bar_takes : (lines : List PlanLine) (program : Option (List ℕ)) (words : List (List ℕ)) (b : ℕ) (text : List ℕ)
     → text ≡ lines_text lines ++ open_text program words ++ 32 ∷ 124 ∷ [] → NoWords program words
     → Takes (r.after_bar (at lines program words [] Bar) b) (text ++ b ∷ [])
@@ -293,7 +311,7 @@ bar_takes lines program words b text is none = by (b == 10) refl
         subst P (sym (eqb-true b 10 e)) (line_takes lines program words Bar true (32 ∷ 124 ∷ []) text refl is)
     by false e = tt
 
--- a byte
+-- so after any byte, wherever the reader is
 step_takes : (place : Standing) (lines : List PlanLine) (program : Option (List ℕ)) (words : List (List ℕ)) (word : List ℕ) (b : ℕ)
     (text : List ℕ)
     → Takes (at lines program words word place) text → Takes (step (at lines program words word place) b) (text ++ b ∷ [])
@@ -312,7 +330,7 @@ step_takes Bar lines program words word b text (is, none, held) =
     subst P (sym held) (bar_takes lines program words b text is none)
 step_takes Wrong lines program words word b text took = tt
 
--- a text
+-- and after any text
 read_takes : (reader : LineReader) (front text : List ℕ) → Takes reader front → Takes (read reader text) (front ++ text)
 read_takes reader front [] took = let P : List ℕ → Type 0 = λ t. Takes reader t in subst P (sym (append-nil front)) took
 read_takes reader front (b ∷ text) took =
@@ -321,6 +339,7 @@ read_takes reader front (b ∷ text) took =
     (read_takes (step reader b) (front ++ b ∷ []) text (step_takes reader.standing reader.lines reader.program reader.words
     reader.word b front took))
 
+-- a reader that has finished holds the lines whose text was read
 finished_is : (place : Standing) (program : Option (List ℕ)) (lines found : List PlanLine) (words : List (List ℕ)) (word text : List ℕ)
     → Takes (at lines program words word place) text → finished (at lines program words word place) ≡ Some found → text ≡ lines_text found
 finished_is Between None lines found words word text (is, none, held) e =

@@ -10,7 +10,7 @@ use Rattle.std.specs.Prelude.{◌++◌, Bool, List, [], None, false, get_or, len
 
 -- Which places a plan has, and their kinds (this project's profile).
 
--- nothing to do
+-- a job that has nothing to do
 abbrev pub no_job : Job
 no_job = record { source = None; groups = []; temps = []; marked = []; on_failure = []; output = None }
 
@@ -18,10 +18,11 @@ no_job = record { source = None; groups = []; temps = []; marked = []; on_failur
 abbrev pub job_at : Plan → ℕ → Job
 job_at plan k = get_or (plan.jobs ++ option_to_list plan.link) k no_job
 
+-- the commands of group g of a job
 abbrev pub group_at : Job → ℕ → List Command
 group_at job g = get_or job.groups g []
 
--- a command of the plan
+-- whether a place is that of a command of the plan
 abbrev pub is_command : Plan → Place → Bool
 is_command plan (place.Command k g i) = nat_lt i (length (group_at (job_at plan k) g))
 is_command plan (place.Temp k i) = false
@@ -35,7 +36,7 @@ is_temp plan (place.Temp k i) = nat_lt i (length (job_at plan k).temps)
 is_temp plan (place.Marked k i) = false
 is_temp plan (place.OnFailure k i) = false
 
--- any file of the plan
+-- whether a place is that of a file of the plan, of any kind
 abbrev pub is_file : Plan → Place → Bool
 is_file plan (place.Command k g i) = false
 is_file plan (place.Temp k i) = nat_lt i (length (job_at plan k).temps)

@@ -21,13 +21,13 @@ is_special b = b == byte.double_quote || b == byte.backslash || b == byte.dollar
 
 -- The grammar, by cases: first the text, then what it shows.
 
--- the text between the quotes
+-- the text between the quotes shows the bytes of a word
 pub data Escapes : List ℕ → List ℕ → Type 0 where
   no_byte : Escapes [] []
   other : {b : ℕ} {text word : List ℕ} → is_special b ≡ false → Escapes text word → Escapes (b ∷ text) (b ∷ word)
   special : {b : ℕ} {text word : List ℕ} → is_special b ≡ true → Escapes text word → Escapes (byte.backslash ∷ b ∷ text) (b ∷ word)
 
--- one word
+-- a text shows one word
 pub data ShowsWord : List ℕ → List ℕ → Type 0 where
   bare : {word : List ℕ} → is_bare word ≡ true → ShowsWord word word
   in_quotes : {text word : List ℕ} → is_bare word ≡ false → Escapes text word
@@ -44,7 +44,7 @@ pub data ShowsEnd : List ℕ → Bool → Type 0 where
   into_next : ShowsEnd (byte.space ∷ byte.bar ∷ byte.newline ∷ []) true
   no_pipe : ShowsEnd (byte.newline ∷ []) false
 
--- lines
+-- a text shows lines
 pub data Shows : List ℕ → List PlanLine → Type 0 where
   no_line : Shows [] []
   line : {words end rest : List ℕ} {l : PlanLine} {lines : List PlanLine} → ShowsWords words (l.command.program ∷ l.command.words)
@@ -52,21 +52,27 @@ pub data Shows : List ℕ → List PlanLine → Type 0 where
 
 -- The same as functions: the text of a word's inside, of a word, of words, of a line, of lines.
 
+-- special bytes have a backslash before them
 abbrev pub escaped : List ℕ → List ℕ
 escaped [] = []
 escaped (b ∷ word) = if is_special b then byte.backslash ∷ b ∷ escaped word else b ∷ escaped word
 
+-- a word is in quotes unless it is bare
 abbrev pub quoted : List ℕ → List ℕ
 quoted word = if is_bare word then word else byte.double_quote ∷ escaped word ++ byte.double_quote ∷ []
 
+-- each word has a blank before it
 abbrev pub words_text : List (List ℕ) → List ℕ
 words_text = flat_map (λ word. byte.space ∷ quoted word)
 
+-- a line ends with a newline, and before that with ` |` if it goes into a pipe
 abbrev pub end_text : Bool → List ℕ
 end_text piped = if piped then byte.space ∷ byte.bar ∷ byte.newline ∷ [] else byte.newline ∷ []
 
+-- the text of one line
 abbrev pub line_text : PlanLine → List ℕ
 line_text l = words_text (l.command.program ∷ l.command.words) ++ end_text l.piped
 
+-- the text of all lines
 abbrev pub lines_text : List PlanLine → List ℕ
 lines_text = flat_map line_text

@@ -59,6 +59,7 @@ SplitsOnto text words all = (more : List (List ℕ)) × (all ≡ words ++ more) 
 abbrev pub is_marked : ℕ → Bool
 is_marked b = is_space b || is_quote b || b == byte.backslash
 
+-- blanks, quotation marks and backslashes have a backslash before them
 abbrev pub marked : List ℕ → List ℕ
 marked [] = []
 marked (b ∷ word) = if is_marked b then byte.backslash ∷ b ∷ marked word else b ∷ marked word
@@ -68,5 +69,6 @@ abbrev pub response : List ℕ → List ℕ
 response [] = byte.double_quote ∷ byte.double_quote ∷ []
 response (b ∷ word) = marked (b ∷ word)
 
+-- each word has a newline after it
 abbrev pub response_text : List (List ℕ) → List ℕ
 response_text = flat_map (λ word. response word ++ byte.newline ∷ [])

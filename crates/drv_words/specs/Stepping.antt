@@ -19,15 +19,18 @@ abbrev pub pending_after_start : Bool → Bool → StartAnswer → Bool
 pending_after_start pending to_pipe (start.Started id) = to_pipe
 pending_after_start pending to_pipe (start.NotStarted why) = pending
 
+-- whether a pipe is pending after one more step and its answer
 abbrev pub pending_with : Bool → Step → Answer → Bool
 pending_with pending (step.Start p from_pipe to_pipe) (answer.Start x) = pending_after_start pending to_pipe x
 pending_with pending step.ClosePipe a = false
 pending_with pending s a = pending
 
+-- the same after events
 abbrev pub pending_from : Bool → List RunEvent → Bool
 pending_from pending [] = pending
 pending_from pending (e ∷ events) = pending_from (pending_with pending e.step e.answer) events
 
+-- at the beginning of a run no pipe is pending
 abbrev pub pipe_pending : List RunEvent → Bool
 pipe_pending = pending_from false
 
@@ -46,6 +49,7 @@ abbrev pub is_start_at : Place → Step → Bool
 is_start_at p (step.Start q from_pipe to_pipe) = same_command p q
 is_start_at p s = false
 
+-- whether a step is the wait for this child at this place
 abbrev pub is_wait_for : Place → ℕ → Step → Bool
 is_wait_for p id (step.Wait q old) = same_command p q && nat_eq id old
 is_wait_for p id s = false
@@ -59,6 +63,7 @@ is_open p id events = list_any (λ e. is_start_at p e.step && is_child id e.answ
 abbrev pub is_new : ℕ → List RunEvent → Bool
 is_new id events = not (list_any (λ e. is_child id e.answer) events)
 
+-- whether two booleans are equal
 abbrev pub same_bool : Bool → Bool → Bool
 same_bool a b = if a then b else not b
 
@@ -77,6 +82,7 @@ abbrev pub fits_start : List RunEvent → StartAnswer → Bool
 fits_start events (start.Started id) = is_new id events
 fits_start events (start.NotStarted why) = true
 
+-- whether an answer fits the step after these events
 abbrev pub fits : List RunEvent → Step → Answer → Bool
 fits events (step.Claim p) (answer.Claim x) = true
 fits events (step.Start p from_pipe to_pipe) (answer.Start x) = fits_start events x

@@ -30,6 +30,7 @@ pub fn suffixed(name: &[u8]) -> Option<(&[u8], &[u8])>
     ensures { option_map (λ parts. (parts.0.now, parts.1.now)) result ≡ suffixed name.now }
 {
     let (stem, suffix) = parted(b'.', base(name))?;
+    // A name such as `.profile` has no suffix.
     if stem.is_empty() {
         return None;
     }

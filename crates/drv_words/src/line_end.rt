@@ -31,6 +31,7 @@ impl LineEnd {
         requires { index < count }
         ensures { is_piped result ≡ nat_lt (index + 1) count }
     {
+        // The last command of a group writes no pipe.
         if index + 1 < count {
             LineEnd::Piped
         } else {

@@ -25,6 +25,7 @@ pub fn order(one: &[u8], other: &[u8]) -> Ordering
         right.split_first_chunk::<8>(),
     ) {
         let found = order_eight(front, beside);
+        // The first eight bytes that differ decide.
         if found.is_ne() {
             return found;
         }

@@ -44,6 +44,7 @@ struct LineReader {
 }
 
 impl LineReader {
+    /// A reader before the first byte.
     fn new(alloc: Global) -> LineReader
         ensures { result ≡ start }
     {
@@ -86,6 +87,7 @@ impl LineReader {
         Ok(())
     }
 
+    /// Takes the byte after a word: a blank begins the next word, a newline ends the line.
     fn take_between(&mut self, alloc: Global, byte: u8) -> Result<(), AllocError>
         ensures { OnOk result (self.new ≡ between self.old byte) }
     {
@@ -97,6 +99,7 @@ impl LineReader {
         Ok(())
     }
 
+    /// Takes the byte after a blank: it begins a word, bare or in quotes, or is the bar of a pipe.
     fn take_at_word(&mut self, byte: u8) -> Result<(), AllocError>
         ensures { OnOk result (self.new ≡ at_word self.old byte) }
     {
@@ -113,6 +116,7 @@ impl LineReader {
         Ok(())
     }
 
+    /// Takes a byte in a word without quotes, or the byte that ends the word.
     fn take_bare(&mut self, alloc: Global, byte: u8) -> Result<(), AllocError>
         ensures { OnOk result (self.new ≡ bare self.old byte) }
     {
@@ -123,6 +127,7 @@ impl LineReader {
         self.take_between(alloc, byte)
     }
 
+    /// Takes a byte in quotes. Quotes around a word that needs none are no printed text.
     fn take_quoted(&mut self, alloc: Global, byte: u8) -> Result<(), AllocError>
         ensures { OnOk result (self.new ≡ inside self.old byte) }
     {
@@ -139,6 +144,7 @@ impl LineReader {
         Ok(())
     }
 
+    /// Takes the byte after a backslash: only a special byte is printed so.
     fn take_escaped(&mut self, byte: u8) -> Result<(), AllocError>
         ensures { OnOk result (self.new ≡ escape self.old byte) }
     {
@@ -151,6 +157,7 @@ impl LineReader {
         Ok(())
     }
 
+    /// Takes the byte after the bar of a pipe: the line has to end there.
     fn take_after_bar(&mut self, alloc: Global, byte: u8) -> Result<(), AllocError>
         ensures { OnOk result (self.new ≡ after_bar self.old byte) }
     {
@@ -180,6 +187,7 @@ impl LineReader {
     fn finish(self) -> Option<Listing<PlanLine>>
         ensures { result ≡ finished self }
     {
+        // A line that has begun has a program, and must end with a newline.
         if matches!(self.standing, Standing::Between) && self.program.is_none() {
             Some(self.lines)
         } else {

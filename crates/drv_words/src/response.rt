@@ -1,5 +1,7 @@
 //! The text of response files, both ways.
 
+// In clauses: `words_of` is the words of a text from here on. `SplitsOnto` says that the words of a
+// text were put after others.
 ghost use Rattle.drv_words.specs.Counts.{words_in};
 ghost use Rattle.drv_words.specs.Response.{Splits, SplitsOnto, is_marked, is_quote, is_space};
 ghost use Rattle.drv_words.specs.Response.{marked, response, response_text};
@@ -129,6 +131,7 @@ impl Splitter {
         Ok(())
     }
 
+    /// Takes a byte in a run that this mark has opened, and that the same mark closes.
     fn take_quoted(&mut self, alloc: Global, mark: u8, byte: u8) -> Result<(), AllocError>
         ensures { OnOk result (self.new ≡ quoted_step mark self.old byte) }
     {
@@ -142,6 +145,7 @@ impl Splitter {
         Ok(())
     }
 
+    /// Takes a byte outside quotes, with no backslash before it.
     fn take_plain(&mut self, alloc: Global, byte: u8) -> Result<(), AllocError>
         ensures { OnOk result (self.new ≡ plain_step self.old byte) }
     {
@@ -163,6 +167,7 @@ impl Splitter {
     fn take(&mut self, alloc: Global, byte: u8) -> Result<(), AllocError>
         ensures { OnOk result (self.new ≡ step self.old byte) }
     {
+        // After a backslash each byte is one of the word.
         if self.escaped {
             self.escaped = false;
             return self.push(alloc, byte);
@@ -198,6 +203,7 @@ impl Splitter {
     {
         let (run, rest) = text.split_at(count);
         match rest {
+            // The run is a whole word, which is put at once and at its final size.
             [byte, following @ ..] if is_space_byte(*byte) && self.word.is_none() => {
                 self.words.push(Word::from_bytes(alloc, run)?)?;
                 Ok(following)
@@ -218,6 +224,7 @@ impl Splitter {
     {
         if self.is_outside() {
             let count = plain_length(text);
+            // The run is empty where the next byte has a meaning of its own.
             if count > 0 {
                 return self.take_run(alloc, text, count);
             }
@@ -274,6 +281,7 @@ fn split_front(
     let mut splitter = Splitter::new(words);
     splitter.words.reserve(room_for(text))?;
     let mut left = text;
+    // One word more than `most` shows that there are too many.
     while !left.is_empty() && splitter.words.len().saturating_sub(others) <= most {
         left = splitter.take_front(alloc, left)?;
     }

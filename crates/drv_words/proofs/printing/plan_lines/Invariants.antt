@@ -5,5 +5,6 @@ use Rattle.drv_words.proofs.printing.plan_lines.Given as goal
 
 -- The loops of plan_lines (src/printing.rt). The lines of a plan: the commands of its jobs in order, then those of the link.
 
+-- the lines so far, with those of the jobs that are left, are all
 abbrev pub invariant-loop-job : goal.invariant-loop-job
 invariant-loop-job l = l.lines ++ flat_map job_lines (drop l.job-index l.job-items) ≡ flat_map job_lines l.job-items

@@ -13,6 +13,7 @@ returns-clause-counts c =
     ap (λ n. nat_le n c.args.most) made ∙ within c.args.text.now c.replace-others.result c.in_ok-words.field-0 c.args.most
     c.in_ok-words.ensures.all c.in_ok-words.ensures.more
 
+-- if the words that were made are few enough, they are all words of the text
 pub returns-clause-splits : goal.returns-clause-splits
 returns-clause-splits c fits =
     let made : c.saturating_sub.result ≡ length c.in_ok-words.field-0 - length c.replace-others.result =

@@ -4,6 +4,7 @@ use Rattle.drv_words.proofs.response.Splitter.take_run.Goals as goal
 -- take_run (src/response.rt). Takes a run of plain bytes at the front of a text outside quotes, with the white space after it if that ends
 -- a word.
 
+-- a run that is a whole word, with the white space after it
 pub returns-in_ok-push-in-len1-up-clause-goes : goal.returns-in_ok-push-in-len1-up-clause-goes
 returns-in_ok-push-in-len1-up-clause-goes c =
     word_goes c.args.self.now c.args.text.now c.split_at.result.0.now c.in_ok-from_bytes-in-len1-up.field-0 c.split_at.result.1.now
