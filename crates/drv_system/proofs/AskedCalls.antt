@@ -7,11 +7,15 @@ use Rattle.drv_system.specs.declared.event.Event.{Event}
 use Rattle.std.proofs.Common.{◌∙◌, List, refl}
 
 -- For each call that asks through `Outside`: several calls that only ask, one after another, only ask.
+-- Names: `o` is the outside: the system, and the facts that are known of it.
 
+-- the same of an `Outside`, which has the system and its facts together
 module _ {S : Type 0} {events : S → List Event} where
+  -- a call that leaves the outside as it was only asked
   pub asked_none : (o : Outside S) → Asked events o o
   asked_none o = record { asks = asks_nothing (events o.sys.now) o.facts.now; same_sys = refl; same_facts = refl }
 
+  -- two calls that only asked, one after the other, only asked
   pub asked_further : {o p q : Outside S} → Asked events o p → Asked events p q → Asked events o q
   asked_further a b = record {
     asks = asks_then a.asks b.asks;

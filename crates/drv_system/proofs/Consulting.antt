@@ -22,6 +22,7 @@ module _ {X : Type 0} (journal journal' : List Event) (F F' : Facts) (event : X 
 
 -- a look-up only asks
 module _ {X Y E : Type 0} (journal journal' : List Event) (F F' : Facts) (event : X → Event) where
+  -- a look-up that asks, or finds the answer, only asked
   pub consults_asks : (before after : Option X) (result : Result Y E) → ((answer : X) → before ≡ None → IsNew F (event answer))
       → Consults journal journal' F F' event before result after → Asks journal journal' F F'
   consults_asks (Some known) after result question is = asks_unchanged is.0 is.1

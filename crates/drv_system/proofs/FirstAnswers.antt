@@ -7,6 +7,8 @@ use Rattle.std.specs.Option.{option_or}
 use Rattle.std.specs.Prelude.{◌≡◌, Bool, List, [], ◌∷◌, None, Option, Some, false, if◌then◌else◌, true, ℕ}
 
 -- For first_answers_law: learning a journal gives its first answers.
+-- Names: `F` is the facts before. `events` is the journal before, or a part of it. `learnt F event` is the facts after one event.
+-- `learn F events` is the facts after the questions among these events.
 
 -- a known answer, then this one, then the later ones
 in_turn : {Y : Type 0} (known rest : Option Y) (same : Bool) (answer : Y)
@@ -16,6 +18,7 @@ in_turn None rest false answer = refl
 in_turn (Some y) rest true answer = refl
 in_turn (Some y) rest false answer = refl
 
+-- after a journal the read of a path is known by the first event that reads it
 pub reads_first : (F : Facts) (events : List Event) (path : List ℕ) → read_of (learn F events) path ≡ option_or (read_of F path)
     (first_read path events)
 reads_first F [] path = or_none (read_of F path)
@@ -28,6 +31,7 @@ reads_first F (Say text answer ∷ events) path = reads_first F events path
 reads_first F (Put text answer ∷ events) path = reads_first F events path
 reads_first F (Run e ∷ events) path = reads_first F events path
 
+-- the same of the kind of a path
 pub kinds_first : (F : Facts) (events : List Event) (path : List ℕ) → kind_of (learn F events) path ≡ option_or (kind_of F path)
     (first_kind path events)
 kinds_first F [] path = or_none (kind_of F path)
@@ -40,6 +44,7 @@ kinds_first F (Say text answer ∷ events) path = kinds_first F events path
 kinds_first F (Put text answer ∷ events) path = kinds_first F events path
 kinds_first F (Run e ∷ events) path = kinds_first F events path
 
+-- and of the value of a variable
 pub variables_first : (F : Facts) (events : List Event) (name : List ℕ) → variable_of (learn F events) name ≡ option_or (variable_of F name)
     (first_variable name events)
 variables_first F [] name = or_none (variable_of F name)

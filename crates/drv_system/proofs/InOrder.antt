@@ -12,8 +12,11 @@ use Rattle.std.specs.Ordering.{nat_cmp}
 use Rattle.std.specs.Prelude.{cond, nat_eq}
 
 -- For the kinds of paths: a table in the order of the questions, seen as a map in the order of its keys.
+-- Names: `Y` is the type of the answers in a map. `pairs` is the pairs in the order of the questions. `key` is the path or name that is
+-- asked. `other` is another path or name. `path` is a path. `answer` is an answer. `answer_to es key` is the answer that a map has for the
+-- key. `with_pair es key y` puts a pair at its place in the order of keys.
 
--- one pair more
+-- pairs put into a map one by one, and one more after them
 from_more : {Y : Type 0} (done pairs : List (List ℕ × Y)) (key : List ℕ) (answer : Y)
     → in_order_from done (pairs ++ (key, answer) ∷ []) ≡ with_pair (in_order_from done pairs) key answer
 from_more done [] key answer = refl
@@ -25,6 +28,7 @@ pub in_order_unknown : {Y : Type 0} (pairs : List (List ℕ × Y)) (path : List 
     → None ≡ answer_to (in_order pairs) path
 in_order_unknown pairs path same none = none ∙ same path
 
+-- an answer in the table is the map's answer
 pub in_order_known : {Y : Type 0} (pairs : List (List ℕ × Y)) (path : List ℕ) (answer : Y) → SameAnswers pairs
     → Some answer ≡ lookup (pointwise nat_eq path) pairs → answer_to (in_order pairs) path ≡ Some answer
 in_order_known pairs path answer same is = sym (is ∙ same path)

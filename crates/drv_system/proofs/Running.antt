@@ -9,7 +9,10 @@ use Rattle.std.specs.List.{list_any}
 use Rattle.std.specs.Prelude.{◌≡◌, ◌&&◌, ◌||◌, Bool, List, [], ◌∷◌, ◌++◌, false, if◌then◌else◌, not, true, ℕ}
 
 -- For the steps of a run: the run, the pending pipe and the open children of one journal after another.
+-- Names: `before` is the events before, and `after` those after. `place` is the place of a command, and `id` a child's number. `e` and `f`
+-- are events of a run. `run_of` is the steps of a run among the events of a journal.
 
+-- the run in two journals is the run in both
 pub run_of-append : (before after : List Event) → run_of (before ++ after) ≡ run_of before ++ run_of after
 run_of-append [] after = refl
 run_of-append (Run e ∷ before) after = ap (λ run. e ∷ run) (run_of-append before after)
@@ -19,11 +22,13 @@ run_of-append (Variable name value ∷ before) after = run_of-append before afte
 run_of-append (Say text answer ∷ before) after = run_of-append before after
 run_of-append (Put text answer ∷ before) after = run_of-append before after
 
+-- a pipe is pending by the events before and then those after
 pub pending_from-append : (pending : Bool) (before after : List RunEvent) → pending_from pending (before ++ after) ≡ pending_from
     (pending_from pending before) after
 pending_from-append pending [] after = refl
 pending_from-append pending (e ∷ before) after = pending_from-append (pending_with pending e.step e.answer) before after
 
+-- the same with one event after
 pub pending-append : (before : List RunEvent) (e : RunEvent) → pipe_pending (before ++ e ∷ []) ≡ pending_with (pipe_pending before)
     e.step e.answer
 pending-append before e = pending_from-append false before (e ∷ [])
@@ -32,6 +37,7 @@ pending-append before e = pending_from-append false before (e ∷ [])
 pub pending_of_rest : (before after : List RunEvent) → pipe_pending before ≡ false → pipe_pending (before ++ after) ≡ pipe_pending after
 pending_of_rest before after none = pending_from-append false before after ∙ ap (λ pending. pending_from pending after) none
 
+-- a child is open by the events before and then those after
 pub open_from-append : (place : Place) (id : ℕ) (was : Bool) (before after : List RunEvent)
     → open_from place id was (before ++ after) ≡ open_from place id (open_from place id was before) after
 open_from-append place id was [] after = refl
@@ -42,6 +48,7 @@ not_both : (a b : Bool) → not (a || b) ≡ true → (a ≡ false) × (not b �
 not_both false b e = (refl, e)
 not_both true b e = absurd cc
 
+-- an open child stays open if no wait for it comes
 stays_open : (place : Place) (id : ℕ) (events : List RunEvent)
     → not (list_any (λ (e : RunEvent). is_wait_for place id e.step) events) ≡ true
     → open_from place id true events ≡ true
@@ -57,6 +64,7 @@ stays_open place id (e ∷ events) none =
     still false true is rest = absurd cc
     still false false is rest = rest
 
+-- a child that was started, and not waited for, is open
 pub opens : (place : Place) (id : ℕ) (was : Bool) (events : List RunEvent)
     → list_any (λ (e : RunEvent). is_start_at place e.step && is_child id e.answer) events ≡ true
     → not (list_any (λ (e : RunEvent). is_wait_for place id e.step) events) ≡ true → open_from place id was events ≡ true
@@ -67,6 +75,7 @@ opens place id was (e ∷ events) some none =
     by (is_start_at place e.step && is_child id e.answer) some (stays_open place id events both.1)
     (λ rest. opens place id (if is_wait_for place id e.step then false else was) events rest both.1)
   where
+    -- Plan: by whether the first event starts the child: then it is open from there on.
     by : (starts : Bool) → (starts || list_any (λ (f : RunEvent). is_start_at place f.step && is_child id f.answer) events) ≡ true
         → open_from place id true events ≡ true
         → (list_any (λ (f : RunEvent). is_start_at place f.step && is_child id f.answer) events ≡ true
@@ -75,6 +84,7 @@ opens place id was (e ∷ events) some none =
     by true some stays later = stays
     by false some stays later = later some
 
+-- two tests that hold together, hold each
 and_parts : (a b : Bool) → (a && b) ≡ true → (a ≡ true) × (b ≡ true)
 and_parts true b e = (refl, e)
 and_parts false b e = absurd cc

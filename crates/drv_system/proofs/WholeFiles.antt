@@ -8,6 +8,7 @@ use Rattle.std.specs.Io.KnownBytes.{Consumes, IsAtEnd}
 use Rattle.std.specs.Prelude.{◌≡◌, ◌<◌, ◌≤◌, ◌+◌, List, [], ◌++◌, None, Option, Some, false, length, nat_lt, true, ℕ}
 
 -- For `read_to_end`: all bytes that were read of a file.
+-- Names: `bytes` is what was read so far.
 
 -- at its end they are all bytes that it had left
 pub whole : (old mid new : Option (List ℕ)) (bytes word taken : List ℕ) → Consumes old mid bytes → Consumes mid new taken → taken ≡ []
@@ -18,6 +19,7 @@ whole (Some xs) (Some ys) None bytes word taken before now none end is = absurd 
 whole (Some xs) (Some ys) (Some zs) bytes word taken before now none end is =
     is ∙ sym (before ∙ ap (λ rest. bytes ++ rest) (now ∙ ap (λ t. t ++ zs) none ∙ end) ∙ append-nil bytes)
 
+-- a file that has passed the limit stays past it, whatever follows
 larger : (n m most : ℕ) → most < n + m → (k : ℕ) → nat_lt most (n + (m + k)) ≡ true
 larger n m most over k = grind (arith, nat_tests)
 
@@ -37,5 +39,6 @@ too_large (Some xs) (Some ys) (Some zs) bytes taken before now over =
 few : (n : ℕ) → n ≤ 16777216 → nat_lt 16777216 n ≡ false
 few n le = grind (arith, nat_tests)
 
+-- a file of at most 16 MiB is not too large
 pub within_limit : (bytes word : List ℕ) → length bytes ≤ 16777216 → word ≡ bytes → is_too_large word ≡ false
 within_limit bytes word le is = ap is_too_large is ∙ few (length bytes) le

@@ -14,7 +14,7 @@ IsQuestion (Kind path kind) = ⊤
 IsQuestion (Variable name value) = ⊤
 IsQuestion event = ⊥
 
--- a list of questions
+-- all of these events are questions
 abbrev pub AreQuestions : List Event → Type 0
 AreQuestions [] = ⊤
 AreQuestions (event ∷ events) = IsQuestion event × AreQuestions events

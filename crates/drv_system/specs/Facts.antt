@@ -33,13 +33,15 @@ pub record Facts : Type 0 where
 abbrev pub with_value : Facts → List ℕ → Option (List ℕ) → Facts
 with_value F name value = record F { variables = with_pair F.variables name value }
 
--- nothing is known
+-- nothing is known yet
 abbrev pub no_facts : Facts
 no_facts = record { reads = []; kinds = []; variables = [] }
 
+-- the known answer to the read of a path
 abbrev pub read_of : Facts → List ℕ → Option ReadAnswer
 read_of F path = answer_to F.reads path
 
+-- the known kind of a path
 abbrev pub kind_of : Facts → List ℕ → Option PathKind
 kind_of F path = answer_to F.kinds path
 
@@ -61,16 +63,19 @@ learn F (event ∷ events) = learn (learnt F event) events
 
 -- The first answers in a journal.
 
+-- the first answer among events to the read of a path
 abbrev pub first_read : List ℕ → List Event → Option ReadAnswer
 first_read path [] = None
 first_read path (Read other answer ∷ events) = if is_at (slice_cmp nat_cmp path) other then Some answer else first_read path events
 first_read path (event ∷ events) = first_read path events
 
+-- the first kind of a path among events
 abbrev pub first_kind : List ℕ → List Event → Option PathKind
 first_kind path [] = None
 first_kind path (Kind other kind ∷ events) = if is_at (slice_cmp nat_cmp path) other then Some kind else first_kind path events
 first_kind path (event ∷ events) = first_kind path events
 
+-- the first value of a variable among events
 abbrev pub first_variable : List ℕ → List Event → Option (Option (List ℕ))
 first_variable name [] = None
 first_variable name (Variable other value ∷ events) =

@@ -5,7 +5,7 @@ pub data Known (Y : Type 0) : Type 0 where
   Unasked : Known Y
   Is : Y → Known Y
 
--- an answer of the facts
+-- an answer of the facts, if they have it
 abbrev pub asked : {X : Type 0} → Option X → Known X
 asked None = Unasked
 asked (Some answer) = Is answer

@@ -15,12 +15,14 @@ use Rattle.std.specs.Prelude.{◌++◌, List, [], ◌∷◌, None, Option, codes
 -- What the places of a plan hold, and the message for each (this project's profile). The result is None if the plan has no such place, or
 -- if its kind is another.
 
+-- the command at a place
 abbrev pub command_at : Plan → Place → Option Command
 command_at plan (place.Command k g i) = slice_get (group_at (job_at plan k) g) i
 command_at plan (place.Temp k i) = None
 command_at plan (place.Marked k i) = None
 command_at plan (place.OnFailure k i) = None
 
+-- the temporary at a place
 abbrev pub temp_at : Plan → Place → Option Temp
 temp_at plan (place.Command k g i) = None
 temp_at plan (place.Temp k i) = slice_get (job_at plan k).temps i
@@ -43,6 +45,7 @@ reporter_prefix reporter.GdrvCc = codes "gdrv-cc: "
 abbrev pub line_of : Reporter → List ℕ → Option (List ℕ) → List ℕ → List ℕ
 line_of r before name after = reporter_prefix r ++ before ++ unwrap_or name [] ++ after ++ newline ∷ []
 
+-- the line that reports a note
 abbrev pub note_line : Reporter → Plan → Note → List ℕ
 note_line r plan (note.NotClaimed p) = line_of r (codes "cannot claim ") (name_at plan p) []
 note_line r plan (note.NotStarted p) = line_of r (codes "cannot start ") (name_at plan p) []

@@ -22,7 +22,7 @@ run_of (event ∷ events) = run_of events
 abbrev pub made : Step → Answer → Event
 made step answer = Run (record { step = step; answer = answer })
 
--- whether a message was written
+-- whether a message was written to the user
 abbrev pub is_told : TellAnswer → Bool
 is_told tell.Told = true
 is_told tell.Failed = false
@@ -34,6 +34,7 @@ open_with place id was e =
     else if is_wait_for place id e.step then false
     else was
 
+-- whether a child is open after events; was: whether it was before
 abbrev pub open_from : Place → ℕ → Bool → List RunEvent → Bool
 open_from place id was [] = was
 open_from place id was (e ∷ events) = open_from place id (open_with place id was e) events

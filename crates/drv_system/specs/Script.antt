@@ -49,9 +49,11 @@ read_as None = read.Missing
 read_as (Some None) = read.Failed
 read_as (Some (Some bytes)) = if is_too_large bytes then read.TooLarge else read.Read bytes
 
+-- a script's answer to the read of a path
 abbrev pub scripted_read : Script → List ℕ → ReadAnswer
 scripted_read script path = read_as (lookup (pointwise nat_eq path) script.files)
 
+-- its answer to the kind of a path
 abbrev pub scripted_kind : Script → List ℕ → PathKind
 scripted_kind script path =
     if is_some (lookup (pointwise nat_eq path) script.files) then kind.Plain
@@ -62,6 +64,7 @@ scripted_kind script path =
 abbrev pub scripted_variable : Script → List ℕ → Option (List ℕ)
 scripted_variable script name = lookup (pointwise nat_eq name) script.variables
 
+-- its answer to a line that is written for the user
 abbrev pub scripted_telling : Script → TellAnswer
 scripted_telling script = if script.mute then tell.Failed else tell.Told
 
@@ -72,18 +75,22 @@ abbrev pub claim_in : Option Answer → Option ClaimAnswer
 claim_in (Some (answer.Claim x)) = Some x
 claim_in other = None
 
+-- an answer of a script, if it is one to a start
 abbrev pub start_in : Option Answer → Option StartAnswer
 start_in (Some (answer.Start x)) = Some x
 start_in other = None
 
+-- if it is one to a wait
 abbrev pub wait_in : Option Answer → Option WaitAnswer
 wait_in (Some (answer.Wait x)) = Some x
 wait_in other = None
 
+-- if it is one to a removal
 abbrev pub removal_in : Option Answer → Option RemoveAnswer
 removal_in (Some (answer.Remove x)) = Some x
 removal_in other = None
 
+-- the next answer of a script, if one is left
 abbrev pub first_answer : Script → Option Answer
 first_answer script = slice_get script.answers 0
 
@@ -91,6 +98,7 @@ first_answer script = slice_get script.answers 0
 abbrev pub following : {X : Type 0} → Option X → Script → Script
 following taken script = if is_some taken then record script { answers = drop 1 script.answers } else script
 
+-- the answer to a claim; without one of its kind the claim succeeds
 abbrev pub scripted_claim : Script → ClaimAnswer
 scripted_claim script = unwrap_or (claim_in (first_answer script)) claim.Claimed
 
@@ -99,12 +107,15 @@ abbrev pub start_numbered : ℕ → Option StartAnswer → StartAnswer
 start_numbered id (Some (start.NotStarted why)) = start.NotStarted why
 start_numbered id other = start.Started id
 
+-- the answer to a start; without one of its kind it succeeds
 abbrev pub scripted_start : ℕ → Script → StartAnswer
 scripted_start id script = start_numbered id (start_in (first_answer script))
 
+-- the answer to a wait; without one of its kind the child ends with 0
 abbrev pub scripted_wait : Script → WaitAnswer
 scripted_wait script = unwrap_or (wait_in (first_answer script)) (wait.Exit 0)
 
+-- the answer to a removal; without one of its kind the file is removed
 abbrev pub scripted_removal : Script → RemoveAnswer
 scripted_removal script = unwrap_or (removal_in (first_answer script)) remove.Removed
 

@@ -66,6 +66,7 @@ impl<V: Drop> AnswerMap<V> {
         requires { IsSome (answer_to self.old key.now) }
         ensures { self.new ≡ set_value (is_at (slice_cmp nat_cmp key.now)) self.old answer }
     {
+        // The contract says that the place is there.
         if let Some(place) = self.given.get_mut(key) {
             *place = answer;
         }

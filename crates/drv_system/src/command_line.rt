@@ -21,6 +21,7 @@ const ARGUMENTS: usize = 4096;
 fn argument_length(rt: &HostRuntime, place: usize, room: &mut Vec<u8>) -> io::Result<Option<usize>>
     ensures { IfOk result (λ found. IfSome found (λ n. n ≤ length room.new.items)) }
 {
+    // Each turn doubles the room, so no length needs more turns.
     for _ in 0..usize::BITS {
         match rt.arg(place, room.as_mut_slice()) {
             Ok(length) => return Ok(Some(length)),
@@ -36,6 +37,7 @@ fn word_of(alloc: Global, bytes: &[u8]) -> io::Result<Word>
     ensures { IfOk result (λ word. word ≡ bytes.now) }
 {
     let is_plain = bytes.iter().all(|byte| byte.is_ascii());
+    // ASCII is UTF-8, and is tested faster.
     if !is_plain && from_utf8(bytes).is_err() {
         return Err(io::Error::from(ErrorKind::InvalidData));
     }
@@ -48,6 +50,7 @@ fn add_arguments(
     room: &mut Vec<u8>,
     words: &mut Listing<Word>,
 ) -> io::Result<()> {
+    // Argument 0 is the program's name.
     for place in 1..usize::MAX {
         let Some(length) = argument_length(rt, place, room)? else {
             break;

@@ -35,6 +35,7 @@ impl Environment {
         let Some(name) = as_text(name.as_bytes()) else {
             return Ok(None);
         };
+        // This program changes no variable, so they are read once.
         if matches!(self, Environment::Unread) {
             *self = read(rt)?;
         }
@@ -61,6 +62,7 @@ fn are_many(rt: &HostRuntime) -> bool {
 
 /// Reads all variables, if they are few.
 fn read(rt: &HostRuntime) -> Result<Environment, AllocError> {
+    // Of many variables a call asks for few, by name.
     if are_many(rt) {
         return Ok(Environment::Many);
     }

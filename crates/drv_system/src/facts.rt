@@ -1,5 +1,7 @@
 //! The first answers to the questions of a call.
 
+// In clauses: `Asks` says that a call only asked: it added new questions to the journal, and their
+// answers to the table.
 ghost use Rattle.drv_system.specs.Asking.{Asks, Consults};
 ghost use Rattle.drv_system.specs.Facts.{first_kind, first_read, first_variable, kind_of, learn};
 ghost use Rattle.drv_system.specs.Facts.{no_facts, read_of, variable_of, with_value};

@@ -278,6 +278,7 @@ impl System for HostSystem {
 
 /// The text of a word that can be a path or a name: it is UTF-8 and has no zero byte.
 pub(crate) fn as_text(bytes: &[u8]) -> Option<&str> {
+    // The system would end the name at its first zero byte.
     if bytes.contains(&0) {
         return None;
     }
@@ -290,6 +291,7 @@ fn kind_at(rt: &HostRuntime, path: &str) -> Result<PathKind, AllocError> {
         Ok(found) if found.is_file() => Ok(PathKind::Plain),
         Ok(found) if found.is_dir() => Ok(PathKind::Dir),
         Ok(_) => Ok(PathKind::Other),
+        // Lack of memory says nothing of the path.
         Err(e) if e.kind() == ErrorKind::OutOfMemory => Err(AllocError),
         Err(_) => Ok(PathKind::Missing),
     }

@@ -1,5 +1,6 @@
 //! Reads a whole file within bounds.
 
+// In clauses: `IsWithinLimit` says that no answer is longer than a file may be.
 ghost use Rattle.drv_system.specs.Limit.{IsWithinLimit, most_reads};
 ghost use Rattle.drv_system.specs.Reading.{GivesUp, ReadsAs, is_failure};
 ghost use Rattle.std.specs.Io.{ReadsAtMost};
@@ -31,6 +32,7 @@ fn room_of(size: u64) -> usize
     ensures { 0 < result }
 {
     match usize::try_from(size) {
+        // Size 0 may be that of a file which doesn't tell its size, as those of /proc.
         Ok(size) if 0 < size && size <= MOST_BYTES => size,
         _ => FIRST_ROOM,
     }
@@ -113,6 +115,7 @@ fn add_read(bytes: &mut Vec<u8>, room: &mut Vec<u8>, count: usize) -> Result<(),
         return Ok(());
     }
     bytes.extend_from_slice(&room.as_slice()[..count])?;
+    // A read that fills the room is probably not the last.
     if count == room.len() {
         widen(room)?;
     }
@@ -179,6 +182,7 @@ impl<F: Read> OpenFile<F> {
         let mut bytes = Vec::new(alloc);
         let mut room = Vec::new(alloc);
         room.resize(size, 0u8)?;
+        // A bound, since each read may be interrupted.
         for _ in 0..most {
             let count = match self.read(room.as_mut_slice()) {
                 Ok(0) => return Ok(ReadAnswer::Read(Word::from_vec(bytes))),
@@ -186,6 +190,7 @@ impl<F: Read> OpenFile<F> {
                 Err(ReadFault::Interrupted) => continue,
                 Err(ReadFault::Failed) => return Ok(ReadAnswer::Failed),
             };
+            // So no sum can overflow: there are never more bytes than the limit.
             if count > MOST_BYTES - bytes.len() {
                 return Ok(ReadAnswer::TooLarge);
             }

@@ -58,6 +58,7 @@ impl Reports {
                 self.unstarted = Some(place);
                 Some(line)
             }
+            // The reader's own report, if it failed, says more than this one.
             Note::Signalled(place) if self.writer == Some(place) => {
                 match reader_of(plan, place) {
                     Some(reader) => self.hold(reader, line),

@@ -1,5 +1,6 @@
 //! A system that answers from lists.
 
+// In clauses: `IsWithinLimit` says that no answer is longer than a file may be.
 ghost use Rattle.drv_system.specs.Limit.{IsWithinLimit};
 ghost use Rattle.drv_system.specs.Running.{is_told, made, run_of};
 ghost use Rattle.drv_system.specs.Script.{following, children_after, claim_in, first_answer, read_as};
@@ -401,6 +402,7 @@ fn pass_over<A>(answers: &[Answer], taken: &mut usize, answer: &Option<A>)
     if answer.is_none() {
         return;
     }
+    // No answer is left, so none is dropped.
     if answers.len() <= *taken {
         return;
     }

@@ -1,5 +1,7 @@
 //! The outside as a trait.
 
+// In clauses: `run_of` is the events of a run among those of a journal. `pipe_pending` says that a
+// pipe is pending after events.
 ghost use Rattle.drv_system.specs.Limit.{IsWithinLimit};
 ghost use Rattle.drv_system.specs.Running.{is_child_open, is_told, made, run_of};
 ghost use Rattle.drv_system.specs.declared.event.Event.TheVariants as event;

@@ -14,6 +14,7 @@ abbrev pub IsBelow : ℕ → Answer → Type 0
 IsBelow n (answer.Start (start.Started id)) = id < n
 IsBelow n a = ⊤
 
+-- all children of these events have numbers below n
 abbrev pub AreBelow : ℕ → List RunEvent → Type 0
 AreBelow n [] = ⊤
 AreBelow n (e ∷ events) = IsBelow n e.answer × AreBelow n events

@@ -5,6 +5,7 @@ use Rattle.std.specs.Prelude.{◌≡◌, List, [], ◌∷◌, nat_eq, ℕ}
 
 -- A table of answers in the order in which they were given, as a finite map. Only the model of the facts cites it.
 
+-- the pairs, put into a map one by one
 abbrev pub in_order_from : {Y : Type 0} → List (List ℕ × Y) → List (List ℕ × Y) → List (List ℕ × Y)
 in_order_from done [] = done
 in_order_from done (pair ∷ pairs) = in_order_from (with_pair done pair.0 pair.1) pairs

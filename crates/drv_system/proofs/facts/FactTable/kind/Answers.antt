@@ -8,6 +8,7 @@ use Rattle.std.specs.Prelude.{cond}
 
 -- kind (src/facts.rt). The kind of a path: the table's answer, or else the system's, which the table keeps.
 
+-- the new pair is put last, and its key was not there before
 pub invariant_of-self-2 : goal.invariant_of-self-2
 invariant_of-self-2 g c =
     let grows = appended c.self.inside.kinds.entries c.reserve.new.self.entries c.insert.new.self.entries c.in_ok-key.key c.args.path.now
@@ -19,6 +20,7 @@ invariant_of-self-2 g c =
     ∙ ap (λ es. cond (pointwise nat_eq c.in_ok-key.key other) (Some c.in_ok-kind.kind) (lookup (pointwise nat_eq other) es))
     c.in_ok-reserve.ensures.entries)
 
+-- the new pair is the answer to its key
 pub returns-clause-known : goal.returns-clause-known
 returns-clause-known g c =
     let grows = appended c.self.inside.kinds.entries c.reserve.new.self.entries c.insert.new.self.entries c.in_ok-key.key c.args.path.now
@@ -27,6 +29,7 @@ returns-clause-known g c =
     ordered_here c.self.inside.kinds.entries c.insert.new.self.entries c.in_ok-key.key c.args.path.now c.in_ok-kind.kind c.self.invariant
     c.in_ok-key.ensures.cases c.in_default.ensures.value grows
 
+-- the table had no answer, so the system was asked, and the table has its answer now
 pub returns-clause-consults : goal.returns-clause-consults
 returns-clause-consults g c =
     let grows = appended c.self.inside.kinds.entries c.reserve.new.self.entries c.insert.new.self.entries c.in_ok-key.key c.args.path.now

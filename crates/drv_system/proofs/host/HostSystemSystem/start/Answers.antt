@@ -10,6 +10,7 @@ use Rattle.drv_system.specs.Code.Output.{is_pipe}
 pub invariant_of-self : goal.invariant_of-self
 invariant_of-self c = holds_step _ _ c.self.invariant c.push_reserved.ensures.items refl tt refl
 
+-- a pipe is pending if the child writes one, and the child has the next number
 pub invariant_of-self-in-Ok : goal.invariant_of-self-in-Ok
 invariant_of-self-in-Ok c =
     let out : is_pipe c.if-to_pipe.output ≡ c.args.to_pipe =
