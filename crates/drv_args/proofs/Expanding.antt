@@ -18,6 +18,15 @@ use Rattle.std.specs.List.{list_any}
 use Rattle.std.proofs.lemmas.List.{append-nil, reverse-append, reverse-reverse}
 
 -- For `expand`: the words in front are expanded, then the words after them.
+-- Names: `word` is a word of the line. `words` is the words from here on. `F` is what is known of the outside. `left` is how many
+-- replacements are left. `left'` is how many replacements are left after. `args` is all words of the call. `out` is the words that are
+-- done. `out'` is the words that are done after. `stack` is the words that are still to be done, the next one last. `stack'` is the words
+-- that are still to be done after. `rest` is the words that are still to be done, without the next one. `inner` is the words of a response
+-- file. `front` is the words before those at hand. `fault` is a refusal. `Refuses F left words fault` says that their expansion is refused.
+-- `Responds F left words left' out` says, by the definition, that the words expand to `out`. `file_named word` is the file that @FILE
+-- names. `replacement_of F word` says whether the word stays (`Itself`), or its file's text or a refusal takes its place. `by_answer` is
+-- the replacement of a word by the answer for its file. `judged` turns a file with too many words into one that is too large.
+-- `GoesOn F left words out args` says that what these words and `out` give is what all of `args` give, for a result and for a refusal.
 
 -- the replacement of a word, by the facts after the call that asked for its file
 pub replacement_is : (most : Option ℕ) (F G : Facts) (word path : List ℕ) (answer : ReadAnswer) → Extends G F → file_named word ≡ Some path
@@ -26,12 +35,14 @@ replacement_is most F G word path answer e named known =
     ap (by_name (limited most F)) named
     ∙ ap (λ a. asked a >>= λ answer. Is (by_answer path answer)) (limited_read most F path answer (e.reads path answer known))
 
+-- a file that is missing, or can't be read, leaves its word as it is
 pub itself_by : (most : Option ℕ) (path : List ℕ) (answer : ReadAnswer) → (answer ≡ Missing) ⊎ (answer ≡ Failed)
     → Is (by_answer path (judged most answer)) ≡ Is Itself
 itself_by most path answer (inl e) = ap (λ a. Is (by_answer path (judged most a))) e
 itself_by most path answer (inr e) = ap (λ a. Is (by_answer path (judged most a))) e
 
--- the expansion of words in front, and of those after them
+-- The expansion of words in front, and of those after them. `mid` is how many replacements are left between both. `out_front` and
+-- `out_after` are the words that each gives.
 record Parts (F : Facts) (left : ℕ) (front words : List (List ℕ)) (left' : ℕ) (out : List (List ℕ)) : Type 0 where
   mid : ℕ
   out_front : List (List ℕ)
@@ -40,6 +51,7 @@ record Parts (F : Facts) (left : ℕ) (front words : List (List ℕ)) (left' : �
   first : Responds F left front mid out_front
   second : Responds F mid words left' out_after
 
+-- the expansion of two lists is that of the first, and then that of the second
 parts_of : {F : Facts} {left left' : ℕ} {out : List (List ℕ)} (front words : List (List ℕ)) → Responds F left (front ++ words) left' out
     → Parts F left front words left' out
 parts_of {left = left} {out = out} [] words all = record {
@@ -77,6 +89,7 @@ data Refused (F : Facts) (left : ℕ) (front words : List (List ℕ)) (fault : A
   in_front : Refuses F left front fault → Refused F left front words fault
   in_rest : {mid : ℕ} {out : List (List ℕ)} → Responds F left front mid out → Refuses F mid words fault → Refused F left front words fault
 
+-- so a refusal is of the first, or of the second after the first
 refused_of : {F : Facts} {left : ℕ} {fault : ArgsFault} (front words : List (List ℕ)) → Refuses F left (front ++ words) fault
     → Refused F left front words fault
 refused_of [] words all = in_rest no_word all
@@ -100,9 +113,11 @@ pub record GoesOn (F : Facts) (left : ℕ) (words out args : List (List ℕ)) : 
   pub responds : (left' : ℕ) (more : List (List ℕ)) → Responds F left words left' more → Responds F 2000 args left' (out ++ more)
   pub refuses : (fault : ArgsFault) → Refuses F left words fault → Refuses F 2000 args fault
 
+-- before the first word all words are still to be done
 pub goes_from_start : (F : Facts) (args : List (List ℕ)) → GoesOn F 2000 args [] args
 goes_from_start F args = record { responds = λ left' more r. r; refuses = λ fault r. r }
 
+-- a word that stays is done
 pub goes_by_itself : (F : Facts) (left : ℕ) (word : List ℕ) (words out args : List (List ℕ))
     → replacement_of F word ≡ Is Itself → GoesOn F left (word ∷ words) out args → GoesOn F left words (out ++ word ∷ []) args
 goes_by_itself F left word words out args m goes = record {
@@ -111,6 +126,7 @@ goes_by_itself F left word words out args m goes = record {
   refuses = λ fault r. goes.refuses fault (later m r);
 }
 
+-- a word that a text replaces gives way to the words of the text
 pub goes_by_text : (F : Facts) (left : ℕ) (word text : List ℕ) (inner words out args : List (List ℕ))
     → replacement_of F word ≡ Is (Text text) → Splits text inner → GoesOn F (suc left) (word ∷ words) out args
     → GoesOn F left (inner ++ words) out args
@@ -128,9 +144,11 @@ goes_by_text F left word text inner words out args m splits goes = record {
 
 -- The same for a stack, whose last word is the next one.
 
+-- the last word on the stack is the next one
 next_is : (stack rest : List (List ℕ)) (word : List ℕ) → stack ≡ rest ++ word ∷ [] → reverse stack ≡ word ∷ reverse rest
 next_is stack rest word e = ap reverse e ∙ reverse-append rest (word ∷ [])
 
+-- the code puts a word that stays behind those that are done
 pub itself_goes : (F : Facts) (left : ℕ) (stack rest : List (List ℕ)) (word : List ℕ) (out out' args : List (List ℕ))
     → stack ≡ rest ++ word ∷ [] → out' ≡ out ++ word ∷ [] → replacement_of F word ≡ Is Itself → GoesOn F left (reverse stack) out args
     → GoesOn F left (reverse rest) out' args
@@ -143,6 +161,7 @@ itself_goes F left stack rest word out out' args popped pushed m goes =
 abbrev pub StandsFor : Facts → List ℕ → List (List ℕ) → Type 0
 StandsFor F word inner = (text : List ℕ) × (replacement_of F word ≡ Is (Text text)) × Splits text inner
 
+-- the code puts the words of a text on the stack, the last one first
 pub text_goes : (F : Facts) (left left' : ℕ) (stack rest stack' : List (List ℕ)) (word : List ℕ) (inner out args : List (List ℕ))
     → stack ≡ rest ++ word ∷ [] → left ≡ suc left' → stack' ≡ rest ++ reverse inner → StandsFor F word inner
     → GoesOn F left (reverse stack) out args → GoesOn F left' (reverse stack') out args
@@ -159,6 +178,7 @@ text_goes F left left' stack rest stack' word inner out args popped one pushed (
 abbrev pub StandsAfter : Facts → List ℕ → List (List ℕ) → List (List ℕ) → Type 0
 StandsAfter F word out all = (text : List ℕ) × (replacement_of F word ≡ Is (Text text)) × SplitsOnto text out all
 
+-- a text when no replacement is left is refused
 pub many_refused : (F : Facts) (left : ℕ) (stack rest : List (List ℕ)) (word : List ℕ) (out all args : List (List ℕ))
     → stack ≡ rest ++ word ∷ [] → left ≡ 0 → StandsAfter F word out all → GoesOn F left (reverse stack) out args
     → Refuses F 2000 args TooManyFiles
@@ -167,6 +187,7 @@ many_refused F left stack rest word out all args popped none (text, m, (inner, i
     let Q : List (List ℕ) → Type 0 = λ ws. Refuses F left ws TooManyFiles in
     goes.refuses TooManyFiles (subst Q (sym (next_is stack rest word popped)) (subst P (sym none) (too_many m)))
 
+-- a refused file refuses the whole
 pub large_refused : (F : Facts) (left : ℕ) (stack rest : List (List ℕ)) (word : List ℕ) (out all args : List (List ℕ)) (fault : ArgsFault)
     → stack ≡ rest ++ word ∷ [] → IsReplaced F word out all (Err fault) → GoesOn F left (reverse stack) out args
     → (fault ≡ Memory) ⊎ Refuses F 2000 args fault
@@ -176,6 +197,7 @@ large_refused F left stack rest word out all args fault popped (inr (path, m, e)
     let Q : List (List ℕ) → Type 0 = λ ws. Refuses F left ws (ResponseTooLarge path) in
     inr (subst P (sym e) (goes.refuses (ResponseTooLarge path) (subst Q (sym (next_is stack rest word popped)) (too_large m))))
 
+-- a refusal is the result, or lack of memory
 pub expands_refused : (F : Facts) (args : List (List ℕ)) (fault : ArgsFault) (result : Result Expanded ArgsFault)
     → IsErrAnd result (λ e. e ≡ fault) → (fault ≡ Memory) ⊎ Refuses F 2000 args fault → Expands F 2000 args result
 expands_refused F args fault (Ok expanded) is refused = absurd is
@@ -184,10 +206,12 @@ expands_refused F args fault (Err e) is (inr refused) =
     let P : ArgsFault → Type 0 = λ f. Refuses F 2000 args f in
     inr (subst P (sym is) refused)
 
+-- lack of memory may be the result at any word
 pub expands_memory : (F : Facts) (args : List (List ℕ)) (result : Result Expanded ArgsFault) → IsErrAnd result (λ e. e ≡ Memory)
     → Expands F 2000 args result
 expands_memory F args result is = expands_refused F args Memory result is (inl refl)
 
+-- once no word is left, those that are done are all
 pub end_goes : (F : Facts) (left : ℕ) (stack out args : List (List ℕ)) → stack ≡ [] → GoesOn F left (reverse stack) out args
     → Responds F 2000 args left out
 end_goes F left stack out args empty goes =
@@ -197,19 +221,23 @@ end_goes F left stack out args empty goes =
 
 -- words that don't name files
 
+-- a word that names no file stays
 by_none : (F : Facts) (word : List ℕ) (named : Option (List ℕ)) → file_named word ≡ named → is_some named ≡ false
     → replacement_of F word ≡ Is Itself
 by_none F word None e absent = ap (by_name F) e
 by_none F word (Some path) e absent = absurd cc
 
+-- if no word of a list names a file, its first doesn't
 first_none : (a b : Bool) → a || b ≡ false → a ≡ false
 first_none false b e = refl
 first_none true b e = e
 
+-- nor do the others
 others_none : (a b : Bool) → a || b ≡ false → b ≡ false
 others_none false b e = e
 others_none true b e = absurd cc
 
+-- so all of them stay
 themselves : (F : Facts) (left : ℕ) (words : List (List ℕ)) → list_any (λ word. is_some (file_named word)) words ≡ false
     → Responds F left words left words
 themselves F left [] none = no_word
@@ -217,12 +245,14 @@ themselves F left (word ∷ words) none =
     itself (by_none F word (file_named word) refl (first_none (is_some (file_named word)) _ none))
     (themselves F left words (others_none (is_some (file_named word)) _ none))
 
+-- and the expansion is the words themselves
 pub none_expanded : (F : Facts) (args : List (List ℕ)) → list_any (λ word. is_some (file_named word)) args ≡ false
     → Expands F 2000 args (Ok (record { words = args; from_file = false }))
 none_expanded F args none = (2000, themselves F 2000 args none, refl)
 
 -- the words of a file replace the word that named it
 
+-- a text whose words name no files: they are all done at once
 pub stay_goes : (F : Facts) (left left' : ℕ) (stack rest stack' : List (List ℕ)) (word : List ℕ) (inner out out' args : List (List ℕ))
     → stack ≡ rest ++ word ∷ [] → left ≡ suc left' → stack' ≡ rest → out' ≡ out ++ inner
     → list_any (λ word. is_some (file_named word)) inner ≡ false
@@ -234,6 +264,7 @@ stay_goes F left left' stack rest stack' word inner out out' args popped one sam
     let S : List (List ℕ) → Type 0 = λ ws. GoesOn F left ws out args in
     subst P (sym more) (subst Q (sym same) (after_text (subst R one (subst S (next_is stack rest word popped) goes))))
   where
+    -- Plan: the text takes the place of its word (`after_text`), and then each of its words stays.
     after_text : GoesOn F (suc left') (word ∷ reverse rest) out args → GoesOn F left' (reverse rest) (out ++ inner) args
     after_text goes = record {
       responds = λ last after r.
@@ -243,6 +274,7 @@ stay_goes F left left' stack rest stack' word inner out out' args popped one sam
       refuses = λ fault r. goes.refuses fault (following m splits (themselves F left' inner none) r);
     }
 
+-- the words of a text are put on the stack, or are done at once
 words_go : (F : Facts) (left left' : ℕ) (stack rest stack' : List (List ℕ)) (word : List ℕ) (inner out out' args : List (List ℕ))
     → stack ≡ rest ++ word ∷ [] → left ≡ suc left' → IsPut inner rest stack' out out' → StandsFor F word inner
     → GoesOn F left (reverse stack) out args
@@ -253,6 +285,7 @@ words_go F left left' stack rest stack' word inner out out' args popped one (inr
     let P : List (List ℕ) → Type 0 = λ o. GoesOn F left' (reverse stack') o args in
     subst P (sym same) (text_goes F left left' stack rest stack' word inner out args popped one pushed stands goes)
 
+-- the code cuts the words of the text out of one list, in which they follow those that are done
 pub put_goes : (F : Facts) (left left' start : ℕ) (stack rest stack' : List (List ℕ)) (word : List ℕ) (out all out' args : List (List ℕ))
     → stack ≡ rest ++ word ∷ [] → left ≡ suc left' → IsReplaced F word out all (Ok (Some start))
     → IsPut (drop start all) rest stack' (take start all) out'

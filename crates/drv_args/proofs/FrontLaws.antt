@@ -7,17 +7,23 @@ use Rattle.drv_args.specs.declared.option_table.Effect.{Effect}
 use Rattle.std.proofs.Common.{◌≡◌, ◌↔◌, Err, List, [], ◌∷◌, ◌++◌, Ok, Result, refl, subst, ap, ◌∙◌, ℕ}
 
 -- For items_are_fronts: the items of words are those of their fronts.
+-- Names: `word` is a word of the line. `words` is the words from here on. `i` is an item: the effect of an option, the option and its
+-- argument. `result` is what the rest gives. `items_of words` is the items of the words, or their refusal. `start_of` says how a word
+-- begins a front. `and_items` puts an item before those of the rest. `Comes words result` says that the definitions give these items
+-- (`Reads`) or this refusal (`Offends`).
 
 -- the result for a list of words, by the relations
 abbrev Comes : List (List ℕ) → Result (List Item) ArgsFault → Type 0
 Comes words (Ok items) = Reads words items
 Comes words (Err fault) = Offends words fault
 
+-- a front, and then what the rest gives
 with_front : (words rest : List (List ℕ)) (i : Item) → Fits words i → (result : Result (List Item) ArgsFault) → Comes rest result
     → Comes (words ++ rest) (and_items i result)
 with_front words rest i fits (Ok items) reads = front fits reads
 with_front words rest i fits (Err fault) offends = later fits offends
 
+-- what `items_of` gives is what the definitions give
 comes : (words : List (List ℕ)) → Comes words (items_of words)
 comes [] = no_front
 comes (word ∷ []) = by (start_of word) refl
@@ -46,27 +52,32 @@ pub with_next_first : (word next option : List ℕ) (effect : Effect) (words : L
     → items_of (word ∷ next ∷ words) ≡ and_items (item effect option next) (items_of words)
 with_next_first word next option effect words e = ap (λ s. at_word s word next (items_of (next ∷ words)) (items_of words)) e
 
--- a refused word
+-- a word with a bad number of jobs refuses the line
 pub bad_first : (word : List ℕ) (words : List (List ℕ)) → start_of word ≡ Bad → items_of (word ∷ words) ≡ Err (BadJobs word)
 bad_first word [] e = ap (λ s. at_last s word) e
 bad_first word (next ∷ words) e = ap (λ s. at_word s word next (items_of (next ∷ words)) (items_of words)) e
 
+-- a front is one for `items_of`
 fits_items : {words : List (List ℕ)} {i : Item} → Fits words i → (rest : List (List ℕ))
     → items_of (words ++ rest) ≡ and_items i (items_of rest)
 fits_items (alone {word} {i} e) rest = alone_first word i rest e
 fits_items (with_next {word} {argument} {option} {effect} e) rest = with_next_first word argument option effect rest e
 
+-- items by the definitions are those of `items_of`
 reads_items : {words : List (List ℕ)} {items : List Item} → Reads words items → items_of words ≡ Ok items
 reads_items no_front = refl
 reads_items (front {words} {rest} {i} {items} fits reads) = fits_items fits rest ∙ ap (and_items i) (reads_items reads)
 
+-- a refusal by the definitions is that of `items_of`
 offends_items : {words : List (List ℕ)} {fault : ArgsFault} → Offends words fault → items_of words ≡ Err fault
 offends_items (lacks_argument {word} e) = ap (λ s. at_last s word) e
 offends_items (bad_jobs {word} {words} e) = bad_first word words e
 offends_items (later {words} {rest} {i} {fault} fits offends) = fits_items fits rest ∙ ap (and_items i) (offends_items offends)
 
+-- so both give the same items
 pub reads_law : (words : List (List ℕ)) (items : List Item) → (Reads words items ↔ (items_of words ≡ Ok items))
 reads_law words items = (reads_items, λ e. subst (Comes words) e (comes words))
 
+-- and the same refusals
 pub offends_law : (words : List (List ℕ)) (fault : ArgsFault) → (Offends words fault ↔ (items_of words ≡ Err fault))
 offends_law words fault = (offends_items, λ e. subst (Comes words) e (comes words))

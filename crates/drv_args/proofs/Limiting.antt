@@ -9,13 +9,17 @@ use Rattle.std.specs.Cmp.Lexicographic.{slice_cmp}
 use Rattle.std.specs.Ordering.{nat_cmp}
 
 -- For `expand_within`: what the facts say of a file when each file is judged by the limit.
+-- Names: `most` is how many words a response file may have, if there is a limit. `path` is the path of a response file. `judged` turns a
+-- file with too many words into one that is too large. `by_answer` is the replacement of a word by the answer for its file.
 
+-- without a limit an answer stays as it is
 no_limit : (answer : ReadAnswer) → judged None answer ≡ answer
 no_limit (Read text) = refl
 no_limit Missing = refl
 no_limit Failed = refl
 no_limit TooLarge = refl
 
+-- the limited facts have the judged answer
 pub limited_read : (most : Option ℕ) (F : Facts) (path : List ℕ) (answer : ReadAnswer) → read_of F path ≡ Some answer
     → read_of (limited most F) path ≡ Some (judged most answer)
 limited_read None F path answer known = known ∙ ap Some (sym (no_limit answer))
@@ -32,6 +36,7 @@ text_within most path text fits is e = ap (λ over. by_answer path (if over then
     go true e = absurd cc
     go false e = refl
 
+-- a text with too many words counts as too large
 pub text_over : (most : Option ℕ) (path text : List ℕ) (fits : Bool) → fits ≡ not (is_over most text) → fits ≡ false
     → by_answer path (judged most (Read text)) ≡ Large path
 text_over most path text fits is e = ap (λ over. by_answer path (if over then TooLarge else Read text))

@@ -17,18 +17,26 @@ use Rattle.std.proofs.lemmas.List.{append-nil, map-append}
 use Rattle.std.proofs.lemmas.List.Elements.{filter_map-append}
 
 -- For `read` and `line_of`: building a line item by item gives the line of all items.
+-- Names: `word` is a word of the line. `option` is the option of a row of the table. `b` is the line so far. `b'` is the line after. `i` is
+-- an item: the effect of an option, the option and its argument. `tool` is the program for which -Wa, -Wp or -Wl gives words. `whole` is
+-- the result of the whole line. `line_with b items` is the line with the items of the rest. `items_of words` is the items of the words, or
+-- their refusal. `noted b i` is the line with one more item. `with_pieces b tool pieces` adds the pieces of a -W. `start_of` says how a
+-- word begins a front.
 
+-- no pieces change nothing
 pub no_pieces : (tool : Tool) (b : LineBuilder) → b ≡ with_pieces b tool []
 no_pieces Assembler b = simp append-nil
 no_pieces Preprocessor b = simp append-nil
 no_pieces Linker b = simp append-nil
 
+-- pieces one after another, or all at once
 pub more_pieces : (tool : Tool) (b : LineBuilder) (pieces : List (List ℕ)) (piece : List ℕ)
     → with_pieces (with_pieces b tool pieces) tool (piece ∷ []) ≡ with_pieces b tool (pieces ++ piece ∷ [])
 more_pieces Assembler b pieces piece = simp append_assoc
 more_pieces Preprocessor b pieces piece = simp append_assoc
 more_pieces Linker b pieces piece = simp (append_assoc, map-append)
 
+-- one more piece in the code's loop
 pub next_pieces : (tool : Tool) (b b' b'' : LineBuilder) (done after : List (List ℕ)) (piece : List ℕ)
     → b' ≡ with_pieces b tool done → b'' ≡ with_pieces b' tool (piece ∷ []) → after ≡ done ++ piece ∷ [] → b'' ≡ with_pieces b tool after
 next_pieces tool b b' b'' done after piece so_far pushed more =
@@ -57,26 +65,29 @@ next_item b b' items index i option argument whole below at option_is argument_i
     ∙ sym (at_drop_more (with_items b) items index i below)
     ∙ so_far
 
+-- an item is noted, and then come those of the rest
 pub note_line : (b : LineBuilder) (i : Item) (rest : Result (List Item) ArgsFault)
     → line_with (noted b i) rest ≡ line_with b (and_items i rest)
 note_line b i (Ok items) = ap Ok (note_items b i items)
 note_line b i (Err fault) = refl
 
--- before the first item
+-- before the first item the line of all items is still to be built
 pub first_line : (from_file : Bool) (items : Result (List Item) ArgsFault)
     → line_with (begun from_file) items ≡ line_of_items from_file items
 first_line from_file (Ok items) = refl
 first_line from_file (Err fault) = refl
 
--- after the last item
+-- after the last item the line is what was built
 pub no_items : (b : LineBuilder) → with_items b [] ≡ b.line
 no_items b = simp (append-nil, or-false)
 
+-- once no word is left, the line is what was built
 pub last_line : (left : List (List ℕ)) (b : LineBuilder) (whole : Result Line ArgsFault) → length left < 1
     → line_with b (items_of left) ≡ whole → whole ≡ Ok b.line
 last_line [] b whole none so_far = sym so_far ∙ ap Ok (no_items b)
 last_line (word ∷ words) b whole none so_far = absurd (omega arith)
 
+-- the code's slice of the words after the first
 after_first : (word : List ℕ) (words : List (List ℕ)) → take (length (word ∷ words) - 1) words ≡ words
 after_first word words = take_all (length (word ∷ words) - 1) words (omega arith)
 

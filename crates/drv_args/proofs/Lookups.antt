@@ -12,7 +12,11 @@ use Rattle.std.specs.List.{filter, list_any}
 use Rattle.std.specs.Prelude.{nat_eq}
 
 -- For the look-up of options: the first row that fits a word is among the rows for its second byte.
+-- Names: `option` is the option of a row of the table. `letter` is the byte after the hyphen. `rows` is rows of the table. `option_table`
+-- is the table of the options. `may_fit letter row` says whether a word with this letter can fit the row. `row_fits word row` says whether
+-- the option of the row fits the word. `start_of` says how a word begins a front.
 
+-- the second of three tests that hold together
 second_true : (a b c : Bool) → (a && (b && c)) ≡ true → b ≡ true
 second_true true true c e = refl
 second_true true false c e = e
@@ -24,6 +28,7 @@ same_begins letter [] rest e = refl
 same_begins letter (a ∷ []) rest e = refl
 same_begins letter (a ∷ b ∷ option) rest e = second_true (a == hyphen) (b == letter) (pointwise nat_eq option rest) e
 
+-- an option that a word begins with may begin with the word's letter
 prefix_begins : (letter : ℕ) (option rest : List ℕ) → pointwise nat_eq option (take (length option) (hyphen ∷ letter ∷ rest)) ≡ true
     → may_begin letter option ≡ true
 prefix_begins letter [] rest e = refl
@@ -31,6 +36,7 @@ prefix_begins letter (a ∷ []) rest e = refl
 prefix_begins letter (a ∷ b ∷ option) rest e = second_true (a == hyphen) (b == letter)
     (pointwise nat_eq option (take (length option) rest)) e
 
+-- in each form an option that fits may do so
 fits_begins : (form : Form) (letter : ℕ) (option rest : List ℕ) → form_fits form option (hyphen ∷ letter ∷ rest) ≡ true
     → may_begin letter option ≡ true
 fits_begins Exact letter option rest e = same_begins letter option rest e
@@ -49,11 +55,13 @@ find_among p q passes (r ∷ rows) = by (p r) (q r) refl refl (find_among p q pa
     by true false ep eq ih = absurd (let both : true ≡ false = sym (passes r ep) ∙ eq in cc)
     by false false ep eq ih = rw (eq, ep) ih
 
+-- the first row that fits is the first among those for the letter
 first_among : (letter : ℕ) (rest : List ℕ) → find (row_fits (hyphen ∷ letter ∷ rest)) (filter (may_fit letter) option_table) ≡ first_row
     (hyphen ∷ letter ∷ rest)
 first_among letter rest = find_among (row_fits (hyphen ∷ letter ∷ rest)) (may_fit letter)
     (λ r. fits_begins r.form letter r.option rest) option_table
 
+-- so the row that the code finds there decides how the word begins a front
 at_dash : (letter : ℕ) (rest : List ℕ) (rows : List OptionRow) (found : Option OptionRow)
     → rows ≡ filter (may_fit letter) option_table → found ≡ find (row_fits (hyphen ∷ letter ∷ rest)) rows
     → by_row found (hyphen ∷ letter ∷ rest) ≡ start_of (hyphen ∷ letter ∷ rest)
@@ -69,11 +77,12 @@ looked_up (a ∷ b ∷ rest) rows found long first is sought =
     let P : ℕ → Type 0 = λ d. found ≡ find (row_fits (d ∷ b ∷ rest)) rows → by_row found (d ∷ b ∷ rest) ≡ start_of (d ∷ b ∷ rest) in
     subst P (sym first) (at_dash b rest rows found is) sought
 
--- the rows for one letter
+-- the rows that the code has for one letter are those of the table that may fit
 pub rows_at : (at letter : ℕ) (rows : List OptionRow) → letter ≡ at → rows ≡ filter (may_fit at) option_table
     → rows ≡ filter (may_fit letter) option_table
 rows_at at letter rows is same = same ∙ ap (λ l. filter (may_fit l) option_table) (sym is)
 
+-- no row is left of a list in which none passes
 none_pass : (p : OptionRow → Bool) (rows : List OptionRow) → list_any p rows ≡ false → [] ≡ filter p rows
 none_pass p [] e = refl
 none_pass p (r ∷ rows) e = by (p r) refl (none_pass p rows)
@@ -82,10 +91,11 @@ none_pass p (r ∷ rows) e = by (p r) refl (none_pass p rows)
     by true pe ih = absurd (let both : true ≡ false = ap (λ b. b || list_any p rows) (sym pe) ∙ e in cc)
     by false pe ih = rw pe (ih (ap (λ b. b || list_any p rows) (sym pe) ∙ e))
 
+-- another letter is not that of these rows
 not_at : (at letter : ℕ) → (letter ≡ at → ⊥) → (at == letter) ≡ false
 not_at at letter differs = ne_eqb at letter (λ e. differs (sym e))
 
--- other letters have no rows
+-- for other letters the table has no rows
 pub no_rows : (letter : ℕ) → (letter ≡ 35 → ⊥) → (letter ≡ 45 → ⊥) → (letter ≡ 65 → ⊥) → (letter ≡ 66 → ⊥) → (letter ≡ 68 → ⊥)
     → (letter ≡ 69 → ⊥) → (letter ≡ 73 → ⊥) → (letter ≡ 76 → ⊥) → (letter ≡ 77 → ⊥) → (letter ≡ 83 → ⊥) → (letter ≡ 84 → ⊥)
     → (letter ≡ 85 → ⊥) → (letter ≡ 87 → ⊥) → (letter ≡ 88 → ⊥) → (letter ≡ 97 → ⊥) → (letter ≡ 99 → ⊥) → (letter ≡ 100 → ⊥)

@@ -9,20 +9,30 @@ use Rattle.drv_words.specs.Response.{Splits}
 use Rattle.std.proofs.Common.{◌≡◌, List, ◌∷◌, ◌++◌, refl, sym, subst, ap, ◌∙◌, ℕ}
 
 -- For one_expansion: the expansion of words is unique, and so is their refusal.
+-- Names: `word` is a word of the line. `words` is the words from here on. `F` is what is known of the outside. `left` is how many
+-- replacements are left. `out` is the words that are done. `out'` is the words that are done after. `ws` is the words that follow. `a` and
+-- `n` are numbers of replacements that are left. `text` is the text of a response file. `Responds F left words left' out` says, by the
+-- definition, that the words expand to `out`. `Refuses F left words fault` says that their expansion is refused. `replacement_of F word`
+-- says whether the word stays (`Itself`), or its file's text or a refusal takes its place. `Splits text words` says that a response file's
+-- text means these words.
 
+-- the facts give a word one replacement
 one_replacement : (F : Facts) (word : List ℕ) (a b : Replacement) → replacement_of F word ≡ Is a → replacement_of F word ≡ Is b → a ≡ b
 one_replacement F word a b m m' = let same : Is a ≡ Is b = sym m ∙ m' in cc
 
+-- a word that stays has no text
 not_itself : (F : Facts) (word text : List ℕ) → replacement_of F word ≡ Is Itself → replacement_of F word ≡ Is (Text text) → ⊥
 not_itself F word text m m' = let same : Itself ≡ Text text = one_replacement F word Itself (Text text) m m' in cc
 
+-- a refused file's word doesn't stay
 not_large : (F : Facts) (word path : List ℕ) → replacement_of F word ≡ Is (Large path) → replacement_of F word ≡ Is Itself → ⊥
 not_large F word path m m' = let same : Large path ≡ Itself = one_replacement F word (Large path) Itself m m' in cc
 
+-- and has no text
 not_text : (F : Facts) (word path text : List ℕ) → replacement_of F word ≡ Is (Large path) → replacement_of F word ≡ Is (Text text) → ⊥
 not_text F word path text m m' = let same : Large path ≡ Text text = one_replacement F word (Large path) (Text text) m m' in cc
 
--- a word has one replacement
+-- the words of a word's file are one list
 same_inner : (F : Facts) (word text text' : List ℕ) (inner inner' : List (List ℕ))
     → replacement_of F word ≡ Is (Text text) → Splits text inner → replacement_of F word ≡ Is (Text text') → Splits text' inner'
     → inner' ≡ inner
@@ -31,10 +41,12 @@ same_inner F word text text' inner inner' m splits m' splits' =
     let texts : text' ≡ text = cc in
     one_list text inner' inner (subst (λ (t : List ℕ). Splits t inner') texts splits') splits
 
+-- the same words, with as many replacements left
 record Same (left left' : ℕ) (out out' : List (List ℕ)) : Type 0 where
   lefts : left ≡ left'
   outs : out ≡ out'
 
+-- two expansions of the same words are the same
 same : {F : Facts} {left a b : ℕ} {words out out' : List (List ℕ)} → Responds F left words a out → Responds F left words b out'
     → Same a b out out'
 same no_word no_word = record { lefts = refl; outs = refl }
@@ -51,6 +63,7 @@ same {F = F} (by_text {left = left} {mid = mid} {word = word} {text = text} {inn
     let t = same rest (subst (λ (n : ℕ). Responds F n words final more') (sym s.lefts) rest') in
     record { lefts = t.lefts; outs = ap (λ o. o ++ more) s.outs ∙ ap (λ o. out' ++ o) t.outs }
 
+-- as the law says it
 pub responds_once : (F : Facts) (left a b : ℕ) (words out out' : List (List ℕ)) → Responds F left words a out → Responds F left words b out'
     → (a ≡ b) × (out ≡ out')
 responds_once F left a b words out out' first second = let s = same first second in (s.lefts, s.outs)
@@ -76,6 +89,7 @@ never_both {F = F} (by_text {left = left} {mid = mid} {word = word} {text = text
     (same_inner F word text text' inner inner' m splits m' splits') first') in
     never_both rest (subst (λ (n : ℕ). Refuses F n words fault) (sym s.lefts) refused)
 
+-- words that expand are not refused
 pub responds_alone : (F : Facts) (left a : ℕ) (words out : List (List ℕ)) (fault : ArgsFault) → Responds F left words a out
     → Refuses F left words fault → ⊥
 responds_alone F left a words out fault responds refused = never_both responds refused
@@ -126,6 +140,7 @@ one_refusal {F = F} (following {left = left} {mid = mid} {word = word} {text = t
     (same_inner F word text text' inner inner' m splits m' splits') first') in
     one_refusal refused (subst (λ (n : ℕ). Refuses F n words fault) (sym s.lefts) refused')
 
+-- words are refused for one reason
 pub refused_once : (F : Facts) (left : ℕ) (words : List (List ℕ)) (f g : ArgsFault) → Refuses F left words f
     → Refuses F left words g → f ≡ g
 refused_once F left words f g first second = one_refusal first second

@@ -21,6 +21,7 @@ use Rattle.std.specs.Prelude.{Err, None, Ok, Result, Some}
 abbrev alone : List ℕ → Switch
 alone name = record { name = name; arg = None }
 
+-- a switch with this argument
 abbrev takes : List ℕ → List ℕ → Switch
 takes name arg = record { name = name; arg = Some arg }
 
@@ -39,6 +40,7 @@ off = record {
   jobs = 1;
 }
 
+-- a line that gives nothing
 abbrev empty : Line
 empty = record { switches = []; inputs = []; asm_opts = []; cpp_opts = []; settings = off }
 
@@ -46,9 +48,11 @@ empty = record { switches = []; inputs = []; asm_opts = []; cpp_opts = []; setti
 abbrev read_words : List (List ℕ) → Result Line ArgsFault
 read_words words = line_read (record { words = words; from_file = false })
 
+-- the line of this text, whose words are separated by blanks
 abbrev read : List ℕ → Result Line ArgsFault
 read text = read_words (slice_split (λ b. b == space) text)
 
+-- a line without words is refused
 nothing : read_words [] ≡ Err NoInputs
 nothing = refl
 
@@ -377,11 +381,13 @@ numbers : map (λ word. read_words (word ∷ codes "a.c" ∷ [])) (codes "--jobs
 unfolding option_table
 numbers = refl
 
+-- words that begin with --jobs and name no number from 1 to 64
 abbrev no_numbers : List (List ℕ)
 no_numbers = codes "--jobs" ∷ codes "--jobs=" ∷ codes "--jobs=0" ∷ codes "--jobs=65" ∷ codes "--jobs=99" ∷ codes "--jobs=100" ∷ codes
     "--jobs=08" ∷ codes "--jobs=00" ∷ codes "--jobs=064" ∷ codes "--jobs=+2" ∷ codes "--jobs=-1" ∷ codes "--jobs=2x" ∷ codes "--jobs=x" ∷
     codes "--jobs=:" ∷ codes "--jobs=/" ∷ codes "--jobsx" ∷ codes "--jobs2" ∷ []
 
+-- each of them is refused
 not_numbers : map (λ word. read_words (word ∷ codes "a.c" ∷ [])) no_numbers ≡ map (λ word. Err (BadJobs word)) no_numbers
 unfolding option_table
 not_numbers = refl
@@ -392,12 +398,14 @@ separate = codes "-A" ∷ codes "-e" ∷ codes "-u" ∷ codes "-z" ∷ codes "-T
     codes "-MT" ∷ codes "-MQ" ∷ codes "-include" ∷ codes "-imacros" ∷ codes "-idirafter" ∷ codes "-iprefix" ∷ codes "-iquote" ∷ codes
     "-isysroot" ∷ codes "-isystem" ∷ codes "-iwithprefix" ∷ codes "-iwithprefixbefore" ∷ codes "-aux-info" ∷ codes "--param" ∷ []
 
+-- each option that takes the next word takes it, also one that begins with a hyphen
 takes_next : map (λ option. read_words (codes "a.c" ∷ option ∷ codes "-x" ∷ [])) separate
     ≡ map (λ option. Ok (record empty { switches = takes (drop 1 option) (codes "-x") ∷ []; inputs = File (codes "a.c") None ∷ [] }))
     separate
 unfolding option_table
 takes_next = refl
 
+-- and is refused as the last word
 lacks_next : map (λ option. read_words (codes "a.c" ∷ option ∷ [])) separate ≡ map (λ option. Err (MissingArgument option)) separate
 unfolding option_table
 lacks_next = refl

@@ -33,10 +33,12 @@ by_answer path Missing = Itself
 by_answer path Failed = Itself
 by_answer path TooLarge = Large path
 
+-- the replacement of a word that names this file, or none
 abbrev pub by_name : Facts → Option (List ℕ) → Known Replacement
 by_name F None = Is Itself
 by_name F (Some path) = asked (read_of F path) >>= λ answer. Is (by_answer path answer)
 
+-- what takes the place of a word
 abbrev pub replacement_of : Facts → List ℕ → Known Replacement
 replacement_of F word = by_name F (file_named word)
 
@@ -72,10 +74,12 @@ Expands F left args (Err fault) = (fault ≡ Memory) ⊎ Refuses F left args fau
 -- A limit on the words of one file, if there is one (gcc has none; this project's profile): a file of more words counts as one that is too
 -- large.
 
+-- whether a text has more words than the limit
 abbrev pub is_over : Option ℕ → List ℕ → Bool
 is_over None text = false
 is_over (Some most) text = nat_lt most (words_in text)
 
+-- a text with too many words counts as too large
 abbrev pub judged : Option ℕ → ReadAnswer → ReadAnswer
 judged most (Read text) = if is_over most text then TooLarge else Read text
 judged most Missing = Missing

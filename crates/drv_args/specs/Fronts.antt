@@ -24,10 +24,12 @@ pub data Start : Type 0 where
   Wants : Effect → List ℕ → Start
   Bad : Start
 
+-- an option that takes the rest of its word, or else the next word
 abbrev pub with_rest : Bool → Effect → List ℕ → List ℕ → Start
 with_rest true effect option rest = Wants effect option
 with_rest false effect option rest = Alone (item effect option rest)
 
+-- the front of an option, by its form
 abbrev pub by_form : Form → Effect → List ℕ → List ℕ → Start
 by_form Exact effect option word = Alone (item effect option [])
 by_form Separate effect option word = Wants effect option
@@ -39,6 +41,7 @@ abbrev pub is_bad : Effect → List ℕ → Bool
 is_bad effect.Jobs argument = is_none (jobs_named argument)
 is_bad _ argument = false
 
+-- an option whose argument is bad is refused
 abbrev pub by_effect : Effect → OptionRow → List ℕ → Start
 by_effect effect r word = if is_bad effect (drop (length r.option) word) then Bad else by_form r.form effect r.option word
 
@@ -53,16 +56,19 @@ is_file [] = true
 is_file (b ∷ []) = true
 is_file (b ∷ c ∷ word) = if b == hyphen then false else true
 
+-- how a word begins a front: a file by itself, an option by its row
 abbrev pub start_of : List ℕ → Start
 start_of word = if is_file word then Alone (item effect.File word []) else by_row (first_row word) word
 
 -- The words are a concatenation of fronts, each fitted by its first row.
 
+-- these words are a front, and its item is this one
 pub data Fits : List (List ℕ) → Item → Type 0 where
   alone : {word : List ℕ} {i : Item} → start_of word ≡ Alone i → Fits (word ∷ []) i
   with_next : {word argument option : List ℕ} {effect : Effect} → start_of word ≡ Wants effect option
       → Fits (word ∷ argument ∷ []) (item effect option argument)
 
+-- the words are fronts, one after another
 pub data Reads : List (List ℕ) → List Item → Type 0 where
   no_front : Reads [] []
   front : {words rest : List (List ℕ)} {i : Item} {items : List Item} → Fits words i → Reads rest items → Reads (words ++ rest) (i ∷ items)
@@ -76,6 +82,7 @@ pub data Offends : List (List ℕ) → ArgsFault → Type 0 where
 
 -- The same as a function of the words.
 
+-- an item before those of the rest
 abbrev pub and_items : Item → Result (List Item) ArgsFault → Result (List Item) ArgsFault
 and_items i (Ok items) = Ok (i ∷ items)
 and_items i (Err fault) = Err fault
@@ -92,6 +99,7 @@ at_word (Alone i) word next from_next after_next = and_items i from_next
 at_word (Wants effect option) word next from_next after_next = and_items (item effect option next) after_next
 at_word Bad word next from_next after_next = Err (BadJobs word)
 
+-- the items of the words
 abbrev pub items_of : List (List ℕ) → Result (List Item) ArgsFault
 items_of [] = Ok []
 items_of (word ∷ []) = at_last (start_of word) word

@@ -7,9 +7,11 @@ use Rattle.std.specs.Prelude.{◌+◌, ◌*◌, ◌-◌, ◌&&◌, ◌==◌, Boo
 abbrev pub digit_zero : ℕ
 digit_zero = 48
 
+-- whether a number is between two others, or one of them
 abbrev pub is_within : ℕ → ℕ → ℕ → Bool
 is_within low high n = nat_le low n && nat_le n high
 
+-- the value of a decimal digit
 abbrev pub digit_of : ℕ → Option ℕ
 digit_of b = if is_within digit_zero (digit_zero + 9) b then Some (b - digit_zero) else None
 
@@ -17,6 +19,7 @@ digit_of b = if is_within digit_zero (digit_zero + 9) b then Some (b - digit_zer
 abbrev pub tens_of : ℕ → Option ℕ
 tens_of b = if is_within (digit_zero + 1) (digit_zero + 9) b then Some (b - digit_zero) else None
 
+-- a number with one more digit
 abbrev pub joined : Option ℕ → Option ℕ → Option ℕ
 joined None low = None
 joined (Some high) None = None
@@ -28,9 +31,11 @@ number_of (a ∷ []) = digit_of a
 number_of (a ∷ b ∷ []) = joined (tens_of a) (digit_of b)
 number_of digits = None
 
+-- the greatest number of jobs
 abbrev pub most_jobs : ℕ
 most_jobs = 64
 
+-- a number from 1 to the greatest
 abbrev pub in_range : Option ℕ → Option ℕ
 in_range None = None
 in_range (Some n) = if is_within 1 most_jobs n then Some n else None

@@ -11,11 +11,13 @@ use Rattle.std.specs.Prelude.{Bool, List, [], ◌∷◌, Option, codes, find, na
 -- The option table (GCC manual, "Overall Options", "Directory Options", "Preprocessor Options", "Link Options"; the forms of an option are
 -- this project's profile). The first row that fits a word decides.
 
+-- a row of the table: an option, its form, and its effect on the line
 pub record OptionRow : Type 0 where
   pub option : List ℕ
   pub form : Form
   pub effect : Effect
 
+-- the same, as the table writes it
 abbrev pub row : List ℕ → Form → Effect → OptionRow
 row option form effect = record { option = option; form = form; effect = effect }
 
@@ -77,8 +79,10 @@ form_fits Separate option word = pointwise nat_eq option word
 form_fits Joined option word = starts_with nat_eq word option
 form_fits Either option word = starts_with nat_eq word option
 
+-- whether the option of a row fits a word
 abbrev pub row_fits : List ℕ → OptionRow → Bool
 row_fits word r = form_fits r.form r.option word
 
+-- the row that decides about a word
 abbrev pub first_row : List ℕ → Option OptionRow
 first_row word = find (row_fits word) option_table

@@ -1,5 +1,7 @@
 //! A line that is built item by item.
 
+// In clauses: `item effect option argument` is what an option adds to the line. `noted` is a line
+// with one more item.
 ghost use Rattle.drv_args.specs.Code.Building.{begun, noted, with_inputs, with_jobs, with_pieces};
 ghost use Rattle.drv_args.specs.Code.Building.{with_setting, with_switch};
 ghost use Rattle.drv_args.specs.Fronts.{item};
@@ -105,6 +107,7 @@ impl LineBuilder {
         })
     }
 
+    /// Adds a switch.
     fn add_switch(&mut self, name: Word, arg: Option<Word>) -> Result<(), AllocError>
         ensures { OnOk result (self.new ≡ with_switch self.old name arg) }
     {
@@ -132,6 +135,7 @@ impl LineBuilder {
         self.add_switch(joined_name(alloc, option, argument)?, None)
     }
 
+    /// Adds a switch with an option's name, and the next word as its argument.
     fn add_switch_with(
         &mut self,
         alloc: Global,
@@ -145,6 +149,7 @@ impl LineBuilder {
         self.add_switch(name, Some(Word::from_bytes(alloc, argument)?))
     }
 
+    /// Adds an input.
     fn add_input(&mut self, input: Input) -> Result<(), AllocError>
         ensures { OnOk result (self.new ≡ with_inputs self.old (input ∷ [])) }
     {
@@ -162,6 +167,7 @@ impl LineBuilder {
         self.add_input(Input::File { name, lang })
     }
 
+    /// Turns a setting on. No option turns one off.
     fn turn_on(&mut self, setting: Setting)
         ensures { self.new ≡ with_setting self.old setting }
     {
@@ -217,6 +223,7 @@ impl LineBuilder {
             (self.new ≡ noted self.old (item (given.TurnsOn setting) option.now [])) }
     {
         self.turn_on(setting);
+        // The setting alone counts; spec texts don't ask for it.
         if !setting.is_switch_too() {
             return Ok(());
         }

@@ -1,5 +1,8 @@
 //! Expands response files.
 
+// In clauses: `Extends F G` says that G has every answer of F. `Expands` says what an expansion
+// gives. `Asks` says that a call only asked: it added new questions to the journal, and their
+// answers to the table. `Asked` says that a call only asked, and that the table has the answers.
 ghost use Rattle.drv_args.specs.Expansion.{Expands, file_named, is_over, limited};
 ghost use Rattle.drv_args.specs.Code.Replacing.{IsPut, IsReplaced};
 ghost use Rattle.drv_system.specs.Asking.{Asks, Extends};
@@ -121,6 +124,7 @@ fn put_words(
         (take start words.old) words.new) }
 {
     let inner = words.as_slice().get(start..).unwrap_or(&[]);
+    // A word that names a file is expanded before those after it.
     if have_references(inner) {
         return push_reversed(stack, words, start);
     }
@@ -146,6 +150,7 @@ fn expand_all<S: System>(
     while let Some(word) = stack.pop() {
         match replace_word(alloc, &word, most, outside, &mut words)? {
             None => words.push(word)?,
+            // A file may name itself, so there is a limit.
             Some(_) if left == 0 => return Err(ArgsFault::TooManyFiles),
             Some(start) => {
                 left -= 1;

@@ -45,6 +45,7 @@ impl From<AllocError> for ArgsFault {
 
     ghost from_gives = { λ _ fault. fault ≡ Memory };
 
+    /// `?` turns a refused allocation into `Memory`.
     fn from(_refused: AllocError) -> ArgsFault {
         ArgsFault::Memory
     }
@@ -56,6 +57,7 @@ impl<T: Drop> From<AllocFailed<T>> for ArgsFault {
 
     ghost from_gives = { λ _ fault. fault ≡ Memory };
 
+    /// `?` turns a refused allocation into `Memory`, and drops what had no room.
     fn from(_refused: AllocFailed<T>) -> ArgsFault {
         ArgsFault::Memory
     }

@@ -1,5 +1,6 @@
 //! Lines that are made from items.
 
+// In clauses: `Gives` says that a result is the defined one, or lack of memory.
 ghost use Rattle.drv_args.specs.Code.Building.{with_items};
 ghost use Rattle.drv_args.specs.Lines.{line_judged, line_of};
 ghost use Rattle.drv_args.specs.declared.fault.ArgsFault.TheVariants as fault;

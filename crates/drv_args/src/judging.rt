@@ -1,5 +1,7 @@
 //! The refusals of a whole line.
 
+// In clauses: `Finds` says that a test finds the defined refusal, or none. `Gives` says that a
+// result is the defined one, or lack of memory.
 ghost use Rattle.drv_args.specs.Lines.{has_many, has_switch, is_bare_stdin, is_file_input};
 ghost use Rattle.drv_args.specs.Lines.{input_fault, inputs_fault, is_file_named, is_input, is_sink};
 ghost use Rattle.drv_args.specs.Lines.{items_fault, judged, line_fault, needs_language, output_fault};

@@ -1,5 +1,7 @@
 //! Laws about the definitions that the contracts cite.
 
+// In clauses: `Refuses` says why arguments are refused. `items_of` is the items of words, or their
+// refusal.
 ghost use Rattle.drv_args.specs.Expansion.{Refuses, Responds};
 ghost use Rattle.drv_args.specs.Fronts.{Offends, Reads, items_of};
 ghost use Rattle.drv_args.specs.declared.fault.ArgsFault.{ArgsFault};

@@ -1,5 +1,7 @@
 //! Reads words by the option table.
 
+// In clauses: `Gives` says that a result is the defined one, or lack of memory. `start_shown` is
+// what definitions see of a start. `items_of` is the items of words, or their refusal.
 ghost use Rattle.drv_args.specs.Code.Building.{is_whole, line_with, start_shown};
 ghost use Rattle.drv_args.specs.Fronts.{by_effect, is_bad, items_of, start_of};
 ghost use Rattle.drv_args.specs.Lines.{line_of_items, line_read};
@@ -132,6 +134,7 @@ fn start_by_row<'a>(row: Row, word: &'a [u8]) -> Start<'a>
             argument: &[],
         },
         Form::Separate => Start::Wants { effect, option },
+        // The word is the option alone, so the next word is its argument.
         Form::Either if option.len() == word.len() => Start::Wants { effect, option },
         Form::Joined | Form::Either => Start::Alone {
             effect,

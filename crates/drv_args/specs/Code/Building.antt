@@ -22,7 +22,7 @@ use Rattle.std.specs.Prelude.{◌≡◌, ◌||◌, ⊤, Bool, Err, List, [], ◌
 
 -- A line that is built item by item. Only private clauses cite it: `line_read` defines what `read` returns.
 
--- before the first item
+-- the line before the first item
 abbrev pub begun : Bool → LineBuilder
 begun from_file = record { line = line_of from_file []; language = None }
 
@@ -46,7 +46,7 @@ with_items b items = record {
   };
 }
 
--- one more item
+-- the line with one more item
 abbrev pub noted : LineBuilder → Item → LineBuilder
 noted b i = record { line = with_items b (i ∷ []); language = language_after i.effect i.argument b.language }
 
@@ -57,15 +57,19 @@ line_with b (Err fault) = Err fault
 
 -- what single steps add
 
+-- one more switch
 abbrev pub with_switch : LineBuilder → List ℕ → Option (List ℕ) → LineBuilder
 with_switch b name arg = record b { line = record b.line { switches = b.line.switches ++ record { name = name; arg = arg } ∷ [] } }
 
+-- more inputs
 abbrev pub with_inputs : LineBuilder → List Input → LineBuilder
 with_inputs b inputs = record b { line = record b.line { inputs = b.line.inputs ++ inputs } }
 
+-- other settings
 abbrev pub with_settings : LineBuilder → Settings → LineBuilder
 with_settings b settings = record b { line = record b.line { settings = settings } }
 
+-- one more setting that is on
 abbrev pub with_setting : LineBuilder → Setting → LineBuilder
 with_setting b setting.Dry = with_settings b (record b.line.settings { dry = true })
 with_setting b setting.Verbose = with_settings b (record b.line.settings { verbose = true })
@@ -73,9 +77,11 @@ with_setting b setting.Dump = with_settings b (record b.line.settings { dump = t
 with_setting b setting.PassCodes = with_settings b (record b.line.settings { pass_codes = true })
 with_setting b setting.Pipe = with_settings b (record b.line.settings { pipe = true })
 
+-- the number of jobs, if the argument names one
 abbrev pub with_jobs : LineBuilder → List ℕ → LineBuilder
 with_jobs b argument = with_settings b (record b.line.settings { jobs = unwrap_or (jobs_named argument) b.line.settings.jobs })
 
+-- the pieces of -Wa and -Wp are options, those of -Wl are inputs
 abbrev pub with_pieces : LineBuilder → Tool → List (List ℕ) → LineBuilder
 with_pieces b tool.Assembler pieces = record b { line = record b.line { asm_opts = b.line.asm_opts ++ pieces } }
 with_pieces b tool.Preprocessor pieces = record b { line = record b.line { cpp_opts = b.line.cpp_opts ++ pieces } }

@@ -13,5 +13,6 @@ abbrev pub may_begin : ℕ → List ℕ → Bool
 may_begin letter (dash ∷ b ∷ option) = b == letter
 may_begin letter _ = true
 
+-- whether a row's option can fit a word with this letter
 abbrev pub may_fit : ℕ → OptionRow → Bool
 may_fit letter r = may_begin letter r.option

@@ -9,6 +9,7 @@ use Rattle.std.specs.Prelude.{◌≡◌, ◌⊎◌, ◌++◌, Err, List, None, O
 
 -- The replacement of one word, and the words that are done. Only private clauses cite it: `Expands` defines what `expand` returns.
 
+-- a word stays, or the words of its file's text are put behind those that are done, from `start` on, or it is refused
 abbrev pub IsReplaced : Facts → List ℕ → List (List ℕ) → List (List ℕ) → Result (Option ℕ) ArgsFault → Type 0
 IsReplaced F word words words' (Ok None) = (replacement_of F word ≡ Is Itself) × (words' ≡ words)
 IsReplaced F word words words' (Ok (Some start)) =

@@ -8,6 +8,7 @@ use Rattle.drv_args.proofs.expansion.expand_all.Goals as goal
 
 -- expand_all (src/expansion.rt). Replaces each argument that names a file.
 
+-- a file that is too large refuses the whole
 pub returns-in_err-replace_word-clause-expands : goal.returns-in_err-replace_word-clause-expands
 returns-in_err-replace_word-clause-expands g c F e =
     let goes = c.loop-word.invariant.goes F (extends_before c.replace_word.ensures.asks e) in
@@ -16,6 +17,7 @@ returns-in_err-replace_word-clause-expands g c F e =
     c.replace_word.new.words c.args.args c.in_err-replace_word.field-0.0 c.in-Some.ensures.items
     (c.in_err-replace_word.ensures.replaces F e) goes)
 
+-- a word that stays is done
 pub loop-word-preserved-in-Continue-branch-3 : goal.loop-word-preserved-in-Continue-branch-3
 loop-word-preserved-in-Continue-branch-3 g c = record {
   asks = asked_further c.loop-word.invariant.asks c.replace_word.ensures.asks;
@@ -29,6 +31,7 @@ loop-word-preserved-in-Continue-branch-3 g c = record {
   bound = c.loop-word.invariant.bound;
 }
 
+-- a file when no replacement is left refuses the whole
 pub returns-in-Some-2-clause-expands : goal.returns-in-Some-2-clause-expands
 returns-in-Some-2-clause-expands g c F e =
     let replaces = subst (λ (o : Option ℕ). IsReplaced (limited c.args.most F) c.in-Some.word c.loop-word.words c.replace_word.new.words
@@ -37,6 +40,7 @@ returns-in-Some-2-clause-expands g c F e =
     c.replace_word.new.words c.args.args
     c.in-Some.ensures.items c.if-left-eq0.true replaces.1 (c.loop-word.invariant.goes F (extends_before c.replace_word.ensures.asks e)))
 
+-- the words of a file take the place of the word that names it
 pub loop-word-preserved : goal.loop-word-preserved
 loop-word-preserved g c = record {
   asks = asked_further c.loop-word.invariant.asks c.replace_word.ensures.asks;
@@ -51,6 +55,7 @@ loop-word-preserved g c = record {
   bound = omega arith;
 }
 
+-- the stack is empty, so the words that are done are all
 pub returns-clause-expands : goal.returns-clause-expands
 returns-clause-expands g c F e =
     let none : length c.loop-word.stack.items ≡ 0 = omega (arith, c.loop-word.stack.ok, c.in_default.ensures.cases.0) in

@@ -8,6 +8,7 @@ use Rattle.drv_args.proofs.expansion.expand_all.Given as goal
 
 -- The loops of expand_all (src/expansion.rt). Replaces each argument that names a file.
 
+-- the words that are done, with the expansion of the stack, are what all arguments give (`GoesOn`)
 abbrev pub invariant-loop-word : goal.invariant-loop-word
 invariant-loop-word g l = record {
   asks : Asked g.S.System.events l.fn.outside l.outside;
@@ -15,5 +16,6 @@ invariant-loop-word g l = record {
   bound : l.left ≤ 2000;
 }
 
+-- each turn takes a word from the stack, or leaves one replacement less, so the loop ends
 abbrev pub decreases-loop-word : goal.decreases-loop-word
 decreases-loop-word g l = l.left * 2 ^ 64 + vec_len l.stack

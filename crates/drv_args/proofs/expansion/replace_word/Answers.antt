@@ -8,6 +8,7 @@ use Rattle.drv_args.proofs.expansion.replace_word.Goals as goal
 
 -- replace_word (src/expansion.rt). If a word names a response file that can be read, adds the words of that file to `words`.
 
+-- the file's text was read and has few enough words
 pub returns-then-branch-clause-replaces : goal.returns-then-branch-clause-replaces
 returns-then-branch-clause-replaces g c F e =
     let P : List ℕ → Type 0 = λ text. SplitsOnto text c.args.words.now c.add_words.new.words in
@@ -24,6 +25,7 @@ returns-then-branch-clause-replaces g c F e =
       ),
     )
 
+-- the file's text was read and has too many words
 pub returns-else-branch-clause-replaces : goal.returns-else-branch-clause-replaces
 returns-else-branch-clause-replaces g c F e =
     let fits : c.in_ok-add_words-in-Read.field-0 ≡ not (is_over c.args.most c.in-Read.text) = c.in_ok-add_words-in-Read.ensures.fits
@@ -37,6 +39,7 @@ returns-else-branch-clause-replaces g c F e =
       refl,
     )
 
+-- the file is too large to be read
 pub returns-in-TooLarge-clause-replaces : goal.returns-in-TooLarge-clause-replaces
 returns-in-TooLarge-clause-replaces g c F e =
     inr (

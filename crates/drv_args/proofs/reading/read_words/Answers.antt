@@ -7,6 +7,7 @@ use Rattle.std.proofs.Common.{◌≡◌, ◌∙◌, ap, rules, sym}
 
 -- read_words (src/reading.rt). Reads words into a line.
 
+-- a refusal of the words is that of the line
 pub returns-in_err-note_words : goal.returns-in_err-note_words
 returns-in_err-note_words c =
     let e : line_with c.in_ok-builder.builder (items_of c.as_slice.result.now)

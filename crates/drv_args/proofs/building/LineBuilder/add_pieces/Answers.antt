@@ -19,6 +19,7 @@ loop-piece-preserved c =
     (map (λ piece. piece.now) c.loop-piece.yielded) _ c.in-Some.piece.now
     c.loop-piece.invariant c.in_ok-add_piece.ensures (map-append (λ piece. piece.now) c.loop-piece.yielded (c.in-Some.piece ∷ []))
 
+-- the pieces that the code's split yields are those of the definition
 pub returns : goal.returns
 returns c =
     let made = c.split-piece-items.ensures in
