@@ -13,7 +13,8 @@ use Rattle.std.specs.Prelude.{◌≡◌, ◌<◌, Bool, List, [], ◌∷◌, ◌
 
 -- Which sources may go on, if the events so far are whole blocks of the sources.
 
--- after these blocks a source's story goes on; `wait` says whether its next block is a wait
+-- After these blocks a source's story goes on; `wait` says whether its next block is a wait. `a` is complete answers whose story has these
+-- blocks, then the block `next`, and then the `rest` (`is`).
 pub record GoesOn (k : ℕ) (job : Job) (blocks : List Block) (wait : Bool) : Type 0 where
   pub a : JobAnswers
   pub all : whole_job job a ≡ true
@@ -33,7 +34,8 @@ SoFar k job blocks true wait = GoesOn k job blocks wait
 SoFar k job blocks false wait = HasEnded k job blocks
 
 -- The events are whole blocks of the sources, in a permitted order, and some story has not ended. left: which stories go on; waits: which
--- of these go on with a wait.
+-- of these go on with a wait. `so_far` says that the blocks of each source begin its story. `may_come` says that their order is permitted.
+-- `some` is a source whose story goes on.
 pub record BetweenBlocks (plan : Plan) (N : ℕ) (E : List RunEvent) : Type 0 where
   pub blocks : List SourceBlock
   pub left : ℕ → Bool
@@ -74,7 +76,9 @@ is_step_of k (step.Wait p id) = nat_eq (job_of p) k
 is_step_of k (step.Remove p) = nat_eq (job_of p) k
 is_step_of k (step.Report n) = false
 
--- the next step is one of source k of those that may go on, counted from 0 in plan order
+-- The next step is one of source k of those that may go on, counted from 0 in plan order. `source` is the number of the source in the plan.
+-- `may` says that its block may come next, and `number` that k others before it may too. `asks` and `of_source` say that the step is one of
+-- this source.
 pub record IsNextOf (plan : Plan) (N : ℕ) (E : List RunEvent) (b : BetweenBlocks plan N E) (k : ℕ) (asked : Option Step) : Type 0 where
   pub source : ℕ
   pub in_range : source < length plan.jobs

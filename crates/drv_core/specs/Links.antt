@@ -20,11 +20,13 @@ at_job k (place.Temp j i) s = if nat_eq j k then s ∷ [] else []
 at_job k (place.Marked j i) s = []
 at_job k (place.OnFailure j i) s = []
 
+-- the claim or start of job k that a step is
 abbrev pub call_of : ℕ → Step → List Step
 call_of k (step.Claim p) = at_job k p (step.Claim p)
 call_of k (step.Start p from_pipe to_pipe) = at_job k p (step.Start p from_pipe to_pipe)
 call_of k s = []
 
+-- the claims and starts of job k in events
 abbrev pub calls_of : ℕ → List RunEvent → List Step
 calls_of k events = flat_map (λ e. call_of k e.step) events
 
@@ -45,6 +47,7 @@ is_work_of k s = false
 abbrev pub work_code : ℕ → RunEvent → List ℕ
 work_code k e = if is_work_of k e.step then answer_code e.answer ∷ [] else []
 
+-- those codes of all events
 abbrev pub codes_in : ℕ → List RunEvent → List ℕ
 codes_in k events = flat_map (work_code k) events
 

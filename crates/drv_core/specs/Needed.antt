@@ -10,6 +10,7 @@ abbrev pub job_events : Job → ℕ
 job_events job = sum_by (λ group. 4 * length group) job.groups + 2 * length job.temps
     + 2 * (length job.temps + length job.marked + length job.on_failure)
 
+-- the most events of all jobs and of the link
 abbrev pub needed : Plan → ℕ
 needed plan = sum_by job_events (plan.jobs ++ option_to_list plan.link)
 

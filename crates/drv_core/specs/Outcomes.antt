@@ -35,6 +35,7 @@ pub record GroupAnswers : Type 0 where
   pub refused : Bool
   pub waits : List (Told WaitAnswer)
 
+-- the answers to a job's claims, of its groups, and to the removals of its failure files
 pub record JobAnswers : Type 0 where
   pub claims : List (Told ClaimAnswer)
   pub groups : List GroupAnswers
@@ -50,17 +51,20 @@ pub record Answers : Type 0 where
 abbrev pub no_answers : JobAnswers
 no_answers = record { claims = []; groups = []; removals = [] }
 
+-- whether a list is empty
 abbrev pub none : {X : Type 0} → List X → Bool
 none [] = true
 none (x ∷ xs) = false
 
 -- Faults.
 
+-- whether a claim succeeded
 abbrev pub is_claimed : ClaimAnswer → Bool
 is_claimed claim.Claimed = true
 is_claimed claim.Taken = false
 is_claimed claim.Failed = false
 
+-- whether a start succeeded
 abbrev pub is_started : StartAnswer → Bool
 is_started (Started id) = true
 is_started (NotStarted why) = false
@@ -80,24 +84,31 @@ answer_code (answer.Wait x) = code_of x
 answer_code (answer.Remove x) = 0
 answer_code (answer.Reported t) = 0
 
+-- whether a wait shows a failure
 abbrev pub wait_failed : Told WaitAnswer → Bool
 wait_failed w = not (nat_eq (code_of w.answer) 0)
 
+-- whether a start or a wait of the group failed
 abbrev pub group_failed : GroupAnswers → Bool
 group_failed a = list_any (λ s. not (is_started s)) a.starts || list_any wait_failed a.waits
 
+-- whether a claim of the job failed
 abbrev pub claims_failed : JobAnswers → Bool
 claims_failed a = list_any (λ c. not (is_claimed c.answer)) a.claims
 
+-- whether the job failed
 abbrev pub job_failed : JobAnswers → Bool
 job_failed a = claims_failed a || list_any group_failed a.groups
 
+-- whether the job started a child
 abbrev pub any_started : JobAnswers → Bool
 any_started a = list_any (λ g. list_any is_started g.starts) a.groups
 
+-- whether the job made a call
 abbrev pub made_call : JobAnswers → Bool
 made_call a = not (none a.claims && none a.groups)
 
+-- whether no source failed
 abbrev pub all_succeeded : List JobAnswers → Bool
 all_succeeded answers = not (list_any job_failed answers)
 
@@ -135,6 +146,7 @@ whole_job job a =
     else whole_claims job.temps a.claims && (if claims_failed a then none a.groups else whole_groups job.groups a.groups)
     && nat_eq (length a.removals) (length (removed_by_job job a))
 
+-- the answers of all jobs are complete
 abbrev pub whole_jobs : List Job → List JobAnswers → Bool
 whole_jobs [] [] = true
 whole_jobs [] (a ∷ xs) = false
@@ -148,15 +160,18 @@ link_run (Some job) answers = if all_succeeded answers then job else no_job
 
 -- The files that are removed at the end.
 
+-- a file of a plan, by its place and path
 pub record File : Type 0 where
   pub place : Place
   pub path : List ℕ
 
+-- the claimed temporaries of job k, from number i on
 abbrev pub claimed_temps : ℕ → ℕ → List Temp → List (Told ClaimAnswer) → List File
 claimed_temps k i (t ∷ ts) (a ∷ xs) = (if is_claimed a.answer then record { place = place.Temp k i; path = t.path } ∷ [] else [])
     ++ claimed_temps k (i + 1) ts xs
 claimed_temps k i ts xs = []
 
+-- the marked files of job k, from number i on
 abbrev pub marked_files : ℕ → ℕ → List (List ℕ) → List File
 marked_files k i [] = []
 marked_files k i (m ∷ ms) = record { place = place.Marked k i; path = m } ∷ marked_files k (i + 1) ms
@@ -165,6 +180,7 @@ marked_files k i (m ∷ ms) = record { place = place.Marked k i; path = m } ∷ 
 abbrev pub files_of_job : ℕ → Job → JobAnswers → List File
 files_of_job k job a = if made_call a then claimed_temps k 0 job.temps a.claims ++ marked_files k 0 job.marked else []
 
+-- the files of all jobs, from number k on
 abbrev pub files_of_jobs : ℕ → List Job → List JobAnswers → List File
 files_of_jobs k (j ∷ js) (a ∷ xs) = files_of_job k j a ++ files_of_jobs (k + 1) js xs
 files_of_jobs k js xs = []
@@ -174,6 +190,7 @@ abbrev pub each_once : List (List ℕ) → List File → List File
 each_once seen [] = []
 each_once seen (f ∷ fs) = if list_any (pointwise nat_eq f.path) seen then each_once seen fs else f ∷ each_once (f.path ∷ seen) fs
 
+-- all files of the sources and of the link, each path once
 abbrev pub removed_at_end : Plan → Answers → List File
 removed_at_end plan o = each_once [] (files_of_jobs 0 (plan.jobs ++ link_run plan.link o.jobs ∷ []) (o.jobs ++ o.link ∷ []))
 
@@ -184,33 +201,41 @@ whole plan o = whole_jobs plan.jobs o.jobs && whole_job (link_run plan.link o.jo
 
 -- The status: 0 if all codes are 0, otherwise 1, or the greatest code if codes are passed on. A failed claim or start has code 1.
 
+-- the greatest of what `f` gives, or 0 of an empty list
 abbrev pub greatest : {X : Type 0} → (X → ℕ) → List X → ℕ
 greatest f [] = 0
 greatest f (x ∷ xs) = max (f x) (greatest f xs)
 
+-- the greatest code of a group's starts and waits
 abbrev pub group_code : GroupAnswers → ℕ
 group_code a = max (greatest (λ s. if is_started s then 0 else 1) a.starts) (greatest (λ w. code_of w.answer) a.waits)
 
+-- the greatest code of a job
 abbrev pub job_code : JobAnswers → ℕ
 job_code a = max (greatest (λ c. if is_claimed c.answer then 0 else 1) a.claims) (greatest group_code a.groups)
 
+-- the status for the greatest code of a run
 abbrev pub status_from : FailureStatus → ℕ → ℕ
 status_from GreatestCode code = code
 status_from One code = if nat_eq code 0 then 0 else 1
 
+-- the status of a run with these answers
 abbrev pub status_of : FailureStatus → Answers → ℕ
 status_of pass_codes o = status_from pass_codes (greatest job_code (o.jobs ++ o.link ∷ []))
 
 -- The started commands: those of each group up to the first group with a fault, and in that group those before its first refused start. If
 -- a temporary was not claimed, none is started.
 
+-- the commands of a group before its first refused start
 abbrev pub started_in_group : List Command → List StartAnswer → List Command
 started_in_group (c ∷ cs) (Started id ∷ xs) = c ∷ started_in_group cs xs
 started_in_group cs xs = []
 
+-- the same of all groups, up to the first with a fault
 abbrev pub started_in_groups : List (List Command) → List GroupAnswers → List Command
 started_in_groups (g ∷ gs) (a ∷ xs) = started_in_group g a.starts ++ (if group_failed a then [] else started_in_groups gs xs)
 started_in_groups gs xs = []
 
+-- the commands of a job that were started
 abbrev pub started : Job → JobAnswers → List Command
 started job a = if claims_failed a then [] else started_in_groups job.groups a.groups

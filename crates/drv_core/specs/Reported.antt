@@ -21,6 +21,7 @@ note_for (step.Wait p id) (answer.Wait Lost) = Some (note.Lost p)
 note_for (step.Remove p) (answer.Remove x) = if removal_failed x then Some (note.NotRemoved p) else None
 note_for s a = None
 
+-- whether a step is a report
 abbrev pub is_report : Step → Bool
 is_report (step.Report n) = true
 is_report s = false

@@ -22,6 +22,7 @@ abbrev pub IfMake : Action → (Step → Type 0) → Type 0
 IfMake (action.Make s) P = P s
 IfMake (action.Done n) P = ⊤
 
+-- what holds of the status
 abbrev pub IfDone : Action → (ℕ → Type 0) → Type 0
 IfDone (action.Make s) P = ⊤
 IfDone (action.Done n) P = P n
@@ -31,6 +32,7 @@ abbrev pub action_of : Option Step → ℕ → Action
 action_of None status = action.Done status
 action_of (Some s) status = action.Make s
 
+-- the next step of an action, if it has one
 abbrev pub step_in : Action → Option Step
 step_in (action.Make s) = Some s
 step_in (action.Done n) = None

@@ -23,12 +23,15 @@ use Rattle.std.specs.Prelude.{◌+◌, Bool, List, [], ◌∷◌, ◌++◌, fals
 -- The story of a job: the blocks of events that its answers make (this project's profile). A report directly follows the answer that it
 -- reports.
 
+-- events that belong together: no event of another source comes between them
 abbrev pub Block : Type 0
 Block = List RunEvent
 
+-- a step and its answer
 abbrev pub event : Step → Answer → RunEvent
 event s a = record { step = s; answer = a }
 
+-- a report; told: whether it was written
 abbrev pub report : Note → Bool → RunEvent
 report n told = event (step.Report n) (answer.Reported told)
 
@@ -37,6 +40,7 @@ abbrev pub claim_block : ℕ → ℕ → Told ClaimAnswer → Block
 claim_block k i a = event (step.Claim (place.Temp k i)) (answer.Claim a.answer)
     ∷ (if is_claimed a.answer then [] else report (note.NotClaimed (place.Temp k i)) a.told ∷ [])
 
+-- the claims of job k, from the i-th on
 abbrev pub claim_blocks : ℕ → ℕ → List (Told ClaimAnswer) → List Block
 claim_blocks k i [] = []
 claim_blocks k i (a ∷ xs) = claim_block k i a ∷ claim_blocks k (i + 1) xs
@@ -46,6 +50,7 @@ claim_blocks k i (a ∷ xs) = claim_block k i a ∷ claim_blocks k (i + 1) xs
 abbrev pub start_event : ℕ → ℕ → ℕ → ℕ → StartAnswer → RunEvent
 start_event k g n i a = event (step.Start (place.Command k g i) (nat_lt 0 i) (nat_lt (i + 1) n)) (answer.Start a)
 
+-- the events of such starts; refused: whether the report of a refused start was written
 abbrev pub starts_block : ℕ → ℕ → ℕ → ℕ → Bool → List StartAnswer → Block
 starts_block k g n i refused [] = []
 starts_block k g n i refused (Started id ∷ xs) = start_event k g n i (Started id) ∷ starts_block k g n (i + 1) refused xs
@@ -59,10 +64,12 @@ wait_report p (Exit n) told = []
 wait_report p Signal told = report (note.Signalled p) told ∷ []
 wait_report p Lost told = report (note.Lost p) told ∷ []
 
+-- the wait for child `id`, which is member i of the group
 abbrev pub wait_block : ℕ → ℕ → ℕ → ℕ → Told WaitAnswer → Block
 wait_block k g i id w =
     event (step.Wait (place.Command k g i) id) (answer.Wait w.answer) ∷ wait_report (place.Command k g i) w.answer w.told
 
+-- the waits for the started members, from member i on
 abbrev pub wait_blocks : ℕ → ℕ → ℕ → List StartAnswer → List (Told WaitAnswer) → List Block
 wait_blocks k g i (Started id ∷ xs) (w ∷ ws) = wait_block k g i id w ∷ wait_blocks k g (i + 1) xs ws
 wait_blocks k g i xs ws = []
@@ -73,17 +80,19 @@ group_blocks k g (c ∷ cs) (a ∷ xs) = (starts_block k g (length c) 0 a.refuse
     ++ group_blocks k (g + 1) cs xs
 group_blocks k g cs xs = []
 
--- one removal, with its report
+-- whether a removal failed; a file that isn't there, or is no plain file, is no failure
 abbrev pub removal_failed : RemoveAnswer → Bool
 removal_failed remove.Removed = false
 removal_failed remove.Missing = false
 removal_failed remove.NotPlain = false
 removal_failed remove.Failed = true
 
+-- the removal of a place, with its report
 abbrev pub removal_block : Place → Told RemoveAnswer → Block
 removal_block p a = event (step.Remove p) (answer.Remove a.answer)
     ∷ (if removal_failed a.answer then report (note.NotRemoved p) a.told ∷ [] else [])
 
+-- a job's removals of its own failure files, from the i-th on
 abbrev pub own_removals : ℕ → ℕ → List (Told RemoveAnswer) → List Block
 own_removals k i [] = []
 own_removals k i (a ∷ xs) = removal_block (place.OnFailure k i) a ∷ own_removals k (i + 1) xs
@@ -92,7 +101,7 @@ own_removals k i (a ∷ xs) = removal_block (place.OnFailure k i) a ∷ own_remo
 abbrev pub story : ℕ → Job → JobAnswers → List Block
 story k job a = claim_blocks k 0 a.claims ++ (group_blocks k 0 job.groups a.groups ++ own_removals k 0 a.removals)
 
--- the removals at the end
+-- the removals at the end, of these files with these answers
 abbrev pub end_removals : List File → List (Told RemoveAnswer) → List Block
 end_removals (f ∷ fs) (a ∷ xs) = removal_block f.place a ∷ end_removals fs xs
 end_removals fs xs = []

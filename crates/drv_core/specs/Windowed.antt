@@ -14,7 +14,7 @@ use Rattle.std.specs.Prelude.{not, suc, true, zero, ℕ}
 
 -- A whole run of a plan with at most N sources under way at once (this project's profile).
 
--- a block of a source
+-- a block, with the number of its source
 pub record SourceBlock : Type 0 where
   pub source : ℕ
   pub block : Block
@@ -24,31 +24,38 @@ abbrev pub of : ℕ → List SourceBlock → List Block
 of k [] = []
 of k (b ∷ bs) = if nat_eq b.source k then b.block ∷ of k bs else of k bs
 
+-- whether source k has a block
 abbrev pub has : ℕ → List SourceBlock → Bool
 has k bs = not (none (of k bs))
 
+-- the events of blocks
 abbrev pub events_of : List Block → List RunEvent
 events_of blocks = flat_map (λ b. b) blocks
 
+-- the blocks without their sources
 abbrev pub blocks_of : List SourceBlock → List Block
 blocks_of [] = []
 blocks_of (b ∷ bs) = b.block ∷ blocks_of bs
 
--- started children, and waits
+-- how many children an answer starts: one or none
 abbrev pub child_started : Answer → ℕ
 child_started (answer.Start (Started id)) = 1
 child_started a = 0
 
+-- the same of an event
 abbrev pub starts_child : RunEvent → ℕ
 starts_child e = child_started e.answer
 
+-- whether a step is a wait
 abbrev pub child_awaited : Step → ℕ
 child_awaited (step.Wait p id) = 1
 child_awaited s = 0
 
+-- the same of an event
 abbrev pub waits_child : RunEvent → ℕ
 waits_child e = child_awaited e.step
 
+-- a sum over events
 abbrev pub total : (RunEvent → ℕ) → List RunEvent → ℕ
 total f [] = 0
 total f (e ∷ es) = f e + total f es
@@ -57,6 +64,7 @@ total f (e ∷ es) = f e + total f es
 abbrev pub in_flight : List Block → Bool
 in_flight bs = nat_lt (total waits_child (events_of bs)) (total starts_child (events_of bs))
 
+-- whether a block has a wait
 abbrev pub is_wait : Block → Bool
 is_wait b = nat_lt 0 (total waits_child b)
 
@@ -89,6 +97,7 @@ AllMayCome n N left before (b ∷ after) =
     MayCome n N (λ j. has j before) (λ j. has j (b ∷ after) || left j) (λ j. in_flight (of j before)) b.source (is_wait b.block)
     × AllMayCome n N left (before ++ b ∷ []) after
 
+-- no source has more blocks to come
 abbrev pub nowhere : ℕ → Bool
 nowhere j = false
 
@@ -99,7 +108,8 @@ TellStories blocks k (job ∷ jobs) [] = ⊤
 TellStories blocks k (job ∷ jobs) (a ∷ xs) = (of k blocks ≡ story k job a) × TellStories blocks (k + 1) jobs xs
 
 -- E is a whole run with these answers: whole blocks of the sources' stories in a permitted order, then the link's story and the removals at
--- the end
+-- the end. `blocks` are those of the sources. `stories` says that they are the stories of the answers, `may_come` that their order is
+-- permitted, and `all_answers` that no answer is missing.
 pub record Windowed (plan : Plan) (N : ℕ) (o : Answers) (E : List RunEvent) : Type 0 where
   pub blocks : List SourceBlock
   pub events : E ≡ events_of (blocks_of blocks) ++ events_of (after_sources plan o)
@@ -107,13 +117,13 @@ pub record Windowed (plan : Plan) (N : ℕ) (o : Answers) (E : List RunEvent) : 
   pub may_come : AllMayCome (length plan.jobs) N nowhere [] blocks
   pub all_answers : whole plan o ≡ true
 
--- E is the beginning of a whole run
+-- E is the beginning of a whole run. `o` is answers of that run, and `rest` the events that are missing.
 pub record IsBeginning (plan : Plan) (N : ℕ) (E : List RunEvent) : Type 0 where
   pub o : Answers
   pub rest : List RunEvent
   pub windowed : Windowed plan N o (E ++ rest)
 
--- E is a whole run
+-- E is a whole run, with some answers
 pub record IsWhole (plan : Plan) (N : ℕ) (E : List RunEvent) : Type 0 where
   pub o : Answers
   pub windowed : Windowed plan N o E
@@ -123,10 +133,12 @@ abbrev pub only : ℕ → List SourceBlock → List SourceBlock
 only k [] = []
 only k (b ∷ bs) = if nat_eq b.source k then b ∷ only k bs else only k bs
 
+-- the blocks of the first n sources, source by source
 abbrev pub by_source : ℕ → List SourceBlock → List SourceBlock
 by_source zero bs = []
 by_source (suc n) bs = by_source n bs ++ only n bs
 
+-- the events of a run, rearranged source by source
 abbrev pub serial : (plan : Plan) (o : Answers) → List SourceBlock → List RunEvent
 serial plan o blocks = events_of (blocks_of (by_source (length plan.jobs) blocks)) ++ events_of (after_sources plan o)
 

@@ -1,5 +1,7 @@
 //! The sources of a run, and the source in progress.
 
+// In clauses: `fleet_of` is what definitions see of the sources. `AllFilled` says that no group of
+// any job is empty. `HasRoom` says that a stage which starts a child has room for it.
 ghost use Rattle.drv_core.specs.Code.Fleet.{able, all_fly, asked_of, busy, closed, ended};
 ghost use Rattle.drv_core.specs.Code.Fleet.{first_busy, flying, fresh, fresh_fleet, may_go, opened};
 ghost use Rattle.drv_core.specs.Code.Fleet.{selected, stage_in, taken, turned, worked, source_in};
@@ -93,6 +95,7 @@ impl Fleet {
         ensures filled { OnOk result (AllFilled jobs.now) }
     {
         let sources = sources_of(alloc, jobs)?;
+        // One more than the window, so that there is always room for one more.
         let begun = Vec::with_capacity(alloc, window + 1)?;
         let next = first_busy(jobs, 0);
         Ok(Fleet {
@@ -124,6 +127,7 @@ impl Fleet {
         ensures { fleet_of self.new ≡ taken jobs.now (fleet_of self.old) answer }
     {
         self.work(jobs, answer);
+        // Within a block no other source may go on.
         if self.is_inside() {
             return;
         }
@@ -182,6 +186,7 @@ impl Fleet {
         requires room { length self.old.begun.items < vec_capacity self.old.begun }
         ensures { fleet_of self.new ≡ opened jobs.now (fleet_of self.old) }
     {
+        // Any other source has begun already, and is in the list.
         if self.current == self.next {
             self.begun.push_reserved(self.current);
             self.next = first_busy(jobs, self.current + 1);
@@ -277,6 +282,7 @@ impl Fleet {
         ensures { result ≡ length (able jobs.now (fleet_of self.now)) }
     {
         let going = self.count_going();
+        // The next source may begin too, if the window has room.
         if self.next < jobs.len() && self.begun.as_slice().len() < self.window {
             going + 1
         } else {

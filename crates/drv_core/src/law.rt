@@ -1,5 +1,6 @@
 //! Laws about whole runs.
 
+// In clauses: `Windowed` says that events are a whole run with these answers.
 ghost use Rattle.drv_core.specs.Codes.{StatusIsOf};
 ghost use Rattle.drv_core.specs.Links.{FailsWhere, LinksWhere};
 ghost use Rattle.drv_core.specs.Outcomes.{Answers, link_run};

@@ -1,6 +1,7 @@
 //! The files that may be left over at the end of a run: the temporaries and the marked files of the
 //! jobs that make calls.
 
+// In clauses: `leftovers_of` is what definitions see of the leftover files.
 ghost use Rattle.drv_core.specs.Code.Counting.{counting, fresh_leftovers, noting, noting_claim};
 ghost use Rattle.drv_core.specs.Code.Counting.{place_at};
 ghost use Rattle.drv_core.specs.Code.LeftoverView.{leftover_of, leftover_list, leftovers_of};
@@ -99,6 +100,7 @@ impl Leftovers {
         requires few { get_or self.old.claimed.items job 0 < 2 ^ 64 - 1 }
         ensures { leftovers_of self.new ≡ counting (leftovers_of self.old) job }
     {
+        // Each job of the plan has a count, so this holds for its places.
         if job < self.claimed.len() {
             self.claimed[job] += 1;
         }
@@ -122,6 +124,7 @@ impl Leftovers {
                 Some(count) => index < *count,
                 None => false,
             },
+            // A job after the sources is the link, which makes calls only if it runs.
             Place::Marked { job, .. } => job < self.sources || self.is_linked,
             Place::OnFailure { .. } => false,
         }
@@ -170,6 +173,7 @@ impl Leftovers {
         ensures { leftovers_of self.new ≡ passing (leftovers_of self.old) }
     {
         let first = self.files[self.at].first;
+        // The number is one of a file, so this always holds.
         if first < self.gone.len() {
             self.gone[first] = true;
         }

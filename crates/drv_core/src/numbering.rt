@@ -1,5 +1,6 @@
 //! The files of jobs, each with the number of the first file of its path.
 
+// In clauses: `Adds` says that files were numbered after those before.
 ghost use Rattle.drv_core.specs.Code.LeftoverView.{leftover_list};
 ghost use Rattle.drv_core.specs.Code.LeftoverFiles.{all_files, files_from, job_files, temp_files};
 ghost use Rattle.drv_core.specs.Code.Numbering.{numbered_files, number_in, numbered_too};
@@ -32,6 +33,7 @@ fn note_path<'p>(
     ensures { OnOk result ((p : List ℕ) → number_in known.new.entries (λ k. k.now) p
         ≡ numbered_too path.now first number (number_in known.old.entries (λ k. k.now)) p) }
 {
+    // No earlier file has this path.
     if first == number {
         known.insert(path, number)?;
         return Ok(());
@@ -92,6 +94,7 @@ impl<'p> Numbering<'p> {
     fn add_job(&mut self, number: usize, job: &'p Job) -> Result<(), AllocError>
         ensures { Adds result (job_files number job.now) self.old self.new }
     {
+        // A job without commands makes no call, so it leaves no file.
         if job.groups.as_slice().is_empty() {
             return Ok(());
         }

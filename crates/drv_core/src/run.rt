@@ -1,5 +1,9 @@
 //! The run of a plan: the next step for every answer, and the result.
 
+// In clauses: `IfMake` holds of the next step, if there is one. `Stands` is what is known of every
+// run. `run_state_of` is what definitions see of a run. `needed` is the most events of a plan's
+// run. `run_of` is the events of a run among those of a journal. `Windowed` says that events are a
+// whole run with these answers.
 ghost use Rattle.drv_core.specs.Choices.{BetweenBlocks, ChoicesAre, IsChoice, IsNextOf, IsOfFirst};
 ghost use Rattle.drv_core.specs.Code.Source.{is_kind};
 ghost use Rattle.drv_core.specs.Needed.{needed};

@@ -1,5 +1,6 @@
 //! One source of a run: its next step, and the effect of each answer.
 
+// In clauses: `stage_at` is the stage of a source. `Filled` says that no group of a job is empty.
 ghost use Rattle.drv_core.specs.Code.Source.{after, after_claim, after_refusal, after_removal};
 ghost use Rattle.drv_core.specs.Code.Source.{after_start, after_wait, asks, begin};
 ghost use Rattle.drv_core.specs.Code.Source.{end_group, enter_claims, enter_group, enter_removals};
@@ -96,6 +97,7 @@ pub(crate) struct SourceState {
 fn is_followed(index: usize, count: usize) -> bool
     ensures { result ≡ nat_lt (index + 1) count }
 {
+    // Not as `index + 1 < count`: the sum could overflow.
     count > 1 && index < count - 1
 }
 
@@ -302,6 +304,7 @@ impl SourceState {
             (is_told told) }
         ensures capacity { vec_capacity self.new.children ≡ vec_capacity self.old.children }
     {
+        // The child before the refused one writes a pipe that nothing will read.
         if !self.children.as_slice().is_empty() {
             self.stage = Stage::Closing { group, why, told };
         } else {
@@ -420,6 +423,7 @@ impl SourceState {
     {
         self.started_before = self.started_before || self.has_child();
         match state {
+            // A job that started no command has written no file.
             GroupState::Failed => if self.started_before && !job.on_failure.as_slice().is_empty() {
                 self.stage = Stage::Removals { index: 0 };
             } else {
@@ -539,6 +543,7 @@ impl SourceState {
         ensures stage { stage_at self.new ≡ begin job.now }
         ensures capacity { vec_capacity self.new.children ≡ vec_capacity self.old.children }
     {
+        // A job without commands makes no call, so it claims nothing either.
         if job.groups.as_slice().is_empty() {
             self.stage = Stage::Ended;
         } else if !job.temps.as_slice().is_empty() {

@@ -1,5 +1,12 @@
 //! The progress of a run: its phases one after another, and the events so far.
+//!
+//! A block is events of one source between which no other source has any. It is open from its first
+//! event until its last.
 
+// In clauses: `run_state_of` is what definitions see of a run. `needed` is the most events of a
+// plan's run. `Filled` says that no group of a job is empty. `AllFilled` says that no group of any
+// job is empty. `HasRoom` says that a stage which starts a child has room for it. `leftovers_of` is
+// what definitions see of the leftover files.
 ghost use Rattle.drv_core.specs.Code.Course.{link_of};
 ghost use Rattle.drv_core.specs.Filled.{AllFilled, Filled};
 ghost use Rattle.drv_core.specs.Code.Fleet.{fresh, taken};
@@ -258,6 +265,7 @@ impl RunState {
     fn end_sources(&mut self)
         ensures { run_state_of self.new ≡ sources_left (run_state_of self.old) }
     {
+        // The greatest code so far is 0 if, and only if, every source succeeded.
         if self.code == 0 {
             self.leftovers.is_linked = true;
             self.enter_link();
@@ -270,6 +278,7 @@ impl RunState {
     fn enter_link(&mut self)
         ensures { run_state_of self.new ≡ linked (run_state_of self.old) }
     {
+        // A plan without a link has a job without commands in its place.
         if self.link.is_left() {
             self.phase = Phase::Link;
         } else {

@@ -27,6 +27,12 @@ use Rattle.std.specs.Prelude.{⊤}
 
 -- For `Run::next`: each step can be made (`makes`). The system can make a step if its place is in the plan, a wait's child is open, and a
 -- pipe is pending exactly where the step says so: between the starts of a group (`piped`).
+-- Names: `E` is the events so far. `job` is the job of the source (or of the link) at hand. `k` is the number of a job in the plan. `g` is
+-- the number of a group of a job's commands. `ids` is the children of the group that were started, in order. `was` says whether an earlier
+-- group of the job started a child. `fault` says whether the group has failed so far. `s` is a source's stage before. `t` is the value of a
+-- test, so that `by` can go by both cases. `i` is the index of a child or of a temporary. `group_at job g` is the commands of the group.
+-- `asks k job s` is the next step of a job at this stage. `asked` takes a step out of its option. `after job s a` is the stage after the
+-- answer. `left` says whether a source at this stage has more to do. `enter_waits` is the stage of the next wait, or what follows the last.
 
 -- whether a pipe is pending at this stage: between the starts of a group
 abbrev pub piped : Stage → Bool
@@ -183,10 +189,12 @@ OpenAt k (Removals i) E = ⊤
 OpenAt k (RemovalReport i) E = ⊤
 OpenAt k Ended E = ⊤
 
+-- two equal booleans pass the code's test for equality
 same_as : (a b : Bool) → b ≡ a → same_bool a b ≡ true
 same_as true b e = e
 same_as false b e = ap not e
 
+-- two tests that hold, hold together
 both_hold : (a b : Bool) → a ≡ true → b ≡ true → (a && b) ≡ true
 both_hold a b x y = rw (x, y) refl
 

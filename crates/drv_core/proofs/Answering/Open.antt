@@ -34,6 +34,14 @@ use Rattle.std.specs.Prelude.{⊤}
 -- For `Run::next`: the child of a wait is open: it was started at its place, and there was no wait there yet. `Opens` keeps that of each
 -- stage with its events; the lemmas opens_NAME say that each answer keeps it. `Later` says that there was no wait yet from a place on,
 -- `Begun` that these children were started. `Sized` is the bound of a stage: while it waits, its group has no more children than commands.
+-- Names: `E` is the events so far. `job` is the job of the source (or of the link) at hand. `k` is the number of a job in the plan. `g` is
+-- the number of a group of a job's commands. `ids` is the children of the group that were started, in order. `was` says whether an earlier
+-- group of the job started a child. `fault` says whether the group has failed so far. `s` is a source's stage before. `a` is the answer to
+-- the step. `t` is the value of a test, so that `by` can go by both cases. `u` is the value of a second test. `e` is one more event. `i` is
+-- the member of the group that is waited for next. `l` is any member of a group. `p` is a place of the plan. `id` is the identity of a
+-- child. `asks k job s` is the next step of a job at this stage. `asked` takes a step out of its option. `after job s a` is the stage after
+-- the answer. `group_at job g` is the commands of the group. `enter_waits` is the stage of the next wait, or what follows the last.
+-- `enter_removals` is the stage of the next removal, or the end. `enter_group` is the stage of a group's first start, or the end.
 
 -- whether a step is a wait at this place
 abbrev pub is_wait_at : Place → Step → Bool
@@ -65,17 +73,21 @@ any_append f (x ∷ E) e = ap (λ (t : Bool). f x || t) (any_append f E e) ∙ b
     by true b c = refl
     by false b c = refl
 
+-- if neither of two tests holds, no search through two parts of a list that uses them finds anything
 neither : (a b : Bool) → a ≡ false → b ≡ false → (a || b) ≡ false
 neither a b x y = rw (x, y) refl
 
+-- one more event that is no wait at this place leaves the place without a wait
 unwaited_more : (p : Place) (E : List RunEvent) (e : RunEvent) → Unwaited p E → is_wait_at p e.step ≡ false → Unwaited p (E ++ e ∷ [])
 unwaited_more p E e u n = any_append (λ x. is_wait_at p x.step) E e ∙ neither (list_any (λ x. is_wait_at p x.step) E)
     (is_wait_at p e.step) u n
 
+-- what was started at a place stays started after one more event
 started_more : (p : Place) (id : ℕ) (E : List RunEvent) (e : RunEvent) → StartedAt p id E → StartedAt p id (E ++ e ∷ [])
 started_more p id E e s = any_append (λ x. is_start_at p x.step && is_child id x.answer) E e
     ∙ ap (λ (t : Bool). t || (is_start_at p e.step && is_child id e.answer)) s
 
+-- a test or a true one is true
 or_true : (t : Bool) → (t || true) ≡ true
 or_true true = refl
 or_true false = refl
@@ -101,6 +113,8 @@ not_waited : (p : Place) (id : ℕ) (E : List RunEvent) → Unwaited p E → lis
 not_waited p id [] u = refl
 not_waited p id (e ∷ E) u = by (not_waited p id E (later (is_wait_at p e.step) u)) u
   where
+    -- Plan: a wait for the child is a wait at its place (`wait_there`), and no event is one: `rest` says so of the first, `later` of the
+    -- others.
     rest : (t : Bool) → (t || list_any (λ x. is_wait_at p x.step) E) ≡ false → t ≡ false
     rest true h = absurd cc
     rest false h = refl
@@ -163,6 +177,7 @@ later_next k g h i l E from w a b to = w a b (at from to)
     at (inr x) (inl y) = inl (let e = x.0 in omega (arith, e, y))
     at (inr x) (inr y) = inr (y.0 ∙ x.0, (let p = x.1 in let q = y.1 in omega (arith, p, q)))
 
+-- of no children each was started
 no_child : (k g : ℕ) (E : List RunEvent) → Begun k g [] 0 E
 no_child k g E l from lt = absurd (let no : l < 0 = lt in omega (arith, no))
 
@@ -211,6 +226,7 @@ later_kept : (k g i : ℕ) (E : List RunEvent) (e : RunEvent) → ((p : Place) �
     → Later k g i (E ++ e ∷ [])
 later_kept k g i E e n w h l at = unwaited_more (place.Command k h l) E e (w h l at) (n (place.Command k h l))
 
+-- one more event changes nothing of the children that were started
 begun_kept : (k g : ℕ) (ids : List ℕ) (i : ℕ) (E : List RunEvent) (e : RunEvent) → Begun k g ids i E → Begun k g ids i (E ++ e ∷ [])
 begun_kept k g ids i E e b l from lt = started_more (place.Command k g l) (get_or ids l 0) E e (b l from lt)
 
@@ -220,6 +236,7 @@ later_waited : (k g i id : ℕ) (a : Answer) (E : List RunEvent) → Later k g i
 later_waited k g i id a E w h l at = unwaited_more (place.Command k h l) E (event (step.Wait (place.Command k g i) id) a)
     (w h l (wider at)) (apart at)
   where
+    -- Plan: a place after member i + 1 is also after member i (`wider`), and it is not the place of this wait (`apart`).
     wider : (g < h) ⊎ ((h ≡ g) × (i + 1 ≤ l)) → (g < h) ⊎ ((h ≡ g) × (i ≤ l))
     wider (inl x) = inl x
     wider (inr x) = inr (x.0, (let p = x.1 in omega (arith, p)))
@@ -235,6 +252,7 @@ later_waited k g i id a E w h l at = unwaited_more (place.Command k h l) E (even
         last (nat_eq k k) (nat_eq h g && nat_eq l i) (last (nat_eq h g) (nat_eq l i)
         (let ne : nat_eq l i ≡ false = grind (arith, nat_tests) in ne))
 
+-- after one more wait the later children are still those that were started
 begun_waited : (k g : ℕ) (ids : List ℕ) (i : ℕ) (E : List RunEvent) (e : RunEvent) → Begun k g ids i E → Begun k g ids (i + 1) (E ++ e ∷ [])
 begun_waited k g ids i E e b l from lt = started_more (place.Command k g l) (get_or ids l 0) E e (b l (omega (arith, from)) lt)
 
@@ -244,7 +262,7 @@ get_front [] id l lt = absurd (let no : l < 0 = lt in omega (arith, no))
 get_front (x ∷ ids) id zero lt = refl
 get_front (x ∷ ids) id (suc l) lt = get_front ids id l (omega arith)
 
--- the last item of a list is at the place of the length before
+-- the last item of a list of children is the one that was added
 get_back : (ids : List ℕ) (id l : ℕ) → l ≡ length ids → get_or (ids ++ id ∷ []) l 0 ≡ id
 get_back [] id zero e = refl
 get_back [] id (suc l) e = absurd (let no : suc l ≡ 0 = e in omega (arith, no))
@@ -257,6 +275,7 @@ begun_started : (k g id : ℕ) (ids : List ℕ) (from_pipe to_pipe : Bool) (E : 
     (answer.Start (start.Started id)) ∷ [])
 begun_started k g id ids from_pipe to_pipe E b l from lt = by (nat_lt l (length ids)) refl
   where
+    -- Plan: a child before the new one was started by an earlier event; the new one, last in the list, by this event.
     new : RunEvent
     new = event (step.Start (place.Command k g (length ids)) from_pipe to_pipe) (answer.Start (start.Started id))
 
@@ -294,6 +313,7 @@ opens_started k job g was ids (start.Started id) E w b = by (nat_lt (length ids 
     (later_kept k g 0 E (event (asked (asks k job (Starts g was ids))) (answer.Start (start.Started id))) (λ p. refl) w)
     (begun_started k g id ids (nat_lt 0 (length ids)) (nat_lt (length ids + 1) (length (group_at job g))) E b)
   where
+    -- Plan: by whether the group has more commands: the next is started, or the waits begin.
     by : (t : Bool) → Later k g 0 (E ++ event (asked (asks k job (Starts g was ids))) (answer.Start (start.Started id)) ∷ [])
         → Begun k g (ids ++ id ∷ []) 0 (E ++ event (asked (asks k job (Starts g was ids))) (answer.Start (start.Started id)) ∷ [])
         → Opens k (if t then Starts g was (ids ++ id ∷ []) else enter_waits job g was (ids ++ id ∷ []) 0 false)
@@ -367,6 +387,7 @@ other_wait j k job (Removals i) e h l = refl
 other_wait j k job (RemovalReport i) e h l = refl
 other_wait j k job Ended e h l = refl
 
+-- one more event that is no wait of job k leaves it without waits from the same place on
 later_other : (k g i : ℕ) (E : List RunEvent) (e : RunEvent) → ((h l : ℕ) → is_wait_at (place.Command k h l) e.step ≡ false) → Later k g i E
     → Later k g i (E ++ e ∷ [])
 later_other k g i E e n w h l at = unwaited_more (place.Command k h l) E e (w h l at) (n h l)
@@ -464,6 +485,7 @@ sized_waited job g was ids i fault (Exit n) le = sized_waits job g was ids (i + 
 sized_waited job g was ids i fault Signal le = le
 sized_waited job g was ids i fault Lost le = le
 
+-- after a removal, with or without a report, a source has no group that is too long
 sized_removed : (job : Job) (i : ℕ) (t : Bool) → Sized job (if t then RemovalReport i else enter_removals job (i + 1))
 sized_removed job i true = tt
 sized_removed job i false = sized_removals job (i + 1)

@@ -39,6 +39,15 @@ use Rattle.std.specs.Prelude.{⊤}
 -- For the sources of `Run`: after each event, the events so far are the beginning of a whole run. `Running` is what holds of the sources:
 -- whole blocks in a permitted order, and at most one open block, of the source in progress. An answer continues that block (`goes_inside`)
 -- or ends it (`goes_out`).
+-- Names: `jobs` is the jobs of the sources, in plan order. `N` is the window: at most so many sources have begun and not ended. `E` is the
+-- events so far. `st` gives the stage of each source by its number. `cur` is the source in progress. `job` is the job of the source (or of
+-- the link) at hand. `k` is the number of a job in the plan. `g` is the number of a group of a job's commands. `ids` is the children of the
+-- group that were started, in order. `was` says whether an earlier group of the job started a child. `fault` says whether the group has
+-- failed so far. `s` is a source's stage before. `m` is the source's stage after. `a` is the answer to the step. `j` is the number of any
+-- source. `t` is the value of a test, so that `by` can go by both cases. `ev` is the new event. `no_job` is a job without commands.
+-- `events_of` lists the events of blocks. `inside` says whether a block is open at this stage. `open_of k job s` is the events so far of
+-- the block that is open at stage s. `base s` is the stage at which the block began that is open at stage s. `group_at job g` is the
+-- commands of the group. `after job s a` is the stage after the answer.
 
 -- what a stage says of its job: the claim, command, child or removal that is next is there
 abbrev pub Valid : Job → Stage → Type 0
@@ -118,6 +127,7 @@ valid_start : (job : Job) (g : ℕ) (was : Bool) (ids : List ℕ) (x : StartAnsw
 valid_start job g was ids (start.NotStarted why) filled lt = lt
 valid_start job g was ids (start.Started id) filled lt = by (nat_lt (length ids + 1) (length (group_at job g))) refl
   where
+    -- Plan: by whether the group has more commands: the next start is valid, or the first wait.
     by : (t : Bool) → nat_lt (length ids + 1) (length (group_at job g)) ≡ t
         → Valid job (if t then Starts g was (ids ++ id ∷ []) else enter_waits job g was (ids ++ id ∷ []) 0 false)
     by true e =
@@ -199,7 +209,7 @@ one_step k job (RemovalReport i) (answer.Reported t) v l e = ends (inside (enter
 one_step k job (RemovalReport i) a v l e = absurd cc
 one_step k job Ended a v l e = absurd cc
 
--- an open block can be ended
+-- An open block can be ended. `rest` is the events that are missing of the block, which leads to stage `m`.
 pub record Closes (k : ℕ) (job : Job) (s : Stage) : Type 0 where
   pub rest : Block
   pub m : Stage
@@ -302,7 +312,9 @@ abbrev pub MayGo : List Job → ℕ → (ℕ → Stage) → List SourceBlock →
 MayGo jobs N st blocks k = MayCome (length jobs) N (λ j. has j blocks) (λ j. left (st j)) (λ j. in_flight (of j blocks)) k
     (nat_lt 0 (pending (st k)))
 
--- The run of the sources so far: whole blocks, and the open block of the source in progress.
+-- The run of the sources so far: whole blocks, and the open block of the source in progress. The `blocks` are whole, and `keep` says that
+-- their order is permitted. The `events` are theirs, and those of the open block. `others` have no open block. `valid` says that each stage
+-- is one of its job. `may` says that the open block may come next.
 pub record Running (jobs : List Job) (N : ℕ) (st : ℕ → Stage) (cur : ℕ) (E : List RunEvent) : Type 0 where
   pub blocks : List SourceBlock
   pub keep : Keeps jobs N (bases st) blocks
@@ -331,6 +343,7 @@ goes_inside jobs N st k E m ev r may valid same_base more = record {
   may = λ e. subst (λ f. MayGo jobs N f r.blocks k) same_bases may;
 }
   where
+    -- Plan: only source k has another stage, and its open block began at the same stage as before, so what holds between blocks stays true.
     same_at : (j : ℕ) (t : Bool) → nat_eq k j ≡ t → base (st j) ≡ base (if t then m else st j)
     same_at j true e = let is : k ≡ j = same k j e in subst (λ i. base (st i) ≡ base m) is (sym same_base)
     same_at j false e = refl
@@ -365,6 +378,7 @@ goes_out jobs N st k E m ev r may valid more out one = record {
   may = λ e. absurd (let clash : true ≡ false = sym e ∙ ap (λ s. inside s) (put_here st k m) ∙ out in cc);
 }
   where
+    -- Plan: the open block with the new event becomes the last whole block; only source k has another stage.
     new : SourceBlock
     new = record { source = k; block = open_of k (get_or jobs k no_job) (st k) ++ ev ∷ [] }
 
@@ -383,6 +397,7 @@ pub goes_on : (jobs : List Job) (N : ℕ) (st : ℕ → Stage) (k : ℕ) (E : Li
     (E ++ event (asked (asks k (get_or jobs k no_job) (st k))) a ∷ [])
 goes_on jobs N st k E a filled r may more fit = by (inside (after job (st k) a)) refl (one_step k job (st k) a (r.valid k) more fit)
   where
+    -- Plan: by whether a block is open after the answer: `goes_inside` if one is, else `goes_out`.
     job : Job
     job = get_or jobs k no_job
 
@@ -424,7 +439,7 @@ turns jobs N st cur k E r out = record {
   may = λ e. absurd (let clash : true ≡ false = sym e ∙ all_out jobs N st cur E r out k in cc);
 }
 
--- these events are the beginning of a whole run of the sources
+-- These events are the beginning of a whole run of the sources. `rest` is the events that are missing, and `blocks` is all blocks.
 pub record Begins (jobs : List Job) (N : ℕ) (E : List RunEvent) : Type 0 where
   pub blocks : List SourceBlock
   pub run : SourcesRun jobs N blocks
@@ -436,6 +451,7 @@ pub sources_begin : (jobs : List Job) (N : ℕ) (st : ℕ → Stage) (cur : ℕ)
     → Begins jobs N E
 sources_begin jobs N st cur E some r = by (inside (st cur)) refl
   where
+    -- Plan: between blocks the sources can be led to their ends (`out`). Inside one, the open block is ended first (`into`), by `closing`.
     out : inside (st cur) ≡ false → Finished jobs N r.blocks → Begins jobs N E
     out e f = record {
       blocks = r.blocks ++ f.more;

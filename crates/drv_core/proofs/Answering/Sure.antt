@@ -35,8 +35,17 @@ use Rattle.std.specs.Option.{option_to_list}
 
 -- For the sources of `Run`: each step can be made (`sure_makes`), and uses up one of the events that can come (`sure_fewer`), so the room
 -- for events suffices. `Sure` is all that is known of the sources while one goes on, and `Over` after the last.
+-- Names: `jobs` is the jobs of the sources, in plan order. `N` is the window: at most so many sources have begun and not ended. `most` is
+-- the room for events: at most so many come. `E` is the events so far. `f` is all sources as the code keeps them. `job` is the job of the
+-- source (or of the link) at hand. `k` is the number of a job in the plan. `j` is the number of any source. `t` is the value of a test, so
+-- that `by` can go by both cases. `stage_in f k` is the stage of source k. `no_job` is a job without commands. `inside` says whether a
+-- block is open at this stage. `asks k job s` is the next step of a job at this stage. `asked` takes a step out of its option. `begin job`
+-- is a job's first stage. `left` says whether a source at this stage has more to do.
 
--- all that is known of the sources while one goes on, after these events; `most` is the most events that they can have
+-- All that is known of the sources while one goes on, after these events; `most` is the most events that they can have. `opens` says that
+-- each stage's children were started and not waited for. `sized` says that no group has more children than commands. `pipe` says whether a
+-- pipe is pending. `bound` counts the events so far, and those that can still come. `going` says that the code's stages are those (`at`) of a
+-- run in progress (`run`), where each is `Valid`: the claim, command, child or removal that it names next is there.
 pub record Sure (jobs : List Job) (N most : ℕ) (f : Fleet) (E : List RunEvent) : Type 0 where
   pub going : Going jobs N f E
   pub opens : (j : ℕ) → Opens j (stage_in f j) E
@@ -46,7 +55,7 @@ pub record Sure (jobs : List Job) (N most : ℕ) (f : Fleet) (E : List RunEvent)
   -- there was no wait for a child of the link
   pub later : Later (length jobs) 0 0 E
 
--- all sources have ended, no pipe is pending, and at most `most` events came
+-- All sources have ended, no pipe is pending, and at most `most` events came. `later` says that there was no wait for a child of the link.
 pub record Over (jobs : List Job) (N most : ℕ) (f : Fleet) (E : List RunEvent) : Type 0 where
   pub landed : Landed jobs N f E
   pub pipe : pipe_pending E ≡ false
@@ -105,10 +114,12 @@ some_summed (suc n) k f lt some = by (nat_eq k n) refl (λ below. some_summed n 
     by true e ih = let here : 0 < f n = subst (λ i. 0 < f i) (same k n e) some in omega (arith, here)
     by false e ih = let rest : 0 < summed n f = ih (grind (arith, nat_tests)) in omega (arith, rest)
 
+-- the stage of the source in progress is valid for its job
 valid_in : (jobs : List Job) (N : ℕ) (f : Fleet) (E : List RunEvent) → (g : Going jobs N f E)
     → Valid (get_or jobs f.current no_job) (stage_in f f.current)
 valid_in jobs N f E g = subst (λ t. Valid (get_or jobs f.current no_job) t) (sym (g.at f.current)) (g.run.valid f.current)
 
+-- the source in progress has more to do
 left_in : (jobs : List Job) (N : ℕ) (f : Fleet) (E : List RunEvent) → Going jobs N f E → left (stage_in f f.current) ≡ true
 left_in jobs N f E g = ap left (g.at f.current) ∙ g.more
 
@@ -132,6 +143,7 @@ stage_settled jobs g j = by (inside (stage_in g g.current))
     by true = refl
     by false = stage_closed (opened jobs g) j ∙ stage_opened jobs g j
 
+-- while a block is open, the source in progress is not changed
 current_settled : (jobs : List Job) (g : Fleet) → inside (stage_in g g.current) ≡ true → (settled jobs g).current ≡ g.current
 current_settled jobs g e = ap (λ (t : Bool). (if t then g else turned jobs g).current) e
 
@@ -143,6 +155,8 @@ pub sure_takes : (jobs : List Job) (N most : ℕ) (f : Fleet) (E : List RunEvent
     (E ++ made jobs f (stage_in f) a ∷ [])
 sure_takes jobs N most f E a some filled s kind = by (takes jobs N f E a some filled s.going kind)
   where
+    -- Plan: `by` takes what `Going` says of the answer, and adds the other fields of `Sure`: the open children (`opens_by`), the lengths of
+    -- groups (`sized_by`), the room (`bound`) and the pipe (`pipe_by`).
     g : Going jobs N f E
     g = s.going
 
@@ -249,6 +263,7 @@ pub sure_starts : (jobs : List Job) (N most : ℕ) → 1 ≤ N → ((j : ℕ) �
     (fresh_fleet jobs N) []
 sure_starts jobs N most some filled few = by (starts jobs N some filled)
   where
+    -- Plan: at the beginning every source is at its first stage, no event was made, and nothing is open.
     at : (j : ℕ) → stage_in (fresh_fleet jobs N) j ≡ begin (get_or jobs j no_job)
     at j = ap (λ w. w.stage) (get_or-map fresh jobs j no_job)
 

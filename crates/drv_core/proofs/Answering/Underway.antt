@@ -31,9 +31,17 @@ use Rattle.std.specs.Prelude.{slice_set}
 
 -- For the sources of `Run`: what is known of them (`Going`) holds after each answer, until all have ended (`Landed`). It joins the code's
 -- list of sources with `Running`, which knows only their stages.
+-- Names: `jobs` is the jobs of the sources, in plan order. `N` is the window: at most so many sources have begun and not ended. `E` is the
+-- events so far. `st` gives the stage of each source by its number. `cur` is the source in progress. `f` is all sources as the code keeps
+-- them. `k` is the number of a job in the plan. `a` is the answer to the step. `j` is the number of any source. `t` is the value of a test,
+-- so that `by` can go by both cases. `r` is what `Running` says of the sources. `h` is the sources after the block. `i` is the number of
+-- any other source. `stage_in f k` is the stage of source k. `no_job` is a job without commands. `left` says whether a source at this stage
+-- has more to do. `inside` says whether a block is open at this stage. `count n p` is how many numbers below n pass p. `begin job` is a
+-- job's first stage. `base s` is the stage at which the block began that is open at stage s.
 
--- a source is in progress: the stages of the code's list are those of a run in progress, the code's counts are right, and the source may go
--- on
+-- A source is in progress: the stages of the code's list are those of a run in progress, the code's counts are right, and the source may go
+-- on. `st` gives the stages, which are the code's (`at`). `run` is the run up to here. `may` says that a block of this source may come
+-- next, and `more` that it has one. `counts` says that the code's counts are right.
 pub record Going (jobs : List Job) (N : ℕ) (f : Fleet) (E : List RunEvent) : Type 0 where
   pub st : ℕ → Stage
   pub at : (j : ℕ) → stage_in f j ≡ st j
@@ -42,7 +50,8 @@ pub record Going (jobs : List Job) (N : ℕ) (f : Fleet) (E : List RunEvent) : T
   pub more : left (st f.current) ≡ true
   pub counts : Counts jobs N f run.blocks
 
--- all sources have ended
+-- All sources have ended, and the code's count of unended ones is 0. `st` gives the stages, which are the code's (`at`). `run` is the run up
+-- to here. `all` says that every source has ended.
 pub record Landed (jobs : List Job) (N : ℕ) (f : Fleet) (E : List RunEvent) : Type 0 where
   pub st : ℕ → Stage
   pub at : (j : ℕ) → stage_in f j ≡ st j
@@ -81,6 +90,7 @@ stage_closed f j = by (left (stage_in f f.current))
 pub stage_opened : (jobs : List Job) (f : Fleet) (j : ℕ) → stage_in (opened jobs f) j ≡ stage_in f j
 stage_opened jobs f j = by (nat_eq f.current f.next)
   where
+    -- Plan: by whether the source in progress is the next one that begins.
     by : (t : Bool) → stage_in (if t then record f {
       begun = f.begun ++ f.current ∷ [];
       next =
@@ -98,6 +108,7 @@ turn_about a b false e = grind (arith, nat_tests)
 current_before : (jobs : List Job) (N : ℕ) (f : Fleet) (E : List RunEvent) → (g : Going jobs N f E) → f.current ≤ f.next
 current_before jobs N f E g = by (nat_lt f.next f.current) refl
   where
+    -- Plan: if the source in progress came after `next`, the rule of order (`may`) would say that `next` has nothing to do, but it has.
     in_range : f.current < length jobs
     in_range = is_less f.current (length jobs) g.may.is_source
 
@@ -158,6 +169,7 @@ settles : (jobs : List Job) (N : ℕ) (h : Fleet) (cur : ℕ) (st : ℕ → Stag
     → Going jobs N (chosen h) E ⊎ Landed jobs N (chosen h) E
 settles jobs N h cur st E some r out at c = by (find (length jobs) (λ j. left (stage_in h j)))
   where
+    -- Plan: by the first source that has more to do: if there is one, the code picks one that may go on (`picks`); else all have ended.
     ended_at : ((j : ℕ) → j < length jobs → left (stage_in h j) ≡ false) → (j : ℕ) (t : Bool) → nat_lt j (length jobs) ≡ t → st j ≡ Ended
     ended_at none j true lt = is_ended (st j) (ap left (sym (at j)) ∙ none j (is_less j (length jobs) lt))
     ended_at none j false past = sym (base_out (st j) (all_out jobs N st cur E r out j))
@@ -189,7 +201,8 @@ made jobs f st a = event (asked (asks f.current (get_or jobs f.current no_job) (
 abbrev pub gone_on : List Job → Fleet → Answer → Fleet
 gone_on jobs f a = worked (get_or jobs f.current no_job) f a
 
--- only the source in progress has another stage
+-- Only the source in progress has another stage. `at` gives the stage of each source, and `other` says that those of the others stay.
+-- `rooms` and `sizes` say that so do the room of each source and the number of sources.
 pub record Stages (jobs : List Job) (N : ℕ) (f : Fleet) (a : Answer) (st : ℕ → Stage) : Type 0 where
   pub at : (j : ℕ) → stage_in (gone_on jobs f a) j ≡ put st f.current (next_stage jobs f st a) j
   pub other : (j : ℕ) → nat_eq f.current j ≡ false → stage_in (gone_on jobs f a) j ≡ stage_in f j
@@ -232,6 +245,7 @@ counts_inside jobs N f a st blocks z before was l c = record {
   rooms = λ j lt. z.rooms j ∙ c.rooms j lt;
 }
   where
+    -- Plan: the source in progress has more to do before and after (`same_left`), so no count changes.
     left_by : (j : ℕ) (t : Bool) → nat_eq f.current j ≡ t → left (stage_in (gone_on jobs f a) j) ≡ left (stage_in f j)
     left_by j true e = subst (λ i. left (stage_in (gone_on jobs f a) i) ≡ left (stage_in f i)) (same f.current j e)
         (ap left (z.at f.current ∙ put_here st f.current (next_stage jobs f st a)) ∙ l ∙ sym was)
@@ -259,6 +273,8 @@ takes jobs N f E a some filled g kind = subst (λ s. Going jobs N (taken jobs f 
     (by (inside (next_stage jobs f g.st a)) refl (one_step f.current (get_or jobs f.current no_job) (g.st f.current) a
     (g.run.valid f.current) g.more fit))
   where
+    -- Plan: by whether a block is open after the answer. If one is, the same source goes on (`into`). Else its block has ended, the code's
+    -- counts follow (`opened_is`, `counts_closed`), and it picks a source (`settles`).
     fit : is_kind (asked (asks f.current (get_or jobs f.current no_job) (g.st f.current))) a ≡ true
     fit = subst (λ s. is_kind (asked (asks f.current (get_or jobs f.current no_job) s)) a ≡ true) (g.at f.current) kind
 
@@ -343,6 +359,7 @@ takes jobs N f E a some filled g kind = subst (λ s. Going jobs N (taken jobs f 
 pub begin_out : (job : Job) → inside (begin job) ≡ false
 begin_out job = sound_out (begin job) (begins job).sound
 
+-- how many numbers up to n pass a test: the first one, and then those after it
 count_first : (n : ℕ) (p : ℕ → Bool) → count (suc n) p ≡ (if p 0 then 1 else 0) + count n (λ j. p (suc j))
 count_first zero p = refl
 count_first (suc n) p = let e : count (suc n) p ≡ (if p 0 then 1 else 0) + count n (λ j. p (suc j)) = count_first n p in omega (arith, e)
@@ -364,6 +381,7 @@ pub starts : (jobs : List Job) (N : ℕ) → 1 ≤ N → ((j : ℕ) → Filled (
 starts jobs N some filled = settles jobs N (fresh_fleet jobs N) 0 (λ j. begin (get_or jobs j no_job)) [] some (run 0)
     (begin_out (get_or jobs 0 no_job)) at counts
   where
+    -- Plan: no source has a block yet, so the code's counts are those of the first stages; then it picks a source (`settles`).
     at : (j : ℕ) → stage_in (fresh_fleet jobs N) j ≡ begin (get_or jobs j no_job)
     at j = ap (λ w. w.stage) (get_or-map fresh jobs j no_job)
 

@@ -28,7 +28,14 @@ use Rattle.std.specs.List.{sum_by}
 
 -- For the room of `Run`: how many events can still come at most, from each stage of a source (`cost`). Each step uses up one of them
 -- (`cost_less`), whatever the answer is.
+-- Names: `job` is the job of the source (or of the link) at hand. `g` is the number of a group of a job's commands. `ids` is the children
+-- of the group that were started, in order. `was` says whether an earlier group of the job started a child. `fault` says whether the group
+-- has failed so far. `t` is the value of a test, so that `by` can go by both cases. `i` is the index of the next claim, wait or removal.
+-- `no_job` is a job without commands. `enter_waits` is the stage of the next wait, or what follows the last. `after job s a` is the stage
+-- after the answer. `enter_removals` is the stage of the next removal, or the end. `group_at job g` is the commands of the group.
+-- `enter_claims` is the stage of the next claim, or of the first group. `enter_group` is the stage of a group's first start, or the end.
 
+-- the most events of the groups from the g-th on: a start, a wait and their reports for each command
 abbrev groups_cost : Job → ℕ → ℕ
 groups_cost job g = sum_by (λ group. 4 * length group) (drop g job.groups)
 
@@ -49,6 +56,7 @@ cost job Ended = 0
 cost_group : (job : Job) (g : ℕ) (was : Bool) → cost job (enter_group job g was) ≤ groups_cost job g + 2 * length job.on_failure
 cost_group job g was = by (nat_lt g (length job.groups)) refl
   where
+    -- Plan: by whether there is such a group.
     by : (t : Bool) → nat_lt g (length job.groups) ≡ t → cost job (if t then Starts g was [] else Ended) ≤ groups_cost job g + 2 *
         length job.on_failure
     by true e =
@@ -91,6 +99,7 @@ cost_waits : (job : Job) (g : ℕ) (was : Bool) (ids : List ℕ) (i : ℕ) (faul
     (length ids - i) + groups_cost job (g + 1) + 2 * length job.on_failure
 cost_waits job g was ids i fault = by (nat_lt i (length ids))
   where
+    -- Plan: by whether a child is left to be waited for.
     by : (t : Bool) → cost job (if t then Waits g was ids i fault else end_group job g (was || not (none ids)) fault) ≤ 2 * (length ids - i)
         + groups_cost job (g + 1) + 2 * length job.on_failure
     by true = omega arith
@@ -115,6 +124,7 @@ cost_started : (job : Job) (g : ℕ) (was : Bool) (ids : List ℕ) (x : StartAns
 cost_started job g was ids (start.NotStarted why) lt = omega (arith, lt)
 cost_started job g was ids (start.Started id) lt = by (nat_lt (length ids + 1) (length (group_at job g)))
   where
+    -- Plan: by whether the group has more commands; with the child the list is one longer (`len`).
     len : length (ids ++ id ∷ []) ≡ length ids + 1
     len = length-append {A = ℕ} ids (id ∷ [])
 
@@ -132,6 +142,7 @@ cost_refused : (job : Job) (g : ℕ) (was : Bool) (ids : List ℕ) (why : NotSta
     → cost job (after job (StartReport g was ids why) (answer.Reported t)) < cost job (StartReport g was ids why)
 cost_refused job g was ids why t = by (nat_lt 0 (length ids))
   where
+    -- Plan: by whether a child was started before, so that a pipe has to be closed.
     by : (u : Bool) → cost job (if u then Closing g was ids why t else enter_waits job g was ids 0 true) < 2 * length ids + 2 + groups_cost
         job (g + 1) + 2 * length job.on_failure
     by true = omega arith

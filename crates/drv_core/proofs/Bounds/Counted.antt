@@ -26,6 +26,9 @@ use Rattle.std.specs.Prelude.{slice_set}
 
 -- For the removals at the end: the code counts the claims of each job as they are answered, and its counts are those that the events show
 -- (`tally`).
+-- Names: `E` is the events so far. `x` is the leftover files, with what the code counts and marks of them. `k` is the number of a job in
+-- the plan. `a` is the answer to the step. `t` is the value of a test, so that `by` can go by both cases. `n` is the number of jobs.
+-- `tally k E` is how many temporaries of job k were claimed.
 
 -- the code's counts are those of these events, for n sources and the link
 pub record Counted (n : ℕ) (x : Leftovers) (E : List RunEvent) : Type 0 where
@@ -47,9 +50,11 @@ quiet n x E s a c none = record {
   counts = λ k le. let is = c.counts k le in let more = tally_more k E s a in let no = none k in omega (arith, is, more, no);
 }
 
+-- 1 if the test passes, else 0
 abbrev one_if : Bool → ℕ
 one_if t = if t then 1 else 0
 
+-- nothing is counted of a test that fails
 if_none : (t : Bool) → one_if (t && false) ≡ 0
 if_none true = refl
 if_none false = refl
@@ -63,6 +68,7 @@ claimed_one n j i x E c = record {
   counts = λ k le. by k le (nat_eq j k) refl;
 }
   where
+    -- Plan: by whether job k is that of the claim: its count grows by one, and the others stay.
     by : (k : ℕ) → k ≤ n → (t : Bool) → nat_eq j k ≡ t → get_or (slice_set x.claimed j (get_or x.claimed j 0 + 1)) k 0
         ≡ tally k (E ++ event (step.Claim (place.Temp j i)) (answer.Claim claim.Claimed) ∷ [])
     by k le true e =
@@ -139,10 +145,12 @@ claims_of_other k n job t s a e is = subst (λ u. claims_of n u a ≡ 0) (ap ask
 
 -- an event claims at most one temporary
 
+-- what is counted of one test is at most 1
 bit : (t : Bool) → one_if t ≤ 1
 bit true = omega arith
 bit false = omega arith
 
+-- one answer counts at most one claim of a job
 at_most_one : (k : ℕ) (s : Step) (a : Answer) → claims_of k s a ≤ 1
 at_most_one k (step.Claim (place.Temp j i)) (answer.Claim x) = bit (nat_eq j k && is_claimed x)
 at_most_one k s a = let z : 0 ≤ 1 = omega arith in z

@@ -15,11 +15,15 @@ use Rattle.std.specs.List.{sum_by}
 use Rattle.std.specs.Option.{option_to_list}
 
 -- For the room of `Run`: a run has room for the events of the sources, of the link, and of the removals at the end.
+-- Names: `k` is the number of a job in the plan. `files_from` is the leftover files of jobs. `no_job` is a job without commands.
+-- `begin job` is a job's first stage.
 
+-- a job has as many leftover files that are temporaries as it has temporaries
 many_temps : (k i : ℕ) (ts : List Temp) → length (temp_files k i ts) ≡ length ts
 many_temps k i [] = refl
 many_temps k i (t ∷ ts) = let e : length (temp_files k (i + 1) ts) ≡ length ts = many_temps k (i + 1) ts in omega (arith, e)
 
+-- and as many that are marked files as it has marked files
 many_marked : (k i : ℕ) (ms : List (List ℕ)) → length (marked_files k i ms) ≡ length ms
 many_marked k i [] = refl
 many_marked k i (m ∷ ms) = let e : length (marked_files k (i + 1) ms) ≡ length ms = many_marked k (i + 1) ms in omega (arith, e)
@@ -28,6 +32,7 @@ many_marked k i (m ∷ ms) = let e : length (marked_files k (i + 1) ms) ≡ leng
 many_files : (k : ℕ) (job : Job) → length (job_files k job) ≤ length job.temps + length job.marked
 many_files k job = by (none job.groups)
   where
+    -- Plan: a job without commands has no leftover file; another has its temporaries and marked files.
     both : length (temp_files k 0 job.temps ++ marked_files k 0 job.marked) ≡ length job.temps + length job.marked
     both =
         let all : length (temp_files k 0 job.temps ++ marked_files k 0 job.marked)
@@ -59,6 +64,7 @@ all_fit k (job ∷ jobs) =
     let events : sum_by job_events (job ∷ jobs) ≡ job_events job + sum_by job_events jobs = sum_by-cons job_events job jobs in
     omega (arith, rest, here, few, both, costs, events)
 
+-- a sum up to n is its first part and then the others
 summed_first : (n : ℕ) (f : ℕ → ℕ) → summed (suc n) f ≡ f 0 + summed n (λ j. f (suc j))
 summed_first zero f = refl
 summed_first (suc n) f = let e : summed (suc n) f ≡ f 0 + summed n (λ j. f (suc j)) = summed_first n f in omega (arith, e)

@@ -18,6 +18,8 @@ use Rattle.std.proofs.Common.{◌≡◌, ◌<◌, ◌≤◌, ◌+◌, ◌∙◌,
 use Rattle.std.proofs.Common.{nat_eq, refl, subst, sym, ℕ}
 
 -- For the window of `Run`, which never changes: so what is known of a run may name the window that the run itself has.
+-- Names: `plan` is the plan of the run: the jobs of its sources, and perhaps a link. `f` is all sources as the code keeps them. `p` is the
+-- run as the code keeps it. `a` is the answer to the step. `t` is the value of a test, so that `by` can go by both cases.
 
 -- a move from phase to phase keeps the fleet and the events
 abbrev SameStory : RunState → RunState → Type 0
@@ -55,10 +57,11 @@ removal_same p a = by (removal_failed (remove_of a))
     by true = (refl, refl)
     by false = (refl, refl)
 
--- a source that is counted as begun leaves the window
+-- counting a source as begun does not change the window
 opened_window : (jobs : List Job) (f : Fleet) → (opened jobs f).window ≡ f.window
 opened_window jobs f = by (nat_eq f.current f.next)
   where
+    -- Plan: by whether the source in progress is the next one that begins.
     by : (t : Bool) → (if t then record f {
       begun = f.begun ++ f.current ∷ [];
       next =
@@ -67,7 +70,7 @@ opened_window jobs f = by (nat_eq f.current f.next)
     by true = refl
     by false = refl
 
--- a source that is counted as ended leaves the window
+-- counting a source as ended does not change the window
 closed_window : (f : Fleet) → (closed f).window ≡ f.window
 closed_window f = by (left (stage_in f f.current))
   where
@@ -75,7 +78,7 @@ closed_window f = by (left (stage_in f f.current))
     by true = refl
     by false = refl
 
--- the choice of the next source leaves the window
+-- the choice of the next source does not change the window
 settled_window : (jobs : List Job) (f : Fleet) → (settled jobs f).window ≡ f.window
 settled_window jobs f = by (inside (stage_in f f.current))
   where
@@ -83,10 +86,11 @@ settled_window jobs f = by (inside (stage_in f f.current))
     by true = refl
     by false = closed_window (opened jobs f) ∙ opened_window jobs f
 
--- an answer leaves the window
+-- an answer leaves the window of a run as it was
 moved_window : (plan : Plan) (p : RunState) (s : Step) (a : Answer) → (moved plan p s a).fleet.window ≡ p.fleet.window
 moved_window plan p s a = by p.phase
   where
+    -- Plan: by the phase of the run.
     by : (q : Phase) → (moved_in q plan (kept p s a) a).fleet.window ≡ p.fleet.window
     by Sources = ap (λ f. f.window) (flown_same (record (kept p s a) { fleet = taken plan.jobs p.fleet a })).0
         ∙ settled_window plan.jobs (worked (get_or plan.jobs p.fleet.current no_job) p.fleet a)
@@ -95,7 +99,7 @@ moved_window plan p s a = by p.phase
     by Report = refl
     by Done = refl
 
--- a caller's choice leaves the window
+-- a caller's choice does not change the window
 choosing_window : (plan : Plan) (p : RunState) (i : ℕ) → (choosing plan p i).fleet.window ≡ p.fleet.window
 choosing_window plan p i = by (between_blocks p.phase p.fleet)
   where
@@ -139,7 +143,7 @@ choice_stands plan p q i k lt to = (subst (λ n. Kept plan n q) (sym window) (ch
 
 -- an answer adds one event
 
--- an answer adds one event
+-- an answer adds exactly its own event
 pub moved_events : (plan : Plan) (p : RunState) (s : Step) (a : Answer) → (moved plan p s a).events ≡ p.events ++ event s a ∷ []
 moved_events plan p s a = by p.phase
   where
@@ -150,7 +154,7 @@ moved_events plan p s a = by p.phase
     by Report = refl
     by Done = refl
 
--- a choice adds no event
+-- the choice of a source adds no event
 pub choosing_events : (plan : Plan) (p : RunState) (i : ℕ) → (choosing plan p i).events ≡ p.events
 choosing_events plan p i = by (between_blocks p.phase p.fleet)
   where

@@ -20,6 +20,12 @@ use Rattle.std.proofs.lemmas.Cmp.{nat_eq_equiv}
 
 -- For the choices of `Run`: the code's list `able` (specs/Code/Fleet) holds exactly the sources that may go on by the rule `may_go_on`, in
 -- plan order.
+-- Names: `jobs` is the jobs of the sources, in plan order. `N` is the window: at most so many sources have begun and not ended. `f` is all
+-- sources as the code keeps them. `blocks` is the blocks so far, each with its source. `k` is the number of a job in the plan. `j` is the
+-- number of any source. `l` is a list of source numbers. `n` is a bound of source numbers. `p` is a test of them. `t` and `u` are values of
+-- tests, so that `by` can go by both cases. `stage_in f k` is the stage of source k. `left` says whether a source at this stage has more to
+-- do. `has k bs` says whether source k has a block among `bs`. `count n p` is how many numbers below n pass p. `listed n p` is the numbers
+-- below n that pass p. `pending s` is how many children are still to be waited for. `of k bs` is the blocks of source k among `bs`.
 
 -- a source's next block may come if the source may go on
 
@@ -28,7 +34,7 @@ abbrev pub test : List Job → ℕ → Fleet → List SourceBlock → ℕ → Bo
 test jobs N f blocks k = may_go_on (length jobs) N (λ j. has j blocks) (λ j. left (stage_in f j)) (λ j. in_flight (of j blocks))
     (λ j. nat_lt 0 (pending (stage_in f j))) k
 
--- if it may, its next block may come
+-- if a source passes the test, its next block may come by the rule
 may_come : (jobs : List Job) (N : ℕ) (f : Fleet) (blocks : List SourceBlock) (k : ℕ) → k < length jobs → test jobs N f blocks k ≡ true
     → Picks jobs N (stage_in f) blocks k
 may_come jobs N f blocks k lt e = record {
@@ -43,6 +49,7 @@ may_come jobs N f blocks k lt e = record {
   more = and_first (left (stage_in f k)) (nat_eq (count k (λ j. not (has j blocks) && left (stage_in f j))) 0 && window_and_wait) e;
 }
   where
+    -- Plan: the test is a chain of `&&`; each part is a field of `MayCome`: `in_window` the window, `wait` the rule for waits.
     wait : Bool
     wait = not (nat_lt 0 (pending (stage_in f k))) || nat_eq (count (length jobs) (λ j. in_flight (of j blocks)))
         (min N (count (length jobs) (λ j. left (stage_in f j))))
@@ -72,6 +79,8 @@ before_next : (jobs : List Job) (N : ℕ) (f : Fleet) (blocks : List SourceBlock
     → (k : ℕ) → k < f.next → test jobs N f blocks k ≡ (left (stage_in f k) && may_go (all_fly f) f k)
 before_next jobs N f blocks keep c k lt = by (left (stage_in f k)) refl
   where
+    -- Plan: with nothing to do both sides are false. Else the source has begun, so order and window permit it (`quiet`), and only the rule
+    -- for waits is left (`by_goes`).
     b : Between (length jobs) N (λ j. has j blocks) (λ j. left (stage_in f j)) (λ j. in_flight (of j blocks))
         (λ j. nat_lt 0 (pending (stage_in f j)))
     b = between jobs N (stage_in f) blocks keep
@@ -135,6 +144,7 @@ begun_many jobs N f blocks c = ap (λ (l : List ℕ). length l) (c.begun_is
     ∙ sym (listed_up_to f.next (length jobs) (λ j. has j blocks && left (stage_in f j)) c.next_within (λ j le below. beyond j le)))
     ∙ listed_count (length jobs) (λ j. has j blocks && left (stage_in f j))
   where
+    -- Plan: a source has a block and more to do exactly if it has more to do and comes before `next` (`there`).
     there : (j : ℕ) (t : Bool) → left (stage_in f j) ≡ t → (has j blocks && t) ≡ (t && nat_lt j f.next)
     there j true l = ap (λ (u : Bool). u && true) (c.has_is j l) ∙ true_last (nat_lt j f.next)
       where
@@ -168,6 +178,7 @@ at_next jobs N f blocks keep c lt = ap (λ (t : Bool). t && (nat_eq (count f.nex
     ∙ ap (λ (t : Bool). nat_lt (length f.begun + 1) (N + 1) && wait t) (no_wait (nat_lt 0 (pending (stage_in f f.next))) refl)
     ∙ both (length f.begun) ∙ ap (λ n. nat_lt (length f.begun) n) (sym c.window_is)
   where
+    -- Plan: no earlier source still has to begin (`order`), it waits for nothing (`no_wait`), and with it one more is under way (`one`).
     wait : Bool → Bool
     wait w = not w || nat_eq (count (length jobs) (λ j. in_flight (of j blocks))) (min N (count (length jobs) (λ j. left (stage_in f j))))
 
@@ -213,6 +224,7 @@ after_next : (jobs : List Job) (N : ℕ) (f : Fleet) (blocks : List SourceBlock)
     → f.next < k → test jobs N f blocks k ≡ false
 after_next jobs N f blocks c k lt past = ap (λ (t : Bool). left (stage_in f k) && (t && rest)) none ∙ and_none (left (stage_in f k))
   where
+    -- Plan: the next source has not begun and has something to do (`skipped`), so the rule of order forbids a later one.
     rest : Bool
     rest = nat_lt (count (length jobs) (λ j. (has j blocks || nat_eq j k) && left (stage_in f j))) (N + 1)
         && (not (nat_lt 0 (pending (stage_in f k))) || nat_eq (count (length jobs) (λ j. in_flight (of j blocks)))
@@ -238,6 +250,7 @@ able_is jobs N f blocks keep c = ap (λ l. l ++ (if may_begin jobs f then f.next
     (λ j lt. sym (before_next jobs N f blocks keep c j lt)))
     ∙ by (nat_lt f.next (length jobs)) refl
   where
+    -- Plan: by whether a source is left that has not begun: it is tested too, and none after it passes.
     by : (t : Bool) → nat_lt f.next (length jobs) ≡ t
         → listed f.next (test jobs N f blocks) ++ (if (t && nat_lt (length f.begun) f.window) then f.next ∷ [] else [])
         ≡ listed (length jobs) (test jobs N f blocks)
@@ -262,6 +275,7 @@ record Member (n : ℕ) (p : ℕ → Bool) (x : ℕ) : Type 0 where
   below : x < n
   passes : p x ≡ true
 
+-- a number below n that passes is also one below n + 1
 widen : (n : ℕ) (p : ℕ → Bool) (x : ℕ) → Member n p x → Member (suc n) p x
 widen n p x m = record { below = (let b = m.below in omega (arith, b)); passes = m.passes }
 
@@ -273,7 +287,7 @@ last_member n p d [] (suc j) e h below = absurd (omega arith)
 last_member n p d (x ∷ l) zero e h below = widen n p x (h 0 (omega arith))
 last_member n p d (x ∷ l) (suc j) e h below = last_member n p d l j e (λ m less. h (suc m) (omega (arith, less))) (omega (arith, below))
 
--- each item of `listed` is such a number
+-- each item of `listed` is a number below n that passes
 member : (n : ℕ) (p : ℕ → Bool) (d i : ℕ) → i < length (listed n p) → Member n p (get_or (listed n p) i d)
 member zero p d i lt = absurd (omega arith)
 member (suc n) p d i lt = by (p n) refl lt (λ m less. member n p d m less)

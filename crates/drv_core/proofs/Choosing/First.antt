@@ -18,6 +18,10 @@ use Rattle.std.proofs.Common.{◌≡◌, Bool, false, true, List, get_or, if◌t
 use Rattle.std.proofs.lemmas.Bool.{not-true}
 
 -- For `Run::answer`: without a choice by the caller, the first source that may go on does so.
+-- Names: `plan` is the plan of the run: the jobs of its sources, and perhaps a link. `f` is all sources as the code keeps them. `p` is the
+-- run as the code keeps it. `t` is the value of a test, so that `by` can go by both cases. `between_blocks` says whether another source may
+-- be chosen. `stage_in f k` is the stage of source k. `inside` says whether a block is open at this stage. `clash` shows that a test can't
+-- both pass and fail. `able` is the code's list of the sources that may go on.
 
 -- between blocks the source in progress is the first of those that may go on
 abbrev pub WorksFirst : Plan → RunState → Type 0
@@ -33,9 +37,11 @@ shown_closed p f = by (nat_lt p.leftovers.at (length p.leftovers.files))
     by true = refl
     by false = refl
 
+-- once the removals begin, no source can be chosen
 first_closed : (p : RunState) (f : Fleet) → between_blocks (removing_first p).phase f ≡ false
 first_closed p f = shown_closed (record p { leftovers = seeking p.leftovers 0 }) f
 
+-- nor after a removal
 next_closed : (p : RunState) (f : Fleet) → between_blocks (removing_next p).phase f ≡ false
 next_closed p f = shown_closed (record p { leftovers = passing p.leftovers }) f
 
@@ -94,6 +100,7 @@ fresh_first plan N room = flown_first plan (first_run plan N room) (λ e. sym (a
 pub moved_first : (plan : Plan) (p : RunState) (s : Step) (a : Answer) → WorksFirst plan (moved plan p s a)
 moved_first plan p s a = by p.phase refl
   where
+    -- Plan: by the phase: only in that of the sources the code picks one; in the others no source can be chosen.
     by : (q : Phase) → p.phase ≡ q → WorksFirst plan (moved_in q plan (kept p s a) a)
     by Sources is = flown_first plan (record (kept p s a) { fleet = taken plan.jobs p.fleet a })
         (λ e. settled_first plan.jobs (worked (get_or plan.jobs p.fleet.current no_job) p.fleet a)

@@ -20,9 +20,20 @@ use Rattle.std.specs.List.{filter}
 
 -- For the sources of `Run`: what the code counts of them is right (`Counts`), and the source that it picks may go on (`picks`). The blocks
 -- are those of the events so far; `next` is the first source that has not begun.
+-- Names: `jobs` is the jobs of the sources, in plan order. `N` is the window: at most so many sources have begun and not ended. `f` is all
+-- sources as the code keeps them. `blocks` is the blocks so far, each with its source. `job` is the job of the source (or of the link) at
+-- hand. `k` is the number of a job in the plan. `j` is the number of any source. `t` is the value of a test, so that `by` can go by both
+-- cases. `u` is the value of a second test. `r` is the first source after the one in progress that has something to do. `i` is an index in
+-- a list of jobs. `g` is the sources before the block ended, and `f` after. `a` and `b` are numbers to be compared. `v` is the value of a
+-- third test. `stage_in f k` is the stage of source k. `left` says whether a source at this stage has more to do. `has k bs` says whether
+-- source k has a block among `bs`. `count n p` is how many numbers below n pass p. `no_job` is a job without commands. `of k bs` is the
+-- blocks of source k among `bs`. `in_flight` says whether a child was started in these blocks and not waited for.
 
--- what the code counts of the sources is right after these blocks: which have begun, how many have not ended, and which is the next to
--- begin
+-- What the code counts of the sources is right after these blocks: which have begun, how many have not ended, and which is the next to
+-- begin. `sizes` says that each job has a source. `next` is the first source that has not begun and has a block (`next_within`,
+-- `next_left`), and those after it wait to begin (`waiting`). `has_is` says that of the sources with more to do those before `next` have
+-- blocks. `begun_is` and `unended_is` give the list of those that have begun, and the count of those with more to do. By `room_is` the list
+-- has room for one more than the window, so it is never full. `rooms` says that a source has room for the children of its greatest group.
 pub record Counts (jobs : List Job) (N : ℕ) (f : Fleet) (blocks : List SourceBlock) : Type 0 where
   pub sizes : length f.sources ≡ length jobs
   pub next_within : f.next ≤ length jobs
@@ -35,7 +46,8 @@ pub record Counts (jobs : List Job) (N : ℕ) (f : Fleet) (blocks : List SourceB
   pub room_is : f.room ≡ N + 1
   pub rooms : (j : ℕ) → j < length jobs → (source_in f j).room ≡ greatest (λ group. length group) (get_or jobs j no_job).groups
 
--- what the code counts after the first block of the next source is right, where the source in progress counts as one with more to do
+-- What the code counts after the first block of the next source is right, where the source in progress counts as one with more to do. The
+-- fields are those of `Counts`. `begun_is` and `unended_is` count the source in progress too, and `current_in` says that it is one.
 pub record Opened (jobs : List Job) (N : ℕ) (f : Fleet) (blocks : List SourceBlock) : Type 0 where
   pub sizes : length f.sources ≡ length jobs
   pub next_within : f.next ≤ length jobs
@@ -59,6 +71,7 @@ pub or_all : (t : Bool) → (t || true) ≡ true
 or_all true = refl
 or_all false = refl
 
+-- a test and a true one is the test itself
 and_all : (t : Bool) → (t && true) ≡ t
 and_all true = refl
 and_all false = refl
@@ -73,6 +86,7 @@ pub counts_closed : (jobs : List Job) (N : ℕ) (f : Fleet) (blocks : List Sourc
     → Counts jobs N (closed f) blocks
 counts_closed jobs N f blocks o = by (left (stage_in f f.current)) refl
   where
+    -- Plan: `still`: the source goes on, and the code's list is unchanged. `gone`: it has ended, and the code takes it out of the list.
     still : left (stage_in f f.current) ≡ true → (j : ℕ) (t : Bool) → nat_eq j f.current ≡ t
         → (left (stage_in f j) || t) ≡ left (stage_in f j)
     still e j true is = or_all (left (stage_in f j)) ∙ sym (subst (λ i. left (stage_in f i) ≡ true) (sym (same j f.current is)) e)
@@ -137,6 +151,7 @@ first_at k [] = record {
 }
 first_at k (job ∷ js) = by (none job.groups) refl (first_at (k + 1) js)
   where
+    -- Plan: by whether the first job has a group: it is the one found, or the search goes on behind it.
     at_here : (i : ℕ) → k + i ≡ k → none job.groups ≡ false → none (get_or (job ∷ js) i no_job).groups ≡ false
     at_here zero e n = n
     at_here (suc i) e n = absurd (omega arith)
@@ -162,6 +177,7 @@ first_at k (job ∷ js) = by (none job.groups) refl (first_at (k + 1) js)
     }
     by false n f = record { least = omega arith; most = omega arith; at = λ i e lt. at_here i e n; before = λ i lt. absurd (omega arith) }
 
+-- a list with a group is longer than 0
 some_group : (gs : List (List Command)) → none gs ≡ false → nat_lt 0 (length gs) ≡ true
 some_group [] e = absurd cc
 some_group (g ∷ gs) e = less 0 (length (g ∷ gs)) (omega arith)
@@ -170,6 +186,7 @@ some_group (g ∷ gs) e = less 0 (length (g ∷ gs)) (omega arith)
 pub left_begin : (job : Job) → left (begin job) ≡ not (none job.groups)
 left_begin job = by (none job.groups) refl
   where
+    -- Plan: a job without groups is at its end at once; another begins with a claim or with its first group.
     in_group : (t : Bool) → nat_lt 0 (length job.groups) ≡ t → none job.groups ≡ false
         → left (if t then Starts 0 false [] else Ended) ≡ true
     in_group true e n = refl
@@ -218,7 +235,9 @@ begun_next job e = left_begin job ∙ ap not e
 pub idle_next : (job : Job) → none job.groups ≡ true → left (begin job) ≡ false
 idle_next job e = left_begin job ∙ ap not e
 
--- fleet g is f after a block of the source in progress, before the code counts it
+-- Fleet g is f after a block of the source in progress, before the code counts it. `counts` holds of `f` before the block. The fields
+-- `same_..`, `sizes`, `rooms` and `others` say what is the same in `g`: all but the stage of the source in progress. `was_left` says that
+-- this one had more to do, `current_before` that it is no later than the next one, and `has_more` that it has a block now.
 pub record Worked (jobs : List Job) (N : ℕ) (f g : Fleet) (blocks more : List SourceBlock) : Type 0 where
   pub counts : Counts jobs N f blocks
   pub same_next : g.next ≡ f.next
@@ -238,6 +257,7 @@ pub record Worked (jobs : List Job) (N : ℕ) (f g : Fleet) (blocks more : List 
 pub not_same : (a b : ℕ) → a < b → nat_eq b a ≡ false
 not_same a b lt = grind (arith, nat_tests)
 
+-- a smaller number is not the same
 not_same_below : (a b : ℕ) → a < b → nat_eq a b ≡ false
 not_same_below a b lt = grind (arith, nat_tests)
 
@@ -254,6 +274,8 @@ pub opened_is : (jobs : List Job) (N : ℕ) (f g : Fleet) (blocks more : List So
     → Opened jobs N (opened jobs g) more
 opened_is jobs N f g blocks more w = by (nat_eq g.current g.next) refl
   where
+    -- Plan: if the source in progress is `next`, it joins the list of those that have begun, and `first` says what the code counts then.
+    -- Else it had begun before, and nothing changes (`again`).
     c : Counts jobs N f blocks
     c = w.counts
 
@@ -390,6 +412,8 @@ pub fly_is : (jobs : List Job) (N : ℕ) (f : Fleet) (blocks : List SourceBlock)
 fly_is jobs N f blocks keep c = ap (λ n. nat_eq n (min f.window f.unended)) (sym many)
     ∙ ap (λ n. nat_eq (count (length jobs) (λ j. in_flight (of j blocks))) n) least
   where
+    -- Plan: the code counts sources that wait among those that have begun (`many`), and takes the lesser of window and unended sources
+    -- (`least`).
     b : Between (length jobs) N (λ j. has j blocks) (λ j. left (stage_in f j)) (λ j. in_flight (of j blocks))
         (λ j. nat_lt 0 (pending (stage_in f j)))
     b = between jobs N (stage_in f) blocks keep
@@ -424,6 +448,8 @@ picks jobs N f blocks some keep c k below more = subst (λ l. Picks jobs N (stag
     (sym (begun_may jobs N f blocks c)) (by (listed f.next (λ j. left (stage_in f j) && may_go (all_fly f) f j))
     (first_listed f.next (λ j. left (stage_in f j) && may_go (all_fly f) f j)))
   where
+    -- Plan: if the code's filter finds a source that has begun, that one may go on (`old`). If not, all that have begun wait, so the next
+    -- one may begin (`new`); else no source could go on, against `progress` (`stuck`).
     b : Between (length jobs) N (λ j. has j blocks) (λ j. left (stage_in f j)) (λ j. in_flight (of j blocks))
         (λ j. nat_lt 0 (pending (stage_in f j)))
     b = between jobs N (stage_in f) blocks keep

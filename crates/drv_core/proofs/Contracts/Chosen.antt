@@ -36,7 +36,16 @@ use Rattle.std.proofs.lemmas.Cmp.{nat_eq_equiv}
 
 -- For the choices of `Run`: how many there are, and what each leads to. Between blocks the sources that may go on are the choices;
 -- elsewhere there is one, which changes nothing.
+-- Names: `plan` is the plan of the run: the jobs of its sources, and perhaps a link. `N` is the window: at most so many sources have begun
+-- and not ended. `E` is the events so far. `f` is all sources as the code keeps them. `job` is the job of the source (or of the link) at
+-- hand. `s` is a source's stage before. `t` is the value of a test, so that `by` can go by both cases. `i` is the number of the choice. `k`
+-- is the number of a source, or of a choice. `x` is a source number. `n` is a bound of source numbers. `p` is the run as the code keeps it,
+-- or a test of source numbers. `o` says that the run is between blocks. `left` says whether a source at this stage has more to do.
+-- `stage_in f k` is the stage of source k. `count n p` is how many numbers below n pass p. `asks k job s` is the next step of a job at this
+-- stage. `listed n p` is the numbers below n that pass p. `inside` says whether a block is open at this stage. `next_of` is the step that
+-- the code asks for.
 
+-- a test whose negation holds fails
 out_of : (t : Bool) → not t ≡ true → t ≡ false
 out_of true e = absurd cc
 out_of false e = refl
@@ -45,6 +54,8 @@ out_of false e = refl
 so_far_is : (k : ℕ) (job : Job) (bs : List Block) (s : Stage) → Path k job (begin job) bs s → SoFar k job bs (left s) (nat_lt 0 (pending s))
 so_far_is k job bs s p = by (left s) refl
   where
+    -- Plan: by whether the stage has more to do: then a next block exists that shows that the story goes on; else the blocks are the whole
+    -- story.
     goes_on : (f : Fails k job s) → Leads k job (bs ++ f.b ∷ []) → GoesOn k job bs (nat_lt 0 (pending s))
     goes_on f l = record {
       a = l.told.a;
@@ -67,6 +78,7 @@ so_far_is k job bs s p = by (left s) refl
     by true e = going (fails k job s (path_even k job (begin job) bs s (begins job).sound p).sound e)
     by false e = over (tells k job bs (path_ends k job (begin job) bs (subst (λ m. Path k job (begin job) bs m) (ended s e) p)))
 
+-- between blocks, what is known of the sources in progress holds of all of them
 all_kept : (plan : Plan) (N : ℕ) (f : Fleet) (E : List RunEvent) → (g : Going plan.jobs N f E) → inside (stage_in f f.current) ≡ false
     → Keeps plan.jobs N (stage_in f) g.run.blocks
 all_kept plan N f E g out = keeps_at plan.jobs N f f.current g.st E g.run (sym (ap inside (g.at f.current)) ∙ out) g.at
@@ -101,6 +113,7 @@ pub record Kth (n : ℕ) (p : ℕ → Bool) (k x : ℕ) : Type 0 where
   pub passes : p x ≡ true
   pub number : count x p ≡ k
 
+-- the k-th number below n that passes is also the k-th below n + 1
 wider : (n : ℕ) (p : ℕ → Bool) (k x : ℕ) → Kth n p k x → Kth (suc n) p k x
 wider n p k x m = record { below = (let b = m.below in omega (arith, b)); passes = m.passes; number = m.number }
 
@@ -122,6 +135,7 @@ kth : (n : ℕ) (p : ℕ → Bool) (d k : ℕ) → k < length (listed n p) → K
 kth zero p d k lt = absurd (omega arith)
 kth (suc n) p d k lt = by (p n) refl lt (λ m less. kth n p d m less)
   where
+    -- Plan: by whether number n passes: then it is the last of the list.
     by : (t : Bool) → p n ≡ t → k < length (listed n p ++ (if t then n ∷ [] else []))
         → ((m : ℕ) → m < length (listed n p) → Kth n p m (get_or (listed n p) m d))
         → Kth (suc n) p k (get_or (listed n p ++ (if t then n ∷ [] else [])) k d)
@@ -153,7 +167,7 @@ own_step k job s l o = absurd cc
 
 -- whether the run is between blocks
 
--- between blocks of the sources, while one goes on
+-- Between blocks of the sources, while one goes on. `out` says that no block is open.
 record IsOpen (plan : Plan) (N : ℕ) (p : RunState) : Type 0 where
   phase : p.phase ≡ Sources
   going : Going plan.jobs N p.fleet p.events
@@ -164,6 +178,7 @@ record IsClosed (plan : Plan) (N : ℕ) (p : RunState) : Type 0 where
   test_is : between_blocks p.phase p.fleet ≡ false
   none : BetweenBlocks plan N p.events → ⊥
 
+-- in a plan that a run keeps no group is empty
 filled_at : (plan : Plan) (N : ℕ) (p : RunState) → Kept plan N p → FilledPlan plan
 filled_at plan N p k = filled_plan plan k.jobs k.link
 
@@ -171,6 +186,7 @@ filled_at plan N p k = filled_plan plan k.jobs k.link
 where_is : (plan : Plan) (N : ℕ) (p : RunState) → Kept plan N p → IsOpen plan N p ⊎ IsClosed plan N p
 where_is plan N p k = at (stands plan N p.room p k.some (filled_at plan N p k) k.reached)
   where
+    -- Plan: by the phase: in that of the sources, by whether a block is open; in the others the sources have ended.
     filled : FilledPlan plan
     filled = filled_at plan N p k
 
@@ -203,6 +219,7 @@ where_is plan N p k = at (stands plan N p.room p k.some (filled_at plan N p k) k
     at : Stands plan N p.room p → IsOpen plan N p ⊎ IsClosed plan N p
     at t = by t t.c.phase t.match.phase t.holds
 
+-- the code's test for being between blocks passes
 open_test : (plan : Plan) (N : ℕ) (p : RunState) → IsOpen plan N p → between_blocks p.phase p.fleet ≡ true
 open_test plan N p o = ap (λ q. between_blocks q p.fleet) o.phase ∙ ap not o.out
 
@@ -212,6 +229,7 @@ open_test plan N p o = ap (λ q. between_blocks q p.fleet) o.phase ∙ ap not o.
 pub choices_are : (plan : Plan) (N : ℕ) (p : RunState) → Kept plan N p → ChoicesAre plan N p.events (choices_at plan p)
 choices_are plan N p k = by (where_is plan N p k)
   where
+    -- Plan: by whether the run is between blocks: then the list is counted, else there is one choice.
     by : IsOpen plan N p ⊎ IsClosed plan N p → ChoicesAre plan N p.events (choices_at plan p)
     by (inl o) = record {
       counted = λ b. ap (λ (t : Bool). if t then length (able plan.jobs p.fleet) else 1) (open_test plan N p o)
@@ -239,6 +257,7 @@ test_left : (plan : Plan) (N : ℕ) (f : Fleet) (E : List RunEvent) (g : Going p
     → test plan.jobs N f g.run.blocks x ≡ true → left (stage_in f x) ≡ true
 test_left plan N f E g x e = by (left (stage_in f x)) refl
   where
+    -- Plan: by whether the source has more to do, which the test demands first.
     none : (t u : Bool) → t ≡ false → (t && u) ≡ true → ⊥
     none true u h i = absurd cc
     none false u h i = absurd cc
@@ -257,6 +276,8 @@ pub chosen_next : (plan : Plan) (N : ℕ) (p : RunState) (i : ℕ) → Kept plan
     → IsNextOf plan N p.events b i (next_of plan (choosing plan p i))
 chosen_next plan N p i k lt b = by (where_is plan N p k)
   where
+    -- Plan: `IsOpen`: the choice makes the i-th source of the code's list the one in progress, and the next step is its own. `IsClosed`:
+    -- nothing changes.
     next_at : (o : IsOpen plan N p) (x : ℕ) → get_or (able plan.jobs p.fleet) i p.fleet.next ≡ x
         → next_of plan (choosing plan p i) ≡ asks x (get_or plan.jobs x no_job) (stage_in p.fleet x)
     next_at o x is = ap (λ (t : Bool). next_of plan (if t then record p { fleet = selected plan.jobs p.fleet i } else p))
@@ -311,6 +332,7 @@ goes n N begun left flying waits k m more = ap (λ (t : Bool). t && (nat_eq (cou
     (let w = m.in_window in omega (arith, w)))
     ∙ waited (waits k) m.all_in_flight
   where
+    -- Plan: each field of `MayCome` is one part of the chain of `&&` in `may_go_on`.
     wait : Bool → Bool
     wait t = not t || nat_eq (count n flying) (min N (count n left))
 
@@ -339,6 +361,7 @@ some_choice plan N p o = subst (λ n. 0 < n) (sym (ap (λ (t : Bool). if t then 
 pub first_next : (plan : Plan) (N : ℕ) (p : RunState) → Kept plan N p → WorksFirst plan p → IsOfFirst plan N p.events (next_of plan p)
 first_next plan N p k first = λ b. by b (where_is plan N p k)
   where
+    -- Plan: by whether the run is between blocks: then the first choice is what the code has picked already (`next_is`).
     next_is : (o : IsOpen plan N p) → next_of plan (choosing plan p 0) ≡ next_of plan p
     next_is o = ap (λ (t : Bool). next_of plan (if t then record p { fleet = selected plan.jobs p.fleet 0 } else p)) (open_test plan N p o)
         ∙ ap (λ q. asked_in q plan (record p { fleet = selected plan.jobs p.fleet 0 })) o.phase

@@ -46,6 +46,12 @@ use Rattle.std.specs.Option.{option_to_list}
 
 -- For `Run`: what is known of a whole run (`Holds`) holds at the beginning, and each answer keeps it. From it follow the clauses: the
 -- events are the beginning of a whole run, the next step can be made, and there is room.
+-- Names: `plan` is the plan of the run: the jobs of its sources, and perhaps a link. `N` is the window: at most so many sources have begun
+-- and not ended. `most` is the room for events: at most so many come. `c` is the same run without the code's types. `job` is the job of the
+-- source (or of the link) at hand. `a` is the answer to the step. `t` is the value of a test, so that `by` can go by both cases. `s` is a
+-- step. `p` is a phase. `n` and `files` are numbers of events. `asked` takes a step out of its option. `run_code` is the greatest code of
+-- events. `left` says whether a source at this stage has more to do. `link_by` is the link's job if all codes so far are 0. `no_job` is a
+-- job without commands. `stage_in f k` is the stage of source k. `asks k job s` is the next step of a job at this stage.
 
 -- no group of the plan is empty
 pub record FilledPlan (plan : Plan) : Type 0 where
@@ -67,6 +73,7 @@ over_holds : (plan : Plan) (N : ℕ) (c : Course) → FilledPlan plan → Over p
     → Holds plan N (following_sources plan (link_by plan.link (run_code c.events)) c)
 over_holds plan N c filled o = by plan.link refl
   where
+    -- Plan: by whether there is a link and all codes are 0: then the link begins (`runs`), else the files are removed (`quiet`).
     quiet : link_by plan.link (run_code c.events) ≡ no_job → Holds plan N (following_sources plan no_job c)
     quiet e = sources_end plan N (record c { link = Ended }) o e
 
@@ -86,6 +93,7 @@ sourced_holds : (plan : Plan) (N : ℕ) (c : Course) → FilledPlan plan → Sur
 sourced_holds plan N c filled (inl s) = subst (λ (t : Bool). Holds plan N
     (if t then following_sources plan (link_by plan.link (run_code c.events)) c else record c { phase = Sources })) (sym some_left) s
   where
+    -- Plan: a source that goes on is one that has not ended (`some_left`), so the phase stays.
     in_range : c.fleet.current < length plan.jobs
     in_range = is_less c.fleet.current (length plan.jobs) s.going.may.is_source
 
@@ -108,15 +116,19 @@ fresh_holds plan N some filled = sourced_holds plan N
 
 -- one step
 
+-- a false test is no true one
 no : false ≡ true → ⊥
 no e = absurd cc
 
+-- no step is not some step
 none_asked : (s : Step) → None ≡ Some s → ⊥
 none_asked s e = absurd cc
 
+-- the step of an option is the only one in it
 same_some : (s t : Step) → Some s ≡ Some t → s ≡ t
 same_some s t e = ap asked e
 
+-- equal steps with the same answer make the same event
 event_with : (c : Course) (s t : Step) (a : Answer) → s ≡ t → c.events ++ event s a ∷ [] ≡ c.events ++ event t a ∷ []
 event_with c s t a e = ap (λ x. c.events ++ event x a ∷ []) e
 
@@ -216,6 +228,7 @@ pub steps : (plan : Plan) (N : ℕ) (c : Course) (s : Step) (a : Answer) → 1 �
     → is_kind s a ≡ true → Holds plan N (stepped plan c s a)
 steps plan N c s a some filled h is kind = by c.phase h is
   where
+    -- Plan: by the phase.
     by : (p : Phase) → HoldsAt plan N p c → asked_at plan p c ≡ Some s
         → Holds plan N (stepped_at plan p (record c { events = c.events ++ event s a ∷ [] }) a)
     by Sources held asks_is = sources_step plan N c s a some filled held asks_is kind
@@ -229,6 +242,7 @@ pub selected_holds : (plan : Plan) (N : ℕ) (c : Course) (k : ℕ) → between_
     → k < length (able plan.jobs c.fleet) → Holds plan N (record c { fleet = selected plan.jobs c.fleet k })
 selected_holds plan N c k e h lt = by c.phase e h
   where
+    -- Plan: by the phase: only in that of the sources another one can be chosen.
     out : (t : Bool) → not t ≡ true → t ≡ false
     out true e = absurd (no e)
     out false e = refl
@@ -273,6 +287,7 @@ pub holds_makes : (plan : Plan) (N : ℕ) (c : Course) (s : Step) → Holds plan
     → can_make plan c.events s ≡ true
 holds_makes plan N c s h is = by c.phase h is
   where
+    -- Plan: by the phase: the step is one of the sources, of the link, a removal or a report.
     by : (p : Phase) → HoldsAt plan N p c → asked_at plan p c ≡ Some s → can_make plan c.events s ≡ true
     by Sources held e = subst (λ t. can_make plan c.events t ≡ true) (ap asked e) (sure_makes plan N (most_of plan) c.fleet c.events held)
     by Link held e = subst (λ t. can_make plan c.events t ≡ true) (ap (λ l. asked (asks (length plan.jobs) (link_of l) c.link))
@@ -286,9 +301,11 @@ holds_makes plan N c s h is = by c.phase h is
 
 -- a bound on the events so far
 
+-- less than a few is less than the most
 below : (n few most : ℕ) → n < few → few ≤ most → n < most
 below n few most lt le = omega arith
 
+-- less is at most
 above : (n few : ℕ) → n < few → n ≤ few
 above n few lt = omega arith
 
@@ -296,12 +313,15 @@ above n few lt = omega arith
 two_more : (n i files more most : ℕ) → more ≤ 1 → i < files → n + 2 * (files - i) ≤ most + more → n < most
 two_more n i files more most one some fits = omega arith
 
+-- if sources, links and files fit together, the sources alone fit
 first_part : (sources links files most : ℕ) → sources + links + files ≤ most → sources ≤ most
 first_part sources links files most fits = omega arith
 
+-- and so do the sources with one of the links
 two_parts : (sources links files most one rest : ℕ) → sources + links + files ≤ most → links ≡ one + rest → sources + one ≤ most
 two_parts sources links files most one rest fits is = omega arith
 
+-- the events of the sources are at most those that the plan needs
 few_sources : (plan : Plan) → most_of plan ≤ needed plan
 few_sources plan = first_part (most_of plan) (sum_by first_cost (option_to_list plan.link)) (2 * length (all_files plan)) (needed plan)
     (run_fits plan)
@@ -325,6 +345,7 @@ fewer_at_end plan N failed c h = two_more (length c.events) h.i (length (end_fil
 pub holds_fewer : (plan : Plan) (N : ℕ) (c : Course) (s : Step) → Holds plan N c → asked_by plan c ≡ Some s → length c.events < needed plan
 holds_fewer plan N c s h is = by c.phase h is
   where
+    -- Plan: by the phase, each of which has a bound of its own.
     by : (p : Phase) → HoldsAt plan N p c → asked_at plan p c ≡ Some s → length c.events < needed plan
     by Sources held e = below (length c.events) (most_of plan) (needed plan) (sure_fewer plan.jobs N (most_of plan) c.fleet c.events held)
         (few_sources plan)
@@ -335,10 +356,11 @@ holds_fewer plan N c s h is = by c.phase h is
     by Report held e = fewer_at_end plan N true c held
     by Done held e = absurd (none_asked s e)
 
--- at no time more came
+-- at no time has a run more events than its plan needs
 pub holds_bound : (plan : Plan) (N : ℕ) (c : Course) → Holds plan N c → length c.events ≤ needed plan
 holds_bound plan N c h = by c.phase h
   where
+    -- Plan: by the phase; while a step is left, `holds_fewer` says more than is needed.
     fewer : length c.events < needed plan → length c.events ≤ needed plan
     fewer lt = above (length c.events) (needed plan) lt
 
@@ -356,6 +378,7 @@ holds_bound plan N c h = by c.phase h
 at_done : (plan : Plan) (N : ℕ) (c : Course) → Holds plan N c → asked_by plan c ≡ None → AtDone plan N c
 at_done plan N c h is = by c.phase h is
   where
+    -- Plan: by the phase: in every other a next step exists.
     by : (p : Phase) → HoldsAt plan N p c → asked_at plan p c ≡ None → AtDone plan N c
     by Sources held e = absurd (left_asks c.fleet.current (get_or plan.jobs c.fleet.current no_job) (stage_in c.fleet c.fleet.current)
         (ap left (held.going.at c.fleet.current) ∙ held.going.more) e)

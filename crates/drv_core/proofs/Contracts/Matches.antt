@@ -40,8 +40,18 @@ use Rattle.std.specs.Prelude.{⊤, option_map, replicate, slice_set}
 -- For `Run`: the code goes through a run as a `Course` does, which knows no type of the code. `Matches` relates both: sources and events
 -- are the same, and the code's flags and counts of leftover files give the course's list of files to be removed. The lemmas NAME_matches
 -- say that each step keeps it.
+-- Names: `plan` is the plan of the run: the jobs of its sources, and perhaps a link. `N` is the window: at most so many sources have begun
+-- and not ended. `p` is the run as the code keeps it. `c` is the same run without the code's types. `x` is the leftover files, with what
+-- the code counts and marks of them. `k` is the number of a job in the plan. `a` is the answer to the step. `t` is the value of a test, so
+-- that `by` can go by both cases. `u` is the value of a second test. `q` is a phase. `l` is the link of the plan, if it has one. `due` is
+-- the files that are still to be removed. `room` is the room for events. `s` is the step of the answer. `sought` is the code's search for
+-- the next file to be removed. `run_code` is the greatest code of events. `no_job` is a job without commands. `tally k E` is how many
+-- temporaries of job k were claimed. `link_by` is the link's job if all codes so far are 0. `after job s a` is the stage after the answer.
+-- `is_less` and `same` turn a true test of numbers into `<` and `≡`.
 
--- what the code's run and the course have in common in every phase
+-- What the code's run and the course have in common in every phase. `code` is the greatest code so far. `room_is` says that the room for
+-- events stays. `files` are all files that may be left, by number. `many` is the number of sources. `counted` says that the claims are
+-- counted for each job.
 pub record Alike (plan : Plan) (room : ℕ) (p : RunState) (c : Course) : Type 0 where
   pub fleet : p.fleet ≡ c.fleet
   pub events : p.events ≡ c.events
@@ -51,7 +61,8 @@ pub record Alike (plan : Plan) (room : ℕ) (p : RunState) (c : Course) : Type 0
   pub many : p.leftovers.sources ≡ length plan.jobs
   pub counted : Counted (length plan.jobs) p.leftovers c.events
 
--- what holds besides in the phase of the sources: the link is not begun, and no file is removed
+-- What holds besides in the phase of the sources: the link is not begun, and no file is removed. `unclaimed` says that no temporary of the
+-- link was claimed.
 pub record InSources (plan : Plan) (p : RunState) (c : Course) : Type 0 where
   pub link : p.link ≡ fresh (link_of plan.link)
   pub linked : p.leftovers.linked ≡ false
@@ -94,6 +105,7 @@ to_remove_same x g gone at [] = refl
 to_remove_same x g gone at (l ∷ ls) = by (is_due x gone l) (to_remove_same x g (slice_set gone l.first true) at ls)
     (to_remove_same x g gone at ls)
   where
+    -- Plan: by whether the file is due, which the other flags don't decide.
     by : (t : Bool) → to_remove (record x { gone = g; at = at }) (slice_set gone l.first true) ls
         ≡ to_remove x (slice_set gone l.first true) ls → to_remove (record x { gone = g; at = at }) gone ls ≡ to_remove x gone ls
         → (if t then l.place ∷ to_remove (record x { gone = g; at = at }) (slice_set gone l.first true) ls
@@ -102,14 +114,17 @@ to_remove_same x g gone at (l ∷ ls) = by (is_due x gone l) (to_remove_same x g
     by true a b = ap (λ m. l.place ∷ m) a
     by false a b = b
 
+-- if the code finds no place, no file is due
 no_place : (due : List File) → map place_in due ≡ [] → none due ≡ true
 no_place [] e = refl
 no_place (f ∷ due) e = absurd cc
 
+-- if it finds one, a file is due
 some_place : (due : List File) (q : Place) (qs : List Place) → map place_in due ≡ q ∷ qs → none due ≡ false
 some_place [] q qs e = absurd cc
 some_place (f ∷ due) q qs e = refl
 
+-- the run when it seeks the first file to be removed from this index on
 abbrev from_files : RunState → Leftovers → ℕ → RunState
 from_files p x from = shown (record p { leftovers = seeking x from })
 
@@ -119,6 +134,7 @@ removing_matches : (plan : Plan) (room : ℕ) (p : RunState) (x : Leftovers) (fr
     → Matches plan room (from_files p x from) (removing c due)
 removing_matches plan room p x from c due a is = by (nat_lt (sought x from (drop from x.files)) (length x.files)) refl
   where
+    -- Plan: both searches find the same file or none (`Found`), so both go to the removals or to the end (`by`).
     f : Found x (drop from x.files) (sought x from (drop from x.files))
     f = found x from (drop from x.files) refl
 
@@ -222,6 +238,7 @@ linked_matches plan room p c a stage rooms was gone =
     subst (λ (t : Bool). Matches plan room (if t then record p { phase = Link } else removing_first p) (linking plan (link_of plan.link) c))
     (sym (ap left stage)) (by (left c.link))
   where
+    -- Plan: by whether the link has more to do.
     by : (t : Bool) → Matches plan room (if t then record p { phase = Link } else removing_first p)
         (if t then record c { phase = Link } else after_link plan (link_of plan.link) c)
     by true = record {
@@ -245,6 +262,7 @@ flown_matches : (plan : Plan) (room : ℕ) (p : RunState) (c : Course) → p.pha
 flown_matches plan room p c phase a h = subst (λ (t : Bool). Matches plan room (if t then sources_left p else p) (sourced plan c))
     (sym (ap (λ f. nat_eq f.unended 0) a.fleet)) (by (nat_eq c.fleet.unended 0))
   where
+    -- Plan: by whether all sources have ended, and then (`left_by`) by whether all codes are 0: the link begins, or the removals.
     ran : (l : Option Job) (t : Bool) → nat_eq (run_code c.events) 0 ≡ t → t ≡ true → link_by l (run_code c.events) ≡ link_of l
     ran None t e is = refl
     ran (Some job) t e is = ap (λ (u : Bool). if u then job else no_job) (e ∙ is)
@@ -322,6 +340,7 @@ fresh_matches plan N room = flown_matches plan room (first_run plan N room)
     })
     (record { link = refl; linked = refl; gone = ap (λ n. replicate n false) (many_lefts (all_files plan)); unclaimed = refl })
   where
+    -- Plan: no claim is counted: the code's list of counts is zeros (`nothing`), as the tally of no events is.
     sizes : length {A = ℕ} (replicate (length plan.jobs) 0 ++ 0 ∷ []) ≡ length plan.jobs + 1
     sizes =
         let len : length {A = ℕ} (replicate (length plan.jobs) 0 ++ 0 ∷ []) ≡ length {A = ℕ} (replicate (length plan.jobs) 0) + 1 =
@@ -362,6 +381,7 @@ pub same_next : (plan : Plan) (N room : ℕ) (p : RunState) (c : Course) → Hol
     → next_of plan p ≡ asked_by plan c
 same_next plan N room p c h m = ap (λ q. asked_in q plan p) m.phase ∙ by c.phase h m.here
   where
+    -- Plan: by the phase.
     by : (q : Phase) → HoldsAt plan N q c → InPhase q plan p c → asked_in q plan p ≡ asked_at plan q c
     by Sources held here = ap (λ f. asked_of plan.jobs f) m.alike.fleet
     by Link held here = ap (λ l. link_asks (length plan.jobs) l p.link) held.is ∙ ap (λ s. asks (length plan.jobs) held.job s) here.stage
@@ -387,6 +407,7 @@ noted_claim x (place.Temp k i) (answer.Claim claim.Taken) = record { files = ref
 noted_claim x (place.Temp k i) (answer.Claim claim.Failed) = record { files = refl; gone = refl; many = refl; linked = refl }
 noted_claim x p a = record { files = refl; gone = refl; many = refl; linked = refl }
 
+-- a claim that succeeds is noted, and no other answer changes what is noted
 noted : (x : Leftovers) (s : Step) (a : Answer) → Noted x (noting x s a)
 noted x (step.Claim p) a = noted_claim x p a
 noted x s a = record { files = refl; gone = refl; many = refl; linked = refl }
@@ -408,14 +429,17 @@ kept_alike plan room p c s a kind l = record {
     max_zero : (n : ℕ) → max n 0 ≡ n
     max_zero n = omega arith
 
+-- a removal counts no claim
 removes_quiet : (due : List File) (s : Step) (a : Answer) (x : Leftovers) → removes due ≡ Some s → noting x s a ≡ x
 removes_quiet [] s a x e = absurd cc
 removes_quiet (f ∷ fs) s a x e = subst (λ t. noting x t a ≡ x) (ap asked e) refl
 
+-- nor does a report
 reports_quiet : (due : List File) (s : Step) (a : Answer) (x : Leftovers) → reports due ≡ Some s → noting x s a ≡ x
 reports_quiet [] s a x e = absurd cc
 reports_quiet (f ∷ fs) s a x e = subst (λ t. noting x t a ≡ x) (ap asked e) refl
 
+-- an answer to the link's step leaves the room as it was
 room_after : (l : Option Job) (w : SourceState) (a : Answer) → (link_after l w a).room ≡ w.room
 room_after None w a = refl
 room_after (Some job) w a = refl
@@ -426,6 +450,8 @@ pub step_matches : (plan : Plan) (N room : ℕ) (p : RunState) (c : Course) (s :
 step_matches plan N room p c s a h m is kind = subst (λ q. Matches plan room (moved_in q plan (kept p s a) a) (stepped plan c s a))
     (sym m.phase) (by c.phase m.phase h m.here is)
   where
+    -- Plan: by the phase: the answer changes the sources, the link, or the file to be removed, on both sides alike; `unclaimed` and
+    -- `in_sources` say that before the link no claim of it is counted.
     l : Alike plan room (kept p s a) (record c { events = c.events ++ event s a ∷ [] })
     l = kept_alike plan room p c s a kind m.alike
 

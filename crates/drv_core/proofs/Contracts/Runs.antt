@@ -30,6 +30,11 @@ use Rattle.std.specs.Vec.{vec_capacity}
 
 -- For the clauses of `Run`: each follows from what is known of the run (`Stands`). A `CodeRun` is the type of the code, `Run` what a caller
 -- sees of it.
+-- Names: `plan` is the plan of the run: the jobs of its sources, and perhaps a link. `N` is the window: at most so many sources have begun
+-- and not ended. `a` is the answer to the step. `w` is the run of the code before, `v` after. `r` is what a caller sees of it. `s` is a
+-- step. `o` is the next step, if there is one. `i` is the number of a choice. `n` is the exit status, or a number of choices. `pass_codes`
+-- says how the codes of a run make its status. `next_of` is the step that the code asks for. `Windowed plan N o E` says that E is a whole
+-- run with these answers.
 
 -- what the code relies on: each index is in its list
 pub is_ready : (plan : Plan) (w : CodeRun) → Stands plan w → Ready plan (run_state_of w)
@@ -56,6 +61,7 @@ pub window_kept : (plan : Plan) (w v : CodeRun) (s : Step) (a : Answer) → Stan
     → is_kind s a ≡ true → run_state_of v ≡ moved plan (run_state_of w) s a → v.fleet.window ≡ w.fleet.window
 window_kept plan w v s a k is kind e = (answer_stands plan (run_state_of w) (run_state_of v) s a k is kind e).1
 
+-- the step of an option, or else this one
 abbrev step_of : Option Step → Step → Step
 step_of None s = s
 step_of (Some t) s = t
@@ -85,7 +91,9 @@ no_events plan w N e = ap (λ p. p.events) e ∙ fresh_events plan N (vec_capaci
 
 -- what is known of the result of `next`
 
--- the clauses of `next`: what it answers, that the events are the beginning or the whole of a run, and what each case says
+-- The clauses of `next`: what it answers, that the events are the beginning or the whole of a run, and what each case says. `possible` says
+-- that the step can be made. `bound` and `fewer` say that there are at most as many events as the plan needs. `unfinished` and `whole` say
+-- that there is a step exactly while the run is not whole. `pipe` says that no pipe is pending at the end.
 pub record Known (r : Run) (a : Action) : Type 0 where
   pub action : a ≡ r.action
   pub beginning : IsBeginning r.plan r.window r.events
@@ -102,6 +110,7 @@ known_at : (plan : Plan) (pass_codes : FailureStatus) (p : RunState) → Kept pl
     → Known (run_at plan pass_codes p) (run_at plan pass_codes p).action
 known_at plan pass_codes p k = by (next_of plan p) refl
   where
+    -- Plan: by whether there is a next step: the clauses of a step, or those of the end.
     N : ℕ
     N = p.fleet.window
 
@@ -145,13 +154,14 @@ kind_of plan pass_codes w r a e f s is = fits_kind w.events.items s a
     (subst (λ o. IfMake (action_of o (status_from pass_codes w.code)) (λ step. fits w.events.items step a ≡ true)) is
     (subst (λ x. IfMake x.action (λ step. fits x.events step a ≡ true)) (sym e) f))
 
--- an answer adds its event
+-- the clause of `answer`: the run has the event of the answer at its end
 pub answered : (plan : Plan) (pass_codes : FailureStatus) (w v : CodeRun) (r : Run) (a : Answer) → run_of plan pass_codes w ≡ r
     → ((s : Step) → next_of plan (run_state_of w) ≡ Some s → run_state_of v ≡ moved plan (run_state_of w) s a)
     → IfMake r.action (λ step. v.events.items ≡ r.events ++ event step a ∷ [])
 answered plan pass_codes w v r a e moves = subst (λ x. IfMake x.action (λ step. v.events.items ≡ x.events ++ event step a ∷ [])) e
     (by (next_of plan (run_state_of w)) refl)
   where
+    -- Plan: by whether there is a next step; without one there is no answer.
     by : (o : Option Step) → next_of plan (run_state_of w) ≡ o
         → IfMake (action_of (next_of plan (run_state_of w)) (status_from pass_codes w.code)) (λ step. v.events.items ≡ w.events.items
         ++ event step a ∷ [])
@@ -162,6 +172,7 @@ answered plan pass_codes w v r a e moves = subst (λ x. IfMake x.action (λ step
 
 -- without a choice
 
+-- the step in the action that is made of a next step is that next step
 step_back : (o : Option Step) (n : ℕ) → step_in (action_of o n) ≡ o
 step_back None n = refl
 step_back (Some s) n = refl
@@ -201,6 +212,7 @@ pub status_there : (plan : Plan) (pass_codes : FailureStatus) (w : CodeRun) (r :
     → IfMake r.action (λ step. ⊥) → n ≡ status_from pass_codes w.code → r.action ≡ action.Done n
 status_there plan pass_codes w r n e done is = subst (λ x. x.action ≡ action.Done n) e (by (next_of plan (run_state_of w)) refl)
   where
+    -- Plan: by whether there is a next step: then the action is no status (`over`).
     over : IfMake (run_of plan pass_codes w).action (λ step. ⊥)
     over = subst (λ x. IfMake x.action (λ step. ⊥)) (sym e) done
 
@@ -251,14 +263,14 @@ turned_next plan pass_codes w v r i k e h is = subst (λ x. (b : BetweenBlocks x
     (chosen_next plan w.fleet.window (run_state_of w) i k (choice_below plan w.fleet.window (run_state_of w) i k
     (choice_of plan pass_codes w r i e h)) b))
 
--- elsewhere a choice changes nothing
+-- the clause of `choose`: elsewhere than between blocks a choice changes nothing
 pub turned_elsewhere : (plan : Plan) (pass_codes : FailureStatus) (w v : CodeRun) (r : Run) (i : ℕ) → Stands plan w
     → run_of plan pass_codes w ≡ r → run_state_of v ≡ choosing plan (run_state_of w) i → (BetweenBlocks r.plan r.window r.events → ⊥)
     → run_of plan pass_codes v ≡ r
 turned_elsewhere plan pass_codes w v r i k e is none = ap (λ p. run_at plan pass_codes p) (is ∙ chosen_elsewhere plan w.fleet.window
     (run_state_of w) i k (subst (λ x. BetweenBlocks x.plan x.window x.events → ⊥) (sym e) none)) ∙ e
 
--- a choice adds no event
+-- the clause of `choose`: a choice adds no event
 pub turned_events : (plan : Plan) (pass_codes : FailureStatus) (w v : CodeRun) (r : Run) (i : ℕ) → run_of plan pass_codes w ≡ r
     → run_state_of v ≡ choosing plan (run_state_of w) i → v.events.items ≡ r.events
 turned_events plan pass_codes w v r i e is = ap (λ p. p.events) is ∙ choosing_events plan (run_state_of w) i ∙ ap (λ x. x.events) e

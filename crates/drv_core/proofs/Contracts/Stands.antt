@@ -39,6 +39,11 @@ use Rattle.std.proofs.lemmas.List.{get_or_past}
 
 -- For the clauses of `Run`: what is known of every run, and what follows from it. `Kept` says that a position of the code was reached by
 -- answers that fit and by choices; so there is a `Course` that matches it (`stands`), and each clause is a fact of that course.
+-- Names: `plan` is the plan of the run: the jobs of its sources, and perhaps a link. `N` is the window: at most so many sources have begun
+-- and not ended. `p` is the run as the code keeps it. `a` is the answer to the step. `s` is a step. `room` is the room for events.
+-- `next_of` is the step that the code asks for. `between_blocks` says whether another source may be chosen. `left` says whether a source at
+-- this stage has more to do. `has k bs` says whether source k has a block among `bs`. `Filled` says that no group of a job is empty.
+-- `no_job` is a job without commands. `stage_in f k` is the stage of source k.
 
 -- there is a course that matches the code's position, and what is known of it
 pub record Stands (plan : Plan) (N room : ℕ) (p : RunState) : Type 0 where
@@ -46,6 +51,7 @@ pub record Stands (plan : Plan) (N room : ℕ) (p : RunState) : Type 0 where
   pub holds : Holds plan N c
   pub match : Matches plan room p c
 
+-- a job without commands has no empty group
 filled_none : Filled no_job
 filled_none g lt = absurd (let no : g < 0 = lt in omega (arith, no))
 
@@ -78,6 +84,8 @@ chosen : (plan : Plan) (N room : ℕ) (p : RunState) (k : ℕ) → Stands plan N
     → Stands plan N room (choosing plan p k)
 chosen plan N room p k t lt = by (between_blocks p.phase p.fleet) refl lt
   where
+    -- Plan: `alike`: after the choice the code and the course have the same source in progress. `by`: elsewhere than between blocks,
+    -- nothing changes.
     b : between_blocks p.phase p.fleet ≡ true → between_blocks t.c.phase t.c.fleet ≡ true
     b e = ap (λ q. between_blocks q t.c.fleet) (sym t.match.phase) ∙ ap (λ f. between_blocks p.phase f) (sym t.match.alike.fleet) ∙ e
 
@@ -120,9 +128,11 @@ stands plan N room p some filled (after_answer q s a r is kind) = answered plan 
     (stands plan N room q some filled r) is kind
 stands plan N room p some filled (after_choice q k r lt) = chosen plan N room q k (stands plan N room q some filled r) lt
 
+-- in a plan that a run keeps no group is empty
 filled_of : (plan : Plan) (N : ℕ) (p : RunState) → Kept plan N p → FilledPlan plan
 filled_of plan N p k = filled_plan plan k.jobs k.link
 
+-- a kept run has a course that matches it
 stands_at : (plan : Plan) (N : ℕ) (p : RunState) → Kept plan N p → Stands plan N p.room p
 stands_at plan N p k = stands plan N p.room p k.some (filled_of plan N p k) k.reached
 
@@ -145,6 +155,7 @@ pub answer_kept : (plan : Plan) (N : ℕ) (p q : RunState) (s : Step) (a : Answe
 answer_kept plan N p q s a k is kind to = subst (λ r. Kept plan N r) (sym to)
     (by (answered plan N p.room p s a k.some (filled_of plan N p k) (stands_at plan N p k) is kind))
   where
+    -- Plan: the position after the answer has a course that matches it, so it is kept.
     by : Stands plan N p.room (moved plan p s a) → Kept plan N (moved plan p s a)
     by t = record {
       some = k.some;
@@ -159,6 +170,7 @@ pub choice_kept : (plan : Plan) (N : ℕ) (p q : RunState) (i : ℕ) → Kept pl
     → Kept plan N q
 choice_kept plan N p q i k lt to = subst (λ r. Kept plan N r) (sym to) (by (chosen plan N p.room p i (stands_at plan N p k) lt))
   where
+    -- Plan: the position after the choice has a course that matches it, so it is kept.
     by : Stands plan N p.room (choosing plan p i) → Kept plan N (choosing plan p i)
     by t = record {
       some = k.some;
@@ -217,6 +229,7 @@ fleet_ready plan N most f c s = record {
 pub ready : (plan : Plan) (N : ℕ) (p : RunState) → Kept plan N p → Ready plan p
 ready plan N p k = subst (λ q. ReadyIn q plan p) (sym t.match.phase) (by t.c.phase t.holds t.match.here)
   where
+    -- Plan: by the phase of the course that matches the position.
     t : Stands plan N p.room p
     t = stands_at plan N p k
 
@@ -232,6 +245,7 @@ ready plan N p k = subst (λ q. ReadyIn q plan p) (sym t.match.phase) (by t.c.ph
 pub few : (plan : Plan) (N : ℕ) (p : RunState) → Kept plan N p → (i : ℕ) → get_or p.leftovers.claimed i 0 ≤ length p.events
 few plan N p k i = by (nat_lt (length plan.jobs) i) refl
   where
+    -- Plan: the count of the link is that of its own claims, and each is an event; the others are those of the sources.
     t : Stands plan N p.room p
     t = stands_at plan N p k
 

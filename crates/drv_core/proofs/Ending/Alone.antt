@@ -16,8 +16,14 @@ use Rattle.std.proofs.Common.{sym, zero, ℕ}
 
 -- For the link, which runs alone: after each event, the events so far are the beginning of the link's story. (`Alone` is for one job what
 -- `Running` is for the sources.)
+-- Names: `E` is the events so far. `job` is the job of the source (or of the link) at hand. `k` is the number of a job in the plan. `s` is
+-- a source's stage before. `t` is the value of a test, so that `by` can go by both cases. `events_of` lists the events of blocks.
+-- `open_of k job s` is the events so far of the block that is open at stage s. `begin job` is a job's first stage. `asks k job s` is the
+-- next step of a job at this stage. `asked` takes a step out of its option. `after job s a` is the stage after the answer. `inside` says
+-- whether a block is open at this stage.
 
--- the events so far are whole blocks of the job, and the open one, up to stage s
+-- The events so far are whole blocks of the job, and the open one, up to stage s. `path` leads through the `blocks` to the stage at which
+-- the open block began. `valid` says that stage s is one of the job.
 pub record Alone (k : ℕ) (job : Job) (s : Stage) (E : List RunEvent) : Type 0 where
   pub blocks : List Block
   pub path : Path k job (begin job) blocks (base s)
@@ -50,11 +56,12 @@ alone_first k job filled = record {
   valid = valid_begin job filled;
 }
 
--- an answer that fits adds one
+-- after an answer that fits, what is known of the link's events holds with one event more
 pub alone_more : (k : ℕ) (job : Job) (s : Stage) (E : List RunEvent) (a : Answer) → Filled job → Alone k job s E → left s ≡ true
     → is_kind (asked (asks k job s)) a ≡ true → Alone k job (after job s a) (E ++ event (asked (asks k job s)) a ∷ [])
 alone_more k job s E a filled r more fit = by (inside (after job s a)) refl (one_step k job s a r.valid more fit)
   where
+    -- Plan: by whether a block is open after the answer: it goes on, or becomes the last whole block.
     regroup : E ++ event (asked (asks k job s)) a ∷ [] ≡ events_of r.blocks ++ (open_of k job s ++ event (asked (asks k job s)) a ∷ [])
     regroup = ap (λ l. l ++ event (asked (asks k job s)) a ∷ []) r.events ∙ append_assoc (events_of r.blocks) (open_of k job s)
         (event (asked (asks k job s)) a ∷ [])
@@ -96,7 +103,7 @@ alone_ran k job E r =
 
 -- before the end the events are the beginning of a story
 
--- the events begin the story of complete answers
+-- The events begin the story of complete answers. `rest` is the events that are missing.
 pub record AloneBegins (k : ℕ) (job : Job) (E : List RunEvent) : Type 0 where
   pub a : JobAnswers
   pub all : whole_job job a ≡ true
@@ -115,6 +122,7 @@ leads (suc fuel) k job bs s p lt = by (left s) refl
     (λ f. leads fuel k job (bs ++ f.b ∷ []) f.m (path_more k job (begin job) bs s f.b f.m p f.one)
     (let nearer = f.nearer in omega (arith, nearer)))
   where
+    -- Plan: by whether the stage has more to do: then the block that ends it at once is added, else the path is whole.
     by : (t : Bool) → left s ≡ t → ((f : Fails k job s) → Leads k job (bs ++ f.b ∷ [])) → Leads k job bs
     by true e go =
         let f : Fails k job s = fails k job s (path_even k job (begin job) bs s (begins job).sound p).sound e in
@@ -129,6 +137,7 @@ leads (suc fuel) k job bs s p lt = by (left s) refl
 pub alone_begins : (k : ℕ) (job : Job) (s : Stage) (E : List RunEvent) → Alone k job s E → AloneBegins k job E
 alone_begins k job s E r = by (inside s) refl
   where
+    -- Plan: between blocks the rest of a story exists (`out`). Inside one, the open block is ended first (`closed`).
     out : inside s ≡ false → Leads k job r.blocks → AloneBegins k job E
     out e l = record {
       a = l.told.a;

@@ -37,6 +37,13 @@ use Rattle.std.specs.Option.{option_to_list}
 
 -- For the end of `Run`: the removals, step by step. `Holds` is what is known of a course in each phase: the sources (`Sure`), the link
 -- (`AtLink`), the removals and their reports (`AtEnd`), and the end (`AtDone`). The lemmas keep it from the end of the link on.
+-- Names: `plan` is the plan of the run: the jobs of its sources, and perhaps a link. `N` is the window: at most so many sources have begun
+-- and not ended. `E` is the events so far. `c` is the same run without the code's types. `job` is the job of the source (or of the link) at
+-- hand. `j` is the number of any source. `t` is the value of a test, so that `by` can go by both cases. `i` is the number of the file that
+-- is removed next. `l` and `due` are files to be removed. `failed` says whether the removal of file i failed, so that its report comes
+-- next. `claimed` gives the number of claims of each job. `no_job` is a job without commands. `files_from` is the leftover files of jobs.
+-- `due_files` is the files to be removed at the end, by the counts of claims. `tally k E` is how many temporaries of job k were claimed.
+-- `link_by` is the link's job if all codes so far are 0. `run_code` is the greatest code of events.
 
 -- the most events of the sources
 abbrev pub most_of : Plan → ℕ
@@ -46,7 +53,9 @@ most_of plan = to_come plan.jobs (λ j. begin (get_or plan.jobs j no_job))
 abbrev pub end_files : (plan : Plan) (N i : ℕ) (failed : Bool) (E : List RunEvent) → Ending plan N i failed E → List File
 end_files plan N i failed E e = removed_at_end plan (answers e.ran.run.answers e.link.a [])
 
--- i files are removed, and the next one is to be removed; `failed`: its removal has failed, and is to be reported
+-- i files are removed, and the next one is to be removed; `failed`: its removal has failed, and is to be reported. `ending` splits the
+-- events. `due_is` gives the files that the course still removes, and `some` says that there is one. No `pipe` is pending. `bound` leaves
+-- two events for each of these files: its removal, and a report.
 pub record AtEnd (plan : Plan) (N : ℕ) (failed : Bool) (c : Course) : Type 0 where
   pub i : ℕ
   pub ending : Ending plan N i failed c.events
@@ -55,7 +64,8 @@ pub record AtEnd (plan : Plan) (N : ℕ) (failed : Bool) (c : Course) : Type 0 w
   pub pipe : pipe_pending c.events ≡ false
   pub bound : length c.events + 2 * (length (end_files plan N i failed c.events ending) - i) ≤ needed plan + (if failed then 1 else 0)
 
--- all files are removed
+-- All files are removed, so the events are a whole run. `ending` splits the events, and `all` says that no file is left. No `pipe` is
+-- pending. `bound` says that there are at most as many events as the plan needs.
 pub record AtDone (plan : Plan) (N : ℕ) (c : Course) : Type 0 where
   pub i : ℕ
   pub ending : Ending plan N i false c.events
@@ -88,6 +98,7 @@ pub removing_holds : (plan : Plan) (N i : ℕ) (c : Course) (due : List File) �
     → length c.events + 2 * (length (end_files plan N i false c.events e) - i) ≤ needed plan → Holds plan N (removing c due)
 removing_holds plan N i c due e is within pipe bound = by due is
   where
+    -- Plan: by whether a file is left: then it is removed next, else the run is at its end.
     by : (fs : List File) → fs ≡ drop i (end_files plan N i false c.events e)
         → HoldsAt plan N (if none fs then Done else Removals) (record c { phase = if none fs then Done else Removals; due = fs })
     by [] d = record {
@@ -131,6 +142,7 @@ pub link_ends : (plan : Plan) (N : ℕ) (c : Course) (job : Job) → plan.link �
 link_ends plan N c job is k = removing_holds plan N 0 c (due_files plan job (λ j. tally j c.events))
     (end_of_link plan N (most_of plan + first_cost job) job c.events k) (sym files) (omega arith) k.pipe bound
   where
+    -- Plan: the files to be removed are those of the plan whose link ran (`files`), and there is room for their events (`bound`).
     link : link_by plan.link (run_code k.sources) ≡ job
     link = sym (link_is plan N k.sources k.ran) ∙ k.runs
 
@@ -158,6 +170,7 @@ pub sources_end : (plan : Plan) (N : ℕ) (c : Course) → Over plan.jobs N (mos
 sources_end plan N c o none_runs = removing_holds plan N 0 c (due_files plan no_job (λ j. tally j c.events))
     (end_of_sources plan N (most_of plan) c.fleet c.events o none_runs) (sym files) (omega arith) o.pipe bound
   where
+    -- Plan: as in `link_ends`, with no link.
     files : end_files plan N 0 false c.events (end_of_sources plan N (most_of plan) c.fleet c.events o none_runs) ≡ due_files plan no_job
         (λ j. tally j c.events)
     files = files_are plan N 0 false c.events (end_of_sources plan N (most_of plan) c.fleet c.events o none_runs)
@@ -177,9 +190,11 @@ sources_end plan N c o none_runs = removing_holds plan N 0 c (due_files plan no_
 
 -- one removal or its report
 
+-- of the files that are due, the next is the i-th of the list
 next_due : (files due : List File) (i : ℕ) → due ≡ drop i files → i < length files → due ≡ file_at files i ∷ drop (i + 1) files
 next_due files due i is lt = is ∙ drop_more files i no_file lt
 
+-- and the others come after it
 rest_due : (files due : List File) (i : ℕ) → due ≡ drop i files → i < length files → drop 1 due ≡ drop (i + 1) files
 rest_due files due i is lt = ap (λ l. drop 1 l) (next_due files due i is lt)
 
@@ -202,6 +217,7 @@ quiet_remove : (E : List RunEvent) (p : Place) (x : RemoveAnswer) → pipe_pendi
     → pipe_pending (E ++ event (step.Remove p) (answer.Remove x) ∷ []) ≡ false
 quiet_remove E p x e = pending_append false E (event (step.Remove p) (answer.Remove x)) ∙ e
 
+-- a report leaves no pipe pending
 quiet_report : (E : List RunEvent) (n : Note) (t : Bool) → pipe_pending E ≡ false → pipe_pending (E ++ report n t ∷ []) ≡ false
 quiet_report E n t e = pending_append false E (report n t) ∙ e
 
@@ -270,6 +286,7 @@ all_at plan [] i a lt = absurd (omega arith)
 all_at plan (f ∷ fs) zero a lt = a.0
 all_at plan (f ∷ fs) (suc i) a lt = all_at plan fs i a.1 (omega arith)
 
+-- where the plan has a link, a number finds the same job with it as in the list with the link at its end
 job_there : (plan : Plan) (job : Job) → plan.link ≡ Some job → (j : ℕ) → job_at plan j ≡ get_or (plan.jobs ++ job ∷ []) j no_job
 job_there plan job is j = ap (λ l. get_or (plan.jobs ++ option_to_list l) j no_job) is
 
@@ -290,6 +307,7 @@ padded (job ∷ jobs) (suc i) le = padded jobs i (omega arith)
 no_link_all : (plan : Plan) (claimed : ℕ → ℕ) → AllFiles plan (due_files plan no_job claimed)
 no_link_all plan claimed = due_all plan no_job claimed (λ j lt. by j (nat_lt j (length plan.jobs)) refl)
   where
+    -- Plan: by whether the number is that of a source; a job without commands has no due file (`none_due`).
     none_due : (k n : ℕ) → AllFiles plan (due_of_job k no_job n)
     none_due k n = tt
 
@@ -306,6 +324,7 @@ no_link_all plan claimed = due_all plan no_job claimed (λ j lt. by j (nat_lt j 
 by_link : (plan : Plan) (code : ℕ) (claimed : ℕ → ℕ) → AllFiles plan (due_files plan (link_by plan.link code) claimed)
 by_link plan code claimed = by plan.link refl
   where
+    -- Plan: by whether the plan has a link, and then (`runs`) by whether it runs.
     runs : (job : Job) → plan.link ≡ Some job → (t : Bool) → AllFiles plan (due_files plan (if t then job else no_job) claimed)
     runs job is true = link_all plan job claimed is
     runs job is false = no_link_all plan claimed

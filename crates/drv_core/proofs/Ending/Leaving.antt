@@ -24,6 +24,10 @@ use Rattle.std.specs.Prelude.{replicate}
 
 -- For the end of `Run`: the code removes the files that are to be removed. Of all leftover files (`files_from`) its flags leave those of
 -- `due_files`: the claimed temporaries and the marked files, each path once.
+-- Names: `plan` is the plan of the run: the jobs of its sources, and perhaps a link. `x` is the leftover files, with what the code counts
+-- and marks of them. `job` is the job of the source (or of the link) at hand. `k` is the number of a job in the plan. `t` is the value of a
+-- test, so that `by` can go by both cases. `files_from` is the leftover files of jobs. `tally k E` is how many temporaries of job k were
+-- claimed.
 
 -- the link's job, by whether the code has noted that the link was run
 pub data LinkNoted (plan : Plan) (x : Leftovers) : Job → Type 0 where
@@ -51,6 +55,7 @@ link_due : (plan : Plan) (x : Leftovers) (job : Job) (k : ℕ) → k ≡ length 
     → filter (left_file x.claimed x.sources x.linked) (files_from k (option_to_list plan.link)) ≡ due_of_job k job (get_or x.claimed k 0)
 link_due plan x job k at many (was_run run) = by plan.link
   where
+    -- Plan: by whether the plan has a link, which was run.
     by : (l : Option Job) → filter (left_file x.claimed x.sources x.linked) (files_from k (option_to_list l)) ≡ due_of_job k (link_of l)
         (get_or x.claimed k 0)
     by None = refl
@@ -62,6 +67,7 @@ link_due plan x job k at many (was_run run) = by plan.link
         last false = refl
 link_due plan x job k at many (was_not_run run nothing) = by plan.link
   where
+    -- Plan: by whether the plan has a link; it was not run, so none of its files is left (`past`).
     past : (nat_lt k x.sources || x.linked) ≡ false
     past = ap (λ (t : Bool). t || x.linked) (not_less k x.sources (omega (arith, at, many))) ∙ run
 

@@ -34,8 +34,17 @@ use Rattle.std.specs.Option.{option_to_list}
 
 -- For the link in `Run`: after the sources each step can be made, and uses up one of the events that can come. `Linking` is what is known
 -- while it runs, `Ending` while files are removed after it.
+-- Names: `plan` is the plan of the run: the jobs of its sources, and perhaps a link. `N` is the window: at most so many sources have begun
+-- and not ended. `most` is the room for events: at most so many come. `E` is the events so far. `f` is all sources as the code keeps them.
+-- `job` is the job of the source (or of the link) at hand. `s` is a source's stage before. `t` is the value of a test, so that `by` can go
+-- by both cases. `i` is the number of a file to be removed. `failed` says whether its removal failed. `tally k E` is how many temporaries
+-- of job k were claimed. `asks k job s` is the next step of a job at this stage. `asked` takes a step out of its option. `removed_at_end`
+-- is the files that are removed at the end. `claimed_count` is how many claims succeeded. `link_run` is the link's job, if every source
+-- succeeded. `no_job` is a job without commands.
 
--- the link is at stage s, after the events of the sources and some of its own
+-- The link is at stage s, after the events of the sources and some of its own. The events are those of the `sources`, which are a whole run
+-- (`ran`), followed by the link's `own` (`split`), which are `alone` a beginning of its story. `runs` says that the link has this job after
+-- the answers of the sources. `opens`, `sized`, `pipe` and `bound` say of the link what `Sure` says of the sources.
 pub record Linking (plan : Plan) (N most : ℕ) (job : Job) (s : Stage) (E : List RunEvent) : Type 0 where
   pub sources : List RunEvent
   pub own : List RunEvent
@@ -90,6 +99,7 @@ link_takes plan N most job s E a filled k more kind = record {
       let le = k.bound in omega (arith, less, len, le));
 }
 
+-- the job whose number is that of the sources is the link
 link_job : (plan : Plan) (job : Job) → plan.link ≡ Some job → job_at plan (length plan.jobs) ≡ job
 link_job plan job is = ap (λ l. get_or (plan.jobs ++ option_to_list l) (length plan.jobs) no_job) is
     ∙ get_or-append_seam plan.jobs job [] no_job
@@ -127,7 +137,9 @@ link_begins plan N most job s E k = subst (λ l. IsBeginning plan N l) (sym k.sp
 
 -- The removals at the end: i of them are made, and `failed` says whether the next one has failed.
 
--- the sources and the link are done, and of the files to be removed i are removed; `failed`: the next one's removal has failed
+-- The sources and the link are done, and of the files to be removed i are removed; `failed`: the next one's removal has failed. The events
+-- are those of the `sources`, then the link's `own`, then the `last` ones, which are removals (`split`). `ran`, `link` and `removing` say
+-- that each part is complete, or is one up to here.
 pub record Ending (plan : Plan) (N i : ℕ) (failed : Bool) (E : List RunEvent) : Type 0 where
   pub sources : List RunEvent
   pub own : List RunEvent
@@ -188,6 +200,8 @@ pub files_are : (plan : Plan) (N i : ℕ) (failed : Bool) (E : List RunEvent) �
 files_are plan N i failed E e = due_at_end plan (answers e.ran.run.answers e.link.a []) (λ k. tally k (e.sources ++ e.own)) e.ran.run.all
     e.link.all (λ j lt. counted j lt) last ∙ ap (λ j. due_files plan j (λ k. tally k (e.sources ++ e.own))) (link_is plan N e.sources e.ran)
   where
+    -- Plan: what was claimed is counted by the events of the sources and of the link together (`both`), and these counts are those of the
+    -- answers (`counted`, `last`).
     both : (k : ℕ) → tally k (e.sources ++ e.own) ≡ tally k e.sources + tally k e.own
     both k = total_append (claims_in k) e.sources e.own
 

@@ -18,6 +18,11 @@ use Rattle.std.specs.Prelude.{⊤, slice_set}
 -- For the end of `Run`: of the leftover files, the code removes those that are to be removed at the end. It keeps a number for each path
 -- (that of its first file) and a flag for each number (`gone`), where the definition keeps a list of the paths that it has seen; `once_is`
 -- says that both leave the same files.
+-- Names: `x` is the leftover files, with what the code counts and marks of them. `k` is the number of a job in the plan. `t` is the value
+-- of a test, so that `by` can go by both cases. `i` is the index of a file. `ls` is the leftover files from that one on. `claimed` is the
+-- code's counts of claims, one for each job. `sources` is the number of sources. `linked` says whether the link runs. `f` is a file. `fs`
+-- is files. `seen` is the paths that were seen. `each_once` keeps each path once, at its first place. `sought` is the code's search for the
+-- next file to be removed.
 
 -- the code finds the next file
 
@@ -34,6 +39,7 @@ record FoundBy (x : Leftovers) (i : ℕ) (l : Leftover) (ls : List Leftover) (t 
       (drop (at + 1) x.files)
   none_due : length x.files ≤ at → (if t then l.place ∷ to_remove x (slice_set x.gone l.first true) ls else to_remove x x.gone ls) ≡ []
 
+-- the search finds the file at its head, or goes on
 known : (x : Leftovers) (i : ℕ) (l : Leftover) (ls : List Leftover)
     → FoundBy x i l ls (is_due x x.gone l) (if is_due x x.gone l then i else sought x (i + 1) ls) → Found x (l ∷ ls) (sought x i (l ∷ ls))
 known x i l ls f = record { due = f.due; none_due = f.none_due }
@@ -47,6 +53,7 @@ found x i [] is = record {
 }
 found x i (l ∷ ls) is = known x i l ls (by (is_due x x.gone l) (found x (i + 1) ls rest))
   where
+    -- Plan: by whether the file at index i is due: it is found, or the search goes on behind it.
     within : i < length x.files
     within =
         let len = length-drop i x.files in
@@ -74,6 +81,7 @@ found x i (l ∷ ls) is = known x i l ls (by (is_due x x.gone l) (found x (i + 1
 
 -- the files of a job that are due are those that are removed at the end
 
+-- nothing is taken of no files
 take_none : (n : ℕ) → take {A = File} n [] ≡ []
 take_none zero = refl
 take_none (suc n) = refl
@@ -88,6 +96,7 @@ temps_due : (claimed : List ℕ) (sources : ℕ) (linked : Bool) (k i : ℕ) (ts
 temps_due claimed sources linked k i [] = sym (take_none (get_or claimed k 0 - i))
 temps_due claimed sources linked k i (t ∷ ts) = by (nat_lt i (get_or claimed k 0)) refl (temps_due claimed sources linked k (i + 1) ts)
   where
+    -- Plan: by whether temporary i was claimed: with it the earlier ones were, and without it none of the later ones.
     by : (u : Bool) → nat_lt i (get_or claimed k 0) ≡ u → filter (left_file claimed sources linked) (temp_files k (i + 1) ts)
         ≡ take (get_or claimed k 0 - (i + 1)) (temp_files k (i + 1) ts)
         → (if u then record { place = place.Temp k i; path = t.path } ∷ filter (left_file claimed sources linked)
@@ -124,6 +133,7 @@ pub job_due : (claimed : List ℕ) (sources : ℕ) (linked : Bool) (k : ℕ) (jo
     → filter (left_file claimed sources linked) (job_files k job) ≡ due_of_job k job (get_or claimed k 0)
 job_due claimed sources linked k job ran = by (none job.groups)
   where
+    -- Plan: a job without commands has no files; of another one the claimed temporaries and all marked files are due.
     both : filter (left_file claimed sources linked) (temp_files k 0 job.temps ++ marked_files k 0 job.marked) ≡ take (get_or claimed k 0)
         (temp_files k 0 job.temps) ++ marked_files k 0 job.marked
     both = filter-append (left_file claimed sources linked) (temp_files k 0 job.temps) (marked_files k 0 job.marked)
@@ -143,6 +153,7 @@ pub job_not_due : (claimed : List ℕ) (sources : ℕ) (linked : Bool) (k : ℕ)
     → get_or claimed k 0 ≡ 0 → filter (left_file claimed sources linked) (job_files k job) ≡ []
 job_not_due claimed sources linked k job ran nothing = by (none job.groups)
   where
+    -- Plan: neither a temporary nor a marked file of it is left (`both`); a job without commands has none anyway.
     both : filter (left_file claimed sources linked) (temp_files k 0 job.temps ++ marked_files k 0 job.marked) ≡ []
     both = filter-append (left_file claimed sources linked) (temp_files k 0 job.temps) (marked_files k 0 job.marked)
         ∙ ap (λ l. l ++ filter (left_file claimed sources linked) (marked_files k 0 job.marked))
@@ -162,10 +173,12 @@ abbrev pub Each : (File → Type 0) → List File → Type 0
 Each P [] = ⊤
 Each P (f ∷ fs) = P f × Each P fs
 
+-- what holds of each file, and follows from it, holds of each
 each_more : (P Q : File → Type 0) → ((f : File) → P f → Q f) → (fs : List File) → Each P fs → Each Q fs
 each_more P Q h [] e = tt
 each_more P Q h (f ∷ fs) e = (h f e.0, each_more P Q h fs e.1)
 
+-- the same, of two such facts
 each_two : (P Q R : File → Type 0) → ((f : File) → P f → Q f → R f) → (fs : List File) → Each P fs → Each Q fs → Each R fs
 each_two P Q R h [] p q = tt
 each_two P Q R h (f ∷ fs) p q = (h f p.0 q.0, each_two P Q R h fs p.1 q.1)
@@ -193,6 +206,7 @@ flag_more num gone seen f g room alike old = (
       (nat_eq (num f.path) (num g.path)) refl,
 )
   where
+    -- Plan: by whether the file has the path that was removed.
     by : (t : Bool) → nat_eq (num f.path) (num g.path) ≡ t → get_or (slice_set gone (num f.path) true) (num g.path) false
         ≡ (pointwise nat_eq g.path f.path || list_any (pointwise nat_eq g.path) seen)
     by true e = subst (λ n. get_or (slice_set gone (num f.path) true) n false ≡ true) (same (num f.path) (num g.path) e)
@@ -223,6 +237,7 @@ once_is x num gone seen (f ∷ fs) n flags = ap (λ l. map place_in l) (kept_is 
     (Flagged num (slice_set gone (num f.path) true) (f.path ∷ seen)) (λ g a o. flag_more num gone seen f g flags.0.0 a o)
     fs n.0 flags.1))
   where
+    -- Plan: by whether the path was seen before: the code's flag for its number says the same.
     by : (t u v : Bool) → v ≡ u → map place_in (each_once seen (filter (left_file x.claimed x.sources x.linked) fs)) ≡ to_remove x gone
         (map (numbered num) fs)
         → map place_in (each_once (f.path ∷ seen) (filter (left_file x.claimed x.sources x.linked) fs)) ≡ to_remove x

@@ -33,6 +33,13 @@ use Rattle.std.proofs.lemmas.Cmp.{nat_eq_equiv}
 
 -- For the end of `Run`: the events tell how many temporaries of each job were claimed (`tally`), and so which files are removed at the end
 -- (`due_at_end`).
+-- Names: `jobs` is the jobs of the sources, in plan order. `blocks` is the blocks so far, each with its source. `job` is the job of the
+-- source (or of the link) at hand. `k` is the number of a job in the plan. `g` is the number of a group of a job's commands. `j` is the
+-- number of any source. `t` is the value of a test, so that `by` can go by both cases. `n` is the number of jobs. `xs` is the answers of
+-- the jobs. `claimed` gives the number of claims of each job. `events_of` lists the events of blocks. `tally k E` is how many temporaries
+-- of job k were claimed. `claimed_count` is how many claims succeeded. `of k bs` is the blocks of source k among `bs`. `group_blocks` is
+-- the blocks of groups: of each its starts, then its waits. `wait_blocks` is the blocks of a group's waits. `own_removals` is the blocks in
+-- which a failed job removes its failure files.
 
 -- in the events of a story
 
@@ -53,11 +60,13 @@ claims_told : (k j i : ℕ) (cs : List (Told ClaimAnswer)) → tally k (events_o
     ≡ (if nat_eq j k then claimed_count cs else 0)
 claims_told k j i [] = by (nat_eq j k)
   where
+    -- Plan: without claims both sides are 0.
     by : (t : Bool) → tally k [] ≡ (if t then 0 else 0)
     by true = refl
     by false = refl
 claims_told k j i (c ∷ cs) = by (nat_eq j k) (is_claimed c.answer) (claims_told k j (i + 1) cs)
   where
+    -- Plan: by whether the claims are those of job k, and whether this one succeeded.
     by : (t u : Bool) → tally k (events_of (claim_blocks j (i + 1) cs)) ≡ (if t then claimed_count cs else 0)
         → (if (t && u) then 1 else 0) + tally k ((if u then [] else report (note.NotClaimed (place.Temp j i)) c.told ∷ []) ++ events_of
         (claim_blocks j (i + 1) cs)) ≡ (if t then (if u then suc (claimed_count cs) else claimed_count cs) else 0)
@@ -66,11 +75,12 @@ claims_told k j i (c ∷ cs) = by (nat_eq j k) (is_claimed c.answer) (claims_tol
     by false true e = omega (arith, e)
     by false false e = omega (arith, e)
 
+-- the closing of a pipe counts no claim
 no_claim_close : (k : ℕ) (t : Bool) → tally k (if t then event step.ClosePipe answer.Closed ∷ [] else []) ≡ 0
 no_claim_close k true = refl
 no_claim_close k false = refl
 
--- starts claim no temporary
+-- the starts of a group claim no temporary of any job
 no_claim_starts : (k j g n i : ℕ) (refused : Bool) (xs : List StartAnswer) → tally k (starts_block j g n i refused xs) ≡ 0
 no_claim_starts k j g n i refused [] = refl
 no_claim_starts k j g n i refused (Started id ∷ xs) =
@@ -86,7 +96,7 @@ no_claim_report k p (Exit n) told = refl
 no_claim_report k p Signal told = refl
 no_claim_report k p Lost told = refl
 
--- waits claim no temporary
+-- nor do the waits of a group
 no_claim_waits : (k j g i : ℕ) (xs : List StartAnswer) (ws : List (Told WaitAnswer)) → tally k (events_of (wait_blocks j g i xs ws)) ≡ 0
 no_claim_waits k j g i [] ws = refl
 no_claim_waits k j g i (Started id ∷ xs) [] = refl
@@ -99,7 +109,7 @@ no_claim_waits k j g i (Started id ∷ xs) (w ∷ ws) =
     total_append (claims_in k) (wait_block j g i id w) (events_of (wait_blocks j g (i + 1) xs ws)) in
     omega (arith, rest, told, all)
 
--- those of groups show none
+-- so the blocks of groups claim none
 no_claim_groups : (k j g : ℕ) (cs : List (List Command)) (xs : List GroupAnswers) → tally k (events_of (group_blocks j g cs xs)) ≡ 0
 no_claim_groups k j g [] xs = refl
 no_claim_groups k j g (c ∷ cs) [] = refl
@@ -114,7 +124,7 @@ no_claim_groups k j g (c ∷ cs) (a ∷ xs) =
     both_append (claims_in k) (starts_block j g (length c) 0 a.refused a.starts ∷ wait_blocks j g 0 a.starts a.waits)
     (group_blocks j (g + 1) cs xs) ∙ omega (arith, rest, starts, waits, here)
 
--- removals claim no temporary
+-- nor do a job's removals of its own files
 no_claim_removals : (k j i : ℕ) (rs : List (Told RemoveAnswer)) → tally k (events_of (own_removals j i rs)) ≡ 0
 no_claim_removals k j i [] = refl
 no_claim_removals k j i (r ∷ rs) = by (removal_failed r.answer) (no_claim_removals k j (i + 1) rs)
@@ -148,6 +158,7 @@ summed_with : (n k c : ℕ) (f g : ℕ → ℕ) → k < n → g k ≡ c + f k �
 summed_with zero k c f g lt at others = absurd (omega arith)
 summed_with (suc n) k c f g lt at others = by (nat_eq k n) refl (λ below. summed_with n k c f g below at others)
   where
+    -- Plan: by whether the part is the last one of the sum.
     by : (t : Bool) → nat_eq k n ≡ t → (k < n → summed n g ≡ c + summed n f) → g n + summed n g ≡ c + (f n + summed n f)
     by true e ih =
         let is : k ≡ n = same k n e in
@@ -159,6 +170,7 @@ summed_with (suc n) k c f g lt at others = by (nat_eq k n) refl (λ below. summe
         let here : g n ≡ f n = others n e in
         omega (arith, rest, here)
 
+-- a sum of nothing is 0
 no_sum : (n : ℕ) → 0 ≡ summed n (λ j. 0)
 no_sum zero = refl
 no_sum (suc n) = let e : 0 ≡ summed n (λ j. 0) = no_sum n in omega (arith, e)
@@ -191,6 +203,7 @@ summed_only n k c lt = summed_with n k (c k) (λ j. 0) (λ j. if nat_eq j k then
     (ap (λ (t : Bool). if t then c k else 0) (nat_eq_equiv.refl k) ∙ plus (c k)) (λ j e. other j (nat_eq j k) refl e)
     ∙ (let z : 0 ≡ summed n (λ j. 0) = no_sum n in omega (arith, z))
   where
+    -- Plan: each part but number k is 0 (`other`).
     plus : (m : ℕ) → m ≡ m + 0
     plus m = omega arith
 
@@ -222,6 +235,7 @@ sources_none jobs N blocks run k past = blocks_total (length jobs) (claims_in k)
     (all_below (length jobs) N nowhere [] blocks run.may_come)
     ∙ summed_same (length jobs) (λ j. tally k (events_of (of j blocks))) (λ j. 0) (λ j below. one j below) ∙ sym (no_sum (length jobs))
   where
+    -- Plan: no source has that number, so its events claim none (`one`).
     one : (j : ℕ) → j < length jobs → tally k (events_of (of j blocks)) ≡ 0
     one j below = ap (λ l. tally k (events_of l)) (subst
         (λ n. of n blocks ≡ story n (get_or jobs j no_job) (get_or run.answers j no_answers)) (let e : 0 + j ≡ j = omega arith in e)

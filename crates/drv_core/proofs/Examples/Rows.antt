@@ -37,11 +37,13 @@ may_come n N before later k wait =
     && not (nat_lt N (count n (λ j. (has j before || nat_eq j k) && (has j later || nowhere j))))
     && (not wait || nat_eq (count n (λ j. in_flight (of j before))) (min N (count n (λ j. has j later || nowhere j))))
 
+-- whether each of these blocks may come after those before it
 abbrev all_may_come : ℕ → ℕ → List SourceBlock → List SourceBlock → Bool
 all_may_come n N before [] = true
 all_may_come n N before (b ∷ after) = may_come n N before (b ∷ after) b.source (is_wait b.block) && all_may_come n N
     (before ++ b ∷ []) after
 
+-- a number that is not greater is at most as great
 below : (N c : ℕ) → not (nat_lt N c) ≡ true → c ≤ N
 below N c e = by (nat_lt N c) refl e
   where
@@ -61,6 +63,7 @@ is_may_come n N before later k wait e = record {
   all_in_flight = λ is. fly is (and_second (nat_lt k n && order && window) flight e);
 }
   where
+    -- Plan: the test is a chain of `&&`; each part is a field of `MayCome`: `order`, `window` and `flight`.
     order : Bool
     order = nat_eq (count k (λ j. not (has j before) && (has j later || nowhere j))) 0
 
@@ -76,6 +79,7 @@ is_may_come n N before later k wait e = record {
     fly : wait ≡ true → flight ≡ true → count n (λ j. in_flight (of j before)) ≡ min N (count n (λ j. has j later || nowhere j))
     fly is h = same (count n (λ j. in_flight (of j before))) (min N (count n (λ j. has j later || nowhere j))) (rw is at h)
 
+-- what the test says is what the rule says
 all_come : (n N : ℕ) (before blocks : List SourceBlock) → all_may_come n N before blocks ≡ true → AllMayCome n N nowhere before blocks
 all_come n N before [] e = tt
 all_come n N before (b ∷ after) e = (
@@ -90,31 +94,38 @@ abbrev told_so_far : ℕ → List ℕ → ℕ
 told_so_far k [] = 0
 told_so_far k (j ∷ js) = (if nat_eq j k then 1 else 0) + told_so_far k js
 
+-- the blocks of the stories, dealt in this order of their sources
 abbrev dealt : List (List Block) → List ℕ → List ℕ → List SourceBlock
 dealt stories before [] = []
 dealt stories before (k ∷ order) = record { source = k; block = get_or (get_or stories k []) (told_so_far k before) [] } ∷ dealt stories
     (k ∷ before) order
 
+-- the stories of jobs, from number k on
 abbrev stories_from : ℕ → List Job → List JobAnswers → List (List Block)
 stories_from k [] xs = []
 stories_from k (job ∷ jobs) [] = []
 stories_from k (job ∷ jobs) (a ∷ xs) = story k job a ∷ stories_from (k + 1) jobs xs
 
+-- the blocks of a plan's sources in this order
 abbrev sources : Plan → Answers → List ℕ → List SourceBlock
 sources plan o order = dealt (stories_from 0 plan.jobs o.jobs) [] order
 
+-- the events of a run in this order, with the link and the removals at the end
 abbrev events : Plan → Answers → List ℕ → List RunEvent
 events plan o order = events_of (blocks_of (sources plan o order)) ++ events_of (after_sources plan o)
 
 -- jobs and answers
 
+-- a command; which one is of no matter here
 abbrev command : Command
 command = record { program = []; words = [] }
 
+-- temporaries with these names
 abbrev temps : List ℕ → List Temp
 temps [] = []
 temps (n ∷ ns) = record { path = n ∷ []; contents = [] } ∷ temps ns
 
+-- paths with these names
 abbrev paths : List ℕ → List (List ℕ)
 paths ns = map (λ n. n ∷ []) ns
 
@@ -129,6 +140,7 @@ in_turn ts marked failed = record {
   output = None;
 }
 
+-- a job of one group of two commands, with these temporaries and failure files
 abbrev piped : List ℕ → List ℕ → Job
 piped ts failed = record {
   source = None;
@@ -139,42 +151,54 @@ piped ts failed = record {
   output = None;
 }
 
+-- a link of one command
 abbrev linking : List ℕ → Job
 linking failed = record { source = None; groups = (command ∷ []) ∷ []; temps = []; marked = []; on_failure = paths failed; output = None }
 
+-- a claim that succeeds
 abbrev claimed : Told ClaimAnswer
 claimed = record { answer = claim.Claimed; told = true }
 
+-- a claim whose name is taken
 abbrev taken : Told ClaimAnswer
 taken = record { answer = claim.Taken; told = true }
 
+-- a wait for a child that ended with this status
 abbrev ends : ℕ → Told WaitAnswer
 ends n = record { answer = Exit n; told = true }
 
+-- a wait for a child that is lost
 abbrev lost : Told WaitAnswer
 lost = record { answer = Lost; told = true }
 
+-- the answer to a removal
 abbrev removed : RemoveAnswer → Told RemoveAnswer
 removed x = record { answer = x; told = true }
 
+-- so many removals that succeed
 abbrev gone : ℕ → List (Told RemoveAnswer)
 gone zero = []
 gone (suc n) = removed remove.Removed ∷ gone n
 
+-- the answers of a group: to its starts and to its waits
 abbrev group : List StartAnswer → List (Told WaitAnswer) → GroupAnswers
 group xs ws = record { starts = xs; refused = true; waits = ws }
 
+-- the answers of a job: to its claims and of its groups
 abbrev worked : List (Told ClaimAnswer) → List GroupAnswers → JobAnswers
 worked cs gs = record { claims = cs; groups = gs; removals = [] }
 
+-- the answers of a job that makes no call
 abbrev idle : JobAnswers
 idle = worked [] []
 
 -- two sources of two commands each, with two temporaries, and a link; the first compiler exits with 3
 
+-- a plan of two sources and a link
 abbrev two : Plan
 two = record { notices = []; jobs = in_turn (1 ∷ 2 ∷ []) [] [] ∷ in_turn (3 ∷ 4 ∷ []) [] [] ∷ []; link = Some (linking (9 ∷ [])) }
 
+-- the first source's first command fails, so its second is not started, and no link
 abbrev first_fails : Answers
 first_fails = record {
   jobs = worked (claimed ∷ claimed ∷ []) (group (Started 0 ∷ []) (ends 3 ∷ []) ∷ [])
@@ -183,12 +207,15 @@ first_fails = record {
   last = removed remove.Removed ∷ removed remove.Removed ∷ removed remove.Removed ∷ removed remove.Removed ∷ [];
 }
 
+-- the plan needs room for 38 events at most
 two_needs : needed two ≡ 38
 two_needs = refl
 
+-- the answers are complete
 two_whole : whole two first_fails ≡ true
 two_whole = refl
 
+-- the status is the greatest code
 two_status : status_of GreatestCode first_fails ≡ 3
 two_status = refl
 
@@ -208,6 +235,7 @@ two_events : events two first_fails (0 ∷ 0 ∷ 0 ∷ 0 ∷ 1 ∷ 1 ∷ 1 ∷ 1
     (answer.Remove remove.Removed) ∷ []
 two_events = refl
 
+-- one source after the other is a run in a window of 1
 two_windowed : Windowed two 1 first_fails (events two first_fails (0 ∷ 0 ∷ 0 ∷ 0 ∷ 1 ∷ 1 ∷ 1 ∷ 1 ∷ 1 ∷ 1 ∷ []))
 two_windowed = record {
   blocks = sources two first_fails (0 ∷ 0 ∷ 0 ∷ 0 ∷ 1 ∷ 1 ∷ 1 ∷ 1 ∷ 1 ∷ 1 ∷ []);
@@ -221,17 +249,21 @@ two_windowed = record {
 two_at_once : all_may_come 2 2 [] (sources two first_fails (0 ∷ 0 ∷ 0 ∷ 1 ∷ 1 ∷ 1 ∷ 0 ∷ 1 ∷ 1 ∷ 1 ∷ [])) ≡ true
 two_at_once = refl
 
+-- in a window of 2 the first source may not wait alone while the second can start a child
 not_in_turn : all_may_come 2 2 [] (sources two first_fails (0 ∷ 0 ∷ 0 ∷ 0 ∷ 1 ∷ 1 ∷ 1 ∷ 1 ∷ 1 ∷ 1 ∷ [])) ≡ false
 not_in_turn = refl
 
+-- in a window of 1 the second source may not begin before the first has ended
 not_at_once : all_may_come 2 1 [] (sources two first_fails (0 ∷ 0 ∷ 0 ∷ 1 ∷ 1 ∷ 1 ∷ 0 ∷ 1 ∷ 1 ∷ 1 ∷ [])) ≡ false
 not_at_once = refl
 
 -- the same without a link, with one temporary each, and with an object file that a failed source removes
 
+-- a plan of two sources without a link, as for -c; each has a failure file
 abbrev objects : Plan
 objects = record { notices = []; jobs = in_turn (1 ∷ []) [] (5 ∷ []) ∷ in_turn (2 ∷ []) [] (6 ∷ []) ∷ []; link = None }
 
+-- the first source's first command fails, and its output is removed
 abbrev object_fails : Answers
 object_fails = record {
   jobs = record { claims = claimed ∷ []; groups = group (Started 0 ∷ []) (ends 3 ∷ []) ∷ []; removals = removed remove.Removed ∷ [] }
@@ -240,15 +272,19 @@ object_fails = record {
   last = removed remove.Removed ∷ removed remove.Removed ∷ [];
 }
 
+-- the plan needs room for 28 events at most
 objects_need : needed objects ≡ 28
 objects_need = refl
 
+-- the answers are complete
 objects_whole : whole objects object_fails ≡ true
 objects_whole = refl
 
+-- a failure makes the status 1
 objects_status : status_of One object_fails ≡ 1
 objects_status = refl
 
+-- the blocks may come one source after the other
 objects_come : all_may_come 2 1 [] (sources objects object_fails (0 ∷ 0 ∷ 0 ∷ 0 ∷ 1 ∷ 1 ∷ 1 ∷ 1 ∷ 1 ∷ [])) ≡ true
 objects_come = refl
 
@@ -269,9 +305,11 @@ objects_events = refl
 
 -- a pipe whose second start is refused
 
+-- a plan of one source, whose two commands are joined by a pipe
 abbrev one_pipe : Plan
 one_pipe = record { notices = []; jobs = piped [] (5 ∷ []) ∷ []; link = None }
 
+-- the second command of the pipe is not found
 abbrev refused_start : Answers
 refused_start = record {
   jobs = record {
@@ -284,6 +322,7 @@ refused_start = record {
   last = [];
 }
 
+-- the run: the report of the refused start, the closing of the pipe, and the wait for the first command
 pipe_windowed : Windowed one_pipe 1 refused_start (event (step.Start (place.Command 0 0 0) false true) (answer.Start (Started 0))
     ∷ event (step.Start (place.Command 0 0 1) true false) (answer.Start (NotStarted NotFound)) ∷ report
     (note.NotStarted (place.Command 0 0 1)) true
@@ -297,11 +336,13 @@ pipe_windowed = record {
   all_answers = refl;
 }
 
+-- the status is 1
 pipe_status : status_of One refused_start ≡ 1
 pipe_status = refl
 
 -- a link that exits with 1, whose output is a device, and a temporary that can't be removed
 
+-- all sources succeed, and the link fails
 abbrev link_fails : Answers
 link_fails = record {
   jobs = worked (claimed ∷ claimed ∷ []) (group (Started 0 ∷ []) (ends 0 ∷ []) ∷ group (Started 1 ∷ []) (ends 0 ∷ []) ∷ [])
@@ -310,12 +351,15 @@ link_fails = record {
   last = removed remove.Failed ∷ removed remove.Missing ∷ removed remove.Removed ∷ removed remove.Removed ∷ [];
 }
 
+-- the answers are complete
 link_whole : whole two link_fails ≡ true
 link_whole = refl
 
+-- the status is 1
 link_status : status_of One link_fails ≡ 1
 link_status = refl
 
+-- the events after the sources: the link's start and wait, the removal of its output, and those of the temporaries
 link_end : events_of (after_sources two link_fails)
     ≡ event (step.Start (place.Command 2 0 0) false false) (answer.Start (Started 4)) ∷ event (step.Wait (place.Command 2 0 0) 4)
     (answer.Wait (Exit 1))
@@ -328,6 +372,7 @@ link_end = refl
 
 -- five sources, each a pipe with one temporary, and a link
 
+-- a plan of five sources and a link, each source a pipe with one temporary
 abbrev five : Plan
 five = record {
   notices = [];
@@ -335,6 +380,7 @@ five = record {
   link = Some (linking (9 ∷ []));
 }
 
+-- the answers of a source that succeeds; its children are this one and the next
 abbrev good : ℕ → JobAnswers
 good id = worked (claimed ∷ []) (group (Started id ∷ Started (id + 1) ∷ []) (ends 0 ∷ ends 0 ∷ []) ∷ [])
 
@@ -342,6 +388,7 @@ good id = worked (claimed ∷ []) (group (Started id ∷ Started (id + 1) ∷ []
 abbrev five_with : JobAnswers → JobAnswers → List (Told RemoveAnswer) → Answers
 five_with third link last = record { jobs = good 0 ∷ good 2 ∷ third ∷ good 6 ∷ good 8 ∷ []; link = link; last = last }
 
+-- the answers of a link that succeeds
 abbrev linked : JobAnswers
 linked = worked [] (group (Started 10 ∷ []) (ends 0 ∷ []) ∷ [])
 
@@ -353,21 +400,27 @@ in_order = 0 ∷ 0 ∷ 0 ∷ 0 ∷ 1 ∷ 1 ∷ 1 ∷ 1 ∷ 2 ∷ 2 ∷ 2 ∷ 2 �
 abbrev at_once : List ℕ
 at_once = 0 ∷ 0 ∷ 1 ∷ 1 ∷ 2 ∷ 2 ∷ 3 ∷ 3 ∷ 4 ∷ 4 ∷ 0 ∷ 0 ∷ 1 ∷ 1 ∷ 2 ∷ 2 ∷ 3 ∷ 3 ∷ 4 ∷ 4 ∷ []
 
+-- all five sources and the link succeed
 abbrev five_good : Answers
 five_good = five_with (good 4) linked (gone 5)
 
+-- the plan needs room for 66 events at most
 five_needs : needed five ≡ 66
 five_needs = refl
 
+-- the answers are complete
 five_whole : whole five five_good ≡ true
 five_whole = refl
 
+-- the run has 32 events
 five_length : length (events five five_good in_order) ≡ 32
 five_length = refl
 
+-- the blocks may come one source after the other in a window of 1
 five_come : all_may_come 5 1 [] (sources five five_good in_order) ≡ true
 five_come = refl
 
+-- and all at once in a window of 5
 five_at_once : all_may_come 5 5 [] (sources five five_good at_once) ≡ true
 five_at_once = refl
 
@@ -375,12 +428,15 @@ five_at_once = refl
 abbrev third_taken : Answers
 third_taken = five_with (worked (taken ∷ []) []) idle (gone 4)
 
+-- with the third source's claim refused, the answers are complete
 taken_whole : whole five third_taken ≡ true
 taken_whole = refl
 
+-- that run has 26 events, since there is no link
 taken_length : length (events five third_taken (0 ∷ 0 ∷ 0 ∷ 0 ∷ 1 ∷ 1 ∷ 1 ∷ 1 ∷ 2 ∷ 3 ∷ 3 ∷ 3 ∷ 3 ∷ 4 ∷ 4 ∷ 4 ∷ 4 ∷ [])) ≡ 26
 taken_length = refl
 
+-- and its status is 1
 taken_status : status_of One third_taken ≡ 1
 taken_status = refl
 
@@ -388,9 +444,11 @@ taken_status = refl
 abbrev third_refused : Answers
 third_refused = five_with (worked (claimed ∷ []) (group (Started 4 ∷ NotStarted NotFound ∷ []) (ends 0 ∷ []) ∷ [])) idle (gone 5)
 
+-- with a start of the third source refused, the answers are complete
 refused_whole : whole five third_refused ≡ true
 refused_whole = refl
 
+-- that run has 31 events
 refused_length : length (events five third_refused (0 ∷ 0 ∷ 0 ∷ 0 ∷ 1 ∷ 1 ∷ 1 ∷ 1 ∷ 2 ∷ 2 ∷ 2 ∷ 3 ∷ 3 ∷ 3 ∷ 3 ∷ 4 ∷ 4 ∷ 4 ∷ 4 ∷ [])) ≡ 31
 refused_length = refl
 
@@ -398,26 +456,31 @@ refused_length = refl
 abbrev third_lost : Answers
 third_lost = five_with (worked (claimed ∷ []) (group (Started 4 ∷ Started 5 ∷ []) (lost ∷ ends 0 ∷ []) ∷ [])) idle (gone 5)
 
+-- with a child of the third source lost, the answers are complete
 lost_whole : whole five third_lost ≡ true
 lost_whole = refl
 
+-- that run has 31 events
 lost_length : length (events five third_lost in_order) ≡ 31
 lost_length = refl
 
+-- and its status is 1
 lost_status : status_of GreatestCode third_lost ≡ 1
 lost_status = refl
 
--- a removal that fails
+-- all sources succeed, and one removal at the end fails
 abbrev removal_fails : Answers
 removal_fails = five_with (good 4) linked (removed remove.Removed ∷ removed remove.Failed ∷ gone 3)
 
+-- a removal at the end that fails adds one event, its report
 removal_length : length (events five removal_fails in_order) ≡ 33
 removal_length = refl
 
+-- and leaves the status 0
 removal_status : status_of One removal_fails ≡ 0
 removal_status = refl
 
--- all claims fail
+-- every claim is refused, since its name is taken
 abbrev all_taken : Answers
 all_taken = record {
   jobs = worked (taken ∷ []) [] ∷ worked (taken ∷ []) [] ∷ worked (taken ∷ []) [] ∷ worked (taken ∷ []) [] ∷ worked
@@ -426,9 +489,11 @@ all_taken = record {
   last = [];
 }
 
+-- if every claim is refused, the answers are complete
 all_taken_whole : whole five all_taken ≡ true
 all_taken_whole = refl
 
+-- that run has 10 events: five claims and their reports
 all_taken_length : length (events five all_taken (0 ∷ 1 ∷ 2 ∷ 3 ∷ 4 ∷ [])) ≡ 10
 all_taken_length = refl
 
@@ -438,9 +503,11 @@ objects_at_once = refl
 
 -- a window of two with three sources, the first claim taken: the first wait has the other two in flight
 
+-- a plan of three sources of two groups, without a link
 abbrev three : Plan
 three = record { notices = []; jobs = in_turn (1 ∷ []) [] [] ∷ in_turn (2 ∷ []) [] [] ∷ in_turn (3 ∷ []) [] [] ∷ []; link = None }
 
+-- the first source's claim is refused, the others succeed
 abbrev first_taken : Answers
 first_taken = record {
   jobs = worked (taken ∷ []) []
@@ -450,8 +517,10 @@ first_taken = record {
   last = removed remove.Removed ∷ removed remove.Removed ∷ [];
 }
 
+-- in a window of 2 the second and the third source each start a child before either waits
 three_come : all_may_come 3 2 [] (sources three first_taken (0 ∷ 1 ∷ 1 ∷ 2 ∷ 2 ∷ 1 ∷ 1 ∷ 1 ∷ 2 ∷ 2 ∷ 2 ∷ [])) ≡ true
 three_come = refl
 
+-- they may not run one after the other
 three_one_flies : all_may_come 3 2 [] (sources three first_taken (0 ∷ 1 ∷ 1 ∷ 1 ∷ 1 ∷ 1 ∷ 2 ∷ 2 ∷ 2 ∷ 2 ∷ 2 ∷ [])) ≡ false
 three_one_flies = refl

@@ -17,10 +17,15 @@ use Rattle.std.specs.List.{list_any}
 
 -- For linking_law and status_law: all sources succeeded exactly if the greatest code of their events is 0. A code is the exit status of a
 -- child, or 1 for a child that did not end by itself, and for a failed claim or start.
+-- Names: `N` is the window: at most so many sources have begun and not ended. `t` is the value of a test, so that `by` can go by both
+-- cases. `a` is a code. `run_code` is the greatest code of events. `events_of` lists the events of blocks. `of k bs` is the blocks of
+-- source k among `bs`. `code_of` is the code of one event.
 
+-- a code that is not 0 is greater than 0
 some_code : (a : ℕ) → nat_eq a 0 ≡ false → 0 < a
 some_code a e = grind (arith, nat_tests)
 
+-- a code that the test finds to be 0 is 0
 no_code : (a : ℕ) → nat_eq a 0 ≡ true → a ≡ 0
 no_code a e = grind (arith, nat_tests)
 
@@ -39,6 +44,7 @@ any_code p f is [] = refl
 any_code p f is (x ∷ xs) = ap (λ (t : Bool). t || list_any p xs) (is x) ∙ ap (λ (t : Bool). not (nat_eq (f x) 0) || t) (any_code p f is xs)
     ∙ sym (zero_max (f x) (greatest f xs) (nat_eq (f x) 0) (nat_eq (greatest f xs) 0) refl refl)
 
+-- a failure has the code 1, and no failure has 0
 one_fault : (t : Bool) → not t ≡ not (nat_eq (if t then 0 else 1) 0)
 one_fault true = refl
 one_fault false = refl
@@ -61,6 +67,7 @@ job_is a = ap (λ (t : Bool). t || list_any group_failed a.groups) (any_code (λ
     ∙ sym (zero_max (greatest (λ c. if is_claimed c.answer then 0 else 1) a.claims) (greatest group_code a.groups)
     (nat_eq (greatest (λ c. if is_claimed c.answer then 0 else 1) a.claims) 0) (nat_eq (greatest group_code a.groups) 0) refl refl)
 
+-- a negation of a negation is the test itself
 twice : (t : Bool) → not (not t) ≡ t
 twice true = refl
 twice false = refl

@@ -13,7 +13,11 @@ use Rattle.std.proofs.Common.{suc, take, ℕ}
 
 -- For removal_law: the files that are removed at the end, by the number of claimed temporaries of each job. A job claims its temporaries in
 -- order up to the first failure, so their number says which they are.
+-- Names: `k` is the number of a job in the plan. `t` is the value of a test, so that `by` can go by both cases. `claimed_count` is how many
+-- claims succeeded. `whole_groups` says that answers are complete up to the first group with a fault. `claims_failed` says whether a claim
+-- of the job failed. `and_first` and `and_second` give the parts of a true `&&`.
 
+-- without claims no temporary was claimed
 no_temps : (k i : ℕ) (ts : List Temp) → claimed_temps k i ts [] ≡ []
 no_temps k i [] = refl
 no_temps k i (t ∷ ts) = refl
@@ -26,6 +30,7 @@ claimed_are k i [] (c ∷ cs) e = absurd cc
 claimed_are k i (t ∷ ts) [] e = absurd cc
 claimed_are k i (t ∷ ts) (c ∷ cs) e = by (is_claimed c.answer) e (λ w. claimed_are k (i + 1) ts cs w)
   where
+    -- Plan: by whether the claim succeeded: then the next one follows, else the list ends (`last`).
     last : (ds : List (Told ClaimAnswer)) → none ds ≡ true → claimed_temps k (i + 1) ts ds ≡ take (claimed_count ds)
         (record { place = place.Temp k i; path = t.path } ∷ temp_files k (i + 1) ts)
     last [] n = no_temps k (i + 1) ts
@@ -56,6 +61,7 @@ pub due_is : (k : ℕ) (job : Job) (a : JobAnswers) → whole_job job a ≡ true
     → files_of_job k job a ≡ due_of_job k job (claimed_count a.claims)
 due_is k job a e = by (none job.groups) refl e
   where
+    -- Plan: by whether the job has commands: without them no call was made (`quiet`), with them the claims are complete (`loud`).
     quiet : none a.claims ≡ true → none a.groups ≡ true → files_of_job k job a ≡ []
     quiet x y = ap (λ (t : Bool). if not t then claimed_temps k 0 job.temps a.claims ++ marked_files k 0 job.marked else [])
         (ap (λ (t : Bool). t && none a.groups) x ∙ y)

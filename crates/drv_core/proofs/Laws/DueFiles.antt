@@ -14,23 +14,28 @@ use Rattle.std.specs.Prelude.{⊤, nat_eq}
 
 -- For removal_law: the files that are removed at the end are files of the plan, and no more than its leftover files, which are all
 -- temporaries and marked files of its jobs.
+-- Names: `plan` is the plan of the run: the jobs of its sources, and perhaps a link. `job` is the job of the source (or of the link) at
+-- hand. `k` is the number of a job in the plan. `t` is the value of a test, so that `by` can go by both cases. `xs` is files. `claimed`
+-- gives the number of claims of each job. `each_once` keeps each path once, at its first place. `files_from` is the leftover files of jobs.
+-- `no_job` is a job without commands.
 
 -- each of these files is at a place of the plan
 abbrev pub AllFiles : Plan → List File → Type 0
 AllFiles plan [] = ⊤
 AllFiles plan (f ∷ fs) = (is_file plan f.place ≡ true) × AllFiles plan fs
 
+-- if all files of two lists are at places of the plan, all of both are
 all_both : (plan : Plan) (xs ys : List File) → AllFiles plan xs → AllFiles plan ys → AllFiles plan (xs ++ ys)
 all_both plan [] ys x y = y
 all_both plan (f ∷ xs) ys x y = (x.0, all_both plan xs ys x.1 y)
 
--- the first of such files are such
+-- the first of some files are at places of the plan if all of them are
 all_taken : (plan : Plan) (n : ℕ) (xs : List File) → AllFiles plan xs → AllFiles plan (take n xs)
 all_taken plan zero xs x = tt
 all_taken plan (suc n) [] x = tt
 all_taken plan (suc n) (f ∷ xs) x = (x.0, all_taken plan n xs x.1)
 
--- such files, each path once, are such
+-- files at places of the plan, each path once, are at places of the plan
 all_once : (plan : Plan) (seen : List (List ℕ)) (xs : List File) → AllFiles plan xs → AllFiles plan (each_once seen xs)
 all_once plan seen [] x = tt
 all_once plan seen (f ∷ xs) x = by (list_any (pointwise nat_eq f.path) seen) (all_once plan seen xs x.1)
@@ -64,6 +69,7 @@ marked_all plan k i (m ∷ ms) few = (
 pub job_all : (plan : Plan) (k claimed : ℕ) (job : Job) → job_at plan k ≡ job → AllFiles plan (due_of_job k job claimed)
 job_all plan k claimed job is = by (none job.groups)
   where
+    -- Plan: temporaries and marked files of a job are both at places of the plan; of the temporaries the claimed ones are taken.
     temps : AllFiles plan (temp_files k 0 job.temps)
     temps = temps_all plan k 0 job.temps (let e : length (job_at plan k).temps ≡ length job.temps = ap (λ j. length j.temps) is in
         omega (arith, e))
@@ -99,7 +105,7 @@ once_fewer seen (f ∷ xs) = by (list_any (pointwise nat_eq f.path) seen) (once_
     by true skip keep = omega (arith, skip)
     by false skip keep = omega (arith, keep)
 
--- the first files are no more than all
+-- of a list at most as many are taken as it has
 taken_fewer : (n : ℕ) (xs : List File) → length (take n xs) ≤ length xs
 taken_fewer zero xs = omega arith
 taken_fewer (suc n) [] = omega arith
@@ -109,6 +115,7 @@ taken_fewer (suc n) (f ∷ xs) = let le : length (take n xs) ≤ length xs = tak
 job_fewer : (k claimed : ℕ) (job : Job) → length (due_of_job k job claimed) ≤ length (job_files k job)
 job_fewer k claimed job = by (none job.groups)
   where
+    -- Plan: by whether the job has commands; of its temporaries at most all are taken.
     by : (t : Bool) → length (if t then [] else take claimed (temp_files k 0 job.temps) ++ marked_files k 0 job.marked) ≤ length
         (if t then [] else temp_files k 0 job.temps ++ marked_files k 0 job.marked)
     by true = omega arith

@@ -38,19 +38,27 @@ use Rattle.std.specs.Prelude.{⊤}
 
 -- For linking_law: a source failed exactly if one of its claims, starts or waits has a code other than 0 in the events. `AreAt j E` says
 -- that each of these events is a claim, a start or a wait of job j, or has no code.
+-- Names: `E` is the events so far. `k` is the number of a job in the plan. `g` is the number of a group of a job's commands. `t` is the
+-- value of a test, so that `by` can go by both cases. `i` is the index of an event's place in its group. `j` is the number of the job whose
+-- events these are. `events_of` lists the events of blocks. `story k job a` is all blocks of job k that these answers make. `run_code` is
+-- the greatest code of events. `no_job` is a job without commands. `group_blocks` is the blocks of groups: of each its starts, then its
+-- waits. `wait_blocks` is the blocks of a group's waits. `own_removals` is the blocks in which a failed job removes its failure files.
 
 -- a claim, a start or a wait of job j, or another event, which has no code
 abbrev IsAt : ℕ → RunEvent → Type 0
 IsAt j e = (is_work_of j e.step ≡ true) ⊎ (((k : ℕ) → is_work_of k e.step ≡ false) × (answer_code e.answer ≡ 0))
 
+-- each of these events is a claim, a start or a wait of job j, or has no code
 abbrev AreAt : ℕ → List RunEvent → Type 0
 AreAt j [] = ⊤
 AreAt j (e ∷ events) = IsAt j e × AreAt j events
 
+-- what holds of two parts holds of both together
 at_both : (j : ℕ) (E F : List RunEvent) → AreAt j E → AreAt j F → AreAt j (E ++ F)
 at_both j [] F e f = f
 at_both j (x ∷ E) F e f = (e.0, at_both j E F e.1 f)
 
+-- and of two lists of blocks
 at_lists : (j : ℕ) (xs ys : List Block) → AreAt j (events_of xs) → AreAt j (events_of ys) → AreAt j (events_of (xs ++ ys))
 at_lists j xs ys e f = subst (λ l. AreAt j l) (sym (flat_map-append (λ b. b) xs ys)) (at_both j (events_of xs) (events_of ys) e f)
 
@@ -68,6 +76,7 @@ of_claims j i [] = tt
 of_claims j i (c ∷ cs) = at_both j (claim_block j i c) (events_of (claim_blocks j (i + 1) cs)) (of_claim j i c.answer c.told)
     (of_claims j (i + 1) cs)
 
+-- the closing of a pipe has no code
 of_close : (j : ℕ) (t : Bool) → AreAt j (if t then event step.ClosePipe answer.Closed ∷ [] else [])
 of_close j true = (inr (λ k. refl, refl), tt)
 of_close j false = tt
@@ -146,6 +155,7 @@ away j k (step.Wait p id) other e = ap (λ i. nat_eq i k) (same (job_of p) j e) 
 away j k (step.Remove p) other e = absurd cc
 away j k (step.Report n) other e = absurd cc
 
+-- an event of job j is no work of another job
 none_at : (j k : ℕ) (e : RunEvent) → nat_eq j k ≡ false → IsAt j e → is_work_of k e.step ≡ false
 none_at j k e other (inl work) = away j k e.step other work
 none_at j k e other (inr none) = none.0 k
@@ -162,6 +172,8 @@ other_codes j k (e ∷ E) other a = nothing (ap (λ (t : Bool). if t then answer
 pub fails_where : (plan : Plan) (N : ℕ) (o : Answers) (E : List RunEvent) → Windowed plan N o E → FailsWhere plan o E
 fails_where plan N o E w k lt = job_is (get_or o.jobs k no_answers) ∙ ap (λ n. not (nat_eq n 0)) (sym codes_are)
   where
+    -- Plan: the codes of source k are those of its own story (`told`, `after`), so the greatest of them is that of its answers
+    -- (`codes_are`).
     told : of k w.blocks ≡ story k (get_or plan.jobs k no_job) (get_or o.jobs k no_answers)
     told = subst (λ i. of i w.blocks ≡ story i (get_or plan.jobs k no_job) (get_or o.jobs k no_answers))
         (let at : 0 + k ≡ k = omega arith in at) (told_at w.blocks 0 plan.jobs o.jobs (jobs_whole plan N o E w) w.stories k lt)

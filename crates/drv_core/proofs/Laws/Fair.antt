@@ -23,6 +23,13 @@ use Rattle.std.proofs.Common.{nat_eq, nat_lt, refl, subst, sym, ℕ}
 
 -- For waiting_law: in a story each wait has a child to wait for, and no child is left at the end. `Fair s w blocks` says it of blocks
 -- before which s children were started and w waited for.
+-- Names: `bs` is blocks of one source, in order. `b` is one block. `k` is the number of a job in the plan. `g` is the number of a group of
+-- a job's commands. `t` is the value of a test, so that `by` can go by both cases. `s` is how many children were started before, and `w`
+-- how many were waited for. `i` is the next member of a group. `told` says whether a report was written. `n` is how many members a group
+-- has. `p` is a place. `rest` is the blocks that follow. `cs` is groups of commands. `events_of` lists the events of blocks. `group_blocks`
+-- is the blocks of groups: of each its starts, then its waits. `whole_groups` says that answers are complete up to the first group with a
+-- fault. `own_removals` is the blocks in which a failed job removes its failure files. `claims_failed` says whether a claim of the job
+-- failed. `wait_blocks` is the blocks of a group's waits. `starts_block` is the events of a group's starts.
 
 -- of blocks before which s children were started and w were waited for: each wait has a child to wait for, and at the end none is left
 abbrev pub Fair : ℕ → ℕ → List Block → Type 0
@@ -84,7 +91,7 @@ fair_wait s w b bs lt no_start one f = (
 
 -- claims and removals
 
--- a claim starts no child
+-- the block of a claim starts no child
 pub claim_starts : (k i : ℕ) (x : ClaimAnswer) (told : Bool) → total starts_child (claim_block k i (record { answer = x; told = told })) ≡ 0
 claim_starts k i x told = by (is_claimed x)
   where
@@ -106,7 +113,7 @@ fair_claims s w k i [] rest f = f
 fair_claims s w k i (x ∷ xs) rest f = fair_quiet s w (claim_block k i x) (claim_blocks k (i + 1) xs ++ rest)
     (claim_starts k i x.answer x.told) (claim_waits k i x.answer x.told) (fair_claims s w k (i + 1) xs rest f)
 
--- a removal starts no child
+-- the block of a removal starts no child
 pub removal_starts : (p : Place) (x : RemoveAnswer) (told : Bool)
     → total starts_child (removal_block p (record { answer = x; told = told })) ≡ 0
 removal_starts p x told = by (removal_failed x)
@@ -162,13 +169,13 @@ starts_total k g n i refused (c ∷ cs) (NotStarted why ∷ []) [] e = rw (close
 starts_total k g n i refused (c ∷ cs) (NotStarted why ∷ []) (w ∷ waits) e = absurd cc
 starts_total k g n i refused (c ∷ cs) (NotStarted why ∷ x ∷ starts) waits e = absurd cc
 
--- starts wait for no child
+-- the block of a group's starts waits for no child
 pub starts_wait : (k g n i : ℕ) (refused : Bool) (starts : List StartAnswer) → total waits_child (starts_block k g n i refused starts) ≡ 0
 starts_wait k g n i refused [] = refl
 starts_wait k g n i refused (Started id ∷ starts) = rw (starts_wait k g n (i + 1) refused starts) refl
 starts_wait k g n i refused (NotStarted why ∷ starts) = rw (closed_waits (nat_lt 0 i)) refl
 
--- a wait starts no child
+-- the block of a wait starts no child
 pub wait_starts : (p : Place) (id : ℕ) (x : WaitAnswer) (told : Bool)
     → total starts_child (event (step.Wait p id) (answer.Wait x) ∷ wait_report p x told) ≡ 0
 wait_starts p id (Exit n) told = refl
@@ -198,6 +205,7 @@ fair_waits s w k g i (c ∷ cs) (NotStarted why ∷ []) [] rest e is f = let at 
 fair_waits s w k g i (c ∷ cs) (NotStarted why ∷ []) (x ∷ waits) rest e is f = absurd cc
 fair_waits s w k g i (c ∷ cs) (NotStarted why ∷ x ∷ starts) waits rest e is f = absurd cc
 
+-- without answers groups have no blocks
 no_group : (k g : ℕ) (cs : List (List Command)) → group_blocks k g cs [] ≡ []
 no_group k g [] = refl
 no_group k g (c ∷ cs) = refl
@@ -228,6 +236,7 @@ fair_groups s k g (c ∷ cs) (x ∷ xs) rest e f =
     by true (y ∷ ys) e more = absurd cc
     by false ys e more = more e
 
+-- nor with an empty list of answers
 no_groups_blocks : (k g : ℕ) (cs : List (List Command)) (xs : List GroupAnswers) → none xs ≡ true → group_blocks k g cs xs ≡ []
 no_groups_blocks k g cs [] e = no_group k g cs
 no_groups_blocks k g cs (x ∷ xs) e = absurd cc
@@ -236,6 +245,8 @@ no_groups_blocks k g cs (x ∷ xs) e = absurd cc
 pub fair_story : (k : ℕ) (job : Job) (a : JobAnswers) → whole_job job a ≡ true → Fair 0 0 (story k job a)
 fair_story k job a e = by (none job.groups) e
   where
+    -- Plan: claims and removals start and await nothing (`tail`); of the groups each is fair (`finish`). A job without groups has no
+    -- blocks.
     tail : (n : ℕ) → Fair n n (own_removals k 0 a.removals)
     tail n = fair_removals n n k 0 a.removals (omega arith)
 

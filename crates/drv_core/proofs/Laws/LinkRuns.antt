@@ -31,10 +31,18 @@ use Rattle.std.specs.List.{list_any}
 
 -- For linking_law: the link claims or starts something exactly if every source succeeded. `sift (calls k)` is the claims and starts of job
 -- k among the events of some blocks; the link is the job whose number is that of the sources.
+-- Names: `job` is the job of the source (or of the link) at hand. `k` is the number of a job in the plan. `g` is the number of a group of a
+-- job's commands. `a` is the answers to a job's steps. `j` is the number of any source. `t` is the value of a test, so that `by` can go by
+-- both cases. `cs` is groups of commands. `rest` is the blocks that follow. `sift f bs` is what `f` picks out of the events of blocks.
+-- `story k job a` is all blocks of job k that these answers make. `group_blocks` is the blocks of groups: of each its starts, then its
+-- waits. `link_run` is the link's job, if every source succeeded. `whole_groups` says that answers are complete up to the first group with
+-- a fault. `no_job` is a job without commands. `whole_job` says that a job's answers are complete.
 
+-- the claims and starts of job k that an event makes
 abbrev calls : ℕ → RunEvent → List Step
 calls k e = call_of k e.step
 
+-- the calls of two lists of events are those of both
 two : (k : ℕ) (E F : List RunEvent) → calls_of k (E ++ F) ≡ calls_of k E ++ calls_of k F
 two k E F = flat_map-append (calls k) E F
 
@@ -48,10 +56,12 @@ no_wait k j g i id Lost t = refl
 
 -- other jobs make no call of this job
 
+-- nothing is listed of a test that fails
 off : {X : Type 0} (t : Bool) (x : X) → t ≡ false → (if t then x ∷ [] else []) ≡ []
 off true x e = absurd cc
 off false x e = refl
 
+-- the closing of a pipe calls nothing
 no_close : (k : ℕ) (t : Bool) → calls_of k (if t then event step.ClosePipe answer.Closed ∷ [] else []) ≡ []
 no_close k true = refl
 no_close k false = refl
@@ -88,12 +98,15 @@ other_story k j job a other = two_lists (calls k) (claim_blocks j 0 a.claims) (g
 
 -- a job with commands makes a call
 
+-- a list that begins with a call is not empty
 some_call : (k : ℕ) (p : Place) (s : Step) (rest : List Step) → at_job k p s ≡ s ∷ [] → none (at_job k p s ++ rest) ≡ false
 some_call k p s rest e = ap (λ l. none (l ++ rest)) e
 
+-- a call of job k is listed for job k
 on : (k : ℕ) (s : Step) → (if nat_eq k k then s ∷ [] else []) ≡ s ∷ []
 on k s = ap (λ (t : Bool). if t then s ∷ [] else []) (nat_eq_equiv.refl k)
 
+-- a story that begins with a claim makes a call
 first_claim : (k : ℕ) (c : Told ClaimAnswer) (cs : List (Told ClaimAnswer)) (rest : List Block)
     → none (sift (calls k) (claim_blocks k 0 (c ∷ cs) ++ rest)) ≡ false
 first_claim k c cs rest = some_call k (place.Temp k 0) (step.Claim (place.Temp k 0)) _ (on k (step.Claim (place.Temp k 0)))
@@ -121,6 +134,7 @@ calls_in k ((c ∷ cs) ∷ gs) [] (x ∷ xs) rest busy filled e =
     ((wait_blocks k 0 0 x.starts x.waits ++ group_blocks k (0 + 1) gs xs) ++ rest)
     (and_first (whole_group (c ∷ cs) x.starts x.waits) (if group_failed x then none xs else whole_groups gs xs) e)
 
+-- a list of groups that is not empty has a length greater than 0
 some_group : (cs : List (List Command)) → none cs ≡ false → 0 < length cs
 some_group [] e = absurd cc
 some_group (c ∷ cs) e = omega arith
@@ -142,6 +156,7 @@ own_calls k job a filled busy whole = calls_in k job.groups a.claims a.groups (o
 
 -- and one without commands makes none
 
+-- a list without items is empty
 empty : {X : Type 0} (xs : List X) → none xs ≡ true → xs ≡ []
 empty [] e = refl
 empty (x ∷ xs) e = absurd cc
@@ -161,6 +176,8 @@ links_where plan N o E w = record {
   without = λ is. without is;
 }
   where
+    -- Plan: the calls of the link are those of its own story (`of_link`). `by`: if all sources succeeded, its first claim or start is one;
+    -- else the link is a job without groups (`idle_link`).
     of_link : calls_of (length plan.jobs) E ≡ sift (calls (length plan.jobs)) (story (length plan.jobs) (link_run plan.link o.jobs) o.link)
     of_link = halves (calls (length plan.jobs)) plan N o E w (length plan.jobs)
         (λ j job a other. other_story (length plan.jobs) j job a other)

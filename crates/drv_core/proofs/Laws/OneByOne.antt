@@ -14,7 +14,13 @@ use Rattle.std.proofs.lemmas.Bool.Decides.{nat_tests}
 use Rattle.std.proofs.lemmas.Cmp.{nat_eq_equiv}
 
 -- For interleaving_law: the blocks of a run, rearranged source by source, fit a window of one: each source ends before the next begins.
+-- Names: `jobs` is the jobs of the sources, in plan order. `bs` is blocks of several sources. `k` is the number of a job in the plan. `j`
+-- is the number of any source. `t` is the value of a test, so that `by` can go by both cases. `n` is the number of sources. `xs` is the
+-- answers of the jobs. `of k bs` is the blocks of source k among `bs`. `has k bs` says whether source k has a block among `bs`. `in_flight`
+-- says whether a child was started in these blocks and not waited for. `count n p` is how many numbers below n pass p. `is_less` and `same`
+-- turn a true test of numbers into `<` and `≡`. `and_first` and `and_second` give the parts of a true `&&`.
 
+-- a source whose list of blocks is empty has no block
 absent : (j : ℕ) (bs : List SourceBlock) → of j bs ≡ [] → has j bs ≡ false
 absent j bs e = rw e refl
 
@@ -31,6 +37,8 @@ may n k before later wait lt ended waiting here done flies = record {
   all_in_flight = λ e. fly e;
 }
   where
+    -- Plan: no other source has begun and not ended (`others`), and none has a child in flight (`still`), so the rule for waits holds
+    -- (`fly`).
     neither : (t : Bool) → (t && false) ≡ false
     neither true = refl
     neither false = refl
@@ -71,6 +79,8 @@ walk n m before (b ∷ after) upto order fair = (
       (λ j. subst (λ l. Fair 0 0 (of j l)) (sym (append_assoc before (b ∷ []) after)) (fair j)),
 )
   where
+    -- Plan: by induction: the block at the head may come (`may`), since earlier sources have ended (`ended`) and later ones have not begun
+    -- (`up`).
     up : Upto b.source before
     up = upto_more m b.source before order.0 upto
 

@@ -38,15 +38,25 @@ use Rattle.std.specs.Prelude.{⊤}
 
 -- For removal_law: in a whole run the removals are those of the rule: a job that failed after a start removes its failure files, and at the
 -- end the claimed temporaries and the marked files go, each path once. `own` and `last` pick these two kinds out of the events.
+-- Names: `job` is the job of the source (or of the link) at hand. `k` is the number of a job in the plan. `g` is the number of a group of a
+-- job's commands. `a` is the answers to a job's steps. `j` is the number of any source. `t` is the value of a test, so that `by` can go by
+-- both cases. `u` is the value of a second test. `i` is the index of a failure file. `files` is the files to be removed at the end. `rs` is
+-- the answers to removals. `events_of` lists the events of blocks. `sift f bs` is what `f` picks out of the events of blocks.
+-- `end_removals` is the blocks of the removals at the end. `story k job a` is all blocks of job k that these answers make. `own_removals`
+-- is the blocks in which a failed job removes its failure files. `link_run` is the link's job, if every source succeeded. `removed_at_end`
+-- is the files that are removed at the end.
 
+-- the removals of job k's own failure files that an event makes
 abbrev own : ℕ → RunEvent → List Place
 own k e = own_removal k e.step
 
+-- the removals at the end that an event makes
 abbrev last : RunEvent → List Place
 last e = end_removal e.step
 
 -- No event before a job's own removals is one of them.
 
+-- the closing of a pipe removes nothing
 quiet_close : (k : ℕ) (t : Bool) → flat_map (own k) (if t then event step.ClosePipe answer.Closed ∷ [] else []) ≡ []
 quiet_close k true = refl
 quiet_close k false = refl
@@ -74,7 +84,7 @@ quiet_groups k j g (c ∷ cs) (x ∷ xs) = two_lists (own k) (starts_block j g (
     x.starts x.waits))
     (quiet_groups k j (g + 1) cs xs)
 
--- of a story only the job's own removals are such
+-- of a story only the job's own removals remove its failure files
 removals_alone : (k j : ℕ) (job : Job) (a : JobAnswers) → sift (own k) (story j job a) ≡ sift (own k) (own_removals j 0 a.removals)
 removals_alone k j job a = two_lists (own k) (claim_blocks j 0 a.claims) (group_blocks j 0 job.groups a.groups
     ++ own_removals j 0 a.removals)
@@ -115,6 +125,7 @@ own_all k i (r ∷ rs) (f ∷ files) e = flat_map-append (own k) (removal_block 
 
 -- there are as many answers to removals as files
 
+-- a list without items is empty
 empty : {X : Type 0} (xs : List X) → none xs ≡ true → xs ≡ []
 empty [] e = refl
 empty (x ∷ xs) e = absurd cc
@@ -123,6 +134,7 @@ empty (x ∷ xs) e = absurd cc
 answered : (job : Job) (a : JobAnswers) → whole_job job a ≡ true → length a.removals ≡ length (removed_by_job job a)
 answered job a e = by (none job.groups) e
   where
+    -- Plan: a job without groups removes nothing (`idle`); else its answers are complete, and have one for each removal.
     idle : none a.claims ≡ true → none a.groups ≡ true → removed_by_job job a ≡ []
     idle c g = ap (λ l. removed_by_job job (record { claims = l; groups = a.groups; removals = a.removals })) (empty a.claims c)
         ∙ ap (λ l. removed_by_job job (record { claims = []; groups = l; removals = a.removals })) (empty a.groups g)
@@ -138,19 +150,23 @@ answered job a e = by (none job.groups) e
         (and_second (whole_claims job.temps a.claims && (if claims_failed a then none a.groups else whole_groups job.groups a.groups))
         (nat_eq (length a.removals) (length (removed_by_job job a))) h)
 
+-- the removals of a job in its own story are those of its failure files, if it failed after a start
 own_story : (k : ℕ) (job : Job) (a : JobAnswers) → whole_job job a ≡ true → sift (own k) (story k job a) ≡ failure_places k 0
     (removed_by_job job a)
 own_story k job a e = removals_alone k k job a ∙ own_all k 0 a.removals (removed_by_job job a) (answered job a e)
 
 -- The removals at the end are of temporaries and marked files.
 
+-- a file that is removed at the end, and by no job of its own
 abbrev AtEnd : File → Type 0
 AtEnd f = (end_at f.place ≡ f.place ∷ []) × ((k : ℕ) → own_at k f.place ≡ [])
 
+-- the same of each file
 abbrev AllAtEnd : List File → Type 0
 AllAtEnd [] = ⊤
 AllAtEnd (f ∷ fs) = AtEnd f × AllAtEnd fs
 
+-- what holds of two parts holds of both together
 at_both : (xs ys : List File) → AllAtEnd xs → AllAtEnd ys → AllAtEnd (xs ++ ys)
 at_both [] ys e f = f
 at_both (x ∷ xs) ys e f = (e.0, at_both xs ys e.1 f)
@@ -166,6 +182,7 @@ at_temps k i (t ∷ ts) (c ∷ cs) = at_both (if is_claimed c.answer then record
     by true = ((refl, λ j. refl), tt)
     by false = tt
 
+-- marked files are removed at the end
 at_marked : (k i : ℕ) (ms : List (List ℕ)) → AllAtEnd (marked_files k i ms)
 at_marked k i [] = tt
 at_marked k i (m ∷ ms) = ((refl, λ j. refl), at_marked k (i + 1) ms)
@@ -195,6 +212,7 @@ at_once seen (f ∷ fs) e = by (list_any (pointwise nat_eq f.path) seen) (at_onc
     by true gone left = gone
     by false gone left = (e.0, left)
 
+-- the files that a run removes at the end are such
 at_end : (plan : Plan) (o : Answers) → AllAtEnd (removed_at_end plan o)
 at_end plan o = at_once [] (files_of_jobs 0 (plan.jobs ++ link_run plan.link o.jobs ∷ []) (o.jobs ++ o.link ∷ []))
     (at_jobs 0 (plan.jobs ++ link_run plan.link o.jobs ∷ []) (o.jobs ++ o.link ∷ []))
@@ -226,6 +244,7 @@ all_at_end (f ∷ files) (r ∷ rs) e at = flat_map-append last (removal_block f
     ∙ ap (λ l. l ++ sift last (end_removals files rs)) (with_report last f.place r.answer r.told refl ∙ at.0.0)
     ∙ ap (λ l. f.place ∷ l) (all_at_end files rs (omega arith) at.1)
 
+-- two lists of removals together are removals
 remove_both : (E F : List RunEvent) → AllRemove E → AllRemove F → AllRemove (E ++ F)
 remove_both [] F e f = f
 remove_both (x ∷ E) F e f = (e.0, remove_both E F e.1 f)
@@ -243,6 +262,7 @@ remove_alone (f ∷ files) (r ∷ rs) = remove_both (removal_block f.place r) (e
 
 -- No event of a story is one of them.
 
+-- a block in which nothing is removed at the end
 abbrev Quiet : Block → Type 0
 Quiet b = flat_map last b ≡ []
 
@@ -252,6 +272,7 @@ quiet_claim k i claim.Claimed t = refl
 quiet_claim k i claim.Taken t = refl
 quiet_claim k i claim.Failed t = refl
 
+-- the closing of a pipe is quiet
 quiet_last_close : (t : Bool) → Quiet (if t then event step.ClosePipe answer.Closed ∷ [] else [])
 quiet_last_close true = refl
 quiet_last_close false = refl
@@ -278,6 +299,7 @@ quiet_kinds = record {
       (place.OnFailure k i) x t refl;
 }
 
+-- quiet blocks remove nothing at the end
 all_quiet : (bs : List Block) → Each Quiet bs → sift last bs ≡ []
 all_quiet [] e = refl
 all_quiet (b ∷ bs) e = flat_map-append last b (events_of bs) ∙ nothing e.0 (all_quiet bs e.1)
@@ -301,6 +323,8 @@ removes_by_rule plan N o E w = record {
   alone = remove_alone files o.last;
 }
   where
+    -- Plan: `sources` and `link`: of each job the own removals are those of its story, since other stories have none of it (`others`). Then
+    -- the removals at the end follow `removed_at_end`.
     n : ℕ
     n = length plan.jobs
 

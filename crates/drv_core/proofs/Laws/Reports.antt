@@ -24,6 +24,8 @@ use Rattle.std.proofs.Common.{subst, sym, ℕ}
 
 -- For report_law: in a whole run each failure is followed directly by its report, and there is no other report. That is shown of each kind
 -- of block (`Leads`): a claim, the starts of a group, a wait, and a removal.
+-- Names: `k` is the number of a job in the plan. `t` is the value of a test, so that `by` can go by both cases. `i` is the index of an
+-- event's place in its group. `events_of` lists the events of blocks.
 
 -- the law holds of events that begin with this block, if it holds of the events after it
 abbrev Leads : Block → Type 0
@@ -37,6 +39,7 @@ lead_claim k i claim.Taken t F f = told (event (step.Claim (place.Temp k i)) (an
 lead_claim k i claim.Failed t F f = told (event (step.Claim (place.Temp k i)) (answer.Claim claim.Failed))
     (note.NotClaimed (place.Temp k i)) t F refl f
 
+-- the closing of a pipe needs no report
 lead_close : (t : Bool) → Leads (if t then event step.ClosePipe answer.Closed ∷ [] else [])
 lead_close true F f = silent (event step.ClosePipe answer.Closed) F refl refl f
 lead_close false F f = f
@@ -81,6 +84,7 @@ lead_end [] rs = tt
 lead_end (x ∷ files) [] = tt
 lead_end (x ∷ files) (r ∷ rs) = (lead_removal x.place r.answer r.told, lead_end files rs)
 
+-- blocks that are reported, before events that are, are reported with them
 all_lead : (bs : List Block) → Each Leads bs → (F : List RunEvent) → Reported F → Reported (events_of bs ++ F)
 all_lead [] e F f = f
 all_lead (b ∷ bs) e F f = subst (λ l. Reported l) (sym (append_assoc b (events_of bs) F)) (e.0 (events_of bs ++ F) (all_lead bs e.1 F f))

@@ -34,19 +34,29 @@ use Rattle.std.specs.Prelude.{slice_get}
 
 -- For started_first: the commands of a job that the events of a whole run start are those that its answers start. `seen plan k blocks` is
 -- the commands of job k that these blocks start.
+-- Names: `plan` is the plan of the run: the jobs of its sources, and perhaps a link. `E` is the events so far. `job` is the job of the
+-- source (or of the link) at hand. `k` is the number of a job in the plan. `g` is the number of a group of a job's commands. `a` is the
+-- answers to a job's steps. `j` is the number of any source. `t` is the value of a test, so that `by` can go by both cases. `h` is a
+-- group's number too. `i` is the next member of a group. `cs` is groups of commands. `xs` is answers. `group_at job g` is the commands of
+-- the group. `group_blocks` is the blocks of groups: of each its starts, then its waits. `link_run` is the link's job, if every source
+-- succeeded. `starts_block` is the events of a group's starts. `whole_groups` says that answers are complete up to the first group with a
+-- fault. `no_job` is a job without commands. `story k job a` is all blocks of job k that these answers make.
 
+-- the commands of job k that these blocks start
 abbrev seen : Plan → ℕ → List Block → List Command
 seen plan k blocks = started_in plan k (events_of blocks)
 
+-- the commands that two lists of events start are those of both
 two : (plan : Plan) (k : ℕ) (E F : List RunEvent) → started_in plan k (E ++ F) ≡ started_in plan k E ++ started_in plan k F
 two plan k E F = flat_map-append (λ e. started_by plan k e.step e.answer) E F
 
+-- and those of two lists of blocks
 both : (plan : Plan) (k : ℕ) (xs ys : List Block) → seen plan k (xs ++ ys) ≡ seen plan k xs ++ seen plan k ys
 both plan k xs ys = two_lists (λ e. started_by plan k e.step e.answer) xs ys
 
 -- waits start nothing
 
--- a wait starts no command
+-- the block of a wait starts no command
 no_wait : (plan : Plan) (k j g i id : ℕ) (x : WaitAnswer) (t : Bool)
     → started_in plan k (wait_block j g i id (record { answer = x; told = t })) ≡ []
 no_wait plan k j g i id (Exit n) t = refl
@@ -55,6 +65,7 @@ no_wait plan k j g i id Lost t = refl
 
 -- the starts of a group
 
+-- the closing of a pipe starts nothing
 no_close : (plan : Plan) (k : ℕ) (t : Bool) → started_in plan k (if t then event step.ClosePipe answer.Closed ∷ [] else []) ≡ []
 no_close plan k true = refl
 no_close plan k false = refl
@@ -71,6 +82,7 @@ starts plan k g n i refused cs (Started id ∷ xs) at = ap (λ l. l ++ started_i
     ∙ by cs (at 0) (λ ds later. starts plan k g n (i + 1) refused ds xs later)
     (λ h. ap (λ m. slice_get (group_at (job_at plan k) g) m) (let is : i + 1 + h ≡ i + suc h = omega arith in is) ∙ at (suc h))
   where
+    -- Plan: by the commands from member i on: the event starts the one at its place (`this`), and the later members follow.
     this : command_at plan k (place.Command k g i) ≡ option_to_list (slice_get (group_at (job_at plan k) g) (i + 0))
     this = ap (λ (t : Bool). if t then option_to_list (slice_get (group_at (job_at plan k) g) i) else []) (nat_eq_equiv.refl k)
         ∙ ap (λ m. option_to_list (slice_get (group_at (job_at plan k) g) m)) (let is : i ≡ i + 0 = omega arith in is)
@@ -119,6 +131,7 @@ groups plan k g (c ∷ cs) (x ∷ xs) at e =
     (λ w. groups plan k (g + 1) cs xs (λ h. ap (λ m. group_at (job_at plan k) m) (let is : g + 1 + h ≡ g + suc h = omega arith in is)
     ∙ at (suc h)) w))
   where
+    -- Plan: the first group is the one at number g (`here`); the others follow if it did not fail (`rest`).
     here : group_at (job_at plan k) g ≡ c
     here = ap (λ m. group_at (job_at plan k) m) (let is : g ≡ g + 0 = omega arith in is) ∙ at 0
 
@@ -152,6 +165,7 @@ in_story plan k j job a = both plan k (claim_blocks j 0 a.claims) (group_blocks 
     ∙ both plan k (group_blocks j 0 job.groups a.groups) (own_removals j 0 a.removals)
     ∙ only_first refl (no_removals (λ e. started_by plan k e.step e.answer) (λ p x t. (refl, refl)) j 0 a.removals)
 
+-- the story of another job starts nothing of this one
 other_story : (plan : Plan) (k j : ℕ) (job : Job) (a : JobAnswers) → nat_eq j k ≡ false → seen plan k (story j job a) ≡ []
 other_story plan k j job a other = in_story plan k j job a ∙ no_groups plan k j 0 job.groups a.groups other
 
@@ -166,6 +180,8 @@ own_story : (plan : Plan) (k : ℕ) (job : Job) (a : JobAnswers) → (none job.g
     → seen plan k (story k job a) ≡ started job a
 own_story plan k job a here whole = in_story plan k k job a ∙ by (none job.groups) refl whole
   where
+    -- Plan: a job without groups starts nothing (`idle`); after a failed claim no group is answered (`nothing_started`); else group by
+    -- group.
     idle : (cs : List (List Command)) → none cs ≡ true → started_in_groups cs a.groups ≡ []
     idle [] e = refl
     idle (c ∷ cs) e = absurd cc
@@ -234,6 +250,8 @@ started_first plan N o E w = each 0 plan.jobs o.jobs (jobs_whole plan N o E w) w
     (λ h lt. ap (λ i. job_at plan i) (let is : 0 + h ≡ h = omega arith in is)
     ∙ get_or-append plan.jobs (option_to_list plan.link) no_job h lt)
   where
+    -- Plan: of each source the commands come from its own story (`source`, `each`), of the link from its own (`link`, `ends`); and each
+    -- story starts the first ones of its list (`first`).
     ends : (k : ℕ) → seen plan k (after_sources plan o) ≡ seen plan k (story (length plan.jobs) (link_run plan.link o.jobs) o.link)
     ends k = both plan k (story (length plan.jobs) (link_run plan.link o.jobs) o.link) (end_removals (removed_at_end plan o) o.last)
         ∙ only_first refl (no_last (λ e. started_by plan k e.step e.answer) (λ p x t. (refl, refl)) (removed_at_end plan o) o.last)

@@ -16,7 +16,12 @@ use Rattle.std.specs.Prelude.{if◌then◌else◌}
 
 -- For started_first: the started commands of a job, by its answers, are the first ones of its planned list, which is its commands group
 -- after group.
+-- Names: `job` is the job of the source (or of the link) at hand. `a` is the answers to a job's steps. `t` is the value of a test, so that
+-- `by` can go by both cases. `rest` is the commands that follow. `gs` is groups of commands, and `xs` their answers. `failed` says whether
+-- a group failed. `whole_groups` says that answers are complete up to the first group with a fault. `claims_failed` says whether a claim of
+-- the job failed. `whole_job` says that a job's answers are complete. `and_first` and `and_second` give the parts of a true `&&`.
 
+-- if none of two tests holds, each fails
 or_parts : (a b : Bool) → (a || b) ≡ false → (a ≡ false) × (b ≡ false)
 or_parts false b e = (refl, e)
 or_parts true b e = absurd cc
@@ -47,6 +52,7 @@ every_start g a whole well = all_in_group g a.starts a.waits whole (or_parts (li
 
 -- in groups, one after another
 
+-- the commands of all groups, in order
 abbrev all_of : List (List Command) → List Command
 all_of gs = flat_map (λ group. group) gs
 
@@ -61,6 +67,8 @@ in_groups (g ∷ gs) (a ∷ xs) whole =
     (and_second (whole_group g a.starts a.waits) (if group_failed a then none xs else whole_groups gs xs) whole)
     (λ later. in_groups gs xs later)
   where
+    -- Plan: by whether the first group failed: then what it started are the first commands and nothing follows; else all of it, and the
+    -- other groups.
     by : (failed : Bool) → group_failed a ≡ failed → whole_group g a.starts a.waits ≡ true
         → (if failed then none xs else whole_groups gs xs) ≡ true
         → (whole_groups gs xs ≡ true → (rest : List Command) × (all_of gs ≡ started_in_groups gs xs ++ rest))
@@ -98,6 +106,7 @@ every_group (g ∷ gs) (a ∷ xs) whole well =
 
 -- in a job
 
+-- without groups nothing is started
 no_group : (gs : List (List Command)) (xs : List GroupAnswers) → none gs ≡ true → started_in_groups gs xs ≡ all_of gs
 no_group [] xs is = refl
 no_group (g ∷ gs) xs is = absurd cc
@@ -107,6 +116,7 @@ groups_whole : (job : Job) (a : JobAnswers) → whole_job job a ≡ true → cla
     → (none job.groups ≡ true) ⊎ (whole_groups job.groups a.groups ≡ true)
 groups_whole job a whole claimed = by (none job.groups) refl whole
   where
+    -- Plan: by whether the job has commands.
     by : (t : Bool) → none job.groups ≡ t
         → (if t then none a.claims && none a.groups && none a.removals else whole_claims job.temps a.claims
         && (if claims_failed a then none a.groups else whole_groups job.groups a.groups) && nat_eq (length a.removals)
@@ -125,6 +135,7 @@ groups_whole job a whole claimed = by (none job.groups) refl whole
 pub first_ones : (job : Job) (a : JobAnswers) → whole_job job a ≡ true → (rest : List Command) × (commands_of job ≡ started job a ++ rest)
 first_ones job a whole = front (claims_failed a) refl
   where
+    -- Plan: by whether a claim failed: then nothing was started; else the groups' answers are complete (`front_of`).
     front_of : (none job.groups ≡ true) ⊎ (whole_groups job.groups a.groups ≡ true)
         → (rest : List Command) × (all_of job.groups ≡ started_in_groups job.groups a.groups ++ rest)
     front_of (inl is) = ([], sym (no_group job.groups a.groups is) ∙ sym (append-nil (started_in_groups job.groups a.groups)))

@@ -30,13 +30,22 @@ use Rattle.std.proofs.lemmas.Cmp.{nat_eq_equiv}
 use Rattle.std.specs.Prelude.{⊤}
 
 -- For status_law: the greatest code of a run's events is that of its answers, so a run can compute it as it goes.
+-- Names: `blocks` is the blocks so far, each with its source. `k` is the number of a job in the plan. `g` is the number of a group of a
+-- job's commands. `t` is the value of a test, so that `by` can go by both cases. `n` is a code, or the number of jobs. `i` is the next
+-- member of a group. `f` gives a code for each job. `cs` is groups of commands. `run_code` is the greatest code of events. `events_of`
+-- lists the events of blocks. `of k bs` is the blocks of source k among `bs`. `group_blocks` is the blocks of groups: of each its starts,
+-- then its waits. `whole_groups` says that answers are complete up to the first group with a fault. `link_run` is the link's job, if every
+-- source succeeded. `whole_job` says that a job's answers are complete.
 
+-- the greater of a code and 0 is the code
 max_nothing : (n : ℕ) → max n 0 ≡ n
 max_nothing n = omega arith
 
+-- the same, the other way round
 nothing_max : (n : ℕ) → max 0 n ≡ n
 nothing_max n = omega arith
 
+-- the greatest of three codes doesn't depend on the order in which they are compared
 max_assoc : (a b c : ℕ) → max (max a b) c ≡ max a (max b c)
 max_assoc a b c = omega arith
 
@@ -72,6 +81,7 @@ code_claims k i (c ∷ cs) = code_append (claim_block k i c) (events_of (claim_b
 
 -- groups
 
+-- the closing of a pipe has no code
 code_close : (t : Bool) → run_code (if t then event step.ClosePipe answer.Closed ∷ [] else []) ≡ 0
 code_close true = refl
 code_close false = refl
@@ -109,6 +119,7 @@ code_waits k g i (c ∷ cs) (start.NotStarted why ∷ []) [] e = refl
 code_waits k g i (c ∷ cs) (start.NotStarted why ∷ []) (w ∷ ws) e = absurd cc
 code_waits k g i (c ∷ cs) (start.NotStarted why ∷ x ∷ xs) ws e = absurd cc
 
+-- without answers groups have no blocks
 no_group : (k g : ℕ) (cs : List (List Command)) → group_blocks k g cs [] ≡ []
 no_group k g [] = refl
 no_group k g (c ∷ cs) = refl
@@ -142,7 +153,7 @@ code_groups k g (c ∷ cs) (x ∷ xs) e =
 
 -- removals
 
--- a removal has code 0
+-- the block of a removal has the code 0, whatever became of it
 code_removal : (p : Place) (x : RemoveAnswer) (t : Bool) → run_code (removal_block p (record { answer = x; told = t })) ≡ 0
 code_removal p x t = by (removal_failed x)
   where
@@ -183,6 +194,8 @@ code_story k job a e = events_two (claim_blocks k 0 a.claims) (group_blocks k 0 
     ∙ ap (λ n. max (run_code (events_of (group_blocks k 0 job.groups a.groups))) n) (code_own k 0 a.removals)
     ∙ max_nothing (run_code (events_of (group_blocks k 0 job.groups a.groups))) ∙ by (none job.groups) e)
   where
+    -- Plan: claims, groups and removals in turn; after a failed claim no group is answered (`groups_by`), and a job without groups has no
+    -- blocks.
     groups_by : (t : Bool) → (if t then none a.groups else whole_groups job.groups a.groups) ≡ true
         → run_code (events_of (group_blocks k 0 job.groups a.groups)) ≡ greatest group_code a.groups
     groups_by true h = no_groups_code k job.groups a.groups h
@@ -214,6 +227,7 @@ top_with : (n k c : ℕ) (f g : ℕ → ℕ) → k < n → g k ≡ max c (f k) �
 top_with zero k c f g lt at others = absurd (omega arith)
 top_with (suc n) k c f g lt at others = by (nat_eq k n) refl (λ below. top_with n k c f g below at others)
   where
+    -- Plan: by whether the number is the last one.
     by : (t : Bool) → nat_eq k n ≡ t → (k < n → top n g ≡ max c (top n f)) → max (g n) (top n g) ≡ max c (max (f n) (top n f))
     by true e ih =
         let is : k ≡ n = same k n e in
@@ -234,6 +248,7 @@ pub all_below : (n N : ℕ) (left : ℕ → Bool) (before blocks : List SourceBl
 all_below n N left before [] come = tt
 all_below n N left before (b ∷ bs) come = (is_less b.source n come.0.is_source, all_below n N left (before ++ b ∷ []) bs come.1)
 
+-- the greatest of nothing is 0
 no_top : (n : ℕ) → 0 ≡ top n (λ j. 0)
 no_top zero = refl
 no_top (suc n) = no_top n ∙ sym (nothing_max (top n (λ j. 0)))
@@ -296,6 +311,7 @@ status_is plan N o E pass_codes w = ap (λ n. status_from pass_codes n)
     ∙ code_story (length plan.jobs) (link_run plan.link o.jobs) o.link link_whole)
     ∙ sym (greatest_last o.jobs o.link))
   where
+    -- Plan: the sources' answers and the link's are complete, so `code_story` holds of each.
     both_whole : (whole_jobs plan.jobs o.jobs && whole_job (link_run plan.link o.jobs) o.link) ≡ true
     both_whole = and_first (whole_jobs plan.jobs o.jobs && whole_job (link_run plan.link o.jobs) o.link)
         (nat_eq (length o.last) (length (removed_at_end plan o))) w.all_answers

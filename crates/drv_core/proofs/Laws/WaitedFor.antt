@@ -27,23 +27,36 @@ use Rattle.std.proofs.lemmas.Grind.{flat_map-append}
 
 -- For waiting_law: in the events of a whole run each started child is waited for once. An act is the start of a child of the job, or the
 -- wait for one; `seen k blocks` is the acts of job k in these blocks.
+-- Names: `job` is the job of the source (or of the link) at hand. `k` is the number of a job in the plan. `g` is the number of a group of a
+-- job's commands. `a` is the answers to a job's steps. `j` is the number of any source. `t` is the value of a test, so that `by` can go by
+-- both cases. `acts` is the acts that follow. `i` is the next member of a group. `m` is the member from which on places are free. `cs` is
+-- children, or groups of commands. `xs` is the answers to the starts of a group, or to groups. `n` is the number of members. `group_blocks`
+-- is the blocks of groups: of each its starts, then its waits. `story k job a` is all blocks of job k that these answers make. `link_run`
+-- is the link's job, if every source succeeded. `whole_groups` says that answers are complete up to the first group with a fault.
+-- `wait_blocks` is the blocks of a group's waits. `starts_block` is the events of a group's starts. `of k bs` is the blocks of source k
+-- among `bs`.
 
+-- the acts of job k in these blocks
 abbrev seen : ℕ → List Block → List Act
 seen k blocks = acts_in k (events_of blocks)
 
+-- the acts of two lists of events are those of both
 two : (k : ℕ) (E F : List RunEvent) → acts_in k (E ++ F) ≡ acts_in k E ++ acts_in k F
 two k E F = flat_map-append (λ e. acts_of k e.step e.answer) E F
 
+-- and those of two lists of blocks
 both : (k : ℕ) (xs ys : List Block) → seen k (xs ++ ys) ≡ seen k xs ++ seen k ys
 both k xs ys = two_lists (λ e. acts_of k e.step e.answer) xs ys
 
 -- the children of a group, from member i on
 
+-- the children of a group that were started, with their places
 abbrev children : ℕ → ℕ → List StartAnswer → List Child
 children g i [] = []
 children g i (Started id ∷ xs) = record { group = g; member = i; id = id } ∷ children g (i + 1) xs
 children g i (NotStarted why ∷ xs) = []
 
+-- the closing of a pipe is no act
 no_close : (k : ℕ) (t : Bool) → acts_in k (if t then event step.ClosePipe answer.Closed ∷ [] else []) ≡ []
 no_close k true = refl
 no_close k false = refl
@@ -93,11 +106,13 @@ no_wait k j g i id x t other = a_wait k j g i id x t ∙ ap (λ (u : Bool). if u
 
 -- all children of a group are started, and then waited for in that order
 
+-- after the starts of some children these are waited for too
 start_all : (cs waiting : List Child) (acts : List Act) → Waited (waiting ++ cs) acts → Waited waiting (map Begins cs ++ acts)
 start_all [] waiting acts w = subst (λ l. Waited l acts) (append-nil waiting) w
 start_all (c ∷ cs) waiting acts w = begins c waiting (map Begins cs ++ acts)
     (start_all cs (waiting ++ c ∷ []) acts (subst (λ l. Waited l acts) (sym (append_assoc waiting (c ∷ []) cs)) w))
 
+-- the waits for all children that are left are all that is needed
 await_all : (cs : List Child) (acts : List Act) → Waited [] acts → Waited cs (map Awaits cs ++ acts)
 await_all [] acts w = w
 await_all (c ∷ cs) acts w = awaits c cs (map Awaits cs ++ acts) (await_all cs acts w)
@@ -123,6 +138,7 @@ up g m [] acts a = a m
 up g m (NotStarted why ∷ xs) acts a = a m
 up g m (Started id ∷ xs) acts a = (inr (refl, let le : m ≤ m = omega arith in le), up g (m + 1) xs acts a)
 
+-- waits take no new place
 quiet : (g m : ℕ) (cs : List Child) (acts : List Act) → Ascends g m acts → Ascends g m (map Awaits cs ++ acts)
 quiet g m [] acts a = a
 quiet g m (c ∷ cs) acts a = quiet g m cs acts a
@@ -135,6 +151,7 @@ group_after g xs acts b = record {
   once = up g 0 xs (map Awaits (children g 0 xs) ++ acts) (λ n. quiet g n (children g 0 xs) acts (later g n 0 acts b.once));
 }
 
+-- if nothing follows, nothing is out of order
 none_after : (g : ℕ) (acts : List Act) → acts ≡ [] → Following g 0 acts
 none_after g acts e = subst (λ l. Following g 0 l) (sym e) (record { each = over; once = tt })
 
@@ -148,6 +165,7 @@ groups k g (c ∷ cs) (x ∷ xs) e = subst (λ l. Following g 0 l) (sym is) (gro
     (rest (group_failed x) xs (and_second (whole_group c x.starts x.waits) (if group_failed x then none xs else whole_groups cs xs) e)
     (λ w. groups k (g + 1) cs xs w)))
   where
+    -- Plan: the first group's acts are its starts and then its waits (`is`); the other groups follow, if this one had no fault (`rest`).
     is : seen k (group_blocks k g (c ∷ cs) (x ∷ xs)) ≡ map Begins (children g 0 x.starts)
         ++ (map Awaits (children g 0 x.starts) ++ seen k (group_blocks k (g + 1) cs xs))
     is = both k (starts_block k g (length c) 0 x.refused x.starts ∷ wait_blocks k g 0 x.starts x.waits) (group_blocks k (g + 1) cs xs)
@@ -187,9 +205,11 @@ in_story k j job a = both k (claim_blocks j 0 a.claims) (group_blocks j 0 job.gr
     ∙ both k (group_blocks j 0 job.groups a.groups) (own_removals j 0 a.removals)
     ∙ only_first refl (no_removals (λ e. acts_of k e.step e.answer) (λ p x t. (refl, refl)) j 0 a.removals)
 
+-- the story of another job has no act of this one
 other_story : (k j : ℕ) (job : Job) (a : JobAnswers) → nat_eq j k ≡ false → seen k (story j job a) ≡ []
 other_story k j job a other = in_story k j job a ∙ no_groups k j 0 job.groups a.groups other
 
+-- without answers groups have no act
 unanswered : (k : ℕ) (cs : List (List Command)) (xs : List GroupAnswers) → none xs ≡ true → seen k (group_blocks k 0 cs xs) ≡ []
 unanswered k cs [] e = ap (λ l. seen k l) (no_group k 0 cs)
 unanswered k cs (x ∷ xs) e = absurd cc
@@ -198,6 +218,7 @@ unanswered k cs (x ∷ xs) e = absurd cc
 own_story : (k : ℕ) (job : Job) (a : JobAnswers) → whole_job job a ≡ true → Following 0 0 (seen k (story k job a))
 own_story k job a whole = subst (λ l. Following 0 0 l) (sym (in_story k k job a)) (by (none job.groups) whole)
   where
+    -- Plan: after a failed claim no group is answered (`claimed`), and a job without groups has no act.
     claimed : (t : Bool) → (if t then none a.groups else whole_groups job.groups a.groups) ≡ true
         → Following 0 0 (seen k (group_blocks k 0 job.groups a.groups))
     claimed true h = none_after 0 (seen k (group_blocks k 0 job.groups a.groups)) (unanswered k job.groups a.groups h)
@@ -237,6 +258,8 @@ own_source bs from (job ∷ jobs) (a ∷ xs) e t (suc j) lt =
 pub waits_for_each : (plan : Plan) (N : ℕ) (o : Answers) (E : List RunEvent) → Windowed plan N o E → (k : ℕ) → WaitsForEach k E
 waits_for_each plan N o E w k = done (by (nat_lt k (length plan.jobs)) refl)
   where
+    -- Plan: by whether k is a source, the link, or no job: then its acts are those of its own story (`whole`, `link_of`), or there are
+    -- none.
     after : seen k (after_sources plan o) ≡ seen k (story (length plan.jobs) (link_run plan.link o.jobs) o.link)
     after = both k (story (length plan.jobs) (link_run plan.link o.jobs) o.link) (end_removals (removed_at_end plan o) o.last)
         ∙ only_first refl (no_last (λ e. acts_of k e.step e.answer) (λ p x t. (refl, refl)) (removed_at_end plan o) o.last)

@@ -16,6 +16,10 @@ use Rattle.std.specs.Cmp.Lexicographic.{pointwise, same_text}
 
 -- For the removals at the end: the code numbers the paths of the leftover files (numbering.rt), file by file: a path has the number of its
 -- first file. `Noted` is what holds after some files, `Noting` within a list of them.
+-- Names: `t` is the value of a test, so that `by` can go by both cases. `before` is the files that were numbered before. `find` gives the
+-- number that the code's map has for a path. `files` is the code's list of files. `n` is the number of the next file. `p` is any path.
+-- `path` is the path of the file that is added. `first` is the number of the first file of that path. `new` and `now` are the list and the
+-- map after it. `place` is the place of the file. `x` is what a search finds.
 
 -- the search continues after a list
 
@@ -58,6 +62,7 @@ noted_first : (before : List File) (files : List Leftover) (find : List ℕ → 
 noted_first before files find path first h is = is ∙ ap (λ o. unwrap_or o (length files)) (h.found path)
     ∙ ap (λ n. unwrap_or (first_with 0 path before) n) (ap (λ (l : List Leftover). length l) h.files_are ∙ many_lefts [] before)
 
+-- the file with this place and path
 abbrev file_of : Place → List ℕ → File
 file_of place path = record { place = place; path = path }
 
@@ -76,6 +81,8 @@ found_more : (before : List File) (n : ℕ) (path p : List ℕ) (place : Place) 
 found_more before n path p place first o many is known = by (pointwise nat_eq path p) refl
     ∙ sym (first_front 0 p before (file_of place path ∷ []))
   where
+    -- Plan: by whether the path that is looked up is that of the new file. If so, it is found as before, or else, if the path was new, at
+    -- the new number.
     fresh : (t u : Bool) → nat_eq first n ≡ t → (x : Option ℕ) → first_with 0 path before ≡ x
         → (if t then Some n else x) ≡ found_then x (Some n)
     fresh true u e None is_none = refl
@@ -106,7 +113,7 @@ found_more before n path p place first o many is known = by (pointwise nat_eq pa
         ∙ ap (λ (t : Bool). found_then (first_with 0 p before) (if t then Some (0 + length before) else None))
         (sym (nat_list_eq_equiv.symm p path ∙ e))
 
--- one more file is noted
+-- what holds of the numbered files holds after one more file
 pub noted_more : (before : List File) (files new : List Leftover) (find now : List ℕ → Option ℕ) (place : Place) (path : List ℕ)
     (first n : ℕ) → Noted before files find → n ≡ length files → first ≡ unwrap_or (find path) n
     → new ≡ files ++ record { place = place; first = first } ∷ []

@@ -10,6 +10,8 @@ use Rattle.std.specs.Cmp.Lexicographic.{pointwise, same_text}
 use Rattle.std.specs.Prelude.{replicate, unwrap_or}
 
 -- For the removals at the end: the number of a path is that of its first file. So two paths have the same number exactly if they are equal.
+-- Names: `t` is the value of a test, so that `by` can go by both cases. `fs` is all files. `before` is the files before those at hand, and
+-- `rest` the others. `f` and `g` are files of the list. `p` is a path. `i` is the number of a file.
 
 -- the number of a path among these files
 abbrev pub number_in : List File → List ℕ → ℕ
@@ -36,7 +38,7 @@ number_here before f rest = ap (λ o. unwrap_or o (length (before ++ f ∷ rest)
     (first_here 0 f.path before f rest (nat_list_eq_equiv.refl f.path))
     ∙ ap (λ n. unwrap_or (first_with 0 f.path before) n) (let z : 0 + length before ≡ length before = omega arith in z)
 
--- the code's numbers are these
+-- the numbers that the code gives are those of the first file of each path
 pub numbered_are : (fs before rest : List File) → before ++ rest ≡ fs → numbered_files before rest ≡ map (numbered (number_in fs)) rest
 numbered_are fs before [] e = refl
 numbered_are fs before (f ∷ rest) e = ap (λ n. record { place = f.place; first = n } ∷ numbered_files (before ++ f ∷ []) rest)
@@ -44,7 +46,7 @@ numbered_are fs before (f ∷ rest) e = ap (λ n. record { place = f.place; firs
     ∙ ap (λ l. record { place = f.place; first = number_in fs f.path } ∷ l) (numbered_are fs (before ++ f ∷ []) rest
     (append_assoc before (f ∷ []) rest ∙ e))
 
--- a file of the list
+-- a file is one of the list
 record In (fs : List File) (f : File) : Type 0 where
   before : List File
   rest : List File
@@ -72,6 +74,7 @@ found_in fs f i = record {
       (sym i.parts) ∙ first_here 0 f.path i.before f i.rest (nat_list_eq_equiv.refl f.path);
 }
 
+-- the number of an option is the only one in it
 some_is : (a b : ℕ) → Some a ≡ Some b → a ≡ b
 some_is a b e = ap (λ o. unwrap_or o 0) e
 
@@ -91,6 +94,7 @@ first_one i p q [] n e h = absurd cc
 first_one i p q (f ∷ fs) n e h = by (pointwise nat_eq p f.path) (pointwise nat_eq q f.path) refl refl e h
     (λ x y. first_one (i + 1) p q fs n x y)
   where
+    -- Plan: by which of the two paths the first file has; a later file has a later number (`later`).
     later : (r : List ℕ) → Some i ≡ Some n → first_with (i + 1) r fs ≡ Some n → ⊥
     later r x y = let is : i ≡ n = some_is i n x in let le : i + 1 ≤ n = (first_from (i + 1) r fs n y).0 in omega (arith, is, le)
 
@@ -107,6 +111,7 @@ alike : (fs : List File) (f g : File) → In fs f → In fs g → pointwise nat_
     (number_in fs g.path)
 alike fs f g i j = by (pointwise nat_eq g.path f.path) refl
   where
+    -- Plan: equal paths have the same first file. The other way round, both files' paths are that of the file with this number (`one`).
     one : nat_eq (number_in fs f.path) (number_in fs g.path) ≡ true → f.path ≡ g.path
     one e = paths (found_in fs f i) (found_in fs g j)
       where
@@ -142,6 +147,7 @@ pub none_flagged : (fs : List File) → Each (Flagged (number_in fs) (replicate 
 none_flagged fs = each_in (Flagged (number_in fs) (replicate (length fs) false) []) fs [] fs refl
     (λ g i. flagged g (below g (found_in fs g i)))
   where
+    -- Plan: each number is below the number of files (`below`), where all flags are unset (`flagged`).
     below : (g : File) → Found fs g.path → number_in fs g.path < length fs
     below g x =
         let is : number_in fs g.path ≡ x.n = ap (λ o. unwrap_or o (length fs)) x.is in

@@ -28,6 +28,14 @@ use Rattle.std.specs.List.{list_any}
 -- For the stories: the steps of a source make whole blocks. A block is the events of one claim, of a group's starts, of one wait or of one
 -- removal, each with its report; a stage (specs/Code/Source) is what a source has to do next, and what it knows. The lemmas step_NAME say
 -- that an answer opens a block, continues it or ends it (`Stepped`).
+-- Names: `b` is one block. `job` is the job of the source (or of the link) at hand. `k` is the number of a job in the plan. `g` is the
+-- number of a group of a job's commands. `ids` is the children of the group that were started, in order. `was` says whether an earlier
+-- group of the job started a child. `fault` says whether the group has failed so far. `m` is the source's stage after. `t` is the value of
+-- a test, so that `by` can go by both cases. `u` is the value of a second test. `i` is the next member of the group. `n` is how many
+-- members it has. `why` says why a start was refused. `group_at job g` is the commands of the group. `enter_waits` is the stage of the next
+-- wait, or what follows the last. `inside` says whether a block is open at this stage. `enter_removals` is the stage of the next removal,
+-- or the end. `base s` is the stage at which the block began that is open at stage s. `enter_claims` is the stage of the next claim, or of
+-- the first group. `starts_block` is the events of a group's starts.
 
 -- the children of a group's starts, up to the first refused one
 abbrev pub ids_of : List StartAnswer → List ℕ
@@ -55,7 +63,8 @@ pub record ClaimBlock (k : ℕ) (job : Job) (i : ℕ) (b : Block) (m : Stage) : 
   pub is : b ≡ claim_block k i a
   pub leads : m ≡ (if is_claimed a.answer then enter_claims job (i + 1) else Ended)
 
--- b is the block of a group's starts, with some answers, and leads to stage m
+-- b is the block of a group's starts, with some answers, and leads to stage m. `xs` is the answers of the starts, which `fit` the group's
+-- commands. `refused` says whether the report of a refused start was written. `is` says which block that makes, and `leads` where it leads.
 pub record StartsBlock (k : ℕ) (job : Job) (g : ℕ) (was : Bool) (b : Block) (m : Stage) : Type 0 where
   pub xs : List StartAnswer
   pub refused : Bool
@@ -146,6 +155,7 @@ out_waits job g was ids i fault = by (nat_lt i (length ids))
 
 -- the starts of a group
 
+-- the answers to starts of which each succeeds, with these children
 abbrev all_started : List ℕ → List StartAnswer
 all_started [] = []
 all_started (id ∷ ids) = start.Started id ∷ all_started ids
@@ -157,6 +167,7 @@ so_far_more k g n i j [] id e = let at : j ≡ i = omega arith in rw at refl
 so_far_more k g n i j (x ∷ ids) id e = ap (λ l. start_event k g n i (start.Started x) ∷ l)
     (so_far_more k g n (i + 1) j ids id (omega arith))
 
+-- the starts so far, with no refused one, are the block of these answers
 started_block : (k g n i : ℕ) (refused : Bool) (ids : List ℕ) → starts_so_far k g n i ids ≡ starts_block k g n i refused (all_started ids)
 started_block k g n i refused [] = refl
 started_block k g n i refused (id ∷ ids) = ap (λ l. start_event k g n i (start.Started id) ∷ l) (started_block k g n (i + 1) refused ids)
@@ -184,22 +195,27 @@ fit_refused [] ids why lt = absurd (omega arith)
 fit_refused (c ∷ cs) [] why lt = refl
 fit_refused (c ∷ cs) (id ∷ ids) why lt = fit_refused cs ids why (omega arith)
 
+-- the children of such answers are these
 ids_started : (ids : List ℕ) → ids_of (all_started ids) ≡ ids
 ids_started [] = refl
 ids_started (id ∷ ids) = ap (λ l. id ∷ l) (ids_started ids)
 
+-- and so they are if a refused start follows
 ids_refused : (ids : List ℕ) (why : NotStarted) → ids_of (all_started ids ++ start.NotStarted why ∷ []) ≡ ids
 ids_refused [] why = refl
 ids_refused (id ∷ ids) why = ap (λ l. id ∷ l) (ids_refused ids why)
 
+-- in such answers no start was refused
 none_refused : (ids : List ℕ) → any_refused (all_started ids) ≡ false
 none_refused [] = refl
 none_refused (id ∷ ids) = none_refused ids
 
+-- and with a refused start after them one was
 one_refused : (ids : List ℕ) (why : NotStarted) → any_refused (all_started ids ++ start.NotStarted why ∷ []) ≡ true
 one_refused [] why = refl
 one_refused (id ∷ ids) why = one_refused ids why
 
+-- a list with one more child is not empty
 not_none : (ids : List ℕ) (id : ℕ) → not (none (ids ++ id ∷ [])) ≡ true
 not_none [] id = refl
 not_none (x ∷ ids) id = refl
@@ -258,6 +274,7 @@ pub step_start : (k : ℕ) (job : Job) (g : ℕ) (was : Bool) (ids : List ℕ) (
 step_start k job g was ids (start.NotStarted why) lt = (refl, refl)
 step_start k job g was ids (start.Started id) lt = by (nat_lt (length ids + 1) n) refl
   where
+    -- Plan: by whether the group has more commands: the block stays open for the next start, or is whole and the waits begin.
     n : ℕ
     n = length (group_at job g)
 
@@ -287,6 +304,7 @@ pub step_refused : (k : ℕ) (job : Job) (g : ℕ) (was : Bool) (ids : List ℕ)
     (refused_so_far k g (length (group_at job g)) ids why ++ report (note.NotStarted (place.Command k g (length ids))) t ∷ [])
 step_refused k job g was ids why t lt = by (nat_lt 0 (length ids)) refl
   where
+    -- Plan: by whether a child was started before: then the pipe has to be closed, else the block is whole.
     by : (u : Bool) → nat_lt 0 (length ids) ≡ u
         → Stepped (inside (if u then Closing g was ids why t else enter_waits job g was ids 0 true)) k job (StartReport g was ids why)
         (if u then Closing g was ids why t else enter_waits job g was ids 0 true)
@@ -338,6 +356,7 @@ by_itself (Exit n) = true
 by_itself Signal = false
 by_itself Lost = false
 
+-- a test or a true one is true
 or_true : (t : Bool) → true ≡ (t || true)
 or_true true = refl
 or_true false = refl

@@ -22,8 +22,13 @@ use Rattle.std.proofs.Common.{◌≡◌, ◌<◌, ◌∙◌, Bool, false, true, 
 
 -- For the choices of `Run`: the stage to which a source's blocks lead. So the blocks alone say whether a source's story goes on, and
 -- whether with a wait.
+-- Names: `bs` is blocks of one source, in order. `job` is the job of the source (or of the link) at hand. `k` is the number of a job in the
+-- plan. `s` is a source's stage before. `m` is the source's stage after. `l` is the next block. `more` says whether the story goes on, and
+-- `wait` whether with a wait. `begin job` is a job's first stage. `events_of` lists the events of blocks. `group_at job g` is the commands
+-- of the group.
 
--- the stage t to which a source's blocks lead from its beginning; `more`: it has more to do; `wait`: its next block is a wait
+-- The stage t to which a source's blocks lead from its beginning; `more`: it has more to do; `wait`: its next block is a wait. `path` leads
+-- to `t`. `sound` says that a wait there has a child. `left_is` and `waits_is` give the values of `more` and `wait`.
 pub record Fate (k : ℕ) (job : Job) (bs : List Block) (more wait : Bool) : Type 0 where
   pub t : Stage
   pub path : Path k job (begin job) bs t
@@ -57,6 +62,7 @@ one_left k job (Removals i) b m o = refl
 one_left k job (RemovalReport i) b m o = refl
 one_left k job Ended b m o = absurd o
 
+-- a stage that blocks lead to from a job's beginning is sound
 sound_at : (k : ℕ) (job : Job) (bs : List Block) (t : Stage) → Path k job (begin job) bs t → Sound t
 sound_at k job bs t p = (path_even k job (begin job) bs t (begins job).sound p).sound
 
@@ -65,6 +71,7 @@ pub fate : (k : ℕ) (job : Job) (bs : List Block) (more wait : Bool) → SoFar 
 fate k job bs true wait g = by (split_path k job (begin job) bs (g.next ∷ g.rest) Ended (walk_path k job (begin job) (bs ++ g.next ∷ g.rest)
     (subst (λ l. Walk k job (begin job) l) (sym g.is) (follows k job g.a g.all))))
   where
+    -- Plan: by the stage at which the blocks end and the rest of the story begins.
     by : Split k job (begin job) bs (g.next ∷ g.rest) Ended → Fate k job bs true wait
     by r = record {
       t = r.t;
@@ -86,6 +93,7 @@ fate_replays k job bs more wait filled f = path_replays k job (begin job) bs f.t
 
 -- a block has at least one event
 
+-- a list that begins with events is not empty
 none_front : (b rest : List RunEvent) → none b ≡ false → none (b ++ rest) ≡ false
 none_front [] rest e = absurd cc
 none_front (x ∷ b) rest e = refl

@@ -22,6 +22,13 @@ use Rattle.std.specs.List.{list_any}
 
 -- For the stories: a whole story leads a source from its beginning to its end (`Walk`): the converse of `Tells`. The lemmas go over the
 -- story from its end: removals, waits, groups, claims.
+-- Names: `job` is the job of the source (or of the link) at hand. `k` is the number of a job in the plan. `g` is the number of a group of a
+-- job's commands. `t` is the value of a test, so that `by` can go by both cases. `rs` is the answers to the removals. `i` is the index of
+-- the next removal, wait or claim. `gs` is the answers of the groups. `ws` is the answers to the waits. `started` says whether a group has
+-- started a child. `own_removals` is the blocks in which a failed job removes its failure files. `whole_groups` says that answers are
+-- complete up to the first group with a fault. `group_blocks` is the blocks of groups: of each its starts, then its waits. `group_at job g`
+-- is the commands of the group. `is_less` and `same` turn a true test of numbers into `<` and `≡`. `claims_failed` says whether a claim of
+-- the job failed. `enter_group` is the stage of a group's first start, or the end.
 
 -- removals
 
@@ -30,11 +37,13 @@ removals_follow : (k : ℕ) (job : Job) (i : ℕ) (rs : List (Told RemoveAnswer)
     → Walk k job (enter_removals job i) (own_removals k i rs)
 removals_follow k job i [] e = by (nat_lt i (length job.on_failure)) refl
   where
+    -- Plan: by whether a failure file is left; here no answer is, so none can be.
     by : (t : Bool) → nat_lt i (length job.on_failure) ≡ t → (if t then Removals i else Ended) ≡ Ended
     by true is = absurd (let some : 0 ≡ suc (length (drop (i + 1) job.on_failure)) = e ∙ ap (λ l. length l) (drop_more job.on_failure i [] (is_less i (length job.on_failure) is)) in omega (arith, some))
     by false is = refl
 removals_follow k job i (r ∷ rs) e = by (nat_lt i (length job.on_failure)) refl (λ f. removals_follow k job (i + 1) rs f)
   where
+    -- Plan: by whether a failure file is left: its removal is a block, and the others follow.
     by : (t : Bool) → nat_lt i (length job.on_failure) ≡ t → (length rs ≡ length (drop (i + 1) job.on_failure)
         → Walk k job (enter_removals job (i + 1)) (own_removals k (i + 1) rs))
         → Walk k job (if t then Removals i else Ended) (own_removals k i (r ∷ rs))
@@ -44,6 +53,7 @@ removals_follow k job i (r ∷ rs) e = by (nat_lt i (length job.on_failure)) ref
         (enter_removals job (i + 1), (record { a = r; is = refl; leads = refl }, ih (omega (arith, one_more))))
     by false is ih = absurd (let none_left : suc (length rs) ≡ 0 = e ∙ ap (λ l. length l) (drop_all i job.on_failure (is_not_less i (length job.on_failure) is)) in omega (arith, none_left))
 
+-- without answers there are no removals
 nothing_removed : (k i : ℕ) (rs : List (Told RemoveAnswer)) → length rs ≡ 0 → own_removals k i rs ≡ []
 nothing_removed k i [] e = refl
 nothing_removed k i (r ∷ rs) e = absurd (let no : suc (length rs) ≡ 0 = e in omega (arith, no))
@@ -57,6 +67,7 @@ waits_follow : (k : ℕ) (job : Job) (g : ℕ) (was : Bool) (ids : List ℕ) (i 
     → Walk k job (enter_waits job g was ids i fault) (waits_for k g i (drop i ids) ws ++ rest)
 waits_follow k job g was ids i fault [] rest e w = by (nat_lt i (length ids)) refl
   where
+    -- Plan: by whether a child is left; here no answer is, so no child can be.
     or_false : (t : Bool) → (t || false) ≡ t
     or_false true = refl
     or_false false = refl
@@ -73,6 +84,7 @@ waits_follow k job g was ids i fault (a ∷ ws) rest e w = by (nat_lt i (length 
     (subst (λ t. Walk k job (end_group job g (was || not (none ids)) t) rest)
     (sym (or_assoc fault (wait_failed a) (list_any wait_failed ws))) w))
   where
+    -- Plan: by whether a child is left: its wait is a block, and the others follow; else the group ends.
     by : (t : Bool) → nat_lt i (length ids) ≡ t → (length ws ≡ length (drop (i + 1) ids)
         → Walk k job (enter_waits job g was ids (i + 1) (fault || wait_failed a)) (waits_for k g (i + 1) (drop (i + 1) ids) ws ++ rest))
         → Walk k job (if t then Waits g was ids i fault else end_group job g (was || not (none ids)) fault)
@@ -103,7 +115,7 @@ whole_fit (c ∷ cs) (start.Started id ∷ xs) (w ∷ ws) e = whole_fit cs xs ws
 whole_fit (c ∷ cs) (start.NotStarted why ∷ []) ws e = refl
 whole_fit (c ∷ cs) (start.NotStarted why ∷ x ∷ xs) ws e = absurd cc
 
--- complete answers have a wait for each child
+-- complete answers have a wait for each started child
 whole_waits : (cs : List Command) (xs : List StartAnswer) (ws : List (Told WaitAnswer)) → whole_group cs xs ws ≡ true
     → length ws ≡ length (ids_of xs)
 whole_waits [] [] [] e = refl
@@ -138,6 +150,7 @@ groups_follow : (k : ℕ) (job : Job) (g : ℕ) (was : Bool) (gs : List GroupAns
     → Walk k job (enter_group job g was) (group_blocks k g (drop g job.groups) gs ++ own_removals k 0 rs)
 groups_follow k job g was [] rs e many = by (nat_lt g (length job.groups)) refl
   where
+    -- Plan: by whether a group is left; here no answer is, so no group can be (`some`).
     some : (c : List Command) (cs : List (List Command)) → drop g job.groups ≡ c ∷ cs → ⊥
     some c cs is = absurd (let no : whole_groups (c ∷ cs) [] ≡ true = subst (λ l. whole_groups l [] ≡ true) is e in cc)
 
@@ -149,6 +162,7 @@ groups_follow k job g was [] rs e many = by (nat_lt g (length job.groups)) refl
 groups_follow k job g was (a ∷ gs) rs e many = by (nat_lt g (length job.groups)) refl
     (λ started w m. groups_follow k job (g + 1) started gs rs w m)
   where
+    -- Plan: by whether a group is left: its starts are a block, its waits follow, and then the next group, the removals or the end.
     begins : g < length job.groups → ((started : Bool) → whole_groups (drop (g + 1) job.groups) gs ≡ true
         → length rs ≡ length (failed_removals (list_any group_failed gs && (started || any_child gs)) job)
         → Walk k job (enter_group job (g + 1) started) (group_blocks k (g + 1) (drop (g + 1) job.groups) gs ++ own_removals k 0 rs))
@@ -192,9 +206,11 @@ groups_follow k job g was (a ∷ gs) rs e many = by (nat_lt g (length job.groups
 
 -- claims
 
+-- a temporary where a list has none
 no_temp : Temp
 no_temp = record { path = []; contents = [] }
 
+-- whether a claim failed
 abbrev unclaimed : List (Told ClaimAnswer) → Bool
 unclaimed cs = list_any (λ c. not (is_claimed c.answer)) cs
 
@@ -205,6 +221,7 @@ claims_follow : (k : ℕ) (job : Job) (i : ℕ) (cs : List (Told ClaimAnswer)) (
     → Walk k job (enter_claims job i) (claim_blocks k i cs ++ (group_blocks k 0 job.groups gs ++ own_removals k 0 rs))
 claims_follow k job i [] gs rs claims all many = by (nat_lt i (length job.temps)) refl
   where
+    -- Plan: by whether a temporary is left; here no answer is, so none can be (`some`).
     some : (c : Temp) (cs : List Temp) → drop i job.temps ≡ c ∷ cs → ⊥
     some c cs is = absurd (let no : whole_claims (c ∷ cs) [] ≡ true = subst (λ l. whole_claims l [] ≡ true) is claims in cc)
 
@@ -216,6 +233,7 @@ claims_follow k job i [] gs rs claims all many = by (nat_lt i (length job.temps)
 claims_follow k job i (c ∷ cs) gs rs claims all many = by (nat_lt i (length job.temps)) refl
     (λ w h m. claims_follow k job (i + 1) cs gs rs w h m)
   where
+    -- Plan: by whether a temporary is left. Its claim is a block: if it succeeded, the next claim follows (`next`); else nothing (`last`).
     last : (xs : List (Told ClaimAnswer)) (hs : List GroupAnswers) (qs : List (Told RemoveAnswer)) → none xs ≡ true → none hs ≡ true
         → length qs ≡ length (failed_removals (true && any_child hs) job)
         → Walk k job Ended (claim_blocks k (i + 1) xs ++ (group_blocks k 0 job.groups hs ++ own_removals k 0 qs))
@@ -257,6 +275,7 @@ claims_follow k job i (c ∷ cs) gs rs claims all many = by (nat_lt i (length jo
 pub follows : (k : ℕ) (job : Job) (a : JobAnswers) → whole_job job a ≡ true → Walk k job (begin job) (story k job a)
 follows k job a e = by (none job.groups) e
   where
+    -- Plan: a job without groups is at its end (`idle`); else its claims, groups and removals follow.
     idle : (cs : List (Told ClaimAnswer)) (gs : List GroupAnswers) (rs : List (Told RemoveAnswer)) → none cs ≡ true → none gs ≡ true
         → none rs ≡ true → Walk k job Ended (claim_blocks k 0 cs ++ (group_blocks k 0 job.groups gs ++ own_removals k 0 rs))
     idle [] [] [] x y z = subst (λ l. Walk k job Ended (l ++ [])) (sym (no_group k 0 job.groups)) refl

@@ -8,6 +8,8 @@ use Rattle.std.specs.List.{filter}
 
 -- For the choices of `Run`: the list of the numbers below n that pass a test, in ascending order. The code's list of the sources that may
 -- go on is such a list (`able_is`).
+-- Names: `j` is the number of any source. `t` is the value of a test, so that `by` can go by both cases. `n` is the bound of the numbers.
+-- `p` is the test. `count n p` is how many numbers below n pass p.
 
 -- the numbers below n that pass the test
 abbrev pub listed : ℕ → (ℕ → Bool) → List ℕ
@@ -25,6 +27,7 @@ pub listed_count : (n : ℕ) (p : ℕ → Bool) → length (listed n p) ≡ coun
 listed_count zero p = refl
 listed_count (suc n) p = by (p n) (listed_count n p)
   where
+    -- Plan: by whether number n passes.
     by : (t : Bool) → length (listed n p) ≡ count n p → length (listed n p ++ (if t then n ∷ [] else [])) ≡ (if t then 1 else 0) + count n p
     by true before =
         let len : length (listed n p ++ n ∷ []) ≡ length (listed n p) + 1 = length-append {A = ℕ} (listed n p) (n ∷ []) in
@@ -39,6 +42,7 @@ listed_filter zero p q = refl
 listed_filter (suc n) p q = filter-append q (listed n p) (if p n then n ∷ [] else []) ∙ ap (λ l. l ++ filter q (if p n then n ∷ [] else []))
     (listed_filter n p q) ∙ ap (λ l. listed n (λ j. p j && q j) ++ l) (by (p n))
   where
+    -- Plan: by whether number n passes the first test, and then (`one`) the second.
     one : (u : Bool) → (if u then n ∷ filter q [] else filter q []) ≡ (if u then n ∷ [] else [])
     one true = refl
     one false = refl
@@ -52,11 +56,12 @@ abbrev further : ℕ → ℕ → ℕ
 further zero n = n
 further (suc d) n = suc (further d n)
 
+-- d steps from n is n + d
 further_is : (d n : ℕ) → further d n ≡ n + d
 further_is zero n = omega arith
 further_is (suc d) n = let e : further d n ≡ n + d = further_is d n in omega (arith, e)
 
--- d numbers more, of which none passes, leave the list
+-- numbers that don't pass add nothing to the list
 listed_further : (d n : ℕ) (p : ℕ → Bool) → ((j : ℕ) → n ≤ j → j < further d n → p j ≡ false) → listed (further d n) p ≡ listed n p
 listed_further zero n p none = refl
 listed_further (suc d) n p none = ap (λ (t : Bool). listed (further d n) p ++ (if t then further d n ∷ [] else []))
@@ -84,6 +89,7 @@ pub first_listed : (n : ℕ) (p : ℕ → Bool) → First n p (listed n p)
 first_listed zero p = λ j lt. absurd (omega arith)
 first_listed (suc n) p = by (listed n p) (p n) refl (first_listed n p)
   where
+    -- Plan: by what the list has so far, and by whether number n passes.
     by : (l : List ℕ) (t : Bool) → p n ≡ t → First n p l → First (suc n) p (l ++ (if t then n ∷ [] else []))
     by [] true e f = (omega arith, e)
     by [] false e f = λ j lt. here j lt (nat_eq j n) refl

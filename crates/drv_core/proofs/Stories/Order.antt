@@ -6,6 +6,10 @@ use Rattle.std.specs.Prelude.{⊤}
 
 -- For the stories: the blocks of one source among those of all (`of`), all blocks source by source (`by_source`), and the number of sources
 -- that pass a test (`count`).
+-- Names: `bs` is blocks of several sources. `k` is the number of a job in the plan. `j` is the number of any source. `t` is the value of a
+-- test, so that `by` can go by both cases. `a` and `b` are numbers to be compared. `n` is the number of sources. `m` is a bound of source
+-- numbers. `xs` is blocks too. `lo` is the first source number. `p` is a test of source numbers. `of k bs` is the blocks of source k among
+-- `bs`. `count n p` is how many numbers below n pass p.
 
 -- the first part of a true && is true
 pub and_first : (a b : Bool) → (a && b) ≡ true → a ≡ true
@@ -26,21 +30,27 @@ clash false e h = absurd cc
 pub less : (a b : ℕ) → a < b → nat_lt a b ≡ true
 less a b h = grind (arith, nat_tests)
 
+-- a true test for less: the first is less
 pub is_less : (a b : ℕ) → nat_lt a b ≡ true → a < b
 is_less a b e = grind (arith, nat_tests)
 
+-- where it is not less, the test fails
 pub not_less : (a b : ℕ) → b ≤ a → nat_lt a b ≡ false
 not_less a b h = grind (arith, nat_tests)
 
+-- a false test for less: the second is at most the first
 pub is_not_less : (a b : ℕ) → nat_lt a b ≡ false → b ≤ a
 is_not_less a b e = grind (arith, nat_tests)
 
+-- a true test for equality: the numbers are equal
 pub same : (a b : ℕ) → nat_eq a b ≡ true → a ≡ b
 same a b e = grind (arith, nat_tests)
 
+-- a smaller number fails the test for equality
 pub apart : (a b : ℕ) → a < b → nat_eq a b ≡ false
 apart a b h = grind (arith, nat_tests)
 
+-- and so does a greater one
 pub apart_above : (a b : ℕ) → b < a → nat_eq a b ≡ false
 apart_above a b h = grind (arith, nat_tests)
 
@@ -106,7 +116,7 @@ pub upto_more : (m k : ℕ) (bs : List SourceBlock) → m ≤ k → Upto m bs �
 upto_more m k [] le u = tt
 upto_more m k (b ∷ bs) le u = (let below : b.source ≤ m = u.0 in omega arith, upto_more m k bs le u.1)
 
--- one more block of such a source
+-- blocks of sources up to number m, and one more of such a source
 pub upto_append : (m : ℕ) (xs : List SourceBlock) (b : SourceBlock) → Upto m xs → b.source ≤ m → Upto m (xs ++ b ∷ [])
 upto_append m [] b u le = (le, tt)
 upto_append m (x ∷ xs) b u le = (u.0, upto_append m xs b u.1 le)
@@ -162,6 +172,7 @@ pub count_other : (n k : ℕ) (p : ℕ → Bool) → ((j : ℕ) → nat_eq j k �
 count_other zero k p h = omega arith
 count_other (suc n) k p h = by (nat_eq n k) refl (count_other n k p h)
   where
+    -- Plan: by whether number n is k: then no earlier one passes, else n doesn't.
     one : (t : Bool) → (if t then 1 else 0) ≤ 1
     one true = omega arith
     one false = omega arith

@@ -14,6 +14,8 @@ use Rattle.std.specs.Prelude.{unwrap_or}
 
 -- For the sources and files of the code, which searches a list from an index on: what its search finds is what the definitions
 -- (`first_busy`, `sought`) say.
+-- Names: `k` is the index at which the search begins. `xs` is the list. `sought` is the code's search for the next file to be removed.
+-- `first_busy` is the first job with something to do.
 
 -- the index of the first item that passes, or else the length, in two ways to compute it
 or_length : {X : Type 0} (p : X → Bool) (xs : List X) → unwrap_or (position p xs) (length xs) ≡ position_or_len p xs
@@ -34,6 +36,7 @@ place_within p xs = omega (arith, or_length p xs, prefix_len-le-length (λ x. no
 pub all_left : {X : Type 0} (i : ℕ) (xs : List X) → take (length xs - i) (drop i xs) ≡ drop i xs
 all_left i xs = take_all (length xs - i) (drop i xs) (omega (arith, length-drop i xs))
 
+-- one place on is one more, however it is added
 one_more : (k n : ℕ) → k + (1 + n) ≡ (k + 1) + n
 one_more k n = omega arith
 
@@ -41,6 +44,7 @@ one_more k n = omega arith
 pub busy_first : (k : ℕ) (jobs : List Job) → k + unwrap_or (position busy jobs) (length jobs) ≡ first_busy k jobs
 busy_first k jobs = ap (λ n. k + n) (or_length busy jobs) ∙ from k jobs
   where
+    -- Plan: the code's index in the rest, and the index where the rest begins, make the index of the definition (`from`).
     from : (k : ℕ) (jobs : List Job) → k + position_or_len busy jobs ≡ first_busy k jobs
     from k [] = omega arith
     from k (job ∷ jobs) = by (none job.groups) (from (k + 1) jobs)
@@ -50,6 +54,7 @@ busy_first k jobs = ap (λ n. k + n) (or_length busy jobs) ∙ from k jobs
         by true rest = one_more k (position_or_len busy jobs) ∙ rest
         by false rest = omega arith
 
+-- whether a file of the code's list is to be removed
 abbrev is_due_in : Leftovers → CodeLeftover → Bool
 is_due_in x file = is_due x x.gone (leftover_of file)
 
@@ -58,6 +63,7 @@ pub due_sought : (x : Leftovers) (k : ℕ) (files : List CodeLeftover)
     → k + unwrap_or (position (λ file. is_due x x.gone (leftover_of file)) files) (length files) ≡ sought x k (leftover_list files)
 due_sought x k files = ap (λ n. k + n) (or_length (is_due_in x) files) ∙ from k files
   where
+    -- Plan: the code's index in the rest, and the index where the rest begins, make the index of the definition (`from`).
     from : (k : ℕ) (files : List CodeLeftover) → k + position_or_len (is_due_in x) files ≡ sought x k (leftover_list files)
     from k [] = omega arith
     from k (file ∷ files) = by (is_due_in x file) (from (k + 1) files)

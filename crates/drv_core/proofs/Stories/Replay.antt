@@ -27,12 +27,17 @@ use Rattle.std.proofs.Common.{if◌then◌else◌, length, length-append, nat_lt
 
 -- For the stories: a source that takes the answers of a block asks for each of the block's steps, and ends at the stage after it
 -- (`Replays`). A block is the events of one claim, of a group's starts, of one wait or of one removal, each with its report.
+-- Names: `job` is the job of the source (or of the link) at hand. `k` is the number of a job in the plan. `g` is the number of a group of a
+-- job's commands. `ids` is the children of the group that were started, in order. `was` says whether an earlier group of the job started a
+-- child. `t` is the value of a test, so that `by` can go by both cases. `i` is the next member of the group. `enter_waits` is the stage of
+-- the next wait, or what follows the last. `group_at job g` is the commands of the group. `starts_block` is the events of a group's starts.
 
 -- from stage s on the source asks for each step of these events, takes its answer, and is at stage m after the last
 abbrev pub Replays : ℕ → Job → Stage → List RunEvent → Stage → Type 0
 Replays k job s [] m = s ≡ m
 Replays k job s (e ∷ E) m = (asked (asks k job s) ≡ e.step) × Replays k job (after job s e.answer) E m
 
+-- a replay that ends at a stage ends at an equal one
 to_stage : (k : ℕ) (job : Job) (s : Stage) (E : List RunEvent) (m n : Stage) → m ≡ n → Replays k job s E m → Replays k job s E n
 to_stage k job s E m n e r = subst (λ t. Replays k job s E t) e r
 
@@ -52,6 +57,7 @@ replay_removal k job i remove.Missing t = (refl, refl)
 replay_removal k job i remove.NotPlain t = (refl, refl)
 replay_removal k job i remove.Failed t = (refl, (refl, refl))
 
+-- a test or a true one is true
 or_true : (t : Bool) → true ≡ (t || true)
 or_true true = refl
 or_true false = refl
@@ -104,6 +110,7 @@ replay_starts k job g was ids refused (c ∷ d ∷ cs) (start.Started id ∷ xs)
     (replay_starts k job g was (ids ++ id ∷ []) refused (d ∷ cs) xs (i + 1) (omega (arith, len, at)) (omega (arith, len, many))
     (omega arith) fit)
   where
+    -- Plan: the child that was started joins the list (`len`), and the starts that follow are replayed from the next member on.
     len : length (ids ++ id ∷ []) ≡ length ids + 1
     len = length-append {A = ℕ} ids (id ∷ [])
 

@@ -26,6 +26,12 @@ use Rattle.std.proofs.Common.{◌≡◌, ◌<◌, ◌+◌, ◌∙◌, ◌||◌, 
 use Rattle.std.proofs.Common.{if◌then◌else◌, length, length-append, nat_lt, refl, subst, sym, ℕ}
 
 -- For the end of `Run`: the events of a source lead to only one stage. So if they are its whole story, the source has ended (`has_ended`).
+-- Names: `bs` is blocks of one source, in order. `job` is the job of the source (or of the link) at hand. `k` is the number of a job in the
+-- plan. `g` is the number of a group of a job's commands. `ids` is the children of the group that were started, in order. `was` says
+-- whether an earlier group of the job started a child. `s` is a source's stage before. `m` is the source's stage after. `t` is the value of
+-- a test, so that `by` can go by both cases. `group_at job g` is the commands of the group. `begin job` is a job's first stage. `events_of`
+-- lists the events of blocks. `story k job a` is all blocks of job k that these answers make. `base s` is the stage at which the block
+-- began that is open at stage s. `Filled` says that no group of a job is empty. `after job s a` is the stage after the answer.
 
 -- the same events, from the same stage on, lead to only one stage
 pub same_end : (k : ℕ) (job : Job) (s : Stage) (E : List RunEvent) (m n : Stage) → Replays k job s E m → Replays k job s E n → m ≡ n

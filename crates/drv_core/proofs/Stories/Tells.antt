@@ -25,6 +25,15 @@ use Rattle.std.specs.List.{list_any}
 -- For the stories: blocks that lead a source from its beginning to its end are a whole story (`tells`). The lemmas find the answers that
 -- make the blocks, by induction on these: TellsClaims, TellsGroups, TellsWaits and TellsRemovals say of blocks from a stage on which
 -- answers they show.
+-- Names: `bs` is blocks of one source, in order. `b` is one block. `job` is the job of the source (or of the link) at hand. `k` is the
+-- number of a job in the plan. `g` is the number of a group of a job's commands. `ids` is the children of the group that were started, in
+-- order. `was` says whether an earlier group of the job started a child. `fault` says whether the group has failed so far. `m` is the
+-- source's stage after. `t` is the value of a test, so that `by` can go by both cases. `u` is the value of a second test. `i` is the index
+-- of the next claim, wait or removal. `xs` is the answers to the starts. `started` says whether a group has started a child. `whole_groups`
+-- says that answers are complete up to the first group with a fault. `own_removals` is the blocks in which a failed job removes its failure
+-- files. `group_blocks` is the blocks of groups: of each its starts, then its waits. `enter_group` is the stage of a group's first start,
+-- or the end. `enter_claims` is the stage of the next claim, or of the first group. `group_at job g` is the commands of the group.
+-- `is_less` and `same` turn a true test of numbers into `<` and `≡`.
 
 -- the blocks lead from s to the end
 abbrev pub Walk : ℕ → Job → Stage → List Block → Type 0
@@ -51,7 +60,9 @@ record TellsRemovals (k : ℕ) (job : Job) (i : ℕ) (bs : List Block) : Type 0 
 abbrev pub any_child : List GroupAnswers → Bool
 any_child gs = list_any (λ g. list_any is_started g.starts) gs
 
--- the answers of the groups from the g-th on, and of the removals after them, that these blocks are
+-- The answers of the groups from the g-th on, and of the removals after them, that these blocks are. `gs` is the answers of the groups, and
+-- `rs` those of the source's removals. `is` says that the blocks are those of these answers. `all` and `many` say that no answer is
+-- missing.
 record TellsGroups (k : ℕ) (job : Job) (g : ℕ) (was : Bool) (bs : List Block) : Type 0 where
   gs : List GroupAnswers
   rs : List (Told RemoveAnswer)
@@ -59,7 +70,9 @@ record TellsGroups (k : ℕ) (job : Job) (g : ℕ) (was : Bool) (bs : List Block
   all : whole_groups (drop g job.groups) gs ≡ true
   many : length rs ≡ length (failed_removals (list_any group_failed gs && (was || any_child gs)) job)
 
--- the answers of the waits that are left of a group, and of what follows them, that these blocks are
+-- The answers of the waits that are left of a group, and of what follows them, that these blocks are. `ws` is the answers of the waits,
+-- `gs` those of the groups that follow, and `rs` those of the source's removals. `is` says that the blocks are those of these answers.
+-- `same`, `all` and `many` say that no answer is missing.
 record TellsWaits (k : ℕ) (job : Job) (g : ℕ) (started : Bool) (ids : List ℕ) (i : ℕ) (fault : Bool) (bs : List Block) : Type 0 where
   ws : List (Told WaitAnswer)
   gs : List GroupAnswers
@@ -70,7 +83,9 @@ record TellsWaits (k : ℕ) (job : Job) (g : ℕ) (started : Bool) (ids : List �
   many : length rs ≡ length (failed_removals (((fault || list_any wait_failed ws) || list_any group_failed gs)
       && (started || any_child gs)) job)
 
--- the answers of the claims from the i-th on, and of what follows them, that these blocks are
+-- The answers of the claims from the i-th on, and of what follows them, that these blocks are. `cs` is the answers of the claims, `gs`
+-- those of the groups, and `rs` those of the source's removals. `is` says that the blocks are those of these answers. `claims`, `all` and
+-- `many` say that no answer is missing.
 record TellsClaims (k : ℕ) (job : Job) (i : ℕ) (bs : List Block) : Type 0 where
   cs : List (Told ClaimAnswer)
   gs : List GroupAnswers
@@ -88,6 +103,7 @@ pub or_assoc : (a b c : Bool) → ((a || b) || c) ≡ (a || (b || c))
 or_assoc true b c = refl
 or_assoc false b c = refl
 
+-- a test or a false one is the test itself
 or_false : (a : Bool) → (a || false) ≡ a
 or_false true = refl
 or_false false = refl
@@ -132,6 +148,7 @@ fit_started (c ∷ cs) (start.NotStarted why ∷ x ∷ xs) fit = absurd cc
 removals_tell : (k : ℕ) (job : Job) (i : ℕ) (bs : List Block) → Walk k job (enter_removals job i) bs → TellsRemovals k job i bs
 removals_tell k job i [] w = by (nat_lt i (length job.on_failure)) refl w
   where
+    -- Plan: by whether a failure file is left; without blocks none can be.
     by : (t : Bool) → nat_lt i (length job.on_failure) ≡ t → Walk k job (if t then Removals i else Ended) [] → TellsRemovals k job i []
     by true e v = absurd cc
     by false e v = record {
@@ -142,6 +159,7 @@ removals_tell k job i [] w = by (nat_lt i (length job.on_failure)) refl w
     }
 removals_tell k job i (b ∷ bs) w = by (nat_lt i (length job.on_failure)) refl w (removals_tell k job (i + 1) bs)
   where
+    -- Plan: by whether a failure file is left: the block is its removal, and the others follow; else nothing is left.
     next : nat_lt i (length job.on_failure) ≡ true → (m : Stage) → RemovalBlock k job i b m → TellsRemovals k job (i + 1) bs
         → TellsRemovals k job i (b ∷ bs)
     next e m r more = record {
@@ -251,6 +269,7 @@ groups_more k job g was b bs xs refused lt fit is more = record {
 groups_none : (k : ℕ) (job : Job) (g : ℕ) (was : Bool) → Walk k job (enter_group job g was) [] → TellsGroups k job g was []
 groups_none k job g was w = by (nat_lt g (length job.groups)) refl w
   where
+    -- Plan: by whether a group is left; without blocks none can be.
     by : (t : Bool) → nat_lt g (length job.groups) ≡ t → Walk k job (if t then Starts g was [] else Ended) [] → TellsGroups k job g was []
     by true e v = absurd cc
     by false e v = record {
@@ -266,6 +285,7 @@ groups_some : (k : ℕ) (job : Job) (g : ℕ) (was : Bool) (b : Block) (bs : Lis
     → Walk k job (enter_group job g was) (b ∷ bs) → TellsGroups k job g was (b ∷ bs)
 groups_some k job g was b bs ih w = by (nat_lt g (length job.groups)) refl w
   where
+    -- Plan: by whether a group is left: then the block is its starts (`next`), else there is no block.
     next : nat_lt g (length job.groups) ≡ true → (m : Stage) → StartsBlock k job g was b m → Walk k job m bs
         → TellsGroups k job g was (b ∷ bs)
     next e m s v = groups_more k job g was b bs s.xs s.refused (is_less g (length job.groups) e) s.fit s.is
@@ -295,6 +315,7 @@ waits_some : (k : ℕ) (job : Job) (b : Block) (bs : List Block) → Both k job 
     → Walk k job (enter_waits job g was ids i fault) (b ∷ bs) → TellsWaits k job g (was || not (none ids)) ids i fault (b ∷ bs)
 waits_some k job b bs ih groups g was ids i fault w = by (nat_lt i (length ids)) refl w
   where
+    -- Plan: by whether a child is left: then the block is its wait (`next`), else what follows the group.
     next : nat_lt i (length ids) ≡ true → (m : Stage) → WaitBlock k job g was ids i fault b m → Walk k job m bs
         → TellsWaits k job g (was || not (none ids)) ids i fault (b ∷ bs)
     next e m s v = waits_more k job g (was || not (none ids)) fault ids i b bs s.a (is_less i (length ids) e) s.is
@@ -340,6 +361,7 @@ claims_done k job i bs past w =
       many = t.many;
     }
 
+-- a temporary where a list has none
 no_temp : Temp
 no_temp = record { path = []; contents = [] }
 
@@ -353,6 +375,8 @@ claims_tell k job i [] w = by (nat_lt i (length job.temps)) refl w
     by false e v = claims_done k job i [] (is_not_less i (length job.temps) e) v
 claims_tell k job i (b ∷ bs) w = by (nat_lt i (length job.temps)) refl w (claims_tell k job (i + 1) bs)
   where
+    -- Plan: by whether a temporary is left. The block is its claim: after one that succeeded the rest tells the story (`more`), after one
+    -- that failed nothing is left (`last`).
     more : nat_lt i (length job.temps) ≡ true → (a : Told ClaimAnswer) → b ≡ claim_block k i a → is_claimed a.answer ≡ true
         → TellsClaims k job (i + 1) bs → TellsClaims k job i (b ∷ bs)
     more e a is claimed t = record {
@@ -409,6 +433,7 @@ pub record ToldStory (k : ℕ) (job : Job) (bs : List Block) : Type 0 where
   pub is : bs ≡ story k job a
   pub all : whole_job job a ≡ true
 
+-- three tests that hold, hold together
 all_three : (a b c : Bool) → a ≡ true → b ≡ true → c ≡ true → (a && b && c) ≡ true
 all_three a b c x y z = rw (x, y, z) refl
 
@@ -416,6 +441,7 @@ all_three a b c x y z = rw (x, y, z) refl
 pub tells : (k : ℕ) (job : Job) (bs : List Block) → Walk k job (begin job) bs → ToldStory k job bs
 tells k job bs w = by (none job.groups) refl w
   where
+    -- Plan: a job without groups has no blocks (`idle`); else the claims tell the whole story (`works`).
     nothing : JobAnswers
     nothing = record { claims = []; groups = []; removals = [] }
 

@@ -29,6 +29,12 @@ use Rattle.std.proofs.Common.{if◌then◌else◌, length, min, nat_eq, nat_lt, 
 -- For the choices of `Run`: if the events are whole blocks of the sources, there is only one way to split them into blocks. So the blocks
 -- that the proof of the code keeps (`Going`) permit the same sources to go on as any other split (`BetweenBlocks`), of which the public
 -- clauses speak.
+-- Names: `plan` is the plan of the run: the jobs of its sources, and perhaps a link. `N` is the window: at most so many sources have begun
+-- and not ended. `E` is the events so far. `j` is the number of any source. `t` is the value of a test, so that `by` can go by both cases.
+-- `b` is a split of the events into blocks. `i` is a source number too. `no_job` is a job without commands. `of k bs` is the blocks of
+-- source k among `bs`. `count n p` is how many numbers below n pass p. `events_of` lists the events of blocks. `begin job` is a job's first
+-- stage. `left` says whether a source at this stage has more to do. `open_of k job s` is the events so far of the block that is open at
+-- stage s.
 
 -- tests that agree on all sources permit the same sources to go on
 may_go_same : (n N : ℕ) (b c l m f g w x : ℕ → Bool) (k : ℕ) → k < n → ((j : ℕ) → j < n → b j ≡ c j) → ((j : ℕ) → j < n → l j ≡ m j)
@@ -37,6 +43,7 @@ may_go_same n N b c l m f g w x k lt bs ls fs ws = ap (λ (t : Bool). t && (nat_
     && (nat_lt (count n (λ j. (b j || nat_eq j k) && l j)) (N + 1) && (not (w k) || nat_eq (count n f) (min N (count n l)))))) (ls k lt)
     ∙ by (m k) refl
   where
+    -- Plan: each part of the rule is a count of sources that pass tests, and equal tests give equal counts.
     order : count k (λ j. not (b j) && l j) ≡ count k (λ j. not (c j) && m j)
     order = count_same k (λ j. not (b j) && l j) (λ j. not (c j) && m j) (λ j below. ap (λ (t : Bool). not t && l j)
         (bs j (omega (arith, lt, below))) ∙ ap (λ (t : Bool). not (c j) && t) (ls j (omega (arith, lt, below))))
@@ -82,6 +89,7 @@ own_blocks : (jobs : List Job) (N : ℕ) (st : ℕ → Stage) (cur : ℕ) (E : L
     (st cur) ∷ [] else [])
 own_blocks jobs N st cur E r j = of_append j r.blocks (record { source = cur; block = open_of cur (get_or jobs cur no_job) (st cur) } ∷ [])
 
+-- the events of blocks with an open one are those of the blocks and then its own
 open_both : (bs : List Block) (o : Block) → events_of (bs ++ o ∷ []) ≡ events_of bs ++ o
 open_both bs o = events_both bs (o ∷ []) ∙ ap (λ l. events_of bs ++ l) (append-nil o)
 
@@ -92,6 +100,7 @@ lane_replays : (jobs : List Job) (N : ℕ) (st : ℕ → Stage) (cur : ℕ) (E :
 lane_replays jobs N st cur E r filled j lt = subst (λ l. Replays j (get_or jobs j no_job) (begin (get_or jobs j no_job)) (events_of l)
     (st j)) (sym (own_blocks jobs N st cur E r j)) (by (nat_eq cur j) refl)
   where
+    -- Plan: by whether j is the source in progress: then its open block is replayed too (`here`); else its whole blocks alone.
     to_base : (i : ℕ) → i < length jobs → Replays i (get_or jobs i no_job) (begin (get_or jobs i no_job))
         (events_of (of i r.blocks)) (base (st i))
     to_base i below = path_replays i (get_or jobs i no_job) (begin (get_or jobs i no_job)) (of i r.blocks) (base (st i)) (filled i)
@@ -125,6 +134,8 @@ pub seen : (plan : Plan) (N : ℕ) (f : Fleet) (E : List RunEvent) → FilledPla
     → (g : Going plan.jobs N f E) (b : BetweenBlocks plan N E) → Seen plan N f E g b
 seen plan N f E filled g b = record { out = out; tests = tests }
   where
+    -- Plan: the events of each source are the same in both splits (`lane`, `events_same`), so its stage is (`stage_is`), and each test of
+    -- the rule (`has_same` to `waits_same`).
     in_range : f.current < length plan.jobs
     in_range = is_less f.current (length plan.jobs) g.may.is_source
 

@@ -20,6 +20,10 @@ use Rattle.std.proofs.lemmas.Cmp.{nat_eq_equiv}
 use Rattle.std.specs.Prelude.{⊤}
 
 -- For the laws: a property that the blocks of every story have holds of each block of a run's sources. `report_law` is such a property.
+-- Names: `k` is the number of a job in the plan. `g` is the number of a group of a job's commands. `t` is the value of a test, so that `by`
+-- can go by both cases. `P` is a property of blocks, and `kinds` says that each kind of block has it. `i` is the index of a claim, start,
+-- wait or removal. `of k bs` is the blocks of source k among `bs`. `group_blocks` is the blocks of groups: of each its starts, then its
+-- waits. `own_removals` is the blocks in which a failed job removes its failure files.
 
 -- each of these blocks has the property
 abbrev pub Each : (Block → Type 0) → List Block → Type 0
@@ -38,6 +42,7 @@ pub record Kinds (P : Block → Type 0) : Type 0 where
   pub wait : (k g i id : ℕ) (x : WaitAnswer) (t : Bool) → P (wait_block k g i id (record { answer = x; told = t }))
   pub removal : (k i : ℕ) (x : RemoveAnswer) (t : Bool) → P (removal_block (place.OnFailure k i) (record { answer = x; told = t }))
 
+-- each claim's block has the property
 of_claims : (P : Block → Type 0) (kinds : Kinds P) (k i : ℕ) (cs : List (Told ClaimAnswer)) → Each P (claim_blocks k i cs)
 of_claims P kinds k i [] = tt
 of_claims P kinds k i (c ∷ cs) = (kinds.claim k i c.answer c.told, of_claims P kinds k (i + 1) cs)
@@ -50,6 +55,7 @@ of_waits P kinds k g i (NotStarted why ∷ xs) ws = tt
 of_waits P kinds k g i (Started id ∷ xs) [] = tt
 of_waits P kinds k g i (Started id ∷ xs) (w ∷ ws) = (kinds.wait k g i id w.answer w.told, of_waits P kinds k g (i + 1) xs ws)
 
+-- each removal's block has the property
 of_removals : (P : Block → Type 0) (kinds : Kinds P) (k i : ℕ) (rs : List (Told RemoveAnswer)) → Each P (own_removals k i rs)
 of_removals P kinds k i [] = tt
 of_removals P kinds k i (r ∷ rs) = (kinds.removal k i r.answer r.told, of_removals P kinds k (i + 1) rs)
@@ -75,6 +81,7 @@ by_source : (P : Block → Type 0) (n : ℕ) (bs : List SourceBlock) → Below n
 by_source P n [] under all = tt
 by_source P n (b ∷ bs) under all = (first.0, by_source P n bs under.1 (λ j lt. others (nat_eq b.source j) j (all j lt)))
   where
+    -- Plan: the first block is one of its own source's (`first`); the others are blocks of their sources too (`others`).
     first : Each P (b.block ∷ of b.source bs)
     first = subst (λ (t : Bool). Each P (if t then b.block ∷ of b.source bs else of b.source bs)) (nat_eq_equiv.refl b.source)
         (all b.source under.0)

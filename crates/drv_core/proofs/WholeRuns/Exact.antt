@@ -29,6 +29,13 @@ use Rattle.std.specs.List.{list_any}
 
 -- For the end of `Run`: while a source has more to do, the events so far are not a whole run. Each event shows its owner (Lanes), so events
 -- have one split by owners, and a source's own events lead to one stage (Retrace).
+-- Names: `plan` is the plan of the run: the jobs of its sources, and perhaps a link. `jobs` is the jobs of the sources, in plan order. `N`
+-- is the window: at most so many sources have begun and not ended. `E` is the events so far. `st` gives the stage of each source by its
+-- number. `cur` is the source in progress. `k` is the number of a job in the plan. `o` is all answers of a run. `j` is the number of any
+-- source. `t` is the value of a test, so that `by` can go by both cases. `w` says that E is a whole run with these answers. `n` is the
+-- number of jobs. `no_job` is a job without commands. `link_run` is the link's job, if every source succeeded. `of k bs` is the blocks of
+-- source k among `bs`. `events_of` lists the events of blocks. `removed_at_end` is the files that are removed at the end. `story k job a`
+-- is all blocks of job k that these answers make. `end_removals` is the blocks of the removals at the end.
 
 -- the blocks of a whole run, each with its owner
 
@@ -37,6 +44,7 @@ abbrev pub all_blocks : (plan : Plan) (o : Answers) → List SourceBlock → Lis
 all_blocks plan o blocks = blocks ++ (tag (length plan.jobs) (story (length plan.jobs) (link_run plan.link o.jobs) o.link)
     ++ tag (suc (length plan.jobs)) (end_removals (removed_at_end plan o) o.last))
 
+-- two lists of files that are removed at the end alone, together
 end_append : (n : ℕ) (xs ys : List File) → AtEndOnly n xs → AtEndOnly n ys → AtEndOnly n (xs ++ ys)
 end_append n [] ys x y = y
 end_append n (f ∷ xs) ys x y = (x.0, end_append n xs ys x.1 y)
@@ -52,6 +60,7 @@ end_temps n k i (t ∷ ts) (c ∷ cs) = by (is_claimed c.answer) (end_temps n k 
     by true rest = (refl, rest)
     by false rest = rest
 
+-- marked files are removed at the end alone
 end_marked : (n k i : ℕ) (ms : List (List ℕ)) → AtEndOnly n (marked_files k i ms)
 end_marked n k i [] = tt
 end_marked n k i (m ∷ ms) = (refl, end_marked n k (i + 1) ms)
@@ -72,7 +81,7 @@ end_jobs n k (job ∷ jobs) [] = tt
 end_jobs n k (job ∷ jobs) (a ∷ xs) = end_append n (files_of_job k job a) (files_of_jobs (k + 1) jobs xs) (end_job n k job a)
     (end_jobs n (k + 1) jobs xs)
 
--- files that are removed at the end, each path once, are such
+-- files that are removed at the end alone, each path once, are removed at the end alone
 end_once : (n : ℕ) (seen : List (List ℕ)) (fs : List File) → AtEndOnly n fs → AtEndOnly n (each_once seen fs)
 end_once n seen [] e = tt
 end_once n seen (f ∷ fs) e = by (list_any (pointwise nat_eq f.path) seen) (end_once n seen fs e.1) (end_once n (f.path ∷ seen) fs e.1)
@@ -202,6 +211,8 @@ not_whole plan N st cur E o filled r lt w = has_ended cur (get_or plan.jobs cur 
     (get_or o.jobs cur no_answers) filled (r.valid cur) (r.keep.stand.paths cur lt)
     (whole_at plan.jobs o.jobs (all_whole_jobs plan N o E w) cur lt) events
   where
+    -- Plan: the events of the source in progress, with its open block, are its whole story (`events`), and a whole story leads only to the
+    -- end (`has_ended`).
     own_events : (t : Bool) → nat_eq cur cur ≡ t
         → events_of (of cur r.blocks ++ (if t then open_of cur (get_or plan.jobs cur no_job) (st cur) ∷ [] else [])) ≡ events_of
         (of cur r.blocks) ++ open_of cur (get_or plan.jobs cur no_job) (st cur)

@@ -34,7 +34,16 @@ use Rattle.std.proofs.lemmas.Cmp.{nat_eq_equiv}
 
 -- For the end of `Run`: before the link and the last removal are done, the events so far are not a whole run. A whole run with the same
 -- events would have the same sources' stories, so the same link (`same_link`), and the same files to remove (`same_files`).
+-- Names: `plan` is the plan of the run: the jobs of its sources, and perhaps a link. `N` is the window: at most so many sources have begun
+-- and not ended. `E` is the events so far. `o` is all answers of a run. `j` is the number of any source. `t` is the value of a test, so
+-- that `by` can go by both cases. `S` is the events of the sources. `ran` says that these are a whole run of the sources. `own` is the
+-- blocks of the link, and `last` those of the removals at the end. `w` says that E is a whole run with these answers. `i` is the number of
+-- the file that is removed next. `n` is the number of sources. `failed` says whether the last removal failed. `events_of` lists the events
+-- of blocks. `of k bs` is the blocks of source k among `bs`. `end_removals` is the blocks of the removals at the end. `story k job a` is
+-- all blocks of job k that these answers make. `link_run` is the link's job, if every source succeeded. `claimed_count` is how many claims
+-- succeeded. `open_of k job s` is the events so far of the block that is open at stage s.
 
+-- blocks of the sources below n are none of job n
 none_of : (n : ℕ) (bs : List SourceBlock) → Below n bs → of n bs ≡ []
 none_of n [] below = refl
 none_of n (b ∷ bs) below = ap (λ (t : Bool). if t then b.block ∷ of n bs else of n bs) (apart b.source n below.0) ∙ none_of n bs below.1
@@ -72,6 +81,7 @@ pub ran_story : (plan : Plan) (N : ℕ) (S : List RunEvent) (ran : Ran plan.jobs
 ran_story plan N S ran j lt = subst (λ n. of n ran.blocks ≡ story n (get_or plan.jobs j no_job) (get_or ran.run.answers j no_answers))
     (let e : 0 + j ≡ j = omega arith in e) (told_at ran.blocks 0 plan.jobs ran.run.answers ran.run.all ran.run.stories j lt)
 
+-- the blocks of a run are blocks of its sources
 ran_below : (plan : Plan) (N : ℕ) (S : List RunEvent) (ran : Ran plan.jobs N S) → Below (length plan.jobs) ran.blocks
 ran_below plan N S ran = all_below (length plan.jobs) N nowhere [] ran.blocks ran.run.may_come
 
@@ -104,7 +114,7 @@ source_after plan N S ran own last j lt = of_after plan N S ran own last j
     ∙ ap (λ (t : Bool). of j ran.blocks ++ (if t then last else [])) (apart_above (suc (length plan.jobs)) j (omega (arith, lt)))
     ∙ append-nil (of j ran.blocks)
 
--- the link's blocks among all
+-- of all blocks with their owners, those of the link come after those of the sources
 link_following : (plan : Plan) (N : ℕ) (S : List RunEvent) (ran : Ran plan.jobs N S) (own last : List Block)
     → of (length plan.jobs) (following_sources plan N S ran own last) ≡ own
 link_following plan N S ran own last = of_after plan N S ran own last (length plan.jobs)
@@ -122,7 +132,7 @@ below_next n [] below = refl
 below_next n (b ∷ bs) below = ap (λ (t : Bool). if t then b.block ∷ of (suc n) bs else of (suc n) bs)
     (apart b.source (suc n) (let lt = below.0 in omega (arith, lt))) ∙ below_next n bs below.1
 
--- the last blocks among all
+-- of all blocks, those of the removals at the end come last
 last_after : (plan : Plan) (N : ℕ) (S : List RunEvent) (ran : Ran plan.jobs N S) (own last : List Block)
     → of (suc (length plan.jobs)) (following_sources plan N S ran own last) ≡ last
 last_after plan N S ran own last = of_after plan N S ran own last (suc (length plan.jobs))
@@ -142,7 +152,7 @@ record Apart (plan : Plan) (N : ℕ) (o : Answers) (S : List RunEvent) (ran : Ra
   link : events_of (story (length plan.jobs) (link_run plan.link o.jobs) o.link) ≡ events_of own
   removals : events_of (end_removals (removed_at_end plan o) o.last) ≡ events_of last
 
--- a whole run is such a split itself
+-- a whole run is itself a split of its events by owners
 whole_is : (plan : Plan) (N : ℕ) (o : Answers) (E : List RunEvent) (w : Windowed plan N o E)
     → all_blocks plan o w.blocks ≡ following_sources plan N (events_of (blocks_of w.blocks)) (sources_of plan N o E w)
     (story (length plan.jobs) (link_run plan.link o.jobs) o.link) (end_removals (removed_at_end plan o) o.last)
@@ -194,6 +204,7 @@ link_not_whole plan N most job s E o filled k w = has_ended (length plan.jobs) j
     (sym (events_both k.alone.blocks (open_of (length plan.jobs) job s ∷ []) ∙ ap (λ l. events_of k.alone.blocks ++ l)
     (append-nil (open_of (length plan.jobs) job s))) ∙ sym apart_is.link ∙ ap (λ j. events_of (story (length plan.jobs) j o.link)) link)
   where
+    -- Plan: the link's events are its whole story (`own_events`), so it is at its end.
     own_events : k.own ≡ events_of (k.alone.blocks ++ open_of (length plan.jobs) job s ∷ [])
     own_events = k.alone.events ∙ ap (λ l. events_of k.alone.blocks ++ l) (sym (append-nil (open_of (length plan.jobs) job s)))
         ∙ sym (events_both k.alone.blocks (open_of (length plan.jobs) job s ∷ []))
@@ -210,6 +221,7 @@ link_not_whole plan N most job s E o filled k w = has_ended (length plan.jobs) j
 
 -- while a removal is still to come
 
+-- the answer of the first event
 abbrev first_answer : List RunEvent → RemoveAnswer
 first_answer [] = remove.Missing
 first_answer (e ∷ events) = remove_of e.answer
@@ -226,6 +238,7 @@ ends_differ (f ∷ files) [] rs failed i all many lt is = absurd (omega arith)
 ends_differ (f ∷ files) (a ∷ ts) [] false i all many lt is = absurd cc
 ends_differ (f ∷ files) (a ∷ ts) [] true i all many lt is = untold a.answer a.told (ap first_answer is) (ap (λ l. drop 1 l) is)
   where
+    -- Plan: a removal that failed has its report among the events, but no event is left.
     untold : (x : RemoveAnswer) (told : Bool) → x ≡ remove.Failed
         → (if removal_failed x then report (note.NotRemoved f.place) told ∷ [] else []) ++ events_of (end_removals files ts) ≡ [] → ⊥
     untold remove.Failed told e none_left = absurd cc
@@ -237,6 +250,7 @@ ends_differ (f ∷ files) (a ∷ ts) (r ∷ rs) failed i all many lt is = ends_d
     (rest (removal_failed a.answer) (removal_failed r.answer) (ap removal_failed (ap first_answer is)) (ap (λ l. drop 1 l) is)
     ∙ ap (λ j. events_of (end_removals files rs) ++ last_try (f ∷ files) j failed) (sym many))
   where
+    -- Plan: the first removal has the same events in both (`rest`); the others differ by induction.
     rest : (t u : Bool) → t ≡ u → (if t then report (note.NotRemoved f.place) a.told ∷ [] else []) ++ events_of (end_removals files ts)
         ≡ ((if u then report (note.NotRemoved f.place) r.told ∷ [] else []) ++ events_of (end_removals files rs)) ++ last_try
         (f ∷ files) i failed
@@ -260,6 +274,7 @@ tally_count k job other a b e = sym (own job a) ∙ ap (λ l. tally k l) e ∙ o
     own : (j : Job) (x : JobAnswers) → tally k (events_of (story k j x)) ≡ claimed_count x.claims
     own j x = story_tally k k j x ∙ ap (λ (t : Bool). if t then claimed_count x.claims else 0) (nat_eq_equiv.refl k)
 
+-- how many claims of job j succeeded, by the answers
 abbrev counts_of : Plan → Answers → ℕ → ℕ
 counts_of plan o j = if nat_lt j (length plan.jobs) then claimed_count (get_or o.jobs j no_answers).claims else claimed_count o.link.claims
 
@@ -276,6 +291,7 @@ same_files plan N o E w i failed F e last a =
     (get_or e.ran.run.answers j no_answers) (a.sources j lt ∙ ap events_of (ran_story plan N e.sources e.ran j lt)))
     (of_link ∙ tally_count (length plan.jobs) (link_run plan.link o.jobs) (link_run plan.link e.ran.run.answers) o.link e.link.a a.link))
   where
+    -- Plan: the claims are as many by both answers: of each source (`of_source`) and of the link (`of_link`).
     of_source : (j : ℕ) → j < length plan.jobs → counts_of plan o j ≡ claimed_count (get_or o.jobs j no_answers).claims
     of_source j lt = ap (λ (t : Bool). if t then claimed_count (get_or o.jobs j no_answers).claims else claimed_count o.link.claims)
         (less j (length plan.jobs) lt)
@@ -294,11 +310,12 @@ pub tries_are : (files : List File) (rs : List (Told RemoveAnswer)) (i : ℕ) (f
 tries_are files rs i true = sym (events_both (end_removals files rs) (tries files i true))
 tries_are files rs i false = sym (events_both (end_removals files rs) [])
 
+-- blocks of one source, tagged with it, in two parts
 tag_both : (k : ℕ) (xs ys : List Block) → tag k (xs ++ ys) ≡ tag k xs ++ tag k ys
 tag_both k [] ys = refl
 tag_both k (x ∷ xs) ys = ap (λ l. record { source = k; block = x } ∷ l) (tag_both k xs ys)
 
--- which belong to no job
+-- the removals so far, and the one in progress, belong to no job
 pub tries_owned : (n : ℕ) (files : List File) (rs : List (Told RemoveAnswer)) (i : ℕ) (failed : Bool) → AtEndOnly n files → i < length files
     → AllOwned n (tag (suc n) (end_removals files rs ++ tries files i failed))
 tries_owned n files rs i failed e lt = subst (λ l. AllOwned n l) (sym (tag_both (suc n) (end_removals files rs) (tries files i failed)))
@@ -316,6 +333,7 @@ end_not_whole plan N i failed E o e lt w = ends_differ (end_files plan N i faile
     (ap (λ fs. events_of (end_removals fs o.last)) (sym files) ∙ apart_is.removals
     ∙ sym (tries_are (end_files plan N i failed E e) e.removing.rs i failed))
   where
+    -- Plan: the whole run would have the same files to remove (`files`) and an answer for each (`all_last`), but one is left.
     apart_is : Apart plan N o e.sources e.ran (story (length plan.jobs) (link_run plan.link e.ran.run.answers) e.link.a)
         (end_removals (end_files plan N i failed E e) e.removing.rs ++ tries (end_files plan N i failed E e) i failed)
     apart_is = taken_apart plan N o E w e.sources e.ran (story (length plan.jobs) (link_run plan.link e.ran.run.answers) e.link.a)

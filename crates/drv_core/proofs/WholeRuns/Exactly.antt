@@ -16,6 +16,7 @@ use Rattle.std.proofs.Common.{◌≡◌, ◌+◌, false, true, None, ap, refl, �
 pub whole_ends : (plan : Plan) (N : ℕ) (c : Course) → FilledPlan plan → Holds plan N c → IsWhole plan N c.events → asked_by plan c ≡ None
 whole_ends plan N c filled h w = by c.phase h
   where
+    -- Plan: by the phase: in every one but the last the events are no whole run.
     by : (p : Phase) → HoldsAt plan N p c → asked_at plan p c ≡ None
     by Sources held = absurd (going_not_whole plan N c.fleet c.events (filled.jobs c.fleet.current) held.going w)
     by Link held = absurd

@@ -25,6 +25,14 @@ use Rattle.std.proofs.lemmas.Cmp.{nat_eq_equiv}
 
 -- For beginnings of runs: from every stage the sources can be led to the end, by answers that end their stories at once (a claim finds its
 -- name taken, a start is refused). So the events so far are the beginning of some whole run, whatever is answered later.
+-- Names: `jobs` is the jobs of the sources, in plan order. `N` is the window: at most so many sources have begun and not ended. `st` gives
+-- the stage of each source by its number. `blocks` is the blocks so far, each with its source. `job` is the job of the source (or of the
+-- link) at hand. `k` is the number of a job in the plan. `g` is the number of a group of a job's commands. `was` says whether an earlier
+-- group of the job started a child. `s` is a source's stage before. `j` is the number of any source. `t` is the value of a test, so that
+-- `by` can go by both cases. `i` is a number below n, or an index. `n` is the number of sources. `has k bs` says whether source k has a
+-- block among `bs`. `left` says whether a source at this stage has more to do. `no_job` is a job without commands. `of k bs` is the blocks
+-- of source k among `bs`. `count n p` is how many numbers below n pass p. `pending s` is how many children are still to be waited for.
+-- `enter_waits` is the stage of the next wait, or what follows the last.
 
 -- how far a source is from its end
 abbrev pub still : Job → Stage → ℕ
@@ -59,6 +67,7 @@ still_waits : (job : Job) (g : ℕ) (was : Bool) (ids : List ℕ) (i : ℕ)
     → still job (enter_waits job g was ids i true) ≤ 1 + length job.on_failure + (1 + (length ids - i))
 still_waits job g was ids i = by (nat_lt i (length ids))
   where
+    -- Plan: by whether a child is left to be waited for.
     by : (t : Bool) → still job (if t then Waits g was ids i true else end_group job g (was || not (none ids)) true) ≤ 1 + length
         job.on_failure + (1 + (length ids - i))
     by true = omega arith
@@ -72,6 +81,7 @@ still_last_wait : (job : Job) (g : ℕ) (was : Bool) (ids : List ℕ) (i : ℕ) 
     → still job (enter_waits job g was ids (i + 1) true) < 2 + length job.on_failure + (length ids - i)
 still_last_wait job g was ids i lt = by (nat_lt (i + 1) (length ids)) refl
   where
+    -- Plan: by whether another child is left after this one.
     by : (t : Bool) → nat_lt (i + 1) (length ids) ≡ t
         → still job (if t then Waits g was ids (i + 1) true else end_group job g (was || not (none ids)) true) < 2 + length job.on_failure +
         (length ids - i)
@@ -100,18 +110,20 @@ still_next job i = by (nat_lt (i + 1) (length job.on_failure)) refl
     by true e = let lt : i + 1 < length job.on_failure = is_less (i + 1) (length job.on_failure) e in omega (arith, lt)
     by false e = omega arith
 
--- a block of a source, by some answer, that brings it nearer to its end
+-- A block of a source, by some answer, that brings it nearer to its end. The block `b` leads to stage `m`. `still` says how far a source is
+-- from its end.
 pub record Fails (k : ℕ) (job : Job) (s : Stage) : Type 0 where
   pub b : Block
   pub m : Stage
   pub one : OneBlock k job s b m
   pub nearer : still job m < still job s
 
+-- a test or a true one is true
 or_true : (t : Bool) → (t || true) ≡ true
 or_true true = refl
 or_true false = refl
 
--- each source that has more to do has such a block
+-- each source that has more to do has a block that brings it nearer to its end
 pub fails : (k : ℕ) (job : Job) (s : Stage) → Sound s → left s ≡ true → Fails k job s
 fails k job (Claims i) so l = record {
   b = claim_block k i (record { answer = claim.Taken; told = true });
@@ -123,6 +135,7 @@ fails k job (Claims i) so l = record {
 fails k job (ClaimReport i x) so l = absurd so
 fails k job (Starts g was ids) so l = by (group_at job g) refl
   where
+    -- Plan: a group that is entered has a first command, whose start is refused.
     by : (cs : List Command) → group_at job g ≡ cs → Fails k job (Starts g was ids)
     by [] e = record {
       b = starts_block k g (length (group_at job g)) 0 true [];
@@ -161,7 +174,7 @@ fails k job (RemovalReport i) so l = absurd so
 fails k job Ended so l = absurd cc
 
 -- What holds between blocks: `Standing`, at most N sources begun and not ended, and no source begun before an earlier one that has blocks
--- to come.
+-- to come. `beyond` says that numbers after the last source count as ended.
 pub record Keeps (jobs : List Job) (N : ℕ) (st : ℕ → Stage) (blocks : List SourceBlock) : Type 0 where
   pub stand : Standing jobs N st blocks
   pub window : count (length jobs) (λ j. has j blocks && left (st j)) ≤ N
@@ -175,6 +188,7 @@ begun_waiting k job [] m p e =
     absurd (let no : nat_lt 0 0 ≡ true = ap (λ n. nat_lt 0 n) (sym (begins job).none_pending ∙ ap pending p) ∙ e in cc)
 begun_waiting k job (b ∷ bs) m p e = refl
 
+-- a stage with a child to be waited for has more to do
 waiting_left : (s : Stage) → nat_lt 0 (pending s) ≡ true → left s ≡ true
 waiting_left Ended e = absurd (let no : nat_lt 0 0 ≡ true = e in cc)
 waiting_left s e = refl
@@ -200,6 +214,7 @@ none_there : (n : ℕ) (p : ℕ → Bool) → count n p ≡ 0 → (j : ℕ) → 
 none_there zero p e j lt = absurd (omega arith)
 none_there (suc n) p e j lt = by (nat_eq j n) refl (λ rest below. none_there n p rest j below)
   where
+    -- Plan: if a number passed, the count would not be 0; by whether it is the last one.
     bit : (t : Bool) → (if t then 1 else 0) + count n p ≡ 0 → t ≡ false
     bit true h = absurd (omega arith)
     bit false h = refl
@@ -224,6 +239,8 @@ keeps_more jobs N st blocks k b m keep more o may = record {
   beyond = λ j past. subst (λ (t : Bool). (if t then m else st j) ≡ Ended) (sym (not_k j past)) (keep.beyond j past);
 }
   where
+    -- Plan: only source k has one block more and another stage. Each other source has what it had, so the rules of order and window still
+    -- hold.
     new : SourceBlock
     new = record { source = k; block = b }
 
@@ -285,6 +302,7 @@ pub summed_less : (n k : ℕ) (f g : ℕ → ℕ) → k < n → g k < f k → ((
 summed_less zero k f g lt less_k others = absurd (omega arith)
 summed_less (suc n) k f g lt less_k others = by (nat_eq k n) refl (λ below. summed_less n k f g below less_k others)
   where
+    -- Plan: by whether the number is the last one.
     by : (t : Bool) → nat_eq k n ≡ t → (k < n → summed n g < summed n f) → g n + summed n g < f n + summed n f
     by true e ih =
         let is : k ≡ n = same k n e in
@@ -301,10 +319,12 @@ pub record Finished (jobs : List Job) (N : ℕ) (blocks : List SourceBlock) : Ty
   pub more : List SourceBlock
   pub run : SourcesRun jobs N (blocks ++ more)
 
+-- how far all sources together are from their ends
 abbrev far : List Job → (ℕ → Stage) → ℕ
 far jobs st = summed (length jobs) (λ j. still (get_or jobs j no_job) (st j))
 
--- one more block, after which the sources are nearer to their ends
+-- One more block, after which the sources are nearer to their ends. `next` is the stages after the `block`. `far` says how far all sources
+-- are from their ends.
 record Nearer (jobs : List Job) (N : ℕ) (st : ℕ → Stage) (blocks : List SourceBlock) : Type 0 where
   block : SourceBlock
   next : ℕ → Stage
@@ -326,6 +346,7 @@ nearer_by jobs N st blocks keep goes = record {
       (ap_less f.nearer) (λ j e. ap (λ (t : Bool). still (get_or jobs j no_job) (if t then f.m else st j)) e);
 }
   where
+    -- Plan: a source that may go on exists (`progress`); the block that ends its story at once brings it nearer to its end.
     job : Job
     job = get_or jobs goes.k no_job
 
@@ -353,6 +374,7 @@ finish_by zero jobs N st blocks some keep far_below = absurd (omega arith)
 finish_by (suc fuel) jobs N st blocks some keep far_below = by (find (length jobs) (λ j. left (st j)))
     (λ near. finish_by fuel jobs N near.next (blocks ++ near.block ∷ []) some near.keep (let lt = near.less_far in omega (arith, lt)))
   where
+    -- Plan: by whether a source has more to do: then one block brings the end nearer (`nearer_by`), and induction does the rest.
     all_ended : ((j : ℕ) → j < length jobs → left (st j) ≡ false) → (j : ℕ) → st j ≡ Ended
     all_ended none j = at (nat_lt j (length jobs)) refl
       where

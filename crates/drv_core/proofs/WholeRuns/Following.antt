@@ -26,8 +26,15 @@ use Rattle.std.proofs.Common.{◌≡◌, ◌<◌, ◌∙◌, Bool, false, List, 
 
 -- For the choices of `Run`: after the sources no story of a source goes on. So events of the link or of removals at the end are never
 -- between blocks of the sources.
+-- Names: `plan` is the plan of the run: the jobs of its sources, and perhaps a link. `N` is the window: at most so many sources have begun
+-- and not ended. `E` is the events so far. `i` is the number of a removal. `events_of` lists the events of blocks. `no_job` is a job
+-- without commands. `open_of k job s` is the events so far of the block that is open at stage s. `story k job a` is all blocks of job k
+-- that these answers make. `left` says whether a source at this stage has more to do. `link_run` is the link's job, if every source
+-- succeeded. `begin job` is a job's first stage.
 
--- the run of the sources, followed by blocks of the link and by removals at the end
+-- The run of the sources, followed by blocks of the link and by removals at the end. `sources` are the events of the sources, a whole run
+-- (`ran`). `own` are the link's blocks, and `last` the removals at the end. `own_owned` and `last_owned` say whose blocks these are.
+-- `events` says that there are no others.
 pub record Following (plan : Plan) (N : ℕ) (E : List RunEvent) : Type 0 where
   pub sources : List RunEvent
   pub ran : Ran plan.jobs N sources
@@ -37,11 +44,12 @@ pub record Following (plan : Plan) (N : ℕ) (E : List RunEvent) : Type 0 where
   pub last_owned : AllOwned (length plan.jobs) (tag (suc (length plan.jobs)) last)
   pub events : E ≡ sources ++ (events_of own ++ events_of last)
 
--- such events are not between blocks of the sources
+-- events after the last block of the sources are not between their blocks
 pub none_goes_on : (plan : Plan) (N : ℕ) (E : List RunEvent) → FilledPlan plan → Following plan N E → BetweenBlocks plan N E → ⊥
 none_goes_on plan N E filled z b = clash (b.left b.some) b.some_left (sym (fate_at plan N E b b.some b.some_is).left_is
     ∙ ap left (sym ended))
   where
+    -- Plan: a source whose story goes on is not at its end; but the events after the sources show that each has ended (`ended`).
     told : events_of (of b.some b.blocks) ≡ events_of (story b.some (get_or plan.jobs b.some no_job)
         (get_or z.ran.run.answers b.some no_answers))
     told = same_lane (length plan.jobs) b.some b.blocks (following_sources plan N z.sources z.ran z.own z.last) (between_owned plan N E b)
@@ -60,7 +68,7 @@ none_goes_on plan N E filled z b = clash (b.left b.some) b.some_left (sym (fate_
         (fate_at plan N E b b.some b.some_is).t) told (fate_replays b.some (get_or plan.jobs b.some no_job) (of b.some b.blocks)
         (b.left b.some) (b.waits b.some) (filled.jobs b.some) (fate_at plan N E b b.some b.some_is)))
 
--- while the link runs, the events are such
+-- while the link runs, the events are those of the sources and more
 pub after_linking : (plan : Plan) (N most : ℕ) (job : Job) (s : Stage) (E : List RunEvent) → Linking plan N most job s E
     → Following plan N E
 after_linking plan N most job s E k = record {
@@ -93,13 +101,13 @@ after_last plan N i failed E e owned = record {
       (e.removing.events ∙ tries_are (end_files plan N i failed E e) e.removing.rs i failed);
 }
 
--- while a file is left to remove, the events are such
+-- while a file is left to remove, the events are those of the sources and more
 pub after_ending : (plan : Plan) (N i : ℕ) (failed : Bool) (E : List RunEvent) (e : Ending plan N i failed E)
     → i < length (end_files plan N i failed E e) → Following plan N E
 after_ending plan N i failed E e lt = after_last plan N i failed E e (tries_owned (length plan.jobs) (end_files plan N i failed E e)
     e.removing.rs i failed (end_only plan (answers e.ran.run.answers e.link.a [])) lt)
 
--- after the last removal the events are such
+-- after the last removal the events are those of the sources and more
 pub after_done : (plan : Plan) (N i : ℕ) (E : List RunEvent) → Ending plan N i false E → Following plan N E
 after_done plan N i E e = after_last plan N i false E e (subst (λ bs. AllOwned (length plan.jobs) (tag (suc (length plan.jobs)) bs))
     (sym (append-nil (end_removals (end_files plan N i false E e) e.removing.rs)))

@@ -33,6 +33,13 @@ use Rattle.std.specs.Prelude.{⊤}
 
 -- For the laws: each event shows its owner, the job of its place, or for the closing of a pipe the job of the event before. A removal at
 -- the end belongs to no job: its owner is a number that no job has. So the events of a run have one split by owners.
+-- Names: `bs` is blocks of one source, in order. `job` is the job of the source (or of the link) at hand. `k` is the number of a job in the
+-- plan. `g` is the number of a group of a job's commands. `s` is a source's stage before. `j` is the number of any source. `t` is the value
+-- of a test, so that `by` can go by both cases. `n` is the number that no job has, the owner of the removals at the end. `last` is the
+-- owner of the event before. `i` is the index of a claim, start, wait or removal. `of k bs` is the blocks of source k among `bs`.
+-- `group_blocks` is the blocks of groups: of each its starts, then its waits. `group_at job g` is the commands of the group. `events_of`
+-- lists the events of blocks. `own_removals` is the blocks in which a failed job removes its failure files. `wait_blocks` is the blocks of
+-- a group's waits.
 
 -- the owner of a removal; n is the number of sources, which is the link's number, and removals at the end get a greater one
 abbrev pub remover : ℕ → Place → ℕ
@@ -41,7 +48,7 @@ remover n (place.Temp k i) = suc n
 remover n (place.Marked k i) = suc n
 remover n (place.OnFailure k i) = k
 
--- the owner of a report
+-- the owner of a report is the job of its place
 abbrev pub noted : ℕ → Note → ℕ
 noted n (note.NotClaimed p) = job_of p
 noted n (note.NotStarted p) = job_of p
@@ -108,6 +115,7 @@ pub owned_append : (n : ℕ) (xs ys : List SourceBlock) → AllOwned n xs → Al
 owned_append n [] ys x y = y
 owned_append n (b ∷ xs) ys x y = (x.0, owned_append n xs ys x.1 y)
 
+-- two lists of events of one owner, together
 own_append : (n k last : ℕ) (b rest : List RunEvent) → AllOwn n k last b → ((l : ℕ) → AllOwn n k l rest) → AllOwn n k last (b ++ rest)
 own_append n k last [] rest own more = more last
 own_append n k last (e ∷ b) rest own more = (own.0, own_append n k k b rest own.1 more)
@@ -122,6 +130,7 @@ own_claim n k i c last = (refl, by (is_claimed c.answer))
     by true = tt
     by false = (refl, tt)
 
+-- the closing of a pipe has the owner of the event before
 own_close : (n k : ℕ) (t : Bool) → AllOwn n k k (if t then event step.ClosePipe answer.Closed ∷ [] else [])
 own_close n k true = (refl, tt)
 own_close n k false = tt
@@ -138,6 +147,7 @@ own_wait_report n k g i (Exit c) t = tt
 own_wait_report n k g i Signal t = (refl, tt)
 own_wait_report n k g i Lost t = (refl, tt)
 
+-- a wait has its job as owner
 own_wait : (n k g i id : ℕ) (w : Told WaitAnswer) (last : ℕ) → AllOwn n k last (wait_block k g i id w)
 own_wait n k g i id w last = (refl, own_wait_report n k g i w.answer w.told)
 
@@ -159,7 +169,7 @@ pub blocks_tag : (k : ℕ) (bs : List Block) → blocks_of (tag k bs) ≡ bs
 blocks_tag k [] = refl
 blocks_tag k (b ∷ bs) = ap (λ l. b ∷ l) (blocks_tag k bs)
 
--- source k has all of them, another none
+-- of blocks tagged with source k, source k has all and any other none
 pub of_tag : (j k : ℕ) (bs : List Block) → of j (tag k bs) ≡ (if nat_eq k j then bs else [])
 of_tag j k [] = by (nat_eq k j)
   where
@@ -173,10 +183,12 @@ of_tag j k (b ∷ bs) = by (nat_eq k j) (of_tag j k bs)
     by true e = ap (λ l. b ∷ l) e
     by false e = e
 
+-- blocks of one source, tagged with it, in two parts
 tag_append : (k : ℕ) (xs ys : List Block) → tag k (xs ++ ys) ≡ tag k xs ++ tag k ys
 tag_append k [] ys = refl
 tag_append k (x ∷ xs) ys = ap (λ l. record { source = k; block = x } ∷ l) (tag_append k xs ys)
 
+-- claims have their job as owner
 claims_owned : (n k i : ℕ) (cs : List (Told ClaimAnswer)) → AllOwned n (tag k (claim_blocks k i cs))
 claims_owned n k i [] = tt
 claims_owned n k i (c ∷ cs) = (own_claim n k i c, claims_owned n k (i + 1) cs)
@@ -200,6 +212,7 @@ groups_owned n k g (c ∷ cs) (a ∷ xs) = subst (λ l. AllOwned n l)
           (tag k (group_blocks k (g + 1) cs xs)) (waits_owned n k g 0 a.starts a.waits) (groups_owned n k (g + 1) cs xs),
     )
 
+-- and so have its own removals
 removals_owned : (n k i : ℕ) (rs : List (Told RemoveAnswer)) → AllOwned n (tag k (own_removals k i rs))
 removals_owned n k i [] = tt
 removals_owned n k i (r ∷ rs) = (own_removal n k i r, removals_owned n k (i + 1) rs)
@@ -238,6 +251,7 @@ path_owned n k job s (b ∷ bs) m p = (own_one n k job s b p.0 p.1.0, path_owned
 
 -- the open block
 
+-- and the starts so far of a group
 own_so_far : (n k g m i : ℕ) (ids : List ℕ) (last : ℕ) → AllOwn n k last (starts_so_far k g m i ids)
 own_so_far n k g m i [] last = tt
 own_so_far n k g m i (id ∷ ids) last = (refl, own_so_far n k g m (i + 1) ids k)
@@ -268,6 +282,7 @@ pub all_owned : (n m : ℕ) (bs : List SourceBlock) → Below m bs → ((j : ℕ
 all_owned n m [] below each = tt
 all_owned n m (b ∷ bs) below each = (first, all_owned n m bs below.1 (λ j lt. rest j (nat_eq b.source j) (each j lt)))
   where
+    -- Plan: the first block is one of its source's (`first`); of the others the same holds by induction (`rest`).
     here : (t : Bool) → nat_eq b.source b.source ≡ t → AllOwned n (tag b.source (if t then b.block ∷ of b.source bs else of b.source bs))
         → Owned n b
     here true e own = own.0

@@ -8,6 +8,10 @@ use Rattle.std.proofs.lemmas.Cmp.{nat_eq_equiv}
 
 -- For the sources of `Run`: while a source has blocks to come, some source may go on, so no run gets stuck. The lemmas count source
 -- numbers: those that have begun, have blocks to come (`left`), have a child in flight (`flying`), or go on with a wait (`waits`).
+-- Names: `N` is the window: at most so many sources have begun and not ended. `k` is the number of a job in the plan. `j` is the number of
+-- any source. `t` is the value of a test, so that `by` can go by both cases. `n` is the number of sources. `begun` `left`, `flying` and
+-- `waits` are tests of source numbers. `p` and `q` are tests of them too. `count n p` is how many numbers below n pass p. `and_first` and
+-- `and_second` give the parts of a true `&&`.
 
 -- tests that agree below n count the same
 pub count_same : (n : ℕ) (p q : ℕ → Bool) → ((j : ℕ) → j < n → p j ≡ q j) → count n p ≡ count n q
@@ -35,6 +39,7 @@ pub count_with : (n k : ℕ) (p q : ℕ → Bool) → k < n → p k ≡ false �
 count_with zero k p q lt pk qk others = absurd (omega arith)
 count_with (suc n) k p q lt pk qk others = by (nat_eq n k) refl (λ below. count_with n k p q below pk qk others)
   where
+    -- Plan: by whether the number is the last one.
     by : (t : Bool) → nat_eq n k ≡ t → (k < n → count n q ≡ count n p + 1)
         → (if q n then 1 else 0) + count n q ≡ (if p n then 1 else 0) + count n p + 1
     by true e ih =
@@ -59,6 +64,7 @@ pub find : (n : ℕ) (p : ℕ → Bool) → First n p ⊎ ((j : ℕ) → j < n �
 find zero p = inr (λ j lt. absurd (omega arith))
 find (suc n) p = by (find n p)
   where
+    -- Plan: by whether an earlier number passes; if none does, by whether number n does (`at_n`).
     at_n : (t : Bool) → p n ≡ t → ((j : ℕ) → j < n → p j ≡ false) → First (suc n) p ⊎ ((j : ℕ) → j < suc n → p j ≡ false)
     at_n true e none = inl (record { at = n; below = omega arith; passes = e; before = none })
     at_n false e none = inr (λ j lt. here j lt (nat_eq j n) refl)
@@ -87,6 +93,7 @@ pub record Goes (n N : ℕ) (begun left flying waits : ℕ → Bool) : Type 0 wh
   pub has_more : left k ≡ true
   pub may : MayCome n N begun left flying k (waits k)
 
+-- two tests that hold, hold together
 both_true : (a b : Bool) → a ≡ true → b ≡ true → (a && b) ≡ true
 both_true a b x y = rw (x, y) refl
 
@@ -101,6 +108,7 @@ begun_goes n N begun left flying waits k b lt is all = record {
   all_in_flight = all;
 }
   where
+    -- Plan: the source is counted as begun already (`by`), so with it no more are under way.
     or_false : (t : Bool) → t ≡ (t || false)
     or_false true = refl
     or_false false = refl
@@ -119,6 +127,7 @@ new_goes n N begun left flying waits b f room = record {
   all_in_flight = λ w. absurd (let clash : true ≡ false = sym (b.begun_waits f.at f.below w) ∙ new in cc);
 }
   where
+    -- Plan: the source has not begun and has something to do, and none before it has; with it the window is not full.
     or_false : (t : Bool) → (t || false) ≡ t
     or_false true = refl
     or_false false = refl
@@ -135,6 +144,8 @@ all_wait : (n N : ℕ) (begun left flying waits : ℕ → Bool) → Between n N 
     → (count n (λ j. begun j && left j) ≡ N) ⊎ ((j : ℕ) → j < n → (not (begun j) && left j) ≡ false) → count n flying ≡ min N (count n left)
 all_wait n N begun left flying waits b none_free full = flying_is ∙ by full
   where
+    -- Plan: each source that has begun and not ended has a child in flight (`case`). There are N of these, or all that have something to
+    -- do.
     case : (x y z : Bool) → (x && (y && not z)) ≡ false → (z ≡ true → x ≡ true) → (z ≡ true → y ≡ true) → z ≡ (x && y)
     case true true true e p q = refl
     case true true false e p q = absurd cc
@@ -168,6 +179,8 @@ pub progress : (n N : ℕ) (begun left flying waits : ℕ → Bool) → 1 ≤ N 
     → left k ≡ true → Goes n N begun left flying waits
 progress n N begun left flying waits some b k lt more = free (find n (λ j. begun j && (left j && not (waits j))))
   where
+    -- Plan: if one that has begun goes on without a wait, it may (`free`). Else, if the window has room, the next one may begin (`room`).
+    -- Else all wait, and then each may (`waiting`, `here`).
     waiting : ((j : ℕ) → j < n → (begun j && (left j && not (waits j))) ≡ false) → (count n (λ j. begun j && left j) ≡ N) ⊎ ((j : ℕ) → j < n
         → (not (begun j) && left j) ≡ false) → First n (λ j. begun j && left j) → Goes n N begun left flying waits
     waiting none full f = record {

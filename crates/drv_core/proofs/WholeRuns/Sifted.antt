@@ -25,6 +25,13 @@ use Rattle.std.specs.List.{flat_map}
 
 -- For the laws: what the events of a whole run say about one job, if the stories of other jobs say nothing about it. That is what the job's
 -- own blocks say, followed by what comes after the sources.
+-- Names: `plan` is the plan of the run: the jobs of its sources, and perhaps a link. `N` is the window: at most so many sources have begun
+-- and not ended. `E` is the events so far. `bs` is blocks of several sources. `k` is the number of a job in the plan. `o` is all answers of
+-- a run. `j` is the number of any source. `t` is the value of a test, so that `by` can go by both cases. `f` picks what an event says. `i`
+-- is a number of a job too. `A` is the type of what is said. `xs` and `ys` are two parts of what is said. `w` says that E is a whole run
+-- with these answers. `of k bs` is the blocks of source k among `bs`. `events_of` lists the events of blocks. `whole_job` says that a job's
+-- answers are complete. `link_run` is the link's job, if every source succeeded. `Windowed plan N o E` says that E is a whole run with
+-- these answers. `and_first` and `and_second` give the parts of a true `&&`.
 
 -- what f says of the events of these blocks
 abbrev pub sift : {X : Type 0} → (RunEvent → List X) → List Block → List X
@@ -38,6 +45,7 @@ nothing {ys = ys} e f = ap (λ l. l ++ ys) e ∙ f
 pub only_first : {A : Type 0} {xs ys zs : List A} → xs ≡ zs → ys ≡ [] → xs ++ ys ≡ zs
 only_first {ys = ys} {zs = zs} e f = ap (λ l. l ++ ys) e ∙ ap (λ l. zs ++ l) f ∙ append-nil zs
 
+-- two lists that are empty together are empty each
 parts : {A : Type 0} (xs ys : List A) → xs ++ ys ≡ [] → (xs ≡ []) × (ys ≡ [])
 parts [] ys e = (refl, e)
 parts (x ∷ xs) ys e = absurd cc
@@ -110,6 +118,7 @@ blocks f k n [] under others = refl
 blocks f k n (b ∷ bs) under others = flat_map-append f b.block (events_of (blocks_of bs)) ∙ ap (λ l. flat_map f b.block ++ l)
     (blocks f k n bs under.1 (λ j lt e. following (nat_eq b.source j) j (others j lt e))) ∙ by (nat_eq b.source k) refl
   where
+    -- Plan: by whether the first block is job k's: then it says what it says on both sides; else it says nothing (`alone`).
     following : (t : Bool) (j : ℕ) → sift f (if t then b.block ∷ of j bs else of j bs) ≡ [] → sift f (of j bs) ≡ []
     following true j e = (parts (flat_map f b.block) (sift f (of j bs)) (sym (flat_map-append f b.block (events_of (of j bs))) ∙ e)).1
     following false j e = e
@@ -153,6 +162,7 @@ link_whole plan N o E w = and_second (whole_jobs plan.jobs o.jobs) (whole_job (l
     (and_first (whole_jobs plan.jobs o.jobs && whole_job (link_run plan.link o.jobs) o.link)
     (nat_eq (length o.last) (length (removed_at_end plan o))) w.all_answers)
 
+-- the blocks of a run are blocks of its sources
 below : (plan : Plan) (N : ℕ) (o : Answers) (E : List RunEvent) → (w : Windowed plan N o E) → Below (length plan.jobs) w.blocks
 below plan N o E w = all_below (length plan.jobs) N nowhere [] w.blocks w.may_come
 

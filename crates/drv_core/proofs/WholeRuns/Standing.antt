@@ -22,6 +22,14 @@ use Rattle.std.specs.Prelude.{⊤}
 
 -- For the choices of `Run`: the stages of all sources between blocks (`Standing`), and that one more block of a source that may go on keeps
 -- them so. A child is in flight if it was started and not waited for.
+-- Names: `jobs` is the jobs of the sources, in plan order. `N` is the window: at most so many sources have begun and not ended. `st` gives
+-- the stage of each source by its number. `blocks` is the blocks so far, each with its source. `bs` is blocks of one source, in order. `b`
+-- is one block. `job` is the job of the source (or of the link) at hand. `k` is the number of a job in the plan. `g` is the number of a
+-- group of a job's commands. `s` is a source's stage before. `m` is the source's stage after. `j` is the number of any source. `t` is the
+-- value of a test, so that `by` can go by both cases. `i` is the index of a wait. `of k bs` is the blocks of source k among `bs`. `no_job`
+-- is a job without commands. `has k bs` says whether source k has a block among `bs`. `left` says whether a source at this stage has more
+-- to do. `begin job` is a job's first stage. `events_of` lists the events of blocks. `in_flight` says whether a child was started in these
+-- blocks and not waited for.
 
 -- the blocks lead from s to m
 abbrev pub Path : ℕ → Job → Stage → List Block → Stage → Type 0
@@ -59,7 +67,7 @@ Sound (Removals i) = ⊤
 Sound (RemovalReport i) = ⊥
 Sound Ended = ⊤
 
--- such a stage has no open block
+-- at a sound stage no block is open
 pub sound_out : (s : Stage) → Sound s → inside s ≡ false
 sound_out (Starts g was []) so = refl
 sound_out (Starts g was (id ∷ ids)) so = absurd cc
@@ -140,7 +148,9 @@ children k g n i refused (c ∷ cs) (start.Started id ∷ xs) fit = rw (children
 children k g n i refused (c ∷ cs) (start.NotStarted why ∷ []) fit = rw (closed (nat_lt 0 i)) refl
 children k g n i refused (c ∷ cs) (start.NotStarted why ∷ x ∷ xs) fit = absurd cc
 
--- a block changes the number of children in flight by its starts and its waits
+-- A block changes the number of children in flight by its starts and its waits. By `even` the started children and those pending before are
+-- as many as those waited for and those pending after. By `waits` a block waits for one child if one is pending, else for none. `sound`
+-- says that a wait after it has a child.
 pub record Balance (s : Stage) (b : Block) (m : Stage) : Type 0 where
   pub even : total starts_child b + pending s ≡ total waits_child b + pending m
   pub sound : Sound m
@@ -150,6 +160,7 @@ pub record Balance (s : Stage) (b : Block) (m : Stage) : Type 0 where
 pub balance : (k : ℕ) (job : Job) (s : Stage) (b : Block) (m : Stage) → Sound s → OneBlock k job s b m → Balance s b m
 balance k job (Claims i) b m so o = rw (o.is, o.leads) (by (is_claimed o.a.answer))
   where
+    -- Plan: after a claim no child is pending, whether it succeeded or not (`calm`).
     calm : (t : Bool) → Settled (if t then enter_claims job (i + 1) else Ended)
     calm true = calm_claims job (i + 1)
     calm false = record { none_pending = refl; sound = tt }
@@ -219,6 +230,7 @@ path_even k job s (b ∷ bs) m so p =
 pub flies : (k : ℕ) (job : Job) (bs : List Block) (m : Stage) → Path k job (begin job) bs m → in_flight bs ≡ nat_lt 0 (pending m)
 flies k job bs m p = by (nat_lt 0 (pending m)) refl
   where
+    -- Plan: what was started is what was waited for and what is pending, since nothing was pending at the beginning (`calm`).
     total_even : total starts_child (events_of bs) + pending (begin job) ≡ total waits_child (events_of bs) + pending m
     total_even = (path_even k job (begin job) bs m (begins job).sound p).even
 
@@ -243,6 +255,7 @@ waits_next k job bs s b m p o = by (nat_lt 0 (pending s)) refl
 
 -- one more block
 
+-- a list in two parts has an item if one of them has
 none_append : (xs ys : List Block) → not (none (xs ++ ys)) ≡ (not (none xs) || not (none ys))
 none_append [] ys = refl
 none_append (x ∷ xs) ys = refl
@@ -251,6 +264,7 @@ none_append (x ∷ xs) ys = refl
 pub has_append : (j : ℕ) (xs ys : List SourceBlock) → has j (xs ++ ys) ≡ (has j xs || has j ys)
 has_append j xs ys = ap (λ l. not (none l)) (of_append j xs ys) ∙ none_append (of j xs) (of j ys)
 
+-- an or of three tests doesn't depend on the brackets
 or_assoc : (a b c : Bool) → ((a || b) || c) ≡ (a || (b || c))
 or_assoc true b c = refl
 or_assoc false b c = refl
@@ -298,6 +312,7 @@ stands_more jobs N st blocks k b m stand more o may = record {
       (λ j. by j (nat_eq k j) refl) stand.come may;
 }
   where
+    -- Plan: by whether j is the source of the block: its path is longer by the block; the others' are as before.
     by : (j : ℕ) (t : Bool) → nat_eq k j ≡ t
         → (not (none (if nat_eq k j then b ∷ [] else [])) || left (if nat_eq k j then m else st j)) ≡ left (st j)
     by j true e = let is : k ≡ j = same k j e in rw e (subst (λ i. true ≡ left (st i)) is (sym more))
@@ -356,6 +371,7 @@ sources_run jobs N st blocks stand ended = record {
   may_come = subst (λ f. AllMayCome (length jobs) N f [] blocks) (fun_ext (λ j. ap (λ s. left s) (ended j))) stand.come;
 }
   where
+    -- Plan: each source is at its end, so its blocks are a whole story (`one`).
     one : (i : ℕ) → i < length jobs → ToldStory i (get_or jobs i no_job) (of i blocks)
     one i lt = tells i (get_or jobs i no_job) (of i blocks) (path_ends i (get_or jobs i no_job) (begin (get_or jobs i no_job)) (of i blocks)
         (subst (λ s. Path i (get_or jobs i no_job) (begin (get_or jobs i no_job)) (of i blocks) s) (ended i) (stand.paths i lt)))

@@ -24,6 +24,12 @@ use Rattle.std.specs.List.{list_any}
 
 -- For the end of `Run`: the sources, the link and the removals at the end make a whole run (`Windowed`), and the events before that the
 -- beginning of one.
+-- Names: `plan` is the plan of the run: the jobs of its sources, and perhaps a link. `N` is the window: at most so many sources have begun
+-- and not ended. `E` is the events so far. `t` is the value of a test, so that `by` can go by both cases. `files` is the files to be
+-- removed at the end. `i` is the number of the file that is removed next. `rs` is the answers to removals. `failed` says whether the last
+-- removal failed. `ran` says that these events are a whole run of the sources. `events_of` lists the events of blocks. `end_removals` is
+-- the blocks of the removals at the end. `removed_at_end` is the files that are removed at the end. `link_run` is the link's job, if every
+-- source succeeded. `Filled` says that no group of a job is empty. `Windowed plan N o E` says that E is a whole run with these answers.
 
 -- the removals at the end
 
@@ -31,10 +37,11 @@ use Rattle.std.specs.List.{list_any}
 abbrev pub no_file : File
 no_file = record { place = place.Marked 0 0; path = [] }
 
--- the i-th of these files
+-- the i-th of the files that are removed at the end
 abbrev pub file_at : List File → ℕ → File
 file_at files i = get_or files i no_file
 
+-- without answers there are no removals
 no_end : (files : List File) → end_removals files [] ≡ []
 no_end [] = refl
 no_end (f ∷ files) = refl
@@ -61,15 +68,19 @@ end_split (f ∷ files) (r ∷ rs) ts =
     let s : Splits files rs ts = end_split files rs ts in
     record { more = s.more; is = ap (λ l. removal_block f.place r ∷ l) s.is }
 
+-- so many removals that find nothing
 abbrev gone : ℕ → List (Told RemoveAnswer)
 gone zero = []
 gone (suc n) = record { answer = remove.Missing; told = true } ∷ gone n
 
+-- there are so many of them
 gone_many : (n : ℕ) → length (gone n) ≡ n
 gone_many zero = refl
 gone_many (suc n) = ap (λ (m : ℕ). suc m) (gone_many n)
 
--- these events are the removals of the first i files; `failed`: the removal of the next one has failed, and is still to be reported
+-- These events are the removals of the first i files; `failed`: the removal of the next one has failed, and is still to be reported. `rs`
+-- is the answers of these removals. `within` and `failed_within` say that there are enough files. `events` gives the events: whole blocks,
+-- and the failed removal that is not reported yet.
 pub record Removing (files : List File) (i : ℕ) (failed : Bool) (E : List RunEvent) : Type 0 where
   pub rs : List (Told RemoveAnswer)
   pub many : length rs ≡ i
@@ -134,7 +145,7 @@ removing_told files i E t r = removed_one files i true E remove.Failed t (event 
     r.events ∙ append_assoc (events_of (end_removals files r.rs)) (event (step.Remove (file_at files i).place)
     (answer.Remove remove.Failed) ∷ []) (report (note.NotRemoved (file_at files i).place) t ∷ []))
 
--- events that begin the removals of these files
+-- Events that begin the removals of these files. `last` is one answer for each file, and `rest` the events that are missing.
 pub record RemovalsBegin (files : List File) (E : List RunEvent) : Type 0 where
   pub last : List (Told RemoveAnswer)
   pub many : length last ≡ length files
@@ -145,6 +156,7 @@ pub record RemovalsBegin (files : List File) (E : List RunEvent) : Type 0 where
 removals_between : (files : List File) (i : ℕ) (E : List RunEvent) → Removing files i false E → RemovalsBegin files E
 removals_between files i E r = by (end_split files r.rs (gone (length files - i)))
   where
+    -- Plan: the removals so far, and then as many that find nothing, are those of all files.
     by : Splits files r.rs (gone (length files - i)) → RemovalsBegin files E
     by s = record {
       last = r.rs ++ gone (length files - i);
@@ -174,6 +186,7 @@ removals_begin files i true E r =
 abbrev pub answers : List JobAnswers → JobAnswers → List (Told RemoveAnswer) → Answers
 answers jobs link last = record { jobs = jobs; link = link; last = last }
 
+-- three tests that hold, hold together
 all_whole : (a b c : Bool) → a ≡ true → b ≡ true → c ≡ true → (a && b && c) ≡ true
 all_whole a b c x y z = rw (x, y, z) refl
 
@@ -205,6 +218,7 @@ begun_removals plan N E₁ E₂ E₃ ran link b = record {
       (assembled plan N ran.blocks ran.run link.a b.last link.all b.many);
 }
   where
+    -- Plan: the events of all parts, one after the other, are those of the whole run (`is`).
     is : events_of (blocks_of ran.blocks) ++ events_of (after_sources plan (answers ran.run.answers link.a b.last))
         ≡ (E₁ ++ (E₂ ++ E₃)) ++ b.rest
     is = ap (λ l. l ++ events_of (after_sources plan (answers ran.run.answers link.a b.last))) (sym ran.events)
@@ -225,6 +239,7 @@ done_removals plan N E₁ E₂ E₃ ran link r = record {
       (assembled plan N ran.blocks ran.run link.a r.rs link.all r.many);
 }
   where
+    -- Plan: the events of all parts, one after the other, are those of the whole run (`is`).
     is : events_of (blocks_of ran.blocks) ++ events_of (after_sources plan (answers ran.run.answers link.a r.rs)) ≡ E₁ ++ (E₂ ++ E₃)
     is = ap (λ l. l ++ events_of (after_sources plan (answers ran.run.answers link.a r.rs))) (sym ran.events)
         ∙ ap (λ l. E₁ ++ l) (events_both (story (length plan.jobs) (link_run plan.link ran.run.answers) link.a)
@@ -240,6 +255,7 @@ begun_link plan N E₁ E₂ ran b = by (begun_removals plan N E₁ (E₂ ++ b.re
     (removals_begin (removed_at_end plan (answers ran.run.answers b.a [])) 0 false []
     (removing_first (removed_at_end plan (answers ran.run.answers b.a [])))))
   where
+    -- Plan: the beginning of a whole run, regrouped.
     by : IsBeginning plan N (E₁ ++ ((E₂ ++ b.rest) ++ [])) → IsBeginning plan N (E₁ ++ E₂)
     by p = record {
       o = p.o;
@@ -248,6 +264,7 @@ begun_link plan N E₁ E₂ ran b = by (begun_removals plan N E₁ (E₂ ++ b.re
           ∙ ap (λ l. l ++ p.rest) (sym (append_assoc E₁ E₂ b.rest)) ∙ append_assoc (E₁ ++ E₂) b.rest p.rest) p.windowed;
     }
 
+-- a job without commands has no empty group
 filled_none : Filled no_job
 filled_none g lt = absurd (let no : g < 0 = lt in omega (arith, no))
 
@@ -267,6 +284,7 @@ begun_sources plan N E filled b = by (begun_link plan N (E ++ b.rest) [] (record
     (alone_begins (length plan.jobs) (link_run plan.link b.run.answers) (begin (link_run plan.link b.run.answers)) []
     (alone_first (length plan.jobs) (link_run plan.link b.run.answers) (filled_link plan.link b.run.answers filled))))
   where
+    -- Plan: the beginning of a whole run, regrouped.
     by : IsBeginning plan N ((E ++ b.rest) ++ []) → IsBeginning plan N E
     by p = record {
       o = p.o;

@@ -15,14 +15,17 @@ pub record SourceState : Type 0 where
   pub stage : Stage
   pub room : ℕ
 
+-- a source that has nothing to do
 abbrev pub idle : SourceState
 idle = record { stage = Ended; room = 0 }
 
+-- a source at its beginning
 abbrev pub fresh : Job → SourceState
 fresh job = record { stage = begin job; room = greatest (λ group. length group) job.groups }
 
 -- begun: the sources that have begun and not ended; room: for how many of these there is room. next: the first that hasn't begun and has
--- something to do, or the number of sources. Unended is how many have not ended; current is the source in progress.
+-- something to do, or the number of sources. Unended is how many have not ended; current is the source in progress. `window` is how many
+-- sources may have begun and not ended.
 pub record Fleet : Type 0 where
   pub sources : List SourceState
   pub begun : List ℕ
@@ -32,9 +35,11 @@ pub record Fleet : Type 0 where
   pub current : ℕ
   pub window : ℕ
 
+-- source k in the code's list
 abbrev pub source_in : Fleet → ℕ → SourceState
 source_in f k = get_or f.sources k idle
 
+-- its stage
 abbrev pub stage_in : Fleet → ℕ → Stage
 stage_in f k = (source_in f k).stage
 
@@ -61,13 +66,16 @@ may_begin jobs f = nat_lt f.next (length jobs) && nat_lt (length f.begun) f.wind
 abbrev pub able : List Job → Fleet → List ℕ
 able jobs f = filter (may_go (all_fly f) f) f.begun ++ (if may_begin jobs f then f.next ∷ [] else [])
 
+-- the first job from number k on that has a group, or the number of jobs
 abbrev pub first_busy : ℕ → List Job → ℕ
 first_busy k [] = k
 first_busy k (job ∷ jobs) = if none job.groups then first_busy (k + 1) jobs else k
 
+-- whether a job has something to do
 abbrev pub busy : Job → Bool
 busy job = not (none job.groups)
 
+-- all sources at their beginnings; the first with something to do is in progress
 abbrev pub fresh_fleet : List Job → ℕ → Fleet
 fresh_fleet jobs window = record {
   sources = map fresh jobs;
@@ -79,6 +87,7 @@ fresh_fleet jobs window = record {
   window = window;
 }
 
+-- the next step of the source in progress
 abbrev pub asked_of : List Job → Fleet → Option Step
 asked_of jobs f = asks f.current (get_or jobs f.current no_job) (stage_in f f.current)
 
@@ -93,6 +102,7 @@ abbrev pub opened : List Job → Fleet → Fleet
 opened jobs f = if nat_eq f.current f.next then record f
     { begun = f.begun ++ f.current ∷ []; next = first_busy (f.current + 1) (drop (f.current + 1) jobs) } else f
 
+-- the source in progress has ended: it is no longer under way
 abbrev pub ended : Fleet → Fleet
 ended f = record f { begun = filter (λ k. not (nat_eq k f.current)) f.begun; unended = f.unended - 1 }
 
@@ -100,6 +110,7 @@ ended f = record f { begun = filter (λ k. not (nat_eq k f.current)) f.begun; un
 abbrev pub closed : Fleet → Fleet
 closed f = if left (stage_in f f.current) then f else ended f
 
+-- the first source that may go on becomes the one in progress
 abbrev pub chosen : Fleet → Fleet
 chosen f = record f { current = picked f }
 
@@ -107,11 +118,14 @@ chosen f = record f { current = picked f }
 abbrev pub selected : List Job → Fleet → ℕ → Fleet
 selected jobs f k = record f { current = get_or (able jobs f) k f.next }
 
+-- a block has ended: the source in progress is counted as begun, or as ended, and a source is picked
 abbrev pub turned : List Job → Fleet → Fleet
 turned jobs f = chosen (closed (opened jobs f))
 
+-- nothing changes while a block is open
 abbrev pub settled : List Job → Fleet → Fleet
 settled jobs f = if inside (stage_in f f.current) then f else turned jobs f
 
+-- the source in progress takes an answer, and at the end of a block a source is picked
 abbrev pub taken : List Job → Fleet → Answer → Fleet
 taken jobs f a = settled jobs (worked (get_or jobs f.current no_job) f a)

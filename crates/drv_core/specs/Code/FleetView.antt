@@ -9,9 +9,11 @@ use Rattle.std.specs.Vec.{vec_capacity}
 
 -- How the sources in the code are seen. Only private clauses cite it.
 
+-- a source of the code: its stage, and the capacity of its list of children
 abbrev pub source_of : CodeSource → SourceState
 source_of s = record { stage = stage_at s; room = vec_capacity s.children }
 
+-- the code's sources; `room` is the capacity of the list of those that have begun
 abbrev pub fleet_of : CodeFleet → Fleet
 fleet_of f = record {
   sources = map source_of f.sources.items;
@@ -23,6 +25,7 @@ fleet_of f = record {
   window = f.window;
 }
 
+-- whether every source that has begun may go on, also with a wait
 abbrev pub all_may : Allowed → Bool
 all_may All = true
 all_may NotWaiting = false

@@ -9,11 +9,13 @@ pub record Leftover : Type 0 where
   pub place : Place
   pub first : ℕ
 
+-- a file where a list has none
 abbrev pub no_leftover : Leftover
 no_leftover = record { place = place.Marked 0 0; first = 0 }
 
 -- gone: for each number of a first file, whether the path was removed; claimed: how many temporaries of each job were claimed; at: the
--- number of the file that is removed next
+-- number of the file that is removed next. `files` are all files that may be left at the end. `sources` is the number of sources. `linked`
+-- says whether the link was run.
 pub record Leftovers : Type 0 where
   pub files : List Leftover
   pub gone : List Bool
@@ -29,6 +31,7 @@ is_left claimed sources linked (place.Temp k i) = nat_lt i (get_or claimed k 0)
 is_left claimed sources linked (place.Marked k i) = nat_lt k sources || linked
 is_left claimed sources linked (place.OnFailure k i) = false
 
+-- a file is removed if it is left and its path is not gone
 abbrev pub is_due : Leftovers → List Bool → Leftover → Bool
 is_due x gone l = is_left x.claimed x.sources x.linked l.place && not (get_or gone l.first false)
 
@@ -37,9 +40,11 @@ abbrev pub sought : Leftovers → ℕ → List Leftover → ℕ
 sought x i [] = i
 sought x i (l ∷ ls) = if is_due x x.gone l then i else sought x (i + 1) ls
 
+-- the next file to be removed is sought from this index on
 abbrev pub seeking : Leftovers → ℕ → Leftovers
 seeking x from = record x { at = sought x from (drop from x.files) }
 
+-- after a removal: the path is gone, and the next file is sought
 abbrev pub passing : Leftovers → Leftovers
 passing x = seeking (record x { gone = slice_set x.gone (get_or x.files x.at no_leftover).first true }) (x.at + 1)
 

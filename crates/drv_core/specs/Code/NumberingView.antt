@@ -6,6 +6,7 @@ use Rattle.std.specs.Prelude.{List, ◌++◌, OnOk, Result}
 
 -- How the numbered files in the code are seen. Only private clauses cite it.
 
+-- these files were numbered, as the code's list and map show
 abbrev pub IsNoted : List File → Numbering → Type 0
 IsNoted before n = Noted before (leftover_list n.files.items) (number_in n.known.entries (λ k. k.now))
 

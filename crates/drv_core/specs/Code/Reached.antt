@@ -20,9 +20,11 @@ between_blocks Removals f = false
 between_blocks Report f = false
 between_blocks Done f = false
 
+-- how many sources may go on; 1 where none can be chosen
 abbrev pub choices_at : Plan → RunState → ℕ
 choices_at plan p = if between_blocks p.phase p.fleet then length (able plan.jobs p.fleet) else 1
 
+-- the k-th of them goes on
 abbrev pub choosing : Plan → RunState → ℕ → RunState
 choosing plan p k = if between_blocks p.phase p.fleet then record p { fleet = selected plan.jobs p.fleet k } else p
 
@@ -33,7 +35,8 @@ pub data Reached (plan : Plan) (N room : ℕ) : RunState → Type 0 where
       → Reached plan N room (moved plan p s a)
   after_choice : (p : RunState) (k : ℕ) → Reached plan N room p → k < choices_at plan p → Reached plan N room (choosing plan p k)
 
--- what is known of every run
+-- What is known of every run. `some` says that the window lets one source begin. `jobs` and `link` say that no group is without a command.
+-- `fits` says that all events have room.
 pub record Kept (plan : Plan) (N : ℕ) (p : RunState) : Type 0 where
   pub some : 1 ≤ N
   pub jobs : AllFilled plan.jobs

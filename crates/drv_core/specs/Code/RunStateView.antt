@@ -9,6 +9,7 @@ use Rattle.std.specs.Vec.{vec_capacity}
 
 -- How a run in the code is seen. Only private clauses cite it.
 
+-- the code's name of a phase
 abbrev pub phase_of : CodePhase → Phase
 phase_of code.Sources = Sources
 phase_of code.Link = Link
@@ -16,6 +17,7 @@ phase_of code.Removals = Removals
 phase_of code.Report = Report
 phase_of code.Done = Done
 
+-- the code's run; `room` is the capacity of its list of events
 abbrev pub run_state_of : CodeRun → RunState
 run_state_of w = record {
   phase = phase_of w.phase;

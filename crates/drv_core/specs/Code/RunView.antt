@@ -9,6 +9,7 @@ use Rattle.drv_words.specs.declared.plan.Plan.{Plan}
 
 -- How a `Run` in the code is seen. Only private clauses cite it.
 
+-- what a caller sees of a run: its action is the next step, or the status after the end
 abbrev pub run_at : Plan → FailureStatus → RunState → Run
 run_at plan pass_codes p = record {
   plan = plan;
@@ -18,9 +19,10 @@ run_at plan pass_codes p = record {
   action = action_of (next_of plan p) (status_from pass_codes p.code);
 }
 
+-- the same of the code's run
 abbrev pub run_of : Plan → FailureStatus → CodeRun → Run
 run_of plan pass_codes w = run_at plan pass_codes (run_state_of w)
 
--- what holds of every run
+-- what holds of every run of the code
 abbrev pub Stands : Plan → CodeRun → Type 0
 Stands plan w = Kept plan w.fleet.window (run_state_of w)

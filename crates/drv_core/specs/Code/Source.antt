@@ -38,21 +38,27 @@ pub data Stage : Type 0 where
   RemovalReport : (i : ℕ) → Stage
   Ended : Stage
 
+-- the stage of group g's first start, or the end after the last group
 abbrev pub enter_group : Job → ℕ → Bool → Stage
 enter_group job g was = if nat_lt g (length job.groups) then Starts g was [] else Ended
 
+-- the stage of the i-th claim, or of the first group after the last claim
 abbrev pub enter_claims : Job → ℕ → Stage
 enter_claims job i = if nat_lt i (length job.temps) then Claims i else enter_group job 0 false
 
+-- the stage of the i-th removal of a failed job's files, or the end
 abbrev pub enter_removals : Job → ℕ → Stage
 enter_removals job i = if nat_lt i (length job.on_failure) then Removals i else Ended
 
+-- after a group: with a fault the job's files are removed, if it started a command; else the next group begins
 abbrev pub end_group : Job → ℕ → Bool → Bool → Stage
 end_group job g started fault = if fault then (if started then enter_removals job 0 else Ended) else enter_group job (g + 1) started
 
+-- the stage of the wait for the i-th child, or what follows the group
 abbrev pub enter_waits : Job → ℕ → Bool → List ℕ → ℕ → Bool → Stage
 enter_waits job g was ids i fault = if nat_lt i (length ids) then Waits g was ids i fault else end_group job g (was || not (none ids)) fault
 
+-- the first stage of a job; one without groups does nothing at all
 abbrev pub begin : Job → Stage
 begin job = if none job.groups then Ended else enter_claims job 0
 
@@ -65,6 +71,7 @@ claim_of (answer.Wait x) = claim.Failed
 claim_of (answer.Remove x) = claim.Failed
 claim_of (answer.Reported x) = claim.Failed
 
+-- the same for a start
 abbrev pub start_of : Answer → StartAnswer
 start_of (answer.Claim x) = start.NotStarted Other
 start_of (answer.Start x) = x
@@ -73,6 +80,7 @@ start_of (answer.Wait x) = start.NotStarted Other
 start_of (answer.Remove x) = start.NotStarted Other
 start_of (answer.Reported x) = start.NotStarted Other
 
+-- for a wait
 abbrev pub wait_of : Answer → WaitAnswer
 wait_of (answer.Claim x) = Lost
 wait_of (answer.Start x) = Lost
@@ -81,6 +89,7 @@ wait_of (answer.Wait x) = x
 wait_of (answer.Remove x) = Lost
 wait_of (answer.Reported x) = Lost
 
+-- for a removal
 abbrev pub remove_of : Answer → RemoveAnswer
 remove_of (answer.Claim x) = remove.Failed
 remove_of (answer.Start x) = remove.Failed
@@ -89,6 +98,7 @@ remove_of (answer.Wait x) = remove.Failed
 remove_of (answer.Remove x) = x
 remove_of (answer.Reported x) = remove.Failed
 
+-- for a report: whether it was written
 abbrev pub told_of : Answer → Bool
 told_of (answer.Claim x) = false
 told_of (answer.Start x) = false
@@ -97,26 +107,32 @@ told_of (answer.Wait x) = false
 told_of (answer.Remove x) = false
 told_of (answer.Reported x) = x
 
+-- the stage after the answer to the i-th claim; a failed claim is reported
 abbrev pub after_claim : Job → ℕ → ClaimAnswer → Stage
 after_claim job i x = if is_claimed x then enter_claims job (i + 1) else ClaimReport i x
 
+-- the stage after the answer to a start: the next start of the group, or its waits; a refusal is reported
 abbrev pub after_start : Job → ℕ → Bool → List ℕ → StartAnswer → Stage
 after_start job g was ids (start.Started id) =
     if nat_lt (length ids + 1) (length (group_at job g)) then Starts g was (ids ++ id ∷ [])
     else enter_waits job g was (ids ++ id ∷ []) 0 false
 after_start job g was ids (start.NotStarted why) = StartReport g was ids why
 
+-- the stage after the report of a refused start: the pipe is closed if the group has started a child
 abbrev pub after_refusal : Job → ℕ → Bool → List ℕ → NotStarted → Bool → Stage
 after_refusal job g was ids why told = if nat_lt 0 (length ids) then Closing g was ids why told else enter_waits job g was ids 0 true
 
+-- the stage after the answer to a wait; a signal and a lost child are reported
 abbrev pub after_wait : Job → ℕ → Bool → List ℕ → ℕ → Bool → WaitAnswer → Stage
 after_wait job g was ids i fault (Exit n) = enter_waits job g was ids (i + 1) (fault || not (nat_eq n 0))
 after_wait job g was ids i fault Signal = WaitReport g was ids i fault Signal
 after_wait job g was ids i fault Lost = WaitReport g was ids i fault Lost
 
+-- the stage after the answer to a removal; a failed one is reported
 abbrev pub after_removal : Job → ℕ → RemoveAnswer → Stage
 after_removal job i x = if removal_failed x then RemovalReport i else enter_removals job (i + 1)
 
+-- the stage after the answer to the next step
 abbrev pub after : Job → Stage → Answer → Stage
 after job (Claims i) a = after_claim job i (claim_of a)
 after job (ClaimReport i x) a = Ended
@@ -129,12 +145,13 @@ after job (Removals i) a = after_removal job i (remove_of a)
 after job (RemovalReport i) a = enter_removals job (i + 1)
 after job Ended a = Ended
 
+-- the report of a wait that did not show an exit status
 abbrev pub wait_note : ℕ → ℕ → ℕ → WaitAnswer → Note
 wait_note k g i (Exit n) = note.Lost (place.Command k g i)
 wait_note k g i Signal = note.Signalled (place.Command k g i)
 wait_note k g i Lost = note.Lost (place.Command k g i)
 
--- the next step
+-- the next step of job k at this stage, if there is one
 abbrev pub asks : ℕ → Job → Stage → Option Step
 asks k job (Claims i) = Some (step.Claim (place.Temp k i))
 asks k job (ClaimReport i x) = Some (step.Report (note.NotClaimed (place.Temp k i)))
@@ -174,7 +191,7 @@ awaits (Removals i) = false
 awaits (RemovalReport i) = false
 awaits Ended = false
 
--- whether a block is open
+-- whether a block is open at this stage
 abbrev pub inside : Stage → Bool
 inside (Claims i) = false
 inside (ClaimReport i x) = true
@@ -205,9 +222,11 @@ abbrev pub starts_so_far : ℕ → ℕ → ℕ → ℕ → List ℕ → Block
 starts_so_far k g n i [] = []
 starts_so_far k g n i (id ∷ ids) = start_event k g n i (start.Started id) ∷ starts_so_far k g n (i + 1) ids
 
+-- the events of a group whose start was refused and reported
 abbrev pub refused_so_far : ℕ → ℕ → ℕ → List ℕ → NotStarted → Block
 refused_so_far k g n ids why = starts_so_far k g n 0 ids ++ start_event k g n (length ids) (start.NotStarted why) ∷ []
 
+-- the events so far of the block that is open at this stage
 abbrev pub open_of : ℕ → Job → Stage → Block
 open_of k job (Claims i) = []
 open_of k job (ClaimReport i x) = event (step.Claim (place.Temp k i)) (answer.Claim x) ∷ []

@@ -11,14 +11,17 @@ use Rattle.std.specs.Prelude.{◌<◌, ⊤, Bool, List, false, length, true, ℕ
 
 -- How a source in the code is seen. Only private clauses cite it.
 
+-- whether a group has failed
 abbrev pub has_failed : GroupState → Bool
 has_failed Sound = false
 has_failed Failed = true
 
+-- whether a report was written
 abbrev pub is_told : ReportAnswer → Bool
 is_told Told = true
 is_told Untold = false
 
+-- the code's stage, with what the source keeps beside it: `was` and `ids`
 abbrev pub stage_of : CodeStage → Bool → List ℕ → Stage
 stage_of (code.Claims i) was ids = Claims i
 stage_of (code.ClaimReport i x) was ids = ClaimReport i x
@@ -31,6 +34,7 @@ stage_of (code.Removals i) was ids = Removals i
 stage_of (code.RemovalReport i) was ids = RemovalReport i
 stage_of code.Ended was ids = Ended
 
+-- the stage of the code's source
 abbrev pub stage_at : CodeSource → Stage
 stage_at s = stage_of s.stage s.started_before s.children.items
 

@@ -9,6 +9,7 @@ use Rattle.std.specs.Prelude.{[], length, ℕ}
 
 -- Where the code begins a run. Only private clauses cite it.
 
+-- a run whose sources are at their beginnings
 abbrev pub first_run : Plan → ℕ → ℕ → RunState
 first_run plan window room = record {
   phase = Sources;
@@ -20,5 +21,6 @@ first_run plan window room = record {
   room = room;
 }
 
+-- the run before its first step; without sources that have something to do, it is at the link already
 abbrev pub fresh_run : Plan → ℕ → ℕ → RunState
 fresh_run plan window room = flown (first_run plan window room)

@@ -18,14 +18,16 @@ one_more f g made new a from i b is same at here so_far =
     ∙ ap (λ l. map f made ++ map g l) (sym (drop_more from i b here))
     ∙ so_far
 
--- no job is left
+-- once no job is left, all sources are made
 all_made : {A B C : Type 0} (f : A → C) (g : B → C) (made : List A) (from : List B) (i : ℕ) → length from ≤ i
     → map f made ++ map g (drop i from) ≡ map g from → map f made ≡ map g from
 all_made f g made from i past so_far = sym (append-nil (map f made)) ∙ ap (λ l. map f made ++ map g l) (sym (drop_all i from past)) ∙ so_far
 
+-- what comes before n comes before i, if i is at least n
 up_to : (n i : ℕ) → n ≤ i → (j : ℕ) → j < n → j < i
 up_to n i le j lt = omega arith
 
+-- one more source is made of one more job, no group of which is empty
 pub loop-job-preserved : goal.loop-job-preserved
 loop-job-preserved c = record {
   made = one_more _ _ c.loop-job.sources.items c.push.new.self.items c.in_ok-source.source c.args.jobs.now c.loop-job.job-index

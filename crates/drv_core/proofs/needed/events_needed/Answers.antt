@@ -8,6 +8,7 @@ use Rattle.std.specs.List.{sum_by}
 
 -- events_needed (src/needed.rt). The most events that a run of this plan can have.
 
+-- without a link the jobs need what the plan needs
 only_jobs : (plan : Plan) → plan.link ≡ None → sum_by job_events plan.jobs ≡ needed plan
 only_jobs plan none =
     let rest : sum_by job_events (option_to_list plan.link) ≡ 0 = ap (λ l. sum_by job_events (option_to_list l)) none in

@@ -11,6 +11,7 @@ use Rattle.std.specs.Slice.Iter.{iter_rest}
 
 -- nth_going (src/fleet.rt). The source of this number among those that have begun and may go on, or else the next one that begins.
 
+-- the code's filter yields what the definition's does, and the choice is an index of it
 pub returns : goal.returns
 returns c =
     let fleet = fleet_of c.args.self.now in

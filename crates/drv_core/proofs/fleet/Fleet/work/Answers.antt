@@ -9,6 +9,7 @@ use Rattle.std.proofs.lemmas.List.{get_or_read}
 
 -- work (src/fleet.rt). The source in progress takes the answer.
 
+-- only the source in progress changes, as `after` says
 pub returns-clause-fleet : goal.returns-clause-fleet
 returns-clause-fleet c = ap (λ w. record (fleet_of c.args.self.now) { sources = w })
     (worked_is c.args.self.now.sources.items c.args.self.now.current c.index_mut.result.now c.take.new.self

@@ -7,6 +7,7 @@ use Rattle.std.specs.Prelude.{unwrap_or}
 
 -- sought (src/leftovers.rt). The number of the next file to be removed, from this one on.
 
+-- the code searches a slice from the index on, and adds the index to what it finds
 pub returns : goal.returns
 returns c =
     let files = c.deref.result.now in

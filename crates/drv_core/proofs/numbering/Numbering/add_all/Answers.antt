@@ -6,6 +6,7 @@ use Rattle.std.proofs.Common.{◌≡◌, ◌++◌, ◌∙◌, OnOk, ap, append_a
 
 -- add_all (src/numbering.rt). Adds the files of all jobs.
 
+-- the files of the sources, then those of the link, are all files of the plan
 pub returns-in-Some : goal.returns-in-Some
 returns-in-Some c before h =
     let all : (before ++ files_from 0 c.as_slice.result.now) ++ job_files c.len.result c.in-Some.link ≡ before
