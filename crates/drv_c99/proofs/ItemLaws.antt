@@ -11,28 +11,37 @@ use Rattle.drv_c99.specs.declared.option.Taking.{Taking}
 use Rattle.std.proofs.Common.{◌≡◌, ◌↔◌, Err, List, [], ◌∷◌, ◌++◌, Ok, Result, refl, subst, ap, ◌∙◌, ℕ}
 
 -- For items_are_read: the items of a line are those of the rules.
+-- Names: `side` says whether `--` has ended the options. `words` is the words of the line from here on. `rest` is the words after the item.
+-- `word` is the first word. `result` is what the words after the item give. `items_of side words` is the items of the words, or their
+-- refusal. `and_items` puts an item before those of the rest. `start_of` says how a word begins an item. `given option argument` is the
+-- item of an option with its argument. `at_last` is a last word, and `at_word` one with others after it. `Comes side words result` says
+-- that the rules give these items (`Reads`) or this refusal (`Offends`).
 
 -- the result for words, by the rules
 abbrev Comes : Side → List (List ℕ) → Result (List Item) C99Fault → Type 0
 Comes side words (Ok items) = Reads side words items
 Comes side words (Err fault) = Offends side words fault
 
+-- an item at the front, and then what the rest gives
 with_first : (side : Side) (words rest : List (List ℕ)) (i : Item) → Fits side words i → (result : Result (List Item) C99Fault)
     → Comes side rest result → Comes side (words ++ rest) (and_items (Ok i) result)
 with_first side words rest i fits (Ok items) reads = first fits reads
 with_first side words rest i fits (Err fault) offends = later fits offends
 
+-- the word that ends the options, and then what the rest gives
 after_options : (side : Side) (word : List ℕ) (words : List (List ℕ)) → start_of side word ≡ Ends → (result : Result (List Item) C99Fault)
     → Comes AfterEnd words result → Comes side (word ∷ words) result
 after_options side word words e (Ok items) reads = options_end e reads
 after_options side word words e (Err fault) offends = after_end e offends
 
+-- an option with its argument in the same word, and then what the rest gives
 with_joined : (side : Side) (word argument : List ℕ) (option : Taking) (rest : List (List ℕ)) → start_of side word ≡ Joined option argument
     → (r : Result Item C99Fault) → given option argument ≡ r → (result : Result (List Item) C99Fault) → Comes side rest result
     → Comes side (word ∷ rest) (and_items r result)
 with_joined side word argument option rest e (Ok i) g result comes = with_first side (word ∷ []) rest i (joined e g) result comes
 with_joined side word argument option rest e (Err fault) g result comes = bad_rest e g
 
+-- an option with its argument in the next word, and then what the rest gives
 with_separate : (side : Side) (word argument : List ℕ) (option : Taking) (rest : List (List ℕ)) → start_of side word ≡ Wants option
     → (r : Result Item C99Fault) → given option argument ≡ r → (result : Result (List Item) C99Fault) → Comes side rest result
     → Comes side (word ∷ argument ∷ rest) (and_items r result)
@@ -40,6 +49,7 @@ with_separate side word argument option rest e (Ok i) g result comes = with_firs
     (separate e g) result comes
 with_separate side word argument option rest e (Err fault) g result comes = bad_next e g
 
+-- what `items_of` gives is what the rules give
 comes : (side : Side) (words : List (List ℕ)) → Comes side words (items_of side words)
 comes side [] = no_word
 comes side (word ∷ []) = by (start_of side word) refl
@@ -54,6 +64,7 @@ comes side (word ∷ []) = by (start_of side word) refl
 comes side (word ∷ next ∷ words) = by (start_of side word) refl (comes side (next ∷ words)) (comes side words)
     (comes AfterEnd (next ∷ words))
   where
+    -- Plan: by how the first word begins an item.
     by : (s : Start) → start_of side word ≡ s → Comes side (next ∷ words) (items_of side (next ∷ words))
         → Comes side words (items_of side words)
         → Comes AfterEnd (next ∷ words) (items_of AfterEnd (next ∷ words))
@@ -77,6 +88,7 @@ refused_first side word [] e = ap (λ s. at_last s word) e
 refused_first side word (next ∷ words) e = ap (λ s. at_word s word next (items_of side (next ∷ words)) (items_of side words)
     (items_of AfterEnd (next ∷ words))) e
 
+-- what is an item by the rules, is one for `items_of`
 fits_items : {side : Side} {words : List (List ℕ)} {i : Item} → Fits side words i → (rest : List (List ℕ))
     → items_of side (words ++ rest) ≡ and_items (Ok i) (items_of side rest)
 fits_items (flag {side} {word} e) rest = flag_first side word rest e
@@ -86,11 +98,13 @@ fits_items (joined {side} {word} {argument} {option} e g) rest = joined_first si
 fits_items (separate {side} {word} {argument} {option} e g) rest = wants_first side option word argument rest e
     ∙ ap (λ r. and_items r (items_of side rest)) g
 
+-- items by the rules are those of `items_of`
 reads_items : {side : Side} {words : List (List ℕ)} {items : List Item} → Reads side words items → items_of side words ≡ Ok items
 reads_items no_word = refl
 reads_items (first {side} {words} {rest} {i} {items} fits reads) = fits_items fits rest ∙ ap (and_items (Ok i)) (reads_items reads)
 reads_items (options_end {side} {word} {words} e reads) = ends_first side word words e ∙ reads_items reads
 
+-- a refusal by the rules is that of `items_of`
 offends_items : {side : Side} {words : List (List ℕ)} {fault : C99Fault} → Offends side words fault → items_of side words ≡ Err fault
 offends_items (unknown {side} {word} {words} e) = refused_first side word words e
 offends_items (lacks_argument {side} {word} e) = ap (λ s. at_last s word) e
@@ -101,8 +115,10 @@ offends_items (bad_next {side} {word} {argument} {words} {option} e g) = wants_f
 offends_items (later {side} {words} {rest} {i} fits offends) = fits_items fits rest ∙ ap (and_items (Ok i)) (offends_items offends)
 offends_items (after_end {side} {word} {words} e offends) = ends_first side word words e ∙ offends_items offends
 
+-- so both give the same items
 pub reads_law : (side : Side) (words : List (List ℕ)) (items : List Item) → (Reads side words items ↔ (items_of side words ≡ Ok items))
 reads_law side words items = (reads_items, λ e. subst (Comes side words) e (comes side words))
 
+-- and the same refusals
 pub offends_law : (side : Side) (words : List (List ℕ)) (fault : C99Fault) → (Offends side words fault ↔ (items_of side words ≡ Err fault))
 offends_law side words fault = (offends_items, λ e. subst (Comes side words) e (comes side words))

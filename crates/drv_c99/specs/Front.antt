@@ -14,15 +14,18 @@ use Rattle.std.specs.Prelude.{true, ℕ}
 -- A line of c99 as words of the driver (POSIX.1-2017, c99, SYNOPSIS, OPTIONS and OPERANDS). It is this project's profile that letters can't
 -- be grouped.
 
+-- the options without an argument
 abbrev pub flags : List (List ℕ)
 flags = codes "-c" ∷ codes "-E" ∷ codes "-g" ∷ codes "-s" ∷ codes "-###" ∷ []
 
+-- the options with an argument
 abbrev pub options : List (List ℕ × Taking)
 options =
     (codes "-D", Define) ∷ (codes "-U", Undefine) ∷ (codes "-I", IncludeFolder) ∷ (codes "-L", LibraryFolder) ∷ (codes "-o", Output) ∷
     (codes "-O", Level)
     ∷ (codes "-l", Library) ∷ []
 
+-- the name of such an option
 abbrev pub name_of : Taking → List ℕ
 name_of Define = codes "-D"
 name_of Undefine = codes "-U"
@@ -54,6 +57,7 @@ abbrev pub with_argument : Taking → List ℕ → Start
 with_argument option [] = Wants option
 with_argument option (b ∷ rest) = Joined option (b ∷ rest)
 
+-- a word whose letter is this option, or none
 abbrev pub by_option : Option Taking → List ℕ → Start
 by_option (Some option) rest = with_argument option rest
 by_option None rest = Unknown
@@ -65,6 +69,7 @@ option_start letter rest =
     else if list_any (pointwise nat_eq (hyphen ∷ letter ∷ rest)) flags then Flag
     else by_option (lookup (pointwise nat_eq (hyphen ∷ letter ∷ [])) options) rest
 
+-- how a word begins an item before the options have ended
 abbrev pub start_before : List ℕ → Start
 start_before [] = Names []
 start_before (b ∷ []) = Names []
@@ -76,10 +81,12 @@ hyphened_start [] = Names (codes "./")
 hyphened_start (letter ∷ rest) = if pointwise nat_eq (hyphen ∷ letter ∷ []) (codes "-l") then with_argument Library
     rest else Names (codes "./")
 
+-- and after: -l still takes an argument
 abbrev pub start_after : List ℕ → Start
 start_after [] = Names []
 start_after (b ∷ rest) = if b == hyphen then hyphened_start rest else Names []
 
+-- how a word begins an item
 abbrev pub start_of : Side → List ℕ → Start
 start_of BeforeEnd word = start_before word
 start_of AfterEnd word = start_after word
@@ -89,10 +96,12 @@ abbrev pub with_level : Bool → List ℕ → Result Item C99Fault
 with_level true argument = Ok (Passed ((codes "-O" ++ argument) ∷ []))
 with_level false argument = Err (BadLevel argument)
 
+-- the operand of -l; a library has a name
 abbrev pub library : List ℕ → Result Item C99Fault
 library [] = Err (MissingArgument (codes "-l"))
 library (b ∷ name) = Ok (Operand (codes "-l" ++ b ∷ name))
 
+-- the item of an option with its argument
 abbrev pub given : Taking → List ℕ → Result Item C99Fault
 given Define argument = Ok (Defined argument)
 given Undefine argument = Ok (Undefined argument)
@@ -104,12 +113,13 @@ given Library argument = library argument
 
 -- the items of a line, or its first offending word
 
+-- an item before those of the rest; the first refusal counts
 abbrev pub and_items : Result Item C99Fault → Result (List Item) C99Fault → Result (List Item) C99Fault
 and_items (Err fault) items = Err fault
 and_items (Ok i) (Err fault) = Err fault
 and_items (Ok i) (Ok items) = Ok (i ∷ items)
 
--- the last word
+-- the items of a last word, by how it begins an item
 abbrev pub at_last : Start → List ℕ → Result (List Item) C99Fault
 at_last Flag word = Ok (Passed (word ∷ []) ∷ [])
 at_last (Names prefix) word = Ok (Operand (prefix ++ word) ∷ [])
@@ -128,6 +138,7 @@ at_word (Wants option) word next from_next after_next ended = and_items (given o
 at_word Ends word next from_next after_next ended = ended
 at_word Unknown word next from_next after_next ended = Err (UnknownOption word)
 
+-- the items of the words
 abbrev pub items_of : Side → List (List ℕ) → Result (List Item) C99Fault
 items_of side [] = Ok []
 items_of side (word ∷ []) = at_last (start_of side word) word
@@ -136,30 +147,35 @@ items_of side (word ∷ next ∷ words) = at_word (start_of side word) word next
 
 -- the words of the driver: the standard, the defined macros, the undefined macros, and the rest in order
 
+-- the words of a macro that is defined
 abbrev pub defined_words : Item → List (List ℕ)
 defined_words (Defined macro) = codes "-D" ∷ macro ∷ []
 defined_words (Undefined macro) = []
 defined_words (Passed words) = []
 defined_words (Operand word) = []
 
+-- of one that is undefined
 abbrev pub undefined_words : Item → List (List ℕ)
 undefined_words (Defined macro) = []
 undefined_words (Undefined macro) = codes "-U" ∷ macro ∷ []
 undefined_words (Passed words) = []
 undefined_words (Operand word) = []
 
+-- of any other item
 abbrev pub other_words : Item → List (List ℕ)
 other_words (Defined macro) = []
 other_words (Undefined macro) = []
 other_words (Passed words) = words
 other_words (Operand word) = word ∷ []
 
+-- whether an item is an operand
 abbrev pub is_operand : Item → Bool
 is_operand (Defined macro) = false
 is_operand (Undefined macro) = false
 is_operand (Passed words) = false
 is_operand (Operand word) = true
 
+-- the driver's words: the standard, then -D, then -U, then the rest in order
 abbrev pub front_of_items : Result (List Item) C99Fault → Result (List (List ℕ)) C99Fault
 front_of_items (Err fault) = Err fault
 front_of_items (Ok items) =
@@ -167,5 +183,6 @@ front_of_items (Ok items) =
     ++ flat_map other_words items)
     else Err NoOperand
 
+-- the driver's words for a line of c99
 abbrev pub front_of : List (List ℕ) → Result (List (List ℕ)) C99Fault
 front_of args = front_of_items (items_of BeforeEnd args)

@@ -1,5 +1,6 @@
 //! A front that is built item by item.
 
+// In clauses: `Gives` says that a result is the defined one, or lack of memory.
 ghost use Rattle.drv_c99.specs.Code.Building.{begun, finished, noted, with_items};
 ghost use Rattle.drv_c99.specs.Front.{Operand, Passed, given, name_of};
 ghost use Rattle.drv_c99.specs.declared.fault.C99Fault.TheVariants as fault;

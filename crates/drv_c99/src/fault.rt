@@ -30,6 +30,7 @@ impl From<AllocError> for C99Fault {
 
     ghost from_gives = { λ _ fault. fault ≡ Memory };
 
+    /// `?` turns a refused allocation into `Memory`.
     fn from(_refused: AllocError) -> C99Fault {
         C99Fault::Memory
     }
@@ -41,6 +42,7 @@ impl<T: Drop> From<AllocFailed<T>> for C99Fault {
 
     ghost from_gives = { λ _ fault. fault ≡ Memory };
 
+    /// `?` turns a refused allocation into `Memory`, and drops what had no room.
     fn from(_refused: AllocFailed<T>) -> C99Fault {
         C99Fault::Memory
     }

@@ -1,5 +1,6 @@
 //! Laws about the definitions that the contracts cite.
 
+// In clauses: `items_of` is the items of words, or their refusal.
 ghost use Rattle.drv_c99.specs.Front.{Item, items_of};
 ghost use Rattle.drv_c99.specs.Reading.{Offends, Reads};
 ghost use Rattle.drv_c99.specs.declared.fault.C99Fault.{C99Fault};

@@ -1,5 +1,6 @@
 //! The options that take an argument, and how a word begins.
 
+// In clauses: `start_shown` is what definitions see of a start.
 ghost use Rattle.drv_c99.specs.Code.Building.{start_shown};
 ghost use Rattle.drv_c99.specs.Front.{name_of, option_start, options, start_before, start_after};
 ghost use Rattle.drv_c99.specs.Front.{start_of, with_argument};

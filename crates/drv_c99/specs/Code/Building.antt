@@ -10,7 +10,7 @@ use Rattle.std.specs.Prelude.{◌≡◌, ◌⊎◌, ◌||◌, Err, List, [], ◌
 
 -- A front that is built item by item. Only private clauses cite it: `front_of` defines what `front` returns.
 
--- before the first item
+-- the front before the first item: no word but the standard
 abbrev pub begun : Front
 begun = record { defined = []; undefined = []; others = []; has_operand = false }
 
@@ -28,7 +28,7 @@ abbrev pub noted : Front → Result Item C99Fault → Result Front C99Fault
 noted f (Ok i) = Ok (with_items f (i ∷ []))
 noted f (Err fault) = Err fault
 
--- all its words
+-- all words of the front; a line without an operand is refused
 abbrev pub finished : Front → Result (List (List ℕ)) C99Fault
 finished f = if f.has_operand then Ok (codes "-std=c99" ∷ f.defined ++ f.undefined ++ f.others) else Err NoOperand
 

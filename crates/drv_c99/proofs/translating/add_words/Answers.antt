@@ -43,6 +43,7 @@ returns-in_err-add_option-in-Joined c =
     c.in-len1-up.len_at_least c.word-item.is c.as_bytes-bytes.ensures c.in-Joined.ensures c.in_err-add_option-in-Joined.ensures
     c.from_residual-in_err-add_option-in-Joined.ensures.1 c.loop-left.invariant
 
+-- an option whose next word is a bad argument is refused
 pub returns-in_err-add_option-in-Wants : goal.returns-in_err-add_option-in-Wants
 returns-in_err-add_option-in-Wants c =
     wants_gives c.loop-left.left.now c.word-item.result c.as_bytes-bytes.result.now c.argument-item.result c.as_bytes.result.now
