@@ -21,6 +21,7 @@ impl From<AllocError> for SearchFault {
 
     ghost from_gives = { λ _ fault. fault ≡ Memory };
 
+    /// `?` turns a refused allocation into `Memory`.
     fn from(_refused: AllocError) -> SearchFault {
         SearchFault::Memory
     }
@@ -32,6 +33,7 @@ impl<T: Drop> From<AllocFailed<T>> for SearchFault {
 
     ghost from_gives = { λ _ fault. fault ≡ Memory };
 
+    /// `?` turns a refused allocation into `Memory`, and drops what had no room.
     fn from(_refused: AllocFailed<T>) -> SearchFault {
         SearchFault::Memory
     }

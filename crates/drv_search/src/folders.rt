@@ -1,5 +1,7 @@
 //! The folders of libraries.
 
+// In clauses: `TellsMore` says that a list got what a definition gives, by any facts that extend
+// what is known. `Asked` says that a call only asked, and that the table has the answers.
 ghost use Rattle.drv_search.specs.Search.{folder_options, folders_under, is_dir, machine_folder};
 ghost use Rattle.drv_search.specs.Search.{options_for, without_slash};
 ghost use Rattle.drv_search.specs.Code.Telling.{TellsMore};
@@ -105,6 +107,7 @@ fn push_options<S: System>(
         options.old options.new }
 {
     push_machine_option(alloc, options, prefix, outside)?;
+    // A prefix without a slash is no folder, only the beginning of names.
     if !ends_with_slash(prefix) {
         return Ok(());
     }

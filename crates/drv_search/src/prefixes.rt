@@ -1,5 +1,7 @@
 //! The prefixes of a search: those of `-B`, and the folders after them.
 
+// In clauses: `Tells` says that a result is that of a definition, by any facts that extend what is
+// known. `Asked` says that a call only asked, and that the table has the answers.
 ghost use Rattle.drv_search.specs.Search.{as_prefix, ends_with_slash, given_of, is_prefix};
 ghost use Rattle.drv_search.specs.Search.{library_folders, machine_folder, prefix_of, prefixes_of};
 ghost use Rattle.drv_search.specs.Search.{program_folders};
@@ -68,6 +70,7 @@ fn prefix_of<S: System>(dir: &Word, outside: &mut Outside<'_, S>) -> Result<Word
     ensures asks { Asked S.events outside.old outside.new }
     ensures prefix { Tells outside.new result (λ F. prefix_of F dir.now) }
 {
+    // Its form tells enough, and nothing is asked.
     if is_prefix(dir.as_bytes()) {
         return dir.clone();
     }

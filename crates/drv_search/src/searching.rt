@@ -1,5 +1,9 @@
 //! Searches for programs, files and linker scripts.
 
+// In clauses: `Tells` says that a result is that of a definition, by any facts that extend what is
+// known. `Asked` says that a call only asked, and that the table has the answers. `Extends F G`
+// says that G has every answer of F. `Asks` says that a call only asked: it added new questions to
+// the journal, and their answers to the table. `Is` is a value that the facts give.
 ghost use Rattle.drv_search.specs.Search.{candidates, candidates_under, file_found, found};
 ghost use Rattle.drv_search.specs.Search.{found_or_name, is_plain, is_searched, machine_folder};
 ghost use Rattle.drv_search.specs.Search.{program_found, script_found};
@@ -203,6 +207,7 @@ pub fn find_script<S: System>(
         → GivesKnown fault.Memory (λ path. path) result (script_found F prefixes.now name.now) }
 {
     let outside = &mut Outside { sys, facts };
+    // A name with a folder is not searched for.
     let hit = if has_slash(name.as_bytes()) {
         plain_at(name.clone()?, outside)?
     } else {

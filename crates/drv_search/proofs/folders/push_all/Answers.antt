@@ -6,6 +6,7 @@ use Rattle.std.proofs.Common.{flat_map}
 
 -- push_all (src/folders.rt). Adds the options for the folders under prefixes.
 
+-- one more prefix adds its options
 pub loop-prefix-preserved : goal.loop-prefix-preserved
 loop-prefix-preserved g c = record {
   asks = asked_further c.loop-prefix.invariant.asks c.push_options.ensures.asks;

@@ -4,6 +4,7 @@ use Rattle.drv_search.proofs.prefixes.given_prefixes.Goals as goal
 
 -- given_prefixes (src/prefixes.rt). The prefixes for the arguments of `-B`.
 
+-- one more argument gives its prefix
 pub loop-dir-preserved : goal.loop-dir-preserved
 loop-dir-preserved g c = record {
   asks = asked_further c.loop-dir.invariant.asks c.prefix_of.ensures.asks;

@@ -12,6 +12,7 @@ returns-in-Some-clause-hit g c F e =
     c.in_ok-hit.field-0
     c.loop-prefix-test.true c.prefix-item.is c.as_bytes.ensures (c.in_ok-hit.ensures.hit F e) c.in-Some.is
 
+-- nothing is found under this prefix, so the others decide
 pub loop-prefix-preserved : goal.loop-prefix-preserved
 loop-prefix-preserved g c = record {
   asks = asked_further c.loop-prefix.invariant.asks c.found_under.ensures.asks;
