@@ -17,8 +17,13 @@ use Rattle.std.specs.declared.cmp.Ordering.TheVariants.{Less, Equal, Greater}
 
 -- For the look-up of a pattern (sorting.rt): in the order of names, the names that begin with the pattern's name are next to each other, so
 -- two binary searches find where they begin and end (`block_found`).
+-- Names: `names` is the names of the switches of a line, in order. `order` is the places of the switches, in the order of their names.
+-- `name` is the name of a switch. `pattern` is a pattern of a spec text. `o` is how two names compare. `t` is the value of a test, so that
+-- `by` can go by both cases. `u` is the value of a second test. `least` is the name of the pattern, with which the block's names begin. `a`
+-- and `b` are names. `name_at names i` is the name at place i. `is_named pattern name` says whether the pattern names it.
+-- `IsOrder names order` says that the order is by name, then by place.
 
--- a name comes before another
+-- whether a name comes before another, byte by byte
 abbrev before : List ℕ → List ℕ → Bool
 before name other = is_lt (slice_cmp nat_cmp name other)
 
@@ -30,6 +35,7 @@ prefix_down (p ∷ least) [] b up so = refl
 prefix_down (p ∷ least) (x ∷ a) [] up so = absurd cc
 prefix_down (p ∷ least) (x ∷ a) (y ∷ b) up so = by (nat_cmp x p) (nat_cmp y x) refl refl (prefix_down least a b)
   where
+    -- Plan: by how the first bytes compare: with `p` of the prefix, and with each other.
     beyond : p < y → ⊥
     beyond above =
         let e : nat_cmp y p ≡ Greater = grind (arith, nat_tests) in
@@ -71,6 +77,7 @@ before_prefix [] (x ∷ name) e = absurd cc
 before_prefix (p ∷ least) [] e = refl
 before_prefix (p ∷ least) (x ∷ name) e = by (nat_cmp x p) refl (before_prefix least name)
   where
+    -- Plan: by how the first bytes compare.
     by : (u : Ordering) → nat_cmp x p ≡ u → (before name least ≡ true → starts_with nat_eq name least ≡ false)
         → starts_with nat_eq (x ∷ name) (p ∷ least) ≡ false
     by Less is ih =
@@ -91,6 +98,7 @@ upto_bytes name least = rw (texts_ties name least) (by (slice_cmp nat_cmp name l
     by Equal = refl
     by Greater = refl
 
+-- a test whose negation holds fails
 opposite : (t : Bool) → not t ≡ true → t ≡ false
 opposite true e = absurd cc
 opposite false e = refl
@@ -101,6 +109,7 @@ turned Less e = absurd cc
 turned Equal e = refl
 turned Greater e = refl
 
+-- what doesn't come after, is at most as great
 no_more : (a b : List ℕ) → before b a ≡ false → is_gt (slice_cmp nat_cmp a b) ≡ false
 no_more a b up = rw (nat_list_cmp_total.antisymm a b) (turned (slice_cmp nat_cmp b a) up)
 
@@ -168,14 +177,17 @@ pub end_parts : (names : List (List ℕ)) (order : List ℕ) (pattern : Pattern)
 end_parts names order pattern o = λ i j d below within so. named_down pattern (name_at names (get_or order i d))
     (name_at names (get_or order j d)) (far_names names order o i j d below within) so
 
+-- if neither of two tests holds, the second fails
 neither : (t u : Bool) → (t || u) ≡ false → u ≡ false
 neither true u e = absurd cc
 neither false u e = e
 
+-- if the first of two tests holds, one does
 left : (t u : Bool) → t ≡ true → (t || u) ≡ true
 left true u e = refl
 left false u e = absurd cc
 
+-- if one holds and the first doesn't, the second does
 alone : (t u : Bool) → t ≡ false → (t || u) ≡ true → u ≡ true
 alone true u e so = absurd cc
 alone false u e so = so
@@ -193,6 +205,7 @@ block_found names order pattern start end low high first second = record {
   following = λ k d from to. neither _ _ (second.1 k d from to);
 }
   where
+    -- Plan: the end is not before the start (`rises`), so the names between both searches are those of the block.
     rises : start ≤ end
     rises = by (nat_le start end) refl
       where
@@ -204,6 +217,7 @@ block_found names order pattern start end low high first second = record {
             absurd (let clash : true ≡ false = sym (left _ _ (first.0 end 0 (omega arith) lower)) ∙ second.1 end 0 (omega arith) within in
             cc)
 
+-- if both fail, none holds
 both_false : (t u : Bool) → t ≡ false → u ≡ false → (t || u) ≡ false
 both_false t u e e' = rw (e, e') refl
 
@@ -217,6 +231,7 @@ none_found names order pattern start low o first other = block_found names order
   (λ k d from to. past k d from to (asks_end names pattern (get_or order k d)) refl),
 )
   where
+    -- Plan: from the start on no name begins with the pattern's (`past`), and before it none does.
     past : (k : ℕ) (d : ℕ) → start ≤ k → k < length order → (t : Bool) → asks_end names pattern (get_or order k d) ≡ t
         → asks_end names pattern (get_or order k d) ≡ false
     past k d from to false e = e

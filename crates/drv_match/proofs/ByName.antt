@@ -18,6 +18,10 @@ use Rattle.std.specs.declared.cmp.Ordering.TheVariants.{Less, Equal, Greater}
 
 -- For the look-up of a pattern: the places of a line, ordered by name and then by place (`IsOrder`). A stable sort by name makes that
 -- order, it has each place once, and there is only one such order.
+-- Names: `names` is the names of the switches of a line, in order. `order` is the places of the switches, in the order of their names. `i`
+-- is a place on the line. `j` is an index in the order. `k` is an index in a list. `o` is how two names compare. `a` and `b` are places.
+-- `name_at names i` is the name at place i. `IsOrder names order` says that the order is by name, then by place. `by_name names i j`
+-- compares two places, by name and then by place.
 
 -- the name at one place comes before the name at another
 abbrev pub is_before : List (List ℕ) → ℕ → ℕ → Bool
@@ -31,6 +35,7 @@ names_rank names = ranks_by nat_list_cmp_total (name_at names)
 pub places_rank : (names : List (List ℕ)) → IsStrictWeakOrder (λ i j. is_lt (by_name names i j))
 places_rank names = ranks_by (then_total (on_total (name_at names) nat_list_cmp_total) nat_cmp_total) (λ i. i)
 
+-- a comparison that ends at Equal or Greater is not Less
 no_less : (t : Bool) → is_lt (cond t Equal Greater) ≡ false
 no_less true = refl
 no_less false = refl
@@ -47,6 +52,7 @@ rising n = λ k d low high.
     let within : k + 1 < n = omega (arith, length-range_with_len 0 n) in
     rw (get_or-range_with_len 0 n (k + 1) d within, get_or-range_with_len 0 n k d (omega arith)) (grind (arith, nat_tests))
 
+-- places with equal names are tied, so a stable sort keeps their order
 tied : (names : List (List ℕ)) (i j : ℕ) → slice_cmp nat_cmp (name_at names j) (name_at names i) ≡ Equal → ties (is_before names) i j ≡ true
 tied names i j equal = rw (equal, tied_back nat_list_cmp_total (name_at names j) (name_at names i) equal) refl
 
@@ -63,6 +69,7 @@ in_order names places order all moved up kept = record {
 
 -- Places that are far apart in the order.
 
+-- what is further on in the order is not less
 far : (names : List (List ℕ)) (order : List ℕ) → IsOrder names order → (j k d : ℕ) → j ≤ k → k < length order
     → is_lt (by_name names (get_or order k d) (get_or order j d)) ≡ false
 far names order o j k d below within = sorted_far (λ i j. is_lt (by_name names i j)) (places_rank names) order o.sorted j k d below within
@@ -84,6 +91,7 @@ pub far_names : (names : List (List ℕ)) (order : List ℕ) → IsOrder names o
     → is_before names (get_or order k d) (get_or order j d) ≡ false
 far_names names order o j k d below within = first_part _ _ (far names order o j k d below within)
 
+-- a number that is not less is at least as great
 at_most : (a b : ℕ) → is_lt (nat_cmp b a) ≡ false → a ≤ b
 at_most a b e = grind (arith, nat_tests)
 
@@ -98,7 +106,7 @@ far_places names order o j k d below within equal = at_most _ _ (second_part _ _
 pub length_order : (names : List (List ℕ)) (order : List ℕ) → IsOrder names order → length order ≡ length names
 length_order names order o = length_permutation _ order o.places ∙ length-range_with_len 0 (length names)
 
--- each of them is a place of the line
+-- each item of the order is a place of the line
 pub in_range : (names : List (List ℕ)) (order : List ℕ) → IsOrder names order → (k d : ℕ) → k < length order
     → get_or order k d < length names
 in_range names order o k d within = All-permutation (λ i. i < length names) (range_with_len 0 (length names)) order o.places
@@ -129,18 +137,19 @@ levels Less a b e e' = absurd cc
 levels Equal a b e e' = grind (arith, nat_tests)
 levels Greater a b e e' = absurd cc
 
+-- two places that are equal in the order are the same place
 one_place : (names : List (List ℕ)) (i j : ℕ) → is_lt (by_name names i j) ≡ false → is_lt (by_name names j i) ≡ false → i ≡ j
 one_place names i j e e' = levels (slice_cmp nat_cmp (name_at names i) (name_at names j)) i j e
     (ap (λ o. is_lt (ordering_then o (nat_cmp j i))) (sym (nat_list_cmp_total.antisymm (name_at names j) (name_at names i))) ∙ e')
 
--- two such orders of a line are the same
+-- two orders of one line by name, then by place, are the same
 pub only_order : (names : List (List ℕ)) (one other : List ℕ) → IsOrder names one → IsOrder names other → one ≡ other
 only_order names one other o o' = same_order (λ i j. is_lt (by_name names i j)) (one_place names) one other
     (λ i j below within. far names one o i j 0 below within) (λ i j below within. far names other o' i j 0 below within)
     (λ n. sym (tally_permutation n (range_with_len 0 (length names)) one o.places) ∙ tally_permutation n (range_with_len 0 (length names))
     other o'.places)
 
--- a block of one such order is a block of any other
+-- a block of one order of the line is a block of any other
 pub block_of_any : (names inside : List (List ℕ)) (order other items : List ℕ) (pattern : Pattern) (start end : ℕ) → inside ≡ names
     → other ≡ items → IsOrder inside items → IsOrder names order → IsBlock inside other pattern start end
     → IsBlock names order pattern start end

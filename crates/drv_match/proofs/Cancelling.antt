@@ -9,8 +9,11 @@ use Rattle.std.specs.Cmp.Lexicographic.{pointwise}
 use Rattle.std.specs.Str.{byte}
 
 -- For liveness: what cancels a name. Any level cancels a level, and a negative form and its positive form cancel each other.
+-- Names: `name` is the name of a switch. `other` is another name. `t` is the value of a test, so that `by` can go by both cases.
+-- `has_negative` says that a name has a form with `no-`. `is_level` says that a name is a level of -O. `cancels later earlier` says that a
+-- later switch cancels an earlier one. `positive` is a name without its `no-`.
 
--- a level has no negative form
+-- a name that begins with O begins with that letter
 level_alone : (name : List ℕ) → is_level name ≡ true → has_negative name ≡ false
 level_alone [] e = refl
 level_alone (letter ∷ rest) e = let is : letter ≡ byte "O" = eqb-true letter (byte "O") e in rw is refl
@@ -60,6 +63,8 @@ as_positive (b ∷ other) (a ∷ x ∷ []) h = rw (and-false, and-false, and-fal
 as_positive (b ∷ other) (a ∷ x ∷ y ∷ []) h = rw (and-false, and-false, and-false, and-false) refl
 as_positive (b ∷ other) (a ∷ x ∷ y ∷ z ∷ rest) h = by (b == a) refl
   where
+    -- Plan: by whether both names begin with the same letter: then the rest has to begin with `no-` (`tests`), else neither side holds
+    -- (`apart`).
     tests : (u v w : Bool) → (u && (v && (w && pointwise nat_eq other rest)))
         ≡ is_this (if u && v && w then Some (a ∷ rest) else None) (a ∷ other)
     tests true true true = rw (nat_eq_equiv.refl a) (nat_list_eq_equiv.symm other rest)

@@ -22,6 +22,14 @@ use Rattle.std.specs.declared.cmp.Ordering.TheVariants.{Less, Equal, Greater}
 
 -- For liveness (liveness.rt): a switch is live if no later one cancels it, so the code looks for the last name that cancels it (`IsLast`).
 -- For a level that is the last level. Else it is the last place of the negative or the positive form, found in the order of names.
+-- Names: `names` is the names of the switches of a line, in order. `order` is the places of the switches, in the order of their names.
+-- `name` is the name of a switch. `place` is the place of a switch on the line. `i` is a place on the line. `j` is an index in the order.
+-- `k` is an index in a list. `end` is where a block ends in the order. `o` is how two names compare. `t` is the value of a test, so that
+-- `by` can go by both cases. `u` is the value of a second test. `f` and `g` are tests of names. `first` is the place of the last name that
+-- cancels the one at hand. `name_at names i` is the name at place i. `IsLast test names place` says that the last name that passes is at
+-- this place. `cancels later earlier` says that a later switch cancels an earlier one. `positive` is a name without its `no-`.
+-- `is_live names i` says that no later switch cancels the one at place i. `is_level` says that a name is a level of -O.
+-- `IsOrder names order` says that the order is by name, then by place.
 
 -- two equal tests have the same last name
 pub last_same : (f g : List ℕ → Bool) (names : List (List ℕ)) (place : ℕ) → ((name : List ℕ) → f name ≡ g name) → IsLast g names place
@@ -40,14 +48,17 @@ no_last f names none = record {
   passes = λ some. absurd (omega (arith, some));
 }
 
+-- if two tests fail, none holds
 both_no : (t u : Bool) → t ≡ false → u ≡ false → (t || u) ≡ false
 both_no true u e e' = absurd cc
 both_no false u e e' = e'
 
+-- if the first of two tests holds, one does
 or_left : (t u : Bool) → t ≡ true → (t || u) ≡ true
 or_left true u e = refl
 or_left false u e = absurd cc
 
+-- if the second holds, one does
 or_right : (t u : Bool) → u ≡ true → (t || u) ≡ true
 or_right true u e = refl
 or_right false u e = e
@@ -57,6 +68,7 @@ pub last_either : (f g : List ℕ → Bool) (names : List (List ℕ)) (one other
     → IsLast g names other → IsLast (λ name. f name || g name) names place
 last_either f g names one other place is last last' = by (nat_le one other) refl
   where
+    -- Plan: by which of the two last places is the later one.
     by : (t : Bool) → nat_le one other ≡ t → IsLast (λ name. f name || g name) names place
     by true e =
         let low : one ≤ other = grind (arith, nat_tests) in
@@ -111,6 +123,7 @@ pub live_from : (names : List (List ℕ)) (place first : ℕ) → place < length
     → IsLast (λ later. cancels later (name_at names place)) names first → nat_le first place ≡ is_live names place
 live_from names place first within last = by (nat_le first place) refl
   where
+    -- Plan: by whether the place is at or after the last one that cancels it.
     later : List (List ℕ)
     later = drop (place + 1) names
 
@@ -161,7 +174,7 @@ earlier : (names : List (List ℕ)) (order : List ℕ) → IsOrder names order �
 earlier names order o j k d below within = ap is_gt (nat_list_cmp_total.antisymm (name_at names (get_or order j d))
     (name_at names (get_or order k d))) ∙ turned _ (far_names names order o j k d below within)
 
--- in the order of names such places come first
+-- in the order of names the places up to a name come first
 pub upto_parts : (names : List (List ℕ)) (order : List ℕ) (name : List ℕ) → IsOrder names order → IsPartitionedBy (is_upto names name) order
 upto_parts names order name o = λ i j d below within so. at_most _ (upto nat_list_cmp_total (name_at names (get_or order i d))
     (name_at names (get_or order j d)) name (earlier names order o i j d below within) (not_greater _ so))
@@ -184,6 +197,7 @@ below_end : (names : List (List ℕ)) (order : List ℕ) (name : List ℕ) (end 
     ≡ true → k < end
 below_end names order name end k point within same = by (nat_le end k) refl
   where
+    -- Plan: by whether the place is before the end; if not, its name would come after this one.
     turned_same : is_eq (slice_cmp nat_cmp (name_at names (get_or order k 0)) name) ≡ true
     turned_same = sym (texts_ties (name_at names (get_or order k 0)) name) ∙ nat_list_eq_equiv.symm (name_at names (get_or order k 0)) name
         ∙ same
@@ -204,6 +218,7 @@ named_none names order name end o point is = record {
   passes = λ some. absurd (omega (arith, some));
 }
   where
+    -- Plan: by whether the switch at a place has the name: then it would be before the end of the order.
     by : (i : ℕ) → i < length names → (t : Bool) → pointwise nat_eq name (name_at names i) ≡ t → t ≡ false
     by i within false e = refl
     by i within true e =
@@ -289,6 +304,7 @@ pub flags_next : (names : List (List ℕ)) (order : List ℕ) (flags after : Lis
 flags_next names order flags after k first same within told last is j below = rw is (by (get_or order j 0 == get_or order k 0)
     (nat_eq j k) refl refl)
   where
+    -- Plan: by whether a later place of the order is the one whose flag is set.
     here : nat_le first (get_or order k 0) ≡ is_live names (get_or order k 0)
     here = live_from names (get_or order k 0) first within last
 

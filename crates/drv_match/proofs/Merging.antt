@@ -21,6 +21,13 @@ use Rattle.std.specs.Prelude.{unwrap_or}
 -- For any_hits and next_hit (switches.rt). A place is the index of a switch on the line; a pattern hits it if it names the switch, and the
 -- switch is neither hidden nor cancelled (`is_hit`). For several patterns the code marks a flag for each place that is hit, and then reads
 -- the flags in order; for the next hit of one pattern it keeps the least place of a hit so far (`LeastOf`).
+-- Names: `pattern` is a pattern of a spec text. `place` is the place of a switch on the line. `i` is a place on the line. `j` is an index
+-- in the order. `k` is an index in a list. `places` is places of the line. `t` is the value of a test, so that `by` can go by both cases.
+-- `u` is the value of a second test. `named` is the places that the pattern names. `patterns` is the patterns whose hits are merged;
+-- `first` is the first, `others` the rest. `n` is the number of switches. `flags` says of each place whether a pattern so far hits it.
+-- `next` is the place from which on a hit is sought. `is_hit` says that the pattern hits the switch at a place. `is_broad` says that a
+-- pattern hits cancelled switches too. `counts` says that a place is neither hidden nor cancelled. `name_at names i` is the name at place
+-- i. `is_named pattern name` says whether the pattern names it. `hits` is the places that a pattern hits.
 
 -- tests that agree on a range leave the same of it
 range_same : (f g : ℕ → Bool) (start n : ℕ) → ((i : ℕ) → start ≤ i → i < start + n → f i ≡ g i)
@@ -46,6 +53,7 @@ take_whole zero (x ∷ xs) some = absurd (omega (arith, some))
 take_whole (suc n) [] some = refl
 take_whole (suc n) (x ∷ xs) some = ap (λ ys. x ∷ ys) (take_whole n xs (omega (arith, some)))
 
+-- where nothing passes, nothing is left
 none_of : (start n : ℕ) → filter (λ i. false) (range_with_len start n) ≡ []
 none_of start zero = refl
 none_of start (suc n) = none_of (start + 1) n
@@ -120,6 +128,7 @@ module _ (names : List (List ℕ)) (hidden : List Bool) where
   hits_none pattern i none within = not_in (is_hit names hidden pattern) (length names) i (any_filter (is_hit names hidden pattern)
       (range_with_len 0 (length names)) ∙ none) within
 
+  -- whether the pattern hits a place of the line
   abbrev has_hit : Pattern → Bool
   has_hit pattern = nat_lt 0 (length (hits names hidden pattern))
 
@@ -255,6 +264,7 @@ module _ (names : List (List ℕ)) (hidden : List Bool) where
   flag_first flags before first others none marked = λ i within.
       ap (λ t. t || is_any_hit names hidden others i) (marked i within ∙ ap (λ t. t || is_hit names hidden first i) (none i within))
 
+  -- an or of three tests, with the brackets elsewhere
   or_in : (t u v : Bool) → ((t || u) || v) ≡ (t || (u || v))
   or_in true u v = refl
   or_in false u v = refl

@@ -21,6 +21,14 @@ use Rattle.std.specs.List.Sorted.{IsNonDecreasing, IsPermutation}
 
 -- For hits (switches.rt): the places that a pattern hits are in its block, the part of the places by name in which it names the switch. Of
 -- the block's places those count that are neither hidden nor cancelled (`counts`); sorted, they are the hits.
+-- Names: `names` is the names of the switches of a line, in order. `order` is the places of the switches, in the order of their names.
+-- `pattern` is a pattern of a spec text. `hidden` says of each place whether its switch is hidden. `i` is a place on the line. `k` is an
+-- index in a list. `start` is where the block begins in the order. `end` is where a block ends in the order. `places` is places of the
+-- line. `xs` is numbers. `t` is the value of a test, so that `by` can go by both cases. `test` is a test of places. `x` is a place too.
+-- `found` is the places of a block that count. `name_at names i` is the name at place i. `is_named pattern name` says whether the pattern
+-- names it. `is_broad` says that a pattern hits cancelled switches too. `is_hit` says that the pattern hits the switch at a place. `hits`
+-- is the places that a pattern hits. `IsOrder names order` says that the order is by name, then by place. `hidden_by` hides what a pattern
+-- hits.
 
 -- in a list, a test holds exactly from a start to an end
 record IsPart (test : ℕ → Bool) (xs : List ℕ) (start end : ℕ) : Type 0 where
@@ -72,6 +80,7 @@ any_filter test (x ∷ xs) = by (test x) refl (any_filter test xs)
     by true e ih = rw e (sym (lt-ltb 0 (suc (length (filter test xs))) (omega arith)))
     by false e ih = rw e ih
 
+-- equal tests leave the same numbers
 filter_same : (f g : ℕ → Bool) → ((x : ℕ) → f x ≡ g x) → (xs : List ℕ) → filter f xs ≡ filter g xs
 filter_same f g same [] = refl
 filter_same f g same (x ∷ xs) = rw (same x, filter_same f g same xs) refl
@@ -91,6 +100,7 @@ named_first names hidden pattern i = by (not (get_or hidden i false)) (is_named 
     by false true v = refl
     by false false v = refl
 
+-- a block is the part of the order in which the pattern names a place
 as_part : (names : List (List ℕ)) (order : List ℕ) (pattern : Pattern) (start end : ℕ) → IsBlock names order pattern start end
     → IsPart (λ i. is_named pattern (name_at names i)) order start end
 as_part names order pattern start end b = record { before = b.before; inside = b.named; following = b.following }
@@ -118,6 +128,7 @@ pub hits_sorted : (names : List (List ℕ)) (order found places : List ℕ) (hid
 hits_sorted names order found places hidden pattern start end o b is moved up = same_rising places (hits names hidden pattern) up
     (IsNonDecreasingBy-filter (λ x. x) (is_hit names hidden pattern) (range_with_len 0 (length names)) (range_rises (length names))) same
   where
+    -- Plan: both lists are in order and have each place equally often (`same`), so they are the same.
     same : (n : ℕ) → tally n places ≡ tally n (hits names hidden pattern)
     same n = sym (tally_permutation n found places moved)
         ∙ ap (tally n) (is ∙ sym (order_hits names order hidden pattern start end b))
@@ -155,6 +166,7 @@ pub hidden_at : (places : List ℕ) (hidden : List Bool) (i : ℕ) → i < lengt
 hidden_at [] hidden i within = sym (or-false (get_or hidden i false))
 hidden_at (j ∷ places) hidden i within = hidden_at places (set hidden j true) i (rw (length-set hidden j true) within) ∙ by (i == j) refl
   where
+    -- Plan: by whether the place is the one that is hidden.
     by : (t : Bool) → (i == j) ≡ t → (get_or (set hidden j true) i false || list_any (nat_eq i) places)
         ≡ (get_or hidden i false || (nat_eq i j || list_any (nat_eq i) places))
     by true e =
@@ -166,6 +178,7 @@ hidden_at (j ∷ places) hidden i within = hidden_at places (set hidden j true) 
           (λ same. absurd (let clash : true ≡ false = sym (nat_eq_equiv.refl i) ∙ ap (λ z. i == z) same ∙ e in cc)),
     ) refl
 
+-- equal tests find the same
 any_same : (f g : ℕ → Bool) → ((x : ℕ) → f x ≡ g x) → (xs : List ℕ) → list_any f xs ≡ list_any g xs
 any_same f g same [] = refl
 any_same f g same (x ∷ xs) = rw (same x, any_same f g same xs) refl
@@ -179,6 +192,7 @@ at_place test i [] = by (test i)
     by false = refl
 at_place test i (x ∷ xs) = by (i == x) (test i) refl refl (at_place test i xs)
   where
+    -- Plan: by whether the first number of the list is the place, and whether it passes.
     second : (t : Bool) → list_any (λ y. test y && nat_eq i y) xs ≡ (test i && list_any (nat_eq i) xs)
         → ((t && false) || list_any (λ y. test y && nat_eq i y) xs) ≡ (test i && list_any (nat_eq i) xs)
     second true ih = ih

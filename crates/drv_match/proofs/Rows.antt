@@ -8,9 +8,11 @@ use Rattle.std.specs.List.{AllWithin}
 -- Examples of lines, which the prover computes: places that a pattern hits, the order of names with a pattern's block, and which switches
 -- are cancelled.
 
+-- a pattern with a star
 abbrev starred : List ℕ → Pattern
 starred name = record { name = name; star = true }
 
+-- a pattern without
 abbrev named : List ℕ → Pattern
 named name = record { name = name; star = false }
 
@@ -18,16 +20,19 @@ named name = record { name = name; star = false }
 abbrev line : List (List ℕ)
 line = codes "mcu=a" ∷ codes "O1" ∷ codes "mcu=b" ∷ codes "m" ∷ codes "O2" ∷ []
 
+-- no switch of the line is hidden
 abbrev shown : List Bool
 shown = replicate (length line) false
 
+-- m* hits every switch whose name begins with m
 with_m : hits line shown (starred (codes "m")) ≡ 0 ∷ 2 ∷ 3 ∷ []
 with_m = refl
 
+-- mcu=* hits those that begin with mcu=
 with_mcu : hits line shown (starred (codes "mcu=")) ≡ 0 ∷ 2 ∷ []
 with_mcu = refl
 
--- one of them is hidden
+-- of two switches that mcu=* names, one is hidden
 others_with_mcu : hits line (hidden_by (named (codes "mcu=a")) line shown) (starred (codes "mcu=")) ≡ 2 ∷ []
 others_with_mcu = refl
 
@@ -35,16 +40,19 @@ others_with_mcu = refl
 with_level : hits line shown (starred (codes "O")) ≡ 1 ∷ 4 ∷ []
 with_level = refl
 
+-- a level that a later one cancels is not hit
 cancelled_level : hits line shown (named (codes "O1")) ≡ []
 cancelled_level = refl
 
+-- * hits all, also the cancelled ones
 all_places : hits line shown (starred []) ≡ 0 ∷ 1 ∷ 2 ∷ 3 ∷ 4 ∷ []
 all_places = refl
 
--- the places by name
+-- the places of the line in the order of the names
 abbrev places : List ℕ
 places = 1 ∷ 4 ∷ 3 ∷ 0 ∷ 2 ∷ []
 
+-- the order is by name
 ascending : IsSorted (by_name line) places
 ascending zero d low high = refl
 ascending (suc zero) d low high = refl
@@ -69,11 +77,13 @@ in_order = record {
 
 -- the places that the starred `m` names come after the levels, and `m` itself comes first
 
+-- before the block of m* no name begins with m
 levels_before : AllWithin (λ i. is_named (starred (codes "m")) (name_at line i) ≡ false) places 0 2
 levels_before zero d low high = refl
 levels_before (suc zero) d low high = refl
 levels_before (suc (suc k)) d low high = absurd (omega (arith, high))
 
+-- in it each does
 all_named : AllWithin (λ i. is_named (starred (codes "m")) (name_at line i) ≡ true) places 2 5
 all_named zero d low high = absurd (omega (arith, low))
 all_named (suc zero) d low high = absurd (omega (arith, low))
@@ -82,6 +92,7 @@ all_named (suc (suc (suc zero))) d low high = refl
 all_named (suc (suc (suc (suc zero)))) d low high = refl
 all_named (suc (suc (suc (suc (suc k))))) d low high = absurd (omega (arith, high))
 
+-- so it goes from 2 to 5
 starred_block : IsBlock line places (starred (codes "m")) 2 5
 starred_block = record {
   ascends = omega arith;
@@ -91,17 +102,20 @@ starred_block = record {
   following = λ k d low high. absurd (omega (arith, low, high));
 }
 
+-- before the block of m no name is m
 levels_before_one : AllWithin (λ i. is_named (named (codes "m")) (name_at line i) ≡ false) places 0 2
 levels_before_one zero d low high = refl
 levels_before_one (suc zero) d low high = refl
 levels_before_one (suc (suc k)) d low high = absurd (omega (arith, high))
 
+-- in it the name is m
 one_named : AllWithin (λ i. is_named (named (codes "m")) (name_at line i) ≡ true) places 2 3
 one_named zero d low high = absurd (omega (arith, low))
 one_named (suc zero) d low high = absurd (omega (arith, low))
 one_named (suc (suc zero)) d low high = refl
 one_named (suc (suc (suc k))) d low high = absurd (omega (arith, high))
 
+-- after it the names are longer
 longer_after : AllWithin (λ i. is_named (named (codes "m")) (name_at line i) ≡ false) places 3 5
 longer_after zero d low high = absurd (omega (arith, low))
 longer_after (suc zero) d low high = absurd (omega (arith, low))
@@ -110,6 +124,7 @@ longer_after (suc (suc (suc zero))) d low high = refl
 longer_after (suc (suc (suc (suc zero)))) d low high = refl
 longer_after (suc (suc (suc (suc (suc k))))) d low high = absurd (omega (arith, high))
 
+-- so it goes from 2 to 3
 named_block : IsBlock line places (named (codes "m")) 2 3
 named_block = record {
   ascends = omega arith;
@@ -121,19 +136,24 @@ named_block = record {
 
 -- Without switches no pattern hits any.
 
+-- without switches nothing is hit
 no_switch : (pattern : Pattern) → hits [] [] pattern ≡ []
 no_switch pattern = refl
 
 -- Negative forms: of two switches that cancel each other the later one is live. A starred letter hits both levels.
 
+-- a negative form before its positive one, and two levels
 abbrev forms : List (List ℕ)
 forms = codes "fno-x" ∷ codes "fx" ∷ codes "O1" ∷ codes "O2" ∷ []
 
+-- the first is cancelled
 cancelled_form : is_live forms 0 ≡ false
 cancelled_form = refl
 
+-- the second is live
 later_form : is_live forms 1 ≡ true
 later_form = refl
 
+-- O* hits both levels, also the cancelled one
 both_levels : hits forms (replicate 4 false) (starred (codes "O")) ≡ 2 ∷ 3 ∷ []
 both_levels = refl

@@ -10,7 +10,10 @@ use Rattle.std.specs.List.Sorted.{IsNonDecreasing, IsPermutation}
 
 -- For the order of names: two ordered lists with the same numbers, equally often, are the same list. So any two sorts of the places agree
 -- (`only_order`).
+-- Names: `i` is a place on the line. `xs` is numbers. `t` is the value of a test, so that `by` can go by both cases. `n` is the number that
+-- is counted. `ys` is numbers too. `x` is the first of them. `lt` is the order.
 
+-- 1 if the test passes, else 0
 abbrev one_if : Bool → ℕ
 one_if true = 1
 one_if false = 0
@@ -20,6 +23,7 @@ abbrev pub tally : ℕ → List ℕ → ℕ
 tally n [] = 0
 tally n (x ∷ xs) = one_if (n == x) + tally n xs
 
+-- a tally is a sum over the list
 as_sum : (n : ℕ) (xs : List ℕ) → tally n xs ≡ sum_by (λ x. one_if (n == x)) xs
 as_sum n [] = refl
 as_sum n (x ∷ xs) = ap (λ t. one_if (n == x) + t) (as_sum n xs) ∙ sym (sum_by-cons (λ x. one_if (n == x)) x xs)
@@ -37,6 +41,7 @@ tally_filter test n [] = by (test n)
     by false = refl
 tally_filter test n (x ∷ xs) = by (test x) (n == x) refl refl (tally_filter test n xs)
   where
+    -- Plan: by whether the first number passes the test, and whether it is the one that is counted.
     kept : (t : Bool) (here before rest : ℕ) → t ≡ true → before ≡ (if t then rest else 0) → here + before ≡ (if t then here + rest else 0)
     kept true here before rest is e = ap (λ m. here + m) e
     kept false here before rest is e = absurd cc
@@ -67,6 +72,7 @@ placed n (x ∷ xs) some = by (n == x) refl some (placed n xs)
     by true is some rest = (0, omega arith, sym (eqb-true n x is))
     by false is some rest = let r = rest (omega (arith, some)) in (suc r.0, omega (arith, r.1), r.2)
 
+-- a list has its first number
 heads : (x : ℕ) (xs : List ℕ) → 0 < tally x (x ∷ xs)
 heads x xs = rw (nat_eq_equiv.refl x) (omega arith)
 
@@ -78,6 +84,7 @@ Ascends lt xs = (i j : ℕ) → i ≤ j → j < length xs → lt (get_or xs j 0)
 first_least : (lt : ℕ → ℕ → Bool) (n x : ℕ) (xs : List ℕ) → Ascends lt (x ∷ xs) → 0 < tally n (x ∷ xs) → lt n x ≡ false
 first_least lt n x xs up some = let r = placed n (x ∷ xs) some in ap (λ z. lt z x) (sym r.2) ∙ up 0 r.0 (omega arith) r.1
 
+-- what is left of an ordered list is ordered
 later : (lt : ℕ → ℕ → Bool) (x : ℕ) (xs : List ℕ) → Ascends lt (x ∷ xs) → Ascends lt xs
 later lt x xs up = λ i j below within. up (suc i) (suc j) (omega (arith, below)) (omega (arith, within))
 

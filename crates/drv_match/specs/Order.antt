@@ -19,7 +19,9 @@ pub record IsOrder (names : List (List ℕ)) (order : List ℕ) : Type 0 where
   pub places : IsPermutation (range_with_len 0 (length names)) order
   pub sorted : IsSorted (by_name names) order
 
--- in that order, the pattern names exactly the places from the start to before the end
+-- In that order, the pattern names exactly the places from the start to before the end. `ascends` and `within` say that start and end lie
+-- in the order. `before`, `named` and `following` say what the pattern names: no place of the first part, all of the second, none of the
+-- third.
 pub record IsBlock (names : List (List ℕ)) (order : List ℕ) (pattern : Pattern) (start end : ℕ) : Type 0 where
   pub ascends : start ≤ end
   pub within : end ≤ length order

@@ -1,5 +1,7 @@
 //! Which switches of a line are live, computed once by look-ups in the places by name.
 
+// In clauses: `IsLast test names place` says that the last name that passes is at this place.
+// `IsOrder names order` says that the order is by name, then by place.
 ghost use Rattle.drv_match.specs.Code.Indexed.{IsLast, IsLiveness, positive};
 ghost use Rattle.drv_match.specs.Matching.{cancels, has_negative, is_level, negative};
 ghost use Rattle.drv_match.specs.Order.{IsOrder};
@@ -42,6 +44,7 @@ fn mark_live(
     for k in 0..order.len() {
         let place = order[k];
         let name = names.get(place);
+        // Equal names are next to each other, and one look-up serves them all.
         if k == 0 || name != names.get(order[k - 1]) {
             first_live = last_cancelling(names, order, level, name, &mut form)?;
         }
@@ -80,6 +83,7 @@ fn last_cancelling(
     if is_level(name) {
         return Ok(level);
     }
+    // Only levels, and names with a negative form, are ever cancelled.
     if !has_negative(name) {
         return Ok(0);
     }
@@ -97,6 +101,7 @@ fn last_named(names: &Names<'_>, order: &[usize], name: &[u8]) -> usize
     ensures { IsLast (pointwise nat_eq name.now) names.now result }
 {
     let end = order.partition_point(|i| names.get(*i).cmp(name).is_le());
+    // Every name comes after this one.
     if end == 0 {
         return 0;
     }

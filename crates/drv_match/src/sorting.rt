@@ -1,5 +1,6 @@
 //! The places of a line by name, and the block that a pattern names.
 
+// In clauses: `IsOrder names order` says that the order is by name, then by place.
 ghost use Rattle.drv_match.specs.Matching.{is_named, name_at};
 ghost use Rattle.drv_match.specs.Order.{IsBlock, IsOrder};
 ghost use Rattle.std.specs.Prelude.{◌≡◌, ◌<◌, IfOk, IsFalse, false, get_or, length, ℕ};

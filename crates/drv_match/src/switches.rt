@@ -1,5 +1,6 @@
 //! The switches of a line, and which of these a pattern hits.
 
+// In clauses: `IsOrder names order` says that the order is by name, then by place.
 ghost use Rattle.drv_match.specs.Code.Indexed.{AreNamed, SameHits};
 ghost use Rattle.drv_match.specs.Matching.{IsNextHit, any_hits, hidden_by, hits, is_broad};
 ghost use Rattle.drv_match.specs.Matching.{is_hit, is_live, name_at};
@@ -139,6 +140,7 @@ impl<'a> Switches<'a> {
             return Ok(Listing::new(alloc));
         };
         let others = self.from_first_hit(others, hidden);
+        // The hits of one pattern are sorted; those of several are merged.
         if !others.is_empty() || self.is_spread(first) {
             return self.merged_hits(alloc, first, others, hidden);
         }

@@ -17,7 +17,8 @@ pub record IsIndex (names : List (List ℕ)) (order : List ℕ) (live : List Boo
   pub in_order : IsOrder names order
   pub by_rule : IsLiveness names live
 
--- the places that a pattern names, by name, then by place
+-- The places that a pattern names, by name, then by place. `order` is the places by name. The pattern names those from `start` to before
+-- `end` (`block`), which are the `places` (`part`).
 pub record AreNamed (names : List (List ℕ)) (pattern : Pattern) (places : List ℕ) : Type 0 where
   pub order : List ℕ
   pub start : ℕ

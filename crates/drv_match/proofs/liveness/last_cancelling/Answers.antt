@@ -6,6 +6,7 @@ use Rattle.std.proofs.Common.{◌≡◌, None, Some, false, rules, true}
 
 -- last_cancelling (src/liveness.rt). The place of the last switch that cancels this name, or 0 if there is none.
 
+-- a name that is no negative form: only its negative form cancels it
 pub returns-then-not-branch : goal.returns-then-not-branch
 returns-then-not-branch c =
     let no_level : is_level c.args.name.now ≡ false = search rules in
@@ -15,6 +16,7 @@ returns-then-not-branch c =
     negative_last c.args.names.now c.args.name.now c.deref.result.now c.last_named-negative.result no_level paired alone form
     c.last_named-negative.ensures
 
+-- a name that is a negative form: its own negative form cancels it, or the positive one
 pub returns : goal.returns
 returns c =
     let no_level : is_level c.args.name.now ≡ false = search rules in

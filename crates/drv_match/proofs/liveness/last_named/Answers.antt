@@ -11,6 +11,7 @@ returns-then-end-eq0 c = named_none c.args.names.now c.args.order.now c.args.nam
     (IsPartitionPoint-from_clause (is_upto c.args.names.now c.args.name.now) c.args.order.now _ c.partition_point-end.ensures.partitioned
     (upto_parts c.args.names.now c.args.order.now c.args.name.now c.requires) (λ a r q k. search rules)) c.if-end-eq0.true
 
+-- the name before the end of the block is this one, so it is the last of it
 pub returns-then-eq : goal.returns-then-eq
 returns-then-eq c =
     let some : 0 < c.partition_point-end.result = omega arith in
@@ -22,6 +23,7 @@ returns-then-eq c =
     chosen (pointwise nat_eq c.args.name.now) c.args.names.now (get_or c.args.order.now (c.partition_point-end.result - 1) 0) _
     (sym (c.eq.ensures ∙ ap (λ t. pointwise nat_eq t c.args.name.now) c.get.ensures) ∙ c.if-eq.true) is
 
+-- it is another one, so the line doesn't have this name
 pub returns-else-eq : goal.returns-else-eq
 returns-else-eq c =
     let some : 0 < c.partition_point-end.result = omega arith in

@@ -16,6 +16,7 @@ index_mut-requires c =
     in_range c.args.names.now c.args.order.now c.requires.in_order c.loop-k.k 0 (omega arith) in
     grind (arith, common_steps)
 
+-- one more flag is set: by the look-up for this name, or by that for the same name before
 pub loop-k-preserved : goal.loop-k-preserved
 loop-k-preserved c =
     let within : get_or c.args.order.now c.loop-k.k 0 < length c.args.names.now =

@@ -5,6 +5,7 @@ use Rattle.std.proofs.Common.{◌≡◌, ◌-◌, ◌<◌, false, get_or, length
 
 -- The loops of mark_live (src/liveness.rt). Sets the flags of the live switches.
 
+-- the flags of the places so far are right, and `first_live` is that of the last name
 abbrev pub invariant-loop-k : goal.invariant-loop-k
 invariant-loop-k l = record {
   as_many : length l.flags.items ≡ length l.names;

@@ -5,6 +5,7 @@ use Rattle.std.proofs.lemmas.List.Sorted.{IsPartitionPoint-from_clause}
 
 -- block_of (src/sorting.rt). The block that the pattern names in the places by name: its start, and the end after it.
 
+-- both searches find where the block begins and ends
 pub returns : goal.returns
 returns c =
     block_found c.args.names.now c.args.order.now c.args.pattern.now _ _ c.partition_point-start.ensures.bound
@@ -16,6 +17,7 @@ returns c =
     c.partition_point-end.ensures.partitioned (end_parts c.args.names.now c.args.order.now c.args.pattern.now c.requires)
     (λ a r q k. search rules))
 
+-- where the block would begin the pattern names no switch, so it is empty
 pub returns-then-not-is_named_at : goal.returns-then-not-is_named_at
 returns-then-not-is_named_at c =
     none_found c.args.names.now c.args.order.now c.args.pattern.now _ c.partition_point-start.ensures.bound c.requires

@@ -9,6 +9,7 @@ use Rattle.std.specs.Ordering.{is_lt}
 
 -- places_by_name (src/sorting.rt). All places of these names, by name, then by place.
 
+-- a stable sort of all places by name is their order
 pub returns : goal.returns
 returns c =
     let all : c.in_ok-order.order.items ≡ range_with_len 0 (length c.args.names.now) =

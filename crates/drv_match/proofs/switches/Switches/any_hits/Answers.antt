@@ -11,6 +11,7 @@ returns-in_default-clause-places c =
     c.new.ensures ∙ none_hit c.args.self.now c.args.hidden.now c.from_first_hit.result.now c.args.patterns.now
     (no_patterns c.from_first_hit.result.now c.in_default.len_below) c.from_first_hit.ensures
 
+-- only one pattern hits anything, so its hits are all
 pub returns-clause-places : goal.returns-clause-places
 returns-clause-places c =
     subst (λ (xs : List ℕ). IfOk c.hits.result (λ places. places ≡ xs))
@@ -24,6 +25,7 @@ returns-clause-places c =
     (drop 1 c.from_first_hit.result.now)) c.from_first_hit.ensures
     (front_is c.from_first_hit.result.now c.first-item.result c.in-len1-up.len_at_least c.first-item.is) (λ i within. refl))) c.hits.ensures
 
+-- several patterns hit, and their hits are merged; those before the first one hit nothing
 pub returns-then-not-is_empty-clause-places : goal.returns-then-not-is_empty-clause-places
 returns-then-not-is_empty-clause-places c =
     subst (λ (xs : List ℕ). IfOk c.merged_hits.result (λ places. places ≡ xs))

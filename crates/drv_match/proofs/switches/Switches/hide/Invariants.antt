@@ -4,6 +4,7 @@ use Rattle.std.proofs.Common.{◌≡◌, drop, length}
 
 -- The loops of hide (src/switches.rt). Hides every switch that a pattern names, live or not.
 
+-- to hide the places that are left hides all that the pattern names
 abbrev pub invariant-loop-place : goal.invariant-loop-place
 invariant-loop-place l = record {
   as_many : length l.hidden ≡ length l.self;

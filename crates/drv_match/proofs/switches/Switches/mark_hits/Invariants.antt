@@ -4,6 +4,7 @@ use Rattle.std.proofs.Common.{◌≡◌, drop, length}
 
 -- The loops of mark_hits (src/switches.rt). Sets the flags of the places that a pattern hits.
 
+-- to mark the places that are left marks all that the pattern hits
 abbrev pub invariant-loop-place : goal.invariant-loop-place
 invariant-loop-place l = record {
   as_many : length l.flags.items ≡ length l.self;

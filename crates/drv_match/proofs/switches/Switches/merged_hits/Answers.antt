@@ -11,6 +11,7 @@ loop-place-init c =
     ∙ flagged_all c.args.self.now c.args.hidden.now c.loop-pattern.flags.items c.args.others.now (c.args.first.now ∷ c.args.others.now)
     c.loop-pattern.pattern-index (omega arith) c.loop-pattern.invariant.flagged
 
+-- a place without a flag is passed over
 pub loop-place-preserved-then-not-index : goal.loop-place-preserved-then-not-index
 loop-place-preserved-then-not-index c =
     let within : c.loop-place.place < length c.args.self.now =
@@ -19,6 +20,7 @@ loop-place-preserved-then-not-index c =
     (sym (get_or_read c.loop-pattern.flags.items _ _ (omega (arith, within, c.loop-pattern.invariant.as_many)) c.index.ensures false)
     ∙ c.if-not-index.true) c.loop-place.invariant
 
+-- a place with a flag is one of the hits
 pub loop-place-preserved : goal.loop-place-preserved
 loop-place-preserved c =
     let within : c.loop-place.place < length c.args.self.now =
