@@ -12,6 +12,11 @@ use Rattle.std.specs.List.{fold, list_all, onto_first, slice_split}
 use Rattle.std.specs.Str.{byte}
 
 -- For version_of: reading a version byte by byte gives the list of the numbers between its dots.
+-- Names: `text` is the text of a version, from here on. `part` is the digits of the open part. `numbers` is the numbers of the parts before
+-- it. `ps` is the parts that follow. `b` is one byte. `digits` is how many digits the open part has. `number` is the number that the digits
+-- of the open part spell. `tail` is what follows the digits. `t` is the value of a test, so that `by` can go by both cases. `u` is the
+-- value of a second test. `s` is the value of a third test. `parts` is the parts of a text between its dots. `read_on` is the code's
+-- reading from here on. `is_part` says that digits are a part of a version: 1 to 9 of them.
 
 -- bytes in front of the first part
 abbrev prefixed : List ℕ → List (List ℕ) → List (List ℕ)
@@ -27,7 +32,7 @@ prefixed_onto : (part : List ℕ) (b : ℕ) (ps : List (List ℕ)) → prefixed 
 prefixed_onto part b [] = refl
 prefixed_onto part b (first ∷ rest) = ap (λ p. p ∷ rest) (sym (append_assoc part (b ∷ []) first))
 
--- there is a first part
+-- an empty open part changes nothing: a text has a first part anyway
 prefixed_empty : (text : List ℕ) → prefixed [] (parts text) ≡ parts text
 prefixed_empty [] = refl
 prefixed_empty (b ∷ text) = by (b == byte ".") (slice_split (λ c. c == byte ".") text) refl
@@ -38,10 +43,12 @@ prefixed_empty (b ∷ text) = by (b == byte ".") (slice_split (λ c. c == byte "
     by false [] e = rw e refl
     by false (p ∷ ps) e = rw e refl
 
+-- two tests that hold, hold together
 both : (s t : Bool) → s ≡ true → t ≡ true → (s && t) ≡ true
 both true t e e' = e'
 both false t e e' = absurd cc
 
+-- what holds of all of two lists, holds of all of both
 all_append : (test : ℕ → Bool) (xs ys : List ℕ) → list_all test (xs ++ ys) ≡ (list_all test xs && list_all test ys)
 all_append test [] ys = refl
 all_append test (x ∷ xs) ys = by (test x) (all_append test xs ys)
@@ -51,15 +58,17 @@ all_append test (x ∷ xs) ys = by (test x) (all_append test xs ys)
     by true e = e
     by false e = refl
 
+-- one more digit makes a number ten times as great, and adds its own value
 fold_append : (n : ℕ) (xs : List ℕ) (b : ℕ) → fold (λ m d. m * 10 + (d - byte "0")) n (xs ++ b ∷ []) ≡ fold (λ m d. m * 10 + (d - byte "0"))
     n xs * 10 + (b - byte "0")
 fold_append n [] b = refl
 fold_append n (x ∷ xs) b = fold_append (n * 10 + (x - byte "0")) xs b
 
--- one less on both sides
+-- the code's test for more room is the definition's, one less on both sides
 le_lt : (m n : ℕ) → nat_le (m + 1) n ≡ nat_lt m n
 le_lt m n = by (nat_le (m + 1) n) (nat_lt m n) refl refl
   where
+    -- Plan: by what both tests say: if they differed, the numbers would contradict.
     by : (t u : Bool) → nat_le (m + 1) n ≡ t → nat_lt m n ≡ u → t ≡ u
     by true true e e' = refl
     by false false e e' = refl
@@ -93,6 +102,7 @@ too_long part tail long =
     by true u = refl
     by false u = refl
 
+-- a part with a byte that is no digit is none
 no_digits : (part tail : List ℕ) → list_all is_ascii_digit part ≡ false → is_part (part ++ tail) ≡ false
 no_digits part tail other = rw (all_append is_ascii_digit part tail, other)
     (by (nat_le 1 (length (part ++ tail)) && nat_le (length (part ++ tail)) 9))
@@ -101,15 +111,18 @@ no_digits part tail other = rw (all_append is_ascii_digit part tail, other)
     by true = refl
     by false = refl
 
+-- where the second test fails there is no value
 none_of : (s t : Bool) (x : Option (List ℕ)) → t ≡ false → (if s && t then x else None) ≡ None
 none_of true true x e = absurd cc
 none_of true false x e = refl
 none_of false t x e = refl
 
+-- if the first of two tests fails, they don't hold together
 first_bad : (s t : Bool) → s ≡ false → (s && t) ≡ false
 first_bad true t e = absurd cc
 first_bad false t e = refl
 
+-- a first part that is none makes the text no version
 bad_first : (numbers part : List ℕ) (ps : List (List ℕ)) → ((tail : List ℕ) → is_part (part ++ tail) ≡ false)
     → taken numbers (prefixed part ps) ≡ None
 bad_first numbers part [] bad = none_of (nat_le (length numbers + length (part ∷ [])) 32) (list_all is_part (part ∷ [])) _
@@ -117,7 +130,7 @@ bad_first numbers part [] bad = none_of (nat_le (length numbers + length (part �
 bad_first numbers part (first ∷ rest) bad = none_of (nat_le (length numbers + length ((part ++ first) ∷ rest)) 32)
     (list_all is_part ((part ++ first) ∷ rest)) _ (first_bad (is_part (part ++ first)) (list_all is_part rest) (bad first))
 
--- the last part
+-- at the end of the text the open part is the last one
 at_end : (numbers part : List ℕ) → list_all is_ascii_digit part ≡ true → length part ≤ 9
     → (if nat_lt 0 (length part) && nat_lt (length numbers) 32 then Some (numbers ++ number part ∷ []) else None)
     ≡ taken numbers (part ∷ [])
@@ -131,12 +144,13 @@ at_end numbers part digits short =
     by false true = refl
     by false false = refl
 
--- a part before others
+-- at a dot the open part is complete, and others follow
 at_dot : (numbers part : List ℕ) (ps : List (List ℕ)) → list_all is_ascii_digit part ≡ true → length part ≤ 9
     → (if nat_lt 0 (length part) && nat_lt (length numbers) 32 then taken (numbers ++ number part ∷ []) ps else None)
     ≡ taken numbers (part ∷ ps)
 at_dot numbers part ps digits short = rw (part_is part digits short) (by (nat_lt 0 (length part)) (nat_lt (length numbers) 32) refl)
   where
+    -- Plan: by whether one more part is permitted, and whether this one is a part.
     by : (t u : Bool) → nat_lt (length numbers) 32 ≡ u → (if t && u then taken (numbers ++ number part ∷ []) ps else None)
         ≡ (if nat_le (length numbers + suc (length ps)) 32 && (t && list_all is_part ps) then Some
         (numbers ++ (number part ∷ map number ps)) else None)
@@ -151,6 +165,7 @@ at_dot numbers part ps digits short = rw (part_is part digits short) (by (nat_lt
         rw full refl
     by false u e = sym (none_of (nat_le (length numbers + suc (length ps)) 32) false _ refl)
 
+-- a digit is no dot
 digit_no_dot : (b : ℕ) → is_ascii_digit b ≡ true → (b == byte ".") ≡ false
 digit_no_dot b digit = by (b == byte ".") refl
   where
@@ -159,12 +174,15 @@ digit_no_dot b digit = by (b == byte ".") refl
     by true e = absurd (let is : b ≡ byte "." = eqb-true b (byte ".") e in let clash : true ≡ false = sym digit ∙ ap is_ascii_digit is in
         cc)
 
+-- the code's reading of a text is the definition's, by induction on the text
 read_whole : (numbers part text : List ℕ) → list_all is_ascii_digit part ≡ true → length part ≤ 9
     → read_on numbers (number part) (length part) text ≡ taken numbers (prefixed part (parts text))
 read_whole numbers part [] digits short = at_end numbers part digits short ∙ ap (λ p. taken numbers (p ∷ [])) (sym (append-nil part))
 read_whole numbers part (b ∷ text) digits short = by (is_ascii_digit b) (nat_lt (length part) 9) (b == byte ".") refl refl refl
     (λ few. read_whole numbers (part ++ b ∷ []) text few) (read_whole (numbers ++ number part ∷ []) [] text refl (omega arith))
   where
+    -- Plan: by the next byte: a digit joins the part (`onto`) if that is not full, a dot ends it, and another byte makes the text no
+    -- version.
     onto : (b == byte ".") ≡ false → prefixed part (parts (b ∷ text)) ≡ prefixed (part ++ b ∷ []) (parts text)
     onto e = (rw e refl) ∙ prefixed_onto part b (parts text)
 
@@ -197,21 +215,23 @@ read_whole numbers part (b ∷ text) digits short = by (is_ascii_digit b) (nat_l
         (rw (e, e'') refl) ∙ sym (ap (taken numbers) (onto e'') ∙ bad_first numbers (part ++ b ∷ []) (parts text)
         (λ tail. no_digits (part ++ b ∷ []) tail broken))
 
--- from the start
+-- so from the first byte on the code reads the version of the text
 pub read_version : (text : List ℕ) → read_on [] 0 0 text ≡ version text
 read_version text = read_whole [] [] text refl (omega arith) ∙ ap (taken []) (prefixed_empty text)
     ∙ (let same : 0 + length (parts text) ≡ length (parts text) = omega arith in rw same refl)
 
 -- The number that so many digits can express.
 
+-- ten to the power of so many digits
 abbrev pub ten_to : ℕ → ℕ
 ten_to zero = 1
 ten_to (suc digits) = ten_to digits * 10
 
+-- so a number of one more digit stays below the next power
 pub one_more : (digits number digit : ℕ) → number < ten_to digits → digit ≤ 9 → number * 10 + digit < ten_to (digits + 1)
 one_more digits number digit below small = let next : digits + 1 ≡ suc digits = omega arith in rw next (omega (arith, below, small))
 
--- before the ninth digit
+-- before the ninth digit a number is small enough for one more
 pub has_room : (digits : ℕ) → digits < 9 → ten_to digits ≤ 100000000
 has_room zero few = omega arith
 has_room (suc zero) few = omega arith
@@ -226,6 +246,7 @@ has_room (suc (suc (suc (suc (suc (suc (suc (suc (suc digits))))))))) few = absu
 
 -- One step of the loop over the bytes.
 
+-- the value of a digit is at most 9
 pub digit_small : (b : ℕ) → is_ascii_digit b ≡ true → b - byte "0" ≤ 9
 digit_small b digit = by (nat_le (byte "0") b) (nat_le b (byte "9")) refl refl digit
   where
@@ -234,7 +255,7 @@ digit_small b digit = by (nat_le (byte "0") b) (nat_le b (byte "9")) refl refl d
     by true false e e' both = absurd cc
     by false u e e' both = absurd cc
 
--- a digit
+-- one turn of the code's loop at a digit
 pub digit_step : (numbers : List ℕ) (number digits : ℕ) (text : List ℕ) (i : ℕ) (whole : Option (List ℕ)) → i < length text
     → is_ascii_digit (get_or text i 0) ≡ true → digits < 9 → read_on numbers number digits (drop i text) ≡ whole
     → read_on numbers (number * 10 + (get_or text i 0 - byte "0")) (digits + 1) (drop (i + 1) text) ≡ whole
@@ -244,7 +265,7 @@ digit_step numbers number digits text i whole below digit few done = step ∙ do
         digits (drop i text)
     step = rw (drop_more text i 0 below, digit, lt-ltb digits 9 few) refl
 
--- a dot after a part
+-- one turn of the code's loop at a dot after a part
 pub dot_step : (numbers after : List ℕ) (number digits : ℕ) (text : List ℕ) (i : ℕ) (whole : Option (List ℕ)) → i < length text
     → get_or text i 0 ≡ byte "." → 0 < digits → length numbers < 32 → after ≡ numbers ++ number ∷ []
     → read_on numbers number digits (drop i text) ≡ whole → read_on after 0 0 (drop (i + 1) text) ≡ whole

@@ -8,6 +8,7 @@ use Rattle.std.specs.Prelude.{◌&&◌, ◌||◌, Bool, List, [], ◌∷◌, Opt
 
 -- The comparisons of `version-compare` (GCC manual, "Spec Files").
 
+-- the operators, as a spec text writes them
 abbrev pub operators : List (List ℕ × Operator)
 operators =
     (codes ">=", AtLeast) ∷ (codes "!>", NotAtLeast) ∷ (codes "<", Below) ∷ (codes "!<", NotBelow) ∷ (codes "><", Between) ∷
@@ -17,7 +18,7 @@ operators =
 abbrev pub operator_of : List ℕ → Option Operator
 operator_of word = lookup (pointwise nat_eq word) operators
 
--- it compares with two versions
+-- whether a comparison takes a second version
 abbrev pub takes_two : Operator → Bool
 takes_two Between = true
 takes_two Outside = true

@@ -7,6 +7,7 @@ use Rattle.std.specs.Prelude.{List, [], ◌∷◌, Option, codes, nat_eq, ℕ}
 
 -- The names of the functions of spec texts (GCC manual, "Spec Files"; which functions there are is this project's profile).
 
+-- the name of a function
 abbrev pub name_of : Function → List ℕ
 name_of Getenv = codes "getenv"
 name_of IfExists = codes "if-exists"
@@ -16,6 +17,7 @@ name_of ReplaceOutfile = codes "replace-outfile"
 name_of RemoveOutfile = codes "remove-outfile"
 name_of VersionCompare = codes "version-compare"
 
+-- the functions by their names
 abbrev pub functions : List (List ℕ × Function)
 functions =
     (codes "getenv", Getenv) ∷ (codes "if-exists", IfExists) ∷ (codes "if-exists-else", IfExistsElse)

@@ -31,6 +31,7 @@ abbrev pub with_value : List ℕ → List ℕ → Option (List ℕ) → Given
 with_value name string None = Err (VariableMissing name)
 with_value name string (Some value) = Ok (Some (value ++ string))
 
+-- the value of a variable, with the string after it
 abbrev pub getenv : Facts → List (List ℕ) → Known Given
 getenv F (name ∷ string ∷ []) = asked (variable_of F name) >>= λ value. Is (with_value name string value)
 getenv F args = Is (Err (WrongCount Getenv))
@@ -40,15 +41,16 @@ abbrev pub is_missing : PathKind → Bool
 is_missing Missing = true
 is_missing kind = false
 
+-- whether a path exists; only absolute paths are looked for
 abbrev pub exists : Facts → List ℕ → Known Bool
 exists F path = if starts_with nat_eq path (codes "/") then asked (kind_of F path) >>= (λ kind. Is (not (is_missing kind))) else Is false
 
--- `if-exists PATH`
+-- `if-exists PATH` gives the path, if it exists
 abbrev pub if_exists : Facts → List (List ℕ) → Known Given
 if_exists F (path ∷ []) = exists F path >>= λ there. Is (Ok (if there then Some path else None))
 if_exists F args = Is (Err (WrongCount IfExists))
 
--- `if-exists-else PATH OTHER`
+-- `if-exists-else PATH OTHER` gives the path, if it exists, or else the other
 abbrev pub if_exists_else : Facts → List (List ℕ) → Known Given
 if_exists_else F (path ∷ other ∷ []) = exists F path >>= λ there. Is (Ok (Some (if there then path else other)))
 if_exists_else F args = Is (Err (WrongCount IfExistsElse))
@@ -74,7 +76,7 @@ abbrev pub in_link_alone : Site → Function → Result (List (List ℕ)) FuncsF
 in_link_alone Link function changed = changed
 in_link_alone Source function changed = Err (NotInLink function)
 
--- the last of a list
+-- the last number of a list, if there is one
 abbrev pub last : List ℕ → Option ℕ
 last places = slice_get places (length places - 1)
 
@@ -86,7 +88,7 @@ starred prefix = record { name = prefix; star = true }
 abbrev pub value_of : List (List ℕ) → List Bool → List ℕ → Option (List ℕ)
 value_of names hidden prefix = option_map (λ place. drop (length prefix) (name_at names place)) (last (hits names hidden (starred prefix)))
 
--- the result for a version
+-- the result for the numbers of a version; another text is refused
 abbrev pub with_version : {Y : Type 0} → List ℕ → Option (List ℕ) → (List ℕ → Result Y FuncsFault) → Result Y FuncsFault
 with_version word None next = Err (BadVersion word)
 with_version word (Some numbers) next = next numbers
@@ -101,6 +103,7 @@ abbrev pub judged : Operator → List ℕ → List ℕ → Option (List ℕ) →
 judged operator first second value = with_version first (version first) (λ one. with_version second (version second)
     (λ two. of_value operator one two value))
 
+-- the word, if the test holds
 abbrev pub word_if : List ℕ → Result Bool FuncsFault → Given
 word_if word (Ok holds) = Ok (if holds then Some word else None)
 word_if word (Err fault) = Err fault
@@ -113,6 +116,7 @@ with_versions names hidden operator true (first ∷ second ∷ prefix ∷ word �
     word_if word (judged operator first second (value_of names hidden prefix))
 with_versions names hidden operator two args = Err (WrongCount VersionCompare)
 
+-- a comparison by its operator
 abbrev pub by_operator : List (List ℕ) → List Bool → List ℕ → List (List ℕ) → Option Operator → Given
 by_operator names hidden word args None = Err (BadOperator word)
 by_operator names hidden word args (Some operator) = with_versions names hidden operator (takes_two operator) args
@@ -124,16 +128,17 @@ version_compare names hidden (word ∷ args) = by_operator names hidden word arg
 
 -- The result of a call: that of the function, and the outputs after it.
 
+-- what a call gives, and the outputs after it
 pub record Called : Type 0 where
   pub given : Option (List ℕ)
   pub outputs : List (List ℕ)
 
--- the outputs stay the same
+-- a function that gives this leaves the outputs as they are
 abbrev pub unchanged : List (List ℕ) → Given → Result Called FuncsFault
 unchanged outputs (Ok word) = Ok (record { given = word; outputs = outputs })
 unchanged outputs (Err fault) = Err fault
 
--- the function has no result
+-- a function that changes the outputs gives nothing
 abbrev pub changed : Result (List (List ℕ)) FuncsFault → Result Called FuncsFault
 changed (Ok outputs) = Ok (record { given = None; outputs = outputs })
 changed (Err fault) = Err fault

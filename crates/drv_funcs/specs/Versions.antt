@@ -9,10 +9,11 @@ use Rattle.std.specs.Str.{byte}
 -- Versions: 1 to 32 parts of 1 to 9 digits, separated by dots (GCC manual, "Spec Files", `version-compare`; the limits are this project's
 -- profile).
 
--- the parts between the dots
+-- the parts of a text between its dots
 abbrev pub parts : List ℕ → List (List ℕ)
 parts text = slice_split (λ b. b == byte ".") text
 
+-- whether digits are a part: 1 to 9 of them
 abbrev pub is_part : List ℕ → Bool
 is_part part = nat_le 1 (length part) && nat_le (length part) 9 && list_all is_ascii_digit part
 

@@ -1,5 +1,6 @@
 //! The function that compares the version of a switch.
 
+// In clauses: `Gives` says that a result is the defined one, or lack of memory.
 ghost use Rattle.drv_funcs.specs.Comparing.{takes_two};
 ghost use Rattle.drv_funcs.specs.Outcome.{judged, value_of, version_compare, with_versions};
 ghost use Rattle.drv_funcs.specs.Outcome as outcome;

@@ -1,5 +1,7 @@
 //! The functions that ask for a variable or a path.
 
+// In clauses: `Asked` says that a call only asked, and that the table has the answers. `Tells` says
+// that a result is that of a definition, by any facts that extend what is known.
 ghost use Rattle.drv_funcs.specs.Outcome.{exists, getenv, if_exists, if_exists_else};
 ghost use Rattle.drv_funcs.specs.Outcome.{if_exists_then_else, is_missing};
 ghost use Rattle.drv_funcs.specs.Code.Telling.{Tells};
@@ -101,6 +103,7 @@ fn exists<S: System>(path: &Word, outside: &mut Outside<'_, S>) -> Result<bool, 
     ensures tells { (F : Facts) → Extends outside.new.facts.now F
         → IfOk result (λ there. exists F path.now ≡ Is there) }
 {
+    // The GCC manual asks for absolute paths.
     if !path.as_bytes().starts_with(b"/") {
         return Ok(false);
     }

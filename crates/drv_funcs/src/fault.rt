@@ -34,6 +34,7 @@ impl From<AllocError> for FuncsFault {
 
     ghost from_gives = { λ _ fault. fault ≡ Memory };
 
+    /// `?` turns a refused allocation into `Memory`.
     fn from(_refused: AllocError) -> FuncsFault {
         FuncsFault::Memory
     }
@@ -45,6 +46,7 @@ impl<T: Drop> From<AllocFailed<T>> for FuncsFault {
 
     ghost from_gives = { λ _ fault. fault ≡ Memory };
 
+    /// `?` turns a refused allocation into `Memory`, and drops what had no room.
     fn from(_refused: AllocFailed<T>) -> FuncsFault {
         FuncsFault::Memory
     }

@@ -1,5 +1,6 @@
 //! The outputs of the jobs so far, and the functions that change them in a link.
 
+// In clauses: `Gives` says that a result is the defined one, or lack of memory.
 ghost use Rattle.drv_funcs.specs.Code.Changes.{changed};
 ghost use Rattle.drv_funcs.specs.Outcome.{in_link_alone, removed, replaced};
 ghost use Rattle.drv_funcs.specs.declared.function.Function.TheVariants.{RemoveOutfile};
@@ -52,6 +53,7 @@ impl Outputs {
         ensures err { OnErr result (self.new ≡ self.old) }
     {
         let none = Listing::new(self.alloc);
+        // Without changes the words are moved, not copied.
         if self.changes.is_empty() {
             return Ok(mem::replace(&mut self.words, none));
         }

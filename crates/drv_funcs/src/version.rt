@@ -22,6 +22,7 @@ pub fn version_of(text: &[u8]) -> Option<ArrayVec<u32, MOST_PARTS>>
     let mut number: u32 = 0;
     let mut digits: u32 = 0;
     for byte in text {
+        // So many digits fit into `u32`.
         if byte.is_ascii_digit() && digits < MOST_DIGITS {
             number = number * 10 + (*byte - b'0') as u32;
             digits += 1;
@@ -33,6 +34,7 @@ pub fn version_of(text: &[u8]) -> Option<ArrayVec<u32, MOST_PARTS>>
             return None;
         }
     }
+    // The last part has no dot after it.
     if 0 < digits && numbers.len() < MOST_PARTS {
         numbers.push(number);
         Some(numbers)

@@ -32,7 +32,7 @@ end_by (change ∷ changes) word = if pointwise nat_eq word change.old then end_
 abbrev pub end_in : BTreeMap (List ℕ) (Option (List ℕ)) → List ℕ → Option (List ℕ)
 end_in ends word = unwrap_or (get (slice_cmp nat_cmp) ends word) (Some word)
 
--- the ends by some changes
+-- a map of ends gives what these changes make of each word
 abbrev pub EndsBy : BTreeMap (List ℕ) (Option (List ℕ)) → List Change → Type 0
 EndsBy ends changes = (word : List ℕ) → end_in ends word ≡ end_by changes word
 

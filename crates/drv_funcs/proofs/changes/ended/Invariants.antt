@@ -5,5 +5,6 @@ use Rattle.std.specs.List.{filter_map}
 
 -- The loops of ended (src/changes.rt). The words with their ends in place of them.
 
+-- the words so far, with what becomes of those that are left, are all
 abbrev pub invariant-loop-word : goal.invariant-loop-word
 invariant-loop-word l = l.ended ++ filter_map (end_in l.ends) (drop l.word-index l.words) ≡ filter_map (end_in l.ends) l.words

@@ -4,8 +4,10 @@ use Rattle.std.proofs.Common.{length}
 
 -- The loops of ends_of (src/changes.rt). What becomes of each word by these changes.
 
+-- the map has the changes that follow those that are left
 abbrev pub invariant-loop-left : goal.invariant-loop-left
 invariant-loop-left l = EndsAfter l.changes l.left l.ends
 
+-- each turn takes a change, so the loop ends
 abbrev pub decreases-loop-left : goal.decreases-loop-left
 decreases-loop-left l = length l.left

@@ -8,6 +8,7 @@ use Rattle.std.specs.Str.{byte}
 
 -- version_of (src/version.rt). The numbers of a version, or `None` for another text.
 
+-- one more byte is a digit of the open part, or the dot after it
 pub loop-byte-preserved : goal.loop-byte-preserved
 loop-byte-preserved c =
     let below : c.loop-byte.byte-index < length c.args.text.now = omega arith in

@@ -6,6 +6,7 @@ use Rattle.std.proofs.Common.{◌≡◌, ◌<◌, ◌≤◌, drop}
 
 -- The loops of version_of (src/version.rt). The numbers of a version, or `None` for another text.
 
+-- the numbers and digits so far, with the rest of the text, give what the whole text gives
 abbrev pub invariant-loop-byte : goal.invariant-loop-byte
 invariant-loop-byte l = record {
   few : l.digits ≤ 9;
