@@ -51,6 +51,8 @@ never_starred true true name list = refl
 never_starred true false name list = refl
 never_starred false negated name list = refl
 
+-- a test by a function, in braces whose % has the place `at`: it begins at `start`, in the alternative so far, and v is what was read up
+-- to its %
 module _ (outer : Option ℕ) (at : ℕ) (so_far : Option Choice) (start : ℕ) (negated : Bool) (c : ListContext) (v : Reading) where
   -- what reads the lists two levels deeper
   abbrev deep : Lists
@@ -68,14 +70,14 @@ module _ (outer : Option ℕ) (at : ℕ) (so_far : Option Choice) (start : ℕ) 
   abbrev reads : Result (Choice × Reading) SyntaxFault
   reads = result_given outer so_far start negated v (result deep c at v.rest.at (drop 1 v.rest.bytes))
 
-  -- the label of the test
+  -- the label of a test of the result of a function with this name
   abbrev label : List ℕ → Label
   label name = part_label name false negated asking.Result
 
-  -- the colon
+  -- the byte after the percent sign is the colon of a function
   module _ (colon : ℕ) (one two : Left) (one_is : one ≡ after 1 v.rest) (first : Some colon ≡ first_of one.bytes) (is : colon ≡ ascii.colon)
       (two_is : two ≡ after 1 one) where
-    -- the rest after the percent sign
+    -- the rest after the percent sign of the test
     abbrev front : Left
     front = after 1 v.rest
 
@@ -99,7 +101,7 @@ module _ (outer : Option ℕ) (at : ℕ) (so_far : Option Choice) (start : ℕ) 
         ∙ ap (λ (x : Left). given inner x on (then_read (function_from v.rest.at x.at [] x.bytes) (result_in deep c x.at x.bytes)))
         (ap (λ (x : Left). after 1 x) (sym one_is) ∙ sym two_is)
 
-    -- the name
+    -- the name of the function is read, in a test at the place n
     module _ (o : Option ℕ) (o_is : o ≡ inner) (n : ℕ) (n_is : n ≡ v.rest.at) (name : List ℕ) (u : Reading)
         (named : named_given o (at_rest two v) (function_from n two.at [] two.bytes) ≡ Ok (name, u)) where
       -- the code reads this name
@@ -133,7 +135,7 @@ module _ (outer : Option ℕ) (at : ℕ) (so_far : Option Choice) (start : ℕ) 
           ∙ given_then inner (at_rest two v) u name on (function_from v.rest.at two.at [] two.bytes) (result_in deep c two.at two.bytes)
           (λ x i text. arguments x i text) (λ x k. arguments_at x k) named_is
 
-      -- the parts that open
+      -- the alternative is open, and the token of the test opens in it; its arguments have the context ctx
       module _ (choice : Choice) (q w : Reading) (part : Open) (opens : choice_open so_far start u.parts ≡ (choice, q.parts))
           (stays : q.rest ≡ u.rest)
           (opened_is : opened_here kinds.Test (label name) start q ≡ (part, w)) (ctx : ListContext)

@@ -15,6 +15,7 @@ use Rattle.std.proofs.lemmas.Option.{get_or_from_slice_get, slice_get-get_or, sl
 -- Plain bytes that follow one another, in one slice of the words. It serves `LentLabels::plain_bytes`, whose loop goes on as long as the
 -- next part is a plain byte with its word beside the last one.
 
+-- the tokens of a text, and its labels as marks with all words in one list
 module _ (tokens : List Token) (words : List ℕ) (marks : List LabelMark) where
   -- a part that is a plain byte, whose word is kept at `stop`, is the byte there
   pub byte_there : (at stop : ℕ) (e : Token) (d : LabelMark) → at < length tokens → at < length marks
@@ -34,7 +35,7 @@ module _ (tokens : List Token) (words : List ℕ) (marks : List LabelMark) where
       one : stop + 1 - stop ≡ 1
       one = omega arith
 
-  -- one byte more is in the slice
+  -- the loop's next round: one plain byte more is in the slice
   pub run_step : (at place start stop : ℕ) → start ≤ stop
       → ((n : ℕ) → AreBytes tokens (marked_labels words marks) at (take n (drop stop words))
       → AreBytes tokens (marked_labels words marks) place (take (stop - start + n) (drop start words)))
@@ -87,12 +88,12 @@ module _ (tokens : List Token) (words : List ℕ) (marks : List LabelMark) where
       within_at words marks (marked_labels words marks) place d refl within
       (subst (λ n. place < n) (sym (length-map marks (λ m. marked_label words m))) h)
 
-  -- and it begins there
+  -- the word of a mark begins within the words
   pub start_in : (place : ℕ) (d : LabelMark) → Within (length words) marks → place < length marks
       → (get_or marks place d).start ≤ length words
   start_in place d within h = let inside = mark_in place d within h in omega (arith, inside.0, inside.1)
 
-  -- and has no byte beyond them
+  -- a plain byte whose mark ends after it lies within the words, so that the code may take it
   pub stop_in : (at stop : ℕ) (d : LabelMark) → (get_or marks at d).end ≡ stop + 1 → Within (length words) marks → at < length marks
       → stop < length words
   stop_in at stop d ends within h = let inside = mark_in at d within h in omega (arith, ends, inside.1)

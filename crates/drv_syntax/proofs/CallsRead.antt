@@ -21,12 +21,13 @@ abbrev pub first_of : List ℕ → ℕ
 first_of [] = 0
 first_of (b ∷ rest) = b
 
--- lists with this context are read
+-- all lists with this context that the grammar has are read: what is known of the lists inside
 abbrev pub ListReads : ℕ → Lists → ListContext → Type 0
 ListReads size lists c =
     (n : ℕ) (text rest : List ℕ) (items : Items) → AreItems size c text items rest → At size n text
     → Reads (lists c n text) text (items, first_of rest) rest
 
+-- a call whose name and arguments are made into x (an item, or a test), in a list with the context g; its own % has the place `at`
 module _ {X : Type 0} (make : List ℕ → Items → X) (g : ListContext) (lists : Lists) (at outer : ℕ) where
   -- what Descent makes of a call, by what is made of its name and arguments
   abbrev pub called : ℕ → List ℕ → Read X

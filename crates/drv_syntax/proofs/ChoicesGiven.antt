@@ -42,6 +42,7 @@ use Rattle.std.specs.Prelude.{◌==◌, Err, None, Ok, Option, Result}
 -- alternative whose token is open. `outer` is the place of the outermost directive that is open, if one is, and `at` that of the % of the
 -- directive here.
 
+-- the braces of a directive whose % has the place `at`, in a list with the context c
 module _ (lists deep : Lists) (c : ListContext) (at : ℕ) where
   -- so many bytes of alternatives that are past are so many bytes less of the text
   choices_skip : (order : Order) (n k : ℕ) (text : List ℕ)
@@ -120,12 +121,13 @@ module _ (lists deep : Lists) (c : ListContext) (at : ℕ) where
           (drop (prefix_len is_white (b ∷ text) + 1) (b ∷ text)))
       by false never = form (tests deep c at AtNext n 0 (b ∷ text)) (late_tests deep c at (b ∷ text) AtNext n 0 tt) never
 
+  -- `outer` is the outermost directive that is open, if one is
   module _ (outer : Option ℕ) where
     -- what the alternatives after the first give, from here on
     abbrev pub later_from : Reading → Result Reading SyntaxFault
     later_from v = later_given outer v (choices lists deep c at AtNext v.rest.at 0 v.rest.bytes)
 
-    -- the X of an alternative
+    -- what the code gives of the X of an alternative, which begins here
     abbrev pub x_from : Choice → Reading → Result (ℕ × Reading) SyntaxFault
     x_from choice u = x_given outer at choice u (lists (owner_when choice.starred (in_braces c)) u.rest.at u.rest.bytes)
 
@@ -145,6 +147,7 @@ module _ (lists deep : Lists) (c : ListContext) (at : ℕ) where
 
     -- an alternative with tests
 
+    -- an alternative with tests, by what is made of the alternatives from it on (f) and of those after it (g)
     module _ {W : Type 0} (g : Reading → W) (f : Brace → Left → W) (v : Reading)
         (f_is : (cs : Choices) (rest : Left) → f (tree.Choose cs) rest ≡ g (record { rest = rest; parts = choices_written cs v.parts }))
         (s : Span) (negated : Bool) (a : Asked) (asks : Tests) (k : ℕ) where
@@ -279,7 +282,7 @@ module _ (lists deep : Lists) (c : ListContext) (at : ℕ) where
     forms_choices (Ok x) = form_choices x.0 x.1
     forms_choices (Err fault) = Err fault
 
-    -- the reading itself
+    -- a reading as it is: what follows an X that ends the braces
     abbrev same_reading : Reading → Reading
     same_reading w = w
 
@@ -472,6 +475,7 @@ module _ (lists deep : Lists) (c : ListContext) (at : ℕ) where
         ∙ ap (λ xs. begins_with ascii.colon (drop white xs)) (sym g)
         ∙ h
 
+    -- v is what was read before the first test
     module _ (v : Reading) where
       -- the fault of the first tests is that of the braces
       pub choices_stop : (fault : SyntaxFault) → form_given outer v (tests deep c at AtFront v.rest.at 0 v.rest.bytes) ≡ Err fault
@@ -483,6 +487,7 @@ module _ (lists deep : Lists) (c : ListContext) (at : ℕ) where
           → form_given outer v (tests deep c at AtNext v.rest.at 0 v.rest.bytes) ≡ Err fault → later_from v ≡ Err fault
       later_stop fault e h = later_tests v e ∙ ap (λ x. forms_later x) h
 
+      -- the tests of the first alternative, or the patterns, are read
       module _ (u : Reading) (form : code.Form) (read : form_given outer v (tests deep c at AtFront v.rest.at 0 v.rest.bytes)
           ≡ Ok (form, u)) where
         -- braces whose front is patterns hold these alone
@@ -490,6 +495,7 @@ module _ (lists deep : Lists) (c : ListContext) (at : ℕ) where
             → brace_given outer v (choices lists deep c at AtFront v.rest.at 0 v.rest.bytes) ≡ Ok (insides.Patterns, u)
         choices_patterns e = choices_by v ∙ ap (λ x. forms_choices x) read ∙ ap (λ f. form_choices f u) e
 
+        -- what was read is the tests of this alternative, not patterns
         module _ (choice : Choice) (is : form ≡ forms.Tests choice) where
           -- once the first tests are read, braces give what their X gives, and what follows it
           choices_x : brace_given outer v (choices lists deep c at AtFront v.rest.at 0 v.rest.bytes) ≡ x_nexts as_choices (x_from choice u)
@@ -500,6 +506,7 @@ module _ (lists deep : Lists) (c : ListContext) (at : ℕ) where
               → brace_given outer v (choices lists deep c at AtFront v.rest.at 0 v.rest.bytes) ≡ Err fault
           choices_x_stop fault h = choices_x ∙ ap (λ x. x_nexts as_choices x) h
 
+          -- the X of the first alternative is read, and its end byte
           module _ (end : ℕ) (w : Reading) (ends : x_from choice u ≡ Ok (end, w)) where
             -- where a closing brace ends the first X, the braces end with it
             pub choices_x_last : end ≡ ascii.closing_brace
@@ -518,6 +525,7 @@ module _ (lists deep : Lists) (c : ListContext) (at : ℕ) where
             choices_later_done last e h =
                 choices_x ∙ ap (λ x. x_nexts as_choices x) ends ∙ x_more as_choices end w e ∙ ap (λ x. mapped as_choices x) h
 
+      -- no default comes next, and the tests of a later alternative, or patterns, are read
       module _ (none : begins_with ascii.colon (drop (prefix_len is_white v.rest.bytes) v.rest.bytes) ≡ false)
           (u : Reading) (form : code.Form) (read : form_given outer v (tests deep c at AtNext v.rest.at 0 v.rest.bytes) ≡ Ok (form, u))
         where
@@ -525,6 +533,7 @@ module _ (lists deep : Lists) (c : ListContext) (at : ℕ) where
           pub later_patterns : form ≡ forms.Patterns → later_from v ≡ Err (BadDirective at)
           later_patterns e = later_tests v none ∙ ap (λ x. forms_later x) read ∙ ap (λ f. form_later f u) e
 
+          -- what was read is the tests of this alternative, not patterns
           module _ (choice : Choice) (is : form ≡ forms.Tests choice) where
             -- once its tests are read, a later alternative gives what its X gives, and what follows it
             later_x : later_from v ≡ x_nexts same_reading (x_from choice u)
@@ -534,6 +543,7 @@ module _ (lists deep : Lists) (c : ListContext) (at : ℕ) where
             pub later_x_stop : (fault : SyntaxFault) → x_from choice u ≡ Err fault → later_from v ≡ Err fault
             later_x_stop fault h = later_x ∙ ap (λ x. x_nexts same_reading x) h
 
+            -- the X of the later alternative is read, and its end byte
             module _ (end : ℕ) (w : Reading) (ends : x_from choice u ≡ Ok (end, w)) where
               -- where a closing brace ends the X of a later alternative, the alternatives end with it
               pub later_x_last : end ≡ ascii.closing_brace → later_from v ≡ Ok w
@@ -567,6 +577,7 @@ module _ (lists deep : Lists) (c : ListContext) (at : ℕ) where
         pub default_stop : (fault : SyntaxFault) → x_from choice u ≡ Err fault → later_from v ≡ Err fault
         default_stop fault h = default_x ∙ ap (λ x. default_nexts x) h
 
+        -- the X of the default is read, and its end byte
         module _ (end : ℕ) (w : Reading) (ends : x_from choice u ≡ Ok (end, w)) where
           -- where a closing brace ends the X of the default, the alternatives end with it
           pub default_last : end ≡ ascii.closing_brace → later_from v ≡ Ok w

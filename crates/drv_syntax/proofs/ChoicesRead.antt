@@ -65,6 +65,7 @@ cuts_begin order (cuts.in_asked sp sign i) = begins order sp sign (cut_head no_w
 cuts_begin order (cuts.after_asked sp sign i z) = begins order sp sign (asked_head no_white refl i) (asked_head no_colon refl i)
 cuts_begin order (cuts.after_bar sp sign i z o) = begins order sp sign (asked_head no_white refl i) (asked_head no_colon refl i)
 
+-- the braces of a directive whose % has the place `at`, in a list with the context c
 module _ (lists deep : Lists) (c : ListContext) (at : ℕ) where
   -- what Descent makes of patterns or alternatives, from one of them on
   abbrev pub inside : Order → ℕ → List ℕ → Read Brace
@@ -118,6 +119,7 @@ module _ (lists deep : Lists) (c : ListContext) (at : ℕ) where
   form_x k n t (s.last_test sp x sign i y z) = refl
   form_x k n t (s.next_test sp x sign i y z o) = refl
 
+  -- an alternative's tests by the grammar, which Descent has read up to their colon (58)
   module _ {total : ℕ} {tests : Tests} {t mid : List ℕ} (order : Order) (n : ℕ) (o : AreTests total (in_braces c) t tests (58 ∷ mid))
       (m : Reads (d.tests deep c at order n 0 t) t (form_of tests) (58 ∷ mid)) where
     -- the X follows the colon, and the bytes up to there are those of the tests and one more
@@ -158,6 +160,7 @@ module _ (lists deep : Lists) (c : ListContext) (at : ℕ) where
           fits = omega (arith, colon.1, e.1);
         }
 
+    -- the X of the alternative is read up to its semicolon (59)
     module _ {items : Items} {next : List ℕ} (x : Reads (x_of tests (n + m.size + 1) mid) mid (items, 59) (59 ∷ next)) where
       -- the next alternative follows the semicolon, and the bytes up to there are counted
       semicolon : (drop (suc (m.size + 1 + x.size)) t ≡ next) × (length t ≡ suc (m.size + 1 + x.size) + length next)
@@ -213,12 +216,13 @@ module _ (lists deep : Lists) (c : ListContext) (at : ℕ) where
       (d.tests deep c at AtNext n 0 (b ∷ t))
       (λ form k. d.form_go lists c at n (b ∷ t) form k (λ skip. d.choices lists deep c at AtNext n (suc skip) (b ∷ t)))) e
 
+  -- white space, and the colon (58) of a default
   module _ {t mid : List ℕ} (n : ℕ) (sp : AreSpaces t (58 ∷ mid)) where
     -- the colon follows the white space, which Descent counts
     here : (drop (prefix_len is_white t) t ≡ 58 ∷ mid) × (length t ≡ prefix_len is_white t + length (58 ∷ mid))
     here = spaces_to sp (s.at_byte refl)
 
-    -- the X follows that colon
+    -- the X of a default follows its colon, which white space may precede
     there : (drop (suc (prefix_len is_white t)) t ≡ mid) × (length t ≡ suc (prefix_len is_white t) + length mid)
     there = byte_next t (prefix_len is_white t) here.0 here.1
 
@@ -264,6 +268,7 @@ module _ (lists deep : Lists) (c : ListContext) (at : ℕ) where
     default_on x = default_goes ∙ ap (λ r. past (prefix_len is_white t) (then_read (d.within at r)
         (λ x size. d.default_go at (n + prefix_len is_white t) x size))) x.is
 
+  -- the lists in the braces are read: Xs, and the arguments of tests
   module _ (size : ℕ) (xs : (asks : Tests) → ListReads size lists (in_x (in_braces c) asks))
       (args : (c.levels - 1 == 0) ≡ false → ListReads size deep (in_arguments (in_braces c))) where
     -- the tests of an alternative by the grammar are read, up to their colon
@@ -307,6 +312,7 @@ module _ (lists deep : Lists) (c : ListContext) (at : ℕ) where
 
     -- where the text ends
 
+    -- the lists in the braces end where the text does: Xs, and the arguments of tests
     module _ (x_ends : (asks : Tests) → ListEnds size lists (in_x (in_braces c) asks))
         (args_end : (c.levels - 1 == 0) ≡ false → ListEnds size deep (in_arguments (in_braces c))) where
       mutual

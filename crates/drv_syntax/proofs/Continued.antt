@@ -146,7 +146,7 @@ quoted_on s.quoted_end e g = s.quoted_stop e g
 quoted_on (s.quoted_escape i) e g = s.quoted_escape (quoted_on i e g)
 quoted_on (s.quoted_byte h k i) e g = s.quoted_byte h k (quoted_on i e g)
 
--- a blank is in no word
+-- a blank is in no word and no suffix, and begins no escape: so it ends what a text may end in
 blank_out : (b : ℕ) → is_blank b ≡ true → ((b == ascii.backslash) ≡ false) × (is_word b ≡ false) × (is_suffix b ≡ false)
     × ((b == ascii.percent) ≡ false) × ((b == ascii.asterisk) ≡ false)
 blank_out b h = each (λ x. ((x == ascii.backslash) ≡ false) × (is_word x ≡ false) × (is_suffix x ≡ false) × ((x == ascii.percent) ≡ false)
@@ -210,7 +210,7 @@ rest_fits p x (more r y items) q h = h
 
 -- a text with more after it
 
--- what is read after these items
+-- what is read after these items, of k bytes: they come before those that are read
 abbrev after : Items → ℕ → Read (Items × ℕ) → Read (Items × ℕ)
 after items k r = then_read r (λ list used. Took (join items list.0, list.1) (k + used))
 
@@ -231,6 +231,7 @@ after_more n m k first x items used size (Took list extra) f e g =
 after_more n m k first x items used size (Ends at) f e g = refl
 after_more n m k first x items used size (Stops i fault) f e g = refl
 
+-- a whole text, which may have 64 levels, with more bytes q after it
 module _ (level : ℕ) (is : level ≡ 63) (q : List ℕ) where
   -- what Descent makes of a whole text from here on
   abbrev reads : ℕ → List ℕ → Read (Items × ℕ)
@@ -305,6 +306,7 @@ rest_is text rest tokens names h g = by (descent text) refl h
 
 -- the code's list of the rest
 
+-- the bytes after a text, at the place n, which the code reads on from what it kept
 module _ (n : ℕ) (bytes : List ℕ) (v : Reading) (here : v.rest ≡ record { at = n; bytes = bytes }) where
   -- what the code's `items` returns for the rest of a whole text
   abbrev lists : Reading → Result (Tail × Reading) SyntaxFault
@@ -314,7 +316,7 @@ module _ (n : ℕ) (bytes : List ℕ) (v : Reading) (here : v.rest ≡ record { 
   abbrev begun : Reading
   begun = record { rest = record { at = n; bytes = bytes }; parts = v.parts }
 
-  -- the code's reading is this one
+  -- the code's reading of the rest begins at this place, with the parts of the first text
   begun_is : v ≡ begun
   begun_is = ap (λ (r : Left). record { rest = r; parts = v.parts }) here
 

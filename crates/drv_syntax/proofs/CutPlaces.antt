@@ -22,6 +22,7 @@ use Rattle.std.proofs.Common.{suc, sym, ℕ}
 -- A text that is cut short is cut at the place of what is open at its end, and at no other: the law `cut_at_open`. Descent is the grammar
 -- as functions (specs/Descent). The grammar itself has cases (specs/Spelling, Fronts, Refusals).
 
+-- a whole text of this size, which may have 64 levels
 module _ (level : ℕ) (is : level ≡ 63) (size : ℕ) where
   -- the lists in a whole text are read and end as the grammar says
   known : i.Inner size (levels level).0 (levels level).1 top
@@ -31,7 +32,7 @@ module _ (level : ℕ) (is : level ≡ 63) (size : ℕ) where
   abbrev items : ℕ → List ℕ → Read (Items × ℕ)
   items n t = (levels (suc level)).0 top n t
 
-  -- it is cut at this place, or it has a tree
+  -- Descent cuts the text short at this place, or it has a tree
   abbrev Ended : ℕ → List ℕ → ℕ → Type 0
   Ended n t at = (items n t ≡ Ends at) ⊎ ((list : Items) × (top.kind ≡ Top) × Reads (items n t) t (list, 0) [])
 
@@ -44,11 +45,11 @@ module _ (level : ℕ) (is : level ≡ 63) (size : ℕ) where
   more_ended o e = after_one size (levels level).0 (levels level).1 top known.args known.xs known.deeper known.args_end known.x_ends
       known.deeper_end o e
 
-  -- a text without bytes has a tree
+  -- where no text is left the items end, so the text has a tree
   nothing : (n at : ℕ) → Ended n [] at
   nothing n at = inr (none, refl, record { size = 0; is = refl; left = refl; fits = omega arith })
 
-  -- an item by the grammar is read
+  -- an item by the grammar at the front of the text is read by Descent
   begun : {t mid : List ℕ} {x : Item} (n : ℕ) → IsItem size top t x mid → At size n t → Begun n t x mid
   begun n j place = one size (levels level).0 (levels level).1 top known.args known.xs known.deeper n j place
 
@@ -69,7 +70,7 @@ module _ (level : ℕ) (is : level ≡ 63) (size : ℕ) where
       by (inl h) = inl (h ∙ ap (λ (k : ℕ). Ends k) e)
       by (inr (x, o)) = more_ended o (nothing (n + 1 + o.used) place)
 
-  -- what is open
+  -- a text that leaves something open at this place by the grammar is cut there by Descent, or has a tree
   open_ended : {t : List ℕ} {place : ℕ} (n : ℕ) → IsOpenAt size t place → At size n t → Ended n t place
   open_ended {place = place} n (open_byte cuts.cut_escape at) a = cut_ended n place cuts.cut_escape a (omega (arith, at, a))
   open_ended {place = place} n (open_byte cuts.cut_percent at) a = cut_ended n place cuts.cut_percent a (omega (arith, at, a))

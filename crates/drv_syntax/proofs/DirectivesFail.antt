@@ -25,7 +25,7 @@ use Rattle.std.specs.Prelude.{◌==◌, nat_le}
 -- byte. `Stops k fault` is the result that names its place k and its fault. Descent is the grammar as functions (specs/Descent). The
 -- grammar itself has cases (specs/Spelling, Fronts, Refusals).
 
--- equal places give equal results `Stops`
+-- equal places give equal results `Stops`: where it stops, and the directive that the fault names
 pub stops_at : {X : Type 0} {i j m n : ℕ} (make : ℕ → SyntaxFault) → i ≡ j → m ≡ n
     → ◌≡◌ {A = Read X} (Stops i (make m)) (Stops j (make n))
 stops_at {j = j} {m} make e f = ap (λ (k : ℕ). Stops k (make m)) e ∙ ap (λ (k : ℕ). Stops j (make k)) f
@@ -42,6 +42,7 @@ pattern_stops x at m q e = ap (λ (z : Quoted). d.pattern_text at m z (x ∷ q))
 
 -- the name of no function
 
+-- the function's name of a directive at this place, the byte x that doesn't fit, and what follows it
 module _ (at : ℕ) (x : ℕ) (q : List ℕ) where
   -- where Descent refuses a byte after a front of a function's name, it does so however much of that front is past
   name_stops : (m : ℕ) (done name : List ℕ) → is_function_front (done ++ name) ≡ true
@@ -79,6 +80,7 @@ run_length : {f : ℕ → Bool} {t w u : List ℕ} → IsRun f t w u → length 
 run_length (s.run_ends {rest} h) = omega arith
 run_length (s.run_goes e i) = omega (arith, run_length i)
 
+-- the name of a named text in a directive at this place, and what follows the byte that doesn't fit
 module _ (at : ℕ) (q : List ℕ) where
   -- where a name has at most 255 bytes, so has each front of it
   shorter : (done : List ℕ) (b : ℕ) (w : List ℕ) → length (done ++ b ∷ w) ≤ 255 → nat_le (length (done ++ b ∷ [])) 255 ≡ true
@@ -86,7 +88,7 @@ module _ (at : ℕ) (q : List ℕ) where
       let short : length (done ++ b ∷ []) ≤ 255 = omega (arith, l, length-append done (b ∷ w), length-append done (b ∷ [])) in
       grind (arith, nat_tests)
 
-  -- a byte that can't be in it
+  -- a name fails at a byte that can't be in it and is no closing parenthesis
   names_stop : {t w : List ℕ} {b : ℕ} (k : ℕ) (done : List ℕ) → IsRun is_name_byte t w (b ∷ []) → length (done ++ w) ≤ 255
       → (b == ascii.closing_parenthesis) ≡ false → d.name_from at k done (t ++ q) ≡ Stops (k + length w) (BadDirective at)
   names_stop k [] (s.run_ends (s.at_byte h)) l e = rw h refl
@@ -98,7 +100,7 @@ module _ (at : ℕ) (q : List ℕ) where
       (names_stop (k + 1) (done ++ c ∷ []) i (subst (λ (v : List ℕ). length v ≤ 255) (sym g) l) e)
       ∙ ap (λ (j : ℕ). Stops j (BadDirective at)) z)
 
-  -- its 256th byte
+  -- a name of 256 bytes fails at its last one
   names_long : {t w : List ℕ} (k : ℕ) (done : List ℕ) → IsRun is_name_byte t w [] → length (done ++ w) ≡ 256 → length done ≤ 255
       → (j : ℕ) × (j + 1 ≡ k + length w) × (d.name_from at k done (t ++ q) ≡ Stops j (BadDirective at))
   names_long k done (s.run_ends h) l e = absurd (let z : length done ≡ 256 = ap length (sym (append-nil done)) ∙ l in omega (arith, z, e))
@@ -112,6 +114,7 @@ module _ (at : ℕ) (q : List ℕ) where
       let m = names_long (k + 1) (done ++ c ∷ []) (s.run_goes g i) (ap (λ (v : List ℕ). length v) y ∙ l) more in
       (m.0, omega (arith, m.1), rw (h, short) (ap (λ r. past 1 r) m.2))
 
+-- a directive whose % has the place `at`, in a list with the context c; m is the place after its byte
 module _ (lists deep : Lists) (c : ListContext) (at m : ℕ) where
   -- braces or arguments within 64 others are refused at the byte of their directive
   pub nested_stops : (f : Directive) (text : List ℕ) → nests f ≡ true → (c.levels == 0) ≡ true

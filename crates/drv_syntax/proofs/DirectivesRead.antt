@@ -46,6 +46,7 @@ names_end at n done (s.run_goes {b} {text} {run} e i) l =
     let fits : nat_le (length (done ++ b ∷ [])) 255 ≡ true = grind (arith, nat_tests) in
     rw (e, fits) (ap (λ r. past 1 r) (names_end at (n + 1) (done ++ b ∷ []) i (subst (λ (v : List ℕ). length v ≤ 255) (sym regrouped) l)))
 
+-- a directive whose % has the place `at`, in a list with the context c; n is the place of its byte
 module _ (lists deep : Lists) (c : ListContext) (at n : ℕ) where
   -- what Descent makes of the text after the byte of this directive
   abbrev pub by : Directive → List ℕ → Read Item
@@ -77,6 +78,7 @@ module _ (lists deep : Lists) (c : ListContext) (at n : ℕ) where
   cut_level (cuts.cut_emits e o) = e
   cut_level (cuts.cut_chooses e o) = e
 
+  -- the lists in the directive are read: arguments, Xs, and the arguments of tests
   module _ (size : ℕ) (args : (c.levels == 0) ≡ false → ListReads size lists (in_arguments c))
       (xs : (c.levels == 0) ≡ false → (asks : Tests) → ListReads size lists (in_x (in_braces c) asks))
       (deeper : (c.levels - 1 == 0) ≡ false → ListReads size deep (in_arguments (in_braces c))) where

@@ -45,6 +45,7 @@ bare_took at mark n b e (inr g) = by (b == 125) (b == 38) refl refl g
     by false true f h k = rw (e, f, h) refl
     by false false f h k = differs (sym k)
 
+-- the braces of a directive whose % has the place `at`, in a list with the context c
 module _ (deep : Lists) (c : ListContext) (at : ℕ) where
   -- a pattern as what a test may be
 

@@ -66,7 +66,7 @@ fails_so r at (AtByte n fault) e = e
 abbrev pub HangsOut : (ℕ → Bool) → List ℕ → Type 0
 HangsOut f text = (size : ℕ) × (quoted f text ≡ d.Hangs size) × (size + 1 ≡ length text)
 
--- the run is the whole text
+-- a run of bytes and escapes takes the whole text, which doesn't end in an escape
 abbrev pub EndsOut : (ℕ → Bool) → List ℕ → Type 0
 EndsOut f text = (word : List ℕ) × (size : ℕ) × (quoted f text ≡ Run word size) × (drop size text ≡ []) × (size ≡ length text)
 

@@ -13,7 +13,7 @@ use Rattle.std.proofs.Common.{◌≡◌, ℕ, ◌+◌, List, [], ◌∷◌, ◌+
 -- The tokens of a tree are those of its parts, one after the other, with as many labels. It serves `SpecTree::tokens`, `word` and their
 -- like, and what the reader writes.
 
--- lists that grow at their end
+-- items and other items after them as one list
 abbrev pub join : Items → Items → Items
 join tree.none others = others
 join (tree.more s item items) others = tree.more s item (join items others)

@@ -90,6 +90,7 @@ late_go (d.Bars s negated a) n k ps (Ends at) never h = tt
 late_go (d.Bars s negated a) n k ps (Stops m fault) never h = tt
 late_go (d.Fails fault) n k ps others never h = tt
 
+-- the braces of a directive whose % has the place `at`, in a list with the context c
 module _ (deep : Lists) (c : ListContext) (at : ℕ) where
   -- tests of a later alternative and tests after a bar are never patterns
   pub late_tests : (text : List ℕ) (order : Order) (n skip : ℕ) → Late order → NoPatterns (tests deep c at order n skip text)
@@ -186,13 +187,14 @@ module _ (deep : Lists) (c : ListContext) (at : ℕ) where
       by [] is e = absurd cc
       by (b ∷ text) is e = some b text is (tests deep c at order v.rest.at 0 (b ∷ text)) e
 
+  -- `outer` is the outermost directive that is open, if one is; `order` is the place of the test in the braces
   module _ (outer : Option ℕ) (order : Order) where
     -- the braces hold patterns and leave this
     abbrev pub as_patterns : Result Reading SyntaxFault → Result (code.Form × Reading) SyntaxFault
     as_patterns (Ok u) = Ok (forms.Patterns, u)
     as_patterns (Err fault) = Err fault
 
-    -- an alternative begins with these tests
+    -- what braces begin with, where that is the tests of an alternative
     abbrev pub as_tests : Result (Choice × Reading) SyntaxFault → Result (code.Form × Reading) SyntaxFault
     as_tests (Ok x) = Ok (forms.Tests x.0, x.1)
     as_tests (Err fault) = Err fault
@@ -221,6 +223,7 @@ module _ (deep : Lists) (c : ListContext) (at : ℕ) where
     nexts_more (Ok x) = next_more x.0 x.1
     nexts_more (Err fault) = Err fault
 
+    -- v is what was read before the test, which took k bytes
     module _ (v : Reading) (k : ℕ) where
       -- the rest after k bytes and the byte after them
       abbrev left : Left

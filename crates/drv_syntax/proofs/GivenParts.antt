@@ -145,8 +145,7 @@ quoted_hung outer v u g (Hangs size) goes place is e =
     ap (λ x. given outer v.rest g x) (is size)
     ∙ ap (λ (r : Left). Err (Unclosed (open_at outer (place r.at)))) p
 
--- a part that ends with such a run
-
+-- a part that ends with a run of bytes and escapes
 module _ {Y Z : Type 0} (outer : Option ℕ) (g : Y → Left → Z) where
   -- a part of so many bytes is one of none, from the rest after them
   took_none : (rest : Left) (size : ℕ) (x : Y) → given outer rest g (Took x size) ≡ given outer (after size rest) g (Took x 0)
@@ -165,12 +164,13 @@ option_shift outer rest g at n w size [] = refl
 option_shift outer rest g at n [] size (b ∷ bs) = refl
 option_shift outer rest g at n (x ∷ w) size (b ∷ bs) = took_more outer g rest size (AddOption (x ∷ w))
 
+-- %x{OPTION}, whose % has the place `at`; v is what was read up to its x
 module _ (outer : Option ℕ) (at : ℕ) (v : Reading) where
   -- what %x gives on these bytes after it
   abbrev reads : List ℕ → Result Reading SyntaxFault
   reads bs = item_given outer at v (option at v.rest.at bs)
 
-  -- what %x{ gives from this rest on
+  -- what %x{ gives from this rest on: the option and the brace that closes it
   abbrev inside : Left → Result Reading SyntaxFault
   inside rest = item_given outer at (at_rest rest v) (option_text at rest.at (quoted is_option rest.bytes) rest.bytes)
 
@@ -276,6 +276,7 @@ saying_ends outer rest g kind w = by rest.bytes
     by [] = ap (λ (l : Left). Ok (g (said kind w) l)) (after_none rest)
     by (b ∷ bs) = at_byte (b == ascii.newline)
 
+-- %eTEXT or %nTEXT, whose % has the place `at`; v is what was read up to its byte
 module _ (outer : Option ℕ) (list : Kind) (kind : SayKind) (at : ℕ) (v : Reading) where
   -- the item is written, from its percent sign up to this rest
   abbrev said_at : Item → Left → Reading
@@ -356,6 +357,7 @@ pattern_ends outer rest g at n word = by word rest.bytes
     by [] (b ∷ bs) = empty (b == ascii.asterisk)
     by (x ∷ w) (b ∷ bs) = some x w (b == ascii.asterisk)
 
+-- a pattern in a directive whose % has the place `at`; v is what was read before it
 module _ (outer : Option ℕ) (at : ℕ) (v : Reading) where
   -- the pattern, with this rest and nothing written
   abbrev as_pattern : Pattern → Left → Pattern × Reading
@@ -428,7 +430,7 @@ pub seen_none : {E : Type 0} (w : Option Spelled) (copied : List ℕ) (u : Readi
     → ◌≡◌ {A = Result (Option (List ℕ) × Reading) E} (Ok x) (Ok (words_seen w copied u)) → w ≡ None → x ≡ (None, u)
 seen_none w copied u x e is = ok_same e ∙ ap (λ (z : Option Spelled). words_seen z copied u) is
 
--- a run of bytes writes nothing
+-- a run of bytes and escapes writes no part, whether it ends or hangs
 pub quoted_parts : {x : Option (List ℕ)} (v u : Reading) (q : Quoted) → quoted_to [] v q ≡ (x, u) → v.parts ≡ u.parts
 quoted_parts v u (Run w size) e = ap (λ (z : Option (List ℕ) × Reading). z.1.parts) e
 quoted_parts v u (Hangs size) e = ap (λ (z : Option (List ℕ) × Reading). z.1.parts) e
@@ -472,6 +474,7 @@ function_goes outer rest g at n p (b ∷ text) =
         ∙ ap (λ (j : ℕ). given outer (after (1 + k) rest) g (function_end at (n + (1 + k)) (p ++ take j (b ∷ text)) (drop j (b ∷ text))))
         (sym one)
 
+-- a function's name: k bytes of what is left go on with one, and they are taken as `name`
 module _ (outer : Option ℕ) (at : ℕ) (v : Reading) (k : ℕ) (name : List ℕ) (rest : Left) (whole : k ≡ front_size [] v.rest.bytes)
     (left : rest ≡ after k v.rest) (taken : name ≡ take k v.rest.bytes) where
   -- the name, with this rest and nothing written

@@ -47,6 +47,7 @@ given_within outer at rest g (Stops n fault) = refl
 
 -- functions
 
+-- the arguments of a function item whose % has the place `at`; v is what was read up to its colon
 module _ (outer : Option ℕ) (at : ℕ) (lists : Lists) (c : ListContext) (v : Reading) where
   -- the item is written, from its percent sign up to this rest
   abbrev as_item : Item → Left → Reading
@@ -142,12 +143,13 @@ choices_wrote (choice s tests items cs) z =
     choices_wrote cs (choice_written s tests items z)
     ∙ sym (wrote_both (choice_nodes (choice s tests items no_choice)) (choice_nodes cs) (tests_have_star tests) (choices_have_star cs) z)
 
+-- the braces of an item of this kind whose % has the place `at`; v is what was read up to the opening brace
 module _ (outer : Option ℕ) (at : ℕ) (kind : BraceKind) (v : Reading) where
   -- the parts with the token of the braces open
   abbrev z : Parts
   z = opened kinds.Choose no_label at v.parts
 
-  -- the place of that token
+  -- the place of the token of the braces, which opens here
   abbrev o : Open
   o = record { token = length v.parts.tokens; start = at }
 

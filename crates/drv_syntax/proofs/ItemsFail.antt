@@ -71,6 +71,7 @@ reaches_filled r.item_due h = h
 reaches_filled (r.after_item i o) h = item_filled i
 reaches_filled (r.in_directive a al o) h = tt
 
+-- the byte at the place k doesn't fit, and the bytes q follow it
 module _ (k : ℕ) (q : List ℕ) where
   -- where what a test asks is due and a byte doesn't fit, neither white space nor a default is there
   due_begins : {order : Order} {at : ℕ} {g : ListContext} {negated : Bool} {last : List ℕ} {fault : SyntaxFault} → Refuses (k + 1)
@@ -113,12 +114,14 @@ module _ (k : ℕ) (q : List ℕ) where
       by (r.switch_ends e i z) h sp sign = refl
       by (r.marked_ends is i e z) h sp sign = refl
 
+  -- the lists inside are read, and fail at that byte: arguments, Xs, and the arguments of tests
   module _ (lists deep : Lists) (c : ListContext) (known : Inner (k + 1 + length q) lists deep c)
       (args : (c.levels == 0) ≡ false → ListFails k q lists (in_arguments c))
       (xs : (c.levels == 0) ≡ false → (asks : Tests) → ListFails k q lists (in_x (in_braces c) asks))
       (deeper : (c.levels - 1 == 0) ≡ false → ListFails k q deep (in_arguments (in_braces c))) where
     -- the inside of braces
 
+    -- braces whose % has the place `at`, where a level is left
     module _ (at : ℕ) (level : (c.levels == 0) ≡ false) where
       mutual
         -- in alternatives, Descent stops at the byte that doesn't fit
@@ -192,6 +195,7 @@ module _ (k : ℕ) (q : List ℕ) where
 
     -- an item
 
+    -- an item at the place n, whose first byte is b
     module _ (n b : ℕ) (u : List ℕ) {fault : SyntaxFault} where
       -- where Descent stops in a directive, it stops there in the list
       percent_fails : d.directive lists deep c n (b ∷ u) ≡ Stops k fault → d.items_with lists deep c n 0 (37 ∷ b ∷ u) ≡ Stops k fault

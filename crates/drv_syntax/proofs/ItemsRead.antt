@@ -67,6 +67,7 @@ plain_not b h = by (is_of (92 ∷ 37 ∷ 124 ∷ 32 ∷ 9 ∷ 10 ∷ []) b) refl
     by true e k = differs (sym k)
     by false e k = refl
 
+-- the lists in a list with the context c are read: arguments, Xs, and the arguments of tests
 module _ (size : ℕ) (lists deep : Lists) (c : ListContext) (args : (c.levels == 0) ≡ false → ListReads size lists (in_arguments c))
     (xs : (c.levels == 0) ≡ false → (asks : Tests) → ListReads size lists (in_x (in_braces c) asks))
     (deeper : (c.levels - 1 == 0) ≡ false → ListReads size deep (in_arguments (in_braces c))) where
@@ -170,10 +171,11 @@ module _ (size : ℕ) (lists deep : Lists) (c : ListContext) (args : (c.levels =
   open_place n cuts.cut_percent = n
   open_place n (cuts.cut_directive {b = b} al i) = cut_place size n (directive_of b)
 
+  -- the lists inside end where the text does: arguments, Xs, and the arguments of tests
   module _ (args_end : (c.levels == 0) ≡ false → ListEnds size lists (in_arguments c))
       (x_ends : (c.levels == 0) ≡ false → (asks : Tests) → ListEnds size lists (in_x (in_braces c) asks))
       (deeper_end : (c.levels - 1 == 0) ≡ false → ListEnds size deep (in_arguments (in_braces c))) where
-    -- so a list ends: it isn't closed, or the text is a list
+    -- how a list ends at the end of a text: it isn't closed, or the text is a list
     abbrev pub Out : ℕ → List ℕ → ℕ → Type 0
     Out n t at = (items n t ≡ Ends at) ⊎ ((list : Items) × (c.kind ≡ Top) × Reads (items n t) t (list, 0) [])
 
@@ -249,7 +251,7 @@ AllEnd size level lists = (c : ListContext) → c.levels ≡ level → (c.kind �
 abbrev pub Both : ℕ → ℕ → Lists → Type 0
 Both size level lists = AllRead size level lists × AllEnd size level lists
 
--- what the lists in such a list are known of
+-- what is known of the lists in a list with this context: in arguments, in an X, and in a test's arguments
 pub record Inner (size : ℕ) (lists deep : Lists) (c : ListContext) : Type 0 where
   pub args : (c.levels == 0) ≡ false → ListReads size lists (in_arguments c)
   pub xs : (c.levels == 0) ≡ false → (asks : Tests) → ListReads size lists (in_x (in_braces c) asks)

@@ -36,6 +36,7 @@ beyond a b h = grind (arith, nat_tests)
 pub parsed_long : (text : List ℕ) → 1048576 < length text → parsed text ≡ Err TextTooLong
 parsed_long text h = ap (λ t. if t then judged (read text) else Err TextTooLong) (beyond (length text) 1048576 h)
 
+-- a text that is not too long
 module _ (text : List ℕ) (short : length text ≤ 1048576) where
   -- the tokens and labels of what a text is parsed to are those that the code gives
   listed_is : listed (parsed text) ≡ whole_given text
@@ -85,7 +86,7 @@ nothing_kept text p none tokens labels =
     ok_parts : List Token → List Label → Result (List Token × List Label) SyntaxFault
     ok_parts ts ls = Ok (ts, ls)
 
--- and of more after it
+-- a text of which the tokens and labels are kept, and more after it
 module _ (text more : List ℕ) (old : TextParts) (is : IsRead text old) (short : length text + length more ≤ 1048576)
     (goes : goes_on (ending_in (length text) old.tokens) more ≡ true) where
   -- both texts together are no longer than a text may be
@@ -110,7 +111,7 @@ module _ (text more : List ℕ) (old : TextParts) (is : IsRead text old) (short 
   pub more_kept : (p : TextParts) → rest_given (length text) more old.tokens old.labels ≡ Ok (p.tokens, p.labels) → IsRead (text ++ more) p
   more_kept p h = whole_kept (text ++ more) both_short p (whole_is ∙ h)
 
--- the same where the text is seen as this list, and the place after it is this
+-- a text of which the tokens and labels are kept, as the code has it: it is this list, and the place after it is n
 module _ (text self more all : List ℕ) (n : ℕ) (old : TextParts) (is : IsRead text old) (seen : text ≡ self) (place : n ≡ length self)
     (short : length more ≤ 1048576 - n) (goes : goes_on (ending_in n old.tokens) more ≡ true) where
   -- the place after the first text is its length
@@ -125,7 +126,7 @@ module _ (text self more all : List ℕ) (n : ℕ) (old : TextParts) (is : IsRea
   goes_here : goes_on (ending_in (length text) old.tokens) more ≡ true
   goes_here = ap (λ (i : ℕ). goes_on (ending_in i old.tokens) more) (sym here) ∙ goes
 
-  -- what the code gives of the second text is the same with this place
+  -- what the code gives of the second text from the place n on is what it gives from the first text's length on
   there : (r : Result (List Token × List Label) SyntaxFault) → rest_given n more old.tokens old.labels ≡ r
       → rest_given (length text) more old.tokens old.labels ≡ r
   there r h = ap (λ (i : ℕ). rest_given i more old.tokens old.labels) (sym here) ∙ h

@@ -9,7 +9,7 @@ use Rattle.std.specs.Prelude.{◌==◌, nat_le}
 pub same : (a b : ℕ) → (a == b) ≡ true → a ≡ b
 same a b h = grind (arith, nat_tests)
 
--- true is not false, so such a case can't arise
+-- true is not false, so a case in which they are equal can't arise
 pub differs : {A : Type 0} → true ≡ false → A
 differs h = absurd cc
 

@@ -72,7 +72,7 @@ record PlainByte (kind : ListKind) (b : ℕ) : Type 0 where
   pub given : (outer : Option ℕ) (t : Bool) (tail : Tail) (v : Reading)
       → byte_given outer t b tail v ≡ Ok (tail_at (plain_here b v), plain_here b v)
 
--- each byte that a run takes in such a list is a plain byte there
+-- each byte that a run takes in a list of this kind is a plain byte there
 plain_byte : (kind : ListKind) (b : ℕ) → runs kind b ≡ true → PlainByte kind b
 plain_byte list_kinds.Top b e =
     let a : Apart (stops list_kinds.Top) b = apart (stops list_kinds.Top) b e in
@@ -155,8 +155,9 @@ plains_more zero tail v b text e =
     ap (λ (w : Reading). (tail_at w, w)) (sym (run_none (plain_here b v)) ∙ run_more 0 v b text e)
 plains_more (suc k) tail v b text e = ap (λ (w : Reading). (tail_at w, w)) (run_more (suc k) v b text e)
 
+-- a list with the context c, in the directive `outer` if it is no whole text
 module _ (lists deep : Lists) (c : ListContext) (outer : Option ℕ) (inside : Opened c.kind outer) where
-  -- the list from here on
+  -- what the code gives of the list from here on
   abbrev pub items_at : Tail → Reading → Result (Tail × Reading) SyntaxFault
   items_at tail v = listed_given outer tail v (items_with lists deep c v.rest.at 0 v.rest.bytes)
 
@@ -173,7 +174,7 @@ module _ (lists deep : Lists) (c : ListContext) (outer : Option ℕ) (inside : O
       by InArguments None o = absurd o
       by InArguments (Some at) o = refl
 
-  -- so many bytes on
+  -- so many bytes of a list that are past are so many bytes less of the text
   skip_same : {Z : Type 0} (rest : Left) (g : Items × ℕ → Left → Z) (n k : ℕ) (text : List ℕ)
       → given outer rest g (items_with lists deep c n k text) ≡ given outer rest g (items_with lists deep c (n + k) 0 (drop k text))
   skip_same rest g n zero [] = end_same c.kind inside rest g n (n + 0)
@@ -185,7 +186,7 @@ module _ (lists deep : Lists) (c : ListContext) (outer : Option ℕ) (inside : O
       let i : n + 1 + k ≡ n + suc k = omega arith in
       skip_same rest g (n + 1) k text ∙ ap (λ (j : ℕ). given outer rest g (items_with lists deep c j 0 (drop k text))) i
 
-  -- after an item
+  -- what is written after an item that was read: its parts, with the rest
   abbrev item_after : ℕ → Item → Left → Reading → Reading
   item_after n one rest v = record { rest = rest; parts = item_written n one rest.at v.parts }
 
@@ -239,7 +240,7 @@ module _ (lists deep : Lists) (c : ListContext) (outer : Option ℕ) (inside : O
       ∙ rw g refl
       ∙ ap (λ (r : Left). Ok (list_on tail v.parts (none, b) r)) (after_none v.rest)
 
-  -- the end of the text
+  -- what the code gives of a list at the end of the text: its tail, or the fault that it isn't closed
   abbrev at_last : Reading → Result Tail SyntaxFault → Result (Tail × Reading) SyntaxFault
   at_last v (Ok tail) = Ok (tail, v)
   at_last v (Err fault) = Err fault

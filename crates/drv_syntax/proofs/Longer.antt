@@ -35,7 +35,7 @@ pub pattern_filled : {t u : List ℕ} {p : Pattern} → IsPattern t p u → Fill
 pattern_filled (s.unstarred i e) h = quoted_filled i h
 pattern_filled (s.starred i) h = quoted_filled i tt
 
--- an item has a byte
+-- an item takes a byte at least, so the text where it begins has one
 pub item_filled : {size : ℕ} {c : ListContext} {t u : List ℕ} {item : Item} → IsItem size c t item u → Filled t
 item_filled (s.plain e g) = tt
 item_filled s.escape = tt
@@ -71,6 +71,7 @@ refuses_filled (r.no_call p e f) = tt
 refuses_filled (r.no_end w e) = tt
 refuses_filled (r.no_end_past_mark w e) = tt
 
+-- more bytes q follow the text
 module _ (q : List ℕ) where
   -- a text that has a byte, and begins with none that f allows, still does with more after it
   pub stops_longer : {f : ℕ → Bool} {t : List ℕ} → s.Stops f t → Filled t → s.Stops f (t ++ q)

@@ -19,7 +19,7 @@ pub within_more : (n m : ℕ) (marks : List LabelMark) → n ≤ m → Within n 
 within_more n m [] h w = tt
 within_more n m (x ∷ marks) h w = ((w.0.0, omega arith), within_more n m marks h w.1)
 
--- marks whose words lie within n bytes, and one more such mark, do so together
+-- marks whose words lie within n bytes do so with one more whose word does
 pub within_push : (n : ℕ) (marks : List LabelMark) (m : LabelMark) → Within n marks → m.start ≤ m.end → m.end ≤ n
     → Within n (marks ++ m ∷ [])
 within_push n [] m w a b = ((a, b), tt)
@@ -186,7 +186,7 @@ pub labels_set : (words : List ℕ) (place : ℕ) (holds : Bool) (marks : List L
 labels_set words place holds marks = map-set (λ m. marked_label words m) marks place
     (record { start = 0; end = 0; starred = false; negated = false; asks = asking.Switch; holds_star = holds })
 
--- bytes that name themselves
+-- the marks of plain bytes, from a place on, lie within n bytes if the bytes do
 within_on : (n start : ℕ) (run : List ℕ) → start + length run ≤ n → Within n (byte_marks start run)
 within_on n start [] h = tt
 within_on n start (b ∷ run) h = ((omega arith, omega (arith, h)), within_on n (start + 1) run (omega (arith, h)))

@@ -76,6 +76,7 @@ breaks_after n size text m b rest e Bad fault h = record {
   bad = h;
 }
 
+-- a part that begins after k bytes of a text (the step m), and what the grammar says of it: that it is read, cut short, or refused
 module _ {X : Type 0} (l : Looks) (n k : ℕ) (text : List ℕ) (m : Step text k) (Is : ℕ → List ℕ → X → List ℕ → Type 0)
     (Cuts : ℕ → List ℕ → Type 0) (Bad : ℕ → List ℕ → SyntaxFault → Type 0) where
   -- a byte that doesn't fit k bytes further on doesn't fit in the whole text, if the grammar's relation for the rest implies that for the

@@ -25,7 +25,7 @@ use Rattle.std.specs.Prelude.{◌==◌}
 -- for `Is` also the part and what is left after it. Descent is the grammar as functions (specs/Descent). The grammar itself has cases
 -- (specs/Spelling, Fronts, Refusals).
 
--- the byte that ends a list
+-- the rest of a list of this kind: nothing after a whole text, or else the byte that ends the list
 abbrev pub Ended : Kind → ℕ → List ℕ → Type 0
 Ended Top b q = q ≡ []
 Ended InX b q = (rest : List ℕ) × (q ≡ b ∷ rest) × (is_end InX b ≡ true)
@@ -35,7 +35,7 @@ Ended InArguments b q = (rest : List ℕ) × (q ≡ b ∷ rest) × (is_end InArg
 abbrev pub ListIs : ListContext → List ℕ → ℕ → List ℕ → Items × ℕ → List ℕ → Type 0
 ListIs c text total t x q = Far text t × AreItems total c t x.0 q × Ended c.kind x.1 q
 
--- the text ends in such a list
+-- the text t ends in a list with this context
 abbrev pub ListCuts : ListContext → ℕ → List ℕ → Type 0
 ListCuts c total t = AreFrontItems total c t
 
@@ -47,7 +47,7 @@ ListBad c text total t fault = Far text t × (due : Due) × (last : List ℕ) ×
 abbrev pub ListMeant : ListContext → ℕ → List ℕ → Read (Items × ℕ) → Type 0
 ListMeant c n text r = Meant AtByte n text (ListIs c text) (ListCuts c) (ListBad c text) r
 
--- lists with so many levels
+-- what is made of all lists with so many levels left is what the grammar says
 abbrev pub Listed : ℕ → Lists → Type 0
 Listed level lists = (c : ListContext) → c.levels ≡ level → (n : ℕ) (text : List ℕ) → ListMeant c n text (lists c n text)
 
@@ -73,13 +73,15 @@ pub data CallBad (g : ListContext) (at total : ℕ) : List ℕ → SyntaxFault �
       → Reaches total (in_arguments g) u due last → Refuses total due last fault
       → CallBad g at total (name ++ ascii.opening_parenthesis ∷ u) fault
 
+-- a call whose name and arguments are made into x (an item, or a test), in a list with the context g; its arguments are what the grammar
+-- says
 module _ {X : Type 0} (make : List ℕ → Items → X) (g : ListContext) (inner : (g.levels == 0) ≡ false) (lists : Lists)
     (meets : (n : ℕ) (text : List ℕ) → ListMeant (in_arguments g) n text (lists (in_arguments g) n text)) (at : ℕ) where
   -- the text is the call of a function with these arguments, of which x is made
   abbrev pub CallIs : ℕ → List ℕ → X → List ℕ → Type 0
   CallIs total t x q = (name : List ℕ) × (items : Items) × (x ≡ make name items) × IsCall total g t name items q
 
-  -- the text ends in a call
+  -- the text ends in a call: in its name, or in its arguments
   abbrev CallCuts : ℕ → List ℕ → Type 0
   CallCuts total t = CutsCall total g t
 

@@ -96,7 +96,7 @@ form_bad : {at total : ℕ} {g : ListContext} {order : Order} {t : List ℕ} {fa
 form_bad (test_bad o h) = bad_choice (r.to_tests o) h
 form_bad (emit_bad e o h) = bad_emit e o h
 
--- the byte that ends an X
+-- a byte that ends an X and is no closing brace (125) is a semicolon (59)
 ends_x : (b : ℕ) → is_end InX b ≡ true → (b == 125) ≡ false → b ≡ 59
 ends_x b e f = by (b == 59) refl e
   where
@@ -139,6 +139,7 @@ default_absent AtBar (b ∷ u) e = s.at_byte refl
 default_absent AtNext [] e = s.at_end
 default_absent AtNext (b ∷ u) e = s.at_byte e
 
+-- the lists in braces are what the grammar says: Xs, and the arguments of tests
 module _ (lists deep : Lists) (c : ListContext) (outer : (c.levels == 0) ≡ false)
     (near : (asks : Tests) (n : ℕ) (text : List ℕ)
     → ListMeant (in_x (in_braces c) asks) n text (lists (in_x (in_braces c) asks) n text))
@@ -149,6 +150,7 @@ module _ (lists deep : Lists) (c : ListContext) (outer : (c.levels == 0) ≡ fal
   InsideMeant order n text x = Meant AtByte n text (λ total t brace q. IsInside total (in_braces c) order t brace q)
       (λ total t. InsideCuts total (in_braces c) order t) (λ total t fault. InsideBad at total (in_braces c) order t fault) x
 
+  -- braces from a test or a pattern on, of which the first byte is b
   module _ (order : Order) (n b : ℕ) (text : List ℕ) where
     -- the patterns that fill the braces, with the closing brace, are what the grammar says
     patterns_go : (ps : List (Span × Pattern)) (k : ℕ)
@@ -187,7 +189,7 @@ module _ (lists deep : Lists) (c : ListContext) (outer : (c.levels == 0) ≡ fal
           let e : i.0 ≡ u = sym (tail_same i.1) in
           subst (λ (v : List ℕ). AreTests total (in_braces c) (t.step.front (58 ∷ u)) asks (58 ∷ v)) e i.2
 
-      -- its X
+      -- the X of the alternative
       module _ (list : Items × ℕ) (size : ℕ)
           (x : Takes AtByte (n + (k + 1)) (drop (k + 1) (b ∷ text)) (ListIs (in_x (in_braces c) asks) (drop (k + 1) (b ∷ text))) list size)
         where
@@ -326,17 +328,20 @@ module _ (lists deep : Lists) (c : ListContext) (outer : (c.levels == 0) ≡ fal
 
   -- a default
 
+  -- a default: white space and a colon (58)
   module _ (order : Order) (is_next : order ≡ AtNext) (n : ℕ) (text : List ℕ) (rest : List ℕ)
       (colon : drop (prefix_len is_white text) text ≡ 58 ∷ rest) where
     -- the number of bytes of white space before the colon
     abbrev white : ℕ
     white = prefix_len is_white text
 
+    -- the white space before the colon is that of the grammar
     module _ (w : Spaced text (prefix_len is_white text)) where
       -- the step over the white space and the colon
       abbrev begun : Step text (white + 1)
       begun = then_byte white w.0 58 rest colon
 
+      -- the X of the default is read, with so many bytes
       module _ (list : Items × ℕ) (size : ℕ)
           (x : Takes AtByte (n + (white + 1)) (drop (white + 1) text) (ListIs (in_x (in_braces c) no_test)
           (drop (white + 1) text)) list size)

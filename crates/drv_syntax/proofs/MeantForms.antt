@@ -276,12 +276,14 @@ bad_more : {at total : ℕ} {g : ListContext} {order : Order} {t u : List ℕ} {
 bad_more i (test_bad o h) = test_bad (asked_reach i o) h
 bad_more i (emit_bad e o h) = not_front e
 
+-- the braces of a directive whose % has the place `at`, with the context g inside them
 module _ (at : ℕ) (g : ListContext) where
   -- what Descent makes of patterns, or of the tests of an alternative, is what the grammar says
   abbrev pub FormMeant : Order → ℕ → List ℕ → Read Form → Type 0
   FormMeant order n text x = Meant AtByte n text (λ total t form q. IsForm total g order t form q) (λ total t. TestCuts total g order t)
       (λ total t fault. TestBad at total g order t fault) x
 
+  -- a test that was read with k bytes after its first, and what Descent makes of the patterns and tests after it
   module _ (order : Order) (n b k : ℕ) (text : List ℕ) (tr : Tried)
       (t : Takes AtByte n (b ∷ text) (λ total u tr q. IsTried total g order u tr q) tr k) (ps : Read (List (Span × Pattern)))
       (i : PatternsMeant at (n + 1 + k) (drop k text) ps) (others : Read Form) (j : FormMeant AtBar (n + 1 + k) (drop k text) others) where
@@ -289,7 +291,7 @@ module _ (at : ℕ) (g : ListContext) where
     abbrev Goes : After → Type 0
     Goes a = FormMeant order n (b ∷ text) (d.test_go a n k ps others)
 
-    -- after the test comes its byte
+    -- after the test comes the byte that decides what it makes of the braces
     end : (rest : List ℕ) × (drop k (b ∷ text) ≡ tr.byte ∷ rest)
     end = tried_byte (t.is (n + length (t.step.front (drop k (b ∷ text)))) (drop k (b ∷ text)) (near_self (drop k (b ∷ text))) refl)
 
@@ -418,11 +420,12 @@ module _ (at : ℕ) (g : ListContext) where
         (ap (λ (y : ℕ). is_of ends_pattern y) (same tr.byte 124 e)) (bars (same tr.byte 124 e)))
         (λ q. bad_at (BadDirective at) (λ total y. other_bad y (rw (p, q) refl) (rw (f, h) refl) (rw (p, q, f, h) refl))))))
 
--- after a bar there is no default
+-- after a bar a colon is never that of a default
 bar_stops : (text : List ℕ) → s.Stops (is_default AtBar false) text
 bar_stops [] = s.at_end
 bar_stops (b ∷ text) = s.at_byte refl
 
+-- the arguments of tests in braces are what the grammar says
 module _ (deep : Lists) (c : ListContext) (outer : (c.levels == 0) ≡ false)
     (meets : (c.levels - 1 == 0) ≡ false → (n : ℕ) (text : List ℕ)
     → ListMeant (in_arguments (in_braces c)) n text (deep (in_arguments (in_braces c)) n text)) (at : ℕ) where

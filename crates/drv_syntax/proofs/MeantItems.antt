@@ -51,7 +51,7 @@ use Rattle.std.specs.Prelude.{◌-◌, ◌==◌}
 abbrev pub ItemBad : ListContext → ℕ → List ℕ → SyntaxFault → Type 0
 ItemBad c total t fault = (due : Due) × (last : List ℕ) × Reaches total c t due last × Refuses total due last fault
 
--- an item whose first byte is past
+-- what Descent makes of an item after its first byte b is what the grammar says of the item with b
 abbrev pub ItemMeant : ListContext → ℕ → ℕ → List ℕ → Read Item → Type 0
 ItemMeant c b n text x = Meant PastPercent n text (λ total t x q. IsItem total c (b ∷ t) x q) (λ total t. CutsItem total c (b ∷ t))
     (λ total t fault. ItemBad c total (b ∷ t) fault) x
@@ -72,6 +72,7 @@ call_burst : {c : ListContext} {at total : ℕ} {t : List ℕ} {fault : SyntaxFa
 call_burst e (no_function i) = unknown e i
 call_burst e (in_list name is reaches refuses) = inside (r.in_call name e is reaches) refuses
 
+-- the lists in a list with the context c are what the grammar says
 module _ (lists deep : Lists) (c : ListContext) (meets : (c.levels == 0) ≡ false → Listed (c.levels - 1) lists)
     (deeper : (c.levels - 1 == 0) ≡ false → Listed (c.levels - 1 - 1) deep) where
   -- directives that hold lists
@@ -114,6 +115,7 @@ module _ (lists deep : Lists) (c : ListContext) (meets : (c.levels == 0) ≡ fal
 
   -- after the byte of a directive
 
+  -- a directive whose byte b is allowed, and the text after that byte
   module _ (n b : ℕ) (text : List ℕ) (al : is_allowed c.in_arguments b ≡ true) where
     -- what Descent makes of a directive from its byte on is what the grammar says
     abbrev ByteMeant : Read Item → Type 0
@@ -263,9 +265,10 @@ module _ (lists deep : Lists) (c : ListContext) (meets : (c.levels == 0) ≡ fal
         ended_by c.kind b q (ending_byte b h).1,
       )
 
+  -- an item that was read, with k bytes after its first
   module _ (n b : ℕ) (text : List ℕ) (one : Item) (k : ℕ)
       (t : Takes PastPercent (n + 1) text (λ total t x q. IsItem total c (b ∷ t) x q) one k) where
-    -- the step over the item
+    -- the step over the whole item: its first byte, and what it takes after that
     abbrev here : Step (b ∷ text) (1 + k)
     here = steps 1 (byte_step b text) k t.step
 
@@ -286,7 +289,7 @@ module _ (lists deep : Lists) (c : ListContext) (meets : (c.levels == 0) ≡ fal
     item total u far place =
         t.is total u (subst (λ (v : List ℕ). Far v u) same_rest far) (omega (arith, place, t.step.sized u))
 
-    -- with any such rest, the text goes on alike
+    -- the text goes on as one in which a rest that goes on alike follows the item
     far_item : (u : List ℕ) → Far (drop (1 + k) (b ∷ text)) u → Far (b ∷ text) (b ∷ t.step.front u)
     far_item u far = far_more (t.step.near u (near_far (subst (λ (v : List ℕ). Far v u) same_rest far)))
 

@@ -88,6 +88,7 @@ data NamedBad (at : ℕ) (name : List ℕ) (total : ℕ) : List ℕ → SyntaxFa
       → (b == ascii.closing_parenthesis) ≡ false → NamedBad at name total t (BadDirective at)
   too_long : {t w : List ℕ} → IsRun is_name_byte t w [] → length (name ++ w) ≡ 256 → NamedBad at name total t (BadDirective at)
 
+-- a directive that holds no list, whose % has the place `at`, in a list with the context c
 module _ (c : ListContext) (at : ℕ) where
   -- without a suffix, the directive takes nothing, as the grammar says
   nothing_meant : (kind : TempKind) (n : ℕ) (text : List ℕ) → ((q : List ℕ) → Far text q → IsSuffix q [] q)
@@ -261,6 +262,7 @@ module _ (c : ListContext) (at : ℕ) where
   le_false : (i j : ℕ) → nat_le i j ≡ false → j + 1 ≤ i
   le_false i j h = grind (arith, nat_tests)
 
+  -- a name of a named text, and a byte that goes on with it
   module _ (name : List ℕ) (b : ℕ) (e : is_name_byte b ≡ true) where
     -- a byte added to a name, and then w, are the name and then the byte and w
     regrouped : (w : List ℕ) → (name ++ b ∷ []) ++ w ≡ name ++ b ∷ w

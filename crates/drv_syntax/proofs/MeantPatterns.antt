@@ -91,11 +91,12 @@ data IsOne (total : ℕ) : List ℕ → (Span × Pattern) × ℕ → List ℕ �
   is_one : {i m b : ℕ} {t u v q : List ℕ} {p : Pattern} → AreSpaces t u → At total i u → IsPattern u p v → At total m v
       → AreSpaces v (b ∷ q) → is_white b ≡ false → IsOne total t ((span i m, p), b) (b ∷ q)
 
--- one after its white space
+-- a pattern by the grammar after its white space: the pattern, white space, and the byte after it
 data IsThere (total start : ℕ) : List ℕ → (Span × Pattern) × ℕ → List ℕ → Type 0 where
   is_there : {m b : ℕ} {u v q : List ℕ} {p : Pattern} → IsPattern u p v → At total m v → AreSpaces v (b ∷ q) → is_white b ≡ false
       → IsThere total start u ((span start m, p), b) (b ∷ q)
 
+-- the braces of a directive whose % has the place `at`
 module _ (at : ℕ) where
   -- the text leads, in patterns after an &, to a byte that doesn't fit where something else is due
   abbrev pub PatternsBad : ℕ → List ℕ → SyntaxFault → Type 0

@@ -60,6 +60,7 @@ no_run f b text e g = record {
   plain = s.at_byte e;
 }
 
+-- one more byte b, or escape, of k bytes before a run of bytes of the class f
 module _ (f : ℕ → Bool) (b k : ℕ) (whole : List ℕ) (m : Step whole k)
     (goes : (t word q : List ℕ) → IsQuoted f t word q → IsQuoted f (m.front t) (b ∷ word) q)
     (out : RunsOut f (drop k whole) → RunsOut f whole) where
@@ -80,7 +81,7 @@ module _ (f : ℕ → Bool) (b k : ℕ) (whole : List ℕ) (m : Step whole k)
 abbrev two_steps : (b c : ℕ) (text : List ℕ) → Step (b ∷ c ∷ text) 2
 two_steps b c text = steps 1 (byte_step b (c ∷ text)) 1 (byte_step c text)
 
--- what `quoted` of Descent takes is the longest run of such bytes and escapes; where it hangs, the text ends within the run
+-- what `quoted` of Descent takes is the longest run of bytes of the class f and escapes; where it hangs, the text ends within the run
 pub quotes : (f : ℕ → Bool) (text : List ℕ) → Quotes f text (quoted f text)
 quotes f [] = record {
   step = no_step [];
@@ -159,7 +160,7 @@ runs f (b ∷ text) =
 abbrev pub PatternIs : ℕ → List ℕ → Pattern → List ℕ → Type 0
 PatternIs total t p q = IsPattern t p q
 
--- the text ends in a word
+-- the text ends in the word of a pattern, so that it is a pattern cut short
 abbrev pub PatternCuts : ℕ → List ℕ → Type 0
 PatternCuts total t = RunsOut is_word t
 
@@ -167,6 +168,7 @@ PatternCuts total t = RunsOut is_word t
 abbrev pub PatternBad : ℕ → ℕ → List ℕ → SyntaxFault → Type 0
 PatternBad at total t fault = (x : ℕ) × (t ≡ x ∷ []) × Empty x × (fault ≡ EmptyTest at)
 
+-- a pattern at the place n, in a directive whose % has the place `at`
 module _ (at n : ℕ) (text : List ℕ) where
   -- what Descent makes of a pattern is what the grammar says
   abbrev PatternMeant : d.Read Pattern → Type 0

@@ -94,9 +94,11 @@ mark_pattern : {mark b : ℕ} {q : List ℕ} → is_mark mark ≡ true → (b ==
     → (b == ascii.asterisk) ≡ false → IsPattern (mark ∷ b ∷ q) (pattern (mark ∷ []) false) (b ∷ q)
 mark_pattern {mark} e f g h = s.unstarred (s.quoted_byte (mark_plain mark e) (mark_word mark e) (s.quoted_stop f g)) (s.at_byte h)
 
+-- the arguments of tests in braces are what the grammar says
 module _ (deep : Lists) (c : ListContext) (outer : (c.levels == 0) ≡ false)
     (meets : (c.levels - 1 == 0) ≡ false → (n : ℕ) (text : List ℕ)
     → ListMeant (in_arguments (in_braces c)) n text (deep (in_arguments (in_braces c)) n text)) (at : ℕ) (order : Order) where
+  -- a test with a ! or without
   module _ (negated : Bool) where
     -- the text is what a test asks or a pattern, and q is left
     abbrev AskedIs : ℕ → List ℕ → Operand → List ℕ → Type 0
@@ -116,6 +118,7 @@ module _ (deep : Lists) (c : ListContext) (outer : (c.levels == 0) ≡ false)
 
     -- after a . or ,
 
+    -- a test that begins with a mark: a . or ,
     module _ (mark : ℕ) (is : is_mark mark ≡ true) where
       -- what Descent makes of the text after the mark of a test is what the grammar says
       abbrev MarkMeant : ℕ → List ℕ → Read Operand → Type 0
@@ -326,7 +329,7 @@ from_end : {total m start : ℕ} {g : ListContext} {order : Order} {negated : Bo
     → TriedFrom total g order start negated t tr q
 from_end i a (byte_is sp w) = tried_from i a sp w
 
--- a whole test
+-- a whole test by the grammar: white space, a sign, what it asks, white space, and the byte after it
 pub data IsTried (total : ℕ) (g : ListContext) (order : Order) : List ℕ → Tried → List ℕ → Type 0 where
   is_tried : {start : ℕ} {t u v q : List ℕ} {negated : Bool} {tr : Tried} → AreSpaces t u → At total start u → IsSign u negated v
       → TriedFrom total g order start negated v tr q → IsTried total g order t tr q
@@ -365,6 +368,7 @@ operand_is (by_star {mark} {word = word} e is i) =
 operand_is (by_bare {mark} e is i h) = inr (e, (pattern (mark ∷ []) false, i))
 operand_is (by_result {name = name} {items = items} i) = inl (HasResult name items, s.result i)
 
+-- a test after its white space and sign
 module _ {total : ℕ} {g : ListContext} {order : Order} {t u v : List ℕ} {negated : Bool} (sp : AreSpaces t u) (sign : IsSign u negated v)
   where
     -- a text that ends in a test after its white space and sign ends in a test or a pattern
@@ -387,13 +391,14 @@ asked_test {order = order} {t} {negated = negated} sp sign (mark_bad {mark} {b} 
     let f = emits_at order negated e in
     emit_bad f.0 (r.after_mark (subst (λ (x : List ℕ). AreSpaces t x) (unsigned sign f.1) sp) is p) (r.mark_alone w h)
 
--- after a `!` there is no default
+-- after a `!` a colon is never that of a default
 no_default : (order : Order) (text : List ℕ) → s.Stops (is_default order true) text
 no_default order [] = s.at_end
 no_default AtFront (b ∷ text) = s.at_byte refl
 no_default AtNext (b ∷ text) = s.at_byte refl
 no_default AtBar (b ∷ text) = s.at_byte refl
 
+-- the arguments of tests in braces are what the grammar says
 module _ (deep : Lists) (c : ListContext) (outer : (c.levels == 0) ≡ false)
     (meets : (c.levels - 1 == 0) ≡ false → (n : ℕ) (text : List ℕ)
     → ListMeant (in_arguments (in_braces c)) n text (deep (in_arguments (in_braces c)) n text)) (at : ℕ) (order : Order) where

@@ -17,6 +17,7 @@ use Rattle.std.proofs.Common.{◌≡◌, ◌∙◌, ◌+◌, List, [], ap, arith
 -- What Descent makes of a text is what the grammar says of it: the laws `read_is_spelled`, `unrefused_is_front` and `refused_kinds`.
 -- Descent is the grammar as functions (specs/Descent). The grammar itself has cases (specs/Spelling, Fronts, Refusals).
 
+-- any text
 module _ (text : List ℕ) where
   -- a text whose tree Descent gives has this tree by the grammar
   spelled : (r : Read (Items × ℕ)) → ListMeant top 0 text r → (items : Items) → outcome r ≡ Got items → Spells text items

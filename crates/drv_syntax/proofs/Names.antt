@@ -66,7 +66,7 @@ no_front (b ∷ p) (c ∷ q) h = by (40 == c) refl (b == c) refl h (no_front p q
     by false e true g h k = rw g (k (rw e at h))
     by false e false g h k = rw g refl
 
--- none of these names has a (
+-- none of these names has a (, so a name ends before its parenthesis
 abbrev Free : List (List ℕ) → Type 0
 Free [] = Unit {0}
 Free (f ∷ fs) = (y : is_of f 40 ≡ false) × Free fs

@@ -124,6 +124,7 @@ name_white at n name (b ∷ text) = by (is_name_byte b) (nat_le (length (name ++
     by true false ih = tt
     by false u ih = ended name
 
+-- a directive whose % has the place `at`, in a list with the context c
 module _ (lists deep : Lists) (c : ListContext) (at : ℕ) where
   -- what braces or arguments give is no white space, whether a level is left or not
   nested_white : (n : ℕ) (r : Read Item) → NotWhite r → NotWhite (d.nested c.levels at n r)

@@ -15,8 +15,6 @@ one_after k r =
 pub more_after : (k size : ℕ) (r : Left) → after (k + 1 + size) r ≡ after size (after 1 (after k r))
 more_after k size r = after_after (k + 1) size r ∙ ap (λ (x : Left). after size x) (after_after k 1 r)
 
--- so many bytes on
-
 -- so many bytes of patterns that are past are so many bytes less of the text
 patterns_skip : (at n k : ℕ) (text : List ℕ) → patterns at n k text ≡ patterns at (n + k) 0 (drop k text)
 patterns_skip at n zero [] = refl

@@ -132,8 +132,9 @@ ended_is (more s item items) tail z =
 
 -- an alternative, from its first test or its colon on
 
+-- an alternative that begins at `start` after the parts z, with its tests and its X; the X begins at `place`
 module _ (z : Parts) (start place : ℕ) (ts : Tests) (items : Items) where
-  -- the parts with the alternative open
+  -- the parts with the alternative open, before its tests and X are written
   abbrev front : Parts
   front = opened kinds.Alternative no_label start z
 
@@ -153,7 +154,7 @@ module _ (z : Parts) (start place : ℕ) (ts : Tests) (items : Items) where
   abbrev whole : Parts
   whole = list_written items (unheld asked)
 
-  -- its tests and its X as one list of parts
+  -- the tests of the alternative and its X as one list of parts
   abbrev inner : Nodes
   inner = both (test_nodes ts) (nodes_of (trimmed items))
 
@@ -207,11 +208,11 @@ module _ (z : Parts) (start place : ℕ) (ts : Tests) (items : Items) where
       none_more true = refl
       none_more false = refl
 
-  -- their tokens are those of both at once
+  -- the tokens of the tests and then of the X are those of both at once
   tokens_is : list.tokens ≡ (wrote inner (tests_have_star ts) front).tokens
   tokens_is = ap (λ (y : Parts). y.tokens) list_is ∙ sym (ap (λ (y : Parts). y.tokens) one_list)
 
-  -- their labels are those of both at once
+  -- the labels of the tests and then of the X are those of both at once
   labels_is : list.labels ≡ (wrote inner (tests_have_star ts) front).labels
   labels_is = ap (λ (y : Parts). y.labels) list_is ∙ sym (ap (λ (y : Parts). y.labels) one_list)
 

@@ -36,6 +36,7 @@ allowed text out h e =
     let f : nat_le (length text) text_limit ≡ true = grind (arith, nat_tests) in
     ap (λ (z : Bool). if z then judged (read text) else Err TextTooLong) f ∙ ap (λ (o : Out). judged o) e
 
+-- any text
 module _ (text : List ℕ) where
   -- what a text is parsed to, by whether it is too long
   abbrev by_size : (fits : Bool) → Result Items SyntaxFault

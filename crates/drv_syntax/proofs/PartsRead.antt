@@ -65,7 +65,7 @@ reads_after {text = text} {rest = rest} {x} {y} goes m k =
 pub reads_as : {X : Type 0} {r o : Read X} {x : X} {text rest : List ℕ} → r ≡ o → Reads o text x rest → Reads r text x rest
 reads_as e m = record { size = m.size; is = e ∙ m.is; left = m.left; fits = m.fits }
 
--- no bytes more are nothing more
+-- a part that is counted with no bytes before it is counted as it is
 pub past_none : {X : Type 0} (r : Read X) → past 0 r ≡ r
 past_none (Took x size) = let e : 0 + size ≡ size = omega arith in ap (λ (i : ℕ). Took x i) e
 past_none (d.Ends at) = refl

@@ -25,6 +25,7 @@ use Rattle.std.specs.Prelude.{◌==◌, Err, None, Ok, Option, Result, Some}
 -- code's result. A `Reading` is the text that is left and the tokens and labels so far. `spaced` is the rest after white space. `outer` is
 -- the place of the outermost directive that is open, if one is, and `at` that of the % of the directive here.
 
+-- the braces of a directive whose % has the place `at`
 module _ (outer : Option ℕ) (at : ℕ) where
   -- these patterns are written, and the brace that closes them is taken
   abbrev patterns_on : Parts → List (Span × Pattern) → Left → Reading
@@ -182,6 +183,7 @@ module _ (outer : Option ℕ) (at : ℕ) where
       → pattern_given outer (at_rest r1 v) (pattern_at at r1.at r1.bytes) ≡ Err fault → joined v ≡ Err fault
   joined_stops v r1 fault e h = from v r1 (Err fault) e h
 
+  -- a pattern after an ampersand is read, with white space around it
   module _ (v u : Reading) (r1 r2 : Left) (p : Pattern) (start end : ℕ) (e : r1 ≡ spaced v.rest)
       (h : pattern_given outer (at_rest r1 v) (pattern_at at r1.at r1.bytes) ≡ Ok (p, u)) (f : r2 ≡ spaced u.rest) (g : start ≡ r1.at)
       (k : end ≡ u.rest.at) where

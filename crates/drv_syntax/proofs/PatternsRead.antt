@@ -19,6 +19,7 @@ use Rattle.std.specs.List.{prefix_len}
 -- that fails in the way f (Failing). The numbers in the statements are bytes: 38 is &, 125 }. Descent is the grammar as functions
 -- (specs/Descent). The grammar itself has cases (specs/Spelling, Fronts, Refusals).
 
+-- the braces of a directive whose % has the place `at`
 module _ (at : ℕ) where
   -- white space after a pattern, and the byte there
 
@@ -49,7 +50,7 @@ module _ (at : ℕ) where
   abbrev one : ℕ → List ℕ → Read ((Span × Pattern) × ℕ)
   one n t = d.pattern_from at n (prefix_len is_white t) t
 
-  -- after its white space
+  -- a pattern after its white space, as Descent reads it
   abbrev there : ℕ → List ℕ → Read ((Span × Pattern) × ℕ)
   there n u = then_read (d.pattern_at at n u) (λ p k. past k (byte_after (span n (n + k), p) (drop k u)))
 

@@ -27,12 +27,13 @@ use Rattle.std.specs.Prelude.{◌==◌, Err, Ok, Option, Result, Some}
 -- that is left and the tokens and labels so far. `outer` is the place of the outermost directive that is open, if one is, and `at` that of
 -- the % of the directive here.
 
+-- a directive whose % has the place `at`, in a list with the context c; v is what was read before it
 module _ (lists : Lists × Lists) (c : ListContext) (outer : Option ℕ) (v : Reading) (at : ℕ) where
   -- the item is written, from its percent sign up to this rest
   abbrev as_item : Item → Left → Reading
   as_item x l = record { rest = l; parts = item_written at x l.at v.parts }
 
-  -- after its byte
+  -- what the code gives of a directive after its byte
   abbrev pub goes_on : Left → Directive → Result Reading SyntaxFault
   goes_on r x = given outer r as_item (directive_by lists.0 lists.1 c at (at + 1) x r.bytes)
 

@@ -74,6 +74,7 @@ AsksResult (Took o size) = Asks o
 AsksResult (Ends n) = Unit {0}
 AsksResult (Stops n fault) = Unit {0}
 
+-- the braces of a directive whose % has the place `at`, in a list with the context c
 module _ (deep : Lists) (c : ListContext) (at : ℕ) where
   -- a test of a function's result is a test and no pattern
   result_asks : (n : ℕ) (text : List ℕ) → AsksResult (result deep c at n text)
@@ -97,6 +98,7 @@ module _ (deep : Lists) (c : ListContext) (at : ℕ) where
       by true = named (function_from n (n + 2) [] text)
       by false = tt
 
+  -- `outer` is the outermost directive that is open, if one is; `so_far` is the alternative that is open, if one is
   module _ (outer : Option ℕ) (order : Order) (so_far : Option Choice) where
     -- what the code's `test` returns by what specs/Descent makes of the test
     abbrev tries : Reading → Read Tried → Result (Next × Reading) SyntaxFault
@@ -163,6 +165,7 @@ module _ (deep : Lists) (c : ListContext) (at : ℕ) where
         tried_past v (prefix_len is_white v.rest.bytes) (signed deep c at order (spaced v.rest).at (spaced v.rest).bytes)
         ∙ sign_by (at_rest (spaced v.rest) v) (spaced v.rest).bytes refl
 
+    -- the front of a test is read: its white space and sign
     module _ (v u : Reading) (begun : Begun) (is : begun_given outer at v ≡ Ok (begun, u)) where
       -- once its front is read, a test gives what it asks
       begun_here : tries v (one_test deep c at order v.rest.at v.rest.bytes) ≡ asked_here begun u
@@ -180,11 +183,13 @@ module _ (deep : Lists) (c : ListContext) (at : ℕ) where
           ∙ ap (λ bs. tries u (asked_from no_lists top at order begun.start begun.negated u.rest.at bs))
           (sym (some_left u.rest.bytes begun.byte (sym e)))
 
+      -- the test begins with a percent sign, so it is by a function
       module _ (e : first_of u.rest.bytes ≡ Some begun.byte) (g : begun.byte ≡ ascii.percent) where
         -- the rest is a percent sign and what follows it
         text_is : u.rest.bytes ≡ ascii.percent ∷ drop 1 u.rest.bytes
         text_is = some_left u.rest.bytes begun.byte (sym e) ∙ ap (λ b. b ∷ drop 1 u.rest.bytes) g
 
+        -- a level is left for the arguments
         module _ (deeper : (c.levels - 1 == 0) ≡ false) where
           -- what the code's `result` returns here
           abbrev pub result_from : Result (Choice × Reading) SyntaxFault
@@ -303,6 +308,7 @@ module _ (deep : Lists) (c : ListContext) (at : ℕ) where
               ≡ Err fault
           result_stop fault h = result_here ∙ ap (λ x. result_then x) h
 
+          -- the function and its arguments are read, and white space after them
           module _ (choice : Choice) (w : Reading) (reads : result_from ≡ Ok (choice, w)) (rest : Left)
               (spaces : rest ≡ spaced w.rest) where
             -- once the code's `result` is done, the test gives what the byte after it decides

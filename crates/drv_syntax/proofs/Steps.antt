@@ -10,12 +10,12 @@ use Rattle.std.specs.Prelude.{◌==◌}
 -- text (Meant): whether a part is taken depends on its bytes and on how the rest begins, not on the whole rest. Descent is the grammar as
 -- functions (specs/Descent).
 
--- texts that begin alike
+-- texts that begin with one byte in common, or are both empty
 pub data Near : List ℕ → List ℕ → Type 0 where
   both_end : Near [] []
   same_byte : {b : ℕ} {u q : List ℕ} → Near (b ∷ u) (b ∷ q)
 
--- and go on alike after a percent sign
+-- texts that begin with one byte in common and, after a percent sign, with one more, or are both empty
 pub data Far : List ℕ → List ℕ → Type 0 where
   far_end : Far [] []
   far_other : {b : ℕ} {u q : List ℕ} → (b == ascii.percent) ≡ false → Far (b ∷ u) (b ∷ q)
@@ -37,12 +37,12 @@ pub far_self : (u : List ℕ) → Far u u
 far_self [] = far_end
 far_self (b ∷ u) = far_more (near_self u)
 
--- where texts begin alike and one doesn't begin with such a byte, neither does the other
+-- where texts begin alike and one doesn't begin with a byte of the class f, neither does the other
 pub near_stops : {f : ℕ → Bool} {u q : List ℕ} → Near u q → s.Stops f u → s.Stops f q
 near_stops both_end h = s.at_end
 near_stops same_byte (s.at_byte e) = s.at_byte e
 
--- so much of a text, and the same bytes with another rest after them
+-- a part took so many bytes of a text: `front q` is those bytes with q in the place of what is left
 pub record Step (text : List ℕ) (size : ℕ) : Type 0 where
   pub front : List ℕ → List ℕ
   pub whole : front (drop size text) ≡ text
@@ -50,7 +50,7 @@ pub record Step (text : List ℕ) (size : ℕ) : Type 0 where
   pub sized : (q : List ℕ) → length (front q) ≡ size + length q
   pub near : (q : List ℕ) → Near (drop size text) q → Near text (front q)
 
--- no byte of the text
+-- the step over no byte: what is put in the place of the rest is the whole text
 abbrev pub no_step : (text : List ℕ) → Step text 0
 no_step text = record {
   front = λ q. q;
@@ -60,7 +60,7 @@ no_step text = record {
   near = λ q n. n;
 }
 
--- the first byte of the text
+-- the step over the first byte of the text
 abbrev pub byte_step : (b : ℕ) (text : List ℕ) → Step (b ∷ text) 1
 byte_step b text = record {
   front = λ q. b ∷ q;
@@ -70,8 +70,9 @@ byte_step b text = record {
   near = λ q n. same_byte;
 }
 
+-- a step m over k bytes of a text
 module _ {text : List ℕ} (k : ℕ) (m : Step text k) where
-  -- a step, and one from there
+  -- a step and then one over what is left are one step over both
   abbrev pub steps : (size : ℕ) → Step (drop k text) size → Step text (k + size)
   steps size r = record {
     front = λ q. m.front (r.front q);
@@ -87,7 +88,7 @@ module _ {text : List ℕ} (k : ℕ) (m : Step text k) where
   pub dropped : (b : ℕ) (rest : List ℕ) → drop k text ≡ b ∷ rest → drop (k + 1) text ≡ rest
   dropped b rest e = sym (drop-drop 1 k text) ∙ ap (λ (t : List ℕ). drop 1 t) e
 
-  -- a step, and the byte there
+  -- a step and then one over the byte there are one step over both
   abbrev pub then_byte : (b : ℕ) (rest : List ℕ) → drop k text ≡ b ∷ rest → Step text (k + 1)
   then_byte b rest e = record {
     front = λ q. m.front (b ∷ q);
@@ -98,7 +99,7 @@ module _ {text : List ℕ} (k : ℕ) (m : Step text k) where
     near = λ q n. m.near (b ∷ q) (subst (λ (t : List ℕ). Near t (b ∷ q)) (sym e) same_byte);
   }
 
--- the step of another size that is the same
+-- a step with another number for its size that is equal to it
 abbrev pub resized : {text : List ℕ} {size : ℕ} (other : ℕ) → size ≡ other → Step text size → Step text other
 resized {text} other e m = record {
   front = m.front;

@@ -51,10 +51,11 @@ name_ends at n done (b ∷ t) h =
     let e : is_function_front ((done ++ b ∷ []) ++ t) ≡ true = ap is_function_front g ∙ h in
     rw (front_front (done ++ b ∷ []) t e) (ap (λ r. past 1 r) (name_ends at (n + 1) (done ++ b ∷ []) t e))
 
--- the lists in it are cut, too
+-- a text that ends in a list with this context is cut there: what is known of the lists inside
 abbrev pub ListEnds : ℕ → Lists → ListContext → Type 0
 ListEnds size lists c = (n : ℕ) (text : List ℕ) → AreFrontItems size c text → At size n text → (inner : ℕ) × (lists c n text ≡ Ends inner)
 
+-- the braces of a directive whose % has the place `at`, in a list with the context c
 module _ (deep : Lists) (c : ListContext) (at : ℕ) where
   -- what a test asks is cut, or is all that is left
   abbrev pub Out : Bool → ℕ → List ℕ → Type 0
@@ -139,7 +140,7 @@ module _ (deep : Lists) (c : ListContext) (at : ℕ) where
       from_ends deep c at AtFront start false n (operates deep c at n (s.unstarred i e) (follows (inl h))).2 (s.space h z)
   pattern_out start n (s.starred i) z = from_ends deep c at AtFront start false n (starred_operates deep c at n i).2 z
 
-  -- the test that a text ends in
+  -- where the text ends in what a test asks, it ends in the tests
   test_ends : (order : Order) {t u v : List ℕ} {negated : Bool} (n : ℕ) → AreSpaces t u → IsSign u negated v → s.Stops is_white v
       → ((start m : ℕ) → n + length t ≡ m + length v → d.asked_from deep c at order start negated m v ≡ Ends at)
       → d.tests deep c at order n 0 t ≡ Ends at
@@ -157,6 +158,7 @@ module _ (deep : Lists) (c : ListContext) (at : ℕ) where
       test_ends AtFront n sp (s.plain_sign (pattern_head no_sign i)) (pattern_head no_white i) (λ start m e. pattern_out start m i z)
   first_ends n (cuts.after_and sp i z o) = emit_fails deep c at (AtEnd at) n sp i z (λ m e. patterns_end at m o)
 
+  -- the arguments of tests are read, and end where the text does
   module _ (size : ℕ) (reads : (c.levels - 1 == 0) ≡ false → ListReads size deep (in_arguments (in_braces c)))
       (ends : (c.levels - 1 == 0) ≡ false → ListEnds size deep (in_arguments (in_braces c))) where
     -- where by the grammar the text ends in what a test asks, Descent ends there, or has read a test up to the end

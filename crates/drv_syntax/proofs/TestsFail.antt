@@ -38,6 +38,7 @@ use Rattle.std.specs.Prelude.{◌-◌, ◌==◌, None, Option}
 
 -- what is known of the byte after a test
 
+-- a test that was read at this place of the braces, and the byte b after it
 module _ (at : ℕ) (order : Order) (place : Span) (negated : Bool) (o : Operand) (b : ℕ) where
   -- the test with this byte after it
   abbrev tried : Tried
@@ -100,7 +101,7 @@ not_emitted place false goes = refl
 
 -- in a text of which the last byte, at the place k, doesn't fit, and more bytes follow
 module _ (k : ℕ) (q : List ℕ) where
-  -- lists stop there
+  -- all lists with this context stop at the byte that doesn't fit: what is known of the lists inside
   abbrev pub ListFails : Lists → ListContext → Type 0
   ListFails lists c =
       (due : Due) (last : List ℕ) (fault : SyntaxFault) (n : ℕ) (t : List ℕ) → Reaches (k + 1) c t due last → Refuses (k + 1) due last fault
@@ -123,6 +124,7 @@ module _ (k : ℕ) (q : List ℕ) where
       patterns.and_fails at (AtByte k fault) n (spaces_longer q sp) (pattern_longer q i (spaces_filled z tt)) (spaces_longer q z)
       (λ m p. patterns_fail m o h (omega (arith, place, p, length-append t q, length-append w q)))
 
+  -- the braces of a directive whose % has the place `at`, in a list with the context c
   module _ (deep : Lists) (c : ListContext) (at : ℕ) where
     -- where the byte after a test doesn't fit, Descent stops at it
     byte_stops : (order : Order) (n : ℕ) {t x : List ℕ} {place : Span} {negated : Bool} {o : Operand} {b : ℕ} {fault : SyntaxFault}
@@ -225,6 +227,7 @@ module _ (k : ℕ) (q : List ℕ) where
 
     -- tests
 
+    -- the arguments of tests are read, and fail at the byte that doesn't fit
     module _ (reads : (c.levels - 1 == 0) ≡ false → ListReads (k + 1 + length q) deep (in_arguments (in_braces c)))
         (fails : (c.levels - 1 == 0) ≡ false → ListFails deep (in_arguments (in_braces c))) where
       -- a byte that is in no word is no mark
@@ -290,6 +293,7 @@ module _ (k : ℕ) (q : List ℕ) where
           ∙ ap (λ (y : Bool). past 1 (d.mark_end at y mark (m + 1) (x ∷ word) z.size (42 ∷ q))) e
           ∙ ap (λ (i : ℕ). Stops i (BadDirective at)) there
 
+      -- white space before a test, and the byte b after it, which ends no test
       module _ (order : Order) {t u : List ℕ} {negated : Bool} {b : ℕ} (n : ℕ) (sp : AreSpaces t u) (white : is_white b ≡ false)
           (h : is_of ends_test b ≡ false) (place : n + length t ≡ k + length (b ∷ q)) where
         -- after a test that was read and can be no pattern, Descent stops at a byte that ends no test

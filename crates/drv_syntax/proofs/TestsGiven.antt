@@ -66,6 +66,7 @@ abbrev form_then : {Z : Type 0} → Result MarkForm SyntaxFault → (MarkForm �
 form_then (Ok form) f = Ok (f form)
 form_then (Err fault) f = Err fault
 
+-- a test that begins with a mark, in braces whose % has the place `at`; v is what was read up to the mark
 module _ (outer : Option ℕ) (at : ℕ) (emits : Bool) (mark : ℕ) (v : Reading) where
   -- what the test may be, with this rest and nothing written
   abbrev as_operand : Operand → Left → Operand × Reading
@@ -202,6 +203,7 @@ module _ (outer : Option ℕ) (at : ℕ) (emits : Bool) (mark : ℕ) (v : Readin
 
 -- what a test asks that asks for no function's result
 
+-- a test whose first byte is b, in braces whose % has the place `at`; v is what was read before it
 module _ (deep : Lists) (c : ListContext) (outer : Option ℕ) (at : ℕ) (emits : Bool) (v : Reading) (b : ℕ)
     (is : first_of v.rest.bytes ≡ Some b) where
   -- what a test gives on these bytes
@@ -239,6 +241,7 @@ module _ (deep : Lists) (c : ListContext) (outer : Option ℕ) (at : ℕ) (emits
 
 -- a test and the byte after it
 
+-- a test without a function, in braces whose % has the place `at`; it begins at `start`, and v is what was read before what it asks
 module _ (deep : Lists) (c : ListContext) (outer : Option ℕ) (at : ℕ) (order : Order) (so_far : Option Choice) (start : ℕ) (negated : Bool)
     (v : Reading) where
   -- what a test that was read and then white space give, by the byte after them

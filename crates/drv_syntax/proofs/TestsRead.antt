@@ -94,6 +94,7 @@ pub one_more : {size : ℕ} {g : ListContext} {t rest : List ℕ} {others : Test
 one_more place negated a (s.last_test sp x sign i y z) = refl
 one_more place negated a (s.next_test sp x sign i y z o) = refl
 
+-- the braces of a directive whose % has the place `at`, in a list with the context c
 module _ (deep : Lists) (c : ListContext) (at : ℕ) where
   -- what begins with a mark is read by the word after the mark
   pub mark_is : (emits : Bool) (n mark : ℕ) (t : List ℕ) → is_mark mark ≡ true
@@ -130,6 +131,7 @@ module _ (deep : Lists) (c : ListContext) (at : ℕ) where
   asked_reads ih emits n {rest = rest} (s.result {text = text} {name = name} {arguments = items} i) e place =
       result_reads deep c at emits (ih (call_level i)) n text name rest items i place
 
+  -- `order` is the place of the test in the braces
   module _ (order : Order) where
     -- what Descent makes of a test after its sign
     abbrev from : ℕ → Bool → ℕ → List ℕ → Read Tried
@@ -191,7 +193,7 @@ module _ (deep : Lists) (c : ListContext) (at : ℕ) where
         ∙ ap (λ (t : List ℕ). past m.size (d.ended at (span start (n + m.size)) negated o t)) m.left
         ∙ ap (λ r. past m.size r) (no_end at (span start (n + m.size)) negated o sp)
 
-    -- tests, at their first
+    -- tests begin with one test, and go on by the byte after it, also where the text has no byte
     tests_open : (n : ℕ) (t : List ℕ) → d.tests deep c at order n 0 t
         ≡ then_read (d.one_test deep c at order n t) (λ tr k.
         d.test_go (d.after at order tr) n k (d.patterns at n (suc k) t) (d.tests deep c at AtBar n (suc k) t))
@@ -293,6 +295,7 @@ module _ (deep : Lists) (c : ListContext) (at : ℕ) where
       let k = asking order ih n sp sign i z refl refl place in
       there (omega (arith, place, x, k.begins)) (omega (arith, place, y, k.ends)) (last_reads order k)
     where
+      -- A reading with other ends of the span, which are equal, is that of this test.
       there : {f l : ℕ} → f ≡ first → l ≡ last → Reads (d.tests deep c at order n 0 t) t (Alternative (span f l) negated a no_test)
           (58 ∷ mid)
           → Reads (d.tests deep c at order n 0 t) t (Alternative (span first last) negated a no_test) (58 ∷ mid)

@@ -28,7 +28,7 @@ spelled_there level e text items i = (levels_both (length text) level).0.0 top (
 pub spelled_is_read : (text : List ℕ) (items : Items) → Spells text items → read text ≡ Got items
 spelled_is_read text items i = ap (λ r. outcome r) (spelled_there (depth text) (depth_is text) text items i).is
 
--- a text has one tree
+-- a text has one tree at most, for Descent gives each tree that the grammar has
 pub only_tree : (text : List ℕ) (a b : Items) → Spells text a → Spells text b → a ≡ b
 only_tree text a b i j = same_tree (sym (spelled_is_read text a i) ∙ spelled_is_read text b j)
   where

@@ -64,7 +64,7 @@ quoted_stop : (f : ℕ → Bool) (b : ℕ) (text : List ℕ) → (b == ascii.bac
 quoted_stop f b [] e g = rw (e, g) refl
 quoted_stop f b (c ∷ text) e g = rw (e, g) refl
 
--- a word, and this rest
+-- a run of bytes and escapes that ends: its word, and what is left after it
 abbrev found : List ℕ → Left → Reading → Option (List ℕ) × Reading
 found word rest v = (Some word, at_rest rest v)
 
@@ -385,6 +385,7 @@ leaf_is kind label start end z =
 
 -- after the name of a text
 
+-- a named text's name: k bytes of what is left are those of a name, and they are taken as `name`
 module _ (outer : Option ℕ) (at start : ℕ) (v : Reading) (k : ℕ) (name : List ℕ) (rest : Left)
     (whole : k ≡ prefix_len is_name_byte v.rest.bytes)
     (short : k ≤ 255) (left : rest ≡ after k v.rest) (taken : name ≡ take k v.rest.bytes) where

@@ -43,7 +43,7 @@ or_assoc : (a b c : Bool) → (a || (b || c)) ≡ ((a || b) || c)
 or_assoc true b c = refl
 or_assoc false b c = refl
 
--- no parts write nothing
+-- no parts and no %* change nothing that is written
 pub wrote_none : (z : Parts) → wrote no_node false z ≡ z
 wrote_none z = same_parts (append-nil z.tokens) (append-nil z.labels) (or_none z.holds)
 

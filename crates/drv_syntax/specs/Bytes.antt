@@ -5,7 +5,7 @@ use Rattle.std.specs.Prelude.{◌==◌, Bool, false, true, if◌then◌else◌, 
 -- The bytes of spec texts by what they can be, and the names of functions (GCC manual, "Spec Files"; the sets of
 -- letters are this project's profile).
 
--- the byte is one of these
+-- the byte is one of these: the sets below are given so
 abbrev pub is_of : List ℕ → ℕ → Bool
 is_of [] b = false
 is_of (x ∷ xs) b = if b == x then true else is_of xs b
@@ -54,6 +54,7 @@ functions =
     codes "version-compare" ∷
     []
 
+-- two names are equal, byte by byte
 abbrev pub is_same : List ℕ → List ℕ → Bool
 is_same [] [] = true
 is_same [] (c ∷ q) = false
@@ -66,12 +67,15 @@ is_front [] q = true
 is_front (b ∷ p) [] = false
 is_front (b ∷ p) (c ∷ q) = if b == c then is_front p q else false
 
+-- one of these names passes the test f
 abbrev pub any_of : (List ℕ → Bool) → List (List ℕ) → Bool
 any_of f [] = false
 any_of f (x ∷ xs) = if f x then true else any_of f xs
 
+-- the bytes are the name of a function
 abbrev pub is_function : List ℕ → Bool
 is_function name = any_of (is_same name) functions
 
+-- the bytes begin the name of a function, or are the whole of it: only then may one byte more be read
 abbrev pub is_function_front : List ℕ → Bool
 is_function_front name = any_of (is_front name) functions

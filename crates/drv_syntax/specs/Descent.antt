@@ -40,18 +40,19 @@ pub data Read (X : Type 0) : Type 0 where
   Ends : ℕ → Read X
   Stops : ℕ → SyntaxFault → Read X
 
+-- goes on with what was read and with how many bytes it took, unless the text ends there or a byte doesn't fit
 abbrev pub then_read : {X Y : Type 0} → Read X → (X → ℕ → Read Y) → Read Y
 then_read (Took x size) goes = goes x size
 then_read (Ends at) goes = Ends at
 then_read (Stops n fault) goes = Stops n fault
 
--- after so many bytes more
+-- what was read k bytes further on: it took k bytes more of the text
 abbrev pub past : {X : Type 0} → ℕ → Read X → Read X
 past k (Took x size) = Took x (k + size)
 past k (Ends at) = Ends at
 past k (Stops n fault) = Stops n fault
 
--- in a directive whose % has this place: it is not closed if what is in it isn't
+-- reads a list inside a directive whose % has this place: where the text ends in the list, the directive is what isn't closed
 abbrev pub within : {X : Type 0} → ℕ → Read X → Read X
 within at (Took x size) = Took x size
 within at (Ends inner) = Ends at
@@ -62,11 +63,12 @@ pub data Quoted : Type 0 where
   Run : List ℕ → ℕ → Quoted
   Hangs : ℕ → Quoted
 
+-- one more byte before a run, which took so many bytes of the text: 1, or 2 with a backslash
 abbrev pub with_byte : ℕ → ℕ → Quoted → Quoted
 with_byte b taken (Run word size) = Run (b ∷ word) (taken + size)
 with_byte b taken (Hangs size) = Hangs (taken + size)
 
--- the longest run of such bytes and of escapes, where a backslash makes the next byte plain
+-- the longest run of bytes of the class f and of escapes, where a backslash makes the next byte plain
 abbrev pub quoted : (ℕ → Bool) → List ℕ → Quoted
 quoted f [] = Run [] 0
 quoted f (b ∷ []) = if b == ascii.backslash then Hangs 0 else if f b then Run (b ∷ []) 1 else Run [] 0
@@ -75,54 +77,59 @@ quoted f (b ∷ c ∷ text) =
     else if f b then with_byte b 1 (quoted f (c ∷ text))
     else Run [] 0
 
--- %g and its like: the longest suffix, or %O for .o, or none; the text begins at the place n
+-- %g or its like without a suffix of its own, where the byte b at the place n follows: %O for the suffix of objects, or none
 abbrev pub suffix_object : TempKind → ℕ → ℕ → List ℕ → Read Item
 suffix_object kind n b [] = if b == ascii.percent then Ends n else Took (TempName kind []) 0
 suffix_object kind n b (c ∷ text) =
     if b == ascii.percent then (if c == ascii.capital_o then Took (TempName kind (codes ".o")) 2 else Took (TempName kind []) 0)
     else Took (TempName kind []) 0
 
+-- %g and its like: the longest suffix, or %O for .o, or none; the text begins at the place n
 abbrev pub suffix : TempKind → ℕ → List ℕ → Read Item
 suffix kind n [] = Took (TempName kind []) 0
 suffix kind n (b ∷ text) =
     if is_suffix b then Took (TempName kind (b ∷ take (prefix_len is_suffix text) text)) (1 + prefix_len is_suffix text) else suffix_object
     kind n b text
 
--- %x{OPTION}
+-- the brace that closes %x{OPTION}, after this word: an option without bytes doesn't fit
 abbrev pub option_end : ℕ → ℕ → List ℕ → ℕ → List ℕ → Read Item
 option_end at n word size [] = Ends at
 option_end at n [] size (b ∷ rest) = Stops (n + size) (BadDirective at)
 option_end at n (x ∷ word) size (b ∷ rest) = Took (AddOption (x ∷ word)) (size + 1)
 
+-- %x{OPTION} after its opening brace: the option's bytes and escapes, and the brace that closes it
 abbrev pub option_text : ℕ → ℕ → Quoted → List ℕ → Read Item
 option_text at n (Hangs size) text = Ends at
 option_text at n (Run word size) text = option_end at n word size (drop size text)
 
+-- %x{OPTION} after its x: both braces and the option between them
 abbrev pub option : ℕ → ℕ → List ℕ → Read Item
 option at n [] = Ends at
 option at n (b ∷ text) = if b == ascii.opening_brace then past 1 (option_text at (n + 1) (quoted is_option text) text) else Stops n
     (BadDirective at)
 
--- %eTEXT and %nTEXT, up to the end of the line or of the X; the newline belongs to them
+-- the end of a message: a newline after it belongs to it
 abbrev pub saying_end : SayKind → List ℕ → ℕ → List ℕ → Read Item
 saying_end kind word size [] = Took (said kind word) size
 saying_end kind word size (b ∷ rest) = if b == ascii.newline then Took (said kind word) (size + 1) else Took (said kind word) size
 
+-- a message and what ends it; the text may end in an escape, whose backslash is then what isn't closed
 abbrev pub saying_text : SayKind → ℕ → Quoted → List ℕ → Read Item
 saying_text kind n (Hangs size) text = Ends (n + size)
 saying_text kind n (Run word size) text = saying_end kind word size (drop size text)
 
+-- %eTEXT and %nTEXT, up to the end of the line or of the X; the newline belongs to them
 abbrev pub saying : Kind → SayKind → ℕ → List ℕ → Read Item
 saying list kind n text = saying_text kind n (quoted (is_said list) text) text
 
--- %(NAME), of at most 255 bytes
+-- the parenthesis that closes %(NAME), after this name: a name without bytes doesn't fit, nor does another byte
 abbrev pub name_end : ℕ → ℕ → List ℕ → ℕ → List ℕ → Read Item
 name_end at n name size [] = Ends at
 name_end at n [] size (b ∷ rest) = Stops (n + size) (BadDirective at)
 name_end at n (x ∷ name) size (b ∷ rest) = if b == ascii.closing_parenthesis then Took (NamedText (x ∷ name)) (size + 1) else Stops
     (n + size) (BadDirective at)
 
--- after so much of the name
+-- %(NAME), of at most 255 bytes, after so much of the name
 abbrev pub name_from : ℕ → ℕ → List ℕ → List ℕ → Read Item
 name_from at n name [] = Ends at
 name_from at n name (b ∷ text) =
@@ -130,7 +137,7 @@ name_from at n name (b ∷ text) =
     (BadDirective at))
     else name_end at n name 0 (b ∷ text)
 
--- a pattern: a word, a word with a star, or a star alone; in a directive whose % has the place at
+-- the star of a pattern, or none, after this word: a pattern without word and star doesn't fit
 abbrev pub pattern_end : ℕ → ℕ → List ℕ → ℕ → List ℕ → Read Pattern
 pattern_end at n [] size [] = Ends at
 pattern_end at n (x ∷ word) size [] = Took (pattern (x ∷ word) false) size
@@ -138,10 +145,12 @@ pattern_end at n [] size (b ∷ rest) = if b == ascii.asterisk then Took (patter
 pattern_end at n (x ∷ word) size (b ∷ rest) = if b == ascii.asterisk then Took (pattern (x ∷ word) true) (size + 1) else Took
     (pattern (x ∷ word) false) size
 
+-- the word of a pattern, with its escapes, and its star
 abbrev pub pattern_text : ℕ → ℕ → Quoted → List ℕ → Read Pattern
 pattern_text at n (Hangs size) text = Ends at
 pattern_text at n (Run word size) text = pattern_end at n word size (drop size text)
 
+-- a pattern: a word, a word with a star, or a star alone; in a directive whose % has the place at
 abbrev pub pattern_at : ℕ → ℕ → List ℕ → Read Pattern
 pattern_at at n text = pattern_text at n (quoted is_word text) text
 
@@ -163,25 +172,31 @@ pub record Operand : Type 0 where
   pub as_test : Option Asked
   pub bare : Bool
 
+-- a pattern p before the byte that decides: as a pattern of the braces it is p, as a test it asks for a switch that p hits
 abbrev pub switch_operand : Pattern → Operand
 switch_operand p = record { as_pattern = Some p; as_test = Some (HasSwitch p); bare = false }
 
+-- a word after the mark of a test: . asks for a suffix of the input's name, and , for its language
 abbrev pub marked : ℕ → List ℕ → Asked
 marked mark word = if mark == ascii.period then HasSuffix word else HasLanguage word
 
+-- a mark and a word: as a pattern the word has the mark as its first byte, and as a test it asks for the suffix or the language
 abbrev pub marked_operand : ℕ → List ℕ → Operand
 marked_operand mark word = record { as_pattern = Some (pattern (mark ∷ word) false); as_test = Some (marked mark word); bare = false }
 
+-- a mark, a word and a star, which make a pattern alone: no suffix and no language has a star
 abbrev pub starred_operand : ℕ → List ℕ → Operand
 starred_operand mark word = record { as_pattern = Some (pattern (mark ∷ word) true); as_test = None; bare = false }
 
+-- a mark alone, which makes a pattern of one byte; as a test it is empty (`bare` names that fault)
 abbrev pub bare_operand : ℕ → Operand
 bare_operand mark = record { as_pattern = Some (pattern (mark ∷ []) false); as_test = None; bare = true }
 
+-- a test of what a function gives, with its arguments: a test alone, and no pattern
 abbrev pub result_operand : List ℕ → Items → Operand
 result_operand name items = record { as_pattern = None; as_test = Some (HasResult name items); bare = false }
 
--- after the . or , of a test, where the braces may still be patterns
+-- at the byte b after a . or , without a word (n is its place), where the braces may still be patterns
 abbrev pub bare_end : ℕ → ℕ → ℕ → ℕ → Read Operand
 bare_end at mark n b =
     if b == ascii.asterisk then Took (starred_operand mark []) 1
@@ -190,6 +205,7 @@ bare_end at mark n b =
     else if is_white b then Took (bare_operand mark) 0
     else Stops n (EmptyTest at)
 
+-- after a mark and its word: a star, where the braces may still be patterns (`emits`), or whatever follows
 abbrev pub mark_end : ℕ → Bool → ℕ → ℕ → List ℕ → ℕ → List ℕ → Read Operand
 mark_end at emits mark n [] size [] = Ends at
 mark_end at emits mark n (x ∷ word) size [] = Took (marked_operand mark (x ∷ word)) size
@@ -198,15 +214,17 @@ mark_end at emits mark n (x ∷ word) size (b ∷ rest) =
     if b == ascii.asterisk then (if emits then Took (starred_operand mark (x ∷ word)) (size + 1) else Stops (n + size) (BadDirective at))
     else Took (marked_operand mark (x ∷ word)) size
 
+-- a mark's word, with its escapes, and what follows it
 abbrev pub mark_text : ℕ → Bool → ℕ → ℕ → Quoted → List ℕ → Read Operand
 mark_text at emits mark n (Hangs size) text = Ends at
 mark_text at emits mark n (Run word size) text = mark_end at emits mark n word size (drop size text)
 
--- a test of a function's result, whose % has the place n, in such braces; the text is that after the %
+-- after the name of a function that a test asks (called, of k bytes): its arguments, up to the parenthesis that closes them
 abbrev pub result_in : Lists → ListContext → ℕ → List ℕ → List ℕ → ℕ → Read Operand
 result_in deep c n text called k =
     then_read (deep (in_arguments (in_braces c)) (n + k) (drop k text)) (λ list size. Took (result_operand called list.0) (k + (size + 1)))
 
+-- a test %:NAME(ARGUMENTS) after its %, which has the place n; the colon must be there
 abbrev pub result : Lists → ListContext → ℕ → ℕ → List ℕ → Read Operand
 result deep c at n [] = Ends at
 result deep c at n (b ∷ text) =
@@ -228,21 +246,26 @@ pub record Tried : Type 0 where
   pub operand : Operand
   pub byte : ℕ
 
+-- the byte after a test, which isn't counted: it decides what the test is, so the text must not end there
 abbrev pub end_byte : ℕ → Span → Bool → Operand → List ℕ → Read Tried
 end_byte at place negated operand [] = Ends at
 end_byte at place negated operand (b ∷ rest) = Took (record { place = place; negated = negated; operand = operand; byte = b }) 0
 
+-- white space after a test, so many bytes of it, and the byte after that
 abbrev pub ended_after : ℕ → Span → Bool → Operand → ℕ → List ℕ → Read Tried
 ended_after at place negated operand white rest = past white (end_byte at place negated operand (drop white rest))
 
+-- all white space after a test, and the byte after that
 abbrev pub ended : ℕ → Span → Bool → Operand → List ℕ → Read Tried
 ended at place negated operand rest = ended_after at place negated operand (prefix_len is_white rest) rest
 
+-- what a test asks and the byte after it, where the sign (if any) has been read
 abbrev pub asked_from : Lists → ListContext → ℕ → Order → ℕ → Bool → ℕ → List ℕ → Read Tried
 asked_from deep c at order start negated n text =
     then_read (asked deep c at (may_emit order negated) n text)
     (λ operand k. past k (ended at (span start (n + k)) negated operand (drop k text)))
 
+-- a negated test after its !, with white space between them
 abbrev pub negated_after : Lists → ListContext → ℕ → Order → ℕ → ℕ → List ℕ → Read Tried
 negated_after deep c at order start white text = past white (asked_from deep c at order start true (start + 1 + white) (drop white text))
 
@@ -253,32 +276,38 @@ signed deep c at order n (b ∷ text) =
     if b == ascii.exclamation_mark then past 1 (negated_after deep c at order n (prefix_len is_white text) text) else asked_from deep c at
     order n false n (b ∷ text)
 
+-- white space before a test, so many bytes of it, and the test
 abbrev pub spaced : Lists → ListContext → ℕ → Order → ℕ → ℕ → List ℕ → Read Tried
 spaced deep c at order n white text = past white (signed deep c at order (n + white) (drop white text))
 
+-- all white space before a test, the test with its sign, and the byte after it
 abbrev pub one_test : Lists → ListContext → ℕ → Order → ℕ → List ℕ → Read Tried
 one_test deep c at order n text = spaced deep c at order n (prefix_len is_white text) text
 
--- patterns after an ampersand, up to the brace that closes them, which isn't counted; so many bytes of the text are past
+-- the byte after a pattern, which isn't counted
 abbrev pub pattern_byte : ℕ → Span × Pattern → List ℕ → Read ((Span × Pattern) × ℕ)
 pattern_byte at p [] = Ends at
 pattern_byte at p (b ∷ rest) = Took (p, b) 0
 
+-- white space after a pattern, and the byte after that
 abbrev pub pattern_after : ℕ → Span × Pattern → ℕ → List ℕ → Read ((Span × Pattern) × ℕ)
 pattern_after at p white rest = past white (pattern_byte at p (drop white rest))
 
+-- white space, a pattern after an ampersand, white space and the byte after it
 abbrev pub pattern_from : ℕ → ℕ → ℕ → List ℕ → Read ((Span × Pattern) × ℕ)
 pattern_from at n white text =
     past white (then_read (pattern_at at (n + white) (drop white text)) (λ p k.
     past k (pattern_after at (span (n + white) (n + white + k), p) (prefix_len is_white (drop k (drop white text)))
     (drop k (drop white text)))))
 
+-- what the byte after a pattern says: } ends the patterns, & goes on with others, and another doesn't fit
 abbrev pub pattern_go : ℕ → ℕ → (Span × Pattern) × ℕ → ℕ → Read (List (Span × Pattern)) → Read (List (Span × Pattern))
 pattern_go at n p k others =
     if p.1 == ascii.closing_brace then Took (p.0 ∷ []) k
     else if p.1 == ascii.ampersand then then_read others (λ ps size. Took (p.0 ∷ ps) (k + 1 + size))
     else Stops (n + k) (BadDirective at)
 
+-- patterns after an ampersand, up to the brace that closes them, which isn't counted; so many bytes of the text (skip) are past
 abbrev pub patterns : ℕ → ℕ → ℕ → List ℕ → Read (List (Span × Pattern))
 patterns at n skip [] = Ends at
 patterns at n zero (b ∷ text) = then_read (pattern_from at n (prefix_len is_white (b ∷ text)) (b ∷ text))
@@ -293,15 +322,18 @@ pub data After : Type 0 where
   Bars : Span → Bool → Asked → After
   Fails : SyntaxFault → After
 
+-- what was read counts as a pattern, where the braces may be patterns still and it can be one; else the directive is at fault
 abbrev pub as_pattern : ℕ → Span → Bool → Option Pattern → (Span × Pattern → After) → After
 as_pattern at place true (Some p) goes = goes (place, p)
 as_pattern at place true None goes = Fails (BadDirective at)
 as_pattern at place false p goes = Fails (BadDirective at)
 
+-- what was read counts as a test, if it can be one; a mark alone is an empty test, anything else a fault of the directive
 abbrev pub as_test : ℕ → Bool → Option Asked → (Asked → After) → After
 as_test at bare (Some a) goes = goes a
 as_test at bare None goes = Fails (if bare then EmptyTest at else BadDirective at)
 
+-- what the byte after a test decides: } ends patterns, & goes on with them, : ends an alternative's tests, | goes on with tests
 abbrev pub after : ℕ → Order → Tried → After
 after at order t =
     if t.byte == ascii.closing_brace then as_pattern at t.place (may_emit order t.negated) t.operand.as_pattern Emits
@@ -316,10 +348,12 @@ pub data Form : Type 0 where
   Patterns : List (Span × Pattern) → Form
   Alternative : Span → Bool → Asked → Tests → Form
 
+-- one more test before the tests of an alternative
 abbrev pub with_test : Span → Bool → Asked → Form → Form
 with_test place negated a (Patterns ps) = Patterns ps
 with_test place negated a (Alternative next sign b others) = Alternative place negated a (test next sign b others)
 
+-- goes on by what the byte after a test decided: with the patterns or the tests after it, or with neither
 abbrev pub test_go : After → ℕ → ℕ → Read (List (Span × Pattern)) → Read Form → Read Form
 test_go (Emits p) n k ps others = Took (Patterns (p ∷ [])) k
 test_go (Joins p) n k ps others = then_read ps (λ rest size. Took (Patterns (p ∷ rest)) (k + 1 + size))
@@ -327,6 +361,7 @@ test_go (Asks place negated a) n k ps others = Took (Alternative place negated a
 test_go (Bars place negated a) n k ps others = then_read others (λ form size. Took (with_test place negated a form) (k + 1 + size))
 test_go (Fails fault) n k ps others = Stops (n + k) fault
 
+-- what braces begin with, from the place n on; so many bytes of the text (skip) are past
 abbrev pub tests : Lists → ListContext → ℕ → Order → ℕ → ℕ → List ℕ → Read Form
 tests deep c at order n skip [] = Ends at
 tests deep c at order n zero (b ∷ text) =
@@ -334,39 +369,43 @@ tests deep c at order n zero (b ∷ text) =
     (λ t k. test_go (after at order t) n k (patterns at (n + 1) k text) (tests deep c at AtBar (n + 1) k text))
 tests deep c at order n (suc skip) (b ∷ text) = tests deep c at order (n + 1) skip text
 
--- the inside of braces, with the brace that closes them
+-- one more alternative, with its colon's place, tests and X, before the alternatives after it
 abbrev pub with_choice : ℕ → Tests → Items → Brace → Brace
 with_choice colon asks items (Emit ps) = Emit ps
 with_choice colon asks items (Choose others) = Choose (alternative colon asks items others)
 
--- the X of an alternative, whose colon has the place n, and what comes after it
+-- after the X of an alternative without tests, whose colon has the place n: only the closing brace may follow it
 abbrev pub default_go : ℕ → ℕ → Items × ℕ → ℕ → Read Brace
 default_go at n x size = if x.1 == ascii.closing_brace then Took (Choose (alternative n no_test x.0 no_choice)) (1 + size + 1) else Stops
     (n + 1 + size) (EmptyTest at)
 
+-- after the X of an alternative, whose colon has the place n: the closing brace, or a semicolon and the alternatives after it
 abbrev pub x_go : ℕ → Tests → Items × ℕ → ℕ → Read Brace → Read Brace
 x_go n asks x size others =
     if x.1 == ascii.closing_brace then Took (Choose (alternative n asks x.0 no_choice)) (1 + size + 1)
     else then_read others (λ brace more. Took (with_choice n asks x.0 brace) (1 + size + 1 + more))
 
--- the colon of a default is there
+-- whether an alternative without tests begins here: only after a semicolon, where a colon comes first
 abbrev pub is_default_at : Order → List ℕ → Bool
 is_default_at AtFront text = false
 is_default_at AtBar text = false
 is_default_at AtNext [] = false
 is_default_at AtNext (b ∷ text) = b == ascii.colon
 
+-- white space, the colon of an alternative without tests, its X and the closing brace
 abbrev pub default : Lists → ListContext → ℕ → ℕ → ℕ → List ℕ → Read Brace
 default lists c at n white text =
     past white (then_read (within at (lists (in_x (in_braces c) no_test) (n + white + 1) (drop (white + 1) text)))
     (λ x size. default_go at (n + white) x size))
 
+-- after the tests of an alternative: its X and the alternatives after it; or after patterns, the closing brace
 abbrev pub form_go : Lists → ListContext → ℕ → ℕ → List ℕ → Form → ℕ → (ℕ → Read Brace) → Read Brace
 form_go lists c at n text (Patterns ps) k others = Took (Emit ps) (k + 1)
 form_go lists c at n text (Alternative place negated a asks) k others =
     then_read (within at (lists (in_x (in_braces c) (test place negated a asks)) (n + k + 1) (drop (k + 1) text))) (λ x size.
     past k (x_go (n + k) (test place negated a asks) x size (others (k + 1 + size))))
 
+-- the inside of braces, with the brace that closes them; so many bytes of the text (skip) are past
 abbrev pub choices : Lists → Lists → ListContext → ℕ → Order → ℕ → ℕ → List ℕ → Read Brace
 choices lists deep c at order n skip [] = Ends at
 choices lists deep c at order n zero (b ∷ text) =
@@ -376,31 +415,36 @@ choices lists deep c at order n zero (b ∷ text) =
     (λ form k. form_go lists c at n (b ∷ text) form k (λ skip. choices lists deep c at AtNext (n + 1) skip text))
 choices lists deep c at order n (suc skip) (b ∷ text) = choices lists deep c at order (n + 1) skip text
 
+-- %{..} after its opening brace, as an item of this kind
 abbrev pub braces : Lists → Lists → ListContext → ℕ → BraceKind → ℕ → List ℕ → Read Item
 braces lists deep c at kind n text = then_read (choices lists deep c at AtFront n 0 text) (λ brace size. Took (braced kind brace) size)
 
+-- %W or %@ with its braces, after its letter: an opening brace must come first
 abbrev pub marked_braces : Lists → Lists → ListContext → ℕ → BraceKind → ℕ → List ℕ → Read Item
 marked_braces lists deep c at kind n [] = Ends at
 marked_braces lists deep c at kind n (b ∷ text) = if b == ascii.opening_brace then past 1 (braces lists deep c at kind (n + 1) text) else
     Stops n (BadDirective at)
 
--- a function's name and its arguments, with the parenthesis that closes them
+-- a function's arguments, up to the parenthesis that closes them, after its name of k bytes
 abbrev pub call_in : Lists → ListContext → ℕ → List ℕ → List ℕ → ℕ → Read Item
 call_in lists c n text called k = then_read (lists (in_arguments c) (n + k) (drop k text))
     (λ list size. Took (Function called list.0) (k + (size + 1)))
 
+-- %:NAME(ARGUMENTS) after its colon, as an item: the name, the arguments, and both parentheses
 abbrev pub call : Lists → ListContext → ℕ → ℕ → List ℕ → Read Item
 call lists c at n text = within at (then_read (function_from at n [] text) (call_in lists c n text))
 
+-- %* in a list: it fits only in an X whose tests are all starred patterns
 abbrev pub star : ℕ → ℕ → Owner → Read Item
 star at n Nobody = Stops n (StarOutside at)
 star at n Mixed = Stops n (MixedStar at)
 star at n Starred = Took Star 0
 
+-- a directive that holds a list fits only where the text may nest one level more
 abbrev pub nested : ℕ → ℕ → ℕ → Read Item → Read Item
 nested levels at n inside = if levels == 0 then Stops n (TooNested at) else inside
 
--- after a directive's byte, which has the place n
+-- what follows a directive's byte, which has the place n, by what that byte says
 abbrev pub directive_by : Lists → Lists → ListContext → ℕ → ℕ → Directive → List ℕ → Read Item
 directive_by lists deep c at n Nowhere text = Stops n (BadDirective at)
 directive_by lists deep c at n (Whole leaf) text = Took (Leaf leaf) 0
@@ -415,13 +459,14 @@ directive_by lists deep c at n WithCall text = nested c.levels at n (call lists 
 directive_by lists deep c at n WithBraces text = nested c.levels at n (braces lists deep c at InPlace (n + 1) text)
 directive_by lists deep c at n (WithMarkedBraces kind) text = nested c.levels at n (marked_braces lists deep c at kind (n + 1) text)
 
--- after the % of an item, which has the place at
+-- what follows the % of an item, which has the place at: a byte that the list allows, and the rest of the directive
 abbrev pub directive : Lists → Lists → ListContext → ℕ → List ℕ → Read Item
 directive lists deep c at [] = Ends at
 directive lists deep c at (b ∷ text) =
     if is_allowed c.in_arguments b then past 1 (directive_by lists deep c at (at + 1) (directive_of b) text) else Stops (at + 1)
     (BadDirective at)
 
+-- the byte after a backslash, which has the place n: it is plain
 abbrev pub escape : ℕ → List ℕ → Read Item
 escape n [] = Ends n
 escape n (b ∷ text) = Took (Escape b) 1
@@ -436,19 +481,21 @@ item lists deep c n b text =
     else if b == ascii.bar then Took (bar_in c.in_arguments) 0
     else Took (Plain b) 0
 
--- the byte ends the list
+-- whether the byte b ends a list of this kind; a backslash and a % never do
 abbrev pub ends_list : Kind → ℕ → Bool
 ends_list kind b = if b == ascii.backslash then false else if b == ascii.percent then false else is_end kind b
 
+-- one item, which took k bytes after its first, before the items after it
 abbrev pub item_go : ℕ → Item → ℕ → Read (Items × ℕ) → Read (Items × ℕ)
 item_go n one k others = then_read others (λ list size. Took (more (span n (n + 1 + k)) one list.0, list.1) (1 + k + size))
 
+-- the text's end in a list: a whole text ends with it (0 is then the byte after it), and any other list isn't closed
 abbrev pub list_end : Kind → ℕ → Read (Items × ℕ)
 list_end Top n = Took (none, 0) 0
 list_end InX n = Ends n
 list_end InArguments n = Ends n
 
--- a list of items, up to the byte that ends it, which isn't counted; so many bytes of the text are past
+-- the items of a list, up to the byte that ends it, which isn't counted; so many bytes of the text (skip) are past
 abbrev pub items_with : Lists → Lists → ListContext → ℕ → ℕ → List ℕ → Read (Items × ℕ)
 items_with lists deep c n skip [] = list_end c.kind n
 items_with lists deep c n zero (b ∷ text) =
@@ -456,6 +503,7 @@ items_with lists deep c n zero (b ∷ text) =
     else then_read (item lists deep c n b text) (λ one k. item_go n one k (items_with lists deep c (n + 1) k text))
 items_with lists deep c n (suc skip) (b ∷ text) = items_with lists deep c (n + 1) skip text
 
+-- lists that the last level allowed would hold: none is read, for `nested` refuses what would hold it
 abbrev pub no_lists : Lists
 no_lists c n text = Ends n
 

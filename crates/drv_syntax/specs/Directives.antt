@@ -17,7 +17,8 @@ use Rattle.drv_syntax.specs.declared.token.Leaf.TheVariants.{PreprocessorOptions
 use Rattle.drv_syntax.specs.declared.token.TempKind.TheVariants.{Last, New, PipedIn, PipedOut, Shared}
 use Rattle.std.specs.Prelude.{◌==◌, Bool, false, true, if◌then◌else◌, List, [], ◌∷◌, ◌++◌, codes, ℕ}
 
--- The directives, by the byte after their % (GCC manual, "Spec Files").
+-- The directives, by the byte after their % (GCC manual, "Spec Files"). A new one has a row here and in src/directives.rt, a meaning in
+-- drv_machine (specs/Atoms), and, if it holds parts, a case in Spelling, Fronts, Refusals and Descent.
 
 -- a row of a table by bytes, for the byte that this text is
 abbrev pub on : {X : Type 0} → List ℕ → X → ℕ × X
@@ -50,7 +51,7 @@ file_directives =
     on (codes "T") (Whole FoundScript) ∷  -- %T
     []
 
--- and those of options and texts, with an inside or without one
+-- what each goes on with, in the order of the manual: the directives of options and texts, with an inside or without one
 abbrev pub text_directives : List (ℕ × Directive)
 text_directives =
     on (codes "e") (WithSaying AsError) ∷  -- %eTEXT
@@ -80,12 +81,15 @@ text_directives =
     on (codes "@") (WithMarkedBraces IntoArgumentsFile) ∷  -- %@{..}
     []
 
+-- what a byte after % says among the directives of options and texts; `Nowhere` for a byte that is none of them
 abbrev pub text_directive_of : ℕ → Directive
 text_directive_of b = found Nowhere text_directives b
 
+-- all directives, in the order of the manual
 abbrev pub directives : List (ℕ × Directive)
 directives = file_directives ++ text_directives
 
+-- what a byte after % says; `Nowhere` for a byte that is no directive
 abbrev pub directive_of : ℕ → Directive
 directive_of b = found Nowhere directives b
 
@@ -107,12 +111,13 @@ text_of Preprocessor = codes "cpp"
 text_of Compiler = codes "cc1"
 text_of CompilerPlus = codes "cc1plus"
 
--- the item of braces, and that of a text for the user
+-- the item that braces are, by what is before them: nothing, W or @
 abbrev pub braced : BraceKind → Brace → Item
 braced InPlace brace = Braces brace
 braced IntoFailureFile brace = FailureFile brace
 braced IntoArgumentsFile brace = ArgumentsFile brace
 
+-- the item that a text for the user is: of %e an error, of %n a notice
 abbrev pub said : SayKind → List ℕ → Item
 said AsError text = UserError text
 said AsNotice text = Notice text

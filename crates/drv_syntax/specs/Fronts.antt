@@ -13,17 +13,17 @@ use Rattle.drv_syntax.specs.declared.token.TempKind.{TempKind}
 use Rattle.std.specs.Prelude.{◌≡◌, ◌≤◌, ◌==◌, Bool, false, true, List, [], ◌∷◌, ◌++◌, length, ℕ}
 
 -- The fronts of spec texts: the cases of the grammar, each with its last part whole or cut short at any byte (GCC manual,
--- "Spec Files"; this project's profile). A family says of a text that it is such a front up to its end. Nothing is said
+-- "Spec Files"; this project's profile). A family says of a text that it is a front of its case up to its end. Nothing is said
 -- of texts that could follow.
 
--- such bytes and escapes up to the end of the text; the last backslash may lack its byte
+-- bytes of the class f and escapes up to the end of the text; the last backslash may lack its byte
 pub data RunsOut (f : ℕ → Bool) : List ℕ → Type 0 where
   out_end : RunsOut f []
   out_backslash : RunsOut f (ascii.backslash ∷ [])
   out_escape : {b : ℕ} {text : List ℕ} → RunsOut f text → RunsOut f (ascii.backslash ∷ b ∷ text)
   out_byte : {b : ℕ} {text : List ℕ} → (b == ascii.backslash) ≡ false → f b ≡ true → RunsOut f text → RunsOut f (b ∷ text)
 
--- patterns, without the brace that closes them
+-- patterns that are cut short: the text ends in one, after one, or in those after an ampersand
 pub data CutsPatterns : List ℕ → Type 0 where
   in_pattern : {t u : List ℕ} → AreSpaces t u → RunsOut is_word u → CutsPatterns t
   after_pattern : {t u v : List ℕ} {p : Pattern} → AreSpaces t u → IsPattern u p v → AreSpaces v [] → CutsPatterns t
@@ -31,21 +31,21 @@ pub data CutsPatterns : List ℕ → Type 0 where
       → CutsPatterns t
 
 mutual
-  -- items, of which the last may be cut
+  -- the items of a list that are cut short: all are whole, or the text ends in the last one
   pub data AreFrontItems (size : ℕ) : ListContext → List ℕ → Type 0 where
     items_end : {c : ListContext} → AreFrontItems size c []
     whole_item : {c : ListContext} {text rest : List ℕ} {item : Item} → IsItem size c text item rest → AreFrontItems size c rest
         → AreFrontItems size c text
     cut_item : {c : ListContext} {text : List ℕ} → CutsItem size c text → AreFrontItems size c text
 
-  -- an item without its end
+  -- an item that is cut short: a backslash or a % alone, or a directive
   pub data CutsItem (size : ℕ) : ListContext → List ℕ → Type 0 where
     cut_escape : {c : ListContext} → CutsItem size c (ascii.backslash ∷ [])
     cut_percent : {c : ListContext} → CutsItem size c (ascii.percent ∷ [])
     cut_directive : {c : ListContext} {b : ℕ} {text : List ℕ} → is_allowed c.in_arguments b ≡ true
         → CutsDirective size c (directive_of b) text → CutsItem size c (ascii.percent ∷ b ∷ text)
 
-  -- after the byte of a directive
+  -- a directive that is cut short after its byte
   pub data CutsDirective (size : ℕ) : ListContext → Directive → List ℕ → Type 0 where
     cut_suffix : {c : ListContext} {kind : TempKind} → CutsDirective size c (WithSuffix kind) (ascii.percent ∷ [])
     cut_option : {c : ListContext} → CutsDirective size c WithOption []
@@ -62,19 +62,19 @@ mutual
     cut_marked_braces : {c : ListContext} {kind : BraceKind} {text : List ℕ} → CutsBrace size c text
         → CutsDirective size c (WithMarkedBraces kind) (ascii.opening_brace ∷ text)
 
-  -- a function's name, or its name and arguments without the parenthesis that closes them
+  -- a function that is cut short: the text ends in its name, or in its arguments
   pub data CutsCall (size : ℕ) : ListContext → List ℕ → Type 0 where
     in_function : {c : ListContext} {text : List ℕ} → (c.levels == 0) ≡ false → is_function_front text ≡ true → CutsCall size c text
     in_function_arguments : {c : ListContext} {text : List ℕ} (name : List ℕ) → (c.levels == 0) ≡ false → is_function name ≡ true
         → AreFrontItems size (in_arguments c) text
         → CutsCall size c (name ++ ascii.opening_parenthesis ∷ text)
 
-  -- the inside of braces, without the brace that closes them
+  -- braces that are cut short after the opening one: the text ends in patterns, or in alternatives
   pub data CutsBrace (size : ℕ) : ListContext → List ℕ → Type 0 where
     cut_emits : {c : ListContext} {text : List ℕ} → (c.levels == 0) ≡ false → CutsPatterns text → CutsBrace size c text
     cut_chooses : {c : ListContext} {text : List ℕ} → (c.levels == 0) ≡ false → CutsChoices size (in_braces c) text → CutsBrace size c text
 
-  -- alternatives
+  -- alternatives that are cut short: the text ends in the tests or the X of the first, or in those after it
   pub data CutsChoices (size : ℕ) : ListContext → List ℕ → Type 0 where
     in_tests : {c : ListContext} {text : List ℕ} → CutsTests size c text → CutsChoices size c text
     in_choice : {c : ListContext} {text mid : List ℕ} {tests : Tests} → AreTests size c text tests (ascii.colon ∷ mid)
@@ -82,13 +82,13 @@ mutual
     in_others : {c : ListContext} {text mid next : List ℕ} {tests : Tests} {items : Items} → AreTests size c text tests (ascii.colon ∷ mid)
         → AreItems size (in_x c tests) mid items (ascii.semicolon ∷ next) → CutsLater size c next → CutsChoices size c text
 
-  -- alternatives after the first, of which the last may be the default
+  -- alternatives after the first that are cut short, of which the last may be the default
   pub data CutsLater (size : ℕ) : ListContext → List ℕ → Type 0 where
     in_next : {c : ListContext} {text : List ℕ} → CutsChoices size c text → CutsLater size c text
     in_default : {c : ListContext} {text mid : List ℕ} → AreSpaces text (ascii.colon ∷ mid) → AreFrontItems size (in_x c no_test) mid
         → CutsLater size c text
 
-  -- tests, without their colon
+  -- tests that are cut short before their colon: the text ends in what the last one asks, or after it
   pub data CutsTests (size : ℕ) : ListContext → List ℕ → Type 0 where
     in_asked : {c : ListContext} {t u v : List ℕ} {negated : Bool} → AreSpaces t u → IsSign u negated v → CutsAsked size c v
         → CutsTests size c t
@@ -98,13 +98,13 @@ mutual
         → IsAsked size c v asked w → AreSpaces w (ascii.bar ∷ x)
         → CutsTests size c x → CutsTests size c t
 
-  -- what a test asks
+  -- what a test asks, cut short: a word, or a function
   pub data CutsAsked (size : ℕ) : ListContext → List ℕ → Type 0 where
     cut_switch : {c : ListContext} {text : List ℕ} → Stops is_mark text → RunsOut is_word text → CutsAsked size c text
     cut_marked : {c : ListContext} {b : ℕ} {text : List ℕ} → is_mark b ≡ true → RunsOut is_word text → CutsAsked size c (b ∷ text)
     cut_call : {c : ListContext} → (c.levels == 0) ≡ false → CutsAsked size c (ascii.percent ∷ [])
     cut_result : {c : ListContext} {text : List ℕ} → CutsCall size c text → CutsAsked size c (ascii.percent ∷ ascii.colon ∷ text)
 
--- a text is a front of a spec text
+-- the text is a front of a spec text: whole items, of which the last may be cut short
 abbrev pub Front : List ℕ → Type 0
 Front text = AreFrontItems (length text) top text

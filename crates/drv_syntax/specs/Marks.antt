@@ -2,8 +2,10 @@ use Rattle.drv_syntax.specs.Labels.{Label}
 use Rattle.drv_syntax.specs.declared.labels.LabelMark.{LabelMark}
 use Rattle.std.specs.Prelude.{◌-◌, ◌≤◌, List, [], ◌∷◌, drop, map, take, ℕ}
 
--- Labels whose words follow one another (this project's profile).
+-- Labels whose words are in one list of bytes, where each is a stretch (this project's profile). For src/labels.rt, src/lent.rt, and trees
+-- that are written in the code (Written).
 
+-- the label of a mark: its word is a stretch of all words in one list of bytes
 abbrev pub marked_label : List ℕ → LabelMark → Label
 marked_label words m = record {
   word = take (m.end - m.start) (drop m.start words);
@@ -14,6 +16,7 @@ marked_label words m = record {
   holds_star = m.holds_star;
 }
 
+-- the labels of marks, whose words are in one list of bytes
 abbrev pub marked_labels : List ℕ → List LabelMark → List Label
 marked_labels words marks = map (λ m. marked_label words m) marks
 

@@ -14,7 +14,8 @@ use Rattle.drv_syntax.specs.Tree.{Asked, HasResult, Item, Items, Pattern, Tests,
 use Rattle.std.specs.Prelude.{◌≡◌, ◌≤◌, ◌==◌, Bool, false, true, List, [], ◌∷◌, ◌++◌, codes, length, ℕ}
 
 -- Which fault a text is refused for, by the place of its last byte in the grammar. All is over the shortest prefix that is no front: it
--- ends in the byte that no longer fits (GCC manual, "Spec Files"; this project's profile).
+-- ends in the byte that no longer fits (GCC manual, "Spec Files"; this project's profile). `Reaches` and its like lead from the text's front
+-- to its last place, where something is due (`Due`); `Refuses` says with which byte that fails. `size` is the length of the whole text.
 
 -- the place of a test in braces
 pub data Order : Type 0 where
@@ -22,14 +23,14 @@ pub data Order : Type 0 where
   AtNext : Order  -- at the front of a later alternative, which may be the default
   AtBar : Order  -- after a bar
 
--- at a test there, with a ! or without, the braces may still be patterns
+-- whether the braces may still be patterns at a test in this place, with a ! or without
 abbrev pub may_emit : Order → Bool → Bool
 may_emit AtFront false = true
 may_emit AtFront true = false
 may_emit AtNext negated = false
 may_emit AtBar negated = false
 
--- in place of what a test asks there, the byte is the colon of a default
+-- whether the byte is the colon of a default, where a test would begin
 abbrev pub is_default : Order → Bool → ℕ → Bool
 is_default AtFront negated b = false
 is_default AtNext false b = b == ascii.colon
@@ -47,17 +48,19 @@ pub data Due : Type 0 where
   PastMark : ℕ → Due  -- after such a mark and white space
   NoMore : ℕ → Due  -- the end of the braces, after the X of a default
 
--- what may follow a test, a pattern, and what may be either
+-- the bytes that may follow a test
 abbrev pub ends_test : List ℕ
 ends_test = codes ":|"
 
+-- the bytes that may follow a pattern
 abbrev pub ends_pattern : List ℕ
 ends_pattern = codes "}&"
 
+-- the bytes that may follow what may be a test or a pattern
 abbrev pub ends_either : List ℕ
 ends_either = codes ":|}&"
 
--- after an & of patterns, in braces whose % has the place n
+-- patterns after an ampersand, in braces whose % has the place n, lead to a place where this is due
 pub data ReachesPatterns (n : ℕ) : List ℕ → Due → List ℕ → Type 0 where
   pattern_due : {text rest : List ℕ} → AreSpaces text rest → ReachesPatterns n text (APattern n) rest
   pattern_ends : {t u v rest : List ℕ} {p : Pattern} → AreSpaces t u → IsPattern u p v → AreSpaces v rest
@@ -65,7 +68,7 @@ pub data ReachesPatterns (n : ℕ) : List ℕ → Due → List ℕ → Type 0 wh
   after_and : {t u v w rest : List ℕ} {p : Pattern} {due : Due} → AreSpaces t u → IsPattern u p v → AreSpaces v (ascii.ampersand ∷ w)
       → ReachesPatterns n w due rest → ReachesPatterns n t due rest
 
--- in braces that are patterns, or are not alternatives yet
+-- braces that are patterns, or are not alternatives yet, lead to a place where this is due
 pub data ReachesEmits (n : ℕ) : List ℕ → Due → List ℕ → Type 0 where
   starred_ends : {mark : ℕ} {t u v word rest : List ℕ} → AreSpaces t (mark ∷ u) → is_mark mark ≡ true
       → IsPattern (mark ∷ u) (pattern word true) v → AreSpaces v rest
@@ -87,7 +90,7 @@ mutual
         → is_allowed c.in_arguments b ≡ true → ReachesIn size c n (directive_of b) text due rest
         → Reaches size c (ascii.percent ∷ b ∷ text) due rest
 
-  -- after the byte of a directive, whose % has this place
+  -- a directive, whose % has this place, leads after its byte to a place where this is due
   pub data ReachesIn (size : ℕ) : ListContext → ℕ → Directive → List ℕ → Due → List ℕ → Type 0 where
     in_call : {c : ListContext} {n : ℕ} {text rest : List ℕ} {due : Due} (name : List ℕ) → (c.levels == 0) ≡ false → is_function name ≡ true
         → Reaches size (in_arguments c) text due rest
@@ -98,14 +101,14 @@ mutual
         → ReachesBrace size (in_braces c) n text due rest
         → ReachesIn size c n (WithMarkedBraces kind) (ascii.opening_brace ∷ text) due rest
 
-  -- inside braces
+  -- the inside of braces leads to a place where this is due
   pub data ReachesBrace (size : ℕ) : ListContext → ℕ → List ℕ → Due → List ℕ → Type 0 where
     in_emits : {c : ListContext} {n : ℕ} {text rest : List ℕ} {due : Due} → ReachesEmits n text due rest
         → ReachesBrace size c n text due rest
     in_choices : {c : ListContext} {n : ℕ} {text rest : List ℕ} {due : Due} → ReachesChoices size c n AtFront text due rest
         → ReachesBrace size c n text due rest
 
-  -- in alternatives, at the first
+  -- alternatives lead from the first of them to a place where this is due
   pub data ReachesChoices (size : ℕ) : ListContext → ℕ → Order → List ℕ → Due → List ℕ → Type 0 where
     to_tests : {c : ListContext} {n : ℕ} {order : Order} {text rest : List ℕ} {due : Due} → ReachesTests size c n order text due rest
         → ReachesChoices size c n order text due rest
@@ -117,7 +120,7 @@ mutual
         → AreItems size (in_x c tests) mid items (ascii.semicolon ∷ next) → ReachesLater size c n next due rest
         → ReachesChoices size c n order text due rest
 
-  -- in alternatives after the first
+  -- alternatives after the first lead to a place where this is due
   pub data ReachesLater (size : ℕ) : ListContext → ℕ → List ℕ → Due → List ℕ → Type 0 where
     to_next : {c : ListContext} {n : ℕ} {text rest : List ℕ} {due : Due} → ReachesChoices size c n AtNext text due rest
         → ReachesLater size c n text due rest
@@ -127,7 +130,7 @@ mutual
         → AreItems size (in_x c no_test) mid items (ascii.semicolon ∷ rest)
         → ReachesLater size c n text (NoMore n) (ascii.semicolon ∷ rest)
 
-  -- in tests, at the first
+  -- tests of an alternative lead from the first of them to a place where this is due
   pub data ReachesTests (size : ℕ) : ListContext → ℕ → Order → List ℕ → Due → List ℕ → Type 0 where
     in_test : {c : ListContext} {n : ℕ} {order : Order} {t u v rest : List ℕ} {negated : Bool} {due : Due} → AreSpaces t u
         → IsSign u negated v → ReachesAsked size c n order negated v due rest
@@ -136,7 +139,7 @@ mutual
         → AreSpaces t u → IsSign u negated v → IsAsked size c v asked w
         → AreSpaces w (ascii.bar ∷ x) → ReachesTests size c n AtBar x due rest → ReachesTests size c n order t due rest
 
-  -- in a test and after it
+  -- a test leads from what it asks to a place where this is due
   pub data ReachesAsked (size : ℕ) : ListContext → ℕ → Order → Bool → List ℕ → Due → List ℕ → Type 0 where
     asked_due : {c : ListContext} {n : ℕ} {order : Order} {negated : Bool} {rest : List ℕ}
         → ReachesAsked size c n order negated rest (ATest c n order negated) rest
@@ -160,14 +163,14 @@ mutual
         → IsQuoted is_word text (b ∷ word) mid → Stops (λ x. x == ascii.asterisk) mid → AreSpaces mid rest
         → ReachesAsked size c n AtFront false (mark ∷ text) (AnEnd n ends_either) rest
 
--- a directive that opens braces or arguments
+-- the directive opens braces or arguments
 abbrev pub nests : Directive → Bool
 nests WithCall = true
 nests WithBraces = true
 nests (WithMarkedBraces kind) = true
 nests _ = false
 
--- neither a byte of a word, nor an escape, nor a star
+-- the byte begins no pattern: it is neither a byte of a word, nor an escape, nor a star
 abbrev pub Empty : ℕ → Type 0
 Empty b = ((b == ascii.backslash) ≡ false) × (is_word b ≡ false) × ((b == ascii.asterisk) ≡ false)
 

@@ -18,19 +18,20 @@ use Rattle.drv_syntax.specs.declared.token.TempKind.{TempKind}
 use Rattle.std.specs.Prelude.{◌≡◌, ◌≤◌, ◌+◌, ◌==◌, Bool, false, true, List, [], ◌∷◌, ◌++◌, length, codes, ℕ}
 
 -- The grammar of spec texts (GCC manual, "Spec Files"; what that leaves open is this project's profile). A family says of a text what its
--- front is, and what is left after it.
+-- front is, and what is left after it: the first list is the text, and the last one what is left. `size` is the length of the whole text,
+-- by which `At` gives places; letters such as t u v w are the text and what is left of it, part by part.
 
--- the text doesn't begin with such a byte
+-- the text doesn't begin with a byte of the class f
 pub data Stops (f : ℕ → Bool) : List ℕ → Type 0 where
   at_end : Stops f []
   at_byte : {b : ℕ} {rest : List ℕ} → f b ≡ false → Stops f (b ∷ rest)
 
--- the longest run of such bytes
+-- the longest run of bytes of the class f, and what is left after it
 pub data IsRun (f : ℕ → Bool) : List ℕ → List ℕ → List ℕ → Type 0 where
   run_ends : {rest : List ℕ} → Stops f rest → IsRun f rest [] rest
   run_goes : {b : ℕ} {text run rest : List ℕ} → f b ≡ true → IsRun f text run rest → IsRun f (b ∷ text) (b ∷ run) rest
 
--- the longest run of such bytes and of escapes, where a backslash makes the next byte plain
+-- the longest run of bytes of the class f and of escapes, where a backslash makes the next byte plain
 pub data IsQuoted (f : ℕ → Bool) : List ℕ → List ℕ → List ℕ → Type 0 where
   quoted_end : IsQuoted f [] [] []
   quoted_stop : {b : ℕ} {rest : List ℕ} → (b == ascii.backslash) ≡ false → f b ≡ false → IsQuoted f (b ∷ rest) [] (b ∷ rest)
@@ -44,7 +45,7 @@ pub data IsPattern : List ℕ → Pattern → List ℕ → Type 0 where
       → IsPattern text (pattern (b ∷ word) false) rest
   starred : {text word rest : List ℕ} → IsQuoted is_word text word (ascii.asterisk ∷ rest) → IsPattern text (pattern word true) rest
 
--- white space, or none
+-- the text begins with white space, or with none; not all of it need be taken here
 pub data AreSpaces : List ℕ → List ℕ → Type 0 where
   no_space : {rest : List ℕ} → AreSpaces rest rest
   space : {b : ℕ} {text rest : List ℕ} → is_white b ≡ true → AreSpaces text rest → AreSpaces (b ∷ text) rest
@@ -58,17 +59,17 @@ pub data IsSuffix : List ℕ → List ℕ → List ℕ → Type 0 where
   suffix_directive : {b : ℕ} {rest : List ℕ} → (b == ascii.capital_o) ≡ false
       → IsSuffix (ascii.percent ∷ b ∷ rest) [] (ascii.percent ∷ b ∷ rest)
 
--- after the text of %e and %n: its newline, or what else ends it
+-- what ends the text of %e and %n: a newline, which belongs to it, or else a byte that doesn't
 pub data EndsSaying : List ℕ → List ℕ → Type 0 where
   by_newline : {rest : List ℕ} → EndsSaying (ascii.newline ∷ rest) rest
   by_other : {rest : List ℕ} → Stops (λ b. b == ascii.newline) rest → EndsSaying rest rest
 
--- where a list ends
+-- a list of this kind ends here: a whole text at its end, and another before the byte that ends it
 pub data EndsList : Kind → List ℕ → Type 0 where
   text_ends : EndsList Top []
   list_ends : {kind : Kind} {b : ℕ} {rest : List ℕ} → is_end kind b ≡ true → EndsList kind (b ∷ rest)
 
--- a ! or nothing
+-- a test's ! and the white space after it, or none: whether the test is negated
 pub data IsSign : List ℕ → Bool → List ℕ → Type 0 where
   plain_sign : {rest : List ℕ} → Stops (λ b. b == ascii.exclamation_mark) rest → IsSign rest false rest
   not_sign : {text rest : List ℕ} → AreSpaces text rest → IsSign (ascii.exclamation_mark ∷ text) true rest
@@ -77,6 +78,7 @@ pub data IsSign : List ℕ → Bool → List ℕ → Type 0 where
 abbrev pub At : ℕ → ℕ → List ℕ → Type 0
 At size place rest = place + length rest ≡ size
 
+-- the bytes from the place start up to the place end
 abbrev pub span : ℕ → ℕ → Span
 span start end = record { start = start; end = end }
 
@@ -90,12 +92,14 @@ pub data ArePatterns (size : ℕ) : List ℕ → List (Span × Pattern) → List
       → ArePatterns size w ps rest → ArePatterns size t ((span n m, p) ∷ ps) rest
 
 mutual
+  -- the items of a list with this context, up to what ends the list; each has the places where it begins and ends
   pub data AreItems (size : ℕ) : ListContext → List ℕ → Items → List ℕ → Type 0 where
     no_item : {c : ListContext} {rest : List ℕ} → EndsList c.kind rest → AreItems size c rest none rest
     next_item : {c : ListContext} {n m : ℕ} {text mid rest : List ℕ} {item : Item} {items : Items} → At size n text
         → IsItem size c text item mid → At size m mid
         → AreItems size c mid items rest → AreItems size c text (more (span n m) item items) rest
 
+  -- one item of a list with this context, by its first byte
   pub data IsItem (size : ℕ) : ListContext → List ℕ → Item → List ℕ → Type 0 where
     plain : {c : ListContext} {b : ℕ} {rest : List ℕ} → is_plain b ≡ true → is_end c.kind b ≡ false
         → IsItem size c (b ∷ rest) (Plain b) rest
@@ -107,7 +111,7 @@ mutual
         → IsDirective size c (directive_of b) text item rest
         → IsItem size c (ascii.percent ∷ b ∷ text) item rest
 
-  -- what follows the byte of a directive
+  -- a directive as this item, by what follows its byte
   pub data IsDirective (size : ℕ) : ListContext → Directive → List ℕ → Item → List ℕ → Type 0 where
     whole : {c : ListContext} {rest : List ℕ} {leaf : leaf.Leaf} → IsDirective size c (Whole leaf) rest (Leaf leaf) rest
     named : {c : ListContext} {rest : List ℕ} {name : BuiltinName} → IsDirective size c (Named name) rest (BuiltinText (text_of name)) rest
@@ -130,13 +134,13 @@ mutual
     marked_braces : {c : ListContext} {kind : BraceKind} {text rest : List ℕ} {brace : Brace} → IsBrace size c text brace rest
         → IsDirective size c (WithMarkedBraces kind) (ascii.opening_brace ∷ text) (braced kind brace) rest
 
-  -- a function's name and its arguments
+  -- a function's name and its arguments, with both parentheses
   pub data IsCall (size : ℕ) : ListContext → List ℕ → List ℕ → Items → List ℕ → Type 0 where
     call : {c : ListContext} {text name rest : List ℕ} {arguments : Items} → (c.levels == 0) ≡ false → is_function name ≡ true
         → AreItems size (in_arguments c) text arguments (ascii.closing_parenthesis ∷ rest)
         → IsCall size c (name ++ ascii.opening_parenthesis ∷ text) name arguments rest
 
-  -- the inside of braces, and the brace that closes them
+  -- the inside of braces, as patterns or alternatives, and the brace that closes them
   pub data IsBrace (size : ℕ) : ListContext → List ℕ → Brace → List ℕ → Type 0 where
     emits : {c : ListContext} {text rest : List ℕ} {ps : List (Span × Pattern)} → (c.levels == 0) ≡ false → ArePatterns size text ps rest
         → IsBrace size c text (Emit ps) rest
@@ -144,7 +148,7 @@ mutual
         → AreChoices size (in_braces c) text choices rest
         → IsBrace size c text (Choose choices) rest
 
-  -- alternatives
+  -- alternatives of braces: tests, a colon and an X for each, with a semicolon between them and the brace that closes them
   pub data AreChoices (size : ℕ) : ListContext → List ℕ → Choices → List ℕ → Type 0 where
     last_choice : {c : ListContext} (colon : ℕ) {text mid rest : List ℕ} {tests : Tests} {items : Items}
         → AreTests size c text tests (ascii.colon ∷ mid) → At size colon (ascii.colon ∷ mid)
@@ -165,7 +169,7 @@ mutual
         → AreItems size (in_x c no_test) mid items (ascii.closing_brace ∷ rest)
         → AreLater size c text (alternative colon no_test items no_choice) rest
 
-  -- tests, up to their colon
+  -- the tests of an alternative, with a bar between them, up to their colon
   pub data AreTests (size : ℕ) : ListContext → List ℕ → Tests → List ℕ → Type 0 where
     last_test : {c : ListContext} {n m : ℕ} {t u v w rest : List ℕ} {negated : Bool} {asked : Asked} → AreSpaces t u → At size n u
         → IsSign u negated v → IsAsked size c v asked w
@@ -186,6 +190,6 @@ mutual
     result : {c : ListContext} {text name rest : List ℕ} {arguments : Items} → IsCall size c text name arguments rest
         → IsAsked size c (ascii.percent ∷ ascii.colon ∷ text) (HasResult name arguments) rest
 
--- a text has this tree
+-- a text has this tree: its items go up to its end
 abbrev pub Spells : List ℕ → Items → Type 0
 Spells text items = AreItems (length text) top text items []

@@ -15,6 +15,7 @@ pub data Pattern : Type 0 where
   pattern : List ℕ → Bool → Pattern
 
 mutual
+  -- one part of a list: a byte, an escape or a directive, with what it holds
   pub data Item : Type 0 where
     Plain : ℕ → Item  -- a byte that stands for itself
     Escape : ℕ → Item  -- a backslash and this byte
@@ -40,7 +41,7 @@ mutual
     none : Items
     more : Span → Item → Items → Items
 
-  -- the inside of braces
+  -- the inside of braces: patterns, or alternatives
   pub data Brace : Type 0 where
     Emit : List (Span × Pattern) → Brace  -- patterns, joined by &
     Choose : Choices → Brace  -- alternatives, joined by ;
@@ -55,7 +56,7 @@ mutual
     no_test : Tests
     test : Span → Bool → Asked → Tests → Tests
 
-  -- what a test asks
+  -- what a test asks: for a switch, the input's suffix or language, or whether a function has a value
   pub data Asked : Type 0 where
     HasSwitch : Pattern → Asked
     HasSuffix : List ℕ → Asked  -- .word
@@ -68,6 +69,7 @@ kept span Blank none = none
 kept span Newline none = none
 kept span item items = more span item items
 
+-- items without the white space at their end, of which an X has none (this project's profile)
 abbrev pub trimmed : Items → Items
 trimmed none = none
 trimmed (more span item items) = kept span item (trimmed items)

@@ -105,7 +105,7 @@ pub fn directive_of(b: u8) -> Directive
     }
 }
 
-/// The same for directives that are none of files and their names.
+/// What a byte after `%` says among the directives that are none of files and their names.
 #[inline(always)]
 fn text_directive(b: u8) -> Directive
     ensures { result ≡ directives.text_directive_of b }
@@ -140,7 +140,7 @@ fn text_directive(b: u8) -> Directive
     }
 }
 
-/// The directive of this byte is allowed in such a list.
+/// The directive of this byte is allowed in a list with this context.
 pub fn allows(c: ListContext, b: u8) -> bool
     ensures { result ≡ directives.is_allowed c.in_arguments b }
 {

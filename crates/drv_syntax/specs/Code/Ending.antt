@@ -7,8 +7,9 @@ use Rattle.drv_syntax.specs.declared.token.TokenKind.{TokenKind}
 use Rattle.std.specs.Prelude.{◌-◌, ◌==◌, Bool, false, true, if◌then◌else◌, List, [], ◌∷◌, None, Option, Some, length, slice_get, ℕ}
 
 -- How a text ends, by its size and the last of its tokens, and whether what was read of it can be kept where more follows. For the clauses
--- of the code alone.
+-- of src/descent/ending.rt and src/descent/reading.rt alone.
 
+-- how a text ends whose last part is of this kind: a suffix or a pattern could go on, and so could a message
 abbrev pub ending_by : TokenKind → Ending
 ending_by (kinds.TempName kind) = endings.Word
 ending_by kinds.Hide = endings.Word
@@ -21,13 +22,16 @@ abbrev pub ending_after : ℕ → Option Token → Ending
 ending_after size None = endings.Item
 ending_after size (Some t) = if t.end == size then ending_by t.kind else endings.Item
 
+-- how a text of this size ends, by its last token
 abbrev pub ending_in : ℕ → List Token → Ending
 ending_in size tokens = ending_after size (slice_get tokens (length tokens - 1))
 
+-- the text begins with a space or a tab
 abbrev pub begins_blank : List ℕ → Bool
 begins_blank [] = false
 begins_blank (b ∷ text) = is_blank b
 
+-- the text has a byte
 abbrev pub begins : List ℕ → Bool
 begins [] = false
 begins (b ∷ text) = true

@@ -41,27 +41,35 @@ use Rattle.std.specs.Prelude.{◌≡◌, ◌==◌, ◌+◌, ◌++◌, Bool, fals
 use Rattle.std.specs.Prelude.{drop, length}
 use Rattle.std.specs.Prelude.{slice_set, suc, take, zero, ℕ}
 
--- What the code writes of lists of items, and of what holds them. For the clauses of the code alone.
+-- What the code writes of lists of items, and of what holds them: for the clauses of src/descent/lists.rt, src/descent/simple.rt and
+-- src/descent/parts.rt, and no law cites it. A change here needs the same change there.
+-- Names: NAME_given is what a function gives, with its value and what was read after it, or its fault. NAME_here writes a part from the
+-- place of what is left. `outer` is the place of the outermost directive that is open, if one is, and `at` that of the innermost.
+-- `n` is a place of the text, `z` the parts so far, and `v` those parts and the text that is left (`Reading`).
+-- In a `Tail`, what a list ends with, the end byte is 0 at the end of a whole text, and as long as the list goes on.
 
+-- the text has a byte left: a function that takes one asks for this
 abbrev pub begins : List ℕ → Bool
 begins [] = false
 begins (b ∷ text) = true
 
 -- contexts
 
+-- what %* finds around it, as the code's type has it
 abbrev pub owner_seen : StarOwner → Owner
 owner_seen owners.Nobody = Nobody
 owner_seen owners.Mixed = Mixed
 owner_seen owners.Starred = Starred
 
+-- the context of a list, as the code's type has it
 abbrev pub context_seen : code.ListContext → ListContext
 context_seen c = record { kind = kind_seen c.kind; in_arguments = c.in_arguments; owner = owner_seen c.owner; levels = c.levels }
 
--- in an X in such a list, whose tests are all starred patterns or are not
+-- the context in an X of a list, whose tests are all starred patterns or are not; the code counts the tests as it reads them
 abbrev pub owner_when : Bool → ListContext → ListContext
 owner_when starred c = record { kind = InX; in_arguments = c.in_arguments; owner = if starred then Starred else Mixed; levels = c.levels }
 
--- a list that isn't a whole text is in a directive
+-- a list that isn't a whole text is in a directive, so that `outer` has the place of one
 abbrev pub Opened : Kind → Option ℕ → Type 0
 Opened Top outer = Unit {0}
 Opened InX (Some at) = Unit {0}
@@ -69,16 +77,18 @@ Opened InX None = ⊥
 Opened InArguments (Some at) = Unit {0}
 Opened InArguments None = ⊥
 
--- what reads the lists in a list of so many levels
+-- what reads the lists in a list of so many levels; a list of no level holds none
 abbrev pub around : ℕ → Lists × Lists
 around zero = (no_lists, no_lists)
 around (suc level) = levels level
 
 -- items without an inside
 
+-- writes the byte that comes next as a part of this kind
 abbrev pub byte_here : TokenKind → Label → Reading → Reading
 byte_here kind label v = leaf_here kind label v.rest.at (at_rest (after 1 v.rest) v)
 
+-- writes a %* whose % has the place at, or refuses it by the owner around it
 abbrev pub star_given : Owner → ℕ → Reading → Result Reading SyntaxFault
 star_given Nobody at v = Err (StarOutside at)
 star_given Mixed at v = Err (MixedStar at)
@@ -93,13 +103,14 @@ star_given Starred at v =
       };
     })
 
+-- the directive holds no list: `directive` of simple.rt reads it, and lists.rt the others
 abbrev pub is_simple : Directive → Bool
 is_simple directives.WithCall = false
 is_simple directives.WithBraces = false
 is_simple (directives.WithMarkedBraces kind) = false
 is_simple _ = true
 
--- a directive that holds no parts, by what follows its byte
+-- a directive that holds no list, by what its byte says; its % has the place at
 abbrev pub simple_given : Option ℕ → ListContext → ℕ → Directive → Reading → Result Reading SyntaxFault
 simple_given outer c at directives.Nowhere v = Err (BadDirective at)
 simple_given outer c at (directives.Whole leaf) v = Ok (leaf_here (kinds.Leaf leaf) no_label at v)
@@ -114,35 +125,39 @@ simple_given outer c at directives.WithCall v = Err (BadDirective at)
 simple_given outer c at directives.WithBraces v = Err (BadDirective at)
 simple_given outer c at (directives.WithMarkedBraces kind) v = Err (BadDirective at)
 
--- what a list ends with, where it ends with an item that is no white space
+-- what a list ends with right after an item that is no white space: here
 abbrev pub tail_at : Reading → Tail
 tail_at v = record { kept = v.rest.at; tokens = length v.parts.tokens; labels = length v.parts.labels; end = 0 }
 
+-- writes an escape by its second byte; without that the text ends in the escape
 abbrev pub second_given : Option ℕ → Reading → List ℕ → Result Reading SyntaxFault
 second_given outer v [] = Err (Unclosed (open_at outer v.rest.at))
 second_given outer v (b ∷ text) = Ok (leaf_here kinds.Escape (word_label (b ∷ [])) v.rest.at (at_rest (after 2 v.rest) v))
 
+-- writes the escape whose backslash comes next
 abbrev pub escape_given : Option ℕ → Reading → Result Reading SyntaxFault
 escape_given outer v = second_given outer v (drop 1 v.rest.bytes)
 
+-- writes an item that is no directive and no white space: an escape, a bar or a plain byte
 abbrev pub single_given : Option ℕ → Bool → ℕ → Reading → Result Reading SyntaxFault
 single_given outer in_arguments b v =
     if b == ascii.backslash then escape_given outer v
     else if b == ascii.bar then Ok (if in_arguments then byte_here kinds.Plain (word_label (b ∷ [])) v else byte_here kinds.Pipe no_label v)
     else Ok (byte_here kinds.Plain (word_label (b ∷ [])) v)
 
+-- with what the list then ends with: here, for the item was no white space
 abbrev pub with_tail : Result Reading SyntaxFault → Result (Tail × Reading) SyntaxFault
 with_tail (Ok v) = Ok (tail_at v, v)
 with_tail (Err fault) = Err fault
 
--- an item that is no directive, and what the list then ends with
+-- writes an item that is no directive, and gives what the list then ends with; white space doesn't change that
 abbrev pub byte_given : Option ℕ → Bool → ℕ → Tail → Reading → Result (Tail × Reading) SyntaxFault
 byte_given outer in_arguments b tail v =
     if is_blank b then Ok (tail, byte_here kinds.Blank no_label v)
     else if b == ascii.newline then Ok (tail, byte_here (kind_of (newline_in in_arguments)) no_label v)
     else with_tail (single_given outer in_arguments b v)
 
--- so many plain bytes
+-- writes so many plain bytes, which come next
 abbrev pub run_after : ℕ → Reading → Reading
 run_after size v =
     record {
@@ -154,25 +169,29 @@ run_after size v =
       };
     }
 
+-- writes so many plain bytes; without any the list's end doesn't change
 abbrev pub plains_after : ℕ → Tail → Reading → Tail × Reading
 plains_after zero tail v = (tail, v)
 plains_after (suc k) tail v = (tail_at (run_after (suc k) v), run_after (suc k) v)
 
+-- writes all plain bytes that come next, as a list of this kind has them
 abbrev pub plains_on : ListKind → Tail → Reading → Tail × Reading
 plains_on kind tail v = plains_after (prefix_len (runs kind) v.rest.bytes) tail v
 
 -- lists
 
+-- writes the parts of items, one after another
 abbrev pub list_written : Items → Parts → Parts
 list_written none z = z
 list_written (more s item items) z = list_written items (item_written s.start item s.end z)
 
--- white space at the end of items
+-- the item is white space, of which an X has none at its end
 abbrev pub is_white_item : Item → Bool
 is_white_item tree.Blank = true
 is_white_item tree.Newline = true
 is_white_item _ = false
 
+-- what a list ends with after this item, which ends at this place
 abbrev pub tail_after : Item → Tail → ℕ → Parts → Tail
 tail_after item tail end z =
     if is_white_item item then tail else record { kept = end; tokens = length z.tokens; labels = length z.labels; end = 0 }
@@ -183,21 +202,24 @@ tail_on tail none z = tail
 tail_on tail (more s item items) z =
     tail_on (tail_after item tail s.end (item_written s.start item s.end z)) items (item_written s.start item s.end z)
 
+-- what a list ends with, and the byte that ends it (0 at the end of a whole text)
 abbrev pub with_end : Tail → ℕ → Tail
 with_end tail end = record { kept = tail.kept; tokens = tail.tokens; labels = tail.labels; end = end }
 
+-- writes the items of a list that was read up to its end byte, and gives what the list ends with
 abbrev pub listed_given : Option ℕ → Tail → Reading → Read (Items × ℕ) → Result (Tail × Reading) SyntaxFault
 listed_given outer tail v read =
     given outer v.rest
     (λ list rest. (with_end (tail_on tail list.0 v.parts) list.1, record { rest = rest; parts = list_written list.0 v.parts })) read
 
--- where a list ends at the end of a text
+-- at the end of a text: a whole text's list is complete, and its end byte is 0. Any other list isn't closed, and the fault names the
+-- outermost open directive, or else n, the place here.
 abbrev pub end_given : Option ℕ → Kind → Tail → ℕ → Result Tail SyntaxFault
 end_given outer Top tail n = Ok (with_end tail 0)
 end_given outer InX tail n = Err (Unclosed (open_at outer n))
 end_given outer InArguments tail n = Err (Unclosed (open_at outer n))
 
--- after a list is the byte that ends it, if it isn't a whole text
+-- the byte that ends a list comes next, unless the list is a whole text
 abbrev pub EndsAt : Kind → ℕ → List ℕ → Type 0
 EndsAt Top end rest = Unit {0}
 EndsAt InX end rest = first_of rest ≡ Some end
@@ -205,18 +227,19 @@ EndsAt InArguments end rest = first_of rest ≡ Some end
 
 -- parts that hold lists
 
+-- opens a part that begins at this place: its token is the next one, and its end is filled in later
 abbrev pub opened_here : TokenKind → Label → ℕ → Reading → Open × Reading
 opened_here kind label start v =
     (record { token = length v.parts.tokens; start = start }, record { rest = v.rest; parts = opened kind label start v.parts })
 
--- an alternative without tests, with its colon
+-- opens an alternative without tests at its colon, and takes the colon
 abbrev pub default_here : Reading → Choice × Reading
 default_here v = (
   record { part = record { token = length v.parts.tokens; start = v.rest.at }; label = length v.parts.labels; starred = false },
   record { rest = after 1 v.rest; parts = opened kinds.Alternative no_label v.rest.at v.parts },
 )
 
--- the part that is open ends at this place
+-- ends an open part at this place, with the place in the list after all that was written inside it
 abbrev pub closed_at : TokenKind → Open → ℕ → Parts → Parts
 closed_at kind part end z =
     record {
@@ -226,10 +249,11 @@ closed_at kind part end z =
           z.holds;
     }
 
+-- ends an open part at this place, with no byte more of the text
 abbrev pub closed_here : TokenKind → Open → ℕ → Reading → Reading
 closed_here kind part end v = record { rest = v.rest; parts = closed_at kind part end v.parts }
 
--- an alternative ends, whose X ends so
+-- ends an alternative at the tail of its X: what was written after that is taken back, and the label says whether the X held a %*
 abbrev pub owned_at : Choice → Tail → Bool → Parts → Parts
 owned_at c tail holds z =
     record {
@@ -239,14 +263,15 @@ owned_at c tail holds z =
       holds = holds;
     }
 
+-- ends an alternative at the tail of its X, with no byte more of the text
 abbrev pub owned_here : Choice → Tail → Bool → Reading → Reading
 owned_here c tail holds v = record { rest = v.rest; parts = owned_at c tail holds v.parts }
 
--- no %* so far
+-- the parts as an X begins: it has no %* so far
 abbrev pub unheld : Parts → Parts
 unheld z = record { tokens = z.tokens; labels = z.labels; holds = false }
 
--- the X of an alternative, which begins here, and the byte that ends it
+-- writes the X of an alternative, which begins here, and gives the byte that ends it
 abbrev pub x_given : Option ℕ → ℕ → Choice → Reading → Read (Items × ℕ) → Result (ℕ × Reading) SyntaxFault
 x_given outer at c v read =
     given (Some (open_at outer at)) v.rest
@@ -260,45 +285,52 @@ x_given outer at c v read =
 
 -- the inside of braces
 
+-- writes an alternative with all that is inside it
 abbrev pub choice_written : Span → tree.Tests → Items → Parts → Parts
 choice_written s tests items z =
     wrote (node kinds.Alternative (alternative_label items) s (both (test_nodes tests) (nodes_of items)) no_node) (tests_have_star tests) z
 
+-- writes alternatives, one after another
 abbrev pub choices_written : Choices → Parts → Parts
 choices_written no_choice z = z
 choices_written (choice s tests items choices) z = choices_written choices (choice_written s tests items z)
 
+-- writes the inside of braces, and says whether it is patterns or alternatives
 abbrev pub brace_on : Parts → Brace → Left → inside_code.Inside × Reading
 brace_on z (tree.Emit ps) rest = (insides.Patterns, record { rest = rest; parts = patterns_written ps z })
 brace_on z (tree.Choose choices) rest = (insides.Choices, record { rest = rest; parts = choices_written choices z })
 
+-- writes the inside of braces that was read, or gives its fault
 abbrev pub brace_given : Option ℕ → Reading → Read Brace → Result (inside_code.Inside × Reading) SyntaxFault
 brace_given outer v read = given outer v.rest (λ brace rest. brace_on v.parts brace rest) read
 
--- alternatives after the first; there are no patterns
+-- writes alternatives after the first; patterns can't be there, and count as nothing
 abbrev pub later_on : Parts → Brace → Left → Reading
 later_on z (tree.Emit ps) rest = record { rest = rest; parts = z }
 later_on z (tree.Choose choices) rest = record { rest = rest; parts = choices_written choices z }
 
+-- writes alternatives after the first that were read, or gives their fault
 abbrev pub later_given : Option ℕ → Reading → Read Brace → Result Reading SyntaxFault
 later_given outer v read = given outer v.rest (λ brace rest. later_on v.parts brace rest) read
 
+-- the kind of a token of braces, by what is before them and what they hold
 abbrev pub brace_kind : BraceKind → inside_code.Inside → TokenKind
 brace_kind InPlace insides.Patterns = kinds.Emit
 brace_kind InPlace insides.Choices = kinds.Choose
 brace_kind IntoFailureFile inside = kinds.FailureFile
 brace_kind IntoArgumentsFile inside = kinds.ArgumentsFile
 
--- a test of a function's result, from its percent sign on
+-- writes a test of a function's result in its alternative; the reading gives no other test there, and the last line is never met
 abbrev pub result_on : Option Choice → ℕ → Bool → Parts → Option tree.Asked → Left → Choice × Reading
 result_on so_far start negated z (Some a) rest = choice_here (added so_far z (span start rest.at) negated a) rest
 result_on so_far start negated z None rest = choice_here (added so_far z (span start rest.at) negated (tree.HasSuffix [])) rest
 
+-- writes a test of a function's result that was read, from its percent sign on, or gives its fault
 abbrev pub result_given : Option ℕ → Option Choice → ℕ → Bool → Reading → Read d.Operand → Result (Choice × Reading) SyntaxFault
 result_given outer so_far start negated v read =
     given outer (after 1 v.rest) (λ o rest. result_on so_far start negated v.parts o.as_test rest) read
 
--- a directive, from its percent sign on
+-- writes the directive whose percent sign comes next, in a list with this context, or gives its fault
 abbrev pub directive_given : Option ℕ → ListContext → Lists × Lists → Reading → Result Reading SyntaxFault
 directive_given outer c lists v =
     given outer (after 1 v.rest) (λ item rest. record { rest = rest; parts = item_written v.rest.at item rest.at v.parts })

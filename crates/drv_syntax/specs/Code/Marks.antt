@@ -3,12 +3,14 @@ use Rattle.drv_syntax.specs.declared.labels.LabelMark.{LabelMark}
 use Rattle.drv_syntax.specs.declared.token.TestKind.TheVariants as asking
 use Rattle.std.specs.Prelude.{◌+◌, List, [], ◌∷◌, false, ℕ}
 
--- The labels of bytes that name themselves, and their marks, for bytes from one place on. Only clauses of the code cite it.
+-- The labels of bytes that name themselves, and their marks, for bytes from one place on. For the clauses of src/labels.rt.
 
+-- the labels of plain bytes, each of which names itself
 abbrev pub byte_labels : List ℕ → List Label
 byte_labels [] = []
 byte_labels (b ∷ run) = word_label (b ∷ []) ∷ byte_labels run
 
+-- the marks of plain bytes, whose words are the bytes from this place on in the list of all words
 abbrev pub byte_marks : ℕ → List ℕ → List LabelMark
 byte_marks start [] = []
 byte_marks start (b ∷ run) = record {

@@ -6,13 +6,13 @@ use Rattle.drv_syntax.specs.declared.tree.Parts.TheVariants.{Read, Written}
 use Rattle.drv_syntax.specs.declared.tree.Parts.{Parts}
 use Rattle.std.specs.Prelude.{◌≡◌, ◌≤◌, List, Ok, length, ℕ}
 
--- What is kept of a tree, read or written. For the code alone.
+-- What is kept of a tree, read from a text or written in the code. For the clauses of src/tree.rt alone.
 
--- these are the tokens and labels of this text
+-- what is kept has the tokens and labels of this text, which is not too long
 abbrev pub IsRead : List ℕ → TextParts → Type 0
 IsRead text p = (listed (parsed text) ≡ Ok (p.tokens, p.labels)) × (length text ≤ 1048576)
 
--- it is that of this text
+-- what is kept is the tree of this text; the words of a written tree lie in its list of words
 abbrev pub IsKept : List ℕ → Parts → Type 0
 IsKept text (Read p) = IsRead text p
 IsKept text (Written tree) =

@@ -33,20 +33,26 @@ use Rattle.std.specs.List.{prefix_len}
 use Rattle.std.specs.Prelude.{◌==◌, ◌&&◌, ◌++◌, Bool, false, true, if◌then◌else◌, List, [], ◌∷◌, Err, None, Ok, Option, Result, Some}
 use Rattle.std.specs.Prelude.{length, ℕ}
 
--- What the code writes of the tests and the patterns of braces. For the clauses of the code alone.
+-- What the code writes of the tests and the patterns of braces: for the clauses of src/descent/tests.rt, src/descent/patterns.rt and
+-- src/descent/parts.rt, and no law cites it. A change here needs the same change there.
+-- Names: NAME_given is what a function gives, with its value and what was read after it, or its fault. NAME_seen is a type of the code as
+-- Descent or Refusals has it. `emits`: the braces may still be patterns. `so_far`: the alternative that is open. `outer` is the place of the
+-- outermost directive that is open, `at` that of the innermost, `z` the parts so far, and `v` those parts and the text that is left.
 
--- a pattern
+-- a pattern that was read, with nothing written, or its fault
 abbrev pub pattern_given : Option ℕ → Reading → Read Pattern → Result (Pattern × Reading) SyntaxFault
 pattern_given outer v read = given outer v.rest (λ p rest. (p, at_rest rest v)) read
 
+-- writes the patterns of braces, one after another
 abbrev pub patterns_written : List (Span × Pattern) → Parts → Parts
 patterns_written [] z = z
 patterns_written (p ∷ ps) z = patterns_written ps (leafed kinds.Pattern (pattern_label p.1) p.0.start p.0.end z)
 
--- patterns, with the brace that closes them
+-- writes patterns that were read, and takes the brace that closes them
 abbrev pub patterns_given : Option ℕ → Reading → Read (List (Span × Pattern)) → Result Reading SyntaxFault
 patterns_given outer v read = given outer v.rest (λ ps rest. record { rest = after 1 rest; parts = patterns_written ps v.parts }) read
 
+-- the place of a test in its braces, as Refusals has it
 abbrev pub order_seen : Order → refusals.Order
 order_seen orders.AtFront = refusals.AtFront
 order_seen orders.AtNext = refusals.AtNext
@@ -59,12 +65,15 @@ operand_of (asking.Marked mark) word = d.marked_operand mark word
 operand_of (asking.StarredMark mark) word = d.starred_operand mark word
 operand_of (asking.Bare mark) word = d.bare_operand mark
 
+-- what was read of a test, as Descent has it; copied is the last word with escapes
 abbrev pub operand_seen : Operand → List ℕ → d.Operand
 operand_seen o copied = operand_of o.asked (spelled o.word copied)
 
+-- what a test asks that was read, with nothing written, or its fault
 abbrev pub operand_given : Option ℕ → Reading → Read d.Operand → Result (d.Operand × Reading) SyntaxFault
 operand_given outer v read = given outer v.rest (λ o rest. (o, at_rest rest v)) read
 
+-- at the byte b after a mark alone: a pattern of one byte, where b may follow a pattern
 abbrev pub bare_form : ℕ → ℕ → Result MarkForm SyntaxFault
 bare_form at b =
     if b == ascii.closing_brace then Ok marks.Bare
@@ -72,7 +81,7 @@ bare_form at b =
     else if is_white b then Ok marks.Bare
     else Err (EmptyTest at)
 
--- what comes after a mark, by the byte after the word there, which has no bytes or some
+-- what comes after a mark, by the byte after the word there; `none` says that the word has no bytes
 abbrev pub mark_form : Option ℕ → ℕ → Bool → Bool → Option ℕ → Result MarkForm SyntaxFault
 mark_form outer at emits true None = Err (Unclosed (open_at outer at))
 mark_form outer at emits false None = Ok marks.Word
@@ -81,28 +90,31 @@ mark_form outer at emits none (Some b) =
     else if none then (if emits then bare_form at b else Err (EmptyTest at))
     else Ok marks.Word
 
+-- what a test with this mark asks, by what follows the mark
 abbrev pub marked_as : MarkForm → ℕ → asked_code.Asked
 marked_as marks.Word mark = asking.Marked mark
 marked_as marks.Star mark = asking.StarredMark mark
 marked_as marks.Bare mark = asking.Bare mark
 
--- as a pattern it has this label
+-- the label of what was read, where it counts as a pattern of braces
 abbrev pub emitted_label : asked_code.Asked → List ℕ → Label
 emitted_label (asking.Switch starred) word = part_label word starred false kinds_of_tests.Switch
 emitted_label (asking.Marked mark) word = part_label (mark ∷ word) false false kinds_of_tests.Switch
 emitted_label (asking.StarredMark mark) word = part_label (mark ∷ word) true false kinds_of_tests.Switch
 emitted_label (asking.Bare mark) word = word_label (mark ∷ [])
 
+-- what a test with this mark asks (never with a star): of a suffix, or of a language
 abbrev pub mark_asks : ℕ → Bool × TestKind
 mark_asks mark = if mark == ascii.period then (false, kinds_of_tests.Suffix) else (false, kinds_of_tests.Language)
 
+-- what the label of a test says of it: whether it has a star, and what it asks
 abbrev pub asks_seen : asked_code.Asked → Bool × TestKind
 asks_seen (asking.Switch starred) = (starred, kinds_of_tests.Switch)
 asks_seen (asking.Marked mark) = mark_asks mark
 asks_seen (asking.StarredMark mark) = mark_asks mark
 asks_seen (asking.Bare mark) = mark_asks mark
 
--- as a test it asks this
+-- what was read, where it counts as a test
 abbrev pub test_of : asked_code.Asked → List ℕ → Asked
 test_of (asking.Switch starred) word = HasSwitch (pattern word starred)
 test_of (asking.Marked mark) word = d.marked mark word
@@ -111,9 +123,11 @@ test_of (asking.Bare mark) word = d.marked mark word
 
 -- alternatives that are open
 
+-- opens a part from this place on, with its label
 abbrev pub opened : TokenKind → Label → ℕ → Parts → Parts
 opened kind label start z = record { tokens = z.tokens ++ open_token kind start ∷ []; labels = z.labels ++ label ∷ []; holds = z.holds }
 
+-- the alternative that is open, or one that opens here with its first test
 abbrev pub choice_open : Option Choice → ℕ → Parts → Choice × Parts
 choice_open (Some choice) start z = (choice, z)
 choice_open None start z = (
@@ -129,33 +143,37 @@ is_starred false (HasLanguage word) = false
 is_starred false (HasResult name arguments) = false
 is_starred true a = false
 
+-- writes a test with all that is inside it
 abbrev pub test_written : Span → Bool → Asked → Parts → Parts
 test_written s negated a z = wrote (node kinds.Test (test_label negated a) s (asked_nodes a) no_node) (asked_has_star a) z
 
--- one test more
+-- one test more in the alternative: it goes on to be starred as long as all its tests are
 abbrev pub test_added : Choice × Parts → Span → Bool → Asked → Choice × Parts
 test_added z s negated a =
     (record { part = z.0.part; label = z.0.label; starred = z.0.starred && is_starred negated a }, test_written s negated a z.1)
 
+-- one test in the alternative so far, or in one that begins with it
 abbrev pub added : Option Choice → Parts → Span → Bool → Asked → Choice × Parts
 added so_far z s negated a = test_added (choice_open so_far s.start z) s negated a
 
+-- the alternative, with the text that is left
 abbrev pub choice_here : Choice × Parts → Left → Choice × Reading
 choice_here z rest = (z.0, record { rest = rest; parts = z.1 })
 
--- a test in the alternative so far, or in one that begins with it
+-- one test in the alternative so far, or in one that begins with it; no byte more of the text is taken
 abbrev pub asked_on : Option Choice → Reading → Span → Bool → Asked → Choice × Reading
 asked_on so_far v s negated a = choice_here (added so_far v.parts s negated a) v.rest
 
+-- more tests in the alternative, one after another
 abbrev pub tests_on : Choice × Parts → Tests → Choice × Parts
 tests_on z no_test = z
 tests_on z (test s negated a tests) = tests_on (test_added z s negated a) tests
 
--- a pattern there, if the braces may be that
+-- writes what was read as a pattern, if the braces may be patterns
 abbrev pub pattern_ends : ℕ → Bool → Label → ℕ → ℕ → Reading → Result Reading SyntaxFault
 pattern_ends at emits label start end v = if emits then Ok (leaf_until kinds.Pattern label start end v) else Err (BadDirective at)
 
--- a test there, if what was read can be that
+-- writes what was read as a test, if it can be one
 abbrev pub test_ends : ℕ → Option Choice → ℕ → ℕ → Bool → asked_code.Asked → List ℕ → Reading → Result (Choice × Reading) SyntaxFault
 test_ends at so_far start end negated (asking.Switch starred) word v =
     Ok (asked_on so_far v (span start end) negated (HasSwitch (pattern word starred)))
@@ -163,6 +181,7 @@ test_ends at so_far start end negated (asking.Marked mark) word v = Ok (asked_on
 test_ends at so_far start end negated (asking.StarredMark mark) word v = Err (BadDirective at)
 test_ends at so_far start end negated (asking.Bare mark) word v = Err (EmptyTest at)
 
+-- a test and the byte after it, as Descent has them
 abbrev pub tried_seen : ℕ → ℕ → Bool → d.Operand → ℕ → Tried
 tried_seen start end negated operand b = record { place = span start end; negated = negated; operand = operand; byte = b }
 
@@ -178,6 +197,7 @@ after_given so_far v (d.Bars s negated a) =
     Ok (nexts.Bars (added so_far v.parts s negated a).0, record { rest = after 1 v.rest; parts = (added so_far v.parts s negated a).1 })
 after_given so_far v (d.Fails fault) = Err fault
 
+-- a test that was read and what the byte after it makes of it, or its fault
 abbrev pub tried_given : Option ℕ → ℕ → refusals.Order → Option Choice → Reading → Read Tried → Result (Next × Reading) SyntaxFault
 tried_given outer at order so_far v (Took t size) = after_given so_far (at_rest (after size v.rest) v) (d.after at order t)
 tried_given outer at order so_far v (Ends n) = Err (Unclosed (open_at outer n))
@@ -188,14 +208,16 @@ abbrev pub result_after : ℕ → Choice → ℕ → Result Next SyntaxFault
 result_after at choice b =
     if b == ascii.colon then Ok (nexts.Asks choice) else if b == ascii.bar then Ok (nexts.Bars choice) else Err (BadDirective at)
 
--- white space, a ! and white space or nothing, and the byte after it
+-- after a sign: the byte that a test's word begins with, and where the test began
 abbrev pub first_given : Option ℕ → ℕ → ℕ → Bool → Reading → List ℕ → Result (Begun × Reading) SyntaxFault
 first_given outer at start negated v [] = Err (Unclosed (open_at outer at))
 first_given outer at start negated v (b ∷ text) = Ok (record { start = start; negated = negated; byte = b }, v)
 
+-- what is left after all white space that comes next
 abbrev pub spaced : Left → Left
 spaced rest = after (prefix_len is_white rest.bytes) rest
 
+-- after white space: the ! of a test and white space, or neither, and the byte that its word begins with
 abbrev pub sign_given : Option ℕ → ℕ → Reading → List ℕ → Result (Begun × Reading) SyntaxFault
 sign_given outer at v [] = Err (Unclosed (open_at outer at))
 sign_given outer at v (b ∷ text) =
@@ -203,6 +225,7 @@ sign_given outer at v (b ∷ text) =
     then first_given outer at v.rest.at true (at_rest (spaced (after 1 v.rest)) v) (spaced (after 1 v.rest)).bytes
     else Ok (record { start = v.rest.at; negated = false; byte = b }, v)
 
+-- all white space before a test, its sign, and the byte that its word begins with
 abbrev pub begun_given : Option ℕ → ℕ → Reading → Result (Begun × Reading) SyntaxFault
 begun_given outer at v = sign_given outer at (at_rest (spaced v.rest) v) (spaced v.rest).bytes
 
@@ -218,14 +241,16 @@ form_on z (d.Alternative s negated a tests) rest = (
   },
 )
 
+-- writes what braces or an alternative begin with, as it was read, or gives its fault
 abbrev pub form_given : Option ℕ → Reading → Read Form → Result (code.Form × Reading) SyntaxFault
 form_given outer v read = given outer v.rest (λ form rest. form_on v.parts form rest) read
 
--- more tests of this alternative; there are no patterns
+-- writes more tests of this alternative; patterns can't be there, and count as nothing
 abbrev pub more_on : Choice → Parts → Form → Left → Choice × Reading
 more_on choice z (d.Patterns ps) rest = (choice, record { rest = rest; parts = z })
 more_on choice z (d.Alternative s negated a tests) rest =
     choice_here (tests_on (test_added (choice, z) s negated a) tests) (after 1 rest)
 
+-- writes more tests of this alternative that were read, or gives their fault
 abbrev pub more_given : Option ℕ → Choice → Reading → Read Form → Result (Choice × Reading) SyntaxFault
 more_given outer choice v read = given outer v.rest (λ form rest. more_on choice v.parts form rest) read

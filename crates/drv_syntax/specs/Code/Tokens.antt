@@ -3,7 +3,7 @@ use Rattle.drv_syntax.specs.declared.token.TokenKind.TheVariants as kinds
 use Rattle.drv_syntax.specs.declared.token.TokenKind.{TokenKind}
 use Rattle.std.specs.Prelude.{◌+◌, List, [], ◌∷◌, ℕ}
 
--- Tokens as they are put. For the clauses of the code alone.
+-- Tokens as they are put. For the clauses of src/descent/tokens.rt, and for Lists and Tests here.
 
 -- a part that opens here, with places to be filled in
 abbrev pub open_token : TokenKind → ℕ → Token

@@ -8,13 +8,13 @@ use Rattle.drv_syntax.specs.declared.fault.SyntaxFault.{SyntaxFault}
 use Rattle.drv_syntax.specs.declared.token.Token.{Token}
 use Rattle.std.specs.Prelude.{◌++◌, List, None, Result, length, ℕ}
 
--- What the code gives of a whole text. For the clauses of the code alone.
+-- What the code gives of a whole text. For the clauses of src/descent/reading.rt alone.
 
--- its tokens and labels, or its fault
+-- the tokens and labels of a whole text, or its fault; that it is too long is judged before
 abbrev pub whole_given : List ℕ → Result (List Token × List Label) SyntaxFault
 whole_given text = listed (judged (descent text))
 
--- the tokens and labels of a text, of which those of its first bytes, so many, are these
+-- the tokens and labels of a text of which the first n bytes were read before, and gave these tokens and labels
 abbrev pub rest_given : ℕ → List ℕ → List Token → List Label → Result (List Token × List Label) SyntaxFault
 rest_given n more tokens names =
     given None (record { at = n; bytes = more })

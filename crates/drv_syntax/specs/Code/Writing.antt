@@ -26,7 +26,8 @@ use Rattle.drv_syntax.specs.declared.token.TokenKind.{TokenKind}
 use Rattle.std.specs.Prelude.{◌+◌, ◌++◌, ◌||◌, ◌==◌, Bool, false, true, if◌then◌else◌, List, [], ◌∷◌, Err, None, Ok, Option, Result, Some}
 use Rattle.std.specs.Prelude.{length, ℕ}
 
--- What the code writes of what it reads: the tokens of a part and their labels, after those before. For the clauses of the code alone.
+-- What the code writes of what it reads: the tokens of a part and their labels, after those before. Clauses of all src/descent/ cite it, no
+-- law does. Names: `z` is the parts so far, and `v` (`Reading`) those parts and the text that is left.
 
 -- the parts so far: their tokens and labels, and whether the innermost X has a %* of its own
 pub record Parts : Type 0 where
@@ -34,10 +35,12 @@ pub record Parts : Type 0 where
   pub labels : List Label
   pub holds : Bool
 
+-- what is left of a text, and the parts of it so far
 pub record Reading : Type 0 where
   pub rest : Left
   pub parts : Parts
 
+-- what a `Reader` of the code has read
 abbrev pub seen : code.Reader → Reading
 seen r = record { rest = r.rest; parts = record { tokens = r.tokens; labels = r.labels; holds = r.holds_star } }
 
@@ -46,7 +49,7 @@ abbrev pub flat : ℕ → Nodes → List Token
 flat n no_node = []
 flat n (node kind label s inner others) = token n kind s (flat (n + 1) inner) (λ m. flat m others)
 
--- these parts too, which have a %* of an X or have none
+-- writes these parts after those so far; holds says whether they have a %* of the X around them
 abbrev pub wrote : Nodes → Bool → Parts → Parts
 wrote nodes holds z = record {
   tokens = z.tokens ++ flat (length z.tokens) nodes;
@@ -60,18 +63,19 @@ abbrev pub leafed : TokenKind → Label → ℕ → ℕ → Parts → Parts
 leafed kind label start end z =
     record { tokens = z.tokens ++ whole_token kind start end (length z.tokens + 1) ∷ []; labels = z.labels ++ label ∷ []; holds = z.holds }
 
--- the same, up to what is left
+-- writes a part without parts inside it, from this place up to what is left
 abbrev pub leaf_here : TokenKind → Label → ℕ → Reading → Reading
 leaf_here kind label start v = record { rest = v.rest; parts = leafed kind label start v.rest.at v.parts }
 
--- the same, up to this place
+-- writes a part without parts inside it, from one place up to the other
 abbrev pub leaf_until : TokenKind → Label → ℕ → ℕ → Reading → Reading
 leaf_until kind label start end v = record { rest = v.rest; parts = leafed kind label start end v.parts }
 
+-- with this as what is left, and no part more
 abbrev pub at_rest : Left → Reading → Reading
 at_rest rest v = record { rest = rest; parts = v.parts }
 
--- an item, whose bytes begin at one place and end at another
+-- writes an item with all that is inside it, whose bytes begin at one place and end at another
 abbrev pub item_written : ℕ → Item → ℕ → Parts → Parts
 item_written start item end z = wrote (node (kind_of item) (label_of item) (span start end) (inner_nodes item) no_node) (item_has_star item)
     z
@@ -87,22 +91,25 @@ given outer rest f (Took x size) = Ok (f x (after size rest))
 given outer rest f (Ends at) = Err (Unclosed (open_at outer at))
 given outer rest f (Stops n fault) = Err fault
 
--- an item that begins at this place, of which what is left is read
+-- writes an item that begins at this place, of which what is left is read, or gives its fault
 abbrev pub item_given : Option ℕ → ℕ → Reading → Read Item → Result Reading SyntaxFault
 item_given outer start v read = given outer v.rest (λ item rest. record { rest = rest; parts = item_written start item rest.at v.parts })
     read
 
 -- words
 
+-- the word has no bytes
 abbrev pub is_empty : List ℕ → Bool
 is_empty [] = true
 is_empty (b ∷ word) = false
 
+-- where a list is, as the code's type has it
 abbrev pub kind_seen : ListKind → Kind
 kind_seen lists.Top = Top
 kind_seen lists.InX = InX
 kind_seen lists.InArguments = InArguments
 
+-- the byte belongs to a class that `quoted` of words.rt reads
 abbrev pub in_class : Class → ℕ → Bool
 in_class classes.Option b = is_option b
 in_class classes.Word b = is_word b
@@ -122,15 +129,17 @@ abbrev pub quoted_to : List ℕ → Reading → Quoted → Option (List ℕ) × 
 quoted_to front v (Run word size) = (Some (front ++ word), at_rest (after size v.rest) v)
 quoted_to front v (Hangs size) = (None, at_rest (after size v.rest) v)
 
+-- what `quoted` gives: its word, unless the text ends in an escape
 abbrev pub quoted_seen : Bool → List ℕ → Reading → Option (List ℕ) × Reading
 quoted_seen true word v = (Some word, v)
 quoted_seen false word v = (None, v)
 
+-- what `quoted` gives: its word of the text itself, or the copy without backslashes
 abbrev pub words_seen : Option Spelled → List ℕ → Reading → Option (List ℕ) × Reading
 words_seen (Some word) copied v = (Some (spelled word copied), v)
 words_seen None copied v = (None, v)
 
--- %< and its pattern
+-- %< or %> after its byte: the pattern, as an item
 abbrev pub hidden : ℕ → ℕ → List ℕ → Read Item
 hidden at n text = then_read (pattern_at at n text) (λ p size. Took (Hide p) size)
 
@@ -144,6 +153,7 @@ star_after outer at true None = Err (Unclosed (open_at outer at))
 star_after outer at false None = Ok false
 star_after outer at none (Some b) = if b == ascii.asterisk then Ok true else if none then Err (EmptyTest at) else Ok false
 
+-- the kind of the token of a text for the user
 abbrev pub said_kind : SayKind → TokenKind
 said_kind AsError = kinds.UserError
 said_kind AsNotice = kinds.Notice
@@ -153,7 +163,7 @@ abbrev pub front_size : List ℕ → List ℕ → ℕ
 front_size name [] = 0
 front_size name (b ∷ text) = if is_function_front (name ++ b ∷ []) then 1 + front_size (name ++ b ∷ []) text else 0
 
--- after the name
+-- after a function's name: its parenthesis, if the name is one; the code has looked how far the name goes (`front_size`)
 abbrev pub function_end : ℕ → ℕ → List ℕ → List ℕ → Read (List ℕ)
 function_end at n name [] = Ends at
 function_end at n name (b ∷ text) =

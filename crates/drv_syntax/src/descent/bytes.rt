@@ -79,7 +79,7 @@ pub fn is_function(name: &[u8]) -> bool
         || is_same(name, b"version-compare")
 }
 
-/// This name and this byte begin the name of a function.
+/// This front of a name and this byte begin the name of a function.
 pub fn is_function_front(name: &[u8], b: u8) -> bool
     ensures { result ≡ bytes.is_function_front (name.now ++ b ∷ []) }
 {

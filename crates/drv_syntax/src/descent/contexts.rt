@@ -42,7 +42,7 @@ pub struct ListContext {
     pub levels: u8,
 }
 
-/// To the left of a colon in braces in such a list.
+/// To the left of a colon in braces in a list with this context.
 #[inline(always)]
 pub fn in_braces(c: ListContext) -> ListContext
     ensures { context_seen result ≡ contexts.in_braces (context_seen c) }
@@ -55,7 +55,7 @@ pub fn in_braces(c: ListContext) -> ListContext
     }
 }
 
-/// In the arguments of a function in such a list.
+/// In the arguments of a function in a list with this context.
 #[inline(always)]
 pub fn in_arguments(c: ListContext) -> ListContext
     ensures { context_seen result ≡ contexts.in_arguments (context_seen c) }
@@ -68,7 +68,7 @@ pub fn in_arguments(c: ListContext) -> ListContext
     }
 }
 
-/// In the X of this alternative, in braces in such a list.
+/// In the X of this alternative, in braces in a list with this context.
 #[inline(always)]
 pub fn in_x(c: ListContext, choice: Choice) -> ListContext
     ensures { context_seen result

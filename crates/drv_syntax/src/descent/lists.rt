@@ -42,7 +42,7 @@ pub enum Form {
     Tests(Choice),
 }
 
-/// The byte ends such a list.
+/// The byte ends a list of this kind.
 #[inline(always)]
 fn ends_list(kind: ListKind, b: u8) -> bool
     ensures { result ≡ descent.ends_list (kind_seen kind) b }
@@ -54,7 +54,7 @@ fn ends_list(kind: ListKind, b: u8) -> bool
     }
 }
 
-/// With this byte after it.
+/// What a list ends with, and the byte after it.
 #[inline(always)]
 fn with_end(tail: Tail, end: u8) -> Tail
     ensures { result ≡ with_end tail end }
@@ -67,7 +67,8 @@ fn with_end(tail: Tail, end: u8) -> Tail
     }
 }
 
-/// Where a text ends in such a list.
+/// The end of a text in a list of this kind: a whole text ends there, and any other list isn't
+/// closed.
 #[inline(always)]
 fn at_end(outer: Option<u32>, kind: ListKind, tail: Tail, n: u32) -> Result<Tail, SyntaxFault>
     ensures { result ≡ end_given outer (kind_seen kind) tail n }
@@ -78,7 +79,7 @@ fn at_end(outer: Option<u32>, kind: ListKind, tail: Tail, n: u32) -> Result<Tail
     }
 }
 
-/// It holds no parts.
+/// The directive holds no parts.
 #[inline(always)]
 fn is_simple(d: Directive) -> bool
     ensures { result ≡ is_simple d }
@@ -116,7 +117,7 @@ fn opened_default(r: &mut Reader<'_>) -> Result<Choice, SyntaxFault>
     })
 }
 
-/// What braces of this kind are that hold such.
+/// The token of braces, by what is before them and what they hold.
 #[inline(always)]
 fn brace_token(kind: BraceKind, inside: Inside) -> TokenKind
     ensures { result ≡ brace_kind kind inside }

@@ -31,7 +31,7 @@ pub struct Reader<'a> {
 pub enum Spelled<'a> {
     /// Without escapes: these bytes of the text.
     Lent(&'a [u8]),
-    /// With escapes: the last such word.
+    /// With escapes: the last word that had some, which the reader keeps.
     Copied,
 }
 
@@ -45,7 +45,7 @@ pub fn unclosed(outer: Option<u32>, at: u32) -> SyntaxFault
     }
 }
 
-/// It has no bytes, where the last word with escapes is this one.
+/// The word has no bytes, where the last word with escapes is this one.
 #[inline(always)]
 pub fn is_none(word: Spelled<'_>, copied: &[u8]) -> bool
     ensures { result ≡ is_empty (spelled word.entry copied.now) }
@@ -71,7 +71,7 @@ pub fn named(
     r.labels.push(word, false, false, TestKind::Switch)
 }
 
-/// The same with a word that was read, and with a star or without.
+/// A part from this place on that names a word that was read, with a star or without.
 #[inline(always)]
 pub fn starred(
     kind: TokenKind,

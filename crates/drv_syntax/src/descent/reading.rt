@@ -118,7 +118,7 @@ pub fn read_more(
     Ok(TextParts { tokens, labels })
 }
 
-/// Those of a text without bytes. The call allocates nothing.
+/// The tokens and labels of a text without bytes. The call allocates nothing.
 pub fn read_nothing(alloc: Global) -> TextParts
     ensures tokens { result.tokens ≡ [] }
     ensures labels { result.labels ≡ [] }

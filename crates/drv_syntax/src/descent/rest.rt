@@ -40,7 +40,7 @@ impl<'a> Model for Rest<'a> {
 }
 
 impl<'a> Rest<'a> {
-    /// These bytes, the first of which has this place.
+    /// These bytes are left, the first of which has this place.
     pub fn new(at: u32, bytes: &'a [u8]) -> Rest<'a>
         requires { at + length bytes.now ≤ 1048576 }
         ensures { result ≡ record { at = at; bytes = bytes.now } }
@@ -57,7 +57,7 @@ impl<'a> Rest<'a> {
         self.at
     }
 
-    /// Its bytes.
+    /// The bytes that are left.
     #[inline(always)]
     pub fn bytes(&self) -> &'a [u8]
         ensures { result.now ≡ self.now.bytes }
@@ -65,7 +65,7 @@ impl<'a> Rest<'a> {
         self.bytes
     }
 
-    /// Without its first bytes, so many, which are returned.
+    /// Takes so many bytes of what is left, and returns them.
     #[inline(always)]
     pub fn take(&mut self, size: usize) -> &'a [u8]
         requires { size ≤ length self.old.bytes }
@@ -78,7 +78,7 @@ impl<'a> Rest<'a> {
         &bytes[..size]
     }
 
-    /// Without the white space that it begins with.
+    /// Takes the white space that comes next.
     #[inline(always)]
     pub fn skip_white(&mut self)
         ensures { self.new ≡ after (prefix_len is_white self.old.bytes) self.old }
@@ -86,7 +86,7 @@ impl<'a> Rest<'a> {
         self.take(white_length(self.bytes));
     }
 
-    /// Its first byte.
+    /// The byte that comes next, if there is one.
     #[inline(always)]
     pub fn first(&self) -> Option<u8>
         ensures { result ≡ first_of self.now.bytes }
@@ -97,7 +97,7 @@ impl<'a> Rest<'a> {
         }
     }
 
-    /// Its second byte.
+    /// The byte after the one that comes next, if there is one.
     #[inline(always)]
     pub fn second(&self) -> Option<u8>
         ensures { result ≡ second_of self.now.bytes }
@@ -108,7 +108,7 @@ impl<'a> Rest<'a> {
         }
     }
 
-    /// Without this byte, if it begins with it.
+    /// Takes this byte, if it comes next.
     #[inline(always)]
     pub fn take_if(&mut self, b: u8)
         ensures { self.new ≡ past_byte b self.old }

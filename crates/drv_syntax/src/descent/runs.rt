@@ -8,7 +8,7 @@ ghost use Rattle.std.specs.Prelude.{◌≡◌, ◌≤◌, length};
 use crate::descent::bytes::{is_name_byte, is_suffix};
 use crate::descent::contexts::ListKind;
 
-/// The byte is plain in such a list.
+/// The byte is plain in a list of this kind.
 #[inline(always)]
 fn stands(kind: ListKind, b: u8) -> bool
     ensures { result ≡ plain.runs kind b }
@@ -22,8 +22,8 @@ fn stands(kind: ListKind, b: u8) -> bool
         }
 }
 
-/// How many plain bytes a text in such a list begins with. Most runs have few bytes, so each is
-/// tested.
+/// How many plain bytes a text in a list of this kind begins with. Most runs have few bytes, so each
+/// is tested.
 #[inline(always)]
 pub fn run_length(kind: ListKind, text: &[u8]) -> usize
     ensures run { result ≡ prefix_len (plain.runs kind) text.now }

@@ -211,7 +211,7 @@ pub fn item(
     Ok(ended(r))
 }
 
-/// The plain bytes that the rest begins with, in such a list.
+/// The plain bytes that the rest begins with, in a list of this kind.
 #[inline(always)]
 pub fn plains(kind: ListKind, tail: Tail, r: &mut Reader<'_>) -> Result<Tail, SyntaxFault>
     ensures { Gives SyntaxFault.Memory (λ tail. (tail, seen r.new)) result

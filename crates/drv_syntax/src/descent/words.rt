@@ -20,7 +20,7 @@ pub enum Class {
     Option,
     /// Those of a pattern or a test.
     Word,
-    /// Those of a text for the user, in such a list.
+    /// Those of a text for the user, in a list of this kind.
     Said(ListKind),
 }
 

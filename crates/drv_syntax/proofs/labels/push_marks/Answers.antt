@@ -4,6 +4,7 @@ use Rattle.std.proofs.Common.{arith, ◌∙◌}
 
 -- push_marks (src/labels.rt). The marks of bytes that follow one another from this place on.
 
+-- one mark more is put, in reserved room
 pub loop-byte-preserved : goal.loop-byte-preserved
 loop-byte-preserved c =
     record {

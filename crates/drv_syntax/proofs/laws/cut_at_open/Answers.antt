@@ -3,8 +3,10 @@ use Rattle.drv_syntax.proofs.laws.cut_at_open.Goals as goal
 
 -- cut_at_open (src/laws.rt). A text that is cut short is cut at the place of what is open at its end, and at no other.
 
+-- a text that is cut short leaves something open at the place that is named
 pub returns-clause-cut : goal.returns-clause-cut
 returns-clause-cut c = cut_at
 
+-- a text that leaves something open there is cut at that place
 pub returns-clause-open : goal.returns-clause-open
 returns-clause-open c = cut_there

@@ -6,8 +6,10 @@ use Rattle.std.proofs.Common.{refl}
 -- descent_is_read (src/laws.rt). The grammar as functions, one for each part of a text, makes of each text what is read of it: its tree,
 -- that it is cut short, or the first byte that doesn't fit.
 
+-- what Descent gives is what a text gives
 pub returns-clause-outcome : goal.returns-clause-outcome
 returns-clause-outcome c = λ text. refl
 
+-- what Descent gives, judged, is what a text is parsed to that is not too long
 pub returns-clause-parsed : goal.returns-clause-parsed
 returns-clause-parsed c = λ text h. allowed text (descent text) h refl

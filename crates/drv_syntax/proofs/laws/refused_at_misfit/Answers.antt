@@ -3,8 +3,10 @@ use Rattle.drv_syntax.proofs.laws.refused_at_misfit.Goals as goal
 
 -- refused_at_misfit (src/laws.rt). A text is refused at the byte after its longest prefix that is a front, and at no other.
 
+-- a text that is refused at a place has its first misfit there
 pub returns-clause-refused : goal.returns-clause-refused
 returns-clause-refused c = misfit_at
 
+-- a text with its first misfit at a place is refused there
 pub returns-clause-misfit : goal.returns-clause-misfit
 returns-clause-misfit c = misfit_refused

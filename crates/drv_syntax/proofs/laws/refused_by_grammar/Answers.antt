@@ -4,8 +4,10 @@ use Rattle.drv_syntax.proofs.laws.refused_by_grammar.Goals as goal
 
 -- refused_by_grammar (src/laws.rt). A text is refused for a fault exactly where the grammar refuses it for that one.
 
+-- a fault of a text is one by the grammar
 pub returns-clause-refused : goal.returns-clause-refused
 returns-clause-refused c = parsed_refused
 
+-- a fault by the grammar is what a text is parsed to
 pub returns-clause-parsed : goal.returns-clause-parsed
 returns-clause-parsed c = λ text fault. refused_parsed

@@ -5,11 +5,13 @@ use Rattle.std.proofs.Common.{arith, subst, sym}
 
 -- parse (src/tree.rt). The tree of a text, or its first fault.
 
+-- a text that can't be read is refused by the grammar
 pub returns-in_err-read-clause-refused : goal.returns-in_err-read-clause-refused
 returns-in_err-read-clause-refused c =
     first_refused c.args.text.now (omega (arith, c.if-text-gt-TEXT_LIMIT.false)) c.from_residual.result c.in_err-read.field-0.0
     c.from_residual.ensures.1 c.in_err-read.ensures
 
+-- what was read is kept of this text
 pub invariant_of-result : goal.invariant_of-result
 invariant_of-result c =
     subst (λ t. IsRead t c.in_ok-read.read) (sym c.in_ok-text.ensures.items)

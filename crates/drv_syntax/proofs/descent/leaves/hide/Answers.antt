@@ -5,6 +5,7 @@ use Rattle.std.proofs.Common.{◌∙◌}
 
 -- hide (src/descent/leaves.rt). `%<` or `%>`, after the byte.
 
+-- the pattern is read and written
 pub returns : goal.returns
 returns c =
     hidden_done c.args.outer c.args.at (seen c.args.r.now) (seen c.pattern.new.r) (spelled c.in_ok-p.p.word c.pattern.new.r.word.items)

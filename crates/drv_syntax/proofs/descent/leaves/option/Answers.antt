@@ -7,6 +7,7 @@ use Rattle.std.specs.Prelude.{Err}
 
 -- option (src/descent/leaves.rt). `%x`, after the letter.
 
+-- the text ends after the option's bytes
 pub returns-in_default-2 : goal.returns-in_default-2
 returns-in_default-2 c =
     inr (option_opens c.args.outer c.args.at (seen c.args.r.now) c.in-Some.b c.take.new.self c.in-Some.ensures c.if-b-ne123.false
@@ -15,6 +16,7 @@ returns-in_default-2 c =
     (seen_none _ c.quoted.new.r.word.items (seen c.quoted.new.r) _ c.in_ok-word.ensures c.in_default-2.is)
     ∙ ap (λ e. Err e) (sym c.unclosed-in_default-2.ensures))
 
+-- the text ends in an escape of the option
 pub returns-in_default-first : goal.returns-in_default-first
 returns-in_default-first c =
     inr (option_opens c.args.outer c.args.at (seen c.args.r.now) c.in-Some.b c.take.new.self c.in-Some.ensures c.if-b-ne123.false
@@ -26,6 +28,7 @@ returns-in_default-first c =
     c.in_default-first.ensures
     ∙ ap (λ e. Err e) (sym c.unclosed-in_default-first.ensures))
 
+-- the option has no bytes
 pub returns-then-none : goal.returns-then-none
 returns-then-none c =
     inr (option_opens c.args.outer c.args.at (seen c.args.r.now) c.in-Some.b c.take.new.self c.in-Some.ensures c.if-b-ne123.false
@@ -37,6 +40,7 @@ returns-then-none c =
     c.in-Some-first.field-0 c.in-Some-first.ensures
     (c.if-none.ensures ∙ ap (λ x. is_empty (spelled c.in-Some-2.word x)) c.deref.ensures.value))
 
+-- the option is written, with its brace
 pub returns : goal.returns
 returns c =
     option_opens c.args.outer c.args.at (seen c.args.r.now) c.in-Some.b c.take.new.self c.in-Some.ensures c.if-b-ne123.false

@@ -8,12 +8,14 @@ use Rattle.std.specs.Prelude.{Err, Ok}
 
 -- saying (src/descent/leaves.rt). `%e` or `%n`, after the letter.
 
+-- the text ends in an escape of the message
 pub returns-in_default : goal.returns-in_default
 returns-in_default c =
     inr (saying_hung c.args.outer (kind_seen c.args.list) c.args.kind c.args.at (seen c.args.r.now) (seen c.quoted.new.r)
     (seen_none _ c.quoted.new.r.word.items (seen c.quoted.new.r) _ c.in_ok-word.ensures c.in_default.is)
     ∙ ap (λ i. Err (Unclosed (open_at c.args.outer i))) (sym c.at.ensures.place) ∙ ap (λ e. Err e) (sym c.unclosed.ensures))
 
+-- the message is written, with the newline after it, if there is one
 pub returns : goal.returns
 returns c =
     saying_done c.args.outer (kind_seen c.args.list) c.args.kind c.args.at (seen c.args.r.now) (seen c.quoted.new.r)

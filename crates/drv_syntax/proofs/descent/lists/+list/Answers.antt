@@ -26,6 +26,7 @@ use Rattle.std.specs.Prelude.{Err, Ok, Some}
 
 -- The functions of the reader that call one another (src/descent/): each gives what the descent gives for its list, choice, test or call.
 
+-- the text ends in the list, and a whole text may
 pub items-returns-in_default-clause-list : goal.items-returns-in_default-clause-list
 items-returns-in_default-clause-list t c =
     sym c.loop-tail.invariant
@@ -34,6 +35,7 @@ items-returns-in_default-clause-list t c =
     ∙ items_finish (around c.args.c.levels).0 (around c.args.c.levels).1 (context_seen c.args.c) c.args.outer c.requires c.in_ok-tail.tail
     c.in_ok-last.last (seen c.plains.new.r) c.at.result c.in_default.ensures c.at.ensures.place (sym c.at_end.ensures ∙ c.in_ok-last.was)
 
+-- the text ends in a list that is no whole text
 pub items-returns-in_err-last-clause-list : goal.items-returns-in_err-last-clause-list
 items-returns-in_err-last-clause-list t c =
     err_gives _ c.in_err-last.field-0.0 _ c.from_residual-in_err-last.result _ c.from_residual-in_err-last.ensures.1
@@ -44,6 +46,7 @@ items-returns-in_err-last-clause-list t c =
     (seen c.plains.new.r) c.at.result c.in_err-last.field-0.0 c.in_default.ensures c.at.ensures.place
     (sym c.at_end.ensures ∙ c.in_err-last.was))
 
+-- the byte that ends the list comes next
 pub items-returns-then-ends_list-clause-list : goal.items-returns-then-ends_list-clause-list
 items-returns-then-ends_list-clause-list t c =
     sym c.loop-tail.invariant
@@ -78,6 +81,7 @@ items-loop-tail-smaller-then-b-eq37 t c =
           c.loop-tail.tail c.in_ok-tail.tail (seen c.loop-tail.r) (seen c.plains.new.r) (ok_same c.in_ok-tail.ensures),
     )
 
+-- after a directive it is written, and the items after it follow
 pub items-loop-tail-preserved-then-b-eq37 : goal.items-loop-tail-preserved-then-b-eq37
 items-loop-tail-preserved-then-b-eq37 t c =
     ap (λ x. listed_given c.args.outer x (seen c.percent.new.r)
@@ -115,6 +119,7 @@ items-loop-tail-smaller t c =
           c.loop-tail.tail c.in_ok-tail.tail (seen c.loop-tail.r) (seen c.plains.new.r) (ok_same c.in_ok-tail.ensures),
     )
 
+-- after an item that is no directive it is written, and the items after it follow
 pub items-loop-tail-preserved : goal.items-loop-tail-preserved
 items-loop-tail-preserved t c =
     sym (sym c.loop-tail.invariant
@@ -208,6 +213,7 @@ percent-returns-in_err-braces-in-WithBraces t c =
     ∙ h)
     c.in_err-braces-in-WithBraces.ensures c.from_residual-in_err-braces-in-WithBraces.ensures.1
 
+-- another byte than an opening brace (123) follows %W or %@
 pub percent-returns-then-b-ne123 : goal.percent-returns-then-b-ne123
 percent-returns-then-b-ne123 t c =
     inr (percent_opens (around c.args.c.levels) (context_seen c.args.c) c.args.outer (seen c.args.r.now) c.at-at.result c.in-Some.b
@@ -284,11 +290,13 @@ tests-returns-in_err-test t c =
     (seen c.args.r.now) c.in_err-test.field-0.0 h)
     c.in_err-test.ensures c.from_residual.ensures.1
 
+-- the braces hold one pattern
 pub tests-returns-in-Emits : goal.tests-returns-in-Emits
 tests-returns-in-Emits t c =
     tests_at (around c.args.c.levels).1 (context_seen c.args.c) c.args.at c.args.outer (order_seen c.args.order) (seen c.args.r.now)
     (seen c.test.new.r) c.in_ok-test.field-0 nexts.Emits c.in_ok-test.ensures c.in-Emits.is
 
+-- the alternative has one test
 pub tests-returns-in-Asks : goal.tests-returns-in-Asks
 tests-returns-in-Asks t c =
     tests_at (around c.args.c.levels).1 (context_seen c.args.c) c.args.at c.args.outer (order_seen c.args.order) (seen c.args.r.now)
@@ -349,6 +357,7 @@ tests-returns-in_ok-more_tests-in-Bars t c =
     (seen c.test.new.r) (seen c.more_tests.new.r) c.in_ok-test.field-0 c.in-Bars.choice
     c.in_ok-more_tests-in-Bars.field-0 c.in_ok-test.ensures c.in-Bars.is c.in_ok-more_tests-in-Bars.ensures
 
+-- a test after a bar is no pattern
 pub more_tests-returns-in-Emits : goal.more_tests-returns-in-Emits
 more_tests-returns-in-Emits t c =
     inr (sym c.loop-choice.invariant
@@ -390,6 +399,7 @@ choices-returns-in_ok-later t c =
     (seen c.args.r.now) (seen c.tests.new.r) c.in_ok-tests.field-0 c.in_ok-tests.ensures c.in-Tests.choice c.in-Tests.is
     c.in_ok-x.field-0 (seen c.x.new.r) c.in_ok-x.ensures (seen c.later.new.r) c.if-branch-ne125.true c.in_ok-later.ensures
 
+-- a closing brace (125) ends the first X, and the braces with it
 pub choices-returns-else-branch-ne125 : goal.choices-returns-else-branch-ne125
 choices-returns-else-branch-ne125 t c =
     choices_x_last (around c.args.c.levels).0 (around c.args.c.levels).1 (context_seen c.args.c) c.args.at c.args.outer (seen c.args.r.now)
@@ -408,6 +418,7 @@ later-returns-in_err-x t c =
     c.in_ok-choice.choice (seen c.opened_default.new.r) (ok_same c.in_ok-choice.ensures) c.in_err-x.field-0.0 h)
     c.in_err-x.ensures c.from_residual-in_err-x.ensures.1
 
+-- another alternative follows the default
 pub later-returns-then-branch-ne125 : goal.later-returns-then-branch-ne125
 later-returns-then-branch-ne125 t c =
     inr (sym c.loop-r.invariant ∙ default_bad (around c.args.c.levels).0 (around c.args.c.levels).1
@@ -419,6 +430,7 @@ later-returns-then-branch-ne125 t c =
     c.in_ok-choice.choice (seen c.opened_default.new.r) (ok_same c.in_ok-choice.ensures)
     c.in_ok-x.field-0 (seen c.x.new.r) c.in_ok-x.ensures c.if-branch-ne125.true)
 
+-- the default is the last alternative
 pub later-returns-then-begins_at : goal.later-returns-then-begins_at
 later-returns-then-begins_at t c =
     sym c.loop-r.invariant ∙ default_last (around c.args.c.levels).0 (around c.args.c.levels).1
@@ -440,6 +452,7 @@ later-returns-in_err-choice-2 t c =
     c.white_length-white.ensures.run c.bytes.ensures c.bytes-in-loop-r.ensures (sym c.begins_at.ensures ∙ c.if-begins_at.false)) h)
     c.in_err-choice-2.ensures c.from_residual-in_err-choice-2.ensures.1
 
+-- patterns are in the place of a later alternative
 pub later-returns-in_default : goal.later-returns-in_default
 later-returns-in_default t c =
     inr (sym c.loop-r.invariant ∙ later_patterns (around c.args.c.levels).0 (around c.args.c.levels).1
@@ -460,6 +473,7 @@ later-returns-in_err-x-2 t c =
     (seen c.tests.new.r) c.in_ok-choice-2.field-0 c.in_ok-choice-2.ensures c.in-Tests.choice c.in-Tests.is c.in_err-x-2.field-0.0 h)
     c.in_err-x-2.ensures c.from_residual-in_err-x-2.ensures.1
 
+-- a closing brace (125) ends the X of a later alternative
 pub later-returns-then-branch-eq125 : goal.later-returns-then-branch-eq125
 later-returns-then-branch-eq125 t c =
     sym c.loop-r.invariant ∙ later_x_last (around c.args.c.levels).0 (around c.args.c.levels).1
@@ -489,6 +503,7 @@ later-loop-r-preserved t c =
     c.in_ok-x-2.field-0 (seen c.x-in-loop-r.new.r) c.in_ok-x-2.ensures c.if-branch-eq125.false)
     ∙ c.loop-r.invariant
 
+-- a test without a function (no % is there, 37)
 pub test-returns-then-begun-ne37 : goal.test-returns-then-begun-ne37
 test-returns-then-begun-ne37 t c =
     test_plain (around c.args.c.levels).1 (context_seen c.args.c) c.args.at c.args.outer (order_seen c.args.order) c.args.so_far

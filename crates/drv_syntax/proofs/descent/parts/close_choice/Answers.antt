@@ -4,6 +4,7 @@ use Rattle.drv_syntax.specs.Code.Writing.{seen}
 
 -- close_choice (src/descent/parts.rt). An alternative ends, whose X ends so without the white space at its end.
 
+-- what was written after the tail is taken back, and the alternative's token and label are filled in
 pub returns : goal.returns
 returns c =
     owned_of c.args.choice c.args.tail c.args.around (seen c.args.r.now) c.truncate.new.self c.close.new.self c.truncate-2.new.self

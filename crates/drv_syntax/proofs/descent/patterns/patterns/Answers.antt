@@ -10,6 +10,7 @@ use Rattle.std.specs.Prelude.{Err}
 
 -- patterns (src/descent/patterns.rt). Patterns after an ampersand, with the brace that closes them.
 
+-- the next pattern has a fault
 pub returns-in_err-p : goal.returns-in_err-p
 returns-in_err-p c =
     gives_err _ c.in_err-p.field-0.0 _ c.from_residual.result _ _
@@ -17,6 +18,7 @@ returns-in_err-p c =
     c.skip_white.ensures h)
     c.in_err-p.ensures c.from_residual.ensures.1
 
+-- the text ends after a pattern
 pub returns-in_default : goal.returns-in_default
 returns-in_default c =
     inr (sym c.loop-p.invariant ∙ joined_cut c.args.outer c.args.at (seen c.loop-p.r) (seen c.pattern.new.r) c.skip_white.new.self
@@ -26,6 +28,7 @@ returns-in_default c =
     c.in_default.ensures
     ∙ ap (λ e. Err e) (sym c.unclosed.ensures))
 
+-- another byte than } and & (38) follows a pattern
 pub returns-then-b-ne38 : goal.returns-then-b-ne38
 returns-then-b-ne38 c =
     inr (sym c.loop-p.invariant ∙ joined_bad c.args.outer c.args.at (seen c.loop-p.r) (seen c.pattern.new.r) c.skip_white.new.self
@@ -35,6 +38,7 @@ returns-then-b-ne38 c =
     c.in-Some.ensures
     c.if-b-eq125.false c.if-b-ne38.true)
 
+-- a closing brace (125) ends the patterns
 pub returns-then-b-eq125 : goal.returns-then-b-eq125
 returns-then-b-eq125 c =
     sym c.loop-p.invariant ∙ joined_done c.args.outer c.args.at (seen c.loop-p.r) (seen c.pattern.new.r) c.skip_white.new.self
@@ -44,6 +48,7 @@ returns-then-b-eq125 c =
     c.take.new.self c.in-Some.ensures
     c.if-b-eq125.true c.take.ensures.left ∙ c.in_ok-emitted.ensures
 
+-- after an ampersand less of the text is left
 pub loop-p-smaller : goal.loop-p-smaller
 loop-p-smaller c =
     subst (λ (v : Reading). length v.rest.bytes < length c.loop-p.r.rest.bytes) (ok_same c.in_ok-emitted-2.ensures)
@@ -52,6 +57,7 @@ loop-p-smaller c =
     c.skip_white.ensures c.in_ok-p.ensures c.skip_white-in-loop-p.ensures c.at-start.ensures.place c.at-end.ensures.place c.in-Some.b
     c.take-in-loop-p.new.self c.in-Some.ensures c.take-in-loop-p.ensures.left)
 
+-- after an ampersand the pattern is written, and the others follow
 pub loop-p-preserved : goal.loop-p-preserved
 loop-p-preserved c =
     sym (sym c.loop-p.invariant ∙ joined_goes c.args.outer c.args.at (seen c.loop-p.r) (seen c.pattern.new.r) c.skip_white.new.self

@@ -4,11 +4,14 @@ use Rattle.drv_syntax.specs.Code.Writing.{seen}
 use Rattle.drv_syntax.specs.Descent as descent
 use Rattle.std.proofs.Common.{◌≡◌, length}
 
--- what is written and what is left is all
+-- The loops of patterns (src/descent/patterns.rt). Patterns after an ampersand, with the brace that closes them.
+
+-- the patterns so far and what Descent gives of the text that is left make what is given of all
 abbrev pub invariant-loop-p : goal.invariant-loop-p
 invariant-loop-p l =
     patterns_given l.outer (seen l.r) (descent.patterns l.at l.r.rest.at 0 l.r.rest.bytes)
     ≡ patterns_given l.fn.outer (seen l.fn.r) (descent.patterns l.fn.at l.fn.r.rest.at 0 l.fn.r.rest.bytes)
 
+-- each round takes a byte of the text at least
 abbrev pub decreases-loop-p : goal.decreases-loop-p
 decreases-loop-p l = length l.r.rest.bytes

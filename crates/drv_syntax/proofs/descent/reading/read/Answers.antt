@@ -6,6 +6,7 @@ use Rattle.std.specs.Prelude.{false}
 
 -- read (src/descent/reading.rt). The parts of a text, of which those of its first bytes, so many, are these.
 
+-- the items have a fault
 pub returns-in_err-items : goal.returns-in_err-items
 returns-in_err-items c =
     gives_err _ c.in_err-items.field-0.0 _ c.from_residual.result _ _
@@ -14,6 +15,7 @@ returns-in_err-items c =
     c.new.ensures c.in_err-items.field-0.0 h)
     c.in_err-items.ensures.list c.from_residual.ensures.1
 
+-- the items are read to the end of the text
 pub returns : goal.returns
 returns c =
     rest_done c.args.start c.args.more.now

@@ -3,9 +3,11 @@ use Rattle.drv_syntax.proofs.descent.reading.read_more.Goals as goal
 
 -- read_more (src/descent/reading.rt). The tokens and the labels of a text, of which those of its first bytes, so many, are these.
 
+-- the rest of the text has a fault
 pub returns-in_err-r : goal.returns-in_err-r
 returns-in_err-r c =
     gives_err _ c.in_err-r.field-0.0 _ c.from_residual.result _ _ (λ h. h) c.in_err-r.ensures c.from_residual.ensures.1
 
+-- the rest of the text is read
 pub returns : goal.returns
 returns c = c.in_ok-r.ensures

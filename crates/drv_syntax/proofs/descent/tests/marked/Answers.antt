@@ -7,12 +7,14 @@ use Rattle.std.specs.Prelude.{Err}
 
 -- marked (src/descent/tests.rt). What a test asks that begins with this mark, after it.
 
+-- the text ends in an escape of the word after the mark
 pub returns-in_default : goal.returns-in_default
 returns-in_default c =
     inr (marked_hung c.args.outer c.args.at c.args.emits c.args.mark (seen c.args.r.now) (seen c.quoted.new.r)
     (seen_none _ c.quoted.new.r.word.items (seen c.quoted.new.r) _ c.in_ok-word.ensures c.in_default.is)
     ∙ ap (λ e. Err e) (sym c.unclosed.ensures))
 
+-- what follows the word makes neither a test nor a pattern
 pub returns-in_err-form : goal.returns-in_err-form
 returns-in_err-form c =
     err_gives _ c.in_err-form.field-0.0 _ c.from_residual-in_err-form.result _ c.from_residual-in_err-form.ensures.1
@@ -22,6 +24,7 @@ returns-in_err-form c =
     (c.is_none.ensures ∙ ap (λ x. is_empty (spelled c.in-Some.word x)) c.deref.ensures.value) c.first.ensures
     (sym c.mark_form.ensures ∙ c.in_err-form.was))
 
+-- the word and what follows it are taken
 pub returns : goal.returns
 returns c =
     marked_done c.args.outer c.args.at c.args.emits c.args.mark (seen c.args.r.now) (seen c.quoted.new.r)

@@ -8,6 +8,7 @@ use Rattle.std.proofs.Common.{◌∙◌, sym}
 
 -- plain_operand (src/descent/tests.rt). What a test asks that doesn't ask for a function's result, or a pattern.
 
+-- what follows the mark has a fault
 pub returns-in_err-o : goal.returns-in_err-o
 returns-in_err-o c =
     gives_err _ c.in_err-o.field-0.0 _ c.from_residual.result _ _
@@ -15,11 +16,13 @@ returns-in_err-o c =
     (sym c.is_mark.ensures ∙ c.if-is_mark.true) c.take.ensures.left ∙ h)
     c.in_err-o.ensures c.from_residual.ensures.1
 
+-- a mark and its word are taken
 pub returns-then-is_mark : goal.returns-then-is_mark
 returns-then-is_mark c =
     asked_mark no_lists top c.args.outer c.args.at c.args.emits (seen c.args.r.now) c.args.b c.requires.byte c.take.new.self
     (sym c.is_mark.ensures ∙ c.if-is_mark.true) c.take.ensures.left ∙ c.in_ok-o.ensures
 
+-- the pattern has a fault
 pub returns-in_err-p : goal.returns-in_err-p
 returns-in_err-p c =
     gives_err _ c.in_err-p.field-0.0 _ c.from_residual-in_err-p.result _ _

@@ -7,6 +7,7 @@ use Rattle.drv_syntax.specs.Descent.{no_lists}
 
 -- plain_test (src/descent/tests.rt). A test that doesn't ask for a function's result, or a pattern, after its front.
 
+-- what the test asks and white space are taken; the byte after them decides
 pub returns : goal.returns
 returns c =
     gives_same _ _ c.judged.result _ _

@@ -4,6 +4,7 @@ use Rattle.std.proofs.Common.{arith, ◌∙◌}
 
 -- push_plains (src/descent/tokens.rt). The tokens of plain bytes, the first of them at this place.
 
+-- one token more is put, in reserved room
 pub loop-byte-preserved : goal.loop-byte-preserved
 loop-byte-preserved c =
     record {

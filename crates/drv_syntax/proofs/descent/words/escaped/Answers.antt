@@ -7,6 +7,7 @@ use Rattle.std.proofs.Common.{◌∙◌, ap, sym}
 -- escaped (src/descent/words.rt). More of a run of bytes of the class and of escapes, after this part of it; nothing where the text ends in
 -- an escape.
 
+-- after a backslash (92) and the byte that it makes plain, which is copied
 pub loop-b-preserved-then-b-eq92 : goal.loop-b-preserved-then-b-eq92
 loop-b-preserved-then-b-eq92 c =
     escape_kept c.args.class c.loop-b.r.word.items c.push.new.self.items (seen c.loop-b.r) c.take.new.self c.in-Some.b
@@ -16,6 +17,7 @@ loop-b-preserved-then-b-eq92 c =
     c.take.ensures.left
     c.loop-b.invariant
 
+-- after a byte of the class, which is copied
 pub loop-b-preserved : goal.loop-b-preserved
 loop-b-preserved c =
     plain_kept c.args.class c.loop-b.r.word.items c.push-then-belongs.new.self.items (seen c.loop-b.r) c.take-then-belongs.new.self

@@ -3,11 +3,15 @@ use Rattle.drv_syntax.specs.Code.Writing.{in_class, quoted_to, seen}
 use Rattle.drv_syntax.specs.Descent.{quoted}
 use Rattle.std.proofs.Common.{◌≡◌, length}
 
--- what is copied and what is left is all
+-- The loops of escaped (src/descent/words.rt). More of a run of bytes of the class and of escapes, after this part of it; nothing where the
+-- text ends in an escape.
+
+-- the bytes that are copied and the run at the front of what is left make the whole run
 abbrev pub invariant-loop-b : goal.invariant-loop-b
 invariant-loop-b l =
     quoted_to l.r.word.items (seen l.r) (quoted (in_class l.class) l.r.rest.bytes)
     ≡ quoted_to l.front (seen l.fn.r) (quoted (in_class l.class) l.fn.r.rest.bytes)
 
+-- each round takes a byte of the text at least
 abbrev pub decreases-loop-b : goal.decreases-loop-b
 decreases-loop-b l = length l.r.rest.bytes

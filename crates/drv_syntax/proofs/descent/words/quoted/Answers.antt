@@ -9,6 +9,7 @@ use Rattle.std.specs.Prelude.{Ok}
 
 -- quoted (src/descent/words.rt). The longest run of bytes of the class and of escapes; nothing where the text ends in an escape.
 
+-- no backslash follows the run: its bytes are those of the text
 pub returns-then-not-begins : goal.returns-then-not-begins
 returns-then-not-begins c =
     ap (λ x. Ok x) (run_found c.args.class (seen c.args.r.now) c.run_length-size.result c.take-run.result.now c.take-run.new.self
@@ -16,6 +17,7 @@ returns-then-not-begins c =
     c.take-run.ensures.taken (ap (λ bs. begins_with ascii.backslash bs) (sym c.bytes-2.ensures) ∙ sym c.begins.ensures
     ∙ c.if-not-begins.true))
 
+-- after a backslash the run is copied, and it ends
 pub returns-then-branch : goal.returns-then-branch
 returns-then-branch c =
     ap (λ x. Ok x) (run_goes c.args.class (seen c.args.r.now) c.run_length-size.result c.take-run.result.now c.take-run.new.self
@@ -23,6 +25,7 @@ returns-then-branch c =
     c.take-run.ensures.taken) ∙ c.in_ok-escaped.ensures
     ∙ ap (λ t. Ok (quoted_seen t c.escaped.new.r.word.items (seen c.escaped.new.r))) c.if-branch.true
 
+-- after a backslash the run is copied, and the text ends in an escape
 pub returns-else-branch : goal.returns-else-branch
 returns-else-branch c =
     ap (λ x. Ok x) (run_goes c.args.class (seen c.args.r.now) c.run_length-size.result c.take-run.result.now c.take-run.new.self

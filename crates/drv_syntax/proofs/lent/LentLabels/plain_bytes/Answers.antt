@@ -4,14 +4,17 @@ use Rattle.drv_syntax.proofs.lent.LentLabels.plain_bytes.Goals.{else-loop-at-tes
 use Rattle.drv_syntax.specs.PlainRuns.{IsByte}
 use Rattle.std.proofs.Common.{◌<◌, arith, length, refl, subst, sym}
 
--- plain_bytes (src/lent.rt). The bytes of plain parts that follow one another from this place on, up to another part or to this end.
+-- plain_bytes (src/lent.rt). The bytes of plain parts that follow one another from this place on, up to another part or to this end, in one
+-- slice.
 
+-- no part is there, so no plain byte is
 pub returns-then-place-last-clause-begins : goal.returns-then-place-last-clause-begins
 returns-then-place-last-clause-begins c b below byte =
     let within = byte_in c.args.tokens.now c.self.inside.words.now c.self.inside.marks.now c.args.place b
     (subst (λ labels. IsByte c.args.tokens.now labels c.args.place b) (sym c.self.view_is) byte) in
     omega (arith, below, within.0, within.1, c.if-place-last.true, c.min.ensures, c.min-last.ensures)
 
+-- before the first part the slice is empty
 pub loop-at-init : goal.loop-at-init
 loop-at-init c =
     record {
@@ -23,6 +26,7 @@ loop-at-init c =
       rest = λ n bytes. run_begun c.args.tokens.now c.self.inside.words.now c.self.inside.marks.now c.args.place _ n bytes;
     }
 
+-- one plain byte more is in the slice
 pub loop-at-preserved : goal.loop-at-preserved
 loop-at-preserved c =
     let kind = c.if-is_byte_at.ensures.kind refl in
@@ -45,12 +49,14 @@ loop-at-preserved c =
           kind start end inside) inside;
     }
 
+-- the parts that the loop passed are the bytes of the slice
 pub returns-clause-bytes : goal.returns-clause-bytes
 returns-clause-bytes c =
     rw (← c.self.view_is)
     (run_done c.args.tokens.now c.self.inside.words.now c.self.inside.marks.now c.loop-at.at c.args.place _ c.loop-at.stop
     c.loop-at.invariant.rest)
 
+-- a plain byte that is first is in the slice
 pub returns-clause-begins : goal.returns-clause-begins
 returns-clause-begins c b below byte =
     some_bytes c.self.inside.words.now _ c.loop-at.stop (omega (arith, c.loop-at.invariant.stop, later)) c.loop-at.invariant.words

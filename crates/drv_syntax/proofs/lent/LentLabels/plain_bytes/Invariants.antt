@@ -3,8 +3,10 @@ use Rattle.drv_syntax.specs.Marks.{marked_labels}
 use Rattle.drv_syntax.specs.PlainRuns.{AreBytes}
 use Rattle.std.proofs.Common.{◌≡◌, ◌+◌, ◌-◌, ◌≤◌, drop, length, take, ℕ}
 
--- The loop of plain_bytes (src/lent.rt). The bytes so far, and then those from the place that is reached, are those from the first place.
+-- The loops of plain_bytes (src/lent.rt). The bytes of plain parts that follow one another from this place on, up to another part or to
+-- this end, in one slice.
 
+-- the parts from the first place to the one that is reached are the bytes from `start` to `stop`; so bytes that follow there follow here
 abbrev pub invariant-loop-at : goal.invariant-loop-at
 invariant-loop-at l = record {
   later : l.place ≤ l.at;
@@ -15,5 +17,6 @@ invariant-loop-at l = record {
       → AreBytes l.tokens (marked_labels l.words l.marks) l.place (take (l.stop - l.start + n) (drop l.start l.words));
 }
 
+-- each round passes a part
 abbrev pub decreases-loop-at : goal.decreases-loop-at
 decreases-loop-at l = l.last - l.at

@@ -3,6 +3,7 @@ use Rattle.drv_syntax.proofs.tree.SpecTree.empty.Goals as goal
 
 -- empty (src/tree.rt). The tree of a text without bytes.
 
+-- the text without bytes has no token and no label
 pub invariant_of-result : goal.invariant_of-result
 invariant_of-result c =
     nothing_kept c.new.result.items c.read_nothing.result c.new.ensures.items c.read_nothing.ensures.tokens c.read_nothing.ensures.labels

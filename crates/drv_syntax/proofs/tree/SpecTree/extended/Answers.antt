@@ -6,6 +6,7 @@ use Rattle.std.proofs.Common.{◌∙◌, ◌++◌, ap, arith, inr, length, lengt
 
 -- extended (src/tree.rt). The tree of the text with more after it, or its first fault.
 
+-- what follows the kept parts has a fault: it is that of the whole text
 pub returns-in_err-read-clause-tree : goal.returns-in_err-read-clause-tree
 returns-in_err-read-clause-tree c =
     refused_more c.self.inside.text.items c.args.self c.args.more.now c.extend_from_slice.new.self.items (length c.text-start.result.now)
@@ -17,6 +18,7 @@ returns-in_err-read-clause-tree c =
     ∙ sym c.if-not-goes_on.ensures)
     c.from_residual-in_err-read.result c.in_err-read.field-0.0 c.from_residual-in_err-read.ensures.1 c.in_err-read.ensures
 
+-- the kept parts and those that were read are the whole text's
 pub invariant_of-result : goal.invariant_of-result
 invariant_of-result c =
     kept_there c.self.inside.text.items c.args.self c.args.more.now c.extend_from_slice.new.self.items (length c.text-start.result.now)
@@ -28,6 +30,7 @@ invariant_of-result c =
     ∙ sym c.if-not-goes_on.ensures)
     c.in_ok-read.read c.in_ok-extend_from_slice.ensures.items c.in_ok-read.ensures
 
+-- the kept parts and those that were read are the tree of the whole text
 pub returns-clause-tree : goal.returns-clause-tree
 returns-clause-tree c =
     tree_there c.self.inside.text.items c.args.self c.args.more.now c.extend_from_slice.new.self.items (length c.text-start.result.now)
@@ -39,14 +42,17 @@ returns-clause-tree c =
     ∙ sym c.if-not-goes_on.ensures)
     c.in_ok-read.read c.in_ok-extend_from_slice.ensures.items c.in_ok-read.ensures
 
+-- the whole text is too long
 pub returns-then-more-start-clause-refused : goal.returns-then-more-start-clause-refused
 returns-then-more-start-clause-refused c =
     inr (long_refused (c.args.self ++ c.args.more.now)
     (omega (arith, length-append c.args.self c.args.more.now, c.if-more-start.true, ap length c.text-start.ensures)))
 
+-- what follows the kept parts is refused: the whole text is, by the grammar
 pub returns-in_err-read-clause-refused : goal.returns-in_err-read-clause-refused
 returns-in_err-read-clause-refused c =
     given_refused (c.args.self ++ c.args.more.now) c.from_residual-in_err-read.result (returns-in_err-read-clause-tree c)
 
+-- the tree of the whole text is one by the grammar
 pub returns-clause-spelled : goal.returns-clause-spelled
 returns-clause-spelled c = read_spelled c.extend_from_slice.new.self.items c.in_ok-read.read (invariant_of-result c)

@@ -6,6 +6,7 @@ use Rattle.std.proofs.Common.{subst, sym}
 
 -- plain_bytes (src/tree.rt). The plain bytes that follow one another from this place on, up to another part or to this end, in one slice.
 
+-- a plain byte of the tree is one of its lent labels
 pub returns-clause-begins : goal.returns-clause-begins
 returns-clause-begins c b below byte =
     c.plain_bytes.ensures.begins b below
