@@ -10,6 +10,7 @@ use Rattle.std.specs.Prelude.{Ok, Option, Result, if◌then◌else◌, nat_eq}
 
 -- For `append` (a body that begins with + and a blank): the code takes the text out of the map, changes it and puts it back, which gives
 -- what one put gives.
+-- Names: `s` is a set. `name` is the name of a text. `text` is a text. `with_named` puts a text under a name.
 
 -- a name that is put twice has the second text
 entry_twice : (name text other : List ℕ) (es : List (List ℕ × List ℕ))
@@ -18,6 +19,7 @@ entry_twice : (name text other : List ℕ) (es : List (List ℕ × List ℕ))
 entry_twice name text other [] = rw (nat_list_eq_equiv.refl name) refl
 entry_twice name text other (e ∷ es) = by (pointwise nat_eq name e.0) refl (entry_twice name text other es)
   where
+    -- Plan: by whether the first entry has the name.
     by : (hit : Bool) → pointwise nat_eq name e.0 ≡ hit
         → insert_entry (pointwise nat_eq) (insert_entry (pointwise nat_eq) es name other) name text
         ≡ insert_entry (pointwise nat_eq) es name text

@@ -17,13 +17,16 @@ use Rattle.std.specs.Prelude.{cond}
 -- For the invariant of `SpecSet` (`Kept`): the empty set and the built-in one have it. The built-in set is what loading its own dump gives,
 -- which the prover computes, and loading keeps the invariant.
 
+-- the empty set has the invariant
 empty_kept : Kept no_specs
 unfolding IsDistinct
 empty_kept = record { named = tt; pairs = tt; distinct = tt }
 
+-- no prefixes: the dump includes no file
 abbrev nowhere : Prefixes
 nowhere = record { programs = []; libraries = [] }
 
+-- the dump of the built-in set stays as it is when it is settled
 dump_settled : is_settled false (dumped builtin_specs) ≡ true
 unfolding builtin_named builtin_pairs
 dump_settled = refl
@@ -42,6 +45,7 @@ dump_loads =
     (read_lines false 1 (lines_of text))) set_in) (settled_same (dumped builtin_specs) dump_settled)
     ∙ ap (λ known. then_by known set_in) dump_carried
 
+-- the built-in set has the invariant
 builtin_kept : Kept builtin_specs
 builtin_kept = loaded_keeps no_facts nowhere no_specs builtin_specs (dumped builtin_specs) empty_kept dump_loads
 
@@ -56,6 +60,7 @@ each_filter P test (x ∷ xs) each = by (test x) (each_filter P test xs each.1)
     by true later = (each.0, later)
     by false later = later
 
+-- and so has the set of its pairs without texts
 suffixes_kept : Kept suffixes
 unfolding IsDistinct
 suffixes_kept = record { named = tt; pairs = each_filter IsPair has_no_text builtin_pairs builtin_kept.pairs; distinct = tt }

@@ -24,6 +24,11 @@ use Rattle.std.proofs.Common.{sym, zero, ℕ}
 -- For `load` and `load_file` (loading.rt): directives are carried out one after another, those of included files in the place of the
 -- %include. `files` is how many files may still be read, `levels` how deep they may still be within one another; `whole` is what the
 -- definition gives of all directives.
+-- Names: `set` is the set before. `F` is what is known of the outside. `prefixes` is where files are searched for. `files` is how many
+-- files may still be read. `levels` is how deep they may still include one another. `name` is the name of a text. `fault` is a refusal. `X`
+-- is the type of what a list has. `missing` says what is done if the file is missing. `fewer` is how many files may be read after one.
+-- `others` is how many may be read after the file that is included. `all_carried` carries out directives in order. `including` is what an
+-- included file does. `file_loaded` is a set after a file.
 
 -- a directive that reads no file
 abbrev pub ReadsNoFile : Directive → Type 0
@@ -107,7 +112,7 @@ unread_file Unasked fault is = absurd cc
 unread_file (Is (Ok text)) fault is = absurd cc
 unread_file (Is (Err fault')) fault is = is
 
--- the text of a file, settled
+-- the file's text, as the code keeps it, is the settled one
 pub read_file : (given : Known (Result (List ℕ) SpecsFault)) (left : List ℕ) → (given >>= λ g. Is (read_left g)) ≡ Is (Ok left)
     → (text : List ℕ) × ((given ≡ Is (Ok text)) × (left ≡ settled text))
 read_file Unasked left is = absurd cc
@@ -122,6 +127,7 @@ pub text_given : (X : Type 0) (view : X → List ℕ) (F G : Facts) (prefixes : 
     → GivesKnown Memory view result (settled_file F prefixes missing name)
 text_given X view F G prefixes missing name path answer result found e known given = by result given
   where
+    -- Plan: the settled file is what is left of the answer (`is`), so the code's result is the defined one (`by`).
     is : settled_file F prefixes missing name ≡ Is (read_left (text_read missing path answer))
     is =
         ap (λ known. (known >>= λ p. asked (read_of F p) >>= λ a. Is (text_read missing p a)) >>= λ g. Is (read_left g)) found

@@ -25,6 +25,13 @@ use Rattle.std.specs.Map.{keys_of, lookup, remove_entry, set_key}
 -- For loading_keeps (laws.rt): the change of each directive keeps the invariant of a set (`Kept`). Names, texts and keys have the form of
 -- those of a spec file, the names are distinct, and each text that is processed has a tree. A body is what follows the colon of a
 -- directive. An entry is a name and its text.
+-- Names: `set` is the set before. `set'` is the set after. `name` is the name of a text. `key` is a suffix or a language. `text` is a text.
+-- `body` is what follows the colon of a directive. `es` is entries: names and their texts. `eq` is a test for one name. `hit` says whether
+-- the entry at hand has the name. `b` is one byte. `seen` says whether the line has a byte that is no blank. `back` says whether the byte
+-- before is a backslash. `new` is the name that a text gets. `addition` is what is added to a text. `Kept set` is the invariant of every
+-- set. `ends_with_backslash` says that a text ends with a backslash, and so is refused. `is_text` says that a text has the form of one in a
+-- spec file. `is_body seen back text` says that the rest of a text has the form of one. `without_front test text` is a text from the first
+-- byte on that fails the test. `Each P xs` says that P holds of each item. `is_blank` says that a byte is a space or a tab.
 
 -- Entries of a list that is put into, taken from, or renamed in.
 
@@ -71,6 +78,7 @@ inserted_keeps name text (e ∷ es) new kept = by (pointwise nat_eq name e.0) (i
 
 -- Names that stay apart.
 
+-- no entry has this name
 abbrev Apart : List ℕ → List (List ℕ × List ℕ) → Type 0
 Apart name es = AllByRecursion (λ other. pointwise nat_eq name other ≡ false) (keys_of es)
 
@@ -185,6 +193,7 @@ solid_fits : (b : ℕ) (seen back : Bool) → fits seen back b ≡ true → is_w
     → (fits false false b ≡ true) × (sees false b ≡ sees seen b)
 solid_fits b seen back fit white = by (is_blank b) refl (b == newline) refl
   where
+    -- Plan: by whether the byte is a blank or a newline: it is neither.
     by : (blank : Bool) → is_blank b ≡ blank → (cuts : Bool) → (b == newline) ≡ cuts
         → (fits false false b ≡ true) × (sees false b ≡ sees seen b)
     by true blank cuts cuts' = absurd (let wrong : true ≡ false = ap (λ c. c || (b == newline)) (sym blank) ∙ white in cc)
@@ -206,6 +215,7 @@ body_fronted : (text : List ℕ) (seen back : Bool) → list_all is_white text �
 body_fronted [] seen back white is = absurd cc
 body_fronted (b ∷ text) seen back white is = by (is_white b) refl white (body_fronted text (sees seen b) (ends_with_backslash (b ∷ [])))
   where
+    -- Plan: by whether the first byte is white space: it goes, and the rest is a body by induction.
     later : is_body (sees seen b) (ends_with_backslash (b ∷ [])) text ≡ true
     later = and_second (fits seen back b) _ is
 
@@ -231,6 +241,7 @@ append_keeps : (set : Set) (name addition : List ℕ) (set' : Set) → is_name n
     → append set name addition ≡ Ok set' → Kept set → Kept set'
 append_keeps set name addition set' names body is kept = by (list_all is_white addition) refl is
   where
+    -- Plan: by whether the addition is white space alone, which changes nothing.
     by : (white : Bool) → list_all is_white addition ≡ white
         → (if white then Ok set else put set name (appended_text (text_of set name) addition)) ≡ Ok set' → Kept set'
     by true white is' = let same : set ≡ set' = cc in subst Kept same kept
@@ -262,6 +273,7 @@ body_keeps set name (b ∷ []) set' names (inr body) is kept =
 body_keeps set name (b ∷ c ∷ text) set' names (inr body) is kept =
     by (b == plus && is_blank c) refl (sym (filled_body set name b (c ∷ text)) ∙ is)
   where
+    -- Plan: by whether the body begins with + and a blank: then it is appended, else it is put.
     by : (adds : Bool) → (b == plus && is_blank c) ≡ adds
         → (if adds then append set name (c ∷ text) else put set name (b ∷ c ∷ text)) ≡ Ok set' → Kept set'
     by true adds is' =
@@ -294,6 +306,8 @@ pub name_keeps : (set : Set) (old new : List ℕ) (set' : Set) → with_name set
 name_keeps set old new set' is kept = by (is_name old) (is_name new) refl (is_some (text_of set old)) (pointwise nat_eq old new)
     (text_of set new) refl is
   where
+    -- Plan: by each test of %rename: the new name's form, whether the old name is there, whether it is the same, and whether the new one is
+    -- taken.
     by : (olds news : Bool) → is_name new ≡ news → (there same : Bool) (taken : Option (List ℕ)) → text_of set new ≡ taken
         → (if not olds then Err (BadName old) else if not news then Err (BadName new) else if not there then Err (RenameMissing old)
         else if same then Ok set
@@ -314,7 +328,8 @@ name_keeps set old new set' is kept = by (is_name old) (is_name new) refl (is_so
 
 -- Pairs.
 
--- what is left of a text without the white space at its end
+-- What is left of a text without the white space at its end. `front` and `last` are what is left, and `end` is the white space. `solid`
+-- says that the last byte is none. `soft` says that the text has no white space there, or does not end in a backslash.
 record Ended (text : List ℕ) : Type 0 where
   front : List ℕ
   last : ℕ
@@ -324,7 +339,8 @@ record Ended (text : List ℕ) : Type 0 where
   solid : is_white last ≡ false
   soft : (end ≡ []) ⊎ (ends_with_backslash text ≡ false)
 
--- a text with white space at its front, and the byte after that
+-- A text with white space at its front, and the byte after that. `white` is the white space. `first` is the byte after it, which is none
+-- (`solid`), and `rest` is what follows. `soft` says that `white` is empty or begins with white space.
 record Fronts (text : List ℕ) : Type 0 where
   first : ℕ
   rest : List ℕ
@@ -339,6 +355,7 @@ front_split : (text : List ℕ) → (without_front is_white text ≡ []) ⊎ Fro
 front_split [] = inl refl
 front_split (b ∷ text) = by (is_white b) refl (front_split text)
   where
+    -- Plan: by whether the first byte is white space: it is left out, or it is the first of what is left.
     by : (w : Bool) → is_white b ≡ w → (without_front is_white text ≡ []) ⊎ Fronts text
         → (without_front is_white (b ∷ text) ≡ []) ⊎ Fronts (b ∷ text)
     by true w (inl none) = inl (ap (λ c. if c then without_front is_white text else b ∷ text) w ∙ none)
@@ -373,6 +390,7 @@ white_ends b white = by (ends_with_backslash (b ∷ [])) refl
 ended : (text : List ℕ) → (without_end is_white text ≡ []) ⊎ Ended text
 ended text = by (front_split (reverse text))
   where
+    -- Plan: what is left is the reverse of a reversed text without its front.
     by : (without_front is_white (reverse text) ≡ []) ⊎ Fronts (reverse text) → (without_end is_white text ≡ []) ⊎ Ended text
     by (inl none) = inl (ap reverse none)
     by (inr found) = inr (record {
@@ -403,6 +421,7 @@ ended text = by (front_split (reverse text))
 last_sees : (b : ℕ) (seen back : Bool) → fits seen back b ≡ true → is_white b ≡ false → sees seen b ≡ true
 last_sees b seen back fit white = by (is_blank b) refl (b == newline) refl
   where
+    -- Plan: by whether the byte is a blank or a newline, which it is not.
     by : (blank : Bool) → is_blank b ≡ blank → (cuts : Bool) → (b == newline) ≡ cuts → sees seen b ≡ true
     by true blank cuts cuts' = absurd (let wrong : true ≡ false = ap (λ c. c || (b == newline)) (sym blank) ∙ white in cc)
     by false blank true cuts =
@@ -425,6 +444,7 @@ body_cut (b ∷ front) last end seen back is solid ends =
     ap (λ c. c && is_body (sees seen b) (ends_with_backslash (b ∷ [])) (front ++ last ∷ [])) (and_first (fits seen back b) _ is)
     ∙ body_cut front last end (sees seen b) (ends_with_backslash (b ∷ [])) (and_second (fits seen back b) _ is) solid ends
 
+-- a text with a byte in its middle is not empty
 some_byte : (front : List ℕ) (last : ℕ) (end : List ℕ) → has_byte (front ++ last ∷ end) ≡ true
 some_byte [] last end = refl
 some_byte (b ∷ front) last end = refl
@@ -465,6 +485,7 @@ end_same text (inr e) =
     ∙ ap (λ c. reverse (if c then without_front is_white (reverse e.front) else e.last ∷ reverse e.front)) e.solid
     ∙ reverse-append (e.last ∷ []) (reverse e.front) ∙ ap (λ t. t ++ e.last ∷ []) (reverse-reverse e.front) ∙ sym e.is
 
+-- two equal cases are one
 either_same : {X : Type 0} (c : Bool) (x : X) → (if c then x else x) ≡ x
 either_same true x = refl
 either_same false x = refl
@@ -473,6 +494,7 @@ either_same false x = refl
 pair_same : (body : List ℕ) → pair_text (pair_text body) ≡ pair_text body
 pair_same body = by (is_no_text (without_end is_white body)) refl
   where
+    -- Plan: by whether the text without its white space is no text to run: then its white space goes only once.
     left : List ℕ
     left = without_end is_white body
 
@@ -489,6 +511,7 @@ text_or_none [] good = refl
 text_or_none (b ∷ text) (inl none) = absurd cc
 text_or_none (b ∷ text) (inr good) = good
 
+-- a key begins a line with a byte that is no blank
 some_key : (key : List ℕ) → is_key key ≡ true → (key ≡ []) ⊎ (begins_line key ≡ true) → begins_line key ≡ true
 some_key key is (inl none) = absurd (let wrong : false ≡ true = ap is_key (sym none) ∙ is in cc)
 some_key key is (inr begins) = begins
@@ -518,6 +541,7 @@ pair_keeps set key body set' begins good is kept =
     by (is_key key) refl (ends_with_backslash (pair_text body)) refl (begins_with_at key && begins_with_at (pair_text body)) refl
     (is_no_text (pair_text body)) refl is
   where
+    -- Plan: by each test of the directive: the key's form, a backslash at the end, an alias of an alias.
     by : (keys : Bool) → is_key key ≡ keys → (ends : Bool) → ends_with_backslash (pair_text body) ≡ ends → (alias : Bool)
         → (begins_with_at key && begins_with_at (pair_text body)) ≡ alias
         → (none : Bool) → is_no_text (pair_text body) ≡ none

@@ -17,15 +17,23 @@ use Rattle.std.specs.List.{join_with_byte, list_all, position_or_len}
 -- For dump_reloads: the directives of a set's dump are its named texts and then its pairs (`dump_read`). A dumped entry is a line with the
 -- name or key and a colon, the lines of its text, and an empty line; `is_settled` says that no part of it is lost when the file's text is
 -- settled.
+-- Names: `name` is the name of a text. `key` is a suffix or a language. `text` is a text. `b` is one byte. `lines` is the lines that
+-- follow. `n` is the number of the line. `rest` is the text that follows. `head` is a line up to its colon. `m` is the number of the line
+-- after the entry. `read_lines in_body n lines` is the directives of lines. `is_settled back text` says that a text stays as it is when it
+-- is settled. `is_blank` says that a byte is a space or a tab. `and_first` and `and_second` give the parts of a true `&&`. `is_text` says
+-- that a text has the form of one in a spec file. `by_colon` is the directive of a line with a colon. `not_true` says that a test whose
+-- negation holds fails.
 
 -- a byte that the head of a line may have, which a colon ends
 abbrev pub is_head_byte : ℕ → Bool
 is_head_byte b = is_line_byte b && not (is_colon b)
 
+-- bytes that pass a test pass a weaker one
 all_also : (p q : ℕ → Bool) (text : List ℕ) → ((b : ℕ) → p b ≡ true → q b ≡ true) → list_all p text ≡ true → list_all q text ≡ true
 all_also p q [] also is = refl
 all_also p q (b ∷ text) also is = rw (also b (and_first (p b) _ is)) (all_also p q text also (and_second (p b) _ is))
 
+-- a byte that is no newline, carriage return or colon may be before a colon
 head_byte : (p : ℕ → Bool) → p 13 ≡ false → p newline ≡ false → p colon ≡ false → (b : ℕ) → p b ≡ true → is_head_byte b ≡ true
 head_byte p cr nl co b is = rw (differs p b 13 cr is) (rw (differs p b newline nl is) (rw (differs p b colon co is) refl))
 
@@ -33,6 +41,7 @@ head_byte p cr nl co b is = rw (differs p b 13 cr is) (rw (differs p b newline n
 pub line_head : (text : List ℕ) → list_all is_head_byte text ≡ true → list_all is_line_byte text ≡ true
 line_head text is = all_also is_head_byte is_line_byte text (λ b head. and_first (is_line_byte b) _ head) is
 
+-- so may each byte of a name
 name_head : (name : List ℕ) → is_name name ≡ true → list_all is_head_byte name ≡ true
 name_head name is = all_also is_name_byte is_head_byte name (head_byte is_name_byte refl refl refl) (and_second (is_sized name) _ is)
 
@@ -51,6 +60,7 @@ colon_at head is =
     ap (λ n. cond (nat_lt n (length (head ++ colon ∷ []))) (Some n) None) (colon_last head is)
     ∙ ap (λ c. cond c (Some (length head)) None) (lt-ltb (length head) (length (head ++ colon ∷ [])) within)
 
+-- the part before the colon is the head
 front_taken : (head : List ℕ) → take (length head) (head ++ colon ∷ []) ≡ head
 front_taken [] = refl
 front_taken (b ∷ head) = ap (λ l. b ∷ l) (front_taken head)
@@ -162,9 +172,11 @@ empty_settled key rest is later =
 abbrev pub text_directive : List ℕ × List ℕ → Directive
 text_directive entry = Text entry.0 entry.1
 
+-- with an asterisk before it too
 starred : (name : List ℕ) → is_name name ≡ true → list_all is_head_byte (asterisk ∷ name) ≡ true
 starred name is = name_head name is
 
+-- a named text is dumped as an entry with an asterisk
 starred_is : (name text rest : List ℕ) → named_text (name, text) ++ rest ≡ entry_text (asterisk ∷ name, text) ++ rest
 starred_is name text rest = refl
 
@@ -196,6 +208,7 @@ named_settled (entry ∷ named) rest kept later =
 abbrev pub pair_directive : List ℕ × List ℕ → Directive
 pair_directive pair = Pair pair.0 pair.1
 
+-- a byte that is neither space nor tab is no blank
 blank_not : (b : ℕ) → (b == space) ≡ false → (b == tab) ≡ false → is_blank b ≡ false
 blank_not b space_not tab_not = ap (λ c. c || b == tab) space_not ∙ tab_not
 
@@ -212,6 +225,7 @@ key_parts false b key at is =
       blank_not b (differs is_key_byte b space refl first) (differs is_key_byte b tab refl first),
     )
 
+-- a key's bytes may be before a colon, and its first is no blank
 key_is : (b : ℕ) (key : List ℕ) → is_key (b ∷ key) ≡ true → (list_all is_head_byte (b ∷ key) ≡ true) × (is_blank b ≡ false)
 key_is b key is = key_parts (b == at_sign) b key refl (and_second (nat_le (length (b ∷ key)) 255) _ is)
 
@@ -225,6 +239,7 @@ pair_read : (key text rest : List ℕ) (n : ℕ) → is_key key ≡ true → beg
 pair_read [] text rest n is begins body = absurd cc
 pair_read (b ∷ key) text rest n is begins body = by text body
   where
+    -- Plan: the first byte of the key is no mark of another directive (`mark`, `directive`, `star`), so the line is that of a pair.
     parts : (list_all is_head_byte (b ∷ key) ≡ true) × (is_blank b ≡ false)
     parts = key_is b key is
 

@@ -12,6 +12,9 @@ use Rattle.std.specs.Prelude.{None, Option, Some, slice_index}
 
 -- For the reading of a file: what a search for a byte finds, and what precedes it. `IsFirstByte test text found` says that `found` is the
 -- first byte that passes.
+-- Names: `text` is a text. `b` is one byte. `found` is what a search finds. `at` is the place that was found. `test` is a test of bytes.
+-- `left` is the text from the place on. `is_kept` says that a byte is no carriage return. `joined_onto` adds a byte; a newline after a
+-- backslash goes, with the backslash.
 
 -- a truth value that isn't true is false
 pub fails_of : (t : Bool) → (t ≡ true → ⊥) → t ≡ false
@@ -54,6 +57,7 @@ pub found_passes : (test : ℕ → Bool) (text : List ℕ) (found : Option ℕ) 
 found_passes test text None at h is = absurd cc
 found_passes test text (Some k) at h is = let same : k ≡ at = cc in ap (λ n. test (slice_index text n)) (sym same) ∙ h.1
 
+-- as many bytes as a text has are all of it
 take_all : (text : List ℕ) → take (length text) text ≡ text
 take_all [] = refl
 take_all (b ∷ text) = ap (λ t. b ∷ t) (take_all text)
@@ -73,7 +77,7 @@ line_found text found at h is =
     ∙ ap (λ b. take at text ++ b ∷ drop (at + 1) text)
     (eqb-true (slice_index text at) newline (found_passes (is_byte newline) text found at h is))
 
--- which has none in it
+-- the line before the first newline has no newline in it
 pub line_clean : (text : List ℕ) (found : Option ℕ) (at : ℕ) → IsFirstByte (is_byte newline) text found → found ≡ Some at
     → list_all (λ b. not (ends_line b)) (take at text) ≡ true
 line_clean text found at h is = clean_front (is_byte newline) text found at h is
@@ -97,7 +101,7 @@ plain b is = by (b == carriage_return) (b == newline) is
     by false true is' = absurd cc
     by false false is' = (refl, refl)
 
--- a run of such bytes goes to the text as it is
+-- a run of bytes that are no ends of lines goes to the text as it is
 run_settled : (run rest left : List ℕ) → list_all (λ b. not (is_in settles b)) run ≡ true
     → fold joined_onto left (filter is_kept (run ++ rest)) ≡ fold joined_onto (left ++ run) (filter is_kept rest)
 run_settled [] rest left is = ap (λ l. fold joined_onto l (filter is_kept rest)) (sym (append-nil left))

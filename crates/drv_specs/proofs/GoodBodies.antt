@@ -19,12 +19,18 @@ use Rattle.std.specs.List.{ends_with, join_with_byte, list_all}
 
 -- For loading_keeps: each body that a file's directives have is empty, ends with a backslash (and is refused), or has the form of a text
 -- (`is_text`). Clean lines are those of a settled text: only the last may end with a backslash.
+-- Names: `text` is a text. `b` is one byte. `seen` says whether the line has a byte that is no blank. `back` says whether the byte before
+-- is a backslash. `line` is a line. `lines` is the lines that follow. `n` is the number of the line. `rest` is the text that follows. `e`
+-- is whether the line ends with a backslash. `ends_with_backslash` says that a text ends with a backslash, and so is refused. `is_blank`
+-- says that a byte is a space or a tab. `without_front test text` is a text from the first byte on that fails the test. `body_lines` is the
+-- lines of a body, up to an empty line. `is_empty_line` says that a line has blanks alone. `Each P xs` says that P holds of each item.
+-- `is_body seen back text` says that the rest of a text has the form of one.
 
 -- a body that is empty, ends with a backslash, or has the form of a text
 abbrev pub IsBody : List ℕ → Type 0
 IsBody body = (body ≡ []) ⊎ ((ends_with_backslash body ≡ true) ⊎ (is_text body ≡ true))
 
--- a directive's body is such, and its key begins a line
+-- a directive's body is empty, refused or a text, and its key begins a line
 abbrev pub IsGood : Directive → Type 0
 IsGood (Text name body) = IsBody body
 IsGood (Pair key body) = ((key ≡ []) ⊎ (begins_line key ≡ true)) × IsBody body
@@ -39,6 +45,7 @@ each_append P (x ∷ xs) ys each each' = (each.0, each_append P xs ys each.1 eac
 
 -- Parts of a line.
 
+-- a text without a backslash at its end has none without its first byte
 ends_tail : (b : ℕ) (text : List ℕ) → ends_with_backslash (b ∷ text) ≡ false → ends_with_backslash text ≡ false
 ends_tail b [] is = refl
 ends_tail b (c ∷ text) is = sym (ends_more b c text) ∙ is
@@ -55,12 +62,14 @@ bytes_after zero text is = is
 bytes_after (suc n) [] is = refl
 bytes_after (suc n) (b ∷ text) is = bytes_after n text (and_second (is_line_byte b) _ is)
 
--- what follows the blanks of a line
+-- What follows the blanks of a line. By `ends` it ends in no backslash if the line does not, and by `bytes` it has only bytes of lines if
+-- the line has. By `solid` it begins with a byte that is no blank.
 record Fronted (text : List ℕ) : Type 0 where
   ends : ends_with_backslash text ≡ false → ends_with_backslash (without_front is_blank text) ≡ false
   bytes : list_all is_line_byte text ≡ true → list_all is_line_byte (without_front is_blank text) ≡ true
   solid : (b : ℕ) (rest : List ℕ) → without_front is_blank text ≡ b ∷ rest → is_blank b ≡ false
 
+-- the first byte of a text, or else this one
 abbrev first_or : ℕ → List ℕ → ℕ
 first_or d [] = d
 first_or d (b ∷ text) = b
@@ -70,6 +79,7 @@ fronted : (text : List ℕ) → Fronted text
 fronted [] = record { ends = λ is. is; bytes = λ is. is; solid = λ b rest is. absurd cc }
 fronted (b ∷ text) = by (is_blank b) refl (fronted text)
   where
+    -- Plan: by whether the first byte is a blank: it goes, and the rest is like the line.
     by : (blank : Bool) → is_blank b ≡ blank → Fronted text → Fronted (b ∷ text)
     by true blank later = record {
       ends = λ is. ap (λ c. ends_with_backslash (if c then without_front is_blank text else b ∷ text)) blank
@@ -99,6 +109,7 @@ fuller true blank e is = refl
 fuller false false e is = refl
 fuller false true e is = is
 
+-- a line with a byte that is no blank, and no backslash at its end, is full
 ends_full : (seen back : Bool) → (seen || false) ≡ true → back ≡ false → (seen && not back) ≡ true
 ends_full true back is none = ap not none
 ends_full false back is none = absurd cc
@@ -139,6 +150,7 @@ ends_far [] c rest = refl
 ends_far (b ∷ []) c rest = ends_more b c rest
 ends_far (b ∷ d ∷ line) c rest = ends_more b d (line ++ c ∷ rest) ∙ ends_far (d ∷ line) c rest
 
+-- a newline before a text changes nothing of its end
 ends_newline : (text : List ℕ) → ends_with_backslash text ≡ true → ends_with_backslash (newline ∷ text) ≡ true
 ends_newline [] is = absurd cc
 ends_newline (b ∷ text) is = ends_more newline b text ∙ is
@@ -148,11 +160,13 @@ lines_good : (line : List ℕ) (lines : List (List ℕ)) → FullClean (line ∷
     → (ends_with_backslash (join_with_byte newline (line ∷ lines)) ≡ true) ⊎ (is_text (join_with_byte newline (line ∷ lines)) ≡ true)
 lines_good line [] clean = by (ends_with_backslash line) refl
   where
+    -- Plan: by whether the last line ends with a backslash.
     by : (e : Bool) → ends_with_backslash line ≡ e → (ends_with_backslash line ≡ true) ⊎ (is_text line ≡ true)
     by true e = inl e
     by false e = inr (line_body line false false clean.0.0 clean.0.1 (last_is line ∙ e))
 lines_good line (next ∷ lines) clean = by clean.1.0 (lines_good next lines clean.1.1)
   where
+    -- Plan: the rest is a body, or ends with a backslash; a line before it changes neither.
     rest : List ℕ
     rest = join_with_byte newline (next ∷ lines)
 
@@ -162,6 +176,7 @@ lines_good line (next ∷ lines) clean = by clean.1.0 (lines_good next lines cle
     by (inr e) (inl last) = inl (ends_far line newline rest ∙ ends_newline rest last)
     by (inr e) (inr body) = inr (line_then line rest false false clean.0.0 clean.0.1 (last_is line ∙ e) body)
 
+-- clean, full lines joined are a body
 joined_good : (lines : List (List ℕ)) → FullClean lines → IsBody (join_with_byte newline lines)
 joined_good [] clean = inl refl
 joined_good (line ∷ lines) clean = inr (lines_good line lines clean)
@@ -171,6 +186,7 @@ body_clean : (lines : List (List ℕ)) → Clean lines → FullClean (body_lines
 body_clean [] clean = tt
 body_clean (line ∷ lines) clean = by (is_empty_line line) refl (body_clean lines clean.1.1)
   where
+    -- Plan: by whether the line is empty, which ends the body.
     ends : (lines ≡ []) ⊎ (ends_with_backslash line ≡ false) → (body_lines lines ≡ []) ⊎ (ends_with_backslash line ≡ false)
     ends (inl none) = inl (ap body_lines none)
     ends (inr e) = inr e
@@ -185,6 +201,7 @@ first_clean : (rest : List ℕ) (lines : List (List ℕ)) → list_all is_line_b
     → FullClean (first_line rest ++ body_lines lines)
 first_clean rest lines bytes last later = by (without_front is_blank rest) refl
   where
+    -- Plan: by what follows the colon: nothing but blanks, or a first line of the body.
     ends : (lines ≡ []) ⊎ (ends_with_backslash rest ≡ false)
         → (body_lines lines ≡ []) ⊎ (ends_with_backslash (without_front is_blank rest) ≡ false)
     ends (inl none) = inl (ap body_lines none)
@@ -234,6 +251,7 @@ keyword_good n line [] = tt
 keyword_good n line (word ∷ words) = by (pointwise nat_eq word (codes "%rename")) (pointwise nat_eq word (codes "%include"))
     (pointwise nat_eq word (codes "%include_noerr"))
   where
+    -- Plan: by the keyword: %rename, %include, %include_noerr, or none of them.
     by : (rename include noerr : Bool) → IsGood (if rename then renamed n words
         else if include then included n Refuse (trimmed (drop (length word) line))
         else if noerr then included n PassOver (trimmed (drop (length word) line))
@@ -249,6 +267,7 @@ key_good : (b : ℕ) (line body : List ℕ) (at : ℕ) → (b == number_sign) �
 key_good b line body zero mark directive good = (inl refl, good)
 key_good b line body (suc at) mark directive good = by (b == asterisk) refl
   where
+    -- Plan: by whether the line begins with an asterisk.
     by : (star : Bool) → (b == asterisk) ≡ star → IsGood (if star then Text (take at line) body else Pair (b ∷ take at line) body)
     by true star = good
     by false star = (
@@ -263,6 +282,7 @@ line_good : (n b : ℕ) (line : List ℕ) (lines : List (List ℕ)) → list_all
     → Each IsGood (directive_in (start_of n (b ∷ line) lines))
 line_good n b line lines bytes last clean = by (b == number_sign) refl (b == percent) refl
   where
+    -- Plan: by the first byte: a comment, a directive with %, or a line with a colon (`colon`).
     ends : (at : ℕ) → (lines ≡ []) ⊎ (ends_with_backslash (b ∷ line) ≡ false)
         → (lines ≡ []) ⊎ (ends_with_backslash (drop (at + 1) (b ∷ line)) ≡ false)
     ends at (inl none) = inl none
@@ -289,6 +309,7 @@ start_good n line lines true inside bytes last clean = tt
 start_good n line lines false true bytes last clean = tt
 start_good n line lines false false bytes last clean = by (without_front is_blank line) refl
   where
+    -- Plan: the line without the blanks at its front ends as the line does.
     ends : (lines ≡ []) ⊎ (ends_with_backslash line ≡ false) → (lines ≡ []) ⊎ (ends_with_backslash (without_front is_blank line) ≡ false)
     ends (inl none) = inl none
     ends (inr e) = inr ((fronted line).ends e)
@@ -302,7 +323,7 @@ start_good n line lines false false bytes last clean = by (without_front is_blan
     by (b ∷ text) is = line_good n b text lines (ap (list_all is_line_byte) (sym is) ∙ (fronted line).bytes bytes)
         (ends_same (ap ends_with_backslash is) (ends last)) clean
 
--- all directives of such lines are good
+-- all directives of clean lines are good
 read_good : (lines : List (List ℕ)) (inside : Bool) (n : ℕ) → Clean lines → Each IsGood (read_lines inside n lines)
 read_good [] inside n clean = tt
 read_good (line ∷ lines) inside n clean =

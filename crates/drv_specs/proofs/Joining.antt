@@ -9,6 +9,9 @@ use Rattle.std.proofs.lemmas.List.{append-nil, take_at}
 use Rattle.drv_specs.proofs.Booleans.{and_first, and_second}
 
 -- For directives_are_read: the pairs of a backslash and a newline go, by cases (`Joins`, in any order) as byte by byte (`joined`).
+-- Names: `text` is a text. `b` is one byte. `front` is the text before. `done` is the bytes so far, and `back` those that follow. `ys` is
+-- what is left of a text. `joined_onto` adds a byte; a newline after a backslash goes, with the backslash. `and_first` and `and_second`
+-- give the parts of a true `&&`.
 
 -- Lists with one item more at their end.
 
@@ -42,15 +45,18 @@ before_backslash (b ∷ c ∷ text) is =
     let rest = before_backslash (c ∷ text) (sym (ends_more b c text) ∙ is) in
     (b ∷ rest.0, ap (λ l. b ∷ l) rest.1)
 
+-- without its last byte a front with a backslash is the front
 without_last : (front : List ℕ) → take (length (front ++ backslash ∷ []) - 1) (front ++ backslash ∷ []) ≡ front
 without_last front = take_at front (backslash ∷ []) (length (front ++ backslash ∷ []) - 1)
     (omega (arith, length-append front (backslash ∷ [])))
 
 -- Joined texts.
 
+-- whether a byte is the newline after a backslash
 abbrev is_pair : List ℕ → ℕ → Bool
 is_pair text b = b == newline && ends_with_backslash text
 
+-- a text without pairs has none without its last backslash
 front_joined : (front : List ℕ) → IsJoined (front ++ backslash ∷ []) → IsJoined front
 front_joined front all = λ a b is. all a (b ++ backslash ∷ [])
     (ap (λ l. l ++ backslash ∷ []) is ∙ append_assoc a (backslash ∷ newline ∷ b) (backslash ∷ []))
@@ -59,6 +65,7 @@ front_joined front all = λ a b is. all a (b ++ backslash ∷ [])
 more_joined : (done : List ℕ) (b : ℕ) → IsJoined done → is_pair done b ≡ false → IsJoined (done ++ b ∷ [])
 more_joined done b all plain = λ front back is. by front back (last_of back) is
   where
+    -- Plan: by whether anything follows the pair: if not, the new byte is its newline.
     by : (front back : List ℕ) → (back ≡ []) ⊎ ((ys : List ℕ) × (c : ℕ) × (back ≡ ys ++ c ∷ []))
         → done ++ b ∷ [] ≡ front ++ backslash ∷ newline ∷ back → ⊥
     by front back (inl none) is =
@@ -72,6 +79,7 @@ more_joined done b all plain = λ front back is. by front back (last_of back) is
 
 -- From the relation to the function.
 
+-- two texts byte by byte, one after the other
 fold_both : (front back start : List ℕ) → fold joined_onto start (front ++ back) ≡ fold joined_onto (fold joined_onto start front) back
 fold_both [] back start = refl
 fold_both (b ∷ front) back start = fold_both front back (joined_onto start b)
@@ -82,6 +90,7 @@ stays [] done all = sym (append-nil done)
 stays (b ∷ rest) done all = by (is_pair done b) refl
     (stays rest (done ++ b ∷ []) (subst IsJoined (sym (append_assoc done (b ∷ []) rest)) all))
   where
+    -- Plan: by whether the byte ends a pair, which it doesn't.
     by : (pair : Bool) → is_pair done b ≡ pair → fold joined_onto (done ++ b ∷ []) rest ≡ (done ++ b ∷ []) ++ rest
         → fold joined_onto done (b ∷ rest) ≡ done ++ b ∷ rest
     by false plain later = ap (λ p. fold joined_onto (if p then take (length done - 1) done else done ++ b ∷ []) rest) plain ∙ later
@@ -115,6 +124,7 @@ joins_from : (rest done : List ℕ) → IsJoined done → Joins (done ++ rest) (
 joins_from [] done all = subst (λ l. Joins l done) (sym (append-nil done)) (is_joined all)
 joins_from (b ∷ rest) done all = by (is_pair done b) refl (joins_from rest)
   where
+    -- Plan: by whether the byte ends a pair: then both go, else it stays.
     by : (pair : Bool) → is_pair done b ≡ pair → ((front : List ℕ) → IsJoined front → Joins (front ++ rest) (fold joined_onto front rest))
         → Joins (done ++ b ∷ rest) (fold joined_onto done (b ∷ rest))
     by false plain later =

@@ -15,6 +15,9 @@ use Rattle.drv_system.specs.Known.{Is, Known, Unasked}
 use Rattle.std.proofs.Common.{◌≡◌, Err, List, [], ◌∷◌, Ok, Result, refl, subst, suc, zero, ℕ, ap, sym, ◌∙◌}
 
 -- For loading_keeps: loading a text or a file keeps the invariant of a set (`Kept`), whatever files it includes.
+-- Names: `set` is the set before. `set'` is the set after. `files` is how many files may still be read. `name` is the name of a text. `inc`
+-- says what an included file does to a set. `c` is the set, and how many files may still be read, before. `c'` is the same after.
+-- `Kept set` is the invariant of every set. `including` is what an included file does. `all_carried` carries out directives in order.
 
 -- how a file is included keeps the invariant
 abbrev pub Keeps : Including → Type 0

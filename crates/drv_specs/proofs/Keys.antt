@@ -10,6 +10,7 @@ use Rattle.std.specs.List.{position_or_len}
 use Rattle.std.specs.Prelude.{nat_eq, nat_lt, position, unwrap_or, vec_len}
 
 -- For the map of named texts: it finds a name where the list of the set has it.
+-- Names: `i` is an index. `X` is the type of what a list has.
 
 -- whether a key is this name
 abbrev pub is_key_of : List ℕ → Vec ℕ → Bool
@@ -28,10 +29,12 @@ same_bytes (b ∷ bytes) (copy ∷ copies) alike = λ j. alike.0 j ∷ same_byte
 
 -- An entry that goes last, and from there to the place of another.
 
+-- the last item of a list is at the place of the length before
 last_of : {X : Type 0} (xs : List X) (x d : X) → slice_index_or (xs ++ x ∷ []) (length xs) d ≡ x
 last_of [] x d = refl
 last_of (y ∷ xs) x d = last_of xs x d
 
+-- the items before it are the list before
 front_of : {X : Type 0} (xs : List X) (x : X) → take (length xs) (xs ++ x ∷ []) ≡ xs
 front_of [] x = refl
 front_of (y ∷ xs) x = ap (λ rest. y ∷ rest) (front_of xs x)
@@ -97,6 +100,7 @@ module _ {K X : Type 0} (t : K → Bool) (k : K) (x : X) where
       ap (λ rest. e ∷ rest) (put_there es i h.1 (sym (ap (λ b. cond b (Some e.1) (lookup t es)) h.0) ∙ is))
       ∙ sym (ap (λ b. cond b ((k, e.1) ∷ es) (e ∷ set_key t es k)) h.0)
 
+  -- the place of an entry that is put last is the length before
   length_more : (es : List (K × X)) → length (es ++ (k, x) ∷ []) - 1 ≡ length es
   length_more es = omega (arith, length-append es ((k, x) ∷ []))
 

@@ -16,6 +16,8 @@ use Rattle.std.specs.Prelude.{⊤, slice_get, vec_len}
 
 -- For the map of named texts (named_texts.rt): a deleted name keeps its entry, which has no text, so no other name moves. `texts_left` is
 -- the list of the texts that are left. Each change of the map changes that list as the definitions change the list of a set.
+-- Names: `name` is the name of a text. `text` is a text. `hit` says whether the entry at hand has the name. `old` is the old name.
+-- `texts_left` is the entries that have a text.
 
 -- the text of one name
 module _ (name : List ℕ) where
@@ -173,6 +175,7 @@ pub left_with : (key : Vec ℕ) (text : List ℕ) (es : List (Vec ℕ × Option 
 left_with key text [] held = refl
 left_with key text (e ∷ es) held = by e.1 (pointwise nat_eq key.items e.0.items) refl held (left_with key text es)
   where
+    -- Plan: by whether the first entry has the name, and whether it has a text.
     by : (had : Option (List ℕ)) (hit : Bool) → pointwise nat_eq key.items e.0.items ≡ hit
         → IsHeld (cond (pointwise nat_eq key.items e.0.items) (Some had) (lookup (is_key_of key.items) es))
         → (IsHeld (lookup (is_key_of key.items) es) → texts_left (insert_entry same_key es key (Some text))
@@ -201,6 +204,7 @@ replaced name key text [] same = ap (λ n. cond (pointwise nat_eq name n) [] ((k
     ∙ ap (λ b. cond b [] ((key, text) ∷ [])) (nat_list_eq_equiv.refl name)
 replaced name key text (e ∷ es) same = by (pointwise nat_eq name e.0.items) refl (replaced name key text es same)
   where
+    -- Plan: by whether the first entry has the name.
     by : (hit : Bool) → pointwise nat_eq name e.0.items ≡ hit
         → remove_entry (is_key_of name) (insert_entry same_key es key text) ≡ remove_entry (is_key_of name) es
         → remove_entry (is_key_of name) (insert_entry same_key (e ∷ es) key text) ≡ remove_entry (is_key_of name) (e ∷ es)
@@ -278,6 +282,7 @@ put_there key name text old es after same had held is =
 pub left_kept : (es kept : List (Vec ℕ × Option (List ℕ))) → kept ≡ filter (λ e. is_some e.1) es → texts_left kept ≡ texts_left es
 left_kept es kept is = ap texts_left is ∙ all es
   where
+    -- Plan: entry by entry (`all`).
     all : (xs : List (Vec ℕ × Option (List ℕ))) → texts_left (filter (λ e. is_some e.1) xs) ≡ texts_left xs
     all [] = refl
     all (x ∷ xs) = by x.1 (all xs)
@@ -295,6 +300,7 @@ left_renamed_at : (old : List ℕ) (new : Vec ℕ) (text : List ℕ) (es : List 
 left_renamed_at old new text [] there = absurd cc
 left_renamed_at old new text (e ∷ es) there = by e.1 (pointwise nat_eq old e.0.items) refl there (left_renamed_at old new text es)
   where
+    -- Plan: by whether the first entry has the old name, and whether it has a text.
     by : (had : Option (List ℕ)) (hit : Bool) → pointwise nat_eq old e.0.items ≡ hit
         → cond (pointwise nat_eq old e.0.items) (Some had) (lookup (is_key_of old) es) ≡ Some (Some text)
         → (lookup (is_key_of old) es ≡ Some (Some text) → texts_left (set_key (is_key_of old) es new)

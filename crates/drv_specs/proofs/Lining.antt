@@ -14,6 +14,11 @@ use Rattle.std.specs.List.{join_with_byte, list_all}
 
 -- For the dump and the reading of a file: a text and its lines determine each other. A full line is one that isn't empty and has more than
 -- blanks.
+-- Names: `text` is a text. `lines` is the lines that follow. `front` is the text before. `cuts` says whether the byte ends a line.
+-- `pieces_from` is the pieces of a text between the bytes that pass a test. `and_first` and `and_second` give the parts of a true `&&`.
+-- `ends_with_backslash` says that a text ends with a backslash, and so is refused. `read_lines in_body n lines` is the directives of lines.
+-- `is_empty_line` says that a line has blanks alone. `is_blank` says that a byte is a space or a tab. `is_body seen back text` says that
+-- the rest of a text has the form of one.
 
 -- the lines of a text, a newline and more are those of the text and those of the rest
 pub pieces_then : (text front rest : List ℕ) → pieces_from ends_line front (text ++ newline ∷ rest) ≡ pieces_from ends_line front text
@@ -21,6 +26,7 @@ pub pieces_then : (text front rest : List ℕ) → pieces_from ends_line front (
 pieces_then [] front rest = refl
 pieces_then (b ∷ text) front rest = by (ends_line b) refl (pieces_then text [] rest) (pieces_then text (front ++ b ∷ []) rest)
   where
+    -- Plan: by whether the byte ends a line.
     by : (cuts : Bool) → ends_line b ≡ cuts → pieces_from ends_line [] (text ++ newline ∷ rest) ≡ pieces_from ends_line [] text
         ++ pieces_from ends_line [] rest
         → pieces_from ends_line (front ++ b ∷ []) (text ++ newline ∷ rest) ≡ pieces_from ends_line (front ++ b ∷ []) text
@@ -74,6 +80,7 @@ body_full [] front seen back same is = rw (sym same) (rw (and_first seen (not ba
 body_full (b ∷ text) front seen back same is = by (ends_line b) refl (body_full text [] (sees seen b) (ends_with_backslash (b ∷ [])))
     (body_full text (front ++ b ∷ []) (sees seen b) (ends_with_backslash (b ∷ [])))
   where
+    -- Plan: by whether the byte ends a line; the form of the rest holds by `later`.
     later : is_body (sees seen b) (ends_with_backslash (b ∷ [])) text ≡ true
     later = and_second (fits seen back b) _ is
 

@@ -12,6 +12,11 @@ use Rattle.std.proofs.Common.{false, filter, if◌then◌else◌, length, not, r
 use Rattle.std.specs.List.{join_with_byte, list_all, position}
 
 -- For directives_are_read: the directives of lines are the same by cases (`Reads`, specs/Reading) and line by line (`read_lines`).
+-- Names: `line` is a line. `lines` is the lines that follow. `n` is the number of the line. `directives` is the directives of the lines.
+-- `read_lines in_body n lines` is the directives of lines. `is_blank` says that a byte is a space or a tab. `is_empty_line` says that a
+-- line has blanks alone. `without_front test text` is a text from the first byte on that fails the test. `by_colon` is the directive of a
+-- line with a colon. `directive_in` is the directive that a line begins, if it does. `body_lines` is the lines of a body, up to an empty
+-- line.
 
 -- the lines of a body, and what follows it
 body_is : (body lines : List (List ℕ)) → list_all is_full_line body ≡ true → EndsBody lines → body_lines (body ++ lines) ≡ body_lines body
@@ -66,10 +71,12 @@ reads_gives (entry {n} {b} {line} {text} body {lines} begins no_comment no_keywo
 
 -- From the function to the relation: all lines are read, and give what the function does then.
 
+-- lines are read by cases, from any number on
 abbrev AreRead : List (List ℕ) → Type 0
 AreRead lines = (n : ℕ) → (directives : List Directive) × Reads n lines directives
 
--- lines in two parts: those of a body, and what follows it
+-- Lines in two parts: those of a body, and what follows it. `body` and `rest` are the `parts`. `full` says that no line of the body is
+-- empty, `ends` that a body ends there, and `read` that the rest is read.
 record Cut (lines : List (List ℕ)) : Type 0 where
   body : List (List ℕ)
   rest : List (List ℕ)
@@ -118,6 +125,7 @@ are_read : (lines : List (List ℕ)) → AreRead lines × Cut lines
 are_read [] = (λ n. ([], no_lines), record { body = []; rest = []; parts = refl; full = refl; ends = at_end; read = λ n. ([], no_lines) })
 are_read (line ∷ lines) = by (is_empty_line line) refl (are_read lines)
   where
+    -- Plan: by whether the line is empty: then a body ends there.
     by : (e : Bool) → is_empty_line line ≡ e → AreRead lines × Cut lines → AreRead (line ∷ lines) × Cut (line ∷ lines)
     by true is following =
         let read : AreRead (line ∷ lines) = λ n. ((following.0 (n + 1)).0, empty is (following.0 (n + 1)).1) in
@@ -134,6 +142,7 @@ are_read (line ∷ lines) = by (is_empty_line line) refl (are_read lines)
       },
     )
 
+-- so the cases give what the code gives, line by line
 reads_all : (n : ℕ) (lines : List (List ℕ)) → Reads n lines (read_lines false n lines)
 reads_all n lines = let read = (are_read lines).0 n in subst (λ ds. Reads n lines ds) (sym (reads_gives read.1)) read.1
 

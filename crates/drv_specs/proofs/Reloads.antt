@@ -26,10 +26,17 @@ use Rattle.std.specs.Map.{keys_of}
 
 -- For dump_reloads: a dump that is loaded into an empty set gives the set (`dump_loaded`); loaded over the set, it adds the pairs once more
 -- (`dump_doubles`). It needs a set that files were loaded into (`Kept`), no text of which would append as a body (`Plain`).
+-- Names: `set` is the set before. `F` is what is known of the outside. `prefixes` is where files are searched for. `files` is how many
+-- files may still be read. `name` is the name of a text. `text` is a text. `inc` says what an included file does to a set. `done` is the
+-- entries that were read back. `named` is the named texts that are still to be read. `all_carried` carries out directives in order.
+-- `including` is what an included file does. `loaded` is a set after a text. `Kept set` is the invariant of every set. `is_text` says that
+-- a text has the form of one in a spec file. `dumped set` is the text of a set. `Each P xs` says that P holds of each item.
 
+-- the set of these texts and pairs
 abbrev set_of : List (List ℕ × List ℕ) → List (List ℕ × List ℕ) → Set
 set_of named pairs = record { named = named; pairs = pairs }
 
+-- a set, and how many files may still be read
 abbrev state : Set → ℕ → Carried
 state set files = record { set = set; files = files }
 
@@ -41,6 +48,7 @@ insert_last done rest name text distinct =
     insert_entry-absent (pointwise nat_eq) name text done
     (absent_from_lookup (pointwise nat_eq name) done (absent_before nat_list_eq_equiv done rest (name, text) distinct))
 
+-- a text that has a tree is not refused
 tree_there : {X : Type 0} (name : List ℕ) (x : X) (given : Result Items SyntaxFault) → is_ok given ≡ true → by_tree name x given ≡ Ok x
 tree_there name x (Ok tree) is = refl
 tree_there name x (Err fault) is = absurd cc
@@ -52,6 +60,7 @@ body_put set name (b ∷ text) body plain =
     filled_body set name b text
     ∙ ap (λ t. if t then append set name text else put set name (b ∷ text)) (not_true (appends (b ∷ text)) plain)
 
+-- a text in the form of one has no backslash at its end
 text_ends : (text : List ℕ) → is_text text ≡ true → ends_with_backslash text ≡ false
 text_ends [] body = absurd cc
 text_ends (b ∷ text) body = body_ends b text false false body
@@ -86,6 +95,7 @@ pair_worked : (set : Set) (key text : List ℕ) (no_text : Bool) → is_no_text 
 pair_worked set key text true is tree = refl
 pair_worked set key text false is tree = tree_there key (with_pair set key text) (parsed text) tree
 
+-- nor has the text of a pair
 pair_ends : (text : List ℕ) → (not (has_byte text) || is_text text) ≡ true → ends_with_backslash text ≡ false
 pair_ends [] body = refl
 pair_ends (b ∷ text) body = text_ends (b ∷ text) body

@@ -39,6 +39,7 @@ named_in Unasked = []
 named_in (Is (Err fault)) = []
 named_in (Is (Ok set)) = map (λ entry. entry.0) set.named
 
+-- the text of a name in a set that was loaded
 abbrev text_in : List ℕ → Known (Result Set SpecsFault) → Option (List ℕ)
 text_in name Unasked = None
 text_in name (Is (Err fault)) = None
@@ -257,6 +258,7 @@ wrapped : text_in (codes "old_lib") (loaded no_facts here builtin_specs
 unfolding builtin_named builtin_pairs loaded including
 wrapped = refl
 
+-- %rename and a new text under the old name: both are there
 wrapped_names : named_in (loaded no_facts here builtin_specs
     (codes "%rename lib old_lib\n\n*lib:\n--start-group -lgcc -lc -leval1 --end-group %(old_lib)\n")) ≡ codes "asm" ∷ codes "cpp"
     ∷ codes "cc1" ∷ codes "endfile" ∷ codes "link" ∷ codes "old_lib" ∷ codes "libgcc" ∷ codes "link_gcc_c_sequence" ∷ codes "linker"
@@ -265,6 +267,7 @@ wrapped_names : named_in (loaded no_facts here builtin_specs
 unfolding builtin_named builtin_pairs loaded including
 wrapped_names = refl
 
+-- the same by a file
 wrapped_file : text_in (codes "lib") (file_loaded (with_file (codes "w")
     (read.Read (codes "%rename lib old_lib\n\n*lib:\n--start-group -lgcc -lc -leval1 --end-group %(old_lib)\n"))) here builtin_specs
     (codes "w")) ≡ Some (codes "--start-group -lgcc -lc -leval1 --end-group %(old_lib)")
@@ -277,6 +280,7 @@ taken : loaded no_facts here no_specs (codes "*old_lib:\ny\n\n*lib:\nx\n\n*z:\nq
 unfolding loaded including
 taken = refl
 
+-- %rename of a name that isn't there is refused
 missing : loaded no_facts here no_specs (codes "%rename lib old_lib\n") ≡ Is (Err (RenameMissing (codes "lib")))
 unfolding loaded including
 missing = refl
@@ -286,6 +290,7 @@ appended : shown (loaded no_facts here no_specs (codes "*extra:\n+ -lx\n")) ≡ 
 unfolding loaded including
 appended = refl
 
+-- a body that begins with a blank is no addition
 appended_again : shown (loaded no_facts here no_specs (codes "*extra:\n -lx\n\n")) ≡ Some (codes "*extra:\n -lx\n\n")
 unfolding loaded including
 appended_again = refl
@@ -401,11 +406,13 @@ no_file : loaded (with_file (codes "no.specs") read.Missing) here no_specs (code
 unfolding loaded including
 no_file = refl
 
+-- a missing file of %include_noerr is passed over
 no_file_passed : shown (loaded (with_file (codes "no.specs") read.Missing) here no_specs (codes "%include_noerr <no.specs>\n*a:\nx\n"))
     ≡ Some (codes "*a:\nx\n\n")
 unfolding loaded including
 no_file_passed = refl
 
+-- an empty name of a file is none
 no_name : loaded (with_file (codes "") read.Missing) here no_specs (codes "%include <>\n") ≡ Is (Err (NoSuchFile (codes "")))
 unfolding loaded including
 no_name = refl
@@ -415,10 +422,12 @@ unreadable : loaded (with_file (codes "d") read.Failed) here no_specs (codes "%i
 unfolding loaded including
 unreadable = refl
 
+-- a file that is too large can't be read
 too_large : loaded (with_file (codes "d") read.TooLarge) here no_specs (codes "%include <d>\n") ≡ Is (Err (Unreadable (codes "d")))
 unfolding loaded including
 too_large = refl
 
+-- nor can one that fails
 file_unreadable : file_loaded (with_file (codes "d") read.Failed) here no_specs (codes "d") ≡ Is (Err (Unreadable (codes "d")))
 unfolding file_loaded including
 file_unreadable = refl
@@ -451,11 +460,13 @@ most_files : all_carried (including (with_file (codes "e") (read.Read [])) here 
 unfolding including
 most_files = refl
 
+-- 2,001 files are too many
 one_file_more : all_carried (including (with_file (codes "e") (read.Read [])) here 15) (record { set = no_specs; files = 2000 })
     (replicate 2001 (Include Refuse (codes "e"))) ≡ Is (Err TooManyIncludes)
 unfolding including
 one_file_more = refl
 
+-- missing ones count too
 missing_files_count : all_carried (including (with_file (codes "e") read.Missing) here 15) (record { set = no_specs; files = 2000 })
     (replicate 2001 (Include PassOver (codes "e"))) ≡ Is (Err TooManyIncludes)
 unfolding including
@@ -467,6 +478,7 @@ longest_name : shown (loaded no_facts here no_specs (codes "*" ++ replicate 255 
 unfolding loaded including
 longest_name = refl
 
+-- a name of 256 bytes is too long
 longer_name : loaded no_facts here no_specs (codes "*" ++ replicate 256 97 ++ codes ":\nx") ≡ Is (Err (BadName (replicate 256 97)))
 unfolding loaded including
 longer_name = refl

@@ -9,12 +9,18 @@ use Rattle.std.specs.List.{list_all}
 use Rattle.std.proofs.lemmas.List.Folds.{list_all-append}
 
 -- For loading_keeps: the lines of a text from which the pairs of a backslash and a newline have gone.
+-- Names: `text` is a text. `b` is one byte. `back` says whether the byte before is a backslash. `is_kept` says that a byte is no carriage
+-- return. `ends_with_backslash` says that a text ends with a backslash, and so is refused. `is_settled back text` says that a text stays as
+-- it is when it is settled. `and_first` and `and_second` give the parts of a true `&&`. `pieces_from` is the pieces of a text between the
+-- bytes that pass a test. `settled text` is a text without carriage returns and pairs of a backslash and a newline. `joined_onto` adds a
+-- byte; a newline after a backslash goes, with the backslash.
 
 -- whether a backslash is last, after a text
 abbrev pub last_back : Bool → List ℕ → Bool
 last_back back [] = back
 last_back back (b ∷ text) = last_back (ends_with_backslash (b ∷ [])) text
 
+-- whether a text ends with a backslash depends on its last byte alone
 last_of : (b : ℕ) (text : List ℕ) → last_back (ends_with_backslash (b ∷ [])) text ≡ ends_with_backslash (b ∷ text)
 last_of b [] = refl
 last_of b (c ∷ text) = last_of c text ∙ sym (ends_more b c text)
@@ -68,6 +74,7 @@ all_kept (b ∷ text) = by (is_kept b) refl (all_kept text)
     by true kept later = ap (λ c. c && list_all is_kept (filter is_kept text)) kept ∙ later
     by false kept later = later
 
+-- a settled text stays as it is
 settles : (text : List ℕ) → is_settled false (settled text) ≡ true
 settles text = fold_settled (filter is_kept text) [] (all_kept text) refl
 
@@ -84,6 +91,7 @@ clean_pieces (b ∷ text) front back is bytes same =
     by (b == newline) refl (clean_pieces text [] (ends_with_backslash (b ∷ [])) later refl)
     (clean_pieces text (front ++ b ∷ []) (ends_with_backslash (b ∷ [])) later)
   where
+    -- Plan: by whether the byte is a newline: then a line ends, and not with a backslash.
     rest : (not (b == newline && back) && is_settled (ends_with_backslash (b ∷ [])) text) ≡ true
     rest = and_second (is_kept b) _ is
 

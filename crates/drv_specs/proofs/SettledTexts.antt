@@ -11,7 +11,11 @@ use Rattle.std.specs.List.{list_all}
 
 -- For the dump and the reading of a file: texts without carriage returns, and without a newline after a backslash, stay as they are when
 -- they are settled (`settled_same`).
+-- Names: `text` is a text. `b` is one byte. `seen` says whether the line has a byte that is no blank. `back` says whether the byte before
+-- is a backslash. `ends_with_backslash` says that a text ends with a backslash, and so is refused. `is_kept` says that a byte is no
+-- carriage return. `and_first` and `and_second` give the parts of a true `&&`. `not_true` says that a test whose negation holds fails.
 
+-- without its front a text with one more byte is that byte
 drop_front : (text : List ℕ) (b : ℕ) → drop (length text) (text ++ b ∷ []) ≡ b ∷ []
 drop_front [] b = refl
 drop_front (c ∷ text) b = drop_front text b

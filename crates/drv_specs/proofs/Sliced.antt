@@ -24,6 +24,13 @@ use Rattle.std.specs.Prelude.{None, Option, Some, get_or, slice_index}
 -- For the reading of a file (reading.rt, lines.rt): the code reads a directive from slices of the settled text as the definition reads it
 -- from the list of its lines. `lines_from` and `bytes_from` are what follows a line, if its newline is there; `Ends text back` says that
 -- `back` is the end of the text.
+-- Names: `text` is a text. `line` is a line. `lines` is the lines that follow. `n` is the number of the line. `rest` is the text that
+-- follows. `front` is the text before. `found` is what a search finds. `at` is the place that was found. `goes` says whether the line is in
+-- a body. `following` is the text after the line, if its newline is there. `value` is what follows the colon. `start` is the line without
+-- the blanks at its front. `bytes` is the same with its newline. `all` is all lines. `is_blank` says that a byte is a space or a tab.
+-- `without_front test text` is a text from the first byte on that fails the test. `read_lines in_body n lines` is the directives of lines.
+-- `body_lines` is the lines of a body, up to an empty line. `is_empty_line` says that a line has blanks alone. `pieces_from` is the pieces
+-- of a text between the bytes that pass a test. `directive_in` is the directive that a line begins, if it does.
 
 -- the lines of a line and what follows it are that line and those of what follows
 pub lines_cut : (line : List ℕ) (following : Option (List ℕ)) → list_all (λ b. not (ends_line b)) line ≡ true
@@ -73,6 +80,7 @@ pub body_is : (front text : List ℕ) (lines left : List (List ℕ)) → front �
     → text ≡ drop 1 front → text ≡ join_with_byte newline (body_lines lines)
 body_is front text lines left is cut = cut ∙ ap (drop 1) is ∙ joined_lines (body_lines lines)
 
+-- a line of blanks is nothing without them
 blanks : (l : List ℕ) → is_empty_line l ≡ true → without_front is_blank l ≡ []
 blanks [] is = refl
 blanks (b ∷ l) is = rw (and_first (is_blank b) _ is) (blanks l (and_second (is_blank b) _ is))
@@ -234,6 +242,7 @@ module _ (n : ℕ) (text line start : List ℕ) (following : Option (List ℕ)) 
 same_not : (n : ℕ) → nat_lt n n ≡ false
 same_not n = grind (arith, nat_tests)
 
+-- a smaller number passes the test for less
 below_is : (k n : ℕ) → k < n → nat_lt k n ≡ true
 below_is k n below = grind (arith, nat_tests, below)
 
@@ -298,6 +307,7 @@ blank_at text at passes below = ap (λ d. filter has_byte (pieces_from is_blank 
     ∙ by (is_blank (slice_index text at)) (sym (blank_in (slice_index text at)) ∙ passes)
     ∙ ap (λ d. filter has_byte (take at text ∷ []) ++ words_of d) (sym cut)
   where
+    -- Plan: the text from there on begins with the blank (`cut`), so the word ends.
     cut : drop at text ≡ slice_index text at ∷ drop (at + 1) text
     cut = drop_more text at 0 below
 
@@ -324,7 +334,7 @@ front_head (b ∷ text) some = by (is_blank b) refl (front_head text) some
     by true is on some' = on some'
     by false is on some' = is
 
--- a word that ends at a blank has a byte
+-- a word at the front has a byte that is no blank
 word_some : (front : List ℕ) (at : ℕ) → has_byte front ≡ true → is_blank (slice_index front 0) ≡ false
     → is_in blanks_of (slice_index front at) ≡ true → has_byte (take at front) ≡ true
 word_some [] at some head passes = absurd cc

@@ -9,12 +9,15 @@ use Rattle.std.specs.List.{position, position_or_len, prefix_len}
 use Rattle.std.specs.Prelude.{None, Option, Some, get_or, unwrap_or}
 
 -- For `without_blanks` and `without_white`: a text trimmed of the bytes that pass a test, first from its front, then from its end.
+-- Names: `text` is a text. `test` is a test of bytes. `byte` is one byte. `end` is where the rest ends. `without_front test text` is a text
+-- from the first byte on that fails the test.
 
 -- the bytes that pass at the front are those before the first that doesn't
 front_is : (test : ℕ → Bool) (text : List ℕ) → drop (position_or_len (λ b. not (test b)) text) text ≡ without_front test text
 front_is test [] = refl
 front_is test (b ∷ text) = by (test b) refl (front_is test text)
   where
+    -- Plan: by whether the first byte passes: then it goes, and the search goes on behind it (`next`).
     next : (n : ℕ) → drop (1 + n) (b ∷ text) ≡ drop n text
     next n = let plus : 1 + n ≡ suc n = omega arith in ap (λ m. drop m (b ∷ text)) plus
 
@@ -23,6 +26,7 @@ front_is test (b ∷ text) = by (test b) refl (front_is test text)
     by true is h = rw is (next (prefix_len (λ c. not (not (test c))) text) ∙ h)
     by false is h = rw is refl
 
+-- a number that is not less is at least as great
 not_below : (a b : ℕ) → nat_lt a b ≡ false → b ≤ a
 not_below a b is = grind (arith, nat_tests, is)
 
@@ -60,6 +64,7 @@ last_of text end byte some below here =
     let whole : end ≡ end - 1 + 1 = omega (arith, some) in
     ap (λ n. take n text) whole ∙ (take_at_read text (end - 1) byte below).1 ∙ ap (λ b. take (end - 1) text ++ b ∷ []) (sym here)
 
+-- a text with one more byte, reversed, begins with it
 reversed : (front : List ℕ) (byte : ℕ) → reverse (front ++ byte ∷ []) ≡ byte ∷ reverse front
 reversed front byte = reverse-append front (byte ∷ [])
 

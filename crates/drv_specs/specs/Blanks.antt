@@ -3,14 +3,15 @@ use Rattle.std.specs.Prelude.{◌==◌, ◌||◌, Bool, List, [], ◌∷◌, fal
 
 -- Blanks and white space of spec files (this project's profile).
 
--- a space or a tab
+-- whether a byte is a space or a tab
 abbrev pub is_blank : ℕ → Bool
 is_blank b = b == space || b == tab
 
--- a blank or a newline
+-- whether a byte is a blank or a newline
 abbrev pub is_white : ℕ → Bool
 is_white b = is_blank b || b == newline
 
+-- whether a text is not empty
 abbrev pub has_byte : List ℕ → Bool
 has_byte [] = false
 has_byte (b ∷ text) = true

@@ -60,6 +60,7 @@ builtin_pairs =
     ∷ (codes "@assembler-with-cpp", codes "%{E:%(cpp_cmd) %(cpp_options) %i %W{o*} %V}%{!E:%{!S:%(cpp_cmd) %(cpp_options) %i -o %|.s |" ++ newline ∷ codes " %(as_cmd) %(asm_options) %m.s %A}}")
     ∷ []
 
+-- the built-in set: its named texts and its pairs
 abbrev pub builtin_specs : Set
 builtin_specs = record { named = builtin_named; pairs = builtin_pairs }
 
@@ -67,5 +68,6 @@ builtin_specs = record { named = builtin_named; pairs = builtin_pairs }
 abbrev pub has_no_text : List ℕ × List ℕ → Bool
 has_no_text pair = is_no_text pair.1
 
+-- its pairs without texts of their own
 abbrev pub suffixes : Set
 suffixes = record { named = []; pairs = filter has_no_text builtin_pairs }

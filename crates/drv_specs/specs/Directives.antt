@@ -11,6 +11,7 @@ use Rattle.std.specs.Prelude.{if◌then◌else◌, length, nat_eq, take, true, �
 -- The directives of a spec file's text, one after another; a line that is none is `Bad` with its number (GCC manual, "Spec
 -- Files"; this project's profile).
 
+-- a directive of a spec file
 pub data Directive : Type 0 where
   Text : List ℕ → List ℕ → Directive  -- a name, and its body
   Pair : List ℕ → List ℕ → Directive  -- a suffix or a language, and its body
@@ -30,7 +31,7 @@ included n missing [] = Bad n
 included n missing (b ∷ text) = if b == less_than && ends_with nat_eq text (greater_than ∷ [])
     then Include missing (take (length text - 1) text) else Bad n
 
--- %rename: two names
+-- the directive %rename has two names
 abbrev pub renamed : ℕ → List (List ℕ) → Directive
 renamed n [] = Bad n
 renamed n (old ∷ []) = Bad n
@@ -50,10 +51,12 @@ by_keyword n line (word ∷ words) =
 abbrev pub first_line : List ℕ → List (List ℕ)
 first_line rest = filter has_byte (without_front is_blank rest ∷ [])
 
+-- the lines of a body go up to an empty line
 abbrev pub body_lines : List (List ℕ) → List (List ℕ)
 body_lines [] = []
 body_lines (line ∷ lines) = if is_empty_line line then [] else line ∷ body_lines lines
 
+-- a body: what follows the colon, and the lines after it
 abbrev pub body_of : List ℕ → List (List ℕ) → List ℕ
 body_of rest lines = join_with_byte newline (first_line rest ++ body_lines lines)
 
@@ -62,9 +65,11 @@ abbrev pub by_key : List ℕ → List ℕ → Directive
 by_key [] body = Pair [] body
 by_key (b ∷ key) body = if b == asterisk then Text key body else Pair (b ∷ key) body
 
+-- whether a byte is a colon
 abbrev pub is_colon : ℕ → Bool
 is_colon b = b == colon
 
+-- the directive of a line by its first colon; a line without one is bad
 abbrev pub by_colon : ℕ → List ℕ → List (List ℕ) → Option ℕ → Directive
 by_colon n line lines None = Bad n
 by_colon n line lines (Some at) = by_key (take at line) (body_of (drop (at + 1) line) lines)
@@ -83,11 +88,13 @@ start_at true inside n line lines = Passed
 start_at false true n line lines = Passed
 start_at false false n line lines = start_of n (without_front is_blank line) lines
 
+-- the directive that a line begins, if it does
 abbrev pub directive_in : Start → List Directive
 directive_in Passed = []
 directive_in (Alone directive) = directive ∷ []
 directive_in (WithBody directive) = directive ∷ []
 
+-- whether the following lines are its body
 abbrev pub opens_body : Start → Bool
 opens_body Passed = false
 opens_body (Alone directive) = false
@@ -110,5 +117,6 @@ read_lines inside n (line ∷ lines) =
 abbrev pub read_settled : List ℕ → List Directive
 read_settled text = read_lines false 1 (lines_of text)
 
+-- the directives of a text
 abbrev pub directives_of : List ℕ → List Directive
 directives_of text = read_settled (settled text)

@@ -12,25 +12,29 @@ use Rattle.std.specs.Prelude.{◌≡◌, ◌==◌, ◌&&◌, ◌||◌, Bool, Lis
 -- A text that can be a body again: it has no carriage return, and no line of it is empty, has blanks alone, or ends with a
 -- backslash. `seen` says whether the line so far has a byte that is no blank, `back` whether a backslash is its last.
 
+-- whether a byte may follow in a text: no carriage return; a newline only after a full line without a backslash at its end
 abbrev pub fits : Bool → Bool → ℕ → Bool
 fits seen back b = is_kept b && (not (b == newline) || (seen && not back))
 
+-- whether the line has a byte that is no blank, with this one
 abbrev pub sees : Bool → ℕ → Bool
 sees seen b = not (b == newline) && (seen || not (is_blank b))
 
+-- whether the rest of a text has the form of one
 abbrev pub is_body : Bool → Bool → List ℕ → Bool
 is_body seen back [] = seen && not back
 is_body seen back (b ∷ text) = fits seen back b && is_body (sees seen b) (ends_with_backslash (b ∷ [])) text
 
+-- whether a text has the form of one: full lines, none of which ends with a backslash
 abbrev pub is_text : List ℕ → Bool
 is_text text = is_body false false text
 
--- each of a list
+-- a property holds of each item of a list
 abbrev pub Each : {X : Type 0} → (X → Type 0) → List X → Type 0
 Each P [] = Unit {0}
 Each P (x ∷ xs) = P x × Each P xs
 
--- a named text
+-- a named text: its name and its text have their forms, and the text has a tree
 pub record IsNamed (entry : List ℕ × List ℕ) : Type 0 where
   pub name : is_name entry.0 ≡ true
   pub text : is_text entry.1 ≡ true
@@ -51,6 +55,7 @@ pub record IsPair (pair : List ℕ × List ℕ) : Type 0 where
   pub no_alias : (begins_with_at pair.0 && begins_with_at pair.1) ≡ false
   pub tree : (is_no_text pair.1 || has_tree pair.1) ≡ true
 
+-- names, texts and pairs have their forms, and no name is there twice
 pub record Kept (set : Set) : Type 0 where
   pub named : Each IsNamed set.named
   pub pairs : Each IsPair set.pairs

@@ -14,6 +14,7 @@ joined_onto text b = if b == newline && ends_with nat_eq text (backslash ∷ [])
 abbrev pub joined : List ℕ → List ℕ
 joined text = fold joined_onto [] text
 
+-- carriage returns go
 abbrev pub is_kept : ℕ → Bool
 is_kept b = not (b == carriage_return)
 
@@ -26,10 +27,11 @@ abbrev pub pieces_from : (ℕ → Bool) → List ℕ → List ℕ → List (List
 pieces_from cuts front [] = front ∷ []
 pieces_from cuts front (b ∷ text) = if cuts b then front ∷ pieces_from cuts [] text else pieces_from cuts (front ++ b ∷ []) text
 
+-- a newline ends a line
 abbrev pub ends_line : ℕ → Bool
 ends_line b = b == newline
 
--- the lines of a text
+-- the lines of a text, without their newlines
 abbrev pub lines_of : List ℕ → List (List ℕ)
 lines_of text = pieces_from ends_line [] text
 
@@ -46,9 +48,10 @@ abbrev pub without_front : (ℕ → Bool) → List ℕ → List ℕ
 without_front test [] = []
 without_front test (b ∷ text) = if test b then without_front test text else b ∷ text
 
+-- a text without the bytes at its end that pass a test
 abbrev pub without_end : (ℕ → Bool) → List ℕ → List ℕ
 without_end test text = reverse (without_front test (reverse text))
 
--- without the blanks around it
+-- a text without the blanks at its front and end
 abbrev pub trimmed : List ℕ → List ℕ
 trimmed text = without_end is_blank (without_front is_blank text)

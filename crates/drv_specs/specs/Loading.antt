@@ -43,7 +43,7 @@ change set (Bad n) = Err (BadLine n)
 abbrev pub Including : Type 0
 Including = Carried → IfMissing → List ℕ → Known (Result Carried SpecsFault)
 
--- one directive
+-- one directive is carried out
 abbrev pub carried : Including → Carried → Directive → Known (Result Carried SpecsFault)
 carried including c (Text name body) = changed c.files (with_text c.set name body)
 carried including c (Pair key body) = changed c.files (with_pair_body c.set key body)
@@ -80,6 +80,7 @@ unfoldable pub including : Facts → Prefixes → ℕ → Including
 including F prefixes zero c missing name = Is (Err IncludeTooDeep)
 including F prefixes (suc levels) c missing name = file_carried F prefixes (including F prefixes levels) c.set c.files missing name
 
+-- the set after directives were carried out
 abbrev pub set_in : Carried → Known (Result Set SpecsFault)
 set_in c = Is (Ok c.set)
 
@@ -87,6 +88,7 @@ set_in c = Is (Ok c.set)
 abbrev pub most_files : ℕ
 most_files = 2000
 
+-- how deep files may include one another
 abbrev pub most_levels : ℕ
 most_levels = 16
 

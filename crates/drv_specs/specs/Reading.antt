@@ -17,6 +17,7 @@ pub data Joins : List ℕ → List ℕ → Type 0 where
   is_joined : {text : List ℕ} → IsJoined text → Joins text text
   pair_goes : (front back : List ℕ) {left : List ℕ} → Joins (front ++ back) left → Joins (front ++ backslash ∷ newline ∷ back) left
 
+-- a line with a byte that is no blank
 abbrev pub is_full_line : List ℕ → Bool
 is_full_line line = not (is_empty_line line)
 

@@ -22,9 +22,11 @@ pub record Set : Type 0 where
   pub named : List (List ℕ × List ℕ)
   pub pairs : List (List ℕ × List ℕ)
 
+-- the empty set
 abbrev pub no_specs : Set
 no_specs = record { named = []; pairs = [] }
 
+-- the text of a name, if there is one
 abbrev pub text_of : Set → List ℕ → Option (List ℕ)
 text_of set name = lookup (pointwise nat_eq name) set.named
 
@@ -32,9 +34,11 @@ text_of set name = lookup (pointwise nat_eq name) set.named
 abbrev pub is_name_byte : ℕ → Bool
 is_name_byte b = is_ascii_alphanumeric b || b == underscore || b == period || b == plus || b == hyphen
 
+-- a name has 1 to 255 bytes
 abbrev pub is_sized : List ℕ → Bool
 is_sized name = has_byte name && nat_le (length name) 255
 
+-- whether a name has the form of one
 abbrev pub is_name : List ℕ → Bool
 is_name name = is_sized name && list_all is_name_byte name
 
@@ -42,16 +46,20 @@ is_name name = is_sized name && list_all is_name_byte name
 abbrev pub is_key_byte : ℕ → Bool
 is_key_byte b = nat_le 33 b && nat_le b 126 && not (b == colon)
 
+-- whether a text begins with @: a language
 abbrev pub begins_with_at : List ℕ → Bool
 begins_with_at [] = false
 begins_with_at (b ∷ text) = b == at_sign
 
+-- a language is a name after @; a suffix has printing bytes without a colon
 abbrev pub is_key_text : List ℕ → Bool
 is_key_text key = if begins_with_at key then is_name (drop 1 key) else (has_byte key && list_all is_key_byte key)
 
+-- whether a key has the form of one
 abbrev pub is_key : List ℕ → Bool
 is_key key = nat_le (length key) 255 && is_key_text key
 
+-- whether a text ends with a backslash
 abbrev pub ends_with_backslash : List ℕ → Bool
 ends_with_backslash text = ends_with nat_eq text (backslash ∷ [])
 
@@ -60,12 +68,15 @@ abbrev pub by_tree : {X : Type 0} → List ℕ → X → Result Items SyntaxFaul
 by_tree name x (Ok tree) = Ok x
 by_tree name x (Err fault) = Err (Syntax name fault)
 
+-- a text under a name; a new name is put last
 abbrev pub with_named : Set → List ℕ → List ℕ → Set
 with_named set name text = record set { named = insert_entry (pointwise nat_eq) set.named name text }
 
+-- a text is put if it has a tree
 abbrev pub put : Set → List ℕ → List ℕ → Result Set SpecsFault
 put set name text = by_tree name (with_named set name text) (parsed text)
 
+-- a name is no longer there
 abbrev pub deleted : Set → List ℕ → Set
 deleted set name = record set { named = remove_entry (pointwise nat_eq name) set.named }
 
@@ -74,6 +85,7 @@ abbrev pub appended_text : Option (List ℕ) → List ℕ → List ℕ
 appended_text None addition = space ∷ without_front is_white addition
 appended_text (Some text) addition = text ++ addition
 
+-- an addition to a text; one of white space alone changes nothing
 abbrev pub append : Set → List ℕ → List ℕ → Result Set SpecsFault
 append set name addition = if list_all is_white addition then Ok set else put set name (appended_text (text_of set name) addition)
 
@@ -90,6 +102,7 @@ with_body set name body =
     else if appends body then append set name (drop 1 body)
     else put set name body
 
+-- a directive's text under its name, or the refusal
 abbrev pub with_text : Set → List ℕ → List ℕ → Result Set SpecsFault
 with_text set name body =
     if not (is_name name) then Err (BadName name)
@@ -101,6 +114,7 @@ abbrev pub is_not_installed : List ℕ → Bool
 is_not_installed [] = false
 is_not_installed (b ∷ text) = b == number_sign
 
+-- whether a pair's text is another language's name
 abbrev pub is_alias : List ℕ → Bool
 is_alias [] = false
 is_alias (b ∷ text) = b == at_sign && is_name text
@@ -113,9 +127,11 @@ is_no_text text = is_not_installed text || is_alias text
 abbrev pub pair_text : List ℕ → List ℕ
 pair_text body = if is_no_text (without_end is_white body) then without_end is_white body else body
 
+-- one more pair
 abbrev pub with_pair : Set → List ℕ → List ℕ → Set
 with_pair set key text = record set { pairs = set.pairs ++ (key, text) ∷ [] }
 
+-- one more pair, or the refusal of its text
 abbrev pub with_pair_text : Set → List ℕ → List ℕ → Result Set SpecsFault
 with_pair_text set key text =
     if ends_with_backslash text then Err (TrailingBackslash key)
@@ -123,6 +139,7 @@ with_pair_text set key text =
     else if is_no_text text then Ok (with_pair set key text)
     else by_tree key (with_pair set key text) (parsed text)
 
+-- one more pair, or the refusal of its key or text
 abbrev pub with_pair_body : Set → List ℕ → List ℕ → Result Set SpecsFault
 with_pair_body set key body = if is_key key then with_pair_text set key (pair_text body) else Err (BadName key)
 

@@ -1,5 +1,6 @@
 //! The built-in specs.
 
+// In clauses: `IsPairRow` says that the tree of a row is that of its text.
 ghost use Rattle.drv_specs.specs.Builtin.{builtin_named, builtin_pairs, builtin_specs, has_no_text};
 ghost use Rattle.drv_specs.specs.Builtin.{suffixes};
 ghost use Rattle.drv_specs.specs.Code.Tables.{IsNamedRow, IsPairRow, IsWritten, all_added, all_put};

@@ -1,5 +1,7 @@
 //! What a directive does to a set.
 
+// In clauses: `Gives` says that a result is the defined one, or lack of memory. `parsed` is the
+// tree of a text, or its fault.
 ghost use Rattle.drv_specs.specs.Loading.{change};
 ghost use Rattle.drv_specs.specs.Code.Slices.{shown};
 ghost use Rattle.drv_specs.specs.Sets.{append, appended_text, appends, begins_with_at, by_tree, is_alias};

@@ -53,6 +53,7 @@ impl From<AllocError> for SpecsFault {
 
     ghost from_gives = { λ _ fault. fault ≡ Memory };
 
+    /// `?` turns a refused allocation into `Memory`.
     fn from(_refused: AllocError) -> SpecsFault {
         SpecsFault::Memory
     }
@@ -63,6 +64,7 @@ impl<T: Drop> From<AllocFailed<T>> for SpecsFault {
 
     ghost from_gives = { λ _ fault. fault ≡ Memory };
 
+    /// `?` turns a refused allocation into `Memory`, and drops what had no room.
     fn from(_refused: AllocFailed<T>) -> SpecsFault {
         SpecsFault::Memory
     }

@@ -1,5 +1,6 @@
 //! Laws of spec sets.
 
+// In clauses: `Kept` is the invariant of every set. `Is` is a value that the facts give.
 ghost use Rattle.drv_search.specs.declared.prefixes.Prefixes.{Prefixes};
 ghost use Rattle.drv_specs.specs.Directives.{Directive, directives_of};
 ghost use Rattle.drv_specs.specs.Dumping.{Plain, doubled, dumped};

@@ -1,5 +1,9 @@
 //! The lines of a settled text, one after another, and the words of a line.
 
+// In clauses: `lines_left` is the lines that are left. `size_left` is how many bytes are left.
+// `bytes_from` is what follows a line, with its newline. `read_lines in_body n lines` is the
+// directives of lines, the first of which has number n. `words_of` is the words of a text from here
+// on. `text_left` is the text that is left.
 ghost use Rattle.drv_specs.specs.Directives.{body_lines, read_lines};
 ghost use Rattle.drv_specs.specs.Lines.{ends_line, is_empty_line, words_of};
 ghost use Rattle.drv_specs.specs.Code.Slices.{bytes_from, directives_left, lines_left, size_left};
@@ -57,6 +61,7 @@ fn full_line<'a>(lines: Lines<'a>) -> Option<(&'a [u8], Lines<'a>)>
         return None;
     };
     let (line, following) = cut_line(text);
+    // An empty line ends a body.
     if is_empty_line(line) {
         return None;
     }
@@ -95,6 +100,7 @@ pub(crate) fn cut_body<'a>(lines: Lines<'a>) -> Body<'a>
     let mut left = lines;
     let mut size = 0;
     while let Some((line, following)) = full_line(left) {
+        // 1 for the newline before the line.
         size += 1 + line.len();
         left = following;
     }

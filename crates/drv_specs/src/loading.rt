@@ -1,5 +1,9 @@
 //! Spec files loaded.
 
+// In clauses: `GivesKnown` says that a result is the one defined over the facts, or lack of memory.
+// `Extends F G` says that G has every answer of F. `Asked` says that a call only asked, and that
+// the table has the answers. `Asks` says that a call only asked: it added new questions to the
+// journal, and their answers to the table.
 ghost use Rattle.drv_specs.specs.Directives.{read_settled};
 ghost use Rattle.drv_specs.specs.Loading.{all_carried, file_loaded, including, loaded, text_read};
 ghost use Rattle.drv_specs.specs.Loading.{worked};
@@ -88,6 +92,7 @@ fn carry_out<S: System>(
     while let Some(directive) = reader.next() {
         match directive {
             Directive::Include { if_missing, file } => {
+                // A file may include itself, so there is a limit.
                 if levels == 0 {
                     return Err(SpecsFault::IncludeTooDeep);
                 }
@@ -127,6 +132,7 @@ fn worked_entries<S: System>(
 {
     let mut entries = entries;
     let mut files = files;
+    // The text at hand is the first level.
     let levels = MOST_LEVELS - 1;
     carry_out(&mut entries, &mut files, levels, text, prefixes, outside)?;
     Ok(entries)
@@ -240,6 +246,7 @@ impl SpecSet {
         let outside = &mut Outside { sys, facts };
         let alloc = self.entries.alloc();
         let text = file_text(alloc, IfMissing::Refuse, name.as_bytes(), prefixes, outside)?;
+        // The file at hand is one of those that may be read.
         self.work(MOST_FILES - 1, text.as_slice(), prefixes, outside)
     }
 
@@ -263,6 +270,7 @@ impl SpecSet {
         let outside = &mut Outside { sys, facts };
         let alloc = self.entries.alloc();
         let text = file_text(alloc, IfMissing::Refuse, name.as_bytes(), prefixes, outside)?;
+        // The file at hand is one of those that may be read.
         self.worked(MOST_FILES - 1, text.as_slice(), prefixes, outside)
     }
 }

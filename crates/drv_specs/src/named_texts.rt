@@ -1,5 +1,6 @@
 //! The named texts of a set, in their order.
 
+// In clauses: `texts_left` is the texts of a map.
 ghost use Rattle.drv_specs.specs.Code.Keyed.{texts_left};
 ghost use Rattle.indexmap.specs.IndexMap.{get_by, insert_entry};
 ghost use Rattle.std.specs.Cmp.Lexicographic.{pointwise};
@@ -119,6 +120,7 @@ impl NamedTexts {
         match self.kept.insert(key, Some(text))? {
             None => Ok(None),
             Some(Some(old)) => Ok(Some(old)),
+            // The name was deleted: its entry goes from its place, and comes last again.
             Some(None) => {
                 let key = name.to_vec(self.alloc)?;
                 let Some(text) = self.kept.shift_remove(name) else {
@@ -139,6 +141,7 @@ impl NamedTexts {
             return;
         }
         self.vacant = self.vacant.saturating_add(1);
+        // To drop them costs a pass, so it is done once they are the greater part.
         if self.vacant > self.kept.len() / 2 {
             drop_vacant(&mut self.kept);
             self.vacant = 0;

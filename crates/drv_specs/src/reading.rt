@@ -1,5 +1,9 @@
 //! The directives of a settled text, one after another.
 
+// In clauses: `size_left` is how many bytes are left. `lines_left` is the lines that are left.
+// `directives_left` is the directives of the lines that are left. `read_lines in_body n lines` is
+// the directives of lines, the first of which has number n. `bytes_from` is what follows a line,
+// with its newline. `words_of` is the words of a text from here on.
 ghost use Rattle.drv_specs.specs.Directives.{body_lines, by_colon, by_key, by_keyword, first_line};
 ghost use Rattle.drv_specs.specs.Directives.{included, is_colon, read_lines, read_settled, renamed};
 ghost use Rattle.drv_specs.specs.Lines.{ends_line, lines_of, words_of};
@@ -97,11 +101,13 @@ fn body_start<'a>(text: &'a [u8], line: &[u8], value: &[u8], lines: Lines<'a>) -
     ensures fewer { size_left result ≤ 1 + length value.now + size_left lines.entry }
 {
     let rest = without_blanks(value);
+    // Nothing follows the colon, so the body is the lines after it.
     if !has_byte(rest) {
         return lines;
     }
     Lines {
         text: Some(following(text, line.len() - rest.len())),
+        // The body begins on the line of the colon, one before those left.
         number: lines.number - 1,
     }
 }
@@ -124,6 +130,7 @@ fn with_colon<'a>(text: &'a [u8], line: &[u8], start: &'a [u8], lines: Lines<'a>
 {
     let Some(at) = start.find_byte(b':') else {
         return Begun {
+            // The line at fault is the one before those left.
             directive: Some(Directive::Bad(lines.number - 1)),
             left: cut_body(lines).left,
         };

@@ -1,5 +1,6 @@
 //! Spec sets: named texts and suffix pairs.
 
+// In clauses: `Kept` is the invariant of every set.
 ghost use Rattle.drv_specs.specs.Kept.{Kept};
 ghost use Rattle.drv_specs.specs.Sets.{no_specs, text_of, worked_text};
 ghost use Rattle.std.specs.Option.{option_map};

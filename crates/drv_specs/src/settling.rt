@@ -25,6 +25,7 @@ fn settle_onto(text: &mut Vec<u8>, byte: u8) -> Result<(), AllocError>
     if byte == b'\r' {
         return Ok(());
     }
+    // A line that a backslash continues.
     if byte == b'\n' && ends_with_backslash(text.as_slice()) {
         text.pop();
         return Ok(());

@@ -1,5 +1,7 @@
 //! A text that has a tree.
 
+// In clauses: `parsed` is the tree of a text, or its fault. `Gives` says that a result is the
+// defined one, or lack of memory.
 ghost use Rattle.drv_syntax.specs.Outcome.{parsed};
 ghost use Rattle.drv_syntax.specs.Parsed.{tree_of};
 ghost use Rattle.drv_syntax.specs.declared.fault.SyntaxFault.TheVariants as syntax;

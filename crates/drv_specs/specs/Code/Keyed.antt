@@ -8,7 +8,7 @@ abbrev pub with_left : List ℕ → Option (List ℕ) → List (List ℕ × List
 with_left name None texts = texts
 with_left name (Some text) texts = (name, text) ∷ texts
 
--- the texts of a map
+-- the named texts of a map, without the deleted ones
 abbrev pub texts_left : List (Vec ℕ × Option (List ℕ)) → List (List ℕ × List ℕ)
 texts_left [] = []
 texts_left (e ∷ es) = with_left e.0.items e.1 (texts_left es)

@@ -22,6 +22,7 @@ abbrev pub lines_from : Option (List ℕ) → List (List ℕ)
 lines_from None = []
 lines_from (Some text) = lines_of text
 
+-- what is left, with the newline before it; nothing after the last line
 abbrev pub bytes_from : Option (List ℕ) → List ℕ
 bytes_from None = []
 bytes_from (Some text) = newline ∷ text
@@ -34,19 +35,23 @@ settled_onto text b = if is_kept b then joined_onto text b else text
 abbrev pub Ends : List ℕ → List ℕ → Type 0
 Ends text back = (front : List ℕ) × (text ≡ front ++ back)
 
--- what is left
+-- the text that is left, if a line is left
 abbrev pub text_left : Lines → Option (List ℕ)
 text_left lines = option_map (λ text. text.now) lines.text
 
+-- the lines that are left
 abbrev pub lines_left : Lines → List (List ℕ)
 lines_left lines = lines_from (text_left lines)
 
+-- how many bytes are left
 abbrev pub size_left : Lines → ℕ
 size_left lines = length (bytes_from (text_left lines))
 
+-- the directives of the lines that are left
 abbrev pub directives_left : Lines → List specs.Directive
 directives_left lines = read_lines false lines.number (lines_left lines)
 
+-- a directive of the code as one of the definitions
 abbrev pub shown : Directive → specs.Directive
 shown (Text name body) = specs.Text name.now body.now
 shown (Pair key body) = specs.Pair key.now body.now
@@ -59,6 +64,7 @@ abbrev pub is_passed : List ℕ → Bool
 is_passed [] = true
 is_passed (b ∷ line) = b == number_sign
 
+-- whether a line begins with %
 abbrev pub is_keyword : List ℕ → Bool
 is_keyword [] = false
 is_keyword (b ∷ line) = b == percent
@@ -77,5 +83,6 @@ abbrev pub read_left : Result (List ℕ) SpecsFault → Result (List ℕ) SpecsF
 read_left (Ok text) = Ok (settled text)
 read_left (Err fault) = Err fault
 
+-- the settled text of a file, as the code keeps it
 abbrev pub settled_file : Facts → Prefixes → IfMissing → List ℕ → Known (Result (List ℕ) SpecsFault)
 settled_file F prefixes missing name = file_text F prefixes missing name >>= λ given. Is (read_left given)

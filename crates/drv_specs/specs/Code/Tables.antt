@@ -12,13 +12,16 @@ use Rattle.std.specs.Prelude.{◌≡◌, ◌&&◌, Bool, List, [], ◌∷◌, Ok
 
 -- Rows of tables put into a set one after another, for the code alone.
 
+-- a row of the table of named texts: a name and a text
 abbrev pub named_shown : Named → List ℕ × List ℕ
 named_shown row = (row.name.now, row.tree.text.now)
 
+-- the text of a row of pairs
 abbrev pub text_shown : PairText → List ℕ
 text_shown (Alone text) = text.now
 text_shown (Worked tree) = tree.text.now
 
+-- a row of the table of pairs: a key and a text
 abbrev pub pair_shown : Pair → List ℕ × List ℕ
 pair_shown row = (row.key.now, text_shown row.text)
 
@@ -32,6 +35,7 @@ pub record IsWritten (tree : WrittenTree) : Type 0 where
   pub parts : listed (parsed tree.text.now) ≡ Ok (tree.tokens.now, marked_labels tree.words.now tree.marks.now)
   pub words : are_within (length tree.words.now) tree.marks.now ≡ true
 
+-- the tree of the row is that of its text
 abbrev pub IsNamedRow : Named → Type 0
 IsNamedRow row = IsWritten row.tree
 
@@ -40,13 +44,16 @@ abbrev pub IsPairText : PairText → Type 0
 IsPairText (Alone text) = is_no_text text.now ≡ true
 IsPairText (Worked tree) = (is_no_text tree.text.now ≡ false) × IsWritten tree
 
+-- the same of a row of pairs
 abbrev pub IsPairRow : Pair → Type 0
 IsPairRow row = IsPairText row.text
 
+-- texts put into a set in order
 abbrev pub all_put : Set → List (List ℕ × List ℕ) → Set
 all_put set [] = set
 all_put set (entry ∷ entries) = all_put (with_named set entry.0 entry.1) entries
 
+-- pairs added to a set in order
 abbrev pub all_added : Set → List (List ℕ × List ℕ) → Set
 all_added set [] = set
 all_added set (pair ∷ pairs) = all_added (with_pair set pair.0 pair.1) pairs

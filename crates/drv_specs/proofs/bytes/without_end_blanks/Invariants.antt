@@ -5,6 +5,7 @@ use Rattle.drv_specs.proofs.bytes.without_end_blanks.Given as goal
 
 -- The loops of without_end_blanks (src/bytes.rt). A text without the blanks at its end.
 
+-- only blanks come after this end
 abbrev pub invariant-loop-end : goal.invariant-loop-end
 invariant-loop-end l = record {
   within : l.end ≤ length l.text;
@@ -12,5 +13,6 @@ invariant-loop-end l = record {
       ≡ without_end is_blank l.text;
 }
 
+-- the end gets less each turn, so the loop ends
 abbrev pub decreases-loop-end : goal.decreases-loop-end
 decreases-loop-end l = l.end

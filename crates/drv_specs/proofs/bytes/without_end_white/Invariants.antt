@@ -5,6 +5,7 @@ use Rattle.drv_specs.proofs.bytes.without_end_white.Given as goal
 
 -- The loops of without_end_white (src/bytes.rt). A text without the white space at its end.
 
+-- only white space comes after this end
 abbrev pub invariant-loop-end : goal.invariant-loop-end
 invariant-loop-end l = record {
   within : l.end ≤ length l.text;
@@ -12,5 +13,6 @@ invariant-loop-end l = record {
       ≡ without_end is_white l.text;
 }
 
+-- the end gets less each turn, so the loop ends
 abbrev pub decreases-loop-end : goal.decreases-loop-end
 decreases-loop-end l = l.end

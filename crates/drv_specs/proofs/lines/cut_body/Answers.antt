@@ -10,6 +10,7 @@ use Rattle.std.proofs.lemmas.List.{append-nil}
 
 -- cut_body (src/lines.rt). The lines up to the next one that is empty.
 
+-- one more full line belongs to the body
 pub loop-line-preserved : goal.loop-line-preserved
 loop-line-preserved c =
     let rest = c.loop-line.invariant.rest ∙ c.in-Some.ensures.bytes in
@@ -31,6 +32,7 @@ loop-line-preserved c =
       room = omega (arith, size, c.in-Some.ensures.number, c.loop-line.invariant.room);
     }
 
+-- no full line is left, so the lines so far are the body
 pub returns-clause-body : goal.returns-clause-body
 returns-clause-body c =
     c.first_lines.ensures

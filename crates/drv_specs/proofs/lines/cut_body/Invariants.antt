@@ -15,5 +15,6 @@ invariant-loop-line l = record {
   room : l.left.number + size_left l.left ≤ l.lines.number + size_left l.lines;
 }
 
+-- each turn leaves fewer bytes, so the loop ends
 abbrev pub decreases-loop-line : goal.decreases-loop-line
 decreases-loop-line l = size_left l.left

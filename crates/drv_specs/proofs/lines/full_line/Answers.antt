@@ -7,6 +7,7 @@ use Rattle.std.specs.Option.{option_map}
 
 -- full_line (src/lines.rt). The next line and those after it, unless it is empty or has blanks alone, or there is none.
 
+-- an empty line ends a body
 pub returns-then-is_empty_line-clause-none : goal.returns-then-is_empty_line-clause-none
 returns-then-is_empty_line-clause-none c =
     ap (λ t. body_lines (lines_from (option_map (λ b. b.now) t))) c.in-Some.is
@@ -15,6 +16,7 @@ returns-then-is_empty_line-clause-none c =
     ∙ body_over c.cut_line.result.0.now (lines_from (option_map (λ b. b.now) c.cut_line.result.1))
     (sym c.is_empty_line.ensures ∙ c.if-is_empty_line.true)
 
+-- after an empty line what follows is in no body
 pub returns-then-is_empty_line-clause-outside : goal.returns-then-is_empty_line-clause-outside
 returns-then-is_empty_line-clause-outside c n =
     ap (λ t. read_lines true n (lines_from (option_map (λ b. b.now) t))) c.in-Some.is

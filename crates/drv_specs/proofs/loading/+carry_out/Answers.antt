@@ -22,6 +22,7 @@ pub returns-in_err-carry_out-in-Include-clause-asks : goal.returns-in_err-carry_
 returns-in_err-carry_out-in-Include-clause-asks g n c =
     asked_further c.loop-directive.invariant.asks (asked_further c.file_text.ensures.asks c.carry_out.ensures.asks)
 
+-- an included file that is too deep is refused
 pub returns-then-levels-eq0-clause-carried : goal.returns-then-levels-eq0-clause-carried
 returns-then-levels-eq0-clause-carried g n c F e =
     inr (deep_refused F c.args.prefixes.now c.loop-directive.entries c.loop-directive.files c.args.levels c.loop-directive.reader
@@ -32,6 +33,7 @@ returns-then-levels-eq0-clause-carried g n c F e =
     (Include c.in-Include.if_missing c.in-Include.file.now) c.next.ensures.directives c.in-Some.is (ap shown c.in-Include.is))
     (c.loop-directive.invariant.rest F e) c.if-levels-eq0.true)
 
+-- one file too many is refused
 pub returns-then-files-eq0-clause-carried : goal.returns-then-files-eq0-clause-carried
 returns-then-files-eq0-clause-carried g n c F e =
     inr (many_refused F c.args.prefixes.now c.loop-directive.entries c.loop-directive.files c.args.levels c.loop-directive.reader
@@ -42,6 +44,7 @@ returns-then-files-eq0-clause-carried g n c F e =
     (Include c.in-Include.if_missing c.in-Include.file.now) c.next.ensures.directives c.in-Some.is (ap shown c.in-Include.is))
     (c.loop-directive.invariant.rest F e) (c.args.levels - 1) (omega arith) c.if-files-eq0.true)
 
+-- an included file that can't be read is refused
 pub returns-in_err-text-in-Include-clause-carried : goal.returns-in_err-text-in-Include-clause-carried
 returns-in_err-text-in-Include-clause-carried g n c F e =
     refusal_given c.in_err-text-in-Include.field-0.0 c.from_residual.result _
@@ -58,6 +61,7 @@ returns-in_err-text-in-Include-clause-carried g n c F e =
     (c.args.levels - 1) (c.loop-directive.files - 1) (omega arith) (omega arith) c.in_err-text-in-Include.field-0.0
     (c.in_err-text-in-Include.ensures.text F e))
 
+-- an included file one of whose directives is refused
 pub returns-in_err-carry_out-in-Include-clause-carried : goal.returns-in_err-carry_out-in-Include-clause-carried
 returns-in_err-carry_out-in-Include-clause-carried g n c F e =
     refusal_given c.in_err-carry_out-in-Include.field-0.0 c.from_residual-in_err-carry_out-in-Include.result _
@@ -76,6 +80,7 @@ returns-in_err-carry_out-in-Include-clause-carried g n c F e =
     (c.in_ok-text-in-Include.ensures.text F (extends_before c.carry_out.ensures.asks e)) c.as_slice.ensures.value
     (c.in_err-carry_out-in-Include.ensures.carried F e))
 
+-- the directives of an included file were carried out in its place
 pub loop-directive-preserved-in-Include : goal.loop-directive-preserved-in-Include
 loop-directive-preserved-in-Include g n c = record {
   asks = asked_further c.loop-directive.invariant.asks (asked_further c.file_text.ensures.asks c.carry_out.ensures.asks);
@@ -93,6 +98,7 @@ loop-directive-preserved-in-Include g n c = record {
       (c.in_ok-carry_out-in-Include.ensures.carried F e);
 }
 
+-- one more directive was carried out
 pub loop-directive-preserved : goal.loop-directive-preserved
 loop-directive-preserved g n c = record {
   asks = c.loop-directive.invariant.asks;
@@ -106,6 +112,7 @@ loop-directive-preserved g n c = record {
       (reads_no_file c.in-Some.directive c.in_default-directive.not-Include) c.in_ok-change-in_default-directive.ensures;
 }
 
+-- a directive that is refused
 pub returns-in_err-change-in_default-directive : goal.returns-in_err-change-in_default-directive
 returns-in_err-change-in_default-directive g n c = record {
   asks = c.loop-directive.invariant.asks;

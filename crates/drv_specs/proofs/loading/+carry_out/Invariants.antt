@@ -8,6 +8,7 @@ use Rattle.drv_specs.proofs.loading.+carry_out.Given as goal
 
 -- The loops of carry_out (src/loading.rt). Carries out the directives of a settled text, within which `levels` more files may be nested.
 
+-- the directives that are left, carried out on the set so far, give what all of them give; the call only asked
 abbrev pub invariant-loop-directive : goal.invariant-loop-directive
 invariant-loop-directive g l = record {
   asks : Asked g.S.System.events l.fn.outside l.outside;
@@ -16,8 +17,10 @@ invariant-loop-directive g l = record {
       ≡ all_carried (including F l.prefixes l.levels) (record { set = l.fn.entries; files = l.fn.files }) (read_settled l.text);
 }
 
+-- each turn leaves fewer directives, so the loop ends
 abbrev pub decreases-loop-directive : goal.decreases-loop-directive
 decreases-loop-directive g l = length l.reader
 
+-- an included file is one level deeper, so the calls end
 abbrev pub decreases-carry_out : goal.decreases-carry_out
 decreases-carry_out g l = l.levels

@@ -20,6 +20,7 @@ returns-in_err-read-clause-asks g c = record {
 pub returns-clause-asks : goal.returns-clause-asks
 returns-clause-asks g c = record { asks = asks_then c.find_file.ensures.asks c.read.ensures.asks; same_sys = refl; same_facts = refl }
 
+-- the file was found and read, so its text is the settled one
 pub returns-clause-text : goal.returns-clause-text
 returns-clause-text g c F e =
     text_given _ (λ left. left.items) F c.read.new.self c.args.prefixes.now c.args.if_missing c.args.name.now c.in_ok-path.path

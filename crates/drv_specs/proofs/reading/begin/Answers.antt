@@ -8,6 +8,7 @@ use Rattle.std.specs.Option.{option_map}
 
 -- begin (src/reading.rt). What the first line of a text begins, which has this number and is in no body.
 
+-- the line before the next one has this number
 number_is : (n : ℕ) → n + 1 - 1 ≡ n
 number_is n = omega arith
 
@@ -28,6 +29,7 @@ returns-then-is_keyword-clause-directives c =
     (shown c.by_keyword.result) (sym c.is_passed.ensures ∙ c.if-is_passed.false)
     (sym c.is_keyword.ensures ∙ c.if-is_keyword.true) c.by_keyword.ensures
 
+-- a line that is neither passed over nor one with %
 pub returns-clause-directives : goal.returns-clause-directives
 returns-clause-directives c =
     begins_body c.args.number c.args.text.now c.cut_line.result.0.now c.without_blanks-start.result.now

@@ -6,6 +6,7 @@ use Rattle.std.proofs.Common.{◌∙◌, sym}
 
 -- body_start (src/reading.rt). Where a body begins: after the colon of its line, or, where only blanks follow that, with the next line.
 
+-- something follows the colon, so it is the body's first line
 pub returns-clause-body : goal.returns-clause-body
 returns-clause-body c =
     let ends = ends_then c.args.line.now c.args.value.now c.without_blanks-rest.result.now c.requires.value
@@ -16,6 +17,7 @@ returns-clause-body c =
     (c.following.ensures ∙ tail_is c.args.text.now c.args.line.now c.without_blanks-rest.result.now
     (bytes_from (text_left c.args.lines)) c.requires.whole ends) c.requires.line ends)
 
+-- and what follows the body is the same as from the next line on
 pub returns-clause-left : goal.returns-clause-left
 returns-clause-left c =
     let ends = ends_then c.args.line.now c.args.value.now c.without_blanks-rest.result.now c.requires.value

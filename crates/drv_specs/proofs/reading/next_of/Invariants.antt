@@ -4,11 +4,13 @@ use Rattle.std.proofs.Common.{◌≡◌, ◌≤◌, ◌+◌}
 
 -- The loops of next_of (src/reading.rt). The next directive of lines, if there is one, and the lines after it.
 
+-- the lines that were passed have no directive
 abbrev pub invariant-loop-left : goal.invariant-loop-left
 invariant-loop-left l = record {
   directives : directives_left l.lines ≡ directives_left l.left;
   room : l.left.number + size_left l.left ≤ l.lines.number + size_left l.lines;
 }
 
+-- each turn leaves fewer bytes, so the loop ends
 abbrev pub decreases-loop-left : goal.decreases-loop-left
 decreases-loop-left l = size_left l.left

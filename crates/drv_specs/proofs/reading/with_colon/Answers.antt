@@ -18,6 +18,7 @@ body_start-requires-clause-value c =
     ends_then c.args.line.now c.args.start.now c.following-value.result.now c.requires.start
     (ends_at c.args.start.now c.following-value.result.now (c.in-Some.at + 1) c.following-value.ensures)
 
+-- the directive of the key before the colon and of the body after it
 pub returns-clause-directive : goal.returns-clause-directive
 returns-clause-directive c =
     ap (λ d. d ∷ []) (c.by_key.ensures

@@ -4,8 +4,10 @@ use Rattle.std.proofs.Common.{◌≡◌, filter, fold, length}
 
 -- The loops of settled (src/settling.rt). What is left of a spec file's text.
 
+-- what is left so far, with the rest of the text, gives what the whole text gives
 abbrev pub invariant-loop-at : goal.invariant-loop-at
 invariant-loop-at l = fold joined_onto l.left.items (filter is_kept l.rest) ≡ settled l.text
 
+-- each turn leaves less of the text, so the loop ends
 abbrev pub decreases-loop-at : goal.decreases-loop-at
 decreases-loop-at l = length l.rest

@@ -38,6 +38,7 @@ returns-in_ok-insert-in-Some-None-clause-old c =
     (c.in_ok-key.ensures.items_if_clones_equal (λ x y e. e)) c.in_ok-insert.ensures.entries
     c.in_ok-insert.ensures.unique))
 
+-- a name that was deleted is put again: its old entry goes, and the new one is last
 pub returns-in_ok-insert-in-Some-None-clause-put : goal.returns-in_ok-insert-in-Some-None-clause-put
 returns-in_ok-insert-in-Some-None-clause-put c =
     rw (← c.self.view_is) (moved c.in_ok-key.key c.in_ok-key-in-Some-None.key c.args.name.now c.args.text c.in-Some.text

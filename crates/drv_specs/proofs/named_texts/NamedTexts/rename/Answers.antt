@@ -12,6 +12,7 @@ pub returns-in_default : goal.returns-in_default
 returns-in_default c = unnamed c.args.old.now c.args.new.now c.args.self.now
     (ap (lookup (pointwise nat_eq c.args.old.now)) (sym c.self.view_is) ∙ sym c.text_at.ensures ∙ ap option_copied c.in_default.is)
 
+-- the text is put under the new name and then moved to the old one's place
 pub returns : goal.returns
 returns c =
     rw (← c.self.view_is) (left_renamed c.args.old.now c.args.new.now c.in_ok-text.text c.in_ok-key.key c.self.inside.kept.entries

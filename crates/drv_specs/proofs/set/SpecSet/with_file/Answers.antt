@@ -19,6 +19,7 @@ returns-in_err-text-clause-asks g c = let asks = c.file_text.ensures.asks.asks i
 pub returns-clause-asks : goal.returns-clause-asks
 returns-clause-asks g c = let asks = (asked_further c.file_text.ensures.asks c.worked.ensures.asks).asks in search rules
 
+-- a file that can't be read is refused
 pub returns-in_err-text-clause-loads : goal.returns-in_err-text-clause-loads
 returns-in_err-text-clause-loads g c F e =
     let known : Extends c.file_text.new.outside.facts.now F = search rules in
@@ -28,6 +29,7 @@ returns-in_err-text-clause-loads g c F e =
     c.as_bytes.ensures
     (file_unread F c.args.prefixes.now c.args.self c.as_bytes.result.now c.in_err-text.field-0.0 (c.in_err-text.ensures.text F known)))
 
+-- the directives of the file's text are carried out
 pub returns-clause-loads : goal.returns-clause-loads
 returns-clause-loads g c F e =
     let known : Extends c.worked.new.outside.facts.now F = search rules in
