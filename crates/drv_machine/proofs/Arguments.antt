@@ -23,6 +23,7 @@ use Rattle.std.proofs.Common.{◌≡◌, ◌⊎◌, ◌<◌, ◌+◌, ◌-◌, �
 -- For calls of functions in a text (calling.rt): the arguments are cut by the law of a text, in a cut of their own (`aside`), while the cut
 -- around them waits in `outer`. `after_arguments` is their end: their words, and then what they are for.
 
+-- for any answers F of the system, and any C that a text is run for
 module _ (F : Facts) (C : Context) where
   -- the definition cuts the arguments from nothing and keeps the cut around them: so does the code, with a break at their end
   arguments_done : (s : Machine) (work : Worked (Unit {0}))
@@ -102,12 +103,15 @@ module _ (F : Facts) (C : Context) where
 module _ (F : Facts) (C : Context) (text : List ℕ) (w : Walk) (s : Machine) (next : ℕ) (name : List ℕ) (items : Items)
     (given : Answer (Unit {0} × Machine))
     (b : Following F C text w next (λ levels star. item_step F C (tree.Function name items) levels star) s given) where
+  -- what follows the item in the whole walk
   abbrev k : Unit {0} × Machine → Answer (Unit {0} × Machine)
   k r = onward F C w.star b.rest b.arounds r.1
 
+  -- what the arguments of the item's function mean
   abbrev inner : Levels → Step (Unit {0})
   inner inside = items_step F C items inside (star_of C w.star)
 
+  -- what follows the arguments of an item: the function's name, and no test
   abbrev kept : Kept
   kept = record nothing_kept { name = name }
 
@@ -163,9 +167,11 @@ module _ (F : Facts) (C : Context) (text : List ℕ) (w : Walk) (s : Machine) (e
     (given : Answer (Unit {0} × Machine))
     (b : Following F C text w end (λ levels star. arguments_of F C inner_items kept.name levels star
     >>= judged F C kept.negated kept.asked kept.tests levels star >>= found_step F C items kept.choices levels star) s given) where
+  -- what follows the test's brace in the whole walk
   abbrev ask_k : Unit {0} × Machine → Answer (Unit {0} × Machine)
   ask_k r = onward F C w.star b.rest b.arounds r.1
 
+  -- what the arguments of the test's function mean
   abbrev asked_inside : Levels → Step (Unit {0})
   asked_inside inside = items_step F C inner_items inside (star_of C w.star)
 
@@ -176,7 +182,7 @@ module _ (F : Facts) (C : Context) (text : List ℕ) (w : Walk) (s : Machine) (e
       >>= judged F C kept.negated kept.asked kept.tests (levels_in F C b.arounds) (star_of C w.star)
       >>= found_step F C items kept.choices (levels_in F C b.arounds) (star_of C w.star)
 
-  -- what the words of its arguments decide
+  -- what the words of the arguments decide: whether the test is true, and so its X or what follows it
   abbrev on_words : List (List ℕ) → Step (Unit {0})
   on_words args = asked_on F C items kept (levels_in F C b.arounds) (star_of C w.star) args
 

@@ -44,14 +44,14 @@ pub record FrontChoice (text : List ℕ) (at : ℕ) (choices : Choices) (end : �
   pub is : choices ≡ tree.choice span tests items others
   pub first : First text at kinds.Alternative (alternative_label items) (both (test_nodes tests) (nodes_of items)) (choice_nodes others) end
 
--- before the end there is one
+-- where the place is before the end of the braces, an alternative is there: the loop of `choose` may take it
 pub front_choice : (text : List ℕ) (at : ℕ) (choices : Choices) (end : ℕ) → at < end → Stands text at (choice_nodes choices) end
     → FrontChoice text at choices end
 front_choice text at tree.no_choice end h e = absurd (omega (arith, h, e))
 front_choice text at (tree.choice span tests items others) end h s =
     record { span = span; tests = tests; items = items; others = others; is = refl; first = first_of s }
 
--- at the end there is none
+-- where the place is at the end of the braces, no alternative is left: the loop of `choose` ends
 pub no_choices_left : (text : List ℕ) (at : ℕ) (choices : Choices) (end : ℕ) → end ≤ at → Stands text at (choice_nodes choices) end
     → choices ≡ tree.no_choice
 no_choices_left text at tree.no_choice end h s = refl
@@ -86,13 +86,13 @@ ChoicesLeft F C text s t at end choices levels star =
 -- an alternative is left at place `at`: s is the state before the loop, t the present one
 module _ (F : Facts) (C : Context) (text : List ℕ) (s t : Machine) (at end : ℕ) (h : at < end) (choices : Choices) (levels : Levels)
     (star : List ℕ) (left : ChoicesLeft F C text s t at end choices levels star) where
-  -- by the alternatives that are left
+  -- what all alternatives give from the state before the loop, those that are left give from the present one
   from_rest : (f : FrontChoice text at left.rest end)
       → run F C s (choices_step F C choices levels star)
       ≡ run F C t (choices_step F C (tree.choice f.span f.tests f.items f.others) levels star)
   from_rest f = sym left.same ∙ ap (λ xs. run F C t (choices_step F C xs levels star)) f.is
 
-  -- its token
+  -- the token of the first alternative that is left
   module _ (token : Token) (there : slice_get (tokens_of (tree_of text)) at ≡ Some token) where
     -- the alternatives after the first one follow its token
     pub others_there : (choices : Choices) × Stands text token.next (choice_nodes choices) end
@@ -128,7 +128,7 @@ module _ (F : Facts) (C : Context) (text : List ℕ) (s t : Machine) (at end : �
       as_default P e working = let f = front_choice text at left.rest end h left.stands in
           subst P (sym (default_is f e)) (working f.items (items_there f))
 
-      -- it has a test
+      -- the first alternative has a test
       module _ (some : middle ≡ at + 1 → ⊥) where
         -- an alternative with tests, by the first that is true
         with_tests : (f : FrontChoice text at left.rest end)
@@ -246,7 +246,7 @@ pub record ForEach (F : Facts) (C : Context) (negated : Bool) (asked : Asked) (o
   pub labelled_as : labelled (test_label negated asked) ≡ matching pattern
   pub is : worked F C (Some asked) own X levels star others ≡ each_hit F C pattern X levels (places F C)
 
--- then it is such an X
+-- an X with a %* of its own, after a test that asks for a switch, is processed for each hit
 each_is : (F : Facts) (C : Context) (negated : Bool) (asked : Asked) (own : Bool) (X : List ℕ → Levels → Step (Unit {0})) (levels : Levels)
     (star : List ℕ) (others : Step (Unit {0})) → asks_switch (test_label negated asked) && own ≡ true
     → ForEach F C negated asked own X levels star others
@@ -279,6 +279,7 @@ module _ (F : Facts) (C : Context) (text : List ℕ) (s : Machine) (test middle 
 
 -- the switches that are left, of which the first is at a place
 module _ (F : Facts) (C : Context) (p : Pattern) (items : Items) where
+  -- the X for the hits among these switches, as the definition has it
   abbrev each : Levels → List ℕ → Step (Unit {0})
   each levels is = each_hit F C p (λ rest inside. items_step F C items inside rest) levels is
 
@@ -315,7 +316,7 @@ module _ (F : Facts) (C : Context) (p : Pattern) (items : Items) where
         ≡ run F C s (hit_step F C p items levels i >> each_from F C p items levels (i + 1))
     at_hit f = at_switch ∙ ap (λ b. run F C s (one levels i b >> each_from F C p items levels (i + 1))) f
 
-  -- past the last switch there is nothing
+  -- past the last switch of the line no hit is left, and an X for each hit gives nothing more
   pub each_end : (levels : Levels) (s : Machine) (i : ℕ) → length C.switches ≤ i
       → run F C s (each_from F C p items levels i) ≡ Is (Ok (tt, s))
   each_end levels s i h = by (length C.switches - i) (omega (arith, h))

@@ -58,7 +58,7 @@ module _ (F : Facts) (C : Context) (text : List ℕ) (w : Walk) (s t : Machine) 
         (λ levels star. items_step F C items levels star) t same))
         b.same
 
-    -- it has a test
+    -- the alternative has a test
     module _ (some : middle ≡ at + 1 → ⊥) where
       -- where the tests are refused, so is the text
       pub tests_refused : (fault : MachineFault)

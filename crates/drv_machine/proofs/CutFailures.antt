@@ -21,6 +21,7 @@ abbrev ended_parts : Bool → List Atom → List (Option (List Atom)) → List (
 ended_parts true run parts = map (λ before. Some run) parts
 ended_parts false run parts = parts
 
+-- a list without its first item: the %W around the innermost
 abbrev without_first : {X : Type 0} → List X → List X
 without_first [] = []
 without_first (x ∷ xs) = xs
@@ -40,10 +41,12 @@ at_place [] n = None
 at_place (x ∷ xs) zero = Some x
 at_place (x ∷ xs) (suc n) = at_place xs n
 
+-- the last word of a %W, if as many are open
 abbrev part_at : Bool → Option (List Atom) → Option (Option (List Atom))
 part_at true last = Some last
 part_at false last = None
 
+-- an item after the first is one place nearer in the list without the first
 after_first : {X : Type 0} (xs : List X) (n : ℕ) → at_place (without_first xs) n ≡ at_place xs (suc n)
 after_first [] n = refl
 after_first (x ∷ xs) n = refl
@@ -95,7 +98,7 @@ parts_are (suc n) (FileFrom ∷ before) = parts_are (suc n) before
 parts_are zero (FileTo ∷ before) = parts_are zero before
 parts_are (suc n) (FileTo ∷ before) = parts_are (suc n) before
 
--- the file of the part that ends
+-- the failure file of the innermost %W, if one is open and a word ended in it
 abbrev first_file : List (Option (List Atom)) → List (List Atom)
 first_file [] = []
 first_file (last ∷ parts) = list_of last
@@ -108,9 +111,11 @@ file_of_first [] false last e = refl
 file_of_first (p ∷ parts) true last e = let same : last ≡ p = cc in ap list_of same
 file_of_first (p ∷ parts) false last e = absurd cc
 
+-- the failure file at the end of the innermost %W, as the definition looks back for it, is that of the first open one
 part_file : (before : List Atom) → (if has_begun zero before then list_of (last_in zero before) else []) ≡ first_file (open_parts before)
 part_file before = file_of_first (open_parts before) (has_begun zero before) (last_in zero before) (parts_are zero before)
 
+-- for any answers F of the system, and any C that a text is run for
 module _ (F : Facts) (C : Context) where
   -- the files after are those before, and then the paths that were found for these words
   abbrev After : List (List Atom) → List (List ℕ) → List (List ℕ) → Type 0

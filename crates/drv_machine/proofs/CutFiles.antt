@@ -53,12 +53,13 @@ pipe_plain : (c : Cut) (outer : Option CutLine) → plain (pipe_ended (record c 
 pipe_plain c None = pipe_words_plain (record c { outer = None }) c.line.words
 pipe_plain c (Some line) = refl
 
--- the end of a file does so
+-- the end of a file makes one plain cut of a cut and of its plain one
 file_plain : (c : Cut) (outer : Option CutLine) → plain (file_done (record c { outer = outer }))
     ≡ plain (file_done (record (plain c) { outer = outer }))
 file_plain c None = refl
 file_plain c (Some line) = refl
 
+-- for any answers F of the system, and any C that a text is run for
 module _ (F : Facts) (C : Context) where
   -- the answer that is this cut, plain: put after a step, it leaves of what the step gives only what the commands depend on
   abbrev as_plain : Cut → Answer Cut
@@ -91,6 +92,7 @@ module _ (F : Facts) (C : Context) where
       by Unasked = refl
   broken_by c (Some word) false false = refl
 
+  -- the end of a word makes the same plain cut, whether files are left out before it or after it
   broken_plain : (c : Cut) → (broken F C c >>- as_plain) ≡ (broken F C (plain c) >>- as_plain)
   broken_plain c = broken_by c c.word c.marks.script c.marks.file
 
@@ -167,6 +169,7 @@ pipe_in_file : (c : Cut) (outer : Option CutLine) (l : CutLine) → outer ≡ So
 pipe_in_file c None l e = absurd cc
 pipe_in_file c (Some line) l e = refl
 
+-- in a file the end of a word makes no pipe stray, where its words have no pipe
 no_pipe_yet : (c : Cut) → c.line.piped ≡ false → record (lined c) { stray = c.stray || c.line.piped } ≡ lined c
 no_pipe_yet c e = ap (λ (b : Bool). record (lined c) { stray = c.stray || b }) e
     ∙ ap (λ (b : Bool). record (lined c) { stray = b }) (or_none c.stray)
@@ -186,6 +189,7 @@ moved_in_file c To l n o p = inside_lined c c.inside
 moved_in_file c FileFrom l n o p = absurd cc
 moved_in_file c FileTo l n o p = absurd cc
 
+-- an `or` that is false has both its sides false: the first stretch and the others
 not_first : (a b : Bool) → (a || b) ≡ false → (a ≡ false) × (b ≡ false)
 not_first true b e = absurd cc
 not_first false b e = (refl, e)
@@ -200,6 +204,7 @@ pub record Within (F : Facts) (C : Context) (l m : Lined) (found : List Run) : T
   pub all : each (texts F C) found ≡ Is (Ok lists)
   pub words : m.line.words ≡ l.line.words ++ flat_map (λ list. list) lists
 
+-- for any answers F of the system, and any C that a text is run for
 module _ (F : Facts) (C : Context) where
   -- one more word in a file, before those after it
   within_word : (l m : Lined) (w : Run) (list : List (List ℕ)) (found : List Run) → texts F C w ≡ Is (Ok list)
@@ -272,7 +277,7 @@ module _ (F : Facts) (C : Context) where
       (subst (λ (x : Cut). Within F C (lined x) (lined d) (words_after [] atoms)) same
       (within rest n l (ap (λ (x : Cut). x.outer) same ∙ o) (ap (λ (x : Cut). x.line.piped) same ∙ p)))
 
-  -- a break more bounds no file
+  -- atoms in which no file begins or ends are so with a break after them
   bounds_after : (atoms : List Atom) → list_any bounds_file atoms ≡ false → list_any bounds_file (atoms ++ Break ∷ []) ≡ false
   bounds_after [] n = refl
   bounds_after (atom ∷ atoms) n =
@@ -305,10 +310,11 @@ module _ (F : Facts) (C : Context) where
 abbrev Closed : Cut → Type 0
 Closed d = (d.word ≡ None) × (d.marks ≡ no_marks) × (d.barred ≡ false)
 
+-- what is open in a cut, by its word, its marks and its bar alone
 abbrev open_of : Option (List ℕ) → Marking → Bool → Opened
 open_of word marks barred = open_in (record nothing_cut { word = word; marks = marks; barred = barred })
 
--- in such a cut nothing is open, as after no atom
+-- in a cut without a word, a mark and a bar nothing is open, as after no atom
 closed_opens : (d : Cut) → Closed d → open_in d ≡ opened_by []
 closed_opens d e =
     ap (λ (w : Option (List ℕ)). open_of w d.marks d.barred) e.0 ∙ ap (λ (m : Marking). open_of None m d.barred) e.1
@@ -359,10 +365,12 @@ words_outside : (c : Cut) (words : List (List ℕ)) → (pipe_done (record c { l
 words_outside c [] = refl
 words_outside c (w ∷ ws) = refl
 
+-- a pipe leaves a file open or not, as it was before
 pipe_outside : (c : Cut) (outer : Option CutLine) → (pipe_ended (record c { outer = outer })).outer ≡ outer
 pipe_outside c None = words_outside (record c { outer = None }) c.line.words
 pipe_outside c (Some line) = refl
 
+-- for any answers F of the system, and any C that a text is run for
 module _ (F : Facts) (C : Context) where
   -- after a break no word is open, and as before a file is open or not
   broken_closed : (c d : Cut) → broken F C c ≡ Is (Ok d) → Closed d × (d.outer ≡ c.outer)
@@ -375,13 +383,16 @@ module _ (F : Facts) (C : Context) where
       by true (Is (Err fault)) w = absurd cc
       by true Unasked w = absurd cc
 
+  -- the end of a word and a pipe leave a file open or not, as it was before
   piped_outside : (c d : Cut) → Came (broken F C c) (λ x. Is (Ok (pipe_ended x))) d → d.outer ≡ c.outer
   piped_outside c d (x, is, e) = let same : pipe_ended x ≡ d = cc in ap (λ (y : Cut). y.outer) (sym same) ∙ pipe_outside x x.outer
       ∙ (broken_closed c x is).1
 
+  -- a cut goes on as it is
   abbrev gone : Cut → Answer Cut
   gone x = Is (Ok x)
 
+  -- a cut that goes on as it is leaves a file open or not, as it was before
   same_outside : (x d : Cut) (outer : Option CutLine) → gone x ≡ gone d → x.outer ≡ outer → d.outer ≡ outer
   same_outside x d outer e is = let same : x ≡ d = cc in ap (λ (y : Cut). y.outer) (sym same) ∙ is
 
@@ -478,6 +489,7 @@ module _ (F : Facts) (C : Context) where
       file_alike atoms stretches c d (λ x. alike stretches x d whole.1)
       (after_file c d atoms (flat_map stretch_atoms stretches) whole.0 o e)
 
+-- an atom that bounds no file begins none
 begins_none : (atom : Atom) → bounds_file atom ≡ false → begins_file atom ≡ false
 begins_none FileFrom n = absurd cc
 begins_none _ n = refl
@@ -492,6 +504,7 @@ none_begins (Bare atom ∷ stretches) n =
     ∙ none_begins stretches whole.1
 none_begins (Filed atoms ∷ stretches) n = none_begins stretches (not_first (list_any bounds_file atoms) (list_any is_broken stretches) n).1
 
+-- for any answers F of the system, and any C that a text is run for
 module _ (F : Facts) (C : Context) where
   -- the commands, stray pipes and open command of the list without its files are those of the cut
   abbrev Around : List Stretch → Cut → Type 0

@@ -18,10 +18,12 @@ use Rattle.std.specs.Prelude.{if◌then◌else◌, not, option_to_list}
 -- of a word, or a pipe; a pipe is stray if its command has no word before it, or has more than ends of words after it. The lemmas go over
 -- the list run by run (`Course` of Runs) and compare the open command's pieces with the cut.
 
+-- an `or` with a true side is true: a pipe that was stray stays so
 or_true : (a : Bool) → (a || true) ≡ true
 or_true true = refl
 or_true false = refl
 
+-- three sides of an `or` may be grouped from either end
 or_assoc : (a b c : Bool) → ((a || b) || c) ≡ (a || (b || c))
 or_assoc true b c = refl
 or_assoc false b c = refl
@@ -122,6 +124,7 @@ file_lined : (c : Cut) (outer : Option CutLine) → outer ≡ None
 file_lined c None e = refl
 file_lined c (Some line) e = absurd cc
 
+-- the commands that the end of one adds: itself, or none where it has no word
 abbrev one_if : CutLine → List NamedLine
 one_if line = option_to_list (named_line line)
 
@@ -167,19 +170,24 @@ pipe_lined : (c : Cut) (outer : Option CutLine) → outer ≡ None → lined (pi
 pipe_lined c None e = pipe_done_lined c c.line.words
 pipe_lined c (Some line) e = absurd cc
 
+-- words with one more at the end are some: a pipe after them has a word before it
 some_after : (xs ys : List (List ℕ)) → is_nil ys ≡ false → is_nil (xs ++ ys) ≡ false
 some_after [] ys e = e
 some_after (x ∷ xs) ys e = refl
 
+-- more words before those of a command
 abbrev ahead : List (List ℕ) → CutLine → Answer CutLine
 ahead ws line = Is (Ok (record { words = ws ++ line.words; piped = line.piped }))
 
+-- more words after those of a command
 abbrev with_more : CutLine → List (List ℕ) → Answer CutLine
 with_more line ts = Is (Ok (record { words = line.words ++ ts; piped = line.piped }))
 
+-- a command that ends with a pipe
 abbrev as_piped : CutLine → Answer CutLine
 as_piped line = Is (Ok (record { words = line.words; piped = true }))
 
+-- for any answers F of the system, and any C that a text is run for
 module _ (F : Facts) (C : Context) where
   -- one more word adds its texts to the words of a command
   word_line : (pieces : List Piece) (w : Run) → line_of F C (pieces ++ Word w ∷ [])
@@ -225,7 +233,7 @@ module _ (F : Facts) (C : Context) where
   part_line (Part ∷ ps) = part_line ps
   part_line (Pipe ∷ ps) = ap (λ (a : Answer CutLine). a >>- λ line. as_piped line) (part_line ps)
 
-  -- one more pipe makes a command piped
+  -- a command with one more pipe is a piped one, with the words that it had
   pipe_line : (pieces : List Piece) → line_of F C (pieces ++ Pipe ∷ []) ≡ (line_of F C pieces >>- λ l. as_piped l)
   pipe_line [] = refl
   pipe_line (Word v ∷ ps) =
@@ -270,13 +278,16 @@ want_or_pipe : (n s stray lacks more some : Bool) → stray ≡ (s || (lacks || 
 want_or_pipe true s stray lacks more some e = stray_for_want s lacks (more || some)
 want_or_pipe false s stray lacks more some e = pipe_or_stray s stray lacks more some e
 
+-- the words that a word ends as are some, whether it is a linker script or not
 script_or_not : (script : Bool) (name : List ℕ) → is_nil (if script then script_option ∷ name ∷ [] else name ∷ []) ≡ false
 script_or_not true name = refl
 script_or_not false name = refl
 
+-- a run that opens no word makes no piece
 bare_pieces : (run atoms : List Atom) → list_any opens_word run ≡ false → word_of (record { atoms = run; following = atoms }) ≡ []
 bare_pieces run atoms e = rw e refl
 
+-- a run that opens a word makes one piece
 word_pieces : (run atoms : List Atom) → list_any opens_word run ≡ true
     → word_of (record { atoms = run; following = atoms }) ≡ Word (record { atoms = run; following = atoms }) ∷ []
 word_pieces run atoms e = rw e refl
@@ -289,8 +300,9 @@ one_more line found = by (named_line line)
     by None = refl
     by (Some kept) = refl
 
+-- for any answers F of the system, and any C that a text is run for
 module _ (F : Facts) (C : Context) where
-  -- `LineKept` after part of a word
+  -- what is kept of a command (`LineKept`) is kept after part of a word, which makes a pipe before it stray
   stands_part : (ps : List Piece) (s : Bool) (l : Lined) → LineKept F C ps s l
       → LineKept F C (ps ++ Part ∷ []) s (record l { stray = l.stray || l.line.piped })
   stands_part ps s l st = record {
@@ -315,7 +327,7 @@ module _ (F : Facts) (C : Context) where
     stray = st.stray ∙ ap (λ b. s || b) (sym (word_strays ps w));
   }
 
-  -- `LineKept` after a pipe
+  -- what is kept of a command (`LineKept`) is kept after a pipe too, which makes it a piped one
   stands_pipe : (ps : List Piece) (s : Bool) (l : Lined) → LineKept F C ps s l → LineKept F C (ps ++ Pipe ∷ []) s (with_pipe l)
   stands_pipe ps s l st = record {
     outside = refl;
@@ -328,6 +340,7 @@ module _ (F : Facts) (C : Context) where
         ∙ ap (λ b. s || b) (sym (pipe_strays ps));
   }
 
+  -- `LineKept` doesn't change where no piece is added
   stands_nil : (ps : List Piece) (s : Bool) (l : Lined) → LineKept F C ps s l → LineKept F C (ps ++ []) s l
   stands_nil ps s l st = subst (λ (p : List Piece). LineKept F C p s l) (sym (append-nil ps)) st
 
@@ -371,7 +384,7 @@ module _ (F : Facts) (C : Context) where
     last,
   )
 
-  -- `Commanded` depends on a cut's commands alone
+  -- what is known of the commands after an atom (`Commanded`) depends on the commands of the cut before it alone
   goes_alike : (x c : Cut) (run atoms : List Atom) (ps : List Piece) (s : Bool) (d : Cut) → lined x ≡ lined c
       → (LineKept F C ps s (lined x) → Commanded (commands run ps atoms) (open_command run ps atoms) s x.lines d)
       → LineKept F C ps s (lined c)
@@ -458,6 +471,7 @@ module _ (F : Facts) (C : Context) where
       → has_stray_pipe atoms ≡ c.stray
   stray_is atoms c f e = (commands_are atoms c f e).1
 
+  -- the words of a list's last command, as the definition has them
   abbrev last_words : List Atom → Answer (List (List ℕ))
   last_words atoms = line_of F C (open_command [] [] (atoms ++ Break ∷ [])) >>- λ line. Is (Ok line.words)
 

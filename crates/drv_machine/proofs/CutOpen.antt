@@ -30,7 +30,7 @@ to_outside [] c = refl
 to_outside (None ∷ outer) c = refl
 to_outside (Some last ∷ outer) c = refl
 
--- the end of a command closes neither
+-- the end of a command closes no %W and no file
 end_parts : (enclosed : Enclosed) (c : Cut) (outer : Option CutLine)
     → open_parts enclosed (line_ended (record c { outer = outer })) ≡ open_parts enclosed (record c { outer = outer })
 end_parts Failure c None = refl
@@ -38,7 +38,7 @@ end_parts Failure c (Some line) = refl
 end_parts File c None = refl
 end_parts File c (Some line) = refl
 
--- a pipe after these words closes neither
+-- a pipe after these words closes no %W and no file
 pipe_words : (enclosed : Enclosed) (c : Cut) (words : List (List ℕ))
     → open_parts enclosed (pipe_done (record c { line = record { words = words; piped = c.line.piped } })) ≡ open_parts enclosed c
 pipe_words Failure c [] = refl
@@ -53,7 +53,7 @@ pipe_parts enclosed c None = pipe_words enclosed (record c { outer = None }) c.l
 pipe_parts Failure c (Some line) = refl
 pipe_parts File c (Some line) = refl
 
--- where a file begins, one is open
+-- where a file begins that the count allows, none is open before, and one is after
 file_from : (outer : Option CutLine) (line : CutLine) (rest : ℕ → Option ℕ) (n : ℕ)
     → option_and_then rest (open_after FileFrom File (length (option_to_list outer))) ≡ Some n → rest 1 ≡ Some n
 file_from None line rest n is = is
@@ -66,6 +66,7 @@ file_to : (c : Cut) (outer : Option CutLine) (rest : ℕ → Option ℕ) (n : �
 file_to c None rest n is = absurd cc
 file_to c (Some line) rest n is = is
 
+-- the end of a file leaves the open %W as they were
 file_inside : (c : Cut) (outer : Option CutLine) → (file_done (record c { outer = outer })).inside ≡ c.inside
 file_inside c None = refl
 file_inside c (Some line) = refl
@@ -93,20 +94,23 @@ moved_open c FileFrom File rest n e is = file_from c.outer c.line rest n is
 moved_open c FileTo Failure rest n e is = ap (λ (i : List (Option (List ℕ))). rest (length i)) (file_inside c c.outer) ∙ is
 moved_open c FileTo File rest n e is = file_to c c.outer rest n is
 
+-- a cut without its word and marks has as many %W and files open
 bare_parts : (enclosed : Enclosed) (c : Cut) → open_parts enclosed (bare c) ≡ open_parts enclosed c
 bare_parts Failure c = refl
 bare_parts File c = refl
 
+-- a list has as many items when each is changed: so a word's end changes the last words of the %W, not their number
 map_long : {X Y : Type 0} (f : X → Y) (xs : List X) → length (map f xs) ≡ length xs
 map_long f [] = refl
 map_long f (x ∷ xs) = ap suc (map_long f xs)
 
--- the end of a word closes neither
+-- the end of a word closes no %W and no file
 word_parts : (enclosed : Enclosed) (c : Cut) (run : List Atom) (name : List ℕ)
     → open_parts enclosed (with_word c (opened_by run) name) ≡ open_parts enclosed c
 word_parts Failure c run name = map_long (λ before. Some name) c.inside
 word_parts File c run name = refl
 
+-- for any answers F of the system, and any C that a text is run for
 module _ (F : Facts) (C : Context) where
   -- where no atom is left, the number that is counted is the cut's
   at_end : (c : Cut) (enclosed : Enclosed) (n : ℕ) → Some (open_parts enclosed c) ≡ Some n → open_parts enclosed c ≡ n
@@ -128,6 +132,7 @@ module _ (F : Facts) (C : Context) where
       open_as rest enclosed n (ap (open_following atoms enclosed)
       (pipe_parts enclosed (with_word c (opened_by run) name) c.outer ∙ word_parts enclosed c run name) ∙ is)
 
+  -- a cut of a whole list has as many %W and files open as the count over the list says: so what cut_law says of both agrees
   begun_open : (atoms : List Atom) (c : Cut) → all_taken F C nothing_cut atoms ≡ Is (Ok c) → (enclosed : Enclosed) (n : ℕ)
       → open_following atoms enclosed (open_parts enclosed nothing_cut) ≡ Some n → open_parts enclosed c ≡ n
   begun_open atoms c went = open_as (course F C [] nothing_cut atoms c refl went)

@@ -14,9 +14,11 @@ use Rattle.std.specs.Prelude.{None, Ok, Option, Some}
 -- removed files and failure files. The expected values were derived by hand from the profile. An example's comment is its text; %w marks an
 -- output, %d a removed file, %V no output, %W a failure file.
 
+-- the byte of a
 abbrev letter_a : ℕ
 letter_a = 97
 
+-- the byte of b
 abbrev letter_b : ℕ
 letter_b = 98
 
@@ -24,29 +26,37 @@ letter_b = 98
 no_word_before : has_stray_pipe (Piped ∷ Break ∷ End ∷ []) ≡ true
 no_word_before = refl
 
+-- a|b: a word after a pipe in its command makes it stray
 word_after : has_stray_pipe (Put letter_a ∷ Piped ∷ Put letter_b ∷ Break ∷ End ∷ []) ≡ true
 word_after = refl
 
+-- a||: a second pipe in a command makes the first stray
 pipe_after : has_stray_pipe (Put letter_a ∷ Piped ∷ Piped ∷ Break ∷ End ∷ []) ≡ true
 pipe_after = refl
 
+-- a|%V: a %V after a pipe doesn't make it stray
 nothing_after : has_stray_pipe (Put letter_a ∷ Piped ∷ Without ∷ Break ∷ End ∷ Put letter_b ∷ Break ∷ End ∷ []) ≡ false
 nothing_after = refl
 
+-- for any answers F of the system
 module _ (F : Facts) where
   -- what the definitions find in a list: its commands, words, output, removed files and failure files
   abbrev lines_are : List Atom → Answer (List NamedLine)
   lines_are atoms = lines F (linking []) atoms
 
+  -- the words that the definition finds in a list, as they are looked up
   abbrev words_are : List Atom → Answer (List (List ℕ))
   words_are atoms = each (path F (linking [])) (words atoms)
 
+  -- the output that the definition finds in a list, if it has one
   abbrev output_is : List Atom → Answer (Option (List ℕ))
   output_is atoms = if_any (path F (linking [])) (output atoms)
 
+  -- the removed files that the definition finds in a list
   abbrev removed_are : List Atom → Answer (List (List ℕ))
   removed_are atoms = each (path F (linking [])) (removed atoms)
 
+  -- the failure files that the definition finds in a list
   abbrev failures_are : List Atom → Answer (List (List ℕ))
   failures_are atoms = each (path_of F (linking [])) (failure_files atoms)
 
@@ -64,6 +74,7 @@ module _ (F : Facts) where
   barred : output_is (Put letter_a ∷ Marked AsOutput ∷ Break ∷ Put letter_b ∷ Without ∷ Marked AsOutput ∷ Break ∷ []) ≡ Is (Ok None)
   barred = refl
 
+  -- a %w%Vb: a word that begins after the %V is the output, also where its mark came before
   begins_after : output_is (Put letter_a ∷ Break ∷ Marked AsOutput ∷ Without ∷ Put letter_b ∷ Break ∷ []) ≡ Is (Ok (Some (codes "b")))
   begins_after = refl
 
@@ -85,6 +96,7 @@ module _ (F : Facts) where
   began_before : failures_are (Put letter_a ∷ From ∷ Put letter_b ∷ Break ∷ To ∷ []) ≡ Is (Ok (codes "ab" ∷ []))
   began_before = refl
 
+  -- a %W{}: a %W in which no word ends has no failure file
   none_inside : failures_are (Put letter_a ∷ Break ∷ From ∷ Break ∷ To ∷ []) ≡ Is (Ok [])
   none_inside = refl
 
@@ -93,9 +105,11 @@ module _ (F : Facts) where
       ≡ Is (Ok (codes "b" ∷ codes "b" ∷ []))
   inner_words_count = refl
 
+  -- %W{a %W{}}: an inner %W in which no word ends has no failure file, and the outer one has
   empty_inner : failures_are (From ∷ Put letter_a ∷ Break ∷ From ∷ Break ∷ To ∷ Break ∷ To ∷ []) ≡ Is (Ok (codes "a" ∷ []))
   empty_inner = refl
 
+  -- %W{%W{a} b}: the inner %W ends first, and the outer one with a later word
   word_after_inner : failures_are (From ∷ From ∷ Put letter_a ∷ Break ∷ To ∷ Put letter_b ∷ Break ∷ To ∷ [])
       ≡ Is (Ok (codes "a" ∷ codes "b" ∷ []))
   word_after_inner = refl
@@ -115,6 +129,7 @@ module _ (F : Facts) where
       ≡ Is (Ok (record { name = codes "a"; words = codes "a" ∷ []; piped = true } ∷ []))
   around_file = refl
 
+  -- a command that ends inside of a word goes on with the word: it ends with the command after it
   ends_later : lines_are (Put letter_a ∷ End ∷ Put letter_b ∷ Break ∷ End ∷ [])
       ≡ Is (Ok (record { name = codes "ab"; words = []; piped = false } ∷ []))
   ends_later = refl

@@ -48,6 +48,7 @@ moved_removed c FileTo = ap (λ (x : Cut). x.removed) (file_kept c)
 abbrev unless : Bool → Option (List ℕ) → Option (List ℕ)
 unless bar before = if bar then None else before
 
+-- without a word there is no output, whether a %V bars or not
 unless_none : (bar : Bool) → unless bar None ≡ None
 unless_none true = refl
 unless_none false = refl
@@ -80,11 +81,13 @@ barred_or_after (x ∷ run) atoms e = by (opens_word x) refl e (barred_or_after 
     by true is some next = list_any-append is_bar run atoms
     by false is some next = next some
 
+-- for any answers F of the system, and any C that a text is run for
 module _ (F : Facts) (C : Context) where
   -- the files after are those before, and then the paths that were found for these words
   abbrev After : List Run → List (List ℕ) → List (List ℕ) → Type 0
   After found before after = (names : List (List ℕ)) × (each (path F C) found ≡ Is (Ok names)) × (after ≡ before ++ names)
 
+  -- without words the files are those before
   after_none : (before : List (List ℕ)) → After [] before before
   after_none before = ([], refl, sym (append-nil before))
 
@@ -104,6 +107,7 @@ module _ (F : Facts) (C : Context) where
   after_if true w found before after name is following = after_more w found before after name is following
   after_if false w found before after name is following = subst (λ (b : List (List ℕ)). After found b after) (append-nil before) following
 
+  -- of these words those that are marked as removed
   abbrev marked_removed : List Run → List Run
   marked_removed found = filter is_removed_word found
 
@@ -137,6 +141,7 @@ module _ (F : Facts) (C : Context) where
   or_before None before = Is (Ok before)
   or_before (Some w) before = path F C w >>- λ name. Is (Ok (Some name))
 
+  -- without a word the output is that before, whether a %V bars or not
   or_none : (o : Option Run) (bar : Bool) → or_before o (unless bar None) ≡ if_any (path F C) o
   or_none None bar = ap (λ (n : Option (List ℕ)). Is (Ok n)) (unless_none bar)
   or_none (Some w) bar = refl
@@ -154,7 +159,7 @@ module _ (F : Facts) (C : Context) where
       by None e = rw e (ap (λ (a : Answer (List ℕ)). a >>- λ n. Is (Ok (Some n))) is)
       by (Some later) e = rw e refl
 
-  -- the words that may be the output
+  -- of these words those that may be the output
   abbrev outputs : List Run → List Run
   outputs found = filter may_be_output found
 

@@ -44,6 +44,7 @@ pub run_put : (s : Machine) (bs word : List ℕ) (items : ℕ) → word ≡ unwr
     ≡ record s { cut = in_word s.cut bs; world = record s.world { items = s.world.items + (length bs - 1) } }
 run_put s bs word items is count = rw (is, count) refl
 
+-- for any answers F of the system, and any C that a text is run for
 module _ (F : Facts) (C : Context) where
   -- some bytes, atom by atom, go into the open word, or open one
   pub bytes_taken : (c : Cut) (b : ℕ) (bs : List ℕ) → all_taken F C c (map Put (b ∷ bs)) ≡ Is (Ok (in_word c (b ∷ bs)))

@@ -26,6 +26,7 @@ use Rattle.std.specs.Prelude.{cond, if◌then◌else◌, nat_eq}
 -- one name for each suffix (%g), or `Anew`, a new name (%u); %U takes the last of those. The code keeps the last path of each suffix in a
 -- map once it has many.
 
+-- six stretches of a name, put one after another by the code, are those of the definition
 regroup : (a b c d e f : List ℕ) → (((((([] ++ a) ++ b) ++ c) ++ d) ++ e) ++ f) ≡ a ++ b ++ c ++ d ++ e ++ f
 regroup a b c d e f = simp append_assoc
 

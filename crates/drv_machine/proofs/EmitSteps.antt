@@ -42,13 +42,13 @@ pub record FrontPattern (text : List ℕ) (at : ℕ) (patterns : List (Span × P
   pub is : patterns ≡ pattern ∷ others
   pub first : First text at kinds.Pattern (pattern_label pattern.1) no_node (pattern_nodes others) end
 
--- before the end there is one
+-- where the place is before the end of the braces, a pattern is there: the loop of `patterns_in` may take it
 pub front_pattern : (text : List ℕ) (at : ℕ) (patterns : List (Span × Pattern)) (end : ℕ) → at < end
     → Stands text at (pattern_nodes patterns) end → FrontPattern text at patterns end
 front_pattern text at [] end h e = absurd (omega (arith, h, e))
 front_pattern text at (p ∷ patterns) end h s = record { pattern = p; others = patterns; is = refl; first = first_of s }
 
--- at the end there is none
+-- where the place is at the end of the braces, no pattern is left: the loop of `patterns_in` ends
 pub no_patterns_left : (text : List ℕ) (at : ℕ) (patterns : List (Span × Pattern)) (end : ℕ) → end ≤ at
     → Stands text at (pattern_nodes patterns) end → patterns ≡ []
 no_patterns_left text at [] end h s = refl
@@ -60,7 +60,7 @@ any_map : {A B : Type 0} (f : B → Bool) (g : A → B) (xs : List A) → list_a
 any_map f g [] = refl
 any_map f g (x ∷ xs) = ap (λ b. f (g x) || b) (any_map f g xs)
 
--- two filters that agree leave the same
+-- filters by tests that agree leave equal lists
 filter_same : {A : Type 0} (f g : A → Bool) (xs : List A) → ((x : A) → f x ≡ g x) → filter f xs ≡ filter g xs
 filter_same f g [] e = refl
 filter_same f g (x ∷ xs) e = ap (λ b. if b then x ∷ filter f xs else filter f xs) (e x)
@@ -91,7 +91,7 @@ all_in_line C all found list within same ns =
     subst (λ (is : List ℕ). All (λ i. i < length C.switches) is) (sym same)
     (subst (λ (n : ℕ). All (λ i. i < n) found) (ap (λ xs. length xs) ns ∙ length-map C.switches (λ switch. switch.name)) within)
 
--- one more pattern is taken
+-- the loop's invariant after one more pattern is taken, by its token's label
 pub patterns_step : (text : List ℕ) (at end : ℕ) → at < end → (token : Token) → slice_get (tokens_of (tree_of text)) at ≡ Some token
     → (done new : List switches.Pattern) (p : switches.Pattern)
     → p ≡ labelled (label_at (tree_of text) at) → new ≡ done ++ p ∷ [] → (patterns : List (Span × Pattern))
@@ -108,7 +108,7 @@ patterns_step text at end h token there done new p is e patterns left =
           ∙ ap (λ qs. done ++ map (λ q. matching q.1) qs) (sym f.is) ∙ left.same;
     }
 
--- at the end all are taken
+-- at the end of the braces all their patterns are taken, as the definition matches them
 pub patterns_end : (text : List ℕ) (at end : ℕ) → end ≤ at → (done : List switches.Pattern) (patterns : List (Span × Pattern))
     → PatternsLeft text at end done patterns → done ≡ map (λ p. matching p.1) patterns
 patterns_end text at end h done patterns left =

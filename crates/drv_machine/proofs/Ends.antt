@@ -40,18 +40,23 @@ all_ended last word count fresh h = sym (map_same (Some word) (ended_in last cou
 abbrev removed_kept : List ℕ → Machine → Machine
 removed_kept word s = record s { cut = record s.cut { removed = s.cut.removed ++ (if s.cut.marks.removed then word ∷ [] else []) } }
 
+-- the failure files with this word, if it is marked as an output
 abbrev failure_kept : List ℕ → Machine → Machine
 failure_kept word s = record s { cut = record s.cut { on_failure = s.cut.on_failure ++ (if s.cut.marks.output then word ∷ [] else []) } }
 
+-- this word as the output, if it is marked so and no %V bars it
 abbrev output_kept : List ℕ → Machine → Machine
 output_kept word s = record s { cut = record s.cut { output = if s.cut.marks.output && not s.cut.barred then Some word else s.cut.output } }
 
+-- this word as the last one of each %W that is open
 abbrev inside_kept : List ℕ → Machine → Machine
 inside_kept word s = record s { cut = record s.cut { inside = map (λ before. Some word) s.cut.inside } }
 
+-- the open command with this word
 abbrev word_pushed : List ℕ → Machine → Machine
 word_pushed word s = record s { cut = record s.cut { line = record { words = s.cut.line.words ++ word ∷ []; piped = s.cut.line.piped } } }
 
+-- no word is open, and no mark and no bar is left
 abbrev word_closed : Machine → Machine
 word_closed s = record s { cut = record s.cut { word = None; marks = no_marks; barred = false } }
 
@@ -107,6 +112,7 @@ module _ (F : Facts) (C : Context) (s : Machine) where
         → run F C s (puts (Break ∷ [])) ≡ Is (Ok (tt, record s { cut = word_done s.cut (word ∷ []) word }))
     plain_ends a b = at_break false false a b
 
+    -- the state with this cut, as the end of a word leaves it
     abbrev following : Cut → Answer (Unit {0} × Machine)
     following d = Is (Ok (tt, record s { cut = d }))
 

@@ -42,11 +42,12 @@ one_more last count fresh =
     ap (λ k. replicate k none ++ replicate ((count + 1) - (fresh + 1)) (Some last)) one
     ∙ ap (λ k. none ∷ (replicate fresh none ++ replicate k (Some last))) same
 
+-- a number that isn't 0 is more
 above_zero : (n : ℕ) → (n ≡ 0 → ⊥) → 0 < n
 above_zero zero h = absurd (h refl)
 above_zero (suc n) h = omega arith
 
--- no %W is open: none ends
+-- where no %W is open none ends, and what is kept stays as it is
 pub ends_none : (last : List ℕ) (count fresh : ℕ) → count ≡ 0 → fresh ≤ count
     → Ends (ended_in last count fresh) (ended_in last count fresh) None
 ends_none last count fresh e h =
@@ -126,7 +127,7 @@ nothing_stands text start end (tree.Emit []) h s = record {
 nothing_stands text start end (tree.Emit (p ∷ patterns)) h (next, part, within, following) =
     absurd (omega (arith, h, part.later, stand_grows _ _ next _ end following))
 
--- braces without a part mean no alternatives
+-- braces without a part mean what no alternatives mean: nothing
 pub no_parts : (text : List ℕ) (start end : ℕ) → end ≤ start → (brace : Brace) → Stands text start (brace_nodes brace) end
     → Chooses text start end brace
 no_parts text start end h brace s = nothing_stands text start end brace h s
@@ -152,9 +153,11 @@ module _ (text : List ℕ) (start end : ℕ) (h : start < end) (token : Token)
 -- a %W is opened, as the part of the frame that the code makes
 module _ (F : Facts) (C : Context) (text : List ℕ) (w : Walk) (s : Machine) (end : ℕ) (brace : Brace) (given : Answer (Unit {0} × Machine))
     (b : Following F C text w end (λ levels star. item_step F C (tree.FailureFile brace) levels star) s given) where
+  -- what follows the item in the whole walk
   abbrev k : Unit {0} × Machine → Answer (Unit {0} × Machine)
   k r = onward F C w.star b.rest b.arounds r.1
 
+  -- what the braces of the %W mean
   abbrev inner : Levels → Step (Unit {0})
   inner inside = brace_step F C brace inside (star_of C w.star)
 

@@ -28,9 +28,11 @@ use Rattle.std.specs.Prelude.{IfErr, OnOk}
 -- the item that is reached is a %@
 module _ (F : Facts) (C : Context) (text : List ℕ) (w : Walk) (s : Machine) (end : ℕ) (brace : Brace) (given : Answer (Unit {0} × Machine))
     (b : Following F C text w end (λ levels star. item_step F C (tree.ArgumentsFile brace) levels star) s given) where
+  -- what follows the item in the whole walk
   abbrev k : Unit {0} × Machine → Answer (Unit {0} × Machine)
   k r = onward F C w.star b.rest b.arounds r.1
 
+  -- what the braces of the %@ mean
   abbrev inner : Levels → Step (Unit {0})
   inner inside = brace_step F C brace inside (star_of C w.star)
 
@@ -38,6 +40,7 @@ module _ (F : Facts) (C : Context) (text : List ℕ) (w : Walk) (s : Machine) (e
   abbrev frame : Opened → Frame
   frame o = record { opened = o; end = w.end; star = w.star }
 
+  -- what the %@ means: a file of its braces, or the braces
   abbrev chosen : Bool → Levels → Step (Unit {0})
   chosen starts inside = if starts then file_step F C (inner inside) else inner inside
 
@@ -73,7 +76,7 @@ module _ (F : Facts) (C : Context) (text : List ℕ) (w : Walk) (s : Machine) (e
       inside_opened starts is none h v (ap (λ (x : Walk). x.end) same) (ap (λ (x : Walk). x.star) same) (ap (λ (x : Walk). x.frames) same)
   inside_reached starts is none (Err fault) v same h full = too_deep F C text w s given end _ b refl fault full
 
-  -- it makes a file of its words
+  -- the %@ makes a file of its words
   module _ (starts : Bool) (is : starts ≡ starts_file F C s.world) (some : starts ≡ true) (h : length w.frames < 64) where
     -- the beginning of a file, its braces, its end, and the rest of the walk give the defined answer
     file_given : ((file_from F C s >>- λ r. run F C r.1 (inner (levels_left F C (most_open - (length b.arounds + 1)))))

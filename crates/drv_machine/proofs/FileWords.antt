@@ -22,7 +22,7 @@ pub record Seen : Type 0 where
   pub barred : Bool
   pub line : Option CutLine
 
--- what is seen of a cut
+-- what the words of a file depend on: the open word, its marks, and the words of the file so far
 abbrev pub seen : Cut → Seen
 seen c = record { word = c.word; marks = c.marks; barred = c.barred; line = option_map (λ outer. c.line) c.outer }
 
@@ -30,12 +30,15 @@ seen c = record { word = c.word; marks = c.marks; barred = c.barred; line = opti
 abbrev pub Begun : Cut → Type 0
 Begun c = seen c ≡ seen (file_begun nothing_cut)
 
+-- the words of the file so far; none outside of a file
 abbrev seen_words : Seen → List (List ℕ)
 seen_words v = unwrap_or (option_map (λ (l : CutLine). l.words) v.line) []
 
+-- more words after those of a file
 abbrev with_words : List (List ℕ) → CutLine → CutLine
 with_words words l = record { words = l.words ++ words; piped = l.piped }
 
+-- the open word has ended as these words, as far as it is seen
 abbrev word_seen : Seen → List (List ℕ) → Seen
 word_seen v words = record { word = None; marks = no_marks; barred = false; line = option_map (with_words words) v.line }
 
@@ -58,6 +61,7 @@ piped_or_not : (c : Cut) (words : List (List ℕ)) (piped : Bool)
 piped_or_not c [] piped = refl
 piped_or_not c (w ∷ words) piped = refl
 
+-- a pipe changes nothing that is seen, in a file or not
 pipe_unseen : (c : Cut) (outer : Option CutLine) → seen (pipe_ended (record c { outer = outer })) ≡ seen (record c { outer = outer })
 pipe_unseen c None = piped_or_not c c.line.words c.line.piped
 pipe_unseen c (Some line) = refl
@@ -68,6 +72,7 @@ inside_unseen [] c = refl
 inside_unseen (None ∷ outer) c = refl
 inside_unseen (Some last ∷ outer) c = refl
 
+-- after the end of a file its words are not seen any more
 file_unseen : (c : Cut) (outer : Option CutLine) → seen (file_done (record c { outer = outer })) ≡ record (seen c) { line = None }
 file_unseen c None = refl
 file_unseen c (Some line) = refl
@@ -78,6 +83,7 @@ word_done_seen : (c : Cut) (words : List (List ℕ)) (last : List ℕ) (outer : 
 word_done_seen c words last None = refl
 word_done_seen c words last (Some line) = refl
 
+-- for any answers F of the system, and any C that a text is run for
 module _ (F : Facts) (C : Context) where
   -- the end of a word, as far as it is seen
   abbrev broken_seen : Seen → Answer Seen
@@ -103,6 +109,7 @@ module _ (F : Facts) (C : Context) where
   taken_seen v FileFrom = Is (Ok (record v { line = Some no_line }))
   taken_seen v FileTo = Is (Ok (record v { line = None }))
 
+  -- atoms, one after another, as far as they are seen
   abbrev all_seen : Seen → List Atom → Answer Seen
   all_seen v [] = Is (Ok v)
   all_seen v (atom ∷ atoms) = taken_seen v atom >>- λ u. all_seen u atoms
@@ -137,6 +144,7 @@ module _ (F : Facts) (C : Context) where
       ap (λ v. Is (Ok v)) (word_done_seen (record c { word = Some word; marks = record c.marks { script = false; file = false } })
       (word ∷ []) word c.outer)
 
+  -- the end of a word does to what is seen what `broken_seen` says
   broken_is : (c : Cut) → (broken F C c >>- λ d. Is (Ok (seen d))) ≡ broken_seen (seen c)
   broken_is c = broken_as c c.word c.marks.script c.marks.file
 
@@ -185,7 +193,7 @@ module _ (F : Facts) (C : Context) where
       ∙ ap (λ v. all_seen v (atoms ++ Break ∷ []) >>- λ u. Is (Ok (seen_words u))) (sym e)
       ∙ sym (words_are c (atoms ++ Break ∷ []))
 
-  -- after the end of a word a file may begin, whatever the word was: what holds of such cuts holds after it
+  -- after the end of a word a file may begin, whatever the word was: what holds of all cuts where one may begin holds after it
   begun_as : {Y : Type 0} (c : Cut) (word : Option (List ℕ)) (script file : Bool) (f g : Cut → Answer Y)
       → ((d : Cut) → Begun (file_begun d) → f d ≡ g d)
       → (broken F C (record c { word = word; marks = record c.marks { script = script; file = file } }) >>- f)

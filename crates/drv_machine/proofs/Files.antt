@@ -53,13 +53,13 @@ module _ (F : Facts) (C : Context) (s : Machine) where
   no_end fault (inl memory) = inl memory
   no_end fault (inr e) = inr (ap (λ x. x >>- λ r. run F C (out_of_file r.1) (named_file F C (words_in_file r.1.cut))) e)
 
--- a length that is not zero
+-- the code's test for no words fails where there is one
 pub some_there : (n : ℕ) → (suc n == 0) ≡ false
 some_there n = grind (arith, nat_tests)
 
 -- the name of a file of these words is put
 module _ (F : Facts) (C : Context) (s : Machine) (words : List (List ℕ)) where
-  -- a file without words has no name
+  -- where the file of a %@ has no words, nothing is put in its place
   pub none_filed : true ≡ (length words == 0) → run F C s (named_file F C words) ≡ Is (Ok (tt, s))
   none_filed none = by words none
     where
@@ -91,11 +91,13 @@ module _ (F : Facts) (C : Context) (s : Machine) (words : List (List ℕ)) where
     not_drawn fault e = fails_as (run F C s (draw_with F C contents Anew (codes ".args") >>= named_path)) (run F C s (named_file F C words))
         (then_fails F C s (draw_with F C contents Anew (codes ".args")) named_path fault e) (λ stopped. drawn_then ∙ stopped)
 
--- what is between them
+-- the braces of a %@ between the beginning and the end of its file
 module _ (F : Facts) (C : Context) where
+  -- the world where words go to the command again
   abbrev outside : World → World
   outside v = record v { is_in_file = false }
 
+  -- the state that the end of a file leaves
   abbrev ended : World → Cut → Answer (Unit {0} × Machine)
   ended v d = Is (Ok (tt, record { cut = d; world = v }))
 

@@ -35,6 +35,7 @@ pub ends_piped_last : (lines : List NamedLine) (last : NamedLine) → 1 ≤ leng
     → last.piped ≡ ends_piped lines
 ends_piped_last lines last some is = ends_piped_from lines (length lines - 1) last (omega (arith, some)) is
 
+-- a command before the groups after it goes to the end of the group that is begun: so the loop may add it there
 joined : (begun : List Command) (c : Command) (gs : List (List Command)) → ahead begun (add_command true c gs) ≡ ahead (begun ++ c ∷ []) gs
 joined [] c gs = refl
 joined (d ∷ begun) c gs = ap (add_command true d) (joined begun c gs)
@@ -54,7 +55,7 @@ nothing_ahead [] = refl
 nothing_ahead (c ∷ []) = refl
 nothing_ahead (c ∷ d ∷ begun) = ap (add_command true c) (nothing_ahead (d ∷ begun))
 
--- before the first command nothing is grouped
+-- before the first command no group has ended or begun, and what the lines give is all
 pub grouped_none : (done : List (List Command)) (begun : List Command) (a : Answer (List (List Command))) → done ≡ [] → begun ≡ []
     → a ≡ grouped done begun a
 grouped_none done begun a e f = rw (e, f) (by a)
@@ -64,6 +65,7 @@ grouped_none done begun a e f = rw (e, f) (by a)
     by (Is (Err fault)) = refl
     by Unasked = refl
 
+-- for any answers F of the system, and any C that a text is run for
 module _ (F : Facts) (C : Context) where
   -- a command that a pipe follows, with -pipe, joins the group that is begun
   pub one_joined : (done : List (List Command)) (begun after : List Command) (line : NamedLine) (c : Command) (lines : List NamedLine)
@@ -77,7 +79,7 @@ module _ (F : Facts) (C : Context) where
       by (Is (Err fault)) = refl
       by Unasked = refl
 
-  -- another command ends its group
+  -- a command that no pipe follows, or any without -pipe, ends its group: the loop's next round
   pub one_ended : (done new : List (List Command)) (begun all after : List Command) (line : NamedLine) (c : Command)
       (lines : List NamedLine)
       → (C.is_piping && line.piped) ≡ false → command F C line ≡ Is (Ok c) → all ≡ begun ++ c ∷ [] → new ≡ done ++ made all → after ≡ []
@@ -118,6 +120,7 @@ module _ (F : Facts) (C : Context) where
 
 -- Files, each once: `kept` are those that the loop has kept, `others_than kept` those that it has still to keep.
 
+-- files without this one
 abbrev without : List ℕ → List (List ℕ) → List (List ℕ)
 without file files = filter (λ other. not (pointwise nat_eq file other)) files
 
@@ -130,11 +133,11 @@ all_others : (files : List (List ℕ)) → others_than [] files ≡ files
 all_others [] = refl
 all_others (file ∷ files) = ap (λ fs. file ∷ fs) (all_others files)
 
--- before the first file none is kept
+-- before the first file the loop has kept none, and all are left
 pub none_kept : (kept files : List (List ℕ)) → kept ≡ [] → files ≡ kept ++ others_than kept files
 none_kept kept files e = rw (e) (sym (all_others files))
 
--- filters by tests that agree leave the same
+-- filters by tests that agree leave equal lists
 filter_same : {A : Type 0} (f g : A → Bool) (xs : List A) → ((x : A) → f x ≡ g x) → filter f xs ≡ filter g xs
 filter_same f g [] e = refl
 filter_same f g (x ∷ xs) e = ap (λ b. if b then x ∷ filter f xs else filter f xs) (e x)
@@ -212,7 +215,7 @@ one_added kept new file files e = by (is_among kept file) refl
         (sym (e ∙ ap (λ b. if b then kept else kept ++ file ∷ []) among))
     by false among = one_new kept new file files among (e ∙ ap (λ b. if b then kept else kept ++ file ∷ []) among)
 
--- after the last file none is left
+-- after the last file none is left: the files that the loop has kept are all, each once
 pub all_once : (kept : List (List ℕ)) → kept ++ others_than kept (once []) ≡ kept
 all_once kept = append-nil kept
 

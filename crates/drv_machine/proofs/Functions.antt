@@ -43,7 +43,7 @@ module _ (F : Facts) (C : Context) (outer : Cut) (name : List ℕ) (s : Machine)
 
   -- the function was called, and gave this
   module _ (t : Machine) (given : Option (List ℕ)) where
-    -- a function without a value puts nothing
+    -- where a function gives no value, nothing is put, as the definition says
     pub value_none : given ≡ None → after_arguments F C outer (call_step F C name) s ≡ Is (Ok (given, t))
         → after_arguments F C outer (value_step F C name) s ≡ Is (Ok (tt, t))
     value_none none e =
@@ -56,7 +56,7 @@ module _ (F : Facts) (C : Context) (outer : Cut) (name : List ℕ) (s : Machine)
     holds_as holds is e =
         holds_is ∙ ap (λ x. x >>- λ r. run F C r.1 (give (is_some r.0))) e ∙ ap (λ (b : Bool). run F C t (give b)) is
 
-  -- the bytes of a value are put
+  -- where a function gives a value, putting its bytes is what the definition says
   pub value_put : (t u : Machine) (given : Option (List ℕ)) (word : List ℕ) → given ≡ Some word
       → after_arguments F C outer (call_step F C name) s ≡ Is (Ok (given, t))
       → (result : Result (Unit {0}) MachineFault) (put : List ℕ) → put ≡ word

@@ -13,7 +13,7 @@ use Rattle.std.specs.Prelude.{cond, nat_eq}
 -- For `IndexedWords` (machine/indexed.rt), a list of words with an index that is made when the list is long: the index finds a word exactly
 -- if the list has it.
 
--- the index has one word more
+-- the new index has this word, and beside it what the old one had
 abbrev pub Grows : BTreeSet (List ℕ) → BTreeSet (List ℕ) → List ℕ → Type 0
 Grows index new word = (other : List ℕ) → contains (slice_cmp nat_cmp) new other
     ≡ cond (is_at (slice_cmp nat_cmp word) other) true (contains (slice_cmp nat_cmp) index other)
@@ -22,6 +22,7 @@ Grows index new word = (other : List ℕ) → contains (slice_cmp nat_cmp) new o
 same_word : (word other : List ℕ) → is_at (slice_cmp nat_cmp word) other ≡ pointwise nat_eq other word
 same_word word other = sym (texts_ties word other) ∙ nat_list_eq_equiv.symm word other
 
+-- an index with one word more has that word and what it had before
 grown : (index new : BTreeSet (List ℕ)) (word other : List ℕ) → Grows index new word
     → contains (slice_cmp nat_cmp) new other ≡ cond (pointwise nat_eq other word) true (contains (slice_cmp nat_cmp) index other)
 grown index new word other grows = grows other ∙ ap (λ b. cond b true (contains (slice_cmp nat_cmp) index other)) (same_word word other)

@@ -60,7 +60,7 @@ text_item F C (tree.Braces (tree.Emit patterns)) levels star e = absurd cc
 text_item F C (tree.Braces (tree.Choose choices)) levels star e = absurd cc
 text_item F C _ levels star e = absurd cc
 
--- so is a letter such as %a: the text of the name that the letter has
+-- an item of the kind of %a and other letters means the text of the name that the letter has
 pub builtin_item : (F : Facts) (C : Context) (item : Item) (levels : Levels) (star : List ℕ) → kind_of item ≡ kinds.BuiltinText
     → item_step F C item levels star ≡ named F C (tree_named F C (label_of item).word) levels
 builtin_item F C (tree.BuiltinText name) levels star e = refl
@@ -89,7 +89,7 @@ function_item (tree.Braces (tree.Emit patterns)) e = absurd cc
 function_item (tree.Braces (tree.Choose choices)) e = absurd cc
 function_item _ e = absurd cc
 
--- a part that is no item
+-- the token is that of a part inside braces, which is no item: an alternative, a test or a pattern
 abbrev is_part : TokenKind → Bool
 is_part kinds.Alternative = true
 is_part kinds.Test = true

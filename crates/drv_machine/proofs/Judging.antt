@@ -73,7 +73,7 @@ module _ (F : Facts) (C : Context) (text : List ℕ) (w : Walk) (items : Items) 
         ∙ ap (λ x. x >>- λ r. run F C r.1 (judged F C kept.negated kept.asked kept.tests (levels_in F C a.arounds) (star_of C w.star) r.0
         >>= found_step F C items kept.choices (levels_in F C a.arounds) (star_of C w.star))) e))
 
-  -- what it decides
+  -- the test was answered with `holds`: what that decides
   module _ (asking : Asking) (fits : AskFits text asking items kept) (holds : Bool) (s : Machine)
       (b : Following F C text w asking.end (λ levels star. judged F C kept.negated kept.asked kept.tests levels star holds
       >>= found_step F C items kept.choices levels star) s given) where
@@ -106,7 +106,7 @@ module _ (F : Facts) (C : Context) (text : List ℕ) (w : Walk) (items : Items) 
         else first_true F C kept.tests (levels_in F C b.arounds) (star_of C w.star))
         >>= found_step F C items kept.choices (levels_in F C b.arounds) (star_of C w.star))) t)
 
-    -- the tests after it
+    -- the test is false: the tests after it are judged
     module _ (c : Following F C text w asking.end (λ levels star. first_true F C kept.tests levels star
         >>= found_step F C items kept.choices levels star) s given) where
       -- the alternatives after the X of the test

@@ -25,6 +25,7 @@ then_same (Is (Ok x)) f g e = e x
 then_same (Is (Err fault)) f g e = refl
 then_same Unasked f g e = refl
 
+-- for any answers F of the system, and any C that a text is run for
 module _ (F : Facts) (C : Context) where
   -- two lists of atoms are cut one after the other
   pub all_taken-append : (c : Cut) (xs ys : List Atom) → all_taken F C c (xs ++ ys) ≡ (all_taken F C c xs >>- λ d. all_taken F C d ys)
@@ -34,6 +35,7 @@ module _ (F : Facts) (C : Context) where
       (λ d. all_taken-append d xs ys)
       ∙ sym (then_then (taken F C c x) (λ d. all_taken F C d xs) (λ e. all_taken F C e ys))
 
+  -- two lists are cut one after the other, also with something after them
   further : {Y : Type 0} (c : Cut) (xs ys : List Atom) (last : Cut → Answer Y)
       → (all_taken F C c (xs ++ ys) >>- last) ≡ (all_taken F C c xs >>- λ d. all_taken F C d ys >>- last)
   further c xs ys last = ap (λ a. a >>- last) (all_taken-append c xs ys) ∙ then_then (all_taken F C c xs) (λ d. all_taken F C d ys) last

@@ -33,6 +33,7 @@ folders_known F C s options e = ap (λ k. run F C s (needs (known k))) e
 -- the i-th word of a list is put as f says
 module _ (F : Facts) (C : Context) (f : List ℕ → List Atom) (s t : Machine) (list : List (List ℕ)) (i : ℕ) (item word : List ℕ)
     (h : i < length list) (is : item ≡ get_or list i item) (same : word ≡ item) where
+  -- the atoms of the items from a place on are those of the item there, and then those of the items after it
   front : flat_map f (drop i list) ≡ f word ++ flat_map f (drop (i + 1) list)
   front = ap (flat_map f) (drop_more list i item h ∙ ap (λ w. w ∷ drop (i + 1) list) (sym is ∙ sym same))
 

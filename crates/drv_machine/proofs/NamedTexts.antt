@@ -32,9 +32,11 @@ some_named now None text r e n = absurd cc
 -- a text is opened at a place of another
 module _ (F : Facts) (C : Context) (w : Walk) (at : ℕ) (inside : List ℕ) (s : Machine) (given : Answer (Unit {0} × Machine))
     (b : Following F C w.text.now w at (λ levels star. named F C (Some (tree_of inside)) levels) s given) where
+  -- what follows the item in the whole walk
   abbrev k : Unit {0} × Machine → Answer (Unit {0} × Machine)
   k r = onward F C w.star b.rest b.arounds r.1
 
+  -- the frame that the code makes for the text of a name
   abbrev frame : Frame
   frame = record { opened = Text w.text at; end = w.end; star = w.star }
 

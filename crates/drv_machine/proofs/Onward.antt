@@ -45,10 +45,12 @@ abbrev head_or : {A : Type 0} → A → List A → A
 head_or x [] = x
 head_or x (y ∷ ys) = y
 
+-- a list without its first item
 abbrev tail_of : {A : Type 0} → List A → List A
 tail_of [] = []
 tail_of (x ∷ xs) = xs
 
+-- no list is empty with one item more: so a walk with a frame isn't one without
 no_last : {A : Type 0} (xs : List A) (x : A) → [] ≡ xs ++ x ∷ [] → ⊥
 no_last [] x e = cc
 no_last (y ∷ ys) x e = cc
@@ -144,6 +146,7 @@ pub as_after : (F : Facts) (C : Context) (text : List ℕ) (w : Walk) (at : ℕ)
     → Following F C text w at step s given
 as_after F C text w at step s given a = record { rest = a.rest; arounds = a.arounds; lies = a.lies; framed = a.framed; same = a.same }
 
+-- for any answers F of the system, and any C that a text is run for
 module _ (F : Facts) (C : Context) where
   -- with 64 parts open none may be opened, and with fewer one more may be
   no_level : (n : ℕ) → n ≡ 64 → levels_left F C (most_open - n) ≡ []
@@ -157,7 +160,7 @@ module _ (F : Facts) (C : Context) where
       by : (k m : ℕ) → k ≡ suc m → levels_left F C k ≡ ◌∷◌ (λ xs. items_step F C xs (levels_left F C m) []) (levels_left F C m)
       by k m e = ap (levels_left F C) e
 
-  -- three steps one after another
+  -- three steps one after another may be joined from the right: the first, and then the others with what follows
   pub three : (s : Machine) (a b d : Step (Unit {0})) (k : Unit {0} × Machine → Answer (Unit {0} × Machine))
       → (run F C s ((a >> b) >> d) >>- k) ≡ (run F C s a >>- λ r. run F C r.1 (b >> d) >>- k)
   three s a b d k =
@@ -445,7 +448,7 @@ module _ (F : Facts) (C : Context) (text : List ℕ) (at next : ℕ) (levels : L
     (part : PartAt (tokens_of (tree_of text)) (labels_of (tree_of text)) at (kind_of item) (label_of item) next)
     (within : Stands text (at + 1) (inner_nodes item) next) (token : Token)
     (there : slice_get (tokens_of (tree_of text)) at ≡ Some token) where
-  -- the token has the item's kind
+  -- the token at the item's place is of the item's kind
   pub kind_there : token.kind ≡ kind_of item
   kind_there = ap (λ (x : Token). x.kind) (some_same token part.token (sym there ∙ part.there)) ∙ part.kind_is
 
@@ -465,13 +468,13 @@ module _ (F : Facts) (C : Context) (text : List ℕ) (at next : ℕ) (levels : L
       ∙ ap (λ l. kind_step F C (kind_of item) l star (inner_step F C item levels star)) part.label_is
       ∙ sym (item_by_kind F C item levels star)
 
-  -- a named text, by its label
+  -- an item whose token is that of a named text means the text of its label's name
   pub text_there : token.kind ≡ kinds.NamedText → item_step F C item levels star
       ≡ named F C (tree_named F C (label_at (tree_of text) at).word) levels
   text_there e = text_item F C item levels star (sym kind_there ∙ e)
       ∙ ap (λ (l : Label). named F C (tree_named F C l.word) levels) (sym part.label_is)
 
-  -- a letter such as %a, by its label
+  -- an item whose token is that of %a or another letter means the text of its label's name
   pub builtin_there : token.kind ≡ kinds.BuiltinText
       → item_step F C item levels star ≡ named F C (tree_named F C (label_at (tree_of text) at).word) levels
   builtin_there e = builtin_item F C item levels star (sym kind_there ∙ e)

@@ -51,11 +51,13 @@ chained =
     ∷ (codes "d57", codes "%(d58)") ∷ (codes "d58", codes "%(d59)") ∷ (codes "d59", codes "%(d60)") ∷ (codes "d60", codes "%(d61)")
     ∷ (codes "d61", codes "%(d62)") ∷ (codes "d62", codes "%(d63)") ∷ (codes "d63", codes "%(d64)") ∷ []
 
+-- for any answers F of the system
 module _ (F : Facts) where
   -- the words of each command, and the items worked
   abbrev words_of : Context → List ℕ → Answer (List (List (List ℕ)))
   words_of C text = texts.words_of F C text
 
+  -- the items that a text costs
   abbrev cost_of : Context → List ℕ → Answer ℕ
   cost_of C text = texts.cost_of F C text
 
@@ -64,6 +66,7 @@ module _ (F : Facts) where
       ≡ Is (Ok ((codes "ab" ∷ codes "cd" ∷ []) ∷ []))
   named_text = refl
 
+  -- a named text that a letter denotes: %1 is cc1 and %a is asm, and a missing one (%2, cc1plus) gives nothing
   builtin_text : words_of (named ((codes "cc1", codes "x") ∷ (codes "asm", codes "y") ∷ []) (linking [])) (codes "%1 %a %2")
       ≡ Is (Ok ((codes "x" ∷ codes "y" ∷ []) ∷ []))
   builtin_text = refl
@@ -82,52 +85,62 @@ module _ (F : Facts) where
   doubled = (codes "a0", codes "x") ∷ (codes "a1", codes "%(a0)%(a0)") ∷ (codes "a2", codes "%(a1)%(a1)") ∷ (codes "a3", codes "%(a2)%(a2)")
       ∷ []
 
+  -- three names that each double the one before: eight bytes of one
   doubled_words : words_of (named doubled (linking [])) (codes "%(a3)") ≡ Is (Ok ((codes "xxxxxxxx" ∷ []) ∷ []))
   doubled_words = refl
 
+  -- three names that each double the one before cost 23 items: each named text costs one and its own items
   doubled_cost : cost_of (named doubled (linking [])) (codes "%(a3)") ≡ Is (Ok 23)
   doubled_cost = refl
 
-  -- a text that names itself
+  -- a text that names itself opens one part in another, and so is too deep at last
   endless : words_of (named ((codes "a", codes "%(a)") ∷ []) (linking [])) (codes "%(a)") ≡ Is (Err SpecTooDeep)
   endless = refl
 
-  -- 64 parts, and one more
+  -- 64 parts in one another are allowed
   deepest : words_of (named (chained ++ (codes "d64", codes "x") ∷ []) (linking [])) (codes "%(d1)") ≡ Is (Ok ((codes "x" ∷ []) ∷ []))
   deepest = refl
 
+  -- each of 64 named texts in one another costs one item
   deepest_cost : cost_of (named (chained ++ (codes "d64", codes "x") ∷ []) (linking [])) (codes "%(d1)") ≡ Is (Ok 65)
   deepest_cost = refl
 
+  -- one part more than 64 refuses the text
   too_deep : words_of (named (chained ++ (codes "d64", codes "%(d65)") ∷ (codes "d65", codes "x") ∷ []) (linking [])) (codes "%(d1)")
       ≡ Is (Err SpecTooDeep)
   too_deep = refl
 
-  -- a working of an X with a %* is one of them, and so is each kind of part
+  -- an X with a %* of its own opens a part, as each kind of part does: it may be the 64th
   deepest_star : words_of (named (chained ++ (codes "d64", codes "%{m*:x%*}") ∷ []) (linking (alone (codes "ma") ∷ []))) (codes "%(d2)")
       ≡ Is (Ok ((codes "xa" ∷ []) ∷ []))
   deepest_star = refl
 
+  -- an X with a %* of its own in 64 open parts is too deep, for it opens one
   too_deep_star : words_of (named (chained ++ (codes "d64", codes "%{m*:x%*}") ∷ []) (linking (alone (codes "ma") ∷ []))) (codes "%(d1)")
       ≡ Is (Err SpecTooDeep)
   too_deep_star = refl
 
+  -- an X without a %* opens no part, so it may be within 64
   no_star_deep : words_of (named (chained ++ (codes "d64", codes "%{m*:x}") ∷ []) (linking (alone (codes "ma") ∷ []))) (codes "%(d1)")
       ≡ Is (Ok ((codes "x" ∷ []) ∷ []))
   no_star_deep = refl
 
+  -- a %W opens a part, and is too deep within 64
   too_deep_failure : words_of (named (chained ++ (codes "d64", codes "%W{ma}") ∷ []) (linking (alone (codes "ma") ∷ []))) (codes "%(d1)")
       ≡ Is (Err SpecTooDeep)
   too_deep_failure = refl
 
+  -- a %@ opens a part, and is too deep within 64, whether it makes a file or not
   too_deep_file : words_of (named (chained ++ (codes "d64", codes "%@{ma}") ∷ []) (linking (alone (codes "ma") ∷ []))) (codes "%(d1)")
       ≡ Is (Err SpecTooDeep)
   too_deep_file = refl
 
+  -- the arguments of a function open a part, and are too deep within 64
   too_deep_call : words_of (named (chained ++ (codes "d64", codes "%:getenv(H x)") ∷ []) (linking [])) (codes "%(d1)")
       ≡ Is (Err SpecTooDeep)
   too_deep_call = refl
 
+  -- the arguments of a test's function open a part, and are too deep within 64
   too_deep_test : words_of (named (chained ++ (codes "d64", codes "%{%:getenv(H x):y}") ∷ []) (linking [])) (codes "%(d1)")
       ≡ Is (Err SpecTooDeep)
   too_deep_test = refl
@@ -136,24 +149,31 @@ module _ (F : Facts) where
   abbrev failing : List ℕ → Answer (List (List ℕ))
   failing text = job_of F (linking (with (codes "o") (codes "x") ∷ alone (codes "a") ∷ [])) text >>- λ job. Is (Ok job.on_failure)
 
+  -- the last word that ends in a %W is the argument of a switch there
   failure_argument : failing (codes "c %W{o}") ≡ Is (Ok (codes "x" ∷ []))
   failure_argument = refl
 
+  -- a word that began before a %W and ends in it is a failure file as a whole
   failure_begun_before : failing (codes "c foo%W{a:bar}") ≡ Is (Ok (codes "foobar" ∷ []))
   failure_begun_before = refl
 
+  -- a word that is open where a %W begins ends with it, also if its braces give nothing
   failure_of_nothing : failing (codes "c foo%W{b:bar} d") ≡ Is (Ok (codes "foo" ∷ []))
   failure_of_nothing = refl
 
+  -- a %W in which no word ends makes no failure file
   failure_none : failing (codes "c %W{b:bar} d") ≡ Is (Ok [])
   failure_none = refl
 
+  -- the last word of an inner %W is the last one of the outer too, and counts once
   failure_nested : failing (codes "c %W{a:x %W{a:y}}") ≡ Is (Ok (codes "y" ∷ []))
   failure_nested = refl
 
+  -- an inner %W has its own last word, and the outer one a later one
   failure_twice : failing (codes "c %W{a:x %W{a:y} z}") ≡ Is (Ok (codes "y" ∷ codes "z" ∷ []))
   failure_twice = refl
 
+  -- a %W changes no word, but one that is open at its end ends there
   failure_words : words_of (linking (with (codes "o") (codes "x") ∷ [])) (codes "c %W{o*}d")
       ≡ Is (Ok ((codes "c" ∷ codes "-o" ∷ codes "x" ∷ codes "d" ∷ []) ∷ []))
   failure_words = refl
@@ -168,23 +188,28 @@ module _ (F : Facts) where
       ≡ Is (Ok (codes "-lq" ∷ codes "a.o" ∷ codes "-lq" ∷ []))
   replaced = refl
 
+  -- a function that replaces outputs does so also where it is a test
   replaced_by_test : outputs_of F (codes "-lm" ∷ []) (codes "%{%:replace-outfile(-lm -lq):x}") ≡ Is (Ok (codes "-lq" ∷ []))
   replaced_by_test = refl
 
+  -- a function for outputs refuses the text of a source
   outside_link : words_of (on [] (codes "a.c")) (codes "%:replace-outfile(a b)") ≡ Is (Err (Funcs (funcs.NotInLink ReplaceOutfile)))
   outside_link = refl
 
-  -- comparisons of versions
+  -- a comparison of versions that is true gives its last argument
   compared : words_of (linking (alone (codes "mv=2.1") ∷ [])) (codes "%:version-compare(>= 2 mv= x)") ≡ Is (Ok ((codes "x" ∷ []) ∷ []))
   compared = refl
 
+  -- a comparison of versions that is false, as a test: the default gives its X
   compared_below : words_of (linking (alone (codes "mv=1") ∷ [])) (codes "a%{%:version-compare(>= 2 mv= x):y;:z}")
       ≡ Is (Ok ((codes "az" ∷ []) ∷ []))
   compared_below = refl
 
+  -- an operator that isn't one refuses the text
   bad_operator : words_of (linking []) (codes "%:version-compare(= 1 mv= x)") ≡ Is (Err (Funcs (BadOperator (codes "="))))
   bad_operator = refl
 
+  -- too few arguments of a function refuse the text
   wrong_count : words_of (linking []) (codes "%:version-compare(>= 1 mv=)") ≡ Is (Err (Funcs (WrongCount VersionCompare)))
   wrong_count = refl
 
@@ -193,12 +218,15 @@ module _ (F : Facts) where
       ≡ Is (Ok ((codes "x" ∷ []) ∷ []))
   arguments_worked = refl
 
+  -- a refusal in arguments counts before that of the function
   argument_refused : words_of (linking []) (codes "%:version-compare(= %i)") ≡ Is (Err NoInput)
   argument_refused = refl
 
+  -- a function costs one item, and its arguments one for each of theirs
   cost_of_call : cost_of (linking (alone (codes "mv=2") ∷ [])) (codes "%:version-compare(>= 1 mv= x)") ≡ Is (Ok 11)
   cost_of_call = refl
 
+  -- a function that is a test costs its arguments alone, beside the braces and their X
   cost_of_test : cost_of (linking (alone (codes "mv=2") ∷ [])) (codes "%{%:version-compare(>= 1 mv= x):y}") ≡ Is (Ok 12)
   cost_of_test = refl
 
@@ -207,17 +235,21 @@ module _ (F : Facts) where
       ≡ Is (Ok ((codes "A" ∷ []) ∷ []))
   later_test = refl
 
+  -- where a test by a function is false, the next alternative is asked
   later_alternative : words_of (linking (alone (codes "q") ∷ [])) (codes "%{%:version-compare(>= 1 mv= x):A;q:B;:C}")
       ≡ Is (Ok ((codes "B" ∷ []) ∷ []))
   later_alternative = refl
 
+  -- each alternative may have a test by a function
   two_functions : words_of (linking (alone (codes "mv=2") ∷ [])) (codes "%{%:version-compare(< 1 mv= x):A;%:version-compare(>= 1 mv= x):B}")
       ≡ Is (Ok ((codes "B" ∷ []) ∷ []))
   two_functions = refl
 
+  -- a ! turns round the test by a function
   denied : words_of (linking []) (codes "%{!%:version-compare(>= 1 mv= x):A}") ≡ Is (Ok ((codes "A" ∷ []) ∷ []))
   denied = refl
 
+  -- after a test by a function that is false, an X is given for each hit of a starred pattern
   later_for_each : words_of (linking (alone (codes "ma") ∷ alone (codes "mb") ∷ [])) (codes "%{%:version-compare(>= 1 mv= x):A;m*:%*}")
       ≡ Is (Ok ((codes "a" ∷ codes "b" ∷ []) ∷ []))
   later_for_each = refl
@@ -232,7 +264,7 @@ module _ (F : Facts) where
       ≡ Is (Ok ((codes "prog" ∷ codes "-I" ∷ codes "x" ∷ codes "y" ∷ []) ∷ []))
   no_file = refl
 
-  -- a link outside its inputs
+  -- a %o refuses the text of a source
   outputs_outside : words_of (on [] (codes "a.o")) (codes "prog %o") ≡ Is (Err NotInLink)
   outputs_outside = refl
 
@@ -240,12 +272,15 @@ module _ (F : Facts) where
 abbrev here : Facts
 here = record no_facts { variables = (codes "HERE", Some (codes "/opt")) ∷ (codes "NONE", None) ∷ [] }
 
+-- %:getenv gives the value of a variable and the bytes after it
 variable : texts.words_of here (linking []) (codes "%:getenv(HERE /x)") ≡ Is (Ok ((codes "/opt/x" ∷ []) ∷ []))
 variable = refl
 
+-- %:getenv refuses the text where the variable isn't set
 no_variable : texts.words_of here (linking []) (codes "%:getenv(NONE /x) %i") ≡ Is (Err (Funcs (VariableMissing (codes "NONE"))))
 no_variable = refl
 
+-- without the answer to a variable %:getenv waits for it
 unasked_variable : texts.words_of here (linking []) (codes "%:getenv(OTHER /x)") ≡ Unasked
 unasked_variable = refl
 
@@ -253,41 +288,50 @@ unasked_variable = refl
 abbrev there : Facts
 there = record no_facts { kinds = (codes "x", Plain) ∷ (codes "/x", Missing) ∷ [] }
 
+-- %:if-exists gives nothing for a path that is not absolute
 not_absolute : texts.words_of there (linking []) (codes "c%:if-exists(x)") ≡ Is (Ok ((codes "c" ∷ []) ∷ []))
 not_absolute = refl
 
+-- %:if-exists-then-else gives its last argument for a path that is not there
 not_there : texts.words_of there (linking []) (codes "%:if-exists-then-else(/x yes no)") ≡ Is (Ok ((codes "no" ∷ []) ∷ []))
 not_there = refl
 
--- an environment without TMPDIR; with words of the line from a response file %@ makes a file
+-- an environment without TMPDIR
 abbrev untouched : Facts
 untouched = record no_facts { variables = (codes "TMPDIR", None) ∷ [] }
 
+-- words of the line come from a response file: then a %@ makes a file
 abbrev from_file : Context → Context
 from_file C = record C { from_file = true }
 
+-- a source with two options for folders, where a %@ makes a file
 abbrev two_folders : Context
 two_folders = from_file (on (with (codes "I") (codes "x") ∷ with (codes "I") (codes "y") ∷ []) (codes "a.q"))
 
+-- the name of a %@'s file, with an @ before it, takes the place of its words
 file_named : texts.words_of untouched two_folders (codes "prog %@{I*} %i")
     ≡ Is (Ok ((codes "prog" ∷ codes "@/tmp/cc0000002a_1.args" ∷ codes "a.q" ∷ []) ∷ []))
 file_named = rw (decimal_digit 1 (omega arith)) refl
 
+-- the job's temporaries with their contents
 abbrev temps_of : Context → List ℕ → Answer (List Temp)
 temps_of C text = job_of untouched C text >>- λ job. Is (Ok job.temps)
 
+-- the file has each word of the %@ on a line of its own
 file_contents : temps_of two_folders (codes "prog %@{I*} %i")
     ≡ Is (Ok (record { path = codes "/tmp/cc0000002a_1.args"; contents = codes "-I\nx\n-I\ny\n" } ∷ []))
 file_contents = rw (decimal_digit 1 (omega arith)) refl
 
+-- a %@ without words makes no file
 no_words : temps_of (from_file (on [] (codes "a.q"))) (codes "prog %@{I*} %i") ≡ Is (Ok [])
 no_words = refl
 
--- the name is drawn after those inside, as by %u, and an inner %@ makes no file
+-- a %@'s name is drawn after those inside, as by %u, and an inner %@ makes no file
 drawn_after : texts.words_of untouched two_folders (codes "prog %@{I*:%g.s %@{I*}} %U.args")
     ≡ Is (Ok ((codes "prog" ∷ codes "@/tmp/cc0000002a_2.args" ∷ codes "/tmp/cc0000002a_2.args" ∷ []) ∷ []))
 drawn_after = rw (decimal_digit 1 (omega arith), decimal_digit 2 (omega arith)) refl
 
+-- the words of an inner %@ are words of the outer file
 inner_file : temps_of two_folders (codes "prog %@{I*:a %@{I*:b}}")
     ≡ Is (Ok (record { path = codes "/tmp/cc0000002a_1.args"; contents = codes "a\nb\n" } ∷ []))
 inner_file = rw (decimal_digit 1 (omega arith)) refl
@@ -297,10 +341,11 @@ file_breaks : texts.words_of untouched two_folders (codes "%@{I*:a |\nb}c")
     ≡ Is (Ok ((codes "@/tmp/cc0000002a_1.args" ∷ codes "c" ∷ []) ∷ []))
 file_breaks = rw (decimal_digit 1 (omega arith)) refl
 
--- after a pipe a file with words is stray, and one without is not
+-- after a pipe a %@ with words is stray
 file_after_pipe : texts.words_of untouched two_folders (codes "c | %@{I*}\nd") ≡ Is (Err StrayPipe)
 file_after_pipe = rw (decimal_digit 1 (omega arith)) refl
 
+-- after a pipe a %@ without words is not stray
 no_file_after_pipe : texts.words_of untouched (from_file (linking [])) (codes "c | %@{I*}\nd")
     ≡ Is (Ok ((codes "c" ∷ []) ∷ (codes "d" ∷ []) ∷ []))
 no_file_after_pipe = refl

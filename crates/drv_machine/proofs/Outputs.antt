@@ -14,10 +14,11 @@ use Rattle.std.proofs.Common.{◌≡◌, ◌∙◌, Err, List, [], ◌∷◌, No
 -- For `%o` (machine/lists.rt): the outputs are taken out of the machine while their words are put, and given back after that, which no atom
 -- sees.
 
--- the state with these outputs
+-- the state with these outputs in its world
 abbrev pub holding : List (List ℕ) → Machine → Machine
 holding outputs s = record s { world = record s.world { outputs = outputs } }
 
+-- the state after a step, with these outputs in it again
 abbrev given_back : List (List ℕ) → Unit {0} × Machine → Answer (Unit {0} × Machine)
 given_back outputs r = Is (Ok (tt, holding outputs r.1))
 
@@ -34,7 +35,7 @@ held F C s atoms outputs = by (all_taken F C s.cut atoms)
     by (Is (Err fault)) = refl
     by Unasked = refl
 
--- atoms are put the same whatever the outputs are
+-- atoms that are put while the outputs are taken out leave the state that they leave beside the outputs
 pub put_held : (F : Facts) (C : Context) (s t : Machine) (atoms : List Atom) (outputs : List (List ℕ))
     (result : Result (Unit {0}) MachineFault)
     → GivesKnown Memory (λ u. (tt, t)) result (run F C (holding [] s) (puts atoms))

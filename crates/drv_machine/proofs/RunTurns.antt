@@ -32,16 +32,16 @@ use Rattle.std.specs.Prelude.{if◌then◌else◌, nat_lt}
 abbrev one_more : Machine → Machine
 one_more s = record s { world = record s.world { items = s.world.items + 1 } }
 
--- a plain byte was counted and put
+-- the state after the turn of a plain byte: it was counted and put
 abbrev after_byte : Machine → ℕ → Machine
 after_byte s b = record { cut = in_word s.cut (b ∷ []); world = record s.world { items = s.world.items + 1 } }
 
--- plain bytes were, one after another
+-- the state after a turn for each of these plain bytes
 abbrev after_run : Machine → List ℕ → Machine
 after_run s [] = s
 after_run s (b ∷ bytes) = after_run (after_byte s b) bytes
 
--- so they were put at once, and counted
+-- the state after a turn for each of these bytes is that after all were put at once and counted
 after_run_is : (s : Machine) (b : ℕ) (bytes : List ℕ) → after_run s (b ∷ bytes)
     ≡ record { cut = in_word s.cut (b ∷ bytes); world = record s.world { items = s.world.items + length (b ∷ bytes) } }
 after_run_is s b [] = refl
@@ -70,18 +70,20 @@ plain_is _ e = absurd cc
 -- a walk has reached a plain byte
 module _ (text : List ℕ) (w : Walk) (lain : Lain text w) (token : Token) (before_end : w.at < w.end)
     (there : slice_get (tokens_of (tree_of text)) w.at ≡ Some token) (plain : token.kind ≡ kinds.Plain) where
-  -- it is an item
+  -- a plain byte is an item, no alternative
   item : AtItem text w
   item = plain_item text w token before_end there plain
 
+  -- the item that the walk has reached
   front : Reached text w.at lain.rest w.end
   front = reached text w.at lain.rest w.end item.before_end item.no_alternative lain.lies
 
+  -- the item that the walk has reached is a plain byte
   byte : (b : ℕ) × (front.item ≡ tree.Plain b)
   byte = plain_is front.item (sym front.part.kind_is
       ∙ ap (λ (t : Token). t.kind) (some_same front.part.token token (sym front.part.there ∙ there)) ∙ plain)
 
-  -- whose token names the byte
+  -- the walk is at a plain byte, which its token's label names
   pub plain_byte : (b : ℕ) × IsByte (tokens_of (tree_of text)) (labels_of (tree_of text)) w.at b
   plain_byte = (
     byte.0,
@@ -93,7 +95,7 @@ module _ (text : List ℕ) (w : Walk) (lain : Lain text w) (token : Token) (befo
     },
   )
 
-  -- and after which comes the next part
+  -- the part after a plain byte is at the next place
   plain_next : token.next ≡ w.at + 1
   plain_next =
       next_at text w.at token (kind_of front.item) (label_of front.item) front.next there front.part
@@ -104,6 +106,7 @@ pub byte_reached : (text : List ℕ) (w : Walk) → Lain text w → (r : AtByte 
     → (b : ℕ) × IsByte (tokens_of (tree_of text)) (labels_of (tree_of text)) w.at b
 byte_reached text w lain r = plain_byte text w lain r.token r.before_end r.there r.plain
 
+-- for any answers F of the system, and any C that a text is run for
 module _ (F : Facts) (C : Context) where
   -- where not all items were reached, one more is counted
   counts_on : (s : Machine) → s.world.items < 1000000 → run F C s counted ≡ Is (Ok (tt, one_more s))

@@ -41,7 +41,7 @@ opened_by run = record {
   barred = is_barred run;
 }
 
--- what is open in a cut
+-- what is open in a cut: the word's bytes, its marks, and whether a %V bars it
 abbrev pub open_in : Cut → Opened
 open_in c = record {
   begun = is_some c.word;
@@ -53,11 +53,12 @@ open_in c = record {
   barred = c.barred;
 }
 
+-- the bytes of an open word with one atom more
 abbrev with_byte : List ℕ → Atom → List ℕ
 with_byte bytes (Put b) = bytes ++ b ∷ []
 with_byte bytes atom = bytes
 
--- what is open after one atom more
+-- what is open after one atom more, which ends no word
 abbrev further : Opened → Atom → Opened
 further o atom = record {
   begun = opens_word atom || o.begun;
@@ -76,7 +77,7 @@ either_way true false = refl
 either_way false true = refl
 either_way false false = refl
 
--- two values of || may change places
+-- of three sides of an `or` the first two may change places
 around : (a b c : Bool) → (a || (b || c)) ≡ (b || (a || c))
 around true true c = refl
 around true false c = refl
@@ -104,10 +105,12 @@ bytes_after run atom = flat_map-append byte_of run (atom ∷ []) ∙ by atom
     by FileFrom = append-nil (flat_map byte_of run)
     by FileTo = append-nil (flat_map byte_of run)
 
+-- two branches with one value give that value, whatever is asked
 same_either_way : {X : Type 0} (b : Bool) (x : X) → (if b then x else x) ≡ x
 same_either_way true x = refl
 same_either_way false x = refl
 
+-- an `or` as a branch: it is true if the first side is, or else what the second is
 yes_either_way : (b c : Bool) → (b || c) ≡ (if b then true else c)
 yes_either_way true c = refl
 yes_either_way false c = refl
@@ -155,6 +158,7 @@ moved c FileTo = file_done c
 abbrev pub unlined : Cut → Cut
 unlined c = record c { line = no_line; lines = []; stray = false; outer = None }
 
+-- the end of a command leaves all else of a cut as it was, in a file or not
 line_unlined : (c : Cut) (outer : Option CutLine) → unlined (line_ended (record c { outer = outer })) ≡ unlined c
 line_unlined c None = refl
 line_unlined c (Some line) = refl
@@ -165,6 +169,7 @@ pipe_done_unlined : (c : Cut) (words : List (List ℕ))
 pipe_done_unlined c [] = refl
 pipe_done_unlined c (w ∷ ws) = refl
 
+-- a pipe leaves all else of a cut as it was, in a file or not
 pipe_unlined : (c : Cut) (outer : Option CutLine) → unlined (pipe_ended (record c { outer = outer })) ≡ unlined c
 pipe_unlined c None = pipe_done_unlined (record c { outer = None }) c.line.words
 pipe_unlined c (Some line) = refl
@@ -177,6 +182,7 @@ pipe_kept c = pipe_unlined c c.outer
 pub end_kept : (c : Cut) → unlined (line_ended c) ≡ unlined c
 end_kept c = line_unlined c c.outer
 
+-- the end of a file leaves all else of a cut as it was, if one is open
 file_unlined : (c : Cut) (outer : Option CutLine) → unlined (file_done (record c { outer = outer })) ≡ unlined c
 file_unlined c None = refl
 file_unlined c (Some line) = refl
@@ -239,6 +245,7 @@ pub word_ends : (run atoms : List Atom) → list_any opens_word run ≡ true
     → words_after run (Break ∷ atoms) ≡ record { atoms = run; following = atoms } ∷ words_after [] atoms
 word_ends run atoms e = rw e refl
 
+-- for any answers F of the system, and any C that a text is run for
 module _ (F : Facts) (C : Context) where
   -- the path of a word that is open, by its marks
   abbrev pub name_of : Opened → Answer (List ℕ)
@@ -287,10 +294,13 @@ pub data Course (F : Facts) (C : Context) : List Atom → Cut → List Atom → 
       → path F C (record { atoms = run; following = atoms }) ≡ Is (Ok name)
       → Course F C [] (pipe_ended (with_word c (opened_by run) name)) atoms d → Course F C run c (Piped ∷ atoms) d
 
+-- for any answers F of the system, and any C that a text is run for
 module _ (F : Facts) (C : Context) where
+  -- a cut that is refused doesn't go to its end: so this case needs no proof
   refused : {X : Type 0} (a : Answer Cut) (d : Cut) (fault : MachineFault) → a ≡ Is (Err fault) → a ≡ Is (Ok d) → X
   refused a d fault e went = absurd cc
 
+  -- a cut that lacks an answer doesn't go to its end: so this case needs no proof
   waits : {X : Type 0} (a : Answer Cut) (d : Cut) → a ≡ Unasked → a ≡ Is (Ok d) → X
   waits a d e went = absurd cc
 

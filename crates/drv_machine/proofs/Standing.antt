@@ -153,15 +153,19 @@ first_of (next, part, within, following) = record { next = next; part = part; wi
 -- the token at the place of a first part has the part's kind and end, its inner parts go up to that end, and the other parts follow
 module _ {text : List ℕ} {at : ℕ} {kind : TokenKind} {label : Label} {inner others : Nodes} {end : ℕ}
     (f : First text at kind label inner others end) (token : Token) (there : slice_get (tokens_of (tree_of text)) at ≡ Some token) where
+  -- the token at the place of a first part has the part's kind
   pub first_kind : token.kind ≡ kind
   first_kind = ap (λ (t : Token). t.kind) (some_same token f.part.token (sym there ∙ f.part.there)) ∙ f.part.kind_is
 
+  -- the token at the place of a first part ends where the part does
   pub first_next : token.next ≡ f.next
   first_next = next_at text at token kind label f.next there f.part
 
+  -- the parts inside a first part go up to the end of its token
   pub stands_within : Stands text (at + 1) inner token.next
   stands_within = subst (λ (k : ℕ). Stands text (at + 1) inner k) (sym first_next) f.within
 
+  -- the parts after a first part go on from the end of its token
   pub stands_after : Stands text token.next others end
   stands_after = subst (λ (k : ℕ). Stands text k others end) (sym first_next) f.following
 

@@ -49,7 +49,7 @@ pub not_false : (b : Bool) → not b ≡ false → b ≡ true
 not_false true e = refl
 not_false false e = absurd cc
 
--- a result that gives one answer gives another that is the same
+-- a result that gives one answer gives another that is equal to it
 pub gives_as : (new : Machine) (result : Result (Unit {0}) MachineFault) (given whole : Answer (Unit {0} × Machine)) → given ≡ whole
     → GivesKnown Memory (λ u. (tt, new)) result given → GivesKnown Memory (λ u. (tt, new)) result whole
 gives_as new result given whole e g = subst (λ x. GivesKnown Memory (λ u. (tt, new)) result x) e g

@@ -23,6 +23,7 @@ use Rattle.std.specs.Prelude.{if◌then◌else◌, nat_lt}
 -- For text_law: the job of a text is that of its list of atoms. `Told` (specs/Told) says by definitions over the whole list what output,
 -- marked files, failure files and groups the job has.
 
+-- an `or` that is false has its first side false
 neither : (a b : Bool) → (a || b) ≡ false → a ≡ false
 neither true b e = absurd cc
 neither false b e = refl
@@ -34,6 +35,7 @@ pub record Ended (F : Facts) (C : Context) (w : World) (c : Cut) (o : Outcome) :
   pub groups_are : groups F C c.lines ≡ Is (Ok commands)
   pub job_is : o.job ≡ job w c commands
 
+-- for any answers F of the system, and any C that a text is run for
 module _ (F : Facts) (C : Context) where
   -- the outcome with the job of these groups
   abbrev made_of : World → Cut → List (List Command) → Outcome
@@ -58,7 +60,7 @@ module _ (F : Facts) (C : Context) where
       by false f = let same : made_of w c commands ≡ o = cc in
           record { none_stray = n; commands = commands; groups_are = is; job_is = ap (λ (x : Outcome). x.job) (sym same) }
 
-  -- a finished cut that gives a job is such
+  -- a finished cut that gives a job has no stray pipe, has groups that are found, and its job is made of them (`Ended`)
   ended_as : (w : World) (c : Cut) (o : Outcome) → finished F C w c ≡ Is (Ok o) → Ended F C w c o
   ended_as w c o e = by (c.stray || ends_piped c.lines) refl e
     where
@@ -92,6 +94,7 @@ module _ (F : Facts) (C : Context) where
             ∙ ended.groups_are ∙ ap (λ (j : Job). Is (Ok j.groups)) (sym ended.job_is);
       }
 
+  -- the job of a text that goes to its end is what its list says (`Told`): what is left of text_law once `outcome` is taken apart
   told_from : (items : Items) (o : Outcome) (list : List Atom) (w : World) → atoms F C items ≡ Goes list tt w
       → Came (all_taken F C nothing_cut list) (λ c. finished F C w c) o → Told F C items o
   told_from items o list w gives (c, is, e) = told_as items o list w c gives is (are_stretched F C items list w gives) (ended_as w c o e)

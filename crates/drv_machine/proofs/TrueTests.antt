@@ -49,14 +49,14 @@ pub record FrontTest (text : List ℕ) (at : ℕ) (tests : Tests) (end : ℕ) : 
   pub is : tests ≡ tree.test span negated asked others
   pub first : First text at kinds.Test (test_label negated asked) (asked_nodes asked) (test_nodes others) end
 
--- before the end there is one
+-- where the place is before the end of the tests, a test is there: the loop of `first_true` may ask it
 pub front_test : (text : List ℕ) (at : ℕ) (tests : Tests) (end : ℕ) → at < end → Stands text at (test_nodes tests) end
     → FrontTest text at tests end
 front_test text at tree.no_test end h e = absurd (omega (arith, h, e))
 front_test text at (tree.test span negated asked others) end h s =
     record { span = span; negated = negated; asked = asked; others = others; is = refl; first = first_of s }
 
--- at the end there is none
+-- where the place is at the end of the tests, no test is left: the loop of `first_true` ends
 pub no_tests_left : (text : List ℕ) (at : ℕ) (tests : Tests) (end : ℕ) → end ≤ at → Stands text at (test_nodes tests) end
     → tests ≡ tree.no_test
 no_tests_left text at tree.no_test end h s = refl
@@ -132,7 +132,7 @@ module _ (F : Facts) (C : Context) (text : List ℕ) (s v : Machine) (at end : �
       → run F C v (asked_step C (label_at (tree_of text) at)) ≡ given → run F C v (asked_step C (test_label f.negated f.asked)) ≡ given
   asks_at f given e = ap (λ l. run F C v (asked_step C l)) (sym f.first.part.label_is) ∙ e
 
-  -- by the tests that are left
+  -- what all tests give from the state before the loop, those that are left give from the present one
   from_rest : (f : FrontTest text at left.rest end) → run F C s (first_true F C tests levels star)
       ≡ run F C v (first_true F C (tree.test f.span f.negated f.asked f.others) levels star)
   from_rest f = sym left.same ∙ ap (λ ts. run F C v (first_true F C ts levels star)) f.is

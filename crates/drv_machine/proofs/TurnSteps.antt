@@ -99,7 +99,7 @@ module _ (text : List ℕ) (w : Walk) (item : AtItem text w) (token : Token)
 
     -- the item was counted
     module _ (u : Machine) (e : run F C s counted ≡ Is (Ok (tt, u))) where
-      -- after its count the item, and then what is left after it, give the same
+      -- once the item is counted, it and then what is left after it give what the walk gave before
       pub counted_item : Following F C text w token.next (λ levels star. item_step F C front.item levels star) u given
       counted_item =
           subst (λ (k : ℕ). Following F C text w k (λ levels star. item_step F C front.item levels star) u given)
@@ -225,7 +225,7 @@ module _ (text : List ℕ) (w : Walk) (h : w.end ≤ w.at) (frame : Frame) (oute
     opened_fits = subst (λ (x : Frame). OpenedFits text C x.opened inner.around.pattern inner.around.items inner.around.kept) inner.frame_is
         inner.fits.opened
 
-    -- what `close` requires of the frame
+    -- the frame was opened for something that is in the text, which `close` requires
     pub can_close : (p : Pattern) × (items : Items) × (kept : Kept) × OpenedFits text C frame.opened p items kept
     can_close = (inner.around.pattern, inner.around.items, inner.around.kept, opened_fits)
 
@@ -246,7 +246,7 @@ walk_ended F C text w s given h n left =
 
 -- `settle` requires only that items and frames lie in the text: so the rest of the walk gives something (`given_of`)
 module _ (F : Facts) (C : Context) (text : List ℕ) (w : Walk) (s : Machine) where
-  -- what the rest of the walk gives
+  -- what the rest of the walk gives, by the items and open parts that are left
   abbrev pub given_of : Lain text w → HasFrames C text w → Answer (Unit {0} × Machine)
   given_of lain framed = onward F C w.star lain.rest framed.arounds s
 
@@ -258,7 +258,7 @@ module _ (F : Facts) (C : Context) (text : List ℕ) (w : Walk) (s : Machine) wh
   pub lain_of : (given : Answer (Unit {0} × Machine)) → Left F C text w s given → Lain text w
   lain_of given left = record { rest = left.rest; lies = left.lies }
 
-  -- and its frames
+  -- what is left of a walk fits its text: its open parts
   pub framed_of : (given : Answer (Unit {0} × Machine)) → Left F C text w s given → HasFrames C text w
   framed_of given left = record { arounds = left.arounds; framed = left.framed }
 
@@ -281,7 +281,7 @@ module _ (F : Facts) (C : Context) (text : List ℕ) (w : Walk) (s : Machine) wh
         ∙ nothing_after (run F C s (items_step F C items (levels_left F C most_open) []));
   }
 
--- a stack without a frame gives none
+-- where the stack gives no frame, it has none: the walk is that of a whole text
 pub none_popped : (result : Option Frame) (n : ℕ) → (IsSome result ↔ (0 < n)) → result ≡ None → n ≡ 0
 none_popped result zero v e = refl
 none_popped result (suc n) v e = let some : IsSome {T = Frame} None = subst (λ (o : Option Frame). IsSome o) e (v.1 (omega arith)) in

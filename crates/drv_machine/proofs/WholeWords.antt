@@ -26,9 +26,11 @@ between_again s word = (refl, refl, refl)
 
 -- a word is put whole, in a state
 module _ (F : Facts) (C : Context) (s : Machine) where
+  -- the state where this word is open
   abbrev opened : List ℕ → Machine
   opened word = record s { cut = record (touched s.cut) { word = Some word } }
 
+  -- the end of the open word adds it to the command, where no mark looks it up
   ends : (word : List ℕ) → s.cut.marks.script ≡ false → s.cut.marks.file ≡ false
       → run F C (opened word) (puts (Break ∷ [])) ≡ Is (Ok (tt, word_added s word))
   ends word script file = plain_ends F C (opened word) word refl script file
@@ -42,6 +44,7 @@ module _ (F : Facts) (C : Context) (s : Machine) where
       (sym (ap (λ (word : Option (List ℕ)). unwrap_or word [] ++ b ∷ bs) between.0)))
       ∙ ends (b ∷ bs) between.1 between.2
 
+  -- the state where this word is open after another atom touched the command
   abbrev again : List ℕ → Machine
   again word = record s { cut = record (touched (touched s.cut)) { word = Some word } }
 

@@ -57,6 +57,7 @@ abbrev pub group_words : List Command → List (List ℕ)
 group_words [] = []
 group_words (c ∷ commands) = (c.program ∷ c.words) ++ group_words commands
 
+-- for any answers F of the system
 module _ (F : Facts) where
   -- the outcome from a text that is parsed and worked
   abbrev pub worked : Context → List ℕ → Answer Outcome

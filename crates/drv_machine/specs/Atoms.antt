@@ -40,7 +40,8 @@ use Rattle.std.specs.Prelude.{◌&&◌, ◌+◌, Err, Bool, List, [], ◌∷◌,
 use Rattle.std.specs.Prelude.{length, map, nat_lt, not, option_map, suc, true, zero, ℕ}
 
 -- What each item of a text means: one row for each directive (GCC manual, "Spec Files"; what it leaves open is this
--- project's profile).
+-- project's profile). A meaning is a `Step` (Working): the atoms that it puts, which `Cutting` makes words and commands of, and what it
+-- changes in the world. `F` is what the system answers, `C` what the text is run for.
 
 -- a pattern of a text, for the switches of a line
 abbrev pub matching : Pattern → switches.Pattern
@@ -66,6 +67,7 @@ options_step = look (λ w. words w.options) >>= puts
 abbrev pub broken_word : List ℕ → List Atom
 broken_word word = map Put word ++ Break ∷ []
 
+-- for any answers F of the system, and any C that a text is run for
 module _ (F : Facts) (C : Context) where
   -- the name of the input; the link has none
   abbrev pub input_name : Step (List ℕ)
@@ -85,6 +87,7 @@ module _ (F : Facts) (C : Context) where
             w.drawn ++ record { drawing = drawing; suffix = suffix; path = path; contents = contents } ∷ [];
       }) >> give path
 
+  -- draws a name so, for a file without contents
   abbrev pub draw : Drawing → List ℕ → Step (List ℕ)
   draw drawing suffix = draw_with [] drawing suffix
 
@@ -96,13 +99,15 @@ module _ (F : Facts) (C : Context) where
       by (Some path) = give path
       by None = draw drawing suffix
 
-  -- the name of %u is put, or that of %g or %U
+  -- the name of %u is put: a new one
   abbrev pub new_name_step : List ℕ → Step (Unit {0})
   new_name_step suffix = draw Anew suffix >>= bytes
 
+  -- the name of %g or %U is put: the last one with this suffix, or else a new one
   abbrev pub name_step : Drawing → List ℕ → Step (Unit {0})
   name_step drawing suffix = drawn_or_new drawing suffix >>= bytes
 
+  -- the name of a temporary, by its directive; with -pipe %| is a hyphen and %m nothing
   abbrev pub temp_step : TempKind → List ℕ → Step (Unit {0})
   temp_step Shared suffix = name_step Once suffix
   temp_step New suffix = new_name_step suffix
@@ -140,6 +145,7 @@ module _ (F : Facts) (C : Context) where
   words_of w (Refuses atoms fault) = needs (all_taken F C nothing_cut atoms >>- λ c. Is (Err fault)) w
   words_of w (Waits atoms) = needs (all_taken F C nothing_cut atoms >>- λ c. Unasked) w
 
+  -- the words that a step makes as arguments; its atoms go nowhere else
   abbrev pub arguments : Step (Unit {0}) → Step (List (List ℕ))
   arguments step w = words_of w (step w)
 
@@ -151,6 +157,7 @@ module _ (F : Facts) (C : Context) where
       needs (called (outcomes.called F (names C) w.hidden (site_of C) function args w.outputs)) >>= λ c.
       change (λ v. record v { outputs = c.outputs }) >> give c.given
 
+  -- calls the function of this name with these words; no value where it gives none
   abbrev pub call_step : List ℕ → List (List ℕ) → Step (Option (List ℕ))
   call_step name args = look (λ w. w) >>= called_step args (function_of name)
 
@@ -158,7 +165,7 @@ module _ (F : Facts) (C : Context) where
   abbrev pub value_step : List ℕ → List (List ℕ) → Step (Unit {0})
   value_step name args = call_step name args >>= λ given. bytes (unwrap_or given [])
 
-  -- whether it has one
+  -- whether the function of this name gives a value for these words
   abbrev pub has_value : List ℕ → List (List ℕ) → Step Bool
   has_value name args = call_step name args >>= λ given. give (is_some given)
 
@@ -180,6 +187,7 @@ module _ (F : Facts) (C : Context) where
   filed (Refuses atoms fault) = Refuses (Break ∷ FileFrom ∷ atoms) fault
   filed (Waits atoms) = Waits (Break ∷ FileFrom ∷ atoms)
 
+  -- what is in a %@ that makes a file, and the file's name after it
   abbrev pub file_step : Step (Unit {0}) → Step (Unit {0})
   file_step step w = filed (step (record w { is_in_file = true }))
 
@@ -228,6 +236,7 @@ module _ (F : Facts) (C : Context) where
 
   -- the rows. `star` is the value of %*; `levels` has a place for each part that may still be opened
   abbrev mutual
+    -- the row of an item: what it means where %* has this value
     pub item_step : Item → Levels → List ℕ → Step (Unit {0})
     item_step (Plain b) levels star = puts (Put b ∷ [])
     item_step (Escape b) levels star = puts (Put b ∷ [])
@@ -257,6 +266,7 @@ module _ (F : Facts) (C : Context) where
     items_step none levels star = nothing
     items_step (more span item items) levels star = counted >> item_step item levels star >> items_step items levels star
 
+    -- what braces mean: switches that patterns hit, or an X of alternatives
     pub brace_step : Brace → Levels → List ℕ → Step (Unit {0})
     brace_step (Emit patterns) levels star = look (λ w. emitted patterns w.hidden) >>= puts
     brace_step (Choose choices) levels star = choices_step choices levels star
@@ -275,6 +285,7 @@ module _ (F : Facts) (C : Context) where
     first_true (test span negated asked tests) levels star =
         truth asked levels star >>= λ holds. if turned negated holds then give (Some asked) else first_true tests levels star
 
+    -- what a test answers, its ! aside
     pub truth : Asked → Levels → List ℕ → Step Bool
     truth (HasSwitch p) levels star = look (λ w. nat_lt 0 (length (hits (names C) w.hidden (matching p))))
     truth (HasSuffix word) levels star = give (is_word word (suffix_of C.input))
@@ -313,5 +324,6 @@ module _ (F : Facts) (C : Context) where
   abbrev pub whole_text : Items → Step (Unit {0})
   whole_text items = items_step items (levels_left most_open) [] >> puts (Break ∷ End ∷ [])
 
+  -- what the items of a whole text mean from its start: all its atoms, and how they end
   abbrev pub atoms : Items → Worked (Unit {0})
   atoms items = whole_text items start

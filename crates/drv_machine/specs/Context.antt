@@ -13,6 +13,7 @@ pub record Source : Type 0 where
   pub name : List ℕ
   pub language : Option (List ℕ)
 
+-- what a text is run for: the line's switches and pieces, the texts, and what the texts before it left
 pub record Context : Type 0 where
   pub switches : List Switch  -- of the line
   pub assembler : List (List ℕ)  -- the line's pieces for the assembler
@@ -27,10 +28,11 @@ pub record Context : Type 0 where
   pub input : Option Source  -- that the text is worked for; none for the link
   pub outputs : List (List ℕ)  -- of the jobs so far, for the link
 
--- the text of a name
+-- the text of a name, if the set has one
 abbrev pub text_named : Context → List ℕ → Option (List ℕ)
 text_named C name = lookup (pointwise nat_eq name) C.texts
 
+-- the names of the line's switches, in order
 abbrev pub names : Context → List (List ℕ)
 names C = map (λ s. s.name) C.switches
 
@@ -43,5 +45,6 @@ abbrev pub site_for : Option Source → Site
 site_for (Some source) = site.Source
 site_for None = site.Link
 
+-- the text that functions are called in, by the context
 abbrev pub site_of : Context → Site
 site_of C = site_for C.input

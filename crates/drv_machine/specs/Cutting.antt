@@ -11,7 +11,8 @@ use Rattle.std.specs.Option.{unwrap_or}
 use Rattle.std.specs.Prelude.{◌&&◌, ◌||◌, Bool, List, [], ◌∷◌, ◌++◌, Option, None, Some, Ok, codes, false, if◌then◌else◌, is_some, map, not}
 use Rattle.std.specs.Prelude.{option_map, option_to_list, true, ℕ}
 
--- Atoms cut into words with their marks, and words into commands (this project's profile).
+-- Atoms cut into words with their marks, and words into commands, one atom after another (this project's profile). The clauses of
+-- src/machine.rt and the files in src/machine/ cite it; `Cuts` says the result over the whole list.
 
 -- the words of a command so far, and whether it ends with a pipe
 pub record CutLine : Type 0 where
@@ -24,7 +25,7 @@ pub record NamedLine : Type 0 where
   pub words : List (List ℕ)
   pub piped : Bool
 
--- what has been cut
+-- what has been cut of a list of atoms so far
 pub record Cut : Type 0 where
   pub word : Option (List ℕ)  -- that is open
   pub marks : Marking
@@ -38,12 +39,15 @@ pub record Cut : Type 0 where
   pub outer : Option CutLine  -- the command, where words go to the file of a %@
   pub inside : List (Option (List ℕ))  -- for each %W that is open the last word that ended in it, the innermost first
 
+-- no mark has come since a word ended
 abbrev pub no_marks : Marking
 no_marks = record { removed = false; output = false; file = false; script = false }
 
+-- a command without a word and a pipe, as each begins
 abbrev pub no_line : CutLine
 no_line = record { words = []; piped = false }
 
+-- what has been cut before the first atom: nothing
 abbrev pub nothing_cut : Cut
 nothing_cut = record {
   word = None;
@@ -59,6 +63,7 @@ nothing_cut = record {
   inside = [];
 }
 
+-- one mark more for the word that is open, or else the next one
 abbrev pub marked : Mark → Marking → Marking
 marked AsRemoved marks = record marks { removed = true }
 marked AsOutput marks = record marks { output = true }
@@ -120,7 +125,7 @@ line_ended c = by c.outer
     by None = line_done c
     by (Some line) = c
 
--- nor with a pipe
+-- where words go to a file, no command ends with a pipe
 abbrev pub pipe_ended : Cut → Cut
 pipe_ended c = by c.outer
   where
@@ -128,11 +133,11 @@ pipe_ended c = by c.outer
     by None = pipe_done c
     by (Some line) = c
 
--- a file begins
+-- the file of a %@ begins: words go to it, and the command waits in `outer`
 abbrev pub file_begun : Cut → Cut
 file_begun c = record c { outer = Some c.line; line = no_line }
 
--- and ends. Where none is open, none ends: the atoms of no text do that either.
+-- the file of a %@ ends, and words go to the command again. Where none is open, none ends: the atoms of no text do that (`text_law`).
 abbrev pub file_done : Cut → Cut
 file_done c = by c.outer
   where
@@ -144,10 +149,11 @@ file_done c = by c.outer
 abbrev pub words_in_file : Cut → List (List ℕ)
 words_in_file c = unwrap_or (option_map (λ outer. c.line.words) c.outer) []
 
--- --script
+-- the option before a linker script that was found: --script
 abbrev pub script_option : List ℕ
 script_option = codes "--script"
 
+-- for any answers F of the system, and any C that a text is run for
 module _ (F : Facts) (C : Context) where
   -- what a word that is marked as a file becomes
   abbrev pub found_file : List ℕ → Answer (List ℕ)
@@ -167,7 +173,7 @@ module _ (F : Facts) (C : Context) where
       by (Some word) false true = found_file word >>- λ path. Is (Ok (word_done c (path ∷ []) path))
       by (Some word) false false = Is (Ok (word_done c (word ∷ []) word))
 
-  -- one atom
+  -- one atom more is cut; the end of a word that is marked may look it up
   abbrev pub taken : Cut → Atom → Answer Cut
   taken c (Put b) = Is (Ok (in_word c (b ∷ [])))
   taken c Open = Is (Ok (in_word c []))
@@ -186,7 +192,7 @@ module _ (F : Facts) (C : Context) where
   all_taken c [] = Is (Ok c)
   all_taken c (atom ∷ atoms) = taken c atom >>- λ d. all_taken d atoms
 
-  -- the words of a function's arguments, by the same law
+  -- the words of a function's arguments, cut as those of a command are; the last one ends with the arguments
   abbrev pub argument_words : List Atom → Answer (List (List ℕ))
   argument_words atoms = all_taken nothing_cut (atoms ++ Break ∷ []) >>- λ c. Is (Ok c.line.words)
 

@@ -26,11 +26,13 @@ abbrev pub add_command : Bool → Command → List (List Command) → List (List
 add_command true c (group ∷ groups) = (c ∷ group) ∷ groups
 add_command _ c groups = (c ∷ []) ∷ groups
 
+-- for any answers F of the system, and any C that a text is run for
 module _ (F : Facts) (C : Context) where
   -- what the name of a program becomes
   abbrev pub program : List ℕ → Answer (List ℕ)
   program name = known (program_found F C.prefixes name)
 
+  -- a command whose program is found, or is not
   abbrev pub command : NamedLine → Answer Command
   command line = program line.name >>- λ path. Is (Ok (record { program = path; words = line.words }))
 
@@ -87,6 +89,6 @@ cut F C (Goes atoms u w) = all_taken F C nothing_cut atoms >>- λ c. finished F 
 cut F C (Refuses atoms fault) = all_taken F C nothing_cut atoms >>- λ c. Is (Err fault)
 cut F C (Waits atoms) = all_taken F C nothing_cut atoms >>- λ c. Unasked
 
--- what running a text gives
+-- what running a text gives: its job and cost, its first refusal, or the lack of an answer of the facts
 abbrev pub outcome : Facts → Context → Items → Answer Outcome
 outcome F C items = cut F C (atoms F C items)

@@ -34,7 +34,7 @@ abbrev pub temp_name : Facts → ℕ → ℕ → List ℕ → Known (List ℕ)
 temp_name F seed number suffix =
     asked (variable_of F (codes "TMPDIR")) >>= λ path. Is (folder path ++ codes "cc" ++ hex 8 seed ++ codes "_" ++ decimal number ++ suffix)
 
--- two ways to draw a name are the same
+-- two ways to draw a name are one: both once for each suffix, or both anew
 abbrev pub is_same : Drawing → Drawing → Bool
 is_same Once Once = true
 is_same Anew Anew = true

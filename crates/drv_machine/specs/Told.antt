@@ -11,12 +11,13 @@ use Rattle.drv_system.specs.Known.{Is}
 use Rattle.std.specs.List.{flat_map}
 use Rattle.std.specs.Prelude.{◌≡◌, List, Ok, false, map, ℕ}
 
--- The job of a text, by definitions over its whole list of atoms (this project's profile).
+-- The job of a text, by definitions over its whole list of atoms (this project's profile). For `text_law` of src/cut_laws.rt.
 
--- files that are no temporaries of the job
+-- of these files those that are no temporaries of the job, each once
 abbrev pub lasting_of : World → Answer (List (List ℕ)) → Answer (List (List ℕ))
 lasting_of w found = found >>- λ files. Is (Ok (lasting (map (λ name. name.path) w.drawn) files))
 
+-- the job of a text that goes to its end: its output, files and commands are those that Cuts finds in its list of atoms
 pub record Told (F : Facts) (C : Context) (items : Items) (o : Outcome) : Type 0 where
   pub list : List Atom
   pub world : World

@@ -13,8 +13,10 @@ use Rattle.std.specs.List.{list_any}
 use Rattle.std.specs.Prelude.{◌+◌, Bool, List, [], ◌∷◌, ◌++◌, Option, None, Some, Result, Err, Ok, flat_map, if◌then◌else◌, map, nat_eq}
 use Rattle.std.specs.Prelude.{nat_lt, ℕ}
 
--- What working a part of a text gives: a list of atoms, and how the list ends (this project's profile).
+-- What working a part of a text gives: a list of atoms, and how the list ends (this project's profile). Atoms says it of each directive
+-- with the names here; a new kind of atom has a line in `taken` of Cutting and in Cuts.
 
+-- what working a text gives, one after another: bytes of words, where words and commands end, and marks
 pub data Atom : Type 0 where
   Put : ℕ → Atom  -- a byte of the word that is open, or of a new one
   Open : Atom  -- a word is open
@@ -43,32 +45,35 @@ pub record World : Type 0 where
 abbrev pub Answer : Type 0 → Type 0
 Answer X = Known (Result X MachineFault)
 
+-- goes on with the value, unless there is a refusal or no answer of the facts
 infixl 10 ◌>>-◌
 abbrev pub ◌>>-◌ : {X Y : Type 0} → Answer X → (X → Answer Y) → Answer Y
 Is (Ok x) >>- next = next x
 Is (Err fault) >>- next = Is (Err fault)
 Unasked >>- next = Unasked
 
--- a refusal of a search
+-- a refusal of a search, as one of the machine; the lack of memory stays that
 abbrev pub search_lifted : SearchFault → MachineFault
 search_lifted search.Memory = Memory
 search_lifted fault = Search fault
 
--- a refusal of a function
+-- a refusal of a function, as one of the machine; the lack of memory stays that
 abbrev pub funcs_lifted : FuncsFault → MachineFault
 funcs_lifted funcs.Memory = Memory
 funcs_lifted fault = Funcs fault
 
--- what can't be refused, what a search gives, and what a function gives
+-- an answer of what can't be refused
 abbrev pub known : {X : Type 0} → Known X → Answer X
 known Unasked = Unasked
 known (Is x) = Is (Ok x)
 
+-- an answer of a search, whose refusal becomes one of the machine
 abbrev pub searched : {X : Type 0} → Known (Result X SearchFault) → Answer X
 searched Unasked = Unasked
 searched (Is (Ok x)) = Is (Ok x)
 searched (Is (Err fault)) = Is (Err (search_lifted fault))
 
+-- an answer of a function, whose refusal becomes one of the machine
 abbrev pub called : {X : Type 0} → Known (Result X FuncsFault) → Answer X
 called Unasked = Unasked
 called (Is (Ok x)) = Is (Ok x)
@@ -84,11 +89,13 @@ pub data Worked (X : Type 0) : Type 0 where
 abbrev pub Step : Type 0 → Type 0
 Step X = World → Worked X
 
+-- what a step gave, with these atoms before its own
 abbrev pub following : {X : Type 0} → List Atom → Worked X → Worked X
 following atoms (Goes others x w) = Goes (atoms ++ others) x w
 following atoms (Refuses others fault) = Refuses (atoms ++ others) fault
 following atoms (Waits others) = Waits (atoms ++ others)
 
+-- goes on with the value and the world that a step gave; its atoms come first, and a refusal or no answer ends it
 abbrev pub follow : {X Y : Type 0} → Worked X → (X → Step Y) → Worked Y
 follow (Goes atoms x w) next = following atoms (next x w)
 follow (Refuses atoms fault) next = Refuses atoms fault
@@ -99,34 +106,42 @@ infixl 10 ◌>>=◌
 abbrev pub ◌>>=◌ : {X Y : Type 0} → Step X → (X → Step Y) → Step Y
 (step >>= next) w = follow (step w) next
 
+-- one part and then another, where the first one has no value
 infixl 10 ◌>>◌
 abbrev pub ◌>>◌ : {Y : Type 0} → Step (Unit {0}) → Step Y → Step Y
 step >> next = step >>= λ u. next
 
--- a value and no atoms
+-- a value, with no atom and no change of the world
 abbrev pub give : {X : Type 0} → X → Step X
 give x w = Goes [] x w
 
+-- puts these atoms; there is no value
 abbrev pub puts : List Atom → Step (Unit {0})
 puts atoms w = Goes atoms tt w
 
+-- the bytes of a word that is open, or of a new one
 abbrev pub bytes : List ℕ → Step (Unit {0})
 bytes word = puts (map Put word)
 
+-- no atom and no value
 abbrev pub nothing : Step (Unit {0})
 nothing = puts []
 
+-- refuses the text, with no atom
 abbrev pub refuse : {X : Type 0} → MachineFault → Step X
 refuse fault w = Refuses [] fault
 
+-- what the facts answer, with no atom: its value, its refusal, or the lack of an answer
 abbrev pub needs : {X : Type 0} → Answer X → Step X
 needs (Is (Ok x)) w = Goes [] x w
 needs (Is (Err fault)) w = Refuses [] fault
 needs Unasked w = Waits []
 
+-- something of the world, which doesn't change
 abbrev pub look : {X : Type 0} → (World → X) → Step X
 look f w = Goes [] (f w) w
 
+-- changes the world, with no atom
 abbrev pub change : (World → World) → Step (Unit {0})
 change f w = Goes [] tt (f w)
 
@@ -134,11 +149,11 @@ change f w = Goes [] tt (f w)
 abbrev pub most_items : ℕ
 most_items = 1000000
 
--- one more item is reached
+-- one more item is reached; after the most items of a text one more is refused
 abbrev pub counted : Step (Unit {0})
 counted w = if nat_lt w.items most_items then Goes [] tt (record w { items = w.items + 1 }) else Refuses [] TooManySteps
 
--- a word is among these
+-- whether a word is among these
 abbrev pub is_among : List (List ℕ) → List ℕ → Bool
 is_among list word = list_any (pointwise nat_eq word) list
 
@@ -146,9 +161,11 @@ is_among list word = list_any (pointwise nat_eq word) list
 abbrev pub whole_word : List ℕ → List Atom
 whole_word word = Open ∷ map Put word ++ Break ∷ []
 
+-- the atoms of words, each whole
 abbrev pub words : List (List ℕ) → List Atom
 words list = flat_map whole_word list
 
+-- the atoms of a word, if there is one
 abbrev pub word_of : Option (List ℕ) → List Atom
 word_of None = []
 word_of (Some word) = words (word ∷ [])

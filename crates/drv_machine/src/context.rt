@@ -119,15 +119,15 @@ impl<'a> Context<'a> {
         })
     }
 
-    /// The same, for this input, or none for the link. The call allocates nothing.
+    /// The texts are run for this input from here on, or for the link. The call allocates nothing.
     pub fn set_input(&mut self, input: Option<Source<'a>>)
         ensures { self.new ≡ record self.old { input = input.entry } }
     {
         self.input = input;
     }
 
-    /// The same, with what goes on from a text: the options that were added so far, and the number
-    /// of the next name that is drawn. The call allocates nothing.
+    /// The next text goes on from one that was run: with the options that were added so far, and the
+    /// number of the next name that is drawn. The call allocates nothing.
     pub fn go_on(&mut self, options: Listing<Word>, number: usize)
         ensures { self.new ≡ record self.old { options = options; number = number } }
     {
@@ -135,7 +135,7 @@ impl<'a> Context<'a> {
         self.number = number;
     }
 
-    /// The same, with these outputs of the jobs so far. The call allocates nothing.
+    /// The next text has these outputs of the jobs so far. The call allocates nothing.
     pub fn set_outputs(&mut self, outputs: Listing<Word>)
         ensures { self.new ≡ record self.old { outputs = outputs } }
     {

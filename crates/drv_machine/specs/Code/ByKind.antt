@@ -25,17 +25,18 @@ use Rattle.std.specs.List.{flat_map}
 use Rattle.std.specs.Prelude.{◌≡◌, ◌⊎◌, ◌+◌, ◌<◌, ◌≤◌, Bool, List, [], ◌∷◌, ◌++◌, Option, None, Some, Result, Err, Ok, false, length}
 use Rattle.std.specs.Prelude.{nat_lt, true, ⊤, ℕ}
 
--- What an item means, by its kind and its label (this project's profile). For the clauses of the code alone.
+-- What an item means, by its kind and its label (this project's profile). For the clauses of asking.rt, braces.rt, emitting.rt, hits.rt and
+-- items.rt, which look at tokens; Atoms has the meaning by the tree. A change of a row there changes `kind_step` here.
 
 -- the pattern that a label names
 abbrev pub labelled : Label → switches.Pattern
 labelled label = record { name = label.word; star = label.starred }
 
--- the switches at these places
+-- the atoms of the switches at these places of the line
 abbrev pub put_at : Facts → Context → List ℕ → List Atom
 put_at F C places = flat_map (switch_atoms F C) places
 
--- %< and %>
+-- what %< and %> do: they hide the switches that the label's pattern hits
 abbrev pub hide_step : Context → Label → Step (Unit {0})
 hide_step C label = change (λ w. record w { hidden = hidden_by (labelled label) (names C) w.hidden })
 
@@ -66,7 +67,7 @@ Means F C text kinds.Choose at end levels star inner =
     (choices : Choices) × Stands text at (choice_nodes choices) end × (inner ≡ choices_step F C choices levels star)
 Means F C text _ at end levels star inner = ⊤
 
--- a test by a function
+-- the label is that of a test by a function
 abbrev pub is_call : Label → Bool
 is_call label = by label.asks
   where
@@ -95,14 +96,14 @@ pub record AskedTest (F : Facts) (C : Context) (text : List ℕ) (end : ℕ) (s 
   pub gives : run F C s (first_true F C tests levels star)
       ≡ run F C t (truth F C (HasResult name arguments) levels star >>= judged F C negated (HasResult name arguments) others levels star)
 
--- what was found of tests
+-- what the code found of tests agrees with `first_true`: none is true, this one is, or a function must be asked first
 abbrev pub Found : Facts → Context → List ℕ → ℕ → Machine → Machine → Result Judged MachineFault → Tests → Levels → List ℕ → Type 0
 Found F C text end s t (Ok found.Neither) tests levels star = run F C s (first_true F C tests levels star) ≡ Is (Ok (None, t))
 Found F C text end s t (Ok (found.True at)) tests levels star = TrueTest F C text s t at (first_true F C tests levels star)
 Found F C text end s t (Ok (found.Asks at)) tests levels star = AskedTest F C text end s t at tests levels star
 Found F C text end s t (Err fault) tests levels star = (fault ≡ Memory) ⊎ (run F C s (first_true F C tests levels star) ≡ Is (Err fault))
 
--- it is one of the tests, and a part of the list
+-- the test that was found is one of the tests from one place up to another, and a part of the list
 abbrev pub Within : ℕ → ℕ → ℕ → Judged → Type 0
 Within start end count found.Neither = ⊤
 Within start end count (found.True at) = (start ≤ at) × (at < end) × (at < count)

@@ -4,7 +4,7 @@ use Rattle.drv_system.specs.Known.{Is}
 use Rattle.drv_words.specs.declared.plan.Command.{Command}
 use Rattle.std.specs.Prelude.{◌++◌, List, [], ◌∷◌, Ok, true}
 
--- Commands that go into groups, line by line. Only private clauses cite it.
+-- Commands that go into groups, line by line. For the loop of `groups_of` (src/machine/finishing.rt) alone.
 
 -- commands of a group that is begun, and the groups after them
 abbrev pub ahead : List Command → List (List Command) → List (List Command)

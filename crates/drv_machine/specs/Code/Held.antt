@@ -15,7 +15,7 @@ use Rattle.std.specs.Ordering.{nat_cmp}
 use Rattle.std.specs.Prelude.{◌≡◌, ◌-◌, ◌++◌, Bool, List, [], ◌∷◌, None, Ok, Option, Some, false, if◌then◌else◌, nat_eq, replicate, true, ⊤}
 use Rattle.std.specs.Prelude.{ℕ}
 
--- How the code holds what is cut. Only private clauses cite it.
+-- How the code holds what is cut and drawn. For the private clauses of src/machine.rt and of the files in src/machine/ alone.
 
 -- the word that is open, if one is, of a flag and the bytes
 abbrev pub open_word : Bool → List ℕ → Option (List ℕ)
@@ -56,7 +56,7 @@ IndexedBy (Some index) list = Indexes index list
 abbrev pub IsBetweenWords : Cut → Type 0
 IsBetweenWords c = (c.word ≡ None) × (c.marks.script ≡ false) × (c.marks.file ≡ false)
 
--- a word was put whole
+-- the state after a word was put whole into the command, between words
 abbrev pub word_added : Machine → List ℕ → Machine
 word_added s word = record s { cut = word_done (touched s.cut) (word ∷ []) word }
 

@@ -5,7 +5,7 @@ use Rattle.drv_syntax.specs.declared.token.Token.{Token}
 use Rattle.drv_syntax.specs.declared.token.TokenKind.TheVariants as kinds
 use Rattle.std.specs.Prelude.{◌≡◌, ◌<◌, List, Some, slice_get, ℕ}
 
--- Plain bytes that follow one another. Only private clauses cite it.
+-- Plain bytes that follow one another. For `work_run` (src/turns.rt) alone.
 
 -- the part at the place that is reached is a plain byte
 pub record AtByte (text : List ℕ) (w : Walk) : Type 0 where

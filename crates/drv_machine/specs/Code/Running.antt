@@ -7,22 +7,25 @@ use Rattle.drv_system.specs.Known.{Is, Unasked}
 use Rattle.std.specs.Prelude.{Err, Ok}
 
 -- A part of a text with its atoms cut as they come: what a call that works it does to what it holds (this project's
--- profile).
+-- profile). The clauses of the whole walk (src/turns.rt and what it calls) say what a call does by `run`.
 
 -- what has been cut, and the world
 pub record Machine : Type 0 where
   pub cut : Cut
   pub world : World
 
+-- for any answers F of the system, and any C that a text is run for
 module _ (F : Facts) (C : Context) where
+  -- what a step gave, with its atoms cut after what has been cut; a refusal of a cut comes before that of the step
   abbrev pub done : {X : Type 0} → Cut → Worked X → Answer (X × Machine)
   done c (Goes atoms x w) = all_taken F C c atoms >>- λ d. Is (Ok (x, record { cut = d; world = w }))
   done c (Refuses atoms fault) = all_taken F C c atoms >>- λ d. Is (Err fault)
   done c (Waits atoms) = all_taken F C c atoms >>- λ d. Unasked
 
+  -- runs a step after what has been cut, in its world
   abbrev pub run : {X : Type 0} → Machine → Step X → Answer (X × Machine)
   run s step = done s.cut (step s.world)
 
-  -- before the first item
+  -- the state before the first item of a text: nothing is cut, and the world is that of the context
   abbrev pub begun : Machine
   begun = record { cut = nothing_cut; world = start F C }

@@ -29,7 +29,9 @@ use Rattle.std.specs.List.{range_with_len}
 use Rattle.std.specs.Prelude.{◌≡◌, ◌⊎◌, ◌<◌, ◌+◌, ◌-◌, ◌++◌, Bool, Err, List, [], ◌∷◌, Ok, Option, None, Result, Some, drop, false, length}
 use Rattle.std.specs.Prelude.{slice_get, true, ⊤, ℕ}
 
--- What is left of a walk over a text (this project's profile). For the clauses of the code alone.
+-- What is left of a walk over a text (this project's profile). For the clauses of the walk: turns.rt, walk.rt, and the files that open and
+-- close parts (braces.rt, calling.rt, failing.rt, filing.rt, hits.rt, named.rt). `Left` joins the walk with Atoms. A new kind of open part
+-- (`Opened` of walk.rt) has a line in `OpenedFits`, `back_of`, `text_around`, `hits_left` and `closing`.
 
 -- other alternatives of a brace, which are passed over
 abbrev pub Skips : List ℕ → ℕ → ℕ → Type 0
@@ -43,7 +45,7 @@ Lies text at (more span item items) end =
     (label_of item) next
     × Stands text (start + 1) (inner_nodes item) next × Lies text next items end
 
--- the value of %*
+-- the value of %* in the innermost part: the rest of a switch's name, or nothing
 abbrev pub star_of : Context → Option Rest → List ℕ
 star_of C None = []
 star_of C (Some rest) = drop rest.size (name_at (names C) rest.switch)
@@ -66,23 +68,23 @@ pub record Around : Type 0 where
   pub kept : Kept
   pub rest : Items
 
--- nothing follows
+-- nothing follows the end of a part but the items around it
 abbrev pub nothing_kept : Kept
 nothing_kept = record { name = []; negated = false; asked = HasSuffix []; tests = no_test; choices = no_choice }
 
--- an X that is run for each hit, and a place of the line
+-- an X that is run for each hit is in the text, with its test, and a hit of it is on the line
 pub record HitFits (text : List ℕ) (C : Context) (each : Each) (switch : ℕ) (p : Pattern) (items : Items) : Type 0 where
   pub in_list : each.test < length (tokens_of (tree_of text))
   pub label_is : labelled (label_at (tree_of text) each.test) ≡ matching p
   pub stands : Stands text each.start (nodes_of items) each.end
   pub in_line : switch < length C.switches
 
--- a function at a place
+-- a function item is at this place of the text, by its name
 pub record CallFits (text : List ℕ) (at : ℕ) (kept : Kept) : Type 0 where
   pub in_list : at < length (tokens_of (tree_of text))
   pub name_is : (label_at (tree_of text) at).word ≡ kept.name
 
--- a test by a function, and what follows it
+-- a test by a function is at its place of the text, and the tests, the X and the alternatives after it are at theirs
 pub record AskFits (text : List ℕ) (asking : Asking) (items : Items) (kept : Kept) : Type 0 where
   pub in_list : asking.test < length (tokens_of (tree_of text))
   pub name_is : (label_at (tree_of text) asking.test).word ≡ kept.name
@@ -93,7 +95,7 @@ pub record AskFits (text : List ℕ) (asking : Asking) (items : Items) (kept : K
   pub items_stand : Stands text asking.start (nodes_of items) asking.next
   pub choices_stand : Stands text asking.next (choice_nodes kept.choices) asking.end
 
--- what a part was opened for is in the text
+-- what a part was opened for is in this text
 abbrev pub OpenedFits : List ℕ → Context → Opened → Pattern → Items → Kept → Type 0
 OpenedFits text C (Hit each switch) p items kept = HitFits text C each switch p items
 OpenedFits text C (Text around back) p items kept = ⊤
@@ -123,11 +125,12 @@ text_around text (Inside back) = text
 text_around text (Call at back outer) = text
 text_around text (Asks places outer) = text
 
+-- an open part lies in this text: what it was opened for is there, and what is left of the part around it is too
 pub record Fits (text : List ℕ) (C : Context) (a : Around) : Type 0 where
   pub opened : OpenedFits text C a.frame.opened a.pattern a.items a.kept
   pub following : Lies (text_around text a.frame.opened) (back_of a.frame.opened) a.rest a.frame.end
 
--- the open parts, the innermost first, which lies in this text
+-- the open parts, the innermost first; the innermost lies in this text, and each other in the text of its own
 abbrev pub Framed : List ℕ → Context → List Frame → List Around → Type 0
 Framed text C frames [] = frames ≡ []
 Framed text C frames (a ∷ others) =
@@ -143,17 +146,20 @@ hits_left size (Inside back) = 1
 hits_left size (Call at back outer) = 1
 hits_left size (Asks places outer) = size + 1 + (places.value.end - places.value.test)
 
+-- how often the ends of all open parts may still open one, in a text of this size: it falls with each end, and so the walk ends
 abbrev pub weight : ℕ → List Frame → ℕ
 weight size [] = 0
 weight size (f ∷ frames) = hits_left size f.opened + weight size frames
 
--- the words after this are those of a file; and the command's again
+-- the words after this are those of the file of a %@
 abbrev pub into_file : Machine → Machine
 into_file s = record { cut = file_begun s.cut; world = record s.world { is_in_file = true } }
 
+-- the words after this are the command's again
 abbrev pub out_of_file : Machine → Machine
 out_of_file s = record { cut = file_done s.cut; world = record s.world { is_in_file = false } }
 
+-- for any answers F of the system, and any C that a text is run for
 module _ (F : Facts) (C : Context) where
   -- X for the switches from a place on
   abbrev pub each_from : Pattern → Items → Levels → ℕ → Step (Unit {0})
@@ -166,7 +172,7 @@ module _ (F : Facts) (C : Context) where
       opened levels (λ deeper inside. items_step F C items inside (drop (length (matching p).name) (name_at (names C) i))) >> puts
       (Break ∷ word_of (argument C i))
 
-  -- and then for the switches after it
+  -- X for a switch that is hit, and then for the switches after it
   abbrev pub from_hit : Pattern → Items → Levels → ℕ → Step (Unit {0})
   from_hit p items levels i = hit_step p items levels i >> each_from p items levels (i + 1)
 
@@ -293,6 +299,7 @@ pub record Lain (text : List ℕ) (w : Walk) : Type 0 where
   pub rest : Items
   pub lies : Lies text w.at rest w.end
 
+-- the walk has open parts, and each fits its text
 pub record HasFrames (C : Context) (text : List ℕ) (w : Walk) : Type 0 where
   pub arounds : List Around
   pub framed : Framed text C w.frames arounds

@@ -24,13 +24,13 @@ use std::alloc::AllocError;
 /// How a word is marked.
 #[derive(Clone, Copy, Debug)]
 pub(crate) enum Mark {
-    /// It is removed at the end of the run.
+    /// `%d`: the word's file is removed at the end of the run.
     AsRemoved,
-    /// It is the job's output.
+    /// `%w`: the word is the job's output.
     AsOutput,
-    /// It is a library file, by its name.
+    /// `%s`: the word is the name of a library file, which is looked for.
     AsFile,
-    /// It is a linker script, by its name.
+    /// `%T`: the word is the name of a linker script, which is looked for.
     AsScript,
 }
 

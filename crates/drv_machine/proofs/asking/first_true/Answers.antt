@@ -7,6 +7,7 @@ use Rattle.std.proofs.Common.{ap, arith, refl, sym, ◌∙◌}
 
 -- first_true (src/asking.rt). What is found first among the tests from one place up to another.
 
+-- before the first test all are left
 pub loop-at-init : goal.loop-at-init
 loop-at-init c = record {
   low = omega arith;
@@ -14,18 +15,22 @@ loop-at-init c = record {
   left = λ F tests levels star s. record { rest = tests; stands = s; same = refl };
 }
 
+-- the place is a token of the text
 pub is_call-requires : goal.is_call-requires
 is_call-requires c = front_in c.args.text.now c.loop-at.at c.args.end c.loop-at-test.true c.loop-at.invariant.spans
 
+-- the test is not by a function
 pub truth-requires-clause-no_result : goal.truth-requires-clause-no_result
 truth-requires-clause-no_result c = sym c.is_call.ensures ∙ c.if-is_call.false
 
+-- a test by a function must be asked first
 pub returns-then-is_call-clause-does : goal.returns-then-is_call-clause-does
 returns-then-is_call-clause-does c F tests levels star s =
     found_asks F c.args.context.now c.args.text.now c.args.machine.now c.args.machine.now c.loop-at.at c.args.end c.loop-at-test.true tests
     levels star
     (c.loop-at.invariant.left F tests levels star s) (sym c.is_call.ensures ∙ c.if-is_call.true)
 
+-- the test by a function is one of the tests
 pub returns-then-is_call-clause-within : goal.returns-then-is_call-clause-within
 returns-then-is_call-clause-within c = (
   c.loop-at.invariant.low,
@@ -34,19 +39,24 @@ returns-then-is_call-clause-within c = (
       c.loop-at.invariant.spans,
 )
 
+-- the test is a token of the text
 pub truth-requires-clause-in_list : goal.truth-requires-clause-in_list
 truth-requires-clause-in_list c = front_in c.args.text.now c.loop-at.at c.args.end c.loop-at-test.true c.loop-at.invariant.spans
 
+-- the test is a token of the text, for its !
 pub negated-requires : goal.negated-requires
 negated-requires c = front_in c.args.text.now c.loop-at.at c.args.end c.loop-at-test.true c.loop-at.invariant.spans
 
+-- the test is a token of the text, for its end
 pub token_at-at-requires : goal.token_at-at-requires
 token_at-at-requires c = front_in c.args.text.now c.loop-at.at c.args.end c.loop-at-test.true c.loop-at.invariant.spans
 
+-- a test takes a token at least
 pub loop-at-smaller : goal.loop-at-smaller
 loop-at-smaller c = nearer c.args.text.now c.loop-at.at c.args.end c.loop-at-test.true c.token_at-at.result c.token_at-at.ensures
     c.loop-at.invariant.spans
 
+-- a test is true, its ! considered
 pub returns-then-truth-negated-clause-does : goal.returns-then-truth-negated-clause-does
 returns-then-truth-negated-clause-does c F tests levels star s =
     found_true F c.args.context.now c.args.text.now c.args.machine.now c.args.machine.now c.loop-at.at c.args.end c.loop-at-test.true tests
@@ -54,6 +64,7 @@ returns-then-truth-negated-clause-does c F tests levels star s =
     (c.loop-at.invariant.left F tests levels star s) (sym c.is_call.ensures ∙ c.if-is_call.false) c.args.machine.now c.truth.result
     c.negated.result c.negated.ensures (c.truth.ensures F) c.if-truth-negated.true
 
+-- a test is false, and those after it are left
 pub loop-at-preserved : goal.loop-at-preserved
 loop-at-preserved c =
     let h = here c.args.text.now c.loop-at.at c.args.end c.loop-at-test.true c.token_at-at.result c.token_at-at.ensures
@@ -69,12 +80,14 @@ loop-at-preserved c =
           c.if-truth-negated.false c.token_at-at.result c.token_at-at.ensures;
     }
 
+-- no test is true
 pub returns-clause-does : goal.returns-clause-does
 returns-clause-does c F tests levels star s =
     let left = c.loop-at.invariant.left F tests levels star s in
     let none = no_tests_left c.args.text.now c.loop-at.at left.rest c.args.end (omega (arith, c.loop-at-test.false)) left.stands in
     sym left.same ∙ ap (λ ts. run F c.args.context.now c.args.machine.now (atoms.first_true F c.args.context.now ts levels star)) none
 
+-- the test that is true is one of the tests
 pub returns-then-truth-negated-clause-within : goal.returns-then-truth-negated-clause-within
 returns-then-truth-negated-clause-within c = (
   c.loop-at.invariant.low,

@@ -9,6 +9,7 @@ use Rattle.std.proofs.Common.{List, ◌-◌, ◌≤◌, ℕ}
 
 -- The loops of first_true (src/asking.rt). What is found first among the tests from one place up to another.
 
+-- no test so far is true: those that are left decide what is found, and the state is as it was
 abbrev pub invariant-loop-at : goal.invariant-loop-at
 invariant-loop-at l = record {
   low : l.start ≤ l.at;
@@ -17,5 +18,6 @@ invariant-loop-at l = record {
       → TestsLeft F l.context l.text l.machine l.machine l.at l.end tests levels star;
 }
 
+-- each round passes a test
 abbrev pub decreases-loop-at : goal.decreases-loop-at
 decreases-loop-at l = l.end - l.at

@@ -14,15 +14,19 @@ use Rattle.std.proofs.Common.{Ok, arith, false, length, subst, true}
 -- answer (src/braces.rt). A test by a function was answered: its X is reached or opened, or the tests after it are judged, and then the
 -- alternatives after them.
 
+-- the test is a token of the text
 pub negated-requires : goal.negated-requires
 negated-requires c = c.requires.fits.2.in_list
 
+-- the test is a token of the text, for its X
 pub enter_alternative-requires-clause-in_list : goal.enter_alternative-requires-clause-in_list
 enter_alternative-requires-clause-in_list c = c.requires.fits.2.in_list
 
+-- the tests after it lie up to the X
 pub first_true-requires-clause-spans : goal.first_true-requires-clause-spans
 first_true-requires-clause-spans c = record { nodes = test_nodes c.requires.fits.1.tests; stands = c.requires.fits.2.tests_stand }
 
+-- the test is true: its X is opened or reached
 pub returns-then-holds-negated-clause-does : goal.returns-then-holds-negated-clause-does
 returns-then-holds-negated-clause-does c F items kept given fits b =
     c.enter_alternative.ensures.does F kept.negated kept.asked items _ given fits.own_is fits.label_is fits.items_stand
@@ -30,6 +34,7 @@ returns-then-holds-negated-clause-does c F items kept given fits b =
     (negated_kept kept.negated kept.asked c.args.text.now c.args.asking.test c.args.holds c.negated.result true c.negated.ensures
     fits.label_is c.if-holds-negated.true))
 
+-- a later test is true: its X is opened or reached
 pub returns-in-True-clause-does : goal.returns-in-True-clause-does
 returns-in-True-clause-does c F items kept given fits b =
     let following = answer_false F c.args.context.now c.args.text.now c.args.walk.now items kept given c.args.asking fits c.args.holds
@@ -44,6 +49,7 @@ returns-in-True-clause-does c F items kept given fits b =
     (λ negated asked others label stands. c.enter_alternative-in-True.ensures.does F negated asked items others given fits.own_is label
     fits.items_stand stands)
 
+-- a later test by a function must be asked first
 pub returns-in-Asks-clause-does : goal.returns-in-Asks-clause-does
 returns-in-Asks-clause-does c F items kept given fits b =
     let following = answer_false F c.args.context.now c.args.text.now c.args.walk.now items kept given c.args.asking fits c.args.holds
@@ -58,6 +64,7 @@ returns-in-Asks-clause-does c F items kept given fits b =
     (λ arguments later others stands after. c.open_test.ensures.does F c.args.context.now c.args.text.now items arguments later given others
     stands after)
 
+-- no later test is true: the alternatives after the X are chosen from
 pub returns-in-Neither-clause-does : goal.returns-in-Neither-clause-does
 returns-in-Neither-clause-does c F items kept given fits b =
     let following = answer_false F c.args.context.now c.args.text.now c.args.walk.now items kept given c.args.asking fits c.args.holds
@@ -69,19 +76,23 @@ returns-in-Neither-clause-does c F items kept given fits b =
     (λ (f : Judged). Found F c.args.context.now c.args.text.now c.args.asking.start c.args.machine.now c.args.machine.now
     (Ok f) kept.tests levels star) c.in-Neither.is (c.first_true.ensures.does F kept.tests levels star fits.tests_stand)))
 
+-- the later test by a function is before its X
 pub open_test-requires : goal.open_test-requires
 open_test-requires c =
     let found = subst (λ (f : Judged). Within c.args.asking.from c.args.asking.start (length (tokens_of (tree_of c.args.text.now))) f)
     c.in-Asks.is c.first_true.ensures.within in
     found.1
 
+-- to open an X for a hit adds no more than the switches of the line
 pub returns-then-holds-negated-clause-lighter : goal.returns-then-holds-negated-clause-lighter
 returns-then-holds-negated-clause-lighter c = ok_as c.enter_alternative.result (λ l. omega (arith, l)) c.enter_alternative.ensures.lighter
 
+-- to open the X of a later test adds no more than the switches of the line
 pub returns-in-True-clause-lighter : goal.returns-in-True-clause-lighter
 returns-in-True-clause-lighter c = ok_as c.enter_alternative-in-True.result
     (λ l. omega (arith, l)) c.enter_alternative-in-True.ensures.lighter
 
+-- to open a later test's arguments adds less than the test before it had
 pub returns-in-Asks-clause-lighter : goal.returns-in-Asks-clause-lighter
 returns-in-Asks-clause-lighter c =
     let fits = c.requires.fits.2 in
@@ -93,6 +104,7 @@ returns-in-Asks-clause-lighter c =
     ok_as c.open_test.result (λ l. omega (arith, fits.later, tests, items, choices, found.0, l))
     (c.open_test.ensures.lighter (length c.args.context.now.switches))
 
+-- to choose from the alternatives after it adds less than the test had
 pub returns-in-Neither-clause-lighter : goal.returns-in-Neither-clause-lighter
 returns-in-Neither-clause-lighter c =
     let fits = c.requires.fits.2 in

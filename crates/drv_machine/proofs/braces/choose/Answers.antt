@@ -18,14 +18,17 @@ use Rattle.std.proofs.Common.{Ok, Some, ap, arith, length, subst, sym, ◌+◌, 
 -- choose (src/braces.rt). The first alternative with a true test, among those from one place up to another, is reached or opened; or the
 -- default is; or the place after them is reached.
 
+-- the alternative is a token of the text
 pub token_at-next-requires : goal.token_at-next-requires
 token_at-next-requires c = front_in c.args.text.now c.loop-at.at c.args.end c.loop-at-test.true c.loop-at.invariant.spans
 
+-- the parts inside the alternative lie there
 pub tests_end-items-requires : goal.tests_end-items-requires
 tests_end-items-requires c =
     (here c.args.text.now c.loop-at.at c.args.end c.loop-at-test.true c.token_at-next.result c.token_at-next.ensures
     c.loop-at.invariant.spans).within
 
+-- an alternative without tests: its X is reached
 pub returns-then-items-at-clause-does : goal.returns-then-items-at-clause-does
 returns-then-items-at-clause-does c F choices given s b =
     subst (λ (v : Walk). Left F c.args.context.now c.args.text.now (record v { at = c.tests_end-items.result }) c.loop-at.machine given)
@@ -35,15 +38,18 @@ returns-then-items-at-clause-does c F choices given s b =
     c.loop-at-test.true c.token_at-next.result c.token_at-next.ensures c.tests_end-items.result c.tests_end-items.ensures.tests
     c.tests_end-items.ensures.rest c.if-items-at.true)
 
+-- the tests lie from the first place in the alternative to its X
 pub first_true-requires-clause-spans : goal.first_true-requires-clause-spans
 first_true-requires-clause-spans c =
     let h = here c.args.text.now c.loop-at.at c.args.end c.loop-at-test.true c.token_at-next.result c.token_at-next.ensures
     c.loop-at.invariant.spans in
     record { nodes = tests_in h.within.nodes; stands = c.tests_end-items.ensures.tests h.within.nodes h.within.stands }
 
+-- the alternative is a token of the text, for its %*
 pub holds_star-own-requires : goal.holds_star-own-requires
 holds_star-own-requires c = front_in c.args.text.now c.loop-at.at c.args.end c.loop-at-test.true c.loop-at.invariant.spans
 
+-- a test is true: the X is opened for each hit, or reached
 pub returns-in-True-clause-does : goal.returns-in-True-clause-does
 returns-in-True-clause-does c F choices given s b =
     one_chosen F c.args.context.now c.args.text.now c.args.walk.now c.args.machine.now c.loop-at.machine c.loop-at.at c.args.end choices
@@ -64,18 +70,21 @@ returns-in-True-clause-does c F choices given s b =
     (λ rest inside. items_step F c.args.context.now items inside rest) levels star others) c.loop-at.machine given)
     (sym c.loop-at.invariant.walk) following))
 
+-- the test by a function is a token of the text
 pub token_at-requires : goal.token_at-requires
 token_at-requires c =
     let found = subst (λ (f : Judged). Within (c.loop-at.at + 1) c.tests_end-items.result (length (tokens_of (tree_of c.args.text.now))) f)
     c.in-Asks.is c.first_true.ensures.within in
     found.2
 
+-- the test by a function is before its X
 pub open_test-requires : goal.open_test-requires
 open_test-requires c =
     let found = subst (λ (f : Judged). Within (c.loop-at.at + 1) c.tests_end-items.result (length (tokens_of (tree_of c.args.text.now))) f)
     c.in-Asks.is c.first_true.ensures.within in
     found.1
 
+-- a test by a function must be asked first: its arguments are opened
 pub returns-in-Asks-clause-does : goal.returns-in-Asks-clause-does
 returns-in-Asks-clause-does c F choices given s b =
     asked_chosen F c.args.context.now c.args.text.now c.args.walk.now c.args.machine.now c.loop-at.machine c.loop-at.at c.args.end choices
@@ -98,10 +107,12 @@ returns-in-Asks-clause-does c F choices given s b =
     >>= found_step F c.args.context.now items kept.choices levels star)
     c.loop-at.machine given) (sym c.loop-at.invariant.walk) following))
 
+-- an alternative takes a token at least
 pub loop-at-smaller : goal.loop-at-smaller
 loop-at-smaller c = nearer c.args.text.now c.loop-at.at c.args.end c.loop-at-test.true c.token_at-next.result c.token_at-next.ensures
     c.loop-at.invariant.spans
 
+-- no test of the alternative is true, and those after it are left
 pub loop-at-preserved : goal.loop-at-preserved
 loop-at-preserved c =
     let h = here c.args.text.now c.loop-at.at c.args.end c.loop-at-test.true c.token_at-next.result c.token_at-next.ensures
@@ -125,6 +136,7 @@ loop-at-preserved c =
           (c.first_true.ensures.does F tests levels star stands));
     }
 
+-- no alternative is true: the place after the braces is reached
 pub returns-clause-does : goal.returns-clause-does
 returns-clause-does c F choices given s b =
     subst (λ (v : Walk). Left F c.args.context.now c.args.text.now (record v { at = c.args.end }) c.loop-at.machine given)
@@ -133,16 +145,19 @@ returns-clause-does c F choices given s b =
     given b (λ levels star. c.loop-at.invariant.left F choices levels star s)
     (omega (arith, c.loop-at-test.false)))
 
+-- to reach the X of a default opens nothing
 pub returns-then-items-at-clause-lighter : goal.returns-then-items-at-clause-lighter
 returns-then-items-at-clause-lighter c =
     let same = ap (λ (v : Walk). weight (length c.args.context.now.switches) v.frames) c.loop-at.invariant.walk in
     omega (arith, same)
 
+-- to open an X for a hit adds no more than the switches of the line
 pub returns-in-True-clause-lighter : goal.returns-in-True-clause-lighter
 returns-in-True-clause-lighter c =
     let same = ap (λ (v : Walk). weight (length c.args.context.now.switches) v.frames) c.loop-at.invariant.walk in
     ok_as c.enter_alternative.result (λ l. omega (arith, same, l)) c.enter_alternative.ensures.lighter
 
+-- to open a test's arguments adds no more than what is left of the braces
 pub returns-in-Asks-clause-lighter : goal.returns-in-Asks-clause-lighter
 returns-in-Asks-clause-lighter c =
     let same = ap (λ (v : Walk). weight (length c.args.context.now.switches) v.frames) c.loop-at.invariant.walk in
@@ -151,6 +166,7 @@ returns-in-Asks-clause-lighter c =
     ok_as c.open_test.result (λ l. omega (arith, same, found.0, c.loop-at.invariant.low, c.loop-at-test.true, l))
     (c.open_test.ensures.lighter (length c.args.context.now.switches))
 
+-- to pass the braces opens nothing
 pub returns-clause-lighter : goal.returns-clause-lighter
 returns-clause-lighter c =
     let same = ap (λ (v : Walk). weight (length c.args.context.now.switches) v.frames) c.loop-at.invariant.walk in

@@ -10,6 +10,7 @@ use Rattle.std.proofs.Common.{List, length, ◌-◌, ◌≡◌, ◌≤◌, ℕ}
 -- The loops of choose (src/braces.rt). The first alternative with a true test, among those from one place up to another, is reached or
 -- opened; or the default is; or the place after them is reached.
 
+-- no alternative so far is true: those that are left decide, and the walk is as it was
 abbrev pub invariant-loop-at : goal.invariant-loop-at
 invariant-loop-at l = record {
   walk : l.walk ≡ l.fn.walk;
@@ -22,5 +23,6 @@ invariant-loop-at l = record {
       → ChoicesLeft F l.context l.text l.fn.machine l.machine l.at l.end choices levels star;
 }
 
+-- each round passes an alternative
 abbrev pub decreases-loop-at : goal.decreases-loop-at
 decreases-loop-at l = l.end - l.at

@@ -5,6 +5,7 @@ use Rattle.drv_machine.specs.Code.Walking.{Went}
 -- enter_alternative (src/braces.rt). An X by the test at a place, which is true: it is opened for each hit where X has a `%*` of its own,
 -- as is said, else reached.
 
+-- the X is opened for the first hit
 pub returns-then-is_for_each-clause-does : goal.returns-then-is_for_each-clause-does
 returns-then-is_for_each-clause-does c F negated asked items others given owns label stands b =
     each_entered F c.args.context.now c.args.text.now c.args.walk.now c.args.machine.now c.args.each.test c.args.each.start c.args.each.end
@@ -12,6 +13,7 @@ returns-then-is_for_each-clause-does c F negated asked items others given owns l
     (Went F c.args.context.now c.args.text.now c.enter_next.new.walk c.args.machine.now given c.enter_next.result)
     (λ p is following. c.enter_next.ensures.does F p items given is stands following)
 
+-- the X is reached, once
 pub returns-clause-does : goal.returns-clause-does
 returns-clause-does c F negated asked items others given owns label stands b =
     once_entered F c.args.context.now c.args.text.now c.args.walk.now c.args.machine.now c.args.each.test c.args.each.start c.args.each.end

@@ -11,6 +11,7 @@ use Rattle.std.proofs.Common.{ap, refl, rules, subst, sym, ◌+◌, ◌∙◌}
 
 -- open_call (src/calling.rt). The arguments of the function item at a place are opened, which end where the next item begins.
 
+-- too many parts are open
 pub returns-in_err-push-clause-does : goal.returns-in_err-push-clause-does
 returns-in_err-push-clause-does c F C text name items given within named stands b =
     let failed = too_deep F C text c.args.walk.now c.args.machine.now given c.args.next _ b refl
@@ -18,6 +19,7 @@ returns-in_err-push-clause-does c F C text name items given within named stands 
     let f = c.from_residual-in_err-push.ensures in
     search rules
 
+-- the arguments are open, and their end puts the function's value
 pub returns-clause-does : goal.returns-clause-does
 returns-clause-does c F C text name items given within named stands b =
     let outer = c.in_ok-outer.ensures.ok ∙ c.put_aside.ensures.aside in

@@ -11,6 +11,7 @@ use Rattle.std.proofs.Common.{ap, arith, refl, rules, subst, sym, ◌+◌, ◌-�
 
 -- open_test (src/calling.rt). The arguments of the function that a test asks are opened.
 
+-- too many parts are open
 pub returns-in_err-push-clause-does : goal.returns-in_err-push-clause-does
 returns-in_err-push-clause-does c F C text items arguments kept given fits stands b =
     let failed = too_deep F C text c.args.walk.now c.args.machine.now given c.args.asking.end _ b refl
@@ -18,6 +19,7 @@ returns-in_err-push-clause-does c F C text items arguments kept given fits stand
     let f = c.from_residual-in_err-push.ensures in
     search rules
 
+-- the arguments are open, and their end judges the test
 pub returns-clause-does : goal.returns-clause-does
 returns-clause-does c F C text items arguments kept given fits stands b =
     let outer = c.in_ok-outer.ensures.ok ∙ c.put_aside.ensures.aside in
@@ -32,6 +34,7 @@ returns-clause-does c F C text items arguments kept given fits stands b =
     (record c.args.walk.now { at = c.args.asking.test + 1; end = c.args.asking.from; frames = c.push.new.self }) refl refl refl
     c.in_ok-push.ensures.ok)
 
+-- the end of the arguments may open what follows the test
 pub returns-clause-lighter : goal.returns-clause-lighter
 returns-clause-lighter c n =
     let e = ap (weight n) c.in_ok-push.ensures.ok in

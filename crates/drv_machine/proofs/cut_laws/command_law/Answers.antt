@@ -4,11 +4,14 @@ use Rattle.drv_machine.proofs.cut_laws.command_law.Goals as goal
 -- command_law (src/cut_laws.rt). The law that a list of atoms in which no file begins is cut into the commands that the definitions over
 -- the whole list say.
 
+-- the commands of the cut are those of the definition
 pub returns-clause-lines : goal.returns-clause-lines
 returns-clause-lines c = lines_are
 
+-- a pipe of the cut is stray exactly where the definition says
 pub returns-clause-stray : goal.returns-clause-stray
 returns-clause-stray c = stray_is
 
+-- the words of arguments are those of the list's last command
 pub returns-clause-arguments : goal.returns-clause-arguments
 returns-clause-arguments c = arguments_are

@@ -6,6 +6,7 @@ use Rattle.drv_machine.specs.Cuts.{Failure, File}
 
 -- cut_law (src/cut_laws.rt). The law that a list of atoms is cut as the definitions over the whole list say.
 
+-- each clause is a lemma: CutRuns, CutFailures and CutOpen
 pub returns : goal.returns
 returns c = record {
   output = output_is;

@@ -8,10 +8,12 @@ use Rattle.std.proofs.Common.{ap, subst, ◌∙◌}
 
 -- emit (src/emitting.rt). Puts each switch that one of the patterns from one place up to another hits.
 
+-- the switches that are hit are on the line
 pub put_all-requires : goal.put_all-requires
 put_all-requires g c = all_in_line c.args.context.now c.switches.result.now c.in_ok-places.places c.as_slice-2.result.now
     c.in_ok-places.ensures.within c.as_slice-2.ensures c.switches.ensures
 
+-- the switches that the patterns hit are put, in the order of the line
 pub returns-clause-does : goal.returns-clause-does
 returns-clause-does g c F e patterns s =
     let same =

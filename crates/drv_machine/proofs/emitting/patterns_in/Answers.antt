@@ -5,16 +5,20 @@ use Rattle.std.proofs.Common.{arith}
 
 -- patterns_in (src/emitting.rt). The patterns from one place up to another.
 
+-- the pattern is a token of the text
 pub pattern_at-requires : goal.pattern_at-requires
 pattern_at-requires c = front_in c.args.text.now c.loop-at.at c.args.end c.loop-at-test.true c.loop-at.invariant.spans
 
+-- the pattern is a token of the text, for its end
 pub token_at-at-requires : goal.token_at-at-requires
 token_at-at-requires c = front_in c.args.text.now c.loop-at.at c.args.end c.loop-at-test.true c.loop-at.invariant.spans
 
+-- a pattern takes a token at least
 pub loop-at-smaller : goal.loop-at-smaller
 loop-at-smaller c = nearer c.args.text.now c.loop-at.at c.args.end c.loop-at-test.true c.token_at-at.result c.token_at-at.ensures
     c.loop-at.invariant.spans
 
+-- one pattern is taken, and the others are left
 pub loop-at-preserved : goal.loop-at-preserved
 loop-at-preserved c = record {
   spans = (here c.args.text.now c.loop-at.at c.args.end c.loop-at-test.true c.token_at-at.result c.token_at-at.ensures
@@ -25,6 +29,7 @@ loop-at-preserved c = record {
       c.pattern_at.ensures c.in_ok-push.ensures.ok patterns (c.loop-at.invariant.left patterns s);
 }
 
+-- all patterns of the braces are taken
 pub returns : goal.returns
 returns c patterns s = patterns_end c.args.text.now c.loop-at.at c.args.end
     (omega (arith, c.loop-at-test.false)) c.loop-at.patterns patterns (c.loop-at.invariant.left patterns s)

@@ -7,6 +7,7 @@ use Rattle.std.proofs.Common.{List, ◌-◌}
 
 -- The loops of patterns_in (src/emitting.rt). The patterns from one place up to another.
 
+-- the patterns so far and those of the tokens that are left are the patterns of the braces
 abbrev pub invariant-loop-at : goal.invariant-loop-at
 invariant-loop-at l = record {
   spans : Spans l.text l.at l.end;
@@ -14,5 +15,6 @@ invariant-loop-at l = record {
       → PatternsLeft l.text l.at l.end l.patterns patterns;
 }
 
+-- each round passes a pattern
 abbrev pub decreases-loop-at : goal.decreases-loop-at
 decreases-loop-at l = l.end - l.at

@@ -12,10 +12,12 @@ use Rattle.std.proofs.lemmas.List.Elements.{All-get_or}
 
 -- put_switches (src/emitting.rt). Puts the switches at these places.
 
+-- the switch is on the line
 pub put_switch-requires : goal.put_switch-requires
 put_switch-requires g c = All-get_or (λ place. place < length c.args.context.now.switches) c.args.places.now c.loop-place.place-index 0
     (omega arith) c.requires
 
+-- one switch is put, and the others are left
 pub loop-place-preserved : goal.loop-place-preserved
 loop-place-preserved g c = record {
   asks = asked_further c.loop-place.invariant.asks c.put_switch.ensures.asks;
@@ -30,6 +32,7 @@ loop-place-preserved g c = record {
       ∙ c.loop-place.invariant.left F (extends_before c.put_switch.ensures.asks e);
 }
 
+-- a switch can't be put
 pub returns-in_err-put_switch-clause-does : goal.returns-in_err-put_switch-clause-does
 returns-in_err-put_switch-clause-does g c F e =
     let failed =
@@ -40,8 +43,10 @@ returns-in_err-put_switch-clause-does g c F e =
     let f = c.from_residual.ensures in
     search rules
 
+-- what was asked, where a switch can't be put
 pub returns-in_err-put_switch-clause-asks : goal.returns-in_err-put_switch-clause-asks
 returns-in_err-put_switch-clause-asks g c = asked_further c.loop-place.invariant.asks c.put_switch.ensures.asks
 
+-- what was asked for all switches
 pub returns-clause-asks : goal.returns-clause-asks
 returns-clause-asks g c = c.loop-place.invariant.asks

@@ -9,6 +9,7 @@ use Rattle.std.proofs.Common.{◌≡◌, drop}
 
 -- The loops of put_switches (src/emitting.rt). Puts the switches at these places.
 
+-- putting the switches that are left gives what putting all would have given
 abbrev pub invariant-loop-place : goal.invariant-loop-place
 invariant-loop-place g l = record {
   asks : Asked g.S.System.events l.fn.outside l.outside;

@@ -6,6 +6,7 @@ use Rattle.std.proofs.Common.{refl, rules}
 
 -- open_failure (src/failing.rt). A `%W` whose inside ends at a place is opened.
 
+-- too many parts are open
 pub returns-in_err-push-clause-does : goal.returns-in_err-push-clause-does
 returns-in_err-push-clause-does c F C text brace given b =
     let failed = too_deep F C text c.args.walk.now c.args.machine.now given c.args.end _ b refl
@@ -13,6 +14,7 @@ returns-in_err-push-clause-does c F C text brace given b =
     let f = c.from_residual.ensures in
     search rules
 
+-- the %W is open, and its end makes its last word a failure file
 pub returns-clause-does : goal.returns-clause-does
 returns-clause-does c F C text brace given b =
     from_begun F C text c.args.walk.now c.args.machine.now c.args.end brace given b c.in_ok-push.ensures.room c.begin_failure.result

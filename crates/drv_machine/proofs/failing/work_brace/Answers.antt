@@ -11,6 +11,7 @@ use Rattle.std.proofs.Common.{ap, subst, sym}
 
 -- work_brace (src/failing.rt). The part in braces from one place up to another is run, or reached.
 
+-- the braces put the switches that their patterns hit
 pub returns-then-has_patterns-clause-does : goal.returns-then-has_patterns-clause-does
 returns-then-has_patterns-clause-does g c F e brace given s b =
     let p = c.has_patterns.ensures.patterns c.if-has_patterns.true brace s in
@@ -22,6 +23,7 @@ returns-then-has_patterns-clause-does g c F e brace given s b =
     (sym p.1))
     (c.emit.ensures.does F e p.0 (subst (λ (x : Brace). Stands c.args.text.now c.args.start (brace_nodes x) c.args.end) p.1 s)))
 
+-- the braces choose an alternative
 pub returns-clause-does : goal.returns-clause-does
 returns-clause-does g c F e brace given s b =
     let ch = c.has_patterns.ensures.choices c.if-has_patterns.false brace s in

@@ -6,12 +6,14 @@ use Rattle.std.proofs.Common.{ap, refl, rules}
 
 -- open_filed (src/filing.rt). A `%@` whose inside ends at a place is opened; a file begins, if it makes one.
 
+-- the %@ makes no file: its braces are run as they are
 pub returns-then-not-starts_file-clause-does : goal.returns-then-not-starts_file-clause-does
 returns-then-not-starts_file-clause-does g c F e text brace given b =
     inside_reached F c.args.context.now text c.args.walk.now c.args.machine.now c.args.end brace given b c.starts_file.result
     (c.starts_file.ensures F) c.if-not-starts_file.true
     c.open_part.result c.open_part.new.walk c.open_part.ensures.ok c.open_part.ensures.room c.open_part.ensures.err
 
+-- too many parts are open
 pub returns-in_err-open_part-clause-does : goal.returns-in_err-open_part-clause-does
 returns-in_err-open_part-clause-does g c F e text brace given b =
     let failed = too_deep F c.args.context.now text c.args.walk.now c.args.machine.now given c.args.end _ b refl
@@ -19,6 +21,7 @@ returns-in_err-open_part-clause-does g c F e text brace given b =
     let f = c.from_residual.ensures in
     search rules
 
+-- the %@ makes a file, which begins
 pub returns-clause-does : goal.returns-clause-does
 returns-clause-does g c F e text brace given b =
     file_reached F c.args.context.now text c.args.walk.now c.args.machine.now c.args.end brace given b c.starts_file.result

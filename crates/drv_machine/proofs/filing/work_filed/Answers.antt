@@ -4,19 +4,23 @@ use Rattle.std.proofs.Common.{rules}
 
 -- work_filed (src/filing.rt). A `%@` is opened, and its part from one place up to another is run, or reached.
 
+-- the %@ can't be opened
 pub returns-in_err-open_filed-clause-does : goal.returns-in_err-open_filed-clause-does
 returns-in_err-open_filed-clause-does g c F e brace given s b =
     let failed = c.in_err-open_filed.ensures.does F e c.args.text.now brace given b in
     let f = c.from_residual.ensures in
     search rules
 
+-- the %@ is open, and its braces are run in it
 pub returns-clause-does : goal.returns-clause-does
 returns-clause-does g c F e brace given s b =
     c.work_brace.ensures.does F e brace given s (c.in_ok-open_filed.ensures.does F
     (extends_before c.work_brace.ensures.asks e) c.args.text.now brace given b)
 
+-- what was asked, where the %@ can't be opened
 pub returns-in_err-open_filed-clause-asks : goal.returns-in_err-open_filed-clause-asks
 returns-in_err-open_filed-clause-asks g c = c.open_filed.ensures.asks
 
+-- what was asked for the beginning and for the braces
 pub returns-clause-asks : goal.returns-clause-asks
 returns-clause-asks g c = asked_further c.open_filed.ensures.asks c.work_brace.ensures.asks

@@ -8,6 +8,7 @@ use Rattle.std.proofs.Common.{Err, rules, ◌+◌, ◌∷◌}
 
 -- close_hit (src/hits.rt). A working of an X for a hit ends: the switch's argument is put, and X is opened for the next one.
 
+-- the switch's argument can't be put
 pub returns-in_err-put_argument-clause-does : goal.returns-in_err-put_argument-clause-does
 returns-in_err-put_argument-clause-does g c F e p items given fits b =
     let failed =
@@ -20,6 +21,7 @@ returns-in_err-put_argument-clause-does g c F e p items given fits b =
     let f = c.from_residual.ensures in
     search rules
 
+-- the switch's argument is put, and the next hit is opened
 pub returns-clause-does : goal.returns-clause-does
 returns-clause-does g c F e p items given fits b =
     c.enter_next.ensures.does F p items given fits.label_is fits.stands

@@ -7,6 +7,7 @@ use Rattle.std.proofs.Common.{Ok, Option, ap, length, subst, ◌<◌, ◌∙◌,
 
 -- enter_next (src/hits.rt). An X for each hit from a switch on: it is opened for the next one, or the walk goes on after it.
 
+-- another switch is hit: the X is opened for it
 pub returns-in-Some-clause-does : goal.returns-in-Some-clause-does
 returns-in-Some-clause-does c F p items given label stands b =
     let is = c.pattern_at-pattern.ensures ∙ label in
@@ -22,6 +23,7 @@ returns-in-Some-clause-does c F p items given label stands b =
     (levels_in F c.args.context.now b.arounds) c.args.from found) c.in-Some.is
     (c.next_hit.ensures.finds F p items (levels_in F c.args.context.now b.arounds) is)))
 
+-- no other switch is hit: the walk goes on after the X
 pub returns-in-None-clause-does : goal.returns-in-None-clause-does
 returns-in-None-clause-does c F p items given label stands b =
     let is = c.pattern_at-pattern.ensures ∙ label in

@@ -3,10 +3,12 @@ use Rattle.drv_machine.proofs.hits.next_hit.Goals as goal
 
 -- next_hit (src/hits.rt). The next switch from a place on that a pattern hits, if one does.
 
+-- the switch that is found is on the line, from the place on
 pub returns-clause-within : goal.returns-clause-within
 returns-clause-within c = next_within c.args.context.now c.switches.result.now c.hidden.result.now c.args.pattern.now c.args.from
     c.next_hit.result c.switches.ensures c.next_hit.ensures
 
+-- no switch before the one that is found is hit, so they give nothing
 pub returns-clause-finds : goal.returns-clause-finds
 returns-clause-finds c F p items levels is =
     next_finds F c.args.context.now p items levels c.args.machine.now c.switches.result.now c.hidden.result.now c.args.pattern.now

@@ -13,15 +13,18 @@ use Rattle.std.proofs.Common.{[], ◌∷◌, ◌++◌, ap, arith, sym, ◌+◌, 
 -- work_item (src/items.rt). Runs the item at a place, which is this token, and opens no part and has no alternatives; `star` is the value
 -- of `%*`.
 
+-- the place after the item's token is a number of the machine
 pub overflow_add-at : goal.overflow_add-at
 overflow_add-at g c = let later = stand_grows _ _ (c.args.at + 1) c.requires.spans.nodes c.args.token.next c.requires.spans.stands in
     grind (arith)
 
+-- %< or %>: the switches that the pattern hits are hidden
 pub returns-in-Hide-clause-does : goal.returns-in-Hide-clause-does
 returns-in-Hide-clause-does g c F e levels inner means =
     sym (by_kind F c.args.context.now c.args.machine.now c.args.token.kind kinds.Hide c.args.text.now c.args.at
     (star_of c.args.context.now c.args.star) inner c.in-Hide.is) ∙ c.hide.ensures.does F
 
+-- %x: the option is added
 pub returns-in-AddOption-clause-does : goal.returns-in-AddOption-clause-does
 returns-in-AddOption-clause-does g c F e levels inner means =
     gives_as c.add_option.new.self c.add_option.result _ _
@@ -29,6 +32,7 @@ returns-in-AddOption-clause-does g c F e levels inner means =
     c.word-in-AddOption.ensures ∙ by_kind F c.args.context.now c.args.machine.now c.args.token.kind kinds.AddOption c.args.text.now
     c.args.at (star_of c.args.context.now c.args.star) inner c.in-AddOption.is) (c.add_option.ensures.does F c.args.context.now)
 
+-- %n: the notice is added
 pub returns-in-Notice-clause-does : goal.returns-in-Notice-clause-does
 returns-in-Notice-clause-does g c F e levels inner means =
     gives_as c.add_notice.new.self c.add_notice.result _ _
@@ -36,6 +40,7 @@ returns-in-Notice-clause-does g c F e levels inner means =
     c.word-in-Notice.ensures ∙ by_kind F c.args.context.now c.args.machine.now c.args.token.kind kinds.Notice c.args.text.now c.args.at
     (star_of c.args.context.now c.args.star) inner c.in-Notice.is) (c.add_notice.ensures.does F c.args.context.now)
 
+-- %e: the text is refused
 pub returns-in-UserError-clause-does : goal.returns-in-UserError-clause-does
 returns-in-UserError-clause-does g c F e levels inner means =
     gives_as c.args.machine.now c.user_error.result _ _

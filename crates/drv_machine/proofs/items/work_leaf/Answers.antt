@@ -10,6 +10,7 @@ use Rattle.std.proofs.Common.{ap, refl, rules, sym, ◌∙◌}
 
 -- work_leaf (src/items.rt). Works a directive that is whole with its byte.
 
+-- %i of a link, which has no input
 pub returns-in_err-input_name-in-InputName-clause-does : goal.returns-in_err-input_name-in-InputName-clause-does
 returns-in_err-input_name-in-InputName-clause-does g c F e =
     let failed = leaf_unnamed F c.args.context.now c.args.machine.now c.args.leaf leaves.InputName c.in-InputName.is
@@ -18,6 +19,7 @@ returns-in_err-input_name-in-InputName-clause-does g c F e =
     let f = c.from_residual.ensures in
     search rules
 
+-- %b of a link, which has no input
 pub returns-in_err-input_name-in-BaseStem-clause-does : goal.returns-in_err-input_name-in-BaseStem-clause-does
 returns-in_err-input_name-in-BaseStem-clause-does g c F e =
     let failed = leaf_unnamed F c.args.context.now c.args.machine.now c.args.leaf leaves.BaseStem c.in-BaseStem.is
@@ -26,6 +28,7 @@ returns-in_err-input_name-in-BaseStem-clause-does g c F e =
     let f = c.from_residual-in_err-input_name-in-BaseStem.ensures in
     search rules
 
+-- %B of a link, which has no input
 pub returns-in_err-input_name-in-BaseName-clause-does : goal.returns-in_err-input_name-in-BaseName-clause-does
 returns-in_err-input_name-in-BaseName-clause-does g c F e =
     let failed = leaf_unnamed F c.args.context.now c.args.machine.now c.args.leaf leaves.BaseName c.in-BaseName.is
@@ -34,11 +37,13 @@ returns-in_err-input_name-in-BaseName-clause-does g c F e =
     let f = c.from_residual-in_err-input_name-in-BaseName.ensures in
     search rules
 
+-- %%: a percent sign is put
 pub returns-in-Percent-clause-does : goal.returns-in-Percent-clause-does
 returns-in-Percent-clause-does g c F e =
     gives_as c.put.new.self c.put.result _ _
     (by_leaf F c.args.context.now c.args.machine.now c.args.leaf leaves.Percent c.in-Percent.is) (c.put.ensures.does F c.args.context.now)
 
+-- %i: the input's name is put
 pub returns-in_ok-input_name-in-InputName-clause-does : goal.returns-in_ok-input_name-in-InputName-clause-does
 returns-in_ok-input_name-in-InputName-clause-does g c F e =
     gives_as c.put-in-InputName.new.self c.put-in-InputName.result _ _
@@ -48,6 +53,7 @@ returns-in_ok-input_name-in-InputName-clause-does g c F e =
     ∙ by_leaf F c.args.context.now c.args.machine.now c.args.leaf leaves.InputName c.in-InputName.is)
     (c.put-in-InputName.ensures.does F c.args.context.now)
 
+-- %b: the input's name is put without folders and suffix
 pub returns-in_ok-input_name-in-BaseStem-clause-does : goal.returns-in_ok-input_name-in-BaseStem-clause-does
 returns-in_ok-input_name-in-BaseStem-clause-does g c F e =
     gives_as c.put-in-BaseStem.new.self c.put-in-BaseStem.result _ _
@@ -58,6 +64,7 @@ returns-in_ok-input_name-in-BaseStem-clause-does g c F e =
     ∙ by_leaf F c.args.context.now c.args.machine.now c.args.leaf leaves.BaseStem c.in-BaseStem.is)
     (c.put-in-BaseStem.ensures.does F c.args.context.now)
 
+-- %B: the input's name is put without folders
 pub returns-in_ok-input_name-in-BaseName-clause-does : goal.returns-in_ok-input_name-in-BaseName-clause-does
 returns-in_ok-input_name-in-BaseName-clause-does g c F e =
     gives_as c.put-in-BaseName.new.self c.put-in-BaseName.result _ _
@@ -68,32 +75,38 @@ returns-in_ok-input_name-in-BaseName-clause-does g c F e =
     ∙ by_leaf F c.args.context.now c.args.machine.now c.args.leaf leaves.BaseName c.in-BaseName.is)
     (c.put-in-BaseName.ensures.does F c.args.context.now)
 
+-- %O: .o is put
 pub returns-in-ObjectSuffix-clause-does : goal.returns-in-ObjectSuffix-clause-does
 returns-in-ObjectSuffix-clause-does g c F e =
     gives_as c.put-in-ObjectSuffix.new.self c.put-in-ObjectSuffix.result _ _
     (by_leaf F c.args.context.now c.args.machine.now c.args.leaf leaves.ObjectSuffix c.in-ObjectSuffix.is)
     (c.put-in-ObjectSuffix.ensures.does F c.args.context.now)
 
+-- %d: the word is marked
 pub returns-in-Removed-clause-does : goal.returns-in-Removed-clause-does
 returns-in-Removed-clause-does g c F e =
     sym (by_leaf F c.args.context.now c.args.machine.now c.args.leaf leaves.Removed c.in-Removed.is)
     ∙ c.mark.ensures.does F c.args.context.now
 
+-- %w: the word is marked
 pub returns-in-Output-clause-does : goal.returns-in-Output-clause-does
 returns-in-Output-clause-does g c F e =
     sym (by_leaf F c.args.context.now c.args.machine.now c.args.leaf leaves.Output c.in-Output.is)
     ∙ c.mark-in-Output.ensures.does F c.args.context.now
 
+-- %V: outputs before are barred
 pub returns-in-NoOutput-clause-does : goal.returns-in-NoOutput-clause-does
 returns-in-NoOutput-clause-does g c F e =
     sym (by_leaf F c.args.context.now c.args.machine.now c.args.leaf leaves.NoOutput c.in-NoOutput.is)
     ∙ c.bar_output.ensures.does F c.args.context.now
 
+-- %s: the word is marked
 pub returns-in-FoundFile-clause-does : goal.returns-in-FoundFile-clause-does
 returns-in-FoundFile-clause-does g c F e =
     sym (by_leaf F c.args.context.now c.args.machine.now c.args.leaf leaves.FoundFile c.in-FoundFile.is)
     ∙ c.mark-in-FoundFile.ensures.does F c.args.context.now
 
+-- %T: the word is marked
 pub returns-in-FoundScript-clause-does : goal.returns-in-FoundScript-clause-does
 returns-in-FoundScript-clause-does g c F e =
     sym (by_leaf F c.args.context.now c.args.machine.now c.args.leaf leaves.FoundScript c.in-FoundScript.is)

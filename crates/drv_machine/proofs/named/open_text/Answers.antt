@@ -11,6 +11,7 @@ use Rattle.std.specs.Prelude.{Some, option_map}
 
 -- open_text (src/named.rt). The text of a name is opened; one that isn't there gives nothing.
 
+-- the name has no text, and gives nothing
 pub returns-in_default : goal.returns-in_default
 returns-in_default c F s given b =
     leaf F c.args.context.now c.args.walk.now.text.now c.args.walk.now s given c.args.walk.now.at
@@ -18,6 +19,7 @@ returns-in_default c F s given b =
     (ap (λ found. run F c.args.context.now s (named F c.args.context.now (option_map tree_of found)
     (levels_in F c.args.context.now b.arounds))) (none_named _ c.named.result _ c.named.ensures c.in_default.is))
 
+-- too many parts are open
 pub returns-in_err-push : goal.returns-in_err-push
 returns-in_err-push c F s given b =
     let failed =
@@ -31,6 +33,7 @@ returns-in_err-push c F s given b =
     let f = c.from_residual.ensures in
     search rules
 
+-- the text of the name is open, and the walk is at its first item
 pub returns : goal.returns
 returns c F s given b =
     text_opened F c.args.context.now c.args.walk.now c.args.walk.now.at c.in-Some.text.now s given

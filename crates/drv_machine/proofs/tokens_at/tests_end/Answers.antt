@@ -6,13 +6,16 @@ use Rattle.std.proofs.Common.{ap, arith}
 
 -- tests_end (src/tokens_at.rt). The end of the tests that are first among parts.
 
+-- the part is a token of the text
 pub token_at-token-requires : goal.token_at-token-requires
 token_at-token-requires c = front_in c.args.tree.now c.loop-at.at c.args.end c.loop-at-test.true c.loop-at.invariant.spans
 
+-- a test takes a token at least
 pub loop-at-smaller : goal.loop-at-smaller
 loop-at-smaller c = nearer c.args.tree.now c.loop-at.at c.args.end c.loop-at-test.true c.token_at-token.result c.token_at-token.ensures
     c.loop-at.invariant.spans
 
+-- after a test the other parts lie from its end on
 pub loop-at-preserved : goal.loop-at-preserved
 loop-at-preserved c = record {
   spans = (here c.args.tree.now c.loop-at.at c.args.end c.loop-at-test.true c.token_at-token.result c.token_at-token.ensures
@@ -23,6 +26,7 @@ loop-at-preserved c = record {
       (ap is_test c.in-Test.is);
 }
 
+-- a part that is no test ends the tests
 pub returns-in_default : goal.returns-in_default
 returns-in_default c =
     let stop = λ (nodes : Nodes) (s : Stands c.args.tree.now c.args.start nodes c.args.end).
@@ -33,10 +37,12 @@ returns-in_default c =
       rest = λ nodes s. (stop nodes s).1;
     }
 
+-- at the end of the parts all of them are tests, which lie up to it
 pub returns-clause-tests : goal.returns-clause-tests
 returns-clause-tests c nodes s = (passed_end c.args.tree.now c.args.start c.loop-at.at nodes c.args.end
     (omega (arith, c.loop-at-test.false)) (c.loop-at.invariant.passed nodes s)).0
 
+-- at the end of the parts none is left after the tests
 pub returns-clause-rest : goal.returns-clause-rest
 returns-clause-rest c nodes s = (passed_end c.args.tree.now c.args.start c.loop-at.at nodes c.args.end (omega (arith, c.loop-at-test.false))
     (c.loop-at.invariant.passed nodes s)).1

@@ -14,16 +14,19 @@ use Rattle.std.proofs.Common.{◌≡◌, ◌∙◌, List, [], ◌∷◌, Ok, ap,
 
 -- close (src/turns.rt). The innermost open part ends: what it was opened for is done, or done once more, in the part around it.
 
+-- the test of the X is a token of the text
 pub close_hit-requires-clause-in_list : goal.close_hit-requires-clause-in_list
 close_hit-requires-clause-in_list g c =
     (subst (λ (o : Opened). OpenedFits c.args.walk.now.text.now c.args.context.now o c.requires.fits.0 c.requires.fits.1 c.requires.fits.2)
     c.in-Hit.is c.requires.fits.3).in_list
 
+-- the switch that was hit is on the line
 pub close_hit-requires-clause-in_line : goal.close_hit-requires-clause-in_line
 close_hit-requires-clause-in_line g c =
     (subst (λ (o : Opened). OpenedFits c.args.walk.now.text.now c.args.context.now o c.requires.fits.0 c.requires.fits.1 c.requires.fits.2)
     c.in-Hit.is c.requires.fits.3).in_line
 
+-- the end of an X for a hit: its argument, and the next hit
 pub returns-in-Hit-clause-does : goal.returns-in-Hit-clause-does
 returns-in-Hit-clause-does g c F e p items kept given fits a =
     went_in F c.args.context.now c.args.walk.now.text.now c.close_hit.new.walk.text.now c.close_hit.new.walk c.close_hit.new.machine given
@@ -37,6 +40,7 @@ returns-in-Hit-clause-does g c F e p items kept given fits a =
     (record c.args.walk.now { end = c.args.frame.end; star = c.args.frame.star }) (back_of o)
     (λ levels star s. closing F c.args.context.now levels star o p items kept s) c.args.machine.now given) c.in-Hit.is a)))
 
+-- the end of a named text: the walk goes back to the text around it
 pub returns-in-Text-clause-does : goal.returns-in-Text-clause-does
 returns-in-Text-clause-does g c F e p items kept given fits a =
     leaf F c.args.context.now c.in-Text.around.now (record c.args.walk.now
@@ -53,6 +57,7 @@ returns-in-Text-clause-does g c F e p items kept given fits a =
     (λ levels star s. closing F c.args.context.now levels star o p items kept s) c.args.machine.now given) c.in-Text.is a)))
     (Ok tt) c.args.machine.now refl
 
+-- the end of a %W
 pub returns-in-Failure-clause-does : goal.returns-in-Failure-clause-does
 returns-in-Failure-clause-does g c F e p items kept given fits a =
     leaf F c.args.context.now c.args.walk.now.text.now
@@ -66,6 +71,7 @@ returns-in-Failure-clause-does g c F e p items kept given fits a =
     (λ levels star s. closing F c.args.context.now levels star o p items kept s) c.args.machine.now given) c.in-Failure.is a))
     c.end_failure.result c.end_failure.new.self (c.end_failure.ensures.does F e)
 
+-- the end of a %@ that makes a file
 pub returns-in-File-clause-does : goal.returns-in-File-clause-does
 returns-in-File-clause-does g c F e p items kept given fits a =
     after_leaf F c.args.context.now c.args.walk.now.text.now
@@ -76,6 +82,7 @@ returns-in-File-clause-does g c F e p items kept given fits a =
     (λ levels star s. closing F c.args.context.now levels star o p items kept s) c.args.machine.now given) c.in-File.is a)
     c.end_file.result c.end_file.new.self (c.end_file.ensures.does F e)
 
+-- the end of a %@ that makes none
 pub returns-in-Inside-clause-does : goal.returns-in-Inside-clause-does
 returns-in-Inside-clause-does g c F e p items kept given fits a =
     after_leaf F c.args.context.now c.args.walk.now.text.now
@@ -86,11 +93,13 @@ returns-in-Inside-clause-does g c F e p items kept given fits a =
     (λ levels star s. closing F c.args.context.now levels star o p items kept s) c.args.machine.now given) c.in-Inside.is a)
     (Ok tt) c.args.machine.now refl
 
+-- the function item is a token of the text
 pub word-requires : goal.word-requires
 word-requires g c =
     (subst (λ (o : Opened). OpenedFits c.args.walk.now.text.now c.args.context.now o c.requires.fits.0 c.requires.fits.1 c.requires.fits.2)
     c.in-Call.is c.requires.fits.3).in_list
 
+-- the end of an item's arguments: the function's value is put
 pub returns-in-Call-clause-does : goal.returns-in-Call-clause-does
 returns-in-Call-clause-does g c F e p items kept given fits a =
     let call = subst (λ (o : Opened). OpenedFits c.args.walk.now.text.now c.args.context.now o p items kept) c.in-Call.is fits in
@@ -108,36 +117,43 @@ returns-in-Call-clause-does g c F e p items kept given fits a =
     (after_arguments F c.args.context.now cut (value_step F c.args.context.now c.word.result.now) c.args.machine.now))
     (search rules) (c.put_value.ensures.does F e)))
 
+-- the next hit has fewer switches after it
 pub returns-in-Hit-clause-lighter : goal.returns-in-Hit-clause-lighter
 returns-in-Hit-clause-lighter g c =
     let e = ap (hits_left (length c.args.context.now.switches)) c.in-Hit.is in
     let l = c.close_hit.ensures.lighter in
     grind (arith)
 
+-- the end of a named text opens nothing
 pub returns-in-Text-clause-lighter : goal.returns-in-Text-clause-lighter
 returns-in-Text-clause-lighter g c = let e = ap (hits_left (length c.args.context.now.switches)) c.in-Text.is in omega (arith, e)
 
+-- the end of a %W opens nothing
 pub returns-in-Failure-clause-lighter : goal.returns-in-Failure-clause-lighter
 returns-in-Failure-clause-lighter g c =
     let e = ap (hits_left (length c.args.context.now.switches)) c.in-Failure.is in
     once_lighter c.end_failure.result (weight (length c.args.context.now.switches) c.args.walk.now.frames)
     (hits_left (length c.args.context.now.switches) c.args.frame.opened) (omega (arith, e))
 
+-- the end of a %@ that makes a file opens nothing
 pub returns-in-File-clause-lighter : goal.returns-in-File-clause-lighter
 returns-in-File-clause-lighter g c =
     let e = ap (hits_left (length c.args.context.now.switches)) c.in-File.is in
     once_lighter c.end_file.result (weight (length c.args.context.now.switches) c.args.walk.now.frames)
     (hits_left (length c.args.context.now.switches) c.args.frame.opened) (omega (arith, e))
 
+-- the end of a %@ that makes none opens nothing
 pub returns-in-Inside-clause-lighter : goal.returns-in-Inside-clause-lighter
 returns-in-Inside-clause-lighter g c = let e = ap (hits_left (length c.args.context.now.switches)) c.in-Inside.is in omega (arith, e)
 
+-- the end of an item's arguments opens nothing
 pub returns-in-Call-clause-lighter : goal.returns-in-Call-clause-lighter
 returns-in-Call-clause-lighter g c =
     let e = ap (hits_left (length c.args.context.now.switches)) c.in-Call.is in
     once_lighter c.put_value.result (weight (length c.args.context.now.switches) c.args.walk.now.frames)
     (hits_left (length c.args.context.now.switches) c.args.frame.opened) (omega (arith, e))
 
+-- the test and what follows it are in the text
 pub close_test-requires-clause-fits : goal.close_test-requires-clause-fits
 close_test-requires-clause-fits g c =
     let is : c.into_inner.result ≡ c.in-Asks.places.value = search rules in (
@@ -148,6 +164,7 @@ close_test-requires-clause-fits g c =
           c.requires.fits.2) c.in-Asks.is c.requires.fits.3),
     )
 
+-- the end of a test's arguments: the test is judged
 pub returns-in-Asks-clause-does : goal.returns-in-Asks-clause-does
 returns-in-Asks-clause-does g c F e p items kept given fits a =
     let is : c.into_inner.result ≡ c.in-Asks.places.value = search rules in

@@ -9,9 +9,11 @@ use Rattle.std.proofs.Common.{◌≡◌, ◌⊎◌, ◌∙◌, Err, List, Ok, ru
 
 -- close_test (src/turns.rt). The arguments of the function that a test asks end: the test is judged by what the function says.
 
+-- the test is a token of the text
 pub word-name-requires : goal.word-name-requires
 word-name-requires g c = c.requires.fits.2.in_list
 
+-- the function has a fault, or its arguments do
 pub returns-in_err-holds-clause-does : goal.returns-in_err-holds-clause-does
 returns-in_err-holds-clause-does g c F e items kept given fits a =
     let fault = c.in_err-holds.field-0.0 in
@@ -24,6 +26,7 @@ returns-in_err-holds-clause-does g c F e items kept given fits a =
     let f = c.from_residual.ensures in
     search rules
 
+-- the test is answered, and decides what follows
 pub returns-clause-does : goal.returns-clause-does
 returns-clause-does g c F e items kept given fits a =
     went_in F c.args.context.now c.args.walk.now.text.now c.answer.new.walk.text.now c.answer.new.walk c.answer.new.machine given

@@ -14,9 +14,11 @@ use Rattle.std.specs.Prelude.{option_to_list}
 
 -- settle (src/turns.rt). Closes the open parts that have ended, and says whether an item is left to be processed.
 
+-- items lie from the place of the walk on
 pub skip-requires : goal.skip-requires
 skip-requires g c = c.requires.lain
 
+-- before the first round nothing is closed
 pub loop-walk-init : goal.loop-walk-init
 loop-walk-init g c =
     let same = ap (λ (v : Walk). v.text.now) c.skip.ensures.same in
@@ -38,12 +40,14 @@ loop-walk-init g c =
           c.args.machine.now given same (c.skip.ensures.does F c.args.context.now c.args.machine.now given left);
     }
 
+-- no part is open at the end of the text: the walk is done
 pub returns-in_default-clause-does : goal.returns-in_default-clause-does
 returns-in_default-clause-does g c F e given left =
     walk_ended F c.args.context.now c.loop-walk.walk.text.now c.loop-walk.walk c.loop-walk.machine given c.loop-walk-test.true
     (none_popped c.pop.result (length c.loop-walk.walk.frames) c.pop.ensures.variant c.in_default.is)
     (c.loop-walk.invariant.left F e given left)
 
+-- what the innermost part was opened for is in the text
 pub close-requires-clause-fits : goal.close-requires-clause-fits
 close-requires-clause-fits g c =
     can_close c.loop-walk.walk.text.now c.loop-walk.walk c.loop-walk-test.true c.in-Some.frame c.pop.new.self
@@ -53,6 +57,7 @@ close-requires-clause-fits g c =
     (as_left no_facts c.args.context.now c.loop-walk.walk.text.now c.loop-walk.walk c.loop-walk.machine c.loop-walk.invariant.lain
     c.loop-walk.invariant.framed)
 
+-- the end of a part has a fault
 pub returns-in_err-close-clause-does : goal.returns-in_err-close-clause-does
 returns-in_err-close-clause-does g c F e given left =
     let failed =
@@ -65,6 +70,7 @@ returns-in_err-close-clause-does g c F e given left =
     let f = c.from_residual.ensures in
     search rules
 
+-- items lie from the place after the closed part on
 pub skip-requires-in-loop-walk : goal.skip-requires-in-loop-walk
 skip-requires-in-loop-walk g c =
     let left =
@@ -85,6 +91,7 @@ skip-requires-in-loop-walk g c =
     c.loop-walk.invariant.lain c.loop-walk.invariant.framed) fits following) in
     record { rest = left.rest; lies = left.lies }
 
+-- each end makes what open parts may still open less
 pub loop-walk-smaller : goal.loop-walk-smaller
 loop-walk-smaller g c =
     let eq = ap (weight (length c.args.context.now.switches))
@@ -92,6 +99,7 @@ loop-walk-smaller g c =
     let same = ap (λ (v : Walk). weight (length c.args.context.now.switches) v.frames) c.skip-in-loop-walk.ensures.same in
     omega (arith, eq, weight_one (length c.args.context.now.switches) c.pop.new.self c.in-Some.frame, c.in_ok-close.ensures.lighter, same)
 
+-- after a part is closed, what is left gives what the walk gave before
 pub loop-walk-preserved : goal.loop-walk-preserved
 loop-walk-preserved g c =
     let same = ap (λ (v : Walk). v.text.now) c.skip-in-loop-walk.ensures.same in
@@ -137,17 +145,22 @@ loop-walk-preserved g c =
           (λ p items kept fits following. c.in_ok-close.ensures.does F e p items kept given fits following)));
     }
 
+-- the place of the walk is an item
 pub returns-clause-reached : goal.returns-clause-reached
 returns-clause-reached g c t = c.loop-walk.invariant.reached (omega (arith, c.loop-walk-test.false))
 
+-- an item is left, and what is left gives what the walk gave before
 pub returns-clause-does : goal.returns-clause-does
 returns-clause-does g c F e given left = c.loop-walk.invariant.left F e given left
 
+-- what was asked, where the walk is done
 pub returns-in_default-clause-asks : goal.returns-in_default-clause-asks
 returns-in_default-clause-asks g c = c.loop-walk.invariant.asks
 
+-- what was asked, where the end of a part has a fault
 pub returns-in_err-close-clause-asks : goal.returns-in_err-close-clause-asks
 returns-in_err-close-clause-asks g c = asked_further c.loop-walk.invariant.asks c.close.ensures.asks
 
+-- what was asked, where an item is left
 pub returns-clause-asks : goal.returns-clause-asks
 returns-clause-asks g c = c.loop-walk.invariant.asks

@@ -9,6 +9,7 @@ use Rattle.std.proofs.Common.{length, ◌<◌, ◌≡◌}
 
 -- The loops of settle (src/turns.rt). Closes the open parts that have ended, and says whether an item is left to be processed.
 
+-- what is left of the walk gives what the whole would have given; an item that is reached is no alternative
 abbrev pub invariant-loop-walk : goal.invariant-loop-walk
 invariant-loop-walk g l = record {
   asks : Asked g.S.System.events l.fn.outside l.outside;
@@ -21,5 +22,6 @@ invariant-loop-walk g l = record {
       → Left F l.context l.fn.walk.text.now l.fn.walk l.fn.machine given → Left F l.context l.walk.text.now l.walk l.machine given;
 }
 
+-- each round closes a part, or opens one that was counted for its end (`weight`)
 abbrev pub decreases-loop-walk : goal.decreases-loop-walk
 decreases-loop-walk g l = weight (length l.context.switches) l.walk.frames

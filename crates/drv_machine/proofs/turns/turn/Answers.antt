@@ -5,22 +5,27 @@ use Rattle.drv_machine.proofs.turns.turn.Goals as goal
 use Rattle.drv_machine.specs.declared.walk.Walk.{Walk}
 use Rattle.std.proofs.Common.{Ok, ap, arith, rules}
 
--- turn (src/turns.rt). Works the item that is reached.
+-- turn (src/turns.rt). Works the item that is reached, and where that is a plain byte, those after it.
 
+-- the item is a token of the text
 pub token_at-token-requires : goal.token_at-token-requires
 token_at-token-requires g c = at_place c.args.walk.now.text.now c.args.walk.now c.requires.lain c.requires.at_item
 
+-- the alternatives lie inside the item
 pub choose-requires-clause-spans : goal.choose-requires-clause-spans
 choose-requires-clause-spans g c = inner_there c.args.walk.now.text.now c.args.walk.now c.requires.at_item c.token_at-token.result
     c.token_at-token.ensures c.requires.lain
 
+-- the item is a token of the text
 pub work_item-requires-clause-in_list : goal.work_item-requires-clause-in_list
 work_item-requires-clause-in_list g c = at_place c.args.walk.now.text.now c.args.walk.now c.requires.lain c.requires.at_item
 
+-- the parts inside the item lie there
 pub work_item-requires-clause-spans : goal.work_item-requires-clause-spans
 work_item-requires-clause-spans g c = inner_there c.args.walk.now.text.now c.args.walk.now c.requires.at_item c.token_at-token.result
     c.token_at-token.ensures c.requires.lain
 
+-- the place after the item's token is a number of the machine
 pub overflow_add-at : goal.overflow_add-at
 overflow_add-at g c =
     grind (
@@ -29,6 +34,7 @@ overflow_add-at g c =
           c.requires.lain,
     )
 
+-- the item is a plain byte
 pub work_run-requires-clause-at_byte : goal.work_run-requires-clause-at_byte
 work_run-requires-clause-at_byte g c = record {
   before_end = c.requires.at_item.before_end;
@@ -37,19 +43,24 @@ work_run-requires-clause-at_byte g c = record {
   plain = c.in-Plain.is;
 }
 
+-- the plain byte is a token of the text
 pub word-requires-in-Plain : goal.word-requires-in-Plain
 word-requires-in-Plain g c = at_place c.args.walk.now.text.now c.args.walk.now c.requires.lain c.requires.at_item
 
+-- the named text's item is a token of the text
 pub word-requires : goal.word-requires
 word-requires g c = at_place c.args.walk.now.text.now c.args.walk.now c.requires.lain c.requires.at_item
 
+-- the item of %a or another letter is a token of the text
 pub word-requires-in-BuiltinText : goal.word-requires-in-BuiltinText
 word-requires-in-BuiltinText g c = at_place c.args.walk.now.text.now c.args.walk.now c.requires.lain c.requires.at_item
 
+-- the parts of the %W lie inside the item
 pub work_failure-requires-clause-spans : goal.work_failure-requires-clause-spans
 work_failure-requires-clause-spans g c = inner_there c.args.walk.now.text.now c.args.walk.now c.requires.at_item c.token_at-token.result
     c.token_at-token.ensures c.requires.lain
 
+-- the place after the %W's token is a number of the machine
 pub overflow_add-at-in-FailureFile : goal.overflow_add-at-in-FailureFile
 overflow_add-at-in-FailureFile g c =
     grind (
@@ -58,6 +69,7 @@ overflow_add-at-in-FailureFile g c =
           c.requires.lain,
     )
 
+-- the function's token is before the next part
 pub open_call-requires : goal.open_call-requires
 open_call-requires g c =
     grind (
@@ -66,10 +78,12 @@ open_call-requires g c =
           c.requires.lain,
     )
 
+-- the parts of the %@ lie inside the item
 pub work_filed-requires-clause-spans : goal.work_filed-requires-clause-spans
 work_filed-requires-clause-spans g c = inner_there c.args.walk.now.text.now c.args.walk.now c.requires.at_item c.token_at-token.result
     c.token_at-token.ensures c.requires.lain
 
+-- the place after the %@'s token is a number of the machine
 pub overflow_add-at-in-ArgumentsFile : goal.overflow_add-at-in-ArgumentsFile
 overflow_add-at-in-ArgumentsFile g c =
     grind (
@@ -78,6 +92,7 @@ overflow_add-at-in-ArgumentsFile g c =
           c.requires.lain,
     )
 
+-- the text has too many items
 pub returns-in_err-count-clause-does : goal.returns-in_err-count-clause-does
 returns-in_err-count-clause-does g c F e given left =
     let failed = turn_uncounted c.args.walk.now.text.now c.args.walk.now c.requires.at_item c.token_at-token.result c.token_at-token.ensures
@@ -86,6 +101,7 @@ returns-in_err-count-clause-does g c F e given left =
     let f = c.from_residual.ensures in
     search rules
 
+-- braces with alternatives
 pub returns-in-Choose-clause-does : goal.returns-in-Choose-clause-does
 returns-in-Choose-clause-does g c F e given left =
     went_in F c.args.context.now c.args.walk.now.text.now c.choose.new.walk.text.now c.choose.new.walk c.choose.new.machine given
@@ -95,6 +111,7 @@ returns-in-Choose-clause-does g c F e given left =
     (c.in_ok-count.ensures.does F c.args.context.now) c.in-Choose.is _
     (λ choices stands following. c.choose.ensures.does F choices given stands following))
 
+-- an item that opens no part
 pub returns-in_default-clause-does : goal.returns-in_default-clause-does
 returns-in_default-clause-does g c F e given left =
     turn_item c.args.walk.now.text.now c.args.walk.now c.requires.at_item c.token_at-token.result c.token_at-token.ensures F
@@ -102,12 +119,14 @@ returns-in_default-clause-does g c F e given left =
     (c.in_ok-count.ensures.does F c.args.context.now) c.work_item.result c.work_item.new.machine
     (λ levels inner means. c.work_item.ensures.does F e levels inner means)
 
+-- plain bytes that follow one another, worked at once
 pub returns-then-has_byte-clause-does : goal.returns-then-has_byte-clause-does
 returns-then-has_byte-clause-does g c F e given left =
     went_in F c.args.context.now c.args.walk.now.text.now c.work_run.new.walk.text.now c.work_run.new.walk c.work_run.new.machine given
     c.work_run.result (ap (λ (w : Walk). w.text.now) c.work_run.ensures.same)
     (c.work_run.ensures.does F c.args.context.now c.args.machine.now given (c.in_ok-count.ensures.does F c.args.context.now) left)
 
+-- a plain byte alone
 pub returns-in_ok-put_item-in-Plain-clause-does : goal.returns-in_ok-put_item-in-Plain-clause-does
 returns-in_ok-put_item-in-Plain-clause-does g c F e given left =
     turn_plain c.args.walk.now.text.now c.args.walk.now c.requires.at_item c.token_at-token.result c.token_at-token.ensures F
@@ -115,6 +134,7 @@ returns-in_ok-put_item-in-Plain-clause-does g c F e given left =
     (c.in_ok-count.ensures.does F c.args.context.now) c.in-Plain.is c.word-in-Plain.result.now c.word-in-Plain.ensures
     (Ok tt) c.put_item.new.self (c.in_ok-put_item-in-Plain.ensures.does F c.args.context.now)
 
+-- a named text
 pub returns-in-NamedText-clause-does : goal.returns-in-NamedText-clause-does
 returns-in-NamedText-clause-does g c F e given left =
     c.open_text.ensures F c.count.new.self given
@@ -122,6 +142,7 @@ returns-in-NamedText-clause-does g c F e given left =
     c.args.context.now c.args.machine.now given left c.count.new.self
     (c.in_ok-count.ensures.does F c.args.context.now) c.in-NamedText.is c.word.result.now c.word.ensures)
 
+-- a text that a letter such as %a denotes
 pub returns-in-BuiltinText-clause-does : goal.returns-in-BuiltinText-clause-does
 returns-in-BuiltinText-clause-does g c F e given left =
     c.open_text-in-BuiltinText.ensures F c.count.new.self given
@@ -129,6 +150,7 @@ returns-in-BuiltinText-clause-does g c F e given left =
     c.args.context.now c.args.machine.now given left c.count.new.self
     (c.in_ok-count.ensures.does F c.args.context.now) c.in-BuiltinText.is c.word-in-BuiltinText.result.now c.word-in-BuiltinText.ensures)
 
+-- a %W
 pub returns-in-FailureFile-clause-does : goal.returns-in-FailureFile-clause-does
 returns-in-FailureFile-clause-does g c F e given left =
     went_in F c.args.context.now c.args.walk.now.text.now c.work_failure.new.walk.text.now c.work_failure.new.walk
@@ -138,6 +160,7 @@ returns-in-FailureFile-clause-does g c F e given left =
     (c.in_ok-count.ensures.does F c.args.context.now) c.in-FailureFile.is _
     (λ brace stands following. c.work_failure.ensures.does F e brace given stands following))
 
+-- a function
 pub returns-in-Function-clause-does : goal.returns-in-Function-clause-does
 returns-in-Function-clause-does g c F e given left =
     went_in F c.args.context.now c.args.walk.now.text.now c.open_call.new.walk.text.now c.open_call.new.walk c.open_call.new.machine given
@@ -149,6 +172,7 @@ returns-in-Function-clause-does g c F e given left =
     c.open_call.ensures.does F c.args.context.now c.args.walk.now.text.now name items given
     (at_place c.args.walk.now.text.now c.args.walk.now c.requires.lain c.requires.at_item) word stands following))
 
+-- a %@
 pub returns-in-ArgumentsFile-clause-does : goal.returns-in-ArgumentsFile-clause-does
 returns-in-ArgumentsFile-clause-does g c F e given left =
     went_in F c.args.context.now c.args.walk.now.text.now c.work_filed.new.walk.text.now c.work_filed.new.walk c.work_filed.new.machine

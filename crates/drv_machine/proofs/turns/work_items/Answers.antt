@@ -7,6 +7,7 @@ use Rattle.std.proofs.Common.{arith, rules, ◌∙◌}
 
 -- work_items (src/turns.rt). Works the items of a walk that are left, up to its end.
 
+-- before the first turn all of the walk is left
 pub loop-walk-init : goal.loop-walk-init
 loop-walk-init g c = record {
   asks = asked_none c.args.outside.now;
@@ -16,6 +17,7 @@ loop-walk-init g c = record {
   left = λ F e given left. left;
 }
 
+-- the end of a part has a fault
 pub returns-in_err-settle-clause-does : goal.returns-in_err-settle-clause-does
 returns-in_err-settle-clause-does g c F e given left =
     let failed = c.in_err-settle.ensures.does F e given
@@ -23,9 +25,11 @@ returns-in_err-settle-clause-does g c F e given left =
     let f = c.from_residual.ensures in
     search rules
 
+-- what was asked, where the end of a part has a fault
 pub returns-in_err-settle-clause-asks : goal.returns-in_err-settle-clause-asks
 returns-in_err-settle-clause-asks g c = asked_further c.loop-walk.invariant.asks c.settle.ensures.asks
 
+-- items lie from the place of the walk on
 pub turn-requires-clause-lain : goal.turn-requires-clause-lain
 turn-requires-clause-lain g c =
     let F = c.settle.new.outside.facts.now in
@@ -37,9 +41,11 @@ turn-requires-clause-lain g c =
     (as_left F c.args.context.now c.loop-walk.walk.text.now c.loop-walk.walk c.loop-walk.machine c.loop-walk.invariant.lain
     c.loop-walk.invariant.framed)))
 
+-- the place of the walk is an item
 pub turn-requires-clause-at_item : goal.turn-requires-clause-at_item
 turn-requires-clause-at_item g c = c.in_ok-settle.ensures.reached c.if-branch.true
 
+-- an item has a fault
 pub returns-in_err-turn-clause-does : goal.returns-in_err-turn-clause-does
 returns-in_err-turn-clause-does g c F e given left =
     let failed =
@@ -50,9 +56,11 @@ returns-in_err-turn-clause-does g c F e given left =
     let f = c.from_residual-in_err-turn.ensures in
     search rules
 
+-- what was asked, where an item has a fault
 pub returns-in_err-turn-clause-asks : goal.returns-in_err-turn-clause-asks
 returns-in_err-turn-clause-asks g c = asked_further c.loop-walk.invariant.asks (asked_further c.settle.ensures.asks c.turn.ensures.asks)
 
+-- each turn counts an item at least
 pub loop-walk-smaller : goal.loop-walk-smaller
 loop-walk-smaller g c =
     omega (
@@ -62,6 +70,7 @@ loop-walk-smaller g c =
       c.in_ok-turn.ensures.below,
     )
 
+-- after a turn, what is left gives what the walk gave before
 pub loop-walk-preserved : goal.loop-walk-preserved
 loop-walk-preserved g c =
     let F = c.turn.new.outside.facts.now in
@@ -84,10 +93,12 @@ loop-walk-preserved g c =
           (c.loop-walk.invariant.left F (extends_before c.settle.ensures.asks (extends_before c.turn.ensures.asks e)) given left)));
     }
 
+-- no item is left: the walk has given all
 pub returns-clause-does : goal.returns-clause-does
 returns-clause-does g c F e given left =
     settled_none F c.args.context.now c.settle.new.walk.text.now c.settle.new.walk c.settle.new.machine given _ c.if-branch.false
     (c.in_ok-settle.ensures.does F e given (c.loop-walk.invariant.left F (extends_before c.settle.ensures.asks e) given left))
 
+-- what was asked in all turns
 pub returns-clause-asks : goal.returns-clause-asks
 returns-clause-asks g c = asked_further c.loop-walk.invariant.asks c.settle.ensures.asks

@@ -9,6 +9,7 @@ use Rattle.std.proofs.Common.{length, ◌-◌, ◌≡◌}
 
 -- The loops of work_items (src/turns.rt). Works the items of a walk that are left, up to its end.
 
+-- what is left of the walk gives what the whole would have given
 abbrev pub invariant-loop-walk : goal.invariant-loop-walk
 invariant-loop-walk g l = record {
   asks : Asked g.S.System.events l.fn.outside l.outside;
@@ -19,5 +20,6 @@ invariant-loop-walk g l = record {
       → Left F l.context l.fn.walk.text.now l.fn.walk l.fn.machine given → Left F l.context l.walk.text.now l.walk l.machine given;
 }
 
+-- each round reaches an item, and the limit of items ends the loop
 abbrev pub decreases-loop-walk : goal.decreases-loop-walk
 decreases-loop-walk g l = 1000000 - l.machine.world.items

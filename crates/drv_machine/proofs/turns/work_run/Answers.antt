@@ -2,18 +2,22 @@ use Rattle.drv_machine.proofs.RunTurns.{byte_reached, run_worked}
 use Rattle.drv_machine.proofs.turns.work_run.Goals as goal
 use Rattle.std.proofs.Common.{◌<◌, ◌≤◌, ◌+◌, arith, length}
 
--- work_run (src/turns.rt). Works the plain bytes from the place that is reached, up to another item or the end of the innermost part.
+-- work_run (src/turns.rt). Works the plain bytes from the place that is reached, up to another item or the end of the innermost part, as
+-- many as may be reached.
 
+-- the slice has a byte at least, for the walk is at one
 pub put_run-requires-clause-some : goal.put_run-requires-clause-some
 put_run-requires-clause-some c =
     let byte = byte_reached c.args.text.now c.args.walk.now c.requires.lain c.requires.at_byte in
     c.plain_bytes-run.ensures.begins byte.0
     (omega (arith, c.requires.at_byte.before_end, c.min-end.ensures, c.saturating_add.ensures, c.left.ensures)) byte.1
 
+-- the slice has no more bytes than items are left to the limit
 pub put_run-requires-clause-room : goal.put_run-requires-clause-room
 put_run-requires-clause-room c =
     omega (arith, c.requires.few, c.plain_bytes-run.ensures.within, c.min-end.ensures, c.saturating_add.ensures, c.left.ensures)
 
+-- the bytes of the slice are put, which is a turn for each
 pub returns-clause-does : goal.returns-clause-does
 returns-clause-does c F C s given first left =
     let byte = byte_reached c.args.text.now c.args.walk.now c.requires.lain c.requires.at_byte in

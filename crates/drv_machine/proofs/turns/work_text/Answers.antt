@@ -11,6 +11,7 @@ use Rattle.std.proofs.Common.{[], ap, length}
 
 -- work_text (src/turns.rt). Works a whole text.
 
+-- the items of the text lie from its first place to its last
 pub work_items-requires-clause-lain : goal.work_items-requires-clause-lain
 work_items-requires-clause-lain g c =
     let given = run no_facts c.args.context.now c.args.machine.now
@@ -23,6 +24,7 @@ work_items-requires-clause-lain g c =
     (whole_there c.args.text.now (length c.tokens.result.now) (ap (λ ts. length ts) c.tokens.ensures)) c.new-walk.ensures.at
     c.new-walk.ensures.end c.new-walk.ensures.star c.new-walk.ensures.frames))
 
+-- a walk that begins has no open part
 pub work_items-requires-clause-framed : goal.work_items-requires-clause-framed
 work_items-requires-clause-framed g c =
     let given = run no_facts c.args.context.now c.args.machine.now
@@ -35,6 +37,7 @@ work_items-requires-clause-framed g c =
     (whole_there c.args.text.now (length c.tokens.result.now) (ap (λ ts. length ts) c.tokens.ensures)) c.new-walk.ensures.at
     c.new-walk.ensures.end c.new-walk.ensures.star c.new-walk.ensures.frames))
 
+-- the walk over the text gives what its items mean
 pub returns-clause-does : goal.returns-clause-does
 returns-clause-does g c F e =
     let given = run F c.args.context.now c.args.machine.now

@@ -12,6 +12,7 @@ use Rattle.std.proofs.Common.{ap, rules, subst, sym}
 
 -- finish (src/whole.rt). Works the whole text, and judges what was cut.
 
+-- the text has a refusal
 pub returns-in_err-work_whole-clause-does : goal.returns-in_err-work_whole-clause-does
 returns-in_err-work_whole-clause-does g c F e =
     let cut = run F c.args.context.now c.args.machine.now (whole_text F c.args.context.now (tree_of c.args.text.now)) in
@@ -21,6 +22,7 @@ returns-in_err-work_whole-clause-does g c F e =
     let f = c.from_residual.ensures in
     search rules
 
+-- the text is run, and its job is made of the cut
 pub returns-clause-does : goal.returns-clause-does
 returns-clause-does g c F e =
     subst (λ given. GivesKnown Memory (λ o. o) c.outcome_of.result given)
@@ -28,8 +30,10 @@ returns-clause-does g c F e =
     (c.in_ok-work_whole.ensures.does F (extends_before c.outcome_of.ensures.asks e))))
     (c.outcome_of.ensures.does F e)
 
+-- what was asked, where the text has a refusal
 pub returns-in_err-work_whole-clause-asks : goal.returns-in_err-work_whole-clause-asks
 returns-in_err-work_whole-clause-asks g c = c.work_whole.ensures.asks
 
+-- what was asked for the text and for its programs
 pub returns-clause-asks : goal.returns-clause-asks
 returns-clause-asks g c = asked_further c.work_whole.ensures.asks c.outcome_of.ensures.asks

@@ -10,6 +10,7 @@ use Rattle.std.proofs.Common.{[], rules, subst, sym, ◌∷◌}
 
 -- work_whole (src/whole.rt). Works the whole text, whose end ends its last command.
 
+-- the items have a refusal
 pub returns-in_err-work_text-clause-does : goal.returns-in_err-work_text-clause-does
 returns-in_err-work_text-clause-does g c F e =
     let failed =
@@ -20,6 +21,7 @@ returns-in_err-work_text-clause-does g c F e =
     let f = c.from_residual.ensures in
     search rules
 
+-- the items are run, and the last command ends
 pub returns-clause-does : goal.returns-clause-does
 returns-clause-does g c F e =
     let went =
@@ -28,8 +30,10 @@ returns-clause-does g c F e =
     c.work_text.new.machine (c.in_ok-work_text.ensures.does F (extends_before c.end_line.ensures.asks e)) in
     subst (λ given. GivesKnown Memory (λ u. (tt, c.end_line.new.self)) c.end_line.result given) (sym went) (c.end_line.ensures.does F e)
 
+-- what was asked, where the items have a refusal
 pub returns-in_err-work_text-clause-asks : goal.returns-in_err-work_text-clause-asks
 returns-in_err-work_text-clause-asks g c = c.work_text.ensures.asks
 
+-- what was asked for the items and for the last word
 pub returns-clause-asks : goal.returns-clause-asks
 returns-clause-asks g c = asked_further c.work_text.ensures.asks c.end_line.ensures.asks

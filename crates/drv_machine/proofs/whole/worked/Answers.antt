@@ -13,10 +13,12 @@ use Rattle.std.proofs.lemmas.List.{length-map}
 
 -- worked (src/whole.rt). A spec text worked to its end.
 
+-- a new machine has a flag for each switch of the line
 pub finish-requires : goal.finish-requires
 finish-requires g c =
     ap (λ (s : Machine). length s.world.hidden) (c.in_ok-machine.ensures no_facts) ∙ length-map c.args.context.now.switches (λ s. false)
 
+-- a new machine is the state before the first item, so what `finish` gives is the outcome of the text
 pub returns-clause-does : goal.returns-clause-does
 returns-clause-does g c F e =
     subst (λ given. GivesKnown Memory (λ o. o) c.finish.result given)

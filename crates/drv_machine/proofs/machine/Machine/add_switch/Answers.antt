@@ -10,6 +10,7 @@ use Rattle.std.proofs.Common.{◌∙◌, ◌++◌, List, [], ◌∷◌, Ok, ap, 
 
 -- add_switch (src/machine/whole_words.rt). The switch at a place and its argument are put, each as a whole word.
 
+-- the switch has no argument
 pub returns-in_default-clause-does : goal.returns-in_default-clause-does
 returns-in_default-clause-does c F =
     let C = c.args.context.now in
@@ -20,6 +21,7 @@ returns-in_default-clause-does c F =
     (sym c.argument.ensures ∙ c.in_default.is)
     ∙ ap (λ (m : Machine). Is (Ok (tt, m))) (sym c.in_ok-add_word.ensures.ok)
 
+-- the switch has an argument, which is a word too
 pub returns-clause-does : goal.returns-clause-does
 returns-clause-does c F =
     let C = c.args.context.now in

@@ -11,6 +11,7 @@ use Rattle.std.proofs.Common.{ap, rules, subst, ◌≡◌, ◌∙◌}
 -- call_after (src/machine/functions.rt). Arguments have been cut, and what was cut before them goes on: what the function of a name gives
 -- for them.
 
+-- the word that is open can't end: its look-up has a fault
 pub returns-in_err-end_word-clause-does : goal.returns-in_err-end_word-clause-does
 returns-in_err-end_word-clause-does g c F e =
     let failed = after_fails F c.args.context.now c.args.outer.value
@@ -18,6 +19,7 @@ returns-in_err-end_word-clause-does g c F e =
     (c.in_err-end_word.ensures.does F e) in
     let handed = c.from_residual.ensures in search rules
 
+-- the last word of the arguments ends, and the function is called
 pub returns-clause-does : goal.returns-clause-does
 returns-clause-does g c F e =
     let C = c.args.context.now in
@@ -30,8 +32,10 @@ returns-clause-does g c F e =
     (let same : c.into_inner.result ≡ c.args.outer.value = search rules in same)))
     (c.call.ensures.does F e)
 
+-- what was asked, where the word can't end
 pub returns-in_err-end_word-clause-asks : goal.returns-in_err-end_word-clause-asks
 returns-in_err-end_word-clause-asks g c = c.end_word.ensures.asks
 
+-- what was asked for the word and by the function
 pub returns-clause-asks : goal.returns-clause-asks
 returns-clause-asks g c = asked_further c.end_word.ensures.asks c.call.ensures.asks

@@ -5,12 +5,14 @@ use Rattle.std.proofs.Common.{[], ◌∷◌, rules}
 
 -- end_failure (src/machine/marking.rt). The open word ends, and with it the innermost `%W`.
 
+-- the word that is open can't end: its look-up has a fault
 pub returns-in_err-end_word-clause-does : goal.returns-in_err-end_word-clause-does
 returns-in_err-end_word-clause-does g c F e =
     let failed = put_failed F c.args.context.now c.args.self.now (Break ∷ []) (To ∷ []) c.in_err-end_word.field-0.0
     (c.in_err-end_word.ensures.does F e) in
     let handed = c.from_residual.ensures in search rules
 
+-- the word that is open ends, and so does the innermost %W
 pub returns-clause-does : goal.returns-clause-does
 returns-clause-does g c F e =
     put_last F c.args.context.now c.args.self.now c.end_word.new.self c.close_inside.new.self (Break ∷ []) (To ∷ []) c.close_inside.result

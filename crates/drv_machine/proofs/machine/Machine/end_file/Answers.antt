@@ -6,11 +6,13 @@ use Rattle.std.proofs.Common.{rules, ◌∙◌}
 
 -- end_file (src/machine/filing.rt). The open word ends, and with it the file: its name is put, if it has words.
 
+-- the word that is open can't end: its look-up has a fault
 pub returns-in_err-end_word-clause-does : goal.returns-in_err-end_word-clause-does
 returns-in_err-end_word-clause-does g c F e =
     let failed = no_end F c.args.context.now c.args.self.now c.in_err-end_word.field-0.0 (c.in_err-end_word.ensures.does F e) in
     let handed = c.from_residual.ensures in search rules
 
+-- the last word of the file ends, and the file's name is put
 pub returns-clause-does : goal.returns-clause-does
 returns-clause-does g c F e =
     gives_as c.put_file.new.self c.put_file.result _ _
@@ -19,8 +21,10 @@ returns-clause-does g c F e =
     (c.as_slice.ensures ∙ c.leave_file-words.ensures.words) c.leave_file-words.ensures.left)
     (c.put_file.ensures.does F e)
 
+-- what was asked, where the word can't end
 pub returns-in_err-end_word-clause-asks : goal.returns-in_err-end_word-clause-asks
 returns-in_err-end_word-clause-asks g c = c.end_word.ensures.asks
 
+-- what was asked for the word and for the file's name
 pub returns-clause-asks : goal.returns-clause-asks
 returns-clause-asks g c = asked_further c.end_word.ensures.asks c.put_file.ensures.asks

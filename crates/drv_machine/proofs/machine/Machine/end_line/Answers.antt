@@ -5,12 +5,14 @@ use Rattle.std.proofs.Common.{[], ◌∷◌, rules}
 
 -- end_line (src/machine.rt). The open word and its command end; a command without a word is dropped.
 
+-- the word that is open can't end: its look-up has a fault
 pub returns-in_err-end_word-clause-does : goal.returns-in_err-end_word-clause-does
 returns-in_err-end_word-clause-does g c F e =
     let failed = put_failed F c.args.context.now c.args.self.now (Break ∷ []) (End ∷ []) c.in_err-end_word.field-0.0
     (c.in_err-end_word.ensures.does F e) in
     let handed = c.from_residual.ensures in search rules
 
+-- the word that is open ends, and so does the command
 pub returns-clause-does : goal.returns-clause-does
 returns-clause-does g c F e =
     put_last F c.args.context.now c.args.self.now c.end_word.new.self c.close_line.new.self (Break ∷ []) (End ∷ []) c.close_line.result

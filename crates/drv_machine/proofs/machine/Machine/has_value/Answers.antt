@@ -4,12 +4,14 @@ use Rattle.std.proofs.Common.{rules, sym}
 
 -- has_value (src/machine/functions.rt). Arguments have been cut, and what was cut before them goes on: whether the function has a value.
 
+-- the function has a fault, or its arguments do
 pub returns-in_err-given-clause-does : goal.returns-in_err-given-clause-does
 returns-in_err-given-clause-does g c F e =
     let failed = holds_failed F c.args.context.now c.args.outer.value c.args.name.now c.args.self.now c.in_err-given.field-0.0
     (c.in_err-given.ensures.does F e) in
     let handed = c.from_residual.ensures in search rules
 
+-- the function was called: whether it has a value
 pub returns-clause-does : goal.returns-clause-does
 returns-clause-does g c F e =
     holds_as F c.args.context.now c.args.outer.value c.args.name.now c.args.self.now c.call_after.new.self c.in_ok-given.given _

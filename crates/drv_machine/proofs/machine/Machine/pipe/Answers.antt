@@ -4,11 +4,13 @@ use Rattle.std.proofs.Common.{rules}
 
 -- pipe (src/machine.rt). The open word ends, and its command with a pipe.
 
+-- the word that is open can't end: its look-up has a fault
 pub returns-in_err-end_word-clause-does : goal.returns-in_err-end_word-clause-does
 returns-in_err-end_word-clause-does g c F e =
     let failed = pipe_failed F c.args.context.now c.args.self.now c.in_err-end_word.field-0.0 (c.in_err-end_word.ensures.does F e) in
     let handed = c.from_residual.ensures in search rules
 
+-- the word that is open ends, and a pipe follows
 pub returns-clause-does : goal.returns-clause-does
 returns-clause-does g c F e = pipe_put F c.args.context.now c.args.self.now c.end_word.new.self c.close_with_pipe.new.self
     (c.in_ok-end_word.ensures.does F e) c.close_with_pipe.ensures

@@ -10,6 +10,7 @@ use Rattle.std.specs.List.{flat_map}
 
 -- put_all_broken (src/machine/lists.rt). Lists of bytes are put, with a break after each.
 
+-- one list of bytes is put with its break, and the others are left
 pub loop-word-preserved : goal.loop-word-preserved
 loop-word-preserved g c = record {
   asks = asked_further c.loop-word.invariant.asks c.put_broken.ensures.asks;
@@ -21,6 +22,7 @@ loop-word-preserved g c = record {
       ∙ c.loop-word.invariant.left F (extends_before c.put_broken.ensures.asks e);
 }
 
+-- a list of bytes can't be put
 pub returns-in_err-put_broken-clause-does : goal.returns-in_err-put_broken-clause-does
 returns-in_err-put_broken-clause-does g c F e =
     let failed = next_failed F c.args.context.now broken_word c.loop-word.self c.put_broken.new.self c.args.list.now c.loop-word.word-index
@@ -31,8 +33,10 @@ returns-in_err-put_broken-clause-does g c F e =
     let f = c.from_residual.ensures in
     search rules
 
+-- what was asked, where a list of bytes can't be put
 pub returns-in_err-put_broken-clause-asks : goal.returns-in_err-put_broken-clause-asks
 returns-in_err-put_broken-clause-asks g c = asked_further c.loop-word.invariant.asks c.put_broken.ensures.asks
 
+-- what was asked for all lists of bytes
 pub returns-clause-asks : goal.returns-clause-asks
 returns-clause-asks g c = c.loop-word.invariant.asks

@@ -9,6 +9,7 @@ use Rattle.std.proofs.Common.{drop, flat_map, length, ◌≡◌}
 
 -- The loops of put_all_broken (src/machine/lists.rt). Lists of bytes are put, with a break after each.
 
+-- putting the words that are left gives what putting all would have given; no switch and no item is counted
 abbrev pub invariant-loop-word : goal.invariant-loop-word
 invariant-loop-word g l = record {
   asks : Asked g.S.System.events l.fn.outside l.outside;

@@ -7,17 +7,20 @@ use Rattle.std.proofs.Common.{◌∙◌, Some, [], ◌∷◌, ap, map, rules, sy
 
 -- put_argument (src/machine.rt). The open word ends, and the argument of the switch at a place, if it has one, is a word after it.
 
+-- the word of the switch can't end
 pub returns-in_err-end_word-clause-does : goal.returns-in_err-end_word-clause-does
 returns-in_err-end_word-clause-does g c F e =
     let failed = put_failed F c.args.context.now c.args.self.now (Break ∷ [])
     (word_of (argument c.args.context.now c.args.i)) c.in_err-end_word.field-0.0 (c.in_err-end_word.ensures.does F e) in
     let handed = c.from_residual.ensures in search rules
 
+-- the switch has no argument
 pub returns-in_default-clause-does : goal.returns-in_default-clause-does
 returns-in_default-clause-does g c F e =
     argument_none F c.args.context.now c.args.self.now c.end_word.new.self (argument c.args.context.now c.args.i)
     (sym c.argument.ensures ∙ c.in_default.is) (c.in_ok-end_word.ensures.does F e)
 
+-- no memory for the argument
 pub returns-in_err-put-clause-does : goal.returns-in_err-put-clause-does
 returns-in_err-put-clause-does g c F e =
     let whole = argument_open F c.args.context.now c.args.self.now c.end_word.new.self c.open.new.self
@@ -29,6 +32,7 @@ returns-in_err-put-clause-does g c F e =
     (c.in_err-put.ensures.does F c.args.context.now)) in
     let handed = c.from_residual-in_err-put.ensures in search rules
 
+-- the argument is put as a word
 pub returns-clause-does : goal.returns-clause-does
 returns-clause-does g c F e =
     let whole = argument_open F c.args.context.now c.args.self.now c.end_word.new.self c.open.new.self
@@ -39,14 +43,18 @@ returns-clause-does g c F e =
     (put_last F c.args.context.now c.open.new.self c.put.new.self c.end_word-2.new.self (map Put c.as_bytes.result.now)
     (Break ∷ []) c.end_word-2.result (c.in_ok-put.ensures.does F c.args.context.now) (c.end_word-2.ensures.does F e))
 
+-- what was asked, where the word of the switch can't end
 pub returns-in_err-end_word-clause-asks : goal.returns-in_err-end_word-clause-asks
 returns-in_err-end_word-clause-asks g c = c.end_word.ensures.asks
 
+-- what was asked for the word of the switch
 pub returns-in_default-clause-asks : goal.returns-in_default-clause-asks
 returns-in_default-clause-asks g c = c.end_word.ensures.asks
 
+-- what was asked, where there is no memory for the argument
 pub returns-in_err-put-clause-asks : goal.returns-in_err-put-clause-asks
 returns-in_err-put-clause-asks g c = c.end_word.ensures.asks
 
+-- what was asked for both words
 pub returns-clause-asks : goal.returns-clause-asks
 returns-clause-asks g c = asked_further c.end_word.ensures.asks c.end_word-2.ensures.asks

@@ -5,12 +5,14 @@ use Rattle.std.proofs.Common.{[], ◌∷◌, map, rules}
 
 -- put_broken (src/machine/lists.rt). Bytes are put, with a break after them.
 
+-- no memory for the bytes
 pub returns-in_err-put-clause-does : goal.returns-in_err-put-clause-does
 returns-in_err-put-clause-does g c F e =
     let failed = put_failed F c.args.context.now c.args.self.now (map Put c.args.word.now) (Break ∷ []) c.in_err-put.field-0.0
     (c.in_err-put.ensures.does F c.args.context.now) in
     let handed = c.from_residual.ensures in search rules
 
+-- the bytes are put, and the word ends
 pub returns-clause-does : goal.returns-clause-does
 returns-clause-does g c F e =
     put_last F c.args.context.now c.args.self.now c.put.new.self c.end_word.new.self (map Put c.args.word.now)

@@ -5,6 +5,7 @@ use Rattle.std.proofs.Common.{◌∙◌, ◌++◌, ◌∷◌, [], ap, refl, sym}
 
 -- put_byte (src/machine.rt). A byte goes into the open word, or opens one.
 
+-- the byte goes into the open word, or opens one
 pub returns-clause-does : goal.returns-clause-does
 returns-clause-does c F C = rw (← c.self.view_is)
     (bytes_put F C (the_view c.self.inside) (c.args.byte ∷ []) c.push.new.self.items refl

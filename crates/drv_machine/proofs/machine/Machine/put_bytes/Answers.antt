@@ -4,6 +4,7 @@ use Rattle.std.proofs.Common.{◌∙◌, ◌++◌, ap, sym}
 
 -- put_bytes (src/machine.rt). Bytes go into the open word, or open one; no bytes change nothing.
 
+-- the bytes go into the open word, or open one
 pub returns-clause-does : goal.returns-clause-does
 returns-clause-does c F C = rw (← c.self.view_is)
     (bytes_put F C _ c.args.bytes.now c.extend_from_slice.new.self.items c.if-is_empty.ensures

@@ -8,10 +8,12 @@ use Rattle.std.proofs.Common.{[], map, refl, rules, sym, ◌++◌, ◌∙◌, �
 
 -- put_file (src/machine/filing.rt). The name of a file with these words is put, if there are any.
 
+-- a file without words has no name
 pub returns-then-is_empty-clause-does : goal.returns-then-is_empty-clause-does
 returns-then-is_empty-clause-does g c F e = none_filed F c.args.context.now c.args.self.now c.args.words.now
     (sym c.if-is_empty.true ∙ c.is_empty.ensures)
 
+-- no name can be drawn for the file
 pub returns-in_err-path-clause-does : goal.returns-in_err-path-clause-does
 returns-in_err-path-clause-does g c F e =
     let failed = not_drawn F c.args.context.now c.args.self.now c.args.words.now
@@ -19,6 +21,7 @@ returns-in_err-path-clause-does g c F e =
     (c.in_err-path.ensures.does F e) in
     let handed = c.from_residual-in_err-path.ensures in search rules
 
+-- no memory for the @ of the name
 pub returns-in_err-put-clause-does : goal.returns-in_err-put-clause-does
 returns-in_err-put-clause-does g c F e =
     let whole = file_drawn F c.args.context.now c.args.self.now c.args.words.now
@@ -29,6 +32,7 @@ returns-in_err-put-clause-does g c F e =
     (map Put c.in_ok-path.path ++ Break ∷ []) c.in_err-put.field-0.0 (c.in_err-put.ensures.does F c.args.context.now)) in
     let handed = c.from_residual-in_err-put.ensures in search rules
 
+-- the file's name is put, with an @ before it
 pub returns-clause-does : goal.returns-clause-does
 returns-clause-does g c F e =
     let whole = file_drawn F c.args.context.now c.args.self.now c.args.words.now
@@ -40,8 +44,10 @@ returns-clause-does g c F e =
     (map Put c.as_bytes.result.now ++ Break ∷ []) c.put_broken.result (c.in_ok-put.ensures.does F c.args.context.now)
     (c.put_broken.ensures.does F e))
 
+-- what was asked, where there is no memory for the @
 pub returns-in_err-put-clause-asks : goal.returns-in_err-put-clause-asks
 returns-in_err-put-clause-asks g c = c.draw_with.ensures.asks
 
+-- what was asked for the name and for its word
 pub returns-clause-asks : goal.returns-clause-asks
 returns-clause-asks g c = asked_further c.draw_with.ensures.asks c.put_broken.ensures.asks

@@ -11,6 +11,7 @@ use Rattle.std.specs.List.{flat_map}
 
 -- put_folders (src/machine/lists.rt). The options for the folders of libraries are put.
 
+-- the options for the folders are put, each with a break
 pub returns-clause-does : goal.returns-clause-does
 returns-clause-does g c F e =
     let C = c.args.context.now in

@@ -7,6 +7,7 @@ use Rattle.std.proofs.Common.{◌≡◌, Ok, OnOk, ap, subst, sym}
 
 -- put_item (src/machine.rt). The bytes of an item go into the open word, or open one: mostly one byte, which has a shorter path.
 
+-- the label of a plain byte has one byte, which is put
 pub returns-then-bytes-eq1-clause-does : goal.returns-then-bytes-eq1-clause-does
 returns-then-bytes-eq1-clause-does c F C =
     subst (λ given. OnOk c.put_byte.result (given ≡ Is (Ok (tt, c.put_byte.new.self))))

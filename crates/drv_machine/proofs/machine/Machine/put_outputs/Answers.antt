@@ -5,6 +5,7 @@ use Rattle.std.proofs.Common.{sym, ◌∙◌}
 
 -- put_outputs (src/machine/lists.rt). The outputs of the jobs so far are put, each as a word of its own.
 
+-- the open word ends, and the outputs are put while they are out of the machine
 pub returns-clause-does : goal.returns-clause-does
 returns-clause-does g c F e =
     let none = no_input c.input.result.now c.is_some.result c.is_some.ensures c.if-is_some.false in

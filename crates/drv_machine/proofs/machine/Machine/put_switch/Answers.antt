@@ -11,6 +11,7 @@ use Rattle.std.proofs.Common.{◌++◌, ◌∙◌, [], ◌∷◌, ap, map, refl,
 -- put_switch (src/machine.rt). The switch at a place as the line has it, its first `-` and its argument included; it ends the word that it
 -- is in.
 
+-- no memory for the hyphen
 pub returns-in_err-put-clause-does : goal.returns-in_err-put-clause-does
 returns-in_err-put-clause-does g c F e =
     let C = c.args.context.now in
@@ -19,6 +20,7 @@ returns-in_err-put-clause-does g c F e =
     (c.in_err-put.ensures.does F C) in
     let handed = c.from_residual-in_err-put.ensures in search rules
 
+-- no memory for the switch's name
 pub returns-in_err-put-2-clause-does : goal.returns-in_err-put-2-clause-does
 returns-in_err-put-2-clause-does g c F e =
     let C = c.args.context.now in
@@ -31,6 +33,7 @@ returns-in_err-put-2-clause-does g c F e =
     (c.in_err-put-2.ensures.does F C)) in
     let handed = c.from_residual-in_err-put-2.ensures in search rules
 
+-- the switch is put byte by byte, and then its argument
 pub returns-clause-does : goal.returns-clause-does
 returns-clause-does g c F e =
     let C = c.args.context.now in

@@ -6,6 +6,7 @@ use Rattle.std.proofs.Common.{sym, ◌∙◌}
 -- put_temp (src/machine/naming.rt). The name of a temporary with this suffix is put; where commands are piped, `-` or nothing may take its
 -- place.
 
+-- with -pipe a %| is a hyphen
 pub returns-in-PipedOut-clause-does : goal.returns-in-PipedOut-clause-does
 returns-in-PipedOut-clause-does g c F e =
     gives_as c.put.new.self c.put.result _ _ (piped_out F c.args.context.now c.args.self.now c.args.kind c.args.suffix.now c.in-PipedOut.is

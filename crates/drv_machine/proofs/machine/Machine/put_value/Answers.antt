@@ -5,17 +5,20 @@ use Rattle.std.proofs.Common.{rules}
 -- put_value (src/machine/functions.rt). Arguments have been cut, and what was cut before them goes on: the function's value is put, if it
 -- has one.
 
+-- the function has a fault, or its arguments do
 pub returns-in_err-word-clause-does : goal.returns-in_err-word-clause-does
 returns-in_err-word-clause-does g c F e =
     let failed = value_failed F c.args.context.now c.args.outer.value c.args.name.now c.args.self.now c.in_err-word.field-0.0
     (c.in_err-word.ensures.does F e) in
     let handed = c.from_residual.ensures in search rules
 
+-- the function has no value
 pub returns-in_default-clause-does : goal.returns-in_default-clause-does
 returns-in_default-clause-does g c F e =
     value_none F c.args.context.now c.args.outer.value c.args.name.now c.args.self.now c.call_after.new.self c.in_ok-word.field-0
     c.in_default.is (c.in_ok-word.ensures.does F e)
 
+-- the function's value is put
 pub returns-clause-does : goal.returns-clause-does
 returns-clause-does g c F e =
     value_put F c.args.context.now c.args.outer.value c.args.name.now c.args.self.now c.call_after.new.self c.put.new.self

@@ -6,6 +6,7 @@ use Rattle.std.proofs.Common.{[], ◌∷◌}
 
 -- put_word (src/machine/lists.rt). A whole word is put, with an opening before it and a break after it.
 
+-- the word is put whole: it is opened, its bytes are put, and it ends
 pub returns-clause-does : goal.returns-clause-does
 returns-clause-does g c F e =
     put_last F c.args.context.now c.args.self.now c.open.new.self c.put_broken.new.self (Open ∷ [])

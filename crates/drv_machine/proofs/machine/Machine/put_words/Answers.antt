@@ -10,6 +10,7 @@ use Rattle.std.specs.List.{flat_map}
 
 -- put_words (src/machine/lists.rt). Whole words are put.
 
+-- one word is put, and the others are left
 pub loop-word-preserved : goal.loop-word-preserved
 loop-word-preserved g c = record {
   asks = asked_further c.loop-word.invariant.asks c.put_word.ensures.asks;
@@ -21,6 +22,7 @@ loop-word-preserved g c = record {
       ∙ c.loop-word.invariant.left F (extends_before c.put_word.ensures.asks e);
 }
 
+-- a word can't be put
 pub returns-in_err-put_word-clause-does : goal.returns-in_err-put_word-clause-does
 returns-in_err-put_word-clause-does g c F e =
     let failed = next_failed F c.args.context.now whole_word c.loop-word.self c.put_word.new.self c.args.list.now c.loop-word.word-index
@@ -31,8 +33,10 @@ returns-in_err-put_word-clause-does g c F e =
     let f = c.from_residual.ensures in
     search rules
 
+-- what was asked, where a word can't be put
 pub returns-in_err-put_word-clause-asks : goal.returns-in_err-put_word-clause-asks
 returns-in_err-put_word-clause-asks g c = asked_further c.loop-word.invariant.asks c.put_word.ensures.asks
 
+-- what was asked for all words
 pub returns-clause-asks : goal.returns-clause-asks
 returns-clause-asks g c = c.loop-word.invariant.asks

@@ -8,6 +8,7 @@ use Rattle.std.proofs.Common.{drop, length, ◌≡◌}
 
 -- The loops of put_words (src/machine/lists.rt). Whole words are put.
 
+-- putting the words that are left gives what putting all would have given; no switch and no item is counted
 abbrev pub invariant-loop-word : goal.invariant-loop-word
 invariant-loop-word g l = record {
   asks : Asked g.S.System.events l.fn.outside l.outside;

@@ -7,12 +7,14 @@ use Rattle.std.specs.Global.{Vec}
 
 -- add_line (src/machine/finishing.rt). The command of one line more joins those of the group that is begun.
 
+-- a pipe joins the command to the next: its group goes on
 pub returns-then-is_joined-clause-added : goal.returns-then-is_joined-clause-added
 returns-then-is_joined-clause-added g c F e lines =
     one_joined F c.args.context.now c.args.ended.now c.args.begun.now.items c.push.new.self.items c.args.line c.in_ok-command_of.field-0
     lines (sym c.is_joined-is_joined.ensures ∙ c.if-is_joined.true)
     (c.in_ok-command_of.ensures.made F e) c.in_ok-push.ensures.items
 
+-- the command ends its group
 pub returns-clause-added : goal.returns-clause-added
 returns-clause-added g c F e lines =
     one_ended F c.args.context.now c.args.ended.now c.push_group.new.groups c.args.begun.now.items c.push.new.self.items

@@ -4,6 +4,7 @@ use Rattle.std.proofs.Common.{◌∙◌, ap}
 
 -- ends_piped (src/machine/finishing.rt). Whether the last command ends with a pipe.
 
+-- the last command says whether it ends with a pipe
 pub returns-in-len1-up : goal.returns-in-len1-up
 returns-in-len1-up c = ap (λ line. line.piped) c.last.view_is
     ∙ ends_piped_last c.args.lines.now c.last-item.result c.in-len1-up.len_at_least c.last-item.is

@@ -9,6 +9,7 @@ use Rattle.std.proofs.lemmas.List.{map-id}
 
 -- groups_of (src/machine/finishing.rt). The groups of commands: with `-pipe` piped commands form one, otherwise each command is one.
 
+-- before the first command no group has ended or begun
 pub loop-line-init : goal.loop-line-init
 loop-line-init g c = record {
   asks = asked_none c.args.outside.now;
@@ -17,6 +18,7 @@ loop-line-init g c = record {
       (search rules);
 }
 
+-- one command is added, and the others are left
 pub loop-line-preserved : goal.loop-line-preserved
 loop-line-preserved g c = record {
   asks = asked_further c.loop-line.invariant.asks c.add_line.ensures.asks;
@@ -26,6 +28,7 @@ loop-line-preserved g c = record {
       ∙ c.in_ok-add_line.ensures.added F e rest;
 }
 
+-- all commands are added, and the group that is begun ends
 pub returns-clause-made : goal.returns-clause-made
 returns-clause-made g c F e =
     let given = c.into_iter-line-iterator.ensures.into_iter_gives in

@@ -6,6 +6,7 @@ use Rattle.std.specs.Prelude.{not}
 
 -- The loops of lasting (src/machine/finishing.rt). Files, each once, and without the job's own temporaries.
 
+-- the files kept are those so far that are no temporaries
 abbrev pub invariant-loop-file : goal.invariant-loop-file
 invariant-loop-file l = record {
   paths : l.paths ≡ map (λ name. name.path) l.drawn;

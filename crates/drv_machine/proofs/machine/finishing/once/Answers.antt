@@ -8,14 +8,17 @@ use Rattle.std.proofs.Common.{arith, [], ◌∷◌, ◌≡◌, ◌∙◌, ap, ap
 
 -- once (src/machine/finishing.rt). Files, each once.
 
+-- before the first file none is kept
 pub loop-file-init : goal.loop-file-init
 loop-file-init c rest = none_kept c.new-kept.result (once rest) (c.new-kept.ensures ∙ c.new.ensures)
 
+-- the file is kept if it is new, and the others are left
 pub loop-file-preserved : goal.loop-file-preserved
 loop-file-preserved c rest =
     ap once (append_assoc c.loop-file.yielded (c.in-Some.file ∷ []) rest) ∙ c.loop-file.invariant (c.in-Some.file ∷ rest)
     ∙ one_added c.loop-file.kept c.add.new.self c.in-Some.file rest c.in_ok-add.ensures
 
+-- all files are kept, each once
 pub returns : goal.returns
 returns c =
     let given = c.into_iter-file-iterator.ensures.into_iter_gives in

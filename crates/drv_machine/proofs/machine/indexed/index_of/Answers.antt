@@ -4,6 +4,7 @@ use Rattle.std.proofs.Common.{arith}
 
 -- index_of (src/machine/indexed.rt). The words of a list, in order.
 
+-- one word more is in the index
 pub loop-word-preserved : goal.loop-word-preserved
 loop-word-preserved c other =
     next_indexed c.loop-word.index c.insert.new.self c.args.words.now c.loop-word.word-index c.word-item.result c.in_ok-clone.field-0

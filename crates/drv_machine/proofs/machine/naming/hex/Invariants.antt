@@ -4,6 +4,7 @@ use Rattle.std.proofs.Common.{drop, length, ◌≡◌, ◌++◌, ◌≤◌}
 
 -- The loops of hex (src/machine/naming.rt). A number in base 16, with eight digits.
 
+-- the digits from the place that is reached on are the last ones of the number; the rest has those before
 abbrev pub invariant-loop-at : goal.invariant-loop-at
 invariant-loop-at l = record {
   within : l.at ≤ 8;
@@ -11,5 +12,6 @@ invariant-loop-at l = record {
   same : hex l.at l.rest ++ drop l.at l.digits ≡ hex 8 l.number;
 }
 
+-- each round writes a digit
 abbrev pub decreases-loop-at : goal.decreases-loop-at
 decreases-loop-at l = l.at

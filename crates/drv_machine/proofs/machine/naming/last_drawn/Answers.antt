@@ -4,6 +4,7 @@ use Rattle.std.proofs.Common.{arith, sym, ◌-◌, ◌∙◌}
 
 -- last_drawn (src/machine/naming.rt). The last of these names that was drawn so with this suffix.
 
+-- the name is the last one that was drawn so, for none after it was
 pub returns-then-is_drawn : goal.returns-then-is_drawn
 returns-then-is_drawn c =
     drawn_at c.args.drawing c.args.suffix.now c.args.drawn.now (c.loop-i.i - 1) c.loop-i.i c.index-drawn-i.result c.as_bytes.result.now

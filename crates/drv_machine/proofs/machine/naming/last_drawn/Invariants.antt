@@ -5,11 +5,13 @@ use Rattle.std.specs.Prelude.{None}
 
 -- The loops of last_drawn (src/machine/naming.rt). The last of these names that was drawn so with this suffix.
 
+-- none of the names from the place that is reached on was drawn so: the code looks from the end
 abbrev pub invariant-loop-i : goal.invariant-loop-i
 invariant-loop-i l = record {
   within : l.i ≤ length l.drawn;
   none : last_drawn l.drawing l.suffix (drop l.i l.drawn) ≡ None;
 }
 
+-- each round looks at one name
 abbrev pub decreases-loop-i : goal.decreases-loop-i
 decreases-loop-i l = l.i

@@ -6,6 +6,7 @@ use Rattle.std.specs.Option.{option_copied}
 
 -- temp_name (src/machine/naming.rt). The name of a temporary with this seed, number and suffix.
 
+-- the folder, the seed, the number and the suffix make the name of the definition
 pub returns-clause-name : goal.returns-clause-name
 returns-clause-name g c F e =
     let dir = option_copied c.variable_answer.result in

@@ -7,12 +7,14 @@ use Rattle.std.proofs.Common.{ap, arith, subst, sym, ◌<◌, ℕ}
 
 -- skip (src/walk.rt). Passes over other alternatives than the one that was run.
 
+-- the place is a token of the text
 pub token_at-token-requires : goal.token_at-token-requires
 token_at-token-requires c =
     place_in c.args.text.now c.loop-self.self.at c.requires.rest c.args.self.now.end
     (subst (λ (k : ℕ). c.loop-self.self.at < k) (ap (λ (v : Walk). v.end) c.loop-self.invariant.same) c.loop-self-test.true)
     (c.loop-self.invariant.lies c.requires.rest c.requires.lies)
 
+-- an alternative takes a token at least
 pub loop-self-smaller : goal.loop-self-smaller
 loop-self-smaller c =
     let later =
@@ -22,6 +24,7 @@ loop-self-smaller c =
     (c.loop-self.invariant.lies c.requires.rest c.requires.lies) in
     omega (arith, later, c.loop-self-test.true)
 
+-- after an alternative the items that are left lie from its end on
 pub loop-self-preserved : goal.loop-self-preserved
 loop-self-preserved c = record {
   lies = λ rest l.
@@ -32,15 +35,18 @@ loop-self-preserved c = record {
   same = ap (λ (v : Walk). record v { at = c.token_at-token.result.next }) c.loop-self.invariant.same;
 }
 
+-- an item is reached: only alternatives were passed
 pub returns-in_default-clause-does : goal.returns-in_default-clause-does
 returns-in_default-clause-does c F C s given left =
     subst (λ (v : Walk). Left F C c.args.text.now v s given) (sym c.loop-self.invariant.same)
     (left_at F C c.args.text.now c.args.self.now c.loop-self.self.at s given c.loop-self.invariant.lies left)
 
+-- the token that is reached is no alternative
 pub returns-in_default-clause-reached : goal.returns-in_default-clause-reached
 returns-in_default-clause-reached c h = at_item c.args.text.now c.loop-self.self c.token_at-token.result h c.token_at-token.ensures
     c.in_default.not-Alternative
 
+-- the end of the part is reached: only alternatives were passed
 pub returns-clause-does : goal.returns-clause-does
 returns-clause-does c F C s given left =
     subst (λ (v : Walk). Left F C c.args.text.now v s given) (sym c.loop-self.invariant.same)

@@ -5,6 +5,7 @@ use Rattle.std.proofs.Common.{ap, sym, ◌∙◌}
 
 -- add (src/machine/indexed.rt). A word goes to the end, unless it is in the list.
 
+-- the word that is new is in the list and in its index
 pub invariant_of-self-2 : goal.invariant_of-self-2
 invariant_of-self-2 c =
     indexed_more c.in_ok-index.index c.insert.new.self c.self-2.inside.words c.push.new.self c.args.word c.in_ok-clone.field-0

@@ -5,6 +5,7 @@ use Rattle.std.proofs.Common.{ap, ◌∙◌}
 
 -- end_word (src/machine/inside.rt). A word has ended in all of them.
 
+-- the word is the last one of each %W that is open
 pub returns : goal.returns
 returns c = rw (← c.self.view_is)
     (ap (λ word. ended_in word c.self.inside.count 0) c.in_ok-self-inside.ensures.cases
