@@ -9,10 +9,11 @@ pub record Marked : Type 0 where
   pub bytes : List ℕ
   pub places : List ℕ
 
+-- no byte so far
 abbrev pub nothing : Marked
 nothing = record { bytes = []; places = [] }
 
--- without the last byte
+-- the bytes so far without the last one
 abbrev pub shorter : Marked → Marked
 shorter m = record { bytes = take (length m.bytes - 1) m.bytes; places = take (length m.places - 1) m.places }
 

@@ -30,6 +30,7 @@ fn settle_onto(
     if byte == b'\r' {
         return Ok(());
     }
+    // A line that a backslash continues.
     if byte == b'\n' && bytes.as_slice().ends_with(b"\\") {
         bytes.pop();
         places.pop();
