@@ -14,9 +14,11 @@ use Rattle.std.specs.Prelude.{codes}
 
 -- Examples of plans by the built-in specs, which the prover computes. No name is searched for, and TMPDIR is unset.
 
+-- nothing is known but that TMPDIR is unset
 abbrev facts : Facts
 facts = record no_facts { variables = (codes "TMPDIR", None) ∷ [] }
 
+-- the plan of these switches and inputs by the built-in specs
 abbrev plan : List Switch → List Input → Planned Plan
 plan switches inputs = planned facts builtin_specs inputs (context_of (line_of switches inputs) builtin_specs no_prefixes 42)
 
@@ -24,7 +26,7 @@ plan switches inputs = planned facts builtin_specs inputs (context_of (line_of s
 abbrev making : List ℕ → Job → Job
 making file job = record job { on_failure = file ∷ [] }
 
--- the link, with these words
+-- the job of the link, with these words
 abbrev linking : List (List ℕ) → Job
 linking words = making (codes "a.out") (job None (command (codes "rectool") words ∷ []) [] (Some (codes "a.out")))
 

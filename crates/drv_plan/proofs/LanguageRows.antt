@@ -11,6 +11,7 @@ use Rattle.std.specs.Prelude.{codes}
 -- Examples of the languages of inputs, which the prover computes: by -x, else by the last suffix pair that fits the name. `shown` is the
 -- language chosen; built-in texts of languages are recognized by their first bytes.
 
+-- an input file without -x
 abbrev file : List ℕ → Input
 file name = File name None
 
@@ -35,10 +36,12 @@ pub data Shown : Type 0 where
   Absent : List ℕ → Shown
   Other : Shown
 
+-- the language that was chosen, or its text if it has no name
 abbrev shown_chosen : Option (List ℕ) → List ℕ → Shown
 shown_chosen (Some name) text = InLanguage name
 shown_chosen None text = InText text
 
+-- what an input gives
 abbrev shown : Result (Option Chosen) PlanFault → Shown
 shown (Ok None) = ForLinker
 shown (Ok (Some c)) = shown_chosen c.name c.text
@@ -247,12 +250,12 @@ a_word_for_the_linker : shown (chosen_for builtin_specs (LinkWord (codes "x.c"))
 unfolding builtin_named builtin_pairs
 a_word_for_the_linker = refl
 
--- one more suffix
+-- a set may have one more suffix of a language
 further_suffix : shown (chosen_for (with_pairs ((codes ".ZZ", codes "@c") ∷ [])) (file (codes "f.ZZ"))) ≡ InLanguage (codes "c")
 unfolding builtin_named builtin_pairs
 further_suffix = refl
 
--- the last pair counts
+-- of two pairs with one suffix the last counts
 last_pair : shown (chosen_for (with_pairs ((codes ".ZZ", codes "@c") ∷ (codes ".ZZ", codes "#Zed") ∷ [])) (file (codes "f.ZZ")))
     ≡ Absent (codes "Zed")
 unfolding builtin_named builtin_pairs
@@ -312,7 +315,7 @@ last_pair_of_a_language : shown (chosen_for (with_pairs ((codes "@c", codes "#C"
 unfolding builtin_named builtin_pairs
 last_pair_of_a_language = refl
 
--- an alias is followed once
+-- a pair that names another language is followed once only
 alias_followed_once : shown (chosen_for (of_pairs ((codes ".q", codes "@Q") ∷ (codes "@Q", codes "@R") ∷ (codes "@R", codes "prog") ∷ []))
     (file (codes "f.q"))) ≡ Unknown (codes "Q")
 unfolding builtin_named builtin_pairs

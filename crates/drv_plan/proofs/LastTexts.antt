@@ -8,7 +8,10 @@ use Rattle.std.specs.Option.{option_map}
 use Rattle.std.specs.Prelude.{get_or, slice_get}
 
 -- For the look-up of languages and suffixes: the last pair of a list that fits counts, so the code goes from the end of the list.
+-- Names: `pairs` is the pairs of the set. `pair` is one pair: its key and its text. `fits` says which keys fit. `n` is how many pairs are
+-- still to be looked at. `last_text fits pairs` is the text of the last pair whose key fits.
 
+-- a key and a text
 abbrev Pair : Type 0
 Pair = List ℕ × List ℕ
 

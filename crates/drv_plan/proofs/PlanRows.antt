@@ -20,10 +20,11 @@ use Rattle.std.specs.Prelude.{codes}
 -- Examples of plans, which the prover computes from `denoted`: jobs in the order of the inputs, the link, notices, and the first refusal.
 -- No name is searched for, and TMPDIR is unset.
 
+-- nothing is known but that TMPDIR is unset
 abbrev facts : Facts
 facts = record no_facts { variables = (codes "TMPDIR", None) ∷ [] }
 
--- no folder is searched
+-- no folder is searched, so each name stays as it is
 abbrev pub no_prefixes : Prefixes
 no_prefixes = record { programs = []; libraries = [] }
 
@@ -60,7 +61,7 @@ file name = File name None
 abbrev pub command : List ℕ → List (List ℕ) → List Command
 command program words = record { program = program; words = words } ∷ []
 
--- temporaries without contents
+-- temporaries with these paths and no contents
 abbrev pub temps_of : List (List ℕ) → List Temp
 temps_of paths = map (λ path. record { path = path; contents = [] }) paths
 
@@ -82,9 +83,11 @@ with_texts text link = record {
   pairs = (codes ".c", codes "@c") ∷ (codes "@c", text) ∷ (codes ".z", codes "#Zed") ∷ [];
 }
 
+-- specs without a text for the link
 abbrev no_link : Set
 no_link = record (with_texts [] []) { named = [] }
 
+-- specs that compile, and link with options that the compilations add
 abbrev compiling : Set
 compiling = with_texts (codes "cc %i -o %w%u.o %x{-q}") (codes "ld %o %X")
 
@@ -146,14 +149,17 @@ first_refusal : plan compiling [] (file (codes "a.c") ∷ file (codes "b.z") ∷
 unfolding digits
 first_refusal = refl
 
+-- an unknown language before a file whose text is refused: the first refusal counts
 other_first_refusal : plan compiling [] (File (codes "c") (Some (codes "foo")) ∷ file (codes "b.z") ∷ [])
     ≡ Is (Err (UnknownLanguage (codes "foo")))
 other_first_refusal = refl
 
+-- a refusal of a source comes before one of the link
 refused_before_link : plan (with_texts (codes "%etext") (codes "%elink")) [] (file (codes "b.o") ∷ file (codes "a.c") ∷ [])
     ≡ Is (Err (Machine (UserError (codes "text"))))
 refused_before_link = refl
 
+-- a refusal of the link's text
 refused_in_link : plan (with_texts (codes "%etext") (codes "%elink")) [] (file (codes "b.o") ∷ [])
     ≡ Is (Err (Machine (UserError (codes "link"))))
 refused_in_link = refl

@@ -12,7 +12,10 @@ use Rattle.std.proofs.Common.{◌≡◌, ◌⊎◌, ◌∙◌, Bool, Err, List, 
 use Rattle.std.specs.Prelude.{◌≢◌, IfErr, codes, if◌then◌else◌}
 
 -- For `plan`: finding the language of an input runs no text, so no refusal is that of a text.
+-- Names: `set` is the specs: named texts, and pairs of suffixes and languages. `input` is one input. `chosen_for set input` is the text for
+-- an input, or None if it is the linker's. `by_language` is the text of a language.
 
+-- no refusal is that of a text
 abbrev Refused : {X : Type 0} → Result X PlanFault → Type 0
 Refused given = (fault : MachineFault) → given ≢ Err (Machine fault)
 
@@ -23,10 +26,12 @@ no_text_in language (Some (Alias other)) fault e = absurd cc
 no_text_in language (Some (Missing compiler)) fault e = absurd cc
 no_text_in language (Some (Worked text)) fault e = absurd cc
 
+-- a choice of a language refuses for no text
 no_text_chosen : (given : Result Chosen PlanFault) → Refused given → Refused (chosen given)
 no_text_chosen (Ok c) none fault e = absurd cc
 no_text_chosen (Err refusal) none fault e = let same : refusal ≡ Machine fault = cc in none fault (ap (λ f. Err f) same)
 
+-- nor does the look-up of a language
 no_text_by : (set : Set) (language : List ℕ) → Refused (chosen (by_language set language))
 no_text_by set language = no_text_chosen (by_language set language) (no_text_in language (last_pair set (is_of_language language)))
 

@@ -19,16 +19,23 @@ use Rattle.std.specs.Prelude.{codes}
 
 -- For reload_law: a set whose list of pairs is repeated, as a dump loaded over its set gives, gives the same plans: of the pairs that fit a
 -- name the last one counts.
+-- Names: `F` is what is known of the outside. `set` is the specs: named texts, and pairs of suffixes and languages. `X` is the type of what
+-- a step gives. `fits` says which keys fit. `later` is what later pairs give. `doubled set` is the set with its pairs repeated.
+-- `last_text fits pairs` is the text of the last pair whose key fits. `with_inputs` is what all inputs give. `then_by step next` goes on
+-- with what a step gives, unless it is refused. `planned F set inputs C` is the defined plan. `by_language` is the text of a language. The
+-- names of temporaries contain the `seed`.
 
 -- the later of two, if there is one
 abbrev or_first : Option (List ℕ) → Option (List ℕ) → Option (List ℕ)
 or_first None first = first
 or_first (Some later) first = Some later
 
+-- nothing before changes nothing
 or_none : (later : Option (List ℕ)) → later ≡ or_first later None
 or_none None = refl
 or_none (Some later) = refl
 
+-- a text before itself is itself
 or_same : (later : Option (List ℕ)) → or_first later later ≡ later
 or_same None = refl
 or_same (Some later) = refl
@@ -47,12 +54,15 @@ last_both fits (pair ∷ front) back =
     ap (λ others. or_before others (fits pair.0) pair.1) (last_both fits front back) ∙ before_first (last_text fits back)
     (last_text fits front) (fits pair.0) pair.1
 
+-- the last pair that fits is the same in the repeated list
 last_doubled : (fits : List ℕ → Bool) (pairs : List (List ℕ × List ℕ)) → last_text fits (pairs ++ pairs) ≡ last_text fits pairs
 last_doubled fits pairs = last_both fits pairs pairs ∙ or_same (last_text fits pairs)
 
+-- so a look-up gives the same
 pair_doubled : (set : Set) (fits : List ℕ → Bool) → last_pair (doubled set) fits ≡ last_pair set fits
 pair_doubled set fits = ap (option_map pair_meaning) (last_doubled fits set.pairs)
 
+-- of a language
 by_language_doubled : (set : Set) (language : List ℕ) → by_language (doubled set) language ≡ by_language set language
 by_language_doubled set language = ap (in_language language) (pair_doubled set (is_of_language language))
 
@@ -63,10 +73,12 @@ with_suffix_doubled set (Some (Alias language)) = ap chosen (by_language_doubled
 with_suffix_doubled set (Some (Missing compiler)) = refl
 with_suffix_doubled set (Some (Worked text)) = refl
 
+-- and of a suffix
 by_suffix_doubled : (set : Set) (name : List ℕ) → by_suffix (doubled set) name ≡ by_suffix set name
 by_suffix_doubled set name =
     ap (with_suffix (doubled set)) (pair_doubled set (is_suffix_of name)) ∙ with_suffix_doubled set (last_pair set (is_suffix_of name))
 
+-- two cases alike, by the same test
 either_alike : {X : Type 0} (hit : Bool) (a a' b b' : X) → a ≡ a' → b ≡ b' → (if hit then a else b) ≡ (if hit then a' else b')
 either_alike true a a' b b' first second = first
 either_alike false a a' b b' first second = second
@@ -104,6 +116,7 @@ inputs_doubled F set place (input ∷ inputs) g =
     ∙ then_alike (with_input F set place input g) (λ g'. with_inputs F (doubled set) (place + 1) inputs g')
     (λ g'. with_inputs F set (place + 1) inputs g') (λ g'. inputs_doubled F set (place + 1) inputs g')
 
+-- so the plan is the same
 planned_doubled : (F : Facts) (set : Set) (inputs : List Input) (C : Context) → planned F (doubled set) inputs C ≡ planned F set inputs C
 planned_doubled F set inputs C = ap (λ step. then_by step (λ g. finished F set g)) (inputs_doubled F set 0 inputs (begun C))
 

@@ -32,6 +32,14 @@ use Rattle.std.specs.Prelude.{◌==◌, codes, get_or}
 -- For `plan` (the code of `denoted`): the steps of a plan, one after another: each input, by its language, is a source whose text is
 -- processed, or a word for the link; then the link's text is processed. `Progress` is what the inputs so far gave; `whole` is what the
 -- definition gives of all of them.
+-- Names: `F` is what is known of the outside. `set` is the specs: named texts, and pairs of suffixes and languages. `inputs` is the inputs
+-- of the line, from here on. `place` is the place of an input on the line. `C` is the context in which a text is processed. `g` is what the
+-- inputs before gave: jobs, outputs, notices, options. `after` is the progress after one more input. `text` is the text of a language, or
+-- of the link. `source` is an input with its language. `fault` is a refusal. `X` is the type of what a step gives. `Y` is the type of what
+-- all steps give. `defined` is what the definition gives of a step. `next` is what follows the step. `Planned` is a value, a refusal, or
+-- `Unasked` if the facts lack an answer. `worked` processes a text and adds its job. `with_inputs` is what all inputs give.
+-- `then_by step next` goes on with what a step gives, unless it is refused. `finished` is the plan after the inputs, with the link.
+-- `planned F set inputs C` is the defined plan. `outcome` is what processing a text gives. The names of temporaries contain the `seed`.
 
 -- a refusal of a step is that of the plan
 pub refusal_given : {X Y : Type 0} (fault : PlanFault) (result : Result X PlanFault) (view : X → Y) (defined : Planned Y)

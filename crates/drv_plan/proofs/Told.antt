@@ -29,8 +29,15 @@ use Rattle.std.specs.Prelude.{◌==◌, codes}
 -- For plan_law: the defined plan is the one that the outcomes of its texts give (`IsPlanOf`, specs/Plans). A part is what an input gives: a
 -- text to be processed, an object file, or a word for the linker. `Ran` says what the outcomes of some parts make of the progress before
 -- them.
+-- Names: `F` is what is known of the outside. `set` is the specs: named texts, and pairs of suffixes and languages. `C` is the context in
+-- which a text is processed. `g` is what the inputs before gave: jobs, outputs, notices, options. `before` is the outcome of the text
+-- before, if there was one. `notices` is the notices of all texts. `jobs` is the jobs so far. `words` is the words for the link. `names` is
+-- the names of outputs. `ps` is the parts that follow. `plan` is the plan. `then_by step next` goes on with what a step gives, unless it is
+-- refused. `Planned` is a value, a refusal, or `Unasked` if the facts lack an answer. `with_inputs` is what all inputs give. `outcome` is
+-- what processing a text gives. `tree_of` is the tree of a text. `context_after` is the context after a text: its options, and the next
+-- number of a temporary. `of_source` is the job of a source. The names of temporaries contain the `seed`.
 
--- the progress after a text
+-- the progress after a text, with these parts
 abbrev state : Context → Option Outcome → Option Source → List (List ℕ) → List Job → List (List ℕ) → List (List ℕ) → Progress
 state C before input notices jobs words names = record {
   context = record (context_after before C) { input = input };
@@ -102,6 +109,7 @@ a_file F C before input place name (Ok None) ps next notices jobs words names g 
 a_file F C before input place name (Ok (Some c)) ps next notices jobs words names g follows e =
     by (outcome F (record (context_after before C) { input = Some source }) (tree_of c.text)) refl e
   where
+    -- Plan: by the outcome of the file's text: a refusal ends the plan, and a job is added to the progress.
     source : Source
     source = record { name = name; language = c.name }
 
@@ -174,6 +182,7 @@ ended : (F : Facts) (C : Context) (text : Option (List ℕ)) (g : Progress) (pla
 ended F C None g plan e = let at : plan_of (None, g) ≡ plan = cc in subst (λ p. Ends F C None g p) at (with_no_link F C g)
 ended F C (Some text) g plan e = by (outcome F (record g.context { input = None; outputs = g.outputs }) (tree_of text)) refl e
   where
+    -- Plan: by the outcome of the link's text.
     by : (answer : Answer Outcome) → outcome F (record g.context { input = None; outputs = g.outputs }) (tree_of text) ≡ answer
         → then_by (then_by (then_by (of_text answer) (with_outcome (for_link g))) (λ done. Is (Ok (linked done))))
         (λ done. Is (Ok (plan_of done))) ≡ Is (Ok plan)
@@ -206,6 +215,7 @@ over : (F : Facts) (line : Line) (set : Set) (seed : ℕ) (plan : Plan) (prefixe
     → IsPlanOf F line set seed plan
 over F line set seed plan prefixes known e = by (with_inputs F set 0 line.inputs (begun (context_of line set prefixes seed))) refl e
   where
+    -- Plan: by what the inputs give: a refusal, nothing known, or a progress from which the link follows.
     by : (found : Planned Progress) → with_inputs F set 0 line.inputs (begun (context_of line set prefixes seed)) ≡ found
         → then_by found (λ g. finished F set g) ≡ Is (Ok plan) → IsPlanOf F line set seed plan
     by Unasked is e = absurd cc

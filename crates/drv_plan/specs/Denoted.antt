@@ -28,6 +28,7 @@ use Rattle.std.specs.Prelude.{◌+◌, ◌==◌, Err, List, [], ◌∷◌, ◌++
 abbrev pub Planned : Type 0 → Type 0
 Planned X = Known (Result X PlanFault)
 
+-- a step, and what follows it unless it is refused
 abbrev pub then_by : {X Y : Type 0} → Planned X → (X → Planned Y) → Planned Y
 then_by Unasked next = Unasked
 then_by (Is (Ok x)) next = next x
@@ -44,7 +45,7 @@ of_text Unasked = Unasked
 of_text (Is (Ok x)) = Is (Ok x)
 of_text (Is (Err fault)) = Is (Err (lifted fault))
 
--- the context of a line's first text: no option was added, and temporaries are numbered from 1
+-- the context of a line's first text: no option was added, temporaries are numbered from 1, and their names contain the seed
 abbrev pub context_of : Line → Set → Prefixes → ℕ → Context
 context_of line set prefixes seed = record {
   switches = line.switches;
@@ -61,7 +62,7 @@ context_of line set prefixes seed = record {
   outputs = [];
 }
 
--- before the first text
+-- the progress before the first text
 abbrev pub begun : Context → Progress
 begun C = record { context = C; notices = []; jobs = []; outputs = []; passed_on = [] }
 
@@ -76,13 +77,15 @@ after_text worked g = record g {
 abbrev pub worked : Facts → List ℕ → Progress → Planned (Job × Progress)
 worked F text g = then_by (of_text (outcome F g.context (tree_of text))) (λ done. Is (Ok (done.job, after_text done g)))
 
+-- the progress, with this source as the input of the next text
 abbrev pub for_source : Source → Progress → Progress
 for_source source g = record g { context = record g.context { input = Some source } }
 
--- the link takes the outputs
+-- the context of the link's text: no input, and all outputs
 abbrev pub for_link : Progress → Progress
 for_link g = record g { context = record g.context { input = None; outputs = g.outputs }; outputs = [] }
 
+-- the output of a job, if it has one
 abbrev pub output_list : Option (List ℕ) → List (List ℕ)
 output_list None = []
 output_list (Some output) = output ∷ []
@@ -108,12 +111,13 @@ abbrev pub with_source : Facts → ℕ → Source → List ℕ → Progress → 
 with_source F place source text g = then_by (worked F text (for_source source g))
     (λ done. Is (Ok (after_job (of_source place done.0) done.1)))
 
--- a file, by its language
+-- the progress after a file, by its language
 abbrev pub with_file : Facts → ℕ → List ℕ → Result (Option Chosen) PlanFault → Progress → Planned Progress
 with_file F place name (Err fault) g = Is (Err fault)
 with_file F place name (Ok None) g = Is (Ok (after_object name g))
 with_file F place name (Ok (Some c)) g = with_source F place (record { name = name; language = c.name }) c.text g
 
+-- the progress after one more input
 abbrev pub with_input : Facts → Set → ℕ → Input → Progress → Planned Progress
 with_input F set place (File name language) g = with_file F place name (chosen_for set (File name language)) g
 with_input F set place (Library word) g = Is (Ok (after_word word g))
@@ -128,6 +132,7 @@ with_inputs F set place (input ∷ inputs) g = then_by (with_input F set place i
 abbrev pub with_command : Job → Option Job
 with_command job = if length job.groups == 0 then None else Some job
 
+-- a job without commands is no link
 abbrev pub linked : Job × Progress → Option Job × Progress
 linked done = (with_command done.0, done.1)
 
@@ -136,10 +141,11 @@ abbrev pub with_text : Facts → Option (List ℕ) → Progress → Planned (Opt
 with_text F None g = Is (Ok (None, g))
 with_text F (Some text) g = then_by (worked F text (for_link g)) (λ done. Is (Ok (linked done)))
 
+-- the link; without outputs there is none
 abbrev pub with_link : Facts → Set → Progress → Planned (Option Job × Progress)
 with_link F set g = if length g.outputs == 0 then Is (Ok (None, g)) else with_text F (text_of set (codes "link_command")) g
 
--- a word between two texts
+-- a word with a text before it and one after it
 abbrev pub between : List ℕ → List ℕ → List ℕ → List ℕ
 between before after word = before ++ word ++ after
 
@@ -152,6 +158,7 @@ unused None names = map (between (codes "warning: ") (codes ": linker input file
 abbrev pub notices : Option Job → Progress → List (List ℕ)
 notices link g = g.notices ++ unused link g.passed_on
 
+-- the plan of a link and a progress
 abbrev pub plan_of : Option Job × Progress → Plan
 plan_of done = record { notices = notices done.0 done.1; jobs = done.1.jobs; link = done.0 }
 

@@ -18,6 +18,7 @@ abbrev pub or_before : Option (List ℕ) → Bool → List ℕ → Option (List 
 or_before (Some later) fits text = Some later
 or_before None fits text = if fits then Some text else None
 
+-- the text of the last pair whose key fits
 abbrev pub last_text : (List ℕ → Bool) → List (List ℕ × List ℕ) → Option (List ℕ)
 last_text fits [] = None
 last_text fits (pair ∷ pairs) = or_before (last_text fits pairs) (fits pair.0) pair.1
@@ -36,9 +37,11 @@ pub data PairText : Type 0 where
   Alias : List ℕ → PairText  -- another name of this language
   Worked : List ℕ → PairText  -- a text that is worked
 
+-- what the text of a pair means
 abbrev pub pair_meaning : List ℕ → PairText
 pair_meaning text = if is_not_installed text then Missing (drop 1 text) else if is_alias text then Alias (drop 1 text) else Worked text
 
+-- the meaning of the last pair whose key fits
 abbrev pub last_pair : Set → (List ℕ → Bool) → Option PairText
 last_pair set fits = option_map pair_meaning (last_text fits set.pairs)
 
@@ -54,10 +57,11 @@ in_language language (Some (Alias other)) = Err (UnknownLanguage language)
 in_language language (Some (Missing compiler)) = Err (NotInstalled compiler)
 in_language language (Some (Worked text)) = Ok (record { name = Some language; text = text })
 
+-- the text of a language
 abbrev pub by_language : Set → List ℕ → Result Chosen PlanFault
 by_language set language = in_language language (last_pair set (is_of_language language))
 
--- it is chosen
+-- a text was chosen for the input, or the choice is refused
 abbrev pub chosen : Result Chosen PlanFault → Result (Option Chosen) PlanFault
 chosen (Ok c) = Ok (Some c)
 chosen (Err fault) = Err fault
@@ -69,10 +73,11 @@ with_suffix set (Some (Alias language)) = chosen (by_language set language)
 with_suffix set (Some (Missing compiler)) = Err (NotInstalled compiler)
 with_suffix set (Some (Worked text)) = Ok (Some (record { name = None; text = text }))
 
+-- the text for a name, by its suffix
 abbrev pub by_suffix : Set → List ℕ → Result (Option Chosen) PlanFault
 by_suffix set name = with_suffix set (last_pair set (is_suffix_of name))
 
--- standard input
+-- whether a name means standard input
 abbrev pub is_standard_input : List ℕ → Bool
 is_standard_input name = pointwise nat_eq name (hyphen ∷ [])
 

@@ -38,6 +38,7 @@ file_part place name (Ok (Some c)) = Work (record { place = place; source = reco
 file_part place name (Ok None) = Object name ∷ []
 file_part place name (Err fault) = []
 
+-- the parts of the inputs, from this place on
 abbrev pub parts : Set → ℕ → List Input → List Part
 parts set place [] = []
 parts set place (File name language ∷ inputs) = file_part place name (chosen_for set (File name language)) ++ parts set (place + 1) inputs
@@ -49,10 +50,12 @@ abbrev pub options_after : Option Outcome → List (List ℕ)
 options_after None = []
 options_after (Some o) = o.accumulated
 
+-- the number of the next temporary
 abbrev pub number_after : Option Outcome → ℕ
 number_after None = 1
 number_after (Some o) = o.next_number
 
+-- the context after a text
 abbrev pub context_after : Option Outcome → Context → Context
 context_after before C = record C { options = options_after before; number = number_after before }
 
@@ -87,7 +90,7 @@ link_words (Object name ∷ ps) os = name ∷ link_words ps os
 link_words (Word word ∷ ps) os = word ∷ link_words ps os
 link_words [] os = []
 
--- the files of the linker
+-- the names of the files of the linker
 abbrev pub objects : List Part → List (List ℕ)
 objects [] = []
 objects (Work t ∷ ps) = objects ps
@@ -105,13 +108,15 @@ pub record LinkWorked (F : Facts) (C : Context) (text : List ℕ) (link : Option
   pub link_is : link ≡ with_command o.job
   pub notices_are : notices ≡ o.notices
 
+-- the link and the notices are those of the link's text, or there is no link
 abbrev pub LinkIs : Facts → Context → Option (List ℕ) → Option Job → List (List ℕ) → Type 0
 LinkIs F C None link notices = (link ≡ None) × (notices ≡ [])
 LinkIs F C (Some text) link notices = LinkWorked F C text link notices
 
 -- Each source's text is run in the order of the line, with the options and numbers that the text before it leaves. These jobs are the jobs
 -- of the plan. The link's text is run last, over the words of the link. The notices are those of the texts in this order, followed by those
--- for the files that no link takes.
+-- for the files that no link takes. `prefixes` are where the line's files are searched (`prefixes_are`). `outcomes` are those of the
+-- sources' texts (`each`). The names of temporaries contain the `seed`.
 pub record IsPlanOf (F : Facts) (line : Line) (set : Set) (seed : ℕ) (plan : Plan) : Type 0 where
   pub prefixes : Prefixes
   pub prefixes_are : prefixes_of F line.settings.prefixes ≡ Is prefixes

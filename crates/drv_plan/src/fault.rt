@@ -29,6 +29,7 @@ impl From<AllocError> for PlanFault {
 
     ghost from_gives = { λ _ fault. fault ≡ Memory };
 
+    /// `?` turns a refused allocation into `Memory`.
     fn from(_refused: AllocError) -> PlanFault {
         PlanFault::Memory
     }
@@ -40,6 +41,7 @@ impl<T: Drop> From<AllocFailed<T>> for PlanFault {
 
     ghost from_gives = { λ _ fault. fault ≡ Memory };
 
+    /// `?` turns a refused allocation into `Memory`, and drops what had no room.
     fn from(_refused: AllocFailed<T>) -> PlanFault {
         PlanFault::Memory
     }
@@ -51,6 +53,7 @@ impl From<MachineFault> for PlanFault {
 
     ghost from_gives = { λ refused fault. fault ≡ lifted refused };
 
+    /// `?` turns the refusal of a text into that of the plan, and lack of memory into `Memory`.
     fn from(refused: MachineFault) -> PlanFault {
         match refused {
             MachineFault::Memory => PlanFault::Memory,

@@ -1,5 +1,6 @@
 //! The language of an input, and its text.
 
+// In clauses: `Gives` says that a result is the defined one, or lack of memory.
 ghost use Rattle.drv_plan.specs.Languages.{by_language, by_suffix, is_of_language};
 ghost use Rattle.drv_plan.specs.Languages.{is_standard_input, is_suffix_of, chosen_for, last_pair};
 ghost use Rattle.drv_plan.specs.Languages.{last_text, pair_meaning};
@@ -85,6 +86,7 @@ fn is_suffix_of(name: &[u8], key: &[u8]) -> bool
     if !end_alike(name, key) {
         return false;
     }
+    // A name that is all suffix, such as `.c`, has none; a key with @ is a language.
     !begins_with_at(key) && key.len() < name.len() && name.ends_with(key)
 }
 
@@ -104,6 +106,7 @@ fn last_place(wanted: Wanted<'_>, pairs: &[(Word, Word)]) -> Option<usize>
         ≡ last_text (fits wanted.entry) pairs.now }
 {
     let mut left = pairs.len();
+    // From the end: the last pair that fits counts.
     while left > 0 {
         left -= 1;
         if fits(wanted, pairs[left].0.as_bytes()) {
@@ -134,6 +137,7 @@ fn pair_meaning<'a>(tree: Option<&'a SpecTree>, text: &'a [u8]) -> PairText<'a>
         (Some(tree), _) => PairText::Worked(tree),
         (None, [b'#', compiler @ ..]) => PairText::Missing(compiler),
         (None, [_, language @ ..]) => PairText::Alias(language),
+        // An empty text is one to run, which has a tree.
         (None, []) => unreachable!(),
     }
 }

@@ -1,5 +1,6 @@
 //! Laws about plans.
 
+// In clauses: `Is` is a value that the facts give. The names of temporaries contain the `seed`.
 ghost use Rattle.drv_args.specs.declared.line.Line.{Line};
 ghost use Rattle.drv_plan.specs.Denoted.{denoted};
 ghost use Rattle.drv_plan.specs.Plans.{IsPlanOf};

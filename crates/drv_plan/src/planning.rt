@@ -1,5 +1,8 @@
 //! The plan of a line.
 
+// In clauses: `Extends F G` says that G has every answer of F. `GivesKnown` says that a result is
+// the one defined over the facts, or lack of memory. `Asked` says that a call only asked, and that
+// the table has the answers.
 ghost use Rattle.drv_machine.specs.declared.fault.MachineFault.TheVariants as machine;
 ghost use Rattle.drv_plan.specs.Denoted.{denoted, finished, plan_of, planned, then_by};
 ghost use Rattle.drv_plan.specs.Denoted.{with_command, with_inputs, with_link, with_text};
@@ -30,6 +33,7 @@ const LINK_COMMAND: &[u8] = b"link_command";
 fn with_command(job: Job) -> Option<Job>
     ensures { result ≡ with_command job }
 {
+    // A link's text may give no command, and then nothing is linked.
     if job.groups.is_empty() {
         None
     } else {

@@ -1,5 +1,8 @@
 //! The progress of a plan: what goes on from one input of the line to the next.
 
+// In clauses: `GivesKnown` says that a result is the one defined over the facts, or lack of memory.
+// `Extends F G` says that G has every answer of F. `Asked` says that a call only asked, and that
+// the table has the answers.
 ghost use Rattle.drv_machine.specs.declared.fault.MachineFault.TheVariants as machine;
 ghost use Rattle.drv_plan.specs.Denoted.{begun, after_job, after_object, after_text, after_word};
 ghost use Rattle.drv_plan.specs.Denoted.{for_link, of_source, output_list, with_source, worked};

@@ -1,5 +1,8 @@
 //! The inputs of a line, one after another. For a source the text of its language is run.
 
+// In clauses: `GivesKnown` says that a result is the one defined over the facts, or lack of memory.
+// `Extends F G` says that G has every answer of F. `Asked` says that a call only asked, and that
+// the table has the answers.
 ghost use Rattle.drv_machine.specs.declared.fault.MachineFault.TheVariants as machine;
 ghost use Rattle.drv_plan.specs.Denoted.{with_file, with_input, with_inputs};
 ghost use Rattle.drv_system.specs.Asking.{Extends};

@@ -7,6 +7,7 @@ use Rattle.std.proofs.Common.{◌∙◌, None, Some, ap, if◌then◌else◌, op
 
 -- last_pair (src/languages.rt). The meaning of the last pair whose key fits.
 
+-- the tree at the place of the pair is that of its text
 pub pair_meaning-requires : goal.pair_meaning-requires
 pair_meaning-requires c =
     c.pair_tree.ensures

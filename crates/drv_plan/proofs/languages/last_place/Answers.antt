@@ -13,6 +13,7 @@ returns-then-fits c =
     (omega (arith, c.loop-left-test.true)) (omega (arith, c.loop-left-test.true, c.loop-left.invariant.within)) c.index-pairs-left.is
     (c.as_bytes.ensures ∙ ap (λ pair. pair.0) (sym c.index-pairs-left.is)) c.fits.ensures c.if-fits.true c.loop-left.invariant.rest
 
+-- the pair at hand doesn't fit, so the earlier ones decide
 pub loop-left-preserved : goal.loop-left-preserved
 loop-left-preserved c = record {
   within = omega (arith, c.loop-left.invariant.within);

@@ -5,9 +5,11 @@ use Rattle.std.proofs.Common.{◌≡◌, ◌≤◌, length, take}
 
 -- The loops of last_place (src/languages.rt). The index of the last pair whose key fits.
 
+-- fewer pairs are left each turn, so the loop ends
 abbrev pub decreases-loop-left : goal.decreases-loop-left
 decreases-loop-left l = l.left
 
+-- no later pair fits, so the last one that fits is among those that are left
 abbrev pub invariant-loop-left : goal.invariant-loop-left
 invariant-loop-left l = record {
   within : l.left ≤ length l.pairs;

@@ -5,6 +5,7 @@ use Rattle.std.proofs.Common.{Some, refl}
 
 -- link_of (src/planning.rt). The link, if there is something to link and a text for it.
 
+-- there are outputs and a text for the link, which is processed
 pub returns-in-Some-clause-works : goal.returns-in-Some-clause-works
 returns-in-Some-clause-works g c F e =
     given_alike _ c.link_with.result (with_text F (Some c.in-Some.text.now) c.args.progress.now)

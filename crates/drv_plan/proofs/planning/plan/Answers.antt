@@ -8,6 +8,7 @@ use Rattle.std.proofs.Common.{rules}
 -- plan (src/planning.rt). The plan of a line with its specs: each source, with the text of its language, in the order of the line, and the
 -- link, if there is one (GCC manual, "Overall Options" and "Spec Files").
 
+-- the prefixes are known, so the plan is that of the inputs in this context
 pub returns-clause-plans : goal.returns-clause-plans
 returns-clause-plans g c F e =
     let known : Extends c.planned.new.outside.facts.now F = search rules in

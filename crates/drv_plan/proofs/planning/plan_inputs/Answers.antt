@@ -5,6 +5,7 @@ use Rattle.drv_system.proofs.AskedCalls.{extends_before}
 
 -- plan_inputs (src/planning.rt). The plan of the inputs after those that are done.
 
+-- the refusal of an input is that of the plan
 pub returns-in_err-add_inputs-clause-works : goal.returns-in_err-add_inputs-clause-works
 returns-in_err-add_inputs-clause-works g c F e =
     refusal_given c.in_err-add_inputs.field-0.0 c.from_residual.result _
@@ -13,6 +14,7 @@ returns-in_err-add_inputs-clause-works g c F e =
     (inputs_refused F c.args.set.now c.args.inputs.now c.args.progress.now c.in_err-add_inputs.field-0.0
     (c.in_err-add_inputs.ensures.works F e))
 
+-- after the inputs the plan is finished with the link
 pub returns-clause-works : goal.returns-clause-works
 returns-clause-works g c F e =
     given_alike _ c.finish.result (finished F c.args.set.now c.add_inputs.new.progress)

@@ -6,6 +6,7 @@ use Rattle.std.proofs.Common.{Ok, ap, ◌∙◌}
 
 -- add_file (src/sources.rt). Adds a file: runs its text, or leaves it to the linker.
 
+-- a file with a text is a source, which is processed
 pub returns-clause-works : goal.returns-clause-works
 returns-clause-works g c F e =
     given_alike _ c.add_source.result (with_source F c.args.place c.source_of-source.result c.chosen.inside.tree.now c.args.progress.now)

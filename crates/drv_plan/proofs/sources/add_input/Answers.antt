@@ -18,6 +18,7 @@ returns-in_err-chosen-in-File-clause-works g c F e =
     (language_refused F c.args.set.now c.args.place c.args.input.now c.args.progress.now c.in_err-chosen-in-File.field-0.0
     c.in_err-chosen-in-File.ensures)
 
+-- a file, with what was chosen for it
 pub returns-in_ok-chosen-in-File-clause-works : goal.returns-in_ok-chosen-in-File-clause-works
 returns-in_ok-chosen-in-File-clause-works g c F e =
     given_alike _ c.add_file.result (with_file F c.args.place c.in-File.name (Ok c.in_ok-chosen-in-File.chosen) c.args.progress.now)

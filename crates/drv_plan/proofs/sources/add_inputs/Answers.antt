@@ -5,6 +5,7 @@ use Rattle.drv_system.proofs.AskedCalls.{asked_further, extends_before}
 
 -- add_inputs (src/sources.rt). Adds the inputs of a line in order.
 
+-- the refusal of an input is that of all
 pub returns-in_err-add_input-clause-works : goal.returns-in_err-add_input-clause-works
 returns-in_err-add_input-clause-works g c F e =
     refusal_given c.in_err-add_input.field-0.0 c.from_residual.result _
@@ -14,6 +15,7 @@ returns-in_err-add_input-clause-works g c F e =
     c.loop-place-test.true c.index-inputs-place.is (c.in_err-add_input.ensures.works F e)
     (c.loop-place.invariant.rest F (extends_before c.add_input.ensures.asks e)))
 
+-- one more input was added
 pub loop-place-preserved : goal.loop-place-preserved
 loop-place-preserved g c = record {
   asks = asked_further c.loop-place.invariant.asks c.add_input.ensures.asks;

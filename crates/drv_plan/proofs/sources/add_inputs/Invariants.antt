@@ -7,6 +7,7 @@ use Rattle.std.proofs.Common.{◌≡◌, drop}
 
 -- The loops of add_inputs (src/sources.rt). Adds the inputs of a line in order.
 
+-- the progress so far, with the inputs that are left, gives what all inputs give; the call only asked
 abbrev pub invariant-loop-place : goal.invariant-loop-place
 invariant-loop-place g l = record {
   asks : Asked g.S.System.events l.fn.outside l.outside;

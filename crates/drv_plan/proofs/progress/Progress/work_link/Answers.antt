@@ -5,6 +5,7 @@ use Rattle.std.proofs.Common.{ap}
 
 -- work_link (src/progress.rt). Runs the text of the link, which takes all outputs.
 
+-- the link's text is processed without an input and with all outputs
 pub returns-clause-works : goal.returns-clause-works
 returns-clause-works g c F e =
     given_alike _ c.work.result (worked F c.args.text.now
