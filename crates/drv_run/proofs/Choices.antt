@@ -3,6 +3,7 @@ use Rattle.drv_core.specs.Run.{Run}
 use Rattle.std.proofs.Common.{◌≡◌, ◌<◌, subst, sym, ℕ}
 
 -- For `choose_source`: choosing a source changes no event, and each number below the choices can be chosen.
+-- Names: `s` is the run. `n` is the number of a choice.
 
 -- the number of choices depends on the plan, the window and the events alone
 pub choices_kept : (r s : Run) (n : ℕ) → ChoicesAre r.plan r.window r.events n → s.plan ≡ r.plan → s.window ≡ r.window → s.events ≡ r.events

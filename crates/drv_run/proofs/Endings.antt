@@ -16,6 +16,13 @@ use Rattle.std.proofs.lemmas.List.{append-nil}
 
 -- For `drive`: each way to end is one that the contract has (`Drove`): before its work is done, for a refusal or lack of memory; with its
 -- work done; or for lack of memory in its work.
+-- Names: `F` is what is known of the outside before the call. `F'` is what is known after the call. `G` is the facts of all answers of the
+-- call. `args` is the arguments of the call. `seed` is the number from which names of temporaries are made. `journal` is the journal
+-- before. `journal'` is the journal after. `journal''` is the journal after the work. `ending` is how the call ends. `work` is what the
+-- call is to do. `Comes F args seed result` says that arguments ask for this work, or end the call so. `Asks` says that a call only asked,
+-- and learned the answers. `Extends F G` says that G keeps every answer of F. `Drove` is the contract of a whole call. `run_of` is the
+-- events of a run among those of a journal. `pipe_pending` says that a pipe is pending after events. `learn F events` is the facts after
+-- events.
 
 -- the answers to the questions of a call that began with an empty table
 known : {journal journal' : List Event} {F F' : Facts} → F ≡ no_facts → (asks : Asks journal journal' F F') → F' ≡ learn no_facts asks.asked
@@ -98,7 +105,7 @@ work_ends_apart journal journal' work (Done status) does = tt
 work_ends_apart journal journal' work (Refused refusal) does = absurd does
 work_ends_apart journal journal' work OutOfMemory only = tt
 
--- questions leave no pipe pending
+-- after questions alone no pipe is pending
 pub no_pipe_after_questions : {journal journal' : List Event} {F F' : Facts} → Asks journal journal' F F'
     → pipe_pending (run_of journal) ≡ false → pipe_pending (run_of journal') ≡ false
 no_pipe_after_questions {journal} {F = F} asks before =

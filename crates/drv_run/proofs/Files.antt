@@ -16,6 +16,9 @@ use Rattle.std.specs.Prelude.{get_or}
 
 -- For `load_specs`: the files of -specs= are loaded one after another, over the built-in specs. `whole` is what the definition gives of all
 -- files.
+-- Names: `F` is what is known of the outside before the call. `set` is the specs. `prefixes` is where files are searched for. `names` is
+-- the files of -specs= that are left. `n` is how many files were loaded. `settings` is the settings of the line. `next` is the file that is
+-- loaded next. `files_loaded` is a set after spec files.
 
 -- what a file gives, and then the files after it
 abbrev then_files : Facts → Prefixes → List (List ℕ) → Known (Result Set SpecsFault) → Known (Result Set SpecsFault)

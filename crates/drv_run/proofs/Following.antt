@@ -24,6 +24,9 @@ use Rattle.std.specs.Prelude.{◌≡◌, ◌≤◌, ◌&&◌, ◌||◌, Bool, Li
 
 -- For `execute`: after a journal without a pending pipe, a run's events allow the same steps and answers as alone. The journal holds the
 -- questions and messages of a call beside the events of its run (`run_of`).
+-- Names: `journal` is the journal before. `events` is the events of the run so far. `before` is the events before them. `plan` is the plan.
+-- `s` is a step. `a` and `b` are tests. `run_of` is the events of a run among those of a journal. `pipe_pending` says that a pipe is
+-- pending after events. `fits events step answer` says that the answer fits.
 
 -- the events of a run are those that the journal has of it
 pub run_is : (events : List RunEvent) → run_of (map Run events) ≡ events
@@ -34,6 +37,7 @@ run_is (e ∷ events) = ap (λ rest. e ∷ rest) (run_is events)
 pub run_after : (journal : List Event) (events : List RunEvent) → run_of (journal ++ map Run events) ≡ run_of journal ++ events
 run_after journal events = run_of-append journal (map Run events) ∙ ap (λ rest. run_of journal ++ rest) (run_is events)
 
+-- two tests that hold together, hold each
 and_parts : (a b : Bool) → (a && b) ≡ true → (a ≡ true) × (b ≡ true)
 and_parts true b e = (refl, e)
 and_parts false b e = absurd cc
@@ -76,6 +80,7 @@ new_rest id (e ∷ before) events is = new_rest id before events
     by false b e = e
     by true b e = absurd cc
 
+-- a number that is new after all events is new after the later ones
 start_rest : (before events : List RunEvent) (x : StartAnswer) → fits_start (before ++ events) x ≡ true → fits_start events x ≡ true
 start_rest before events (start.Started id) is = new_rest id before events is
 start_rest before events (start.NotStarted why) is = is

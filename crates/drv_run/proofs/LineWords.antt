@@ -11,6 +11,10 @@ use Rattle.drv_system.specs.Facts.{Facts}
 use Rattle.std.proofs.Common.{◌≡◌, ◌⊎◌, Bool, Err, IsErrAnd, List, Ok, Result, inl, inr, subst, sym, ℕ}
 
 -- For `words_of`: the words of a line (response files expanded, and the words of c99 turned into the driver's), or why there are none.
+-- Names: `F` is what is known of the outside before the call. `args` is the arguments of the call. `result` is the words of the line, or
+-- how the call ends without them. `expanded` is the words after the response files. `words` is the words of the line. `Expands` says what
+-- an expansion of response files gives. `fronted is_c99 words` turns words of c99 into the driver's. `after_c99 args` is the arguments
+-- without --c99. `stopped_by_args` is the ending for a fault of the words or the line. `is_c99 args` says that the first argument is --c99.
 
 -- a call without words, by another name for its ending
 stopped_as : (F : Facts) (args : List (List ℕ)) (ending : Ending) (result : Result Expanded Ending) → IsErrAnd result (λ e. e ≡ ending)

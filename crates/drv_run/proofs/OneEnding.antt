@@ -19,11 +19,17 @@ use Rattle.std.proofs.Common.{◌≡◌, ◌∙◌, Bool, Err, List, Ok, Result,
 
 -- For one_ending: arguments ask for one work or are refused for one reason, and never both. The lemmas go step by step: words, line, specs,
 -- work; each step has one result.
+-- Names: `F` is what is known of the outside before the call. `args` is the arguments of the call. `seed` is the number from which names of
+-- temporaries are made. `a` is the words of the line. `b` is them a second time. `l` is the line. `m` is the line a second time. `fault` is
+-- a refusal. `Words F args words` says that the arguments give these words. `line_read words` is the line of words, or a refusal.
+-- `after_c99 args` is the arguments without --c99. `Expands` says what an expansion of response files gives. `work_of` is the work for a
+-- line with its specs. `fronted is_c99 words` turns words of c99 into the driver's. `is_c99 args` says that the first argument is --c99.
 
+-- words, and whether a response file replaced one
 abbrev expanded_by : (words : List (List ℕ)) (from_file : Bool) → Expanded
 expanded_by words from_file = record { words = words; from_file = from_file }
 
--- words expand to one list
+-- arguments expand to one list of words
 one_expanded : (F : Facts) (args : List (List ℕ)) (a b : Expanded) → Expands F 2000 args (Ok a) → Expands F 2000 args (Ok b) → a ≡ b
 one_expanded F args a b (left, responds, is) (left', responds', is') =
     let same = responds_once F 2000 left left' args a.words b.words responds responds' in
@@ -36,6 +42,7 @@ one_front : (F : Facts) (args : List (List ℕ)) (a b : Expanded) (x y : Result 
 one_front F args a b x y expands expands' fronts fronts' =
     sym fronts ∙ ap (fronted (is_c99 args)) (one_expanded F (after_c99 args) a b expands expands') ∙ fronts'
 
+-- arguments give one list of words
 one_words : (F : Facts) (args : List (List ℕ)) (a b : Expanded) → Words F args a → Words F args b → a ≡ b
 one_words F args a b w v =
     let same : Ok a ≡ Ok b = one_front F args w.expanded v.expanded (Ok a) (Ok b) w.expands v.expands w.fronts v.fronts in cc
@@ -70,17 +77,18 @@ one_work F args seed a b l m s t x y gives gives' reads reads' loads loads' work
     let same : s ≡ t = cc in
     let e : Is x ≡ Is y = sym works ∙ ap (λ line. work_of F line s seed) lines ∙ ap (λ set. work_of F m set seed) same ∙ works' in cc
 
--- arguments ask for one work
+-- arguments ask for one work, and no other
 pub driven_once : (F : Facts) (args : List (List ℕ)) (seed : ℕ) (a b : Work) → Drives F args seed a → Drives F args seed b → a ≡ b
 driven_once F args seed a b d e =
     let same : Ok a ≡ Ok b = one_work F args seed d.words e.words d.line e.line d.set e.set (Ok a)
     (Ok b) d.gives e.gives d.reads e.reads d.loads e.loads d.works e.works in cc
 
--- words that expand aren't refused
+-- words that expand are not refused in the expansion
 not_both : (F : Facts) (args : List (List ℕ)) (a : Expanded) (fault : ArgsFault) → Expands F 2000 args (Ok a)
     → RefusesExpansion F 2000 args fault → ⊥
 not_both F args a fault (left, responds, is) refused = responds_alone F 2000 left args a.words fault responds refused
 
+-- arguments that give words are not refused in the expansion
 not_worded : (F : Facts) (args : List (List ℕ)) (a : Expanded) (fault : ArgsFault) → Words F args a
     → RefusesExpansion F 2000 (after_c99 args) fault → ⊥
 not_worded F args a fault w refused = not_both F (after_c99 args) w.expanded fault w.expands refused

@@ -14,6 +14,7 @@ use Rattle.std.proofs.Common.{◌≡◌, ◌∙◌, ◌++◌, [], List, ap, ℕ}
 use Rattle.std.proofs.lemmas.List.{append-nil}
 
 -- For refused_does_nothing and shown_starts_nothing: a call that is refused, or whose plan is only shown (-###), makes no step of a run.
+-- Names: `run_of` is the events of a run among those of a journal. The names of temporaries contain the `seed`.
 
 -- a call that is refused asked, and did nothing else
 pub does_nothing : (journal later : List Event) (args : List (List ℕ)) (seed : ℕ) (refusal : Refusal)

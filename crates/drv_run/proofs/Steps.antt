@@ -32,6 +32,12 @@ use Rattle.std.specs.Prelude.{if◌then◌else◌}
 
 -- For `work_of`: the fault of each step (words, line, specs, plan) is the refusal of the call, and lack of memory in any of them ends it
 -- out of memory.
+-- Names: `F` is what is known of the outside before the call. `args` is the arguments of the call. `seed` is the number from which names of
+-- temporaries are made. `ending` is how the call ends. `set` is the specs. `line` is the line that was read. `result` is the work, or how
+-- the call ends without it. `words` is the words of the line. `fault` is the fault of a step. `Comes F args seed result` says that
+-- arguments ask for this work, or end the call so. `stopped_by_args` is the ending for a fault of the words or the line. `Refuses` says
+-- that arguments are refused for this reason. `work_of` is the work for a line with its specs. `Words F args words` says that the arguments
+-- give these words. `line_read words` is the line of words, or a refusal.
 
 -- a call that ends without work
 ended_as : (F : Facts) (args : List (List ℕ)) (seed : ℕ) (ending : Ending) (result : Result Work Ending) → IsErrAnd result (λ e. e ≡ ending)

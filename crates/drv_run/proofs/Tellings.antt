@@ -20,7 +20,11 @@ use Rattle.std.proofs.lemmas.List.{append-nil}
 
 -- For `do_work`: the texts that a call prints (notices, and with -v the commands), and the run after them. Only a run makes steps, so
 -- questions and texts leave no pipe pending.
+-- Names: `journal` is the journal before. `journal'` is the journal after. `plan` is the plan. `name` is the name of the program, for its
+-- messages. `said` is what was said: messages for the user, and printed texts. `run_of` is the events of a run among those of a journal.
+-- `pipe_pending` says that a pipe is pending after events. `AreSaid` says that events are no steps of a run.
 
+-- to print a text makes no step of a run
 said_only : (text : List ℕ) (status : ℕ) (said : List Event) → Says text status said → AreSaid said
 said_only [] status said is = subst (λ events. AreSaid events) (sym is.1) tt
 said_only (b ∷ text) status said is = subst (λ events. AreSaid events) (sym is.1) tt

@@ -33,15 +33,17 @@ status_of Failed = 1
 abbrev pub notice_line : List ℕ → List ℕ → List ℕ
 notice_line name notice = name ++ codes ": " ++ notice ++ newline ∷ []
 
+-- the notices, each on a line
 abbrev pub notices_text : List ℕ → List (List ℕ) → List ℕ
 notices_text name = flat_map (notice_line name)
 
--- events that say a text, with the exit status: an empty text is not said, any other is said once
+-- a text is printed by one event; an empty text by none. The status is that of the answer.
 abbrev pub Says : List ℕ → ℕ → List Event → Type 0
 Says [] status said = (status ≡ 0) × (said ≡ [])
 Says (b ∷ text) status said = (answer : TellAnswer) × (said ≡ Say (b ∷ text) answer ∷ []) × (status ≡ status_of answer)
 
--- A plan is said: its notices, and then its commands. The status is that of the latter.
+-- A plan is said: its notices, and then its commands. The status is that of the latter. `notices` and `commands` are the two parts of what
+-- is said (`joined`). `noticed` is the status of the notices, which has no effect.
 pub record Shows (name : List ℕ) (plan : Plan) (status : ℕ) (said : List Event) : Type 0 where
   pub notices : List Event
   pub commands : List Event
@@ -55,7 +57,8 @@ abbrev pub Announces : List ℕ → Telling → Plan → List Event → Type 0
 Announces name Commands plan said = (status : ℕ) × Shows name plan status said
 Announces name Notices plan said = (status : ℕ) × Says (notices_text name plan.notices) status said
 
--- A plan is carried out after that, and the status is that of its run.
+-- A plan is carried out after that, and the status is that of its run. `announced` is what is said before the run, and `ran` is its events
+-- (`joined`).
 pub record CarriesOut (name : List ℕ) (plan : Plan) (manner : Manner) (status : ℕ) (said : List Event) : Type 0 where
   pub announced : List Event
   pub ran : List Event
@@ -87,6 +90,7 @@ OnlySays journal journal' = (said : List Event) × (journal' ≡ journal ++ said
 abbrev pub IsWindow : ℕ → Type 0
 IsWindow n = (1 ≤ n) × (n ≤ 64)
 
+-- work that is carried out has a window from 1 to 64
 abbrev pub HasWindow : Work → Type 0
 HasWindow (Dump text) = ⊤
 HasWindow (Show plan) = ⊤
@@ -107,7 +111,8 @@ pub record OnlyAsked (journal journal' : List Event) : Type 0 where
   pub journal_grows : journal' ≡ journal ++ asked
   pub no_step : run_of journal' ≡ run_of journal
 
--- A call: it asked what it did not know, and its ending is that of the answers to these questions alone.
+-- A call: it asked what it did not know, and its ending is that of the answers to these questions alone. `asked` is the questions of the
+-- call, each asked once (`questions`). `said` is what it said and ran after them. The names of temporaries contain the `seed`.
 pub record Drove (journal journal' : List Event) (args : List (List ℕ)) (seed : ℕ) (ending : Ending) : Type 0 where
   pub asked : List Event
   pub said : List Event

@@ -47,6 +47,7 @@ abbrev pub is_c99 : List (List ℕ) → Bool
 is_c99 [] = false
 is_c99 (word ∷ words) = pointwise nat_eq word (codes "--c99")
 
+-- the arguments without an initial --c99
 abbrev pub after_c99 : List (List ℕ) → List (List ℕ)
 after_c99 args = if is_c99 args then drop 1 args else args
 
@@ -55,6 +56,7 @@ abbrev pub with_words : Bool → Result (List (List ℕ)) C99Fault → Result Ex
 with_words from_file (Ok words) = Ok (record { words = words; from_file = from_file })
 with_words from_file (Err fault) = Err fault
 
+-- the driver's words for those of c99; others are the driver's already
 abbrev pub fronted : Bool → Expanded → Result Expanded C99Fault
 fronted true expanded = with_words expanded.from_file (front_of expanded.words)
 fronted false expanded = Ok expanded
@@ -104,6 +106,7 @@ manner_of settings = record { telling = telling_of settings; pass_codes = failur
 abbrev pub work_with : Settings → Plan → Work
 work_with settings plan = if settings.dry then Show plan else CarryOut plan (manner_of settings)
 
+-- the work for a plan
 abbrev pub worked : Settings → Known (Result Plan PlanFault) → Known (Result Work PlanFault)
 worked settings Unasked = Unasked
 worked settings (Is (Err fault)) = Is (Err fault)
@@ -115,6 +118,8 @@ work_of F line set seed = if line.settings.dump then Is (Ok (Dump (dumped set)))
 
 -- What arguments ask for. What words expand to is a relation, of which the law `one_expansion` says that it has one value or one refusal,
 -- and never both; what follows are functions. So arguments ask for one work, or have one refusal, and never both: the law `one_ending`.
+-- `words` is what the arguments expand to (`gives`), `line` is read from these (`reads`), and `set` is the specs that the line asks for
+-- (`loads`). `works` gives the work. The names of temporaries contain the `seed`.
 pub record Drives (F : Facts) (args : List (List ℕ)) (seed : ℕ) (work : Work) : Type 0 where
   pub words : Expanded
   pub line : Line
@@ -142,15 +147,18 @@ abbrev pub stopped_by_args : ArgsFault → Ending
 stopped_by_args args_fault.Memory = OutOfMemory
 stopped_by_args fault = Refused (Args fault)
 
+-- how a fault of the front of c99 ends the call
 abbrev pub stopped_by_c99 : C99Fault → Ending
 stopped_by_c99 c99_fault.Memory = OutOfMemory
 stopped_by_c99 fault = Refused (NoFront fault)
 
+-- how a fault of the specs does
 abbrev pub stopped_by_specs : SpecsFault → Ending
 stopped_by_specs specs_fault.Memory = OutOfMemory
 stopped_by_specs (specs_fault.Syntax name syntax_fault.Memory) = OutOfMemory
 stopped_by_specs fault = Refused (NoSpecs fault)
 
+-- how a fault of the plan does
 abbrev pub stopped_by_plan : PlanFault → Ending
 stopped_by_plan plan_fault.Memory = OutOfMemory
 stopped_by_plan (plan_fault.Machine (machine_fault.Search search_fault.Memory)) = OutOfMemory

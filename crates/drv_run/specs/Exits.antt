@@ -5,7 +5,7 @@ use Rattle.std.specs.Prelude.{List, [], codes, ℕ}
 
 -- How the process of a call ends (GCC manual, "Invoking GCC"; this project's profile).
 
--- its exit status
+-- the exit status of a call that ended so
 abbrev pub exit_status_of : Ending → ℕ
 exit_status_of (Done status) = status
 exit_status_of ending = 1

@@ -9,9 +9,11 @@ use Rattle.std.specs.Prelude.{◌≡◌, Err, List, Ok, Result, ℕ}
 -- The line of a call (GCC manual, "Overall Options"): the words that its arguments give, read. What hasn't a line is refused so whatever
 -- its seed.
 
+-- these arguments give this line
 abbrev pub ReadsLine : Facts → List (List ℕ) → Line → Type 0
 ReadsLine F args line = (words : Expanded) × Words F args words × (line_read words ≡ Ok line)
 
+-- they give this line, or end the call so with any seed
 abbrev pub ComesLine : Facts → List (List ℕ) → Result Line Ending → Type 0
 ComesLine F args (Ok line) = ReadsLine F args line
 ComesLine F args (Err ending) = (seed : ℕ) → Comes F args seed (Err ending)

@@ -25,6 +25,7 @@ use Rattle.std.specs.Prelude.{◌++◌, List, codes, decimal, ℕ}
 abbrev pub around : List ℕ → List ℕ → List ℕ → List ℕ
 around before word after = before ++ word ++ after
 
+-- the text of a fault of the words or the line
 abbrev pub args_text : ArgsFault → List ℕ
 args_text args_fault.Memory = codes "out of memory"
 args_text args_fault.TooManyFiles = codes "too many @-files"
@@ -37,6 +38,7 @@ args_text args_fault.StdinNeedsLanguage = codes "-E or -x required when input is
 args_text args_fault.OutputWithMany = codes "cannot specify -o with -c, -S or -E with multiple files"
 args_text (args_fault.OutputIsInput input) = around (codes "input file '") input (codes "' is the same as output file")
 
+-- of the front of c99
 abbrev pub c99_text : C99Fault → List ℕ
 c99_text c99_fault.Memory = codes "out of memory"
 c99_text (c99_fault.UnknownOption word) = around (codes "c99: unknown option '") word (codes "'")
@@ -44,10 +46,12 @@ c99_text (c99_fault.MissingArgument option) = around (codes "c99: missing argume
 c99_text c99_fault.NoOperand = codes "c99: no operand"
 c99_text (c99_fault.BadLevel argument) = around (codes "c99: bad optimization level '") argument (codes "'")
 
+-- of a search
 abbrev pub search_text : SearchFault → List ℕ
 search_text search_fault.Memory = codes "out of memory"
 search_text (search_fault.ScriptMissing name) = around (codes "linker script '") name (codes "' not found")
 
+-- of a function of spec texts
 abbrev pub funcs_text : FuncsFault → List ℕ
 funcs_text funcs_fault.Memory = codes "out of memory"
 funcs_text (funcs_fault.VariableMissing name) = around (codes "environment variable '") name (codes "' not defined")
@@ -56,6 +60,7 @@ funcs_text (funcs_fault.BadVersion word) = around (codes "bad version '") word (
 funcs_text (funcs_fault.NotInLink function) = name_of function ++ codes " is for the link alone"
 funcs_text (funcs_fault.BadOperator word) = around (codes "bad comparison '") word (codes "'")
 
+-- of processing a spec text
 abbrev pub machine_text : MachineFault → List ℕ
 machine_text machine_fault.Memory = codes "out of memory"
 machine_text (machine_fault.UserError text) = text
@@ -72,6 +77,7 @@ machine_text (machine_fault.Funcs fault) = funcs_text fault
 abbrev pub at_byte : List ℕ → ℕ → List ℕ
 at_byte what n = what ++ codes " at byte " ++ decimal n
 
+-- of a spec text's syntax
 abbrev pub syntax_text : SyntaxFault → List ℕ
 syntax_text syntax_fault.Memory = codes "out of memory"
 syntax_text (syntax_fault.BadDirective n) = at_byte (codes "bad directive") n
@@ -83,6 +89,7 @@ syntax_text (syntax_fault.UnknownFunction n) = at_byte (codes "unknown spec func
 syntax_text (syntax_fault.EmptyTest n) = at_byte (codes "empty test") n
 syntax_text syntax_fault.TextTooLong = codes "spec text too long"
 
+-- of a spec file
 abbrev pub specs_text : SpecsFault → List ℕ
 specs_text specs_fault.Memory = codes "out of memory"
 specs_text (specs_fault.NoSuchFile path) = around (codes "spec file '") path (codes "' not found")
@@ -97,12 +104,14 @@ specs_text (specs_fault.BadName name) = around (codes "bad spec name '") name (c
 specs_text specs_fault.TooManyIncludes = codes "too many spec files"
 specs_text (specs_fault.Syntax name fault) = around (codes "spec '") name (codes "': ") ++ syntax_text fault
 
+-- of a plan
 abbrev pub plan_text : PlanFault → List ℕ
 plan_text plan_fault.Memory = codes "out of memory"
 plan_text (plan_fault.Machine fault) = machine_text fault
 plan_text (plan_fault.UnknownLanguage name) = around (codes "language '") name (codes "' not recognized")
 plan_text (plan_fault.NotInstalled name) = name ++ codes " compiler not installed on this system"
 
+-- of any refusal
 abbrev pub refusal_text : Refusal → List ℕ
 refusal_text (Args fault) = args_text fault
 refusal_text (C99 fault) = c99_text fault

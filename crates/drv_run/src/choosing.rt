@@ -55,9 +55,11 @@ pub(crate) fn choose_source<S: System>(sys: &mut S, run: &mut Run<'_>)
     ensures made { run.new.events ≡ run.old.events }
 {
     let count = run.choices();
+    // Without another source to choose, a wait delays none.
     if count < 2 {
         return;
     }
+    // The bound makes the loop end by proof; with its pauses it is never reached.
     for _ in 0..u64::MAX {
         if choose_ready(sys, run, count) {
             return;

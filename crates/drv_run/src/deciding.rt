@@ -1,5 +1,10 @@
 //! What arguments ask for.
 
+// In clauses: `Extends F G` says that G has every answer of F. `Asked` says that a call only asked,
+// and that the table has the answers. `GivesKnown` says that a result is the one defined over the
+// facts, or lack of memory. `HasWindow` says that work which is carried out has a window from 1 to
+// 64. `IsApart` says that lack of memory is no refusal. `Asks` says that a call only asked: it
+// added new questions to the journal, and their answers to the table.
 ghost use Rattle.drv_machine.specs.declared.fault.MachineFault.TheVariants as machine_fault;
 ghost use Rattle.drv_plan.specs.declared.fault.PlanFault.TheVariants as plan_fault;
 ghost use Rattle.drv_run.specs.Calls.{HasWindow, IsWindow};

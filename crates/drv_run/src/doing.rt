@@ -1,5 +1,7 @@
 //! A work is done.
 
+// In clauses: `run_of` is the events of a run among those of a journal. `pipe_pending` says that a
+// pipe is pending after events. `OnlySays` says that only texts were said.
 ghost use Rattle.drv_run.specs.Calls.{DoesWork, HasWindow, OnlySays};
 ghost use Rattle.drv_run.specs.declared.work.Work.TheVariants.{CarryOut, Dump};
 ghost use Rattle.drv_system.specs.Running.{run_of};

@@ -1,5 +1,7 @@
 //! A call of the driver.
 
+// In clauses: `run_of` is the events of a run among those of a journal. `pipe_pending` says that a
+// pipe is pending after events. `IsApart` says that lack of memory is no refusal.
 ghost use Rattle.drv_run.specs.Calls.{Drove, HasWindow, Keeps};
 ghost use Rattle.drv_run.specs.Drives.{IsApart};
 ghost use Rattle.drv_run.specs.Code.Telling.{EndsWork};

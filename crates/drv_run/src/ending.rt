@@ -60,6 +60,7 @@ impl From<ArgsFault> for Ending {
 
     ghost from_gives = { λ fault ending. ending ≡ stopped_by_args fault };
 
+    /// `?` ends the call with this refusal; lack of memory is none.
     fn from(fault: ArgsFault) -> Ending {
         match fault {
             ArgsFault::Memory => Ending::OutOfMemory,
@@ -74,6 +75,7 @@ impl From<C99Fault> for Ending {
 
     ghost from_gives = { λ fault ending. ending ≡ stopped_by_c99 fault };
 
+    /// `?` ends the call with this refusal; lack of memory is none.
     fn from(fault: C99Fault) -> Ending {
         match fault {
             C99Fault::Memory => Ending::OutOfMemory,
@@ -88,6 +90,7 @@ impl From<SpecsFault> for Ending {
 
     ghost from_gives = { λ fault ending. ending ≡ stopped_by_specs fault };
 
+    /// `?` ends the call with this refusal; lack of memory is none, nor is it within a text.
     fn from(fault: SpecsFault) -> Ending {
         match fault {
             SpecsFault::Memory
@@ -106,6 +109,7 @@ impl From<AllocError> for Ending {
 
     ghost from_gives = { λ _ ending. ending ≡ OutOfMemory };
 
+    /// `?` ends the call out of memory.
     fn from(_refused: AllocError) -> Ending {
         Ending::OutOfMemory
     }
@@ -117,6 +121,7 @@ impl From<PlanFault> for Ending {
 
     ghost from_gives = { λ fault ending. ending ≡ stopped_by_plan fault };
 
+    /// `?` ends the call with this refusal; lack of memory is none, wherever it was noticed.
     fn from(fault: PlanFault) -> Ending {
         match fault {
             PlanFault::Memory

@@ -1,5 +1,7 @@
 //! A plan is carried out.
 
+// In clauses: `run_of` is the events of a run among those of a journal. `pipe_pending` says that a
+// pipe is pending after events.
 ghost use Rattle.drv_run.specs.Executed.{Executed};
 ghost use Rattle.drv_system.specs.Running.{run_of};
 ghost use Rattle.drv_words.specs.Stepping.{pipe_pending};

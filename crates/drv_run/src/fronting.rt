@@ -41,6 +41,7 @@ fn cut_front(args: Listing<Word>) -> (Front, Listing<Word>)
     ensures front { is_of_c99 result.0 ≡ is_c99 args }
     ensures following { result.1 ≡ after_c99 args }
 {
+    // The word itself is none of the line's.
     if is_c99(args.as_slice()) {
         let mut words = args.into_vec();
         let _ = words.remove(0);

@@ -1,5 +1,7 @@
 //! Laws of the definitions that the contracts cite.
 
+// In clauses: `Refuses` says why arguments are refused. The names of temporaries contain the
+// `seed`.
 ghost use Rattle.drv_args.specs.declared.line.Line.{Line};
 ghost use Rattle.drv_run.specs.Calls.{Does, Drove, OnlyAsked};
 ghost use Rattle.drv_run.specs.Drives.{Drives, Refuses, called_as, planned};

@@ -1,5 +1,6 @@
 //! The line of a call.
 
+// In clauses: `Extends F G` says that G has every answer of F.
 ghost use Rattle.drv_run.specs.LineReads.{ComesLine};
 ghost use Rattle.drv_system.specs.Asking.{Asks, Extends};
 ghost use Rattle.drv_system.specs.Code.Asked.{Asked};

@@ -1,5 +1,6 @@
 //! What the user reads of a plan.
 
+// In clauses: `OnlySays` says that only texts were said.
 ghost use Rattle.drv_run.specs.Calls.{OnlySays, notice_line, notices_text, status_of};
 ghost use Rattle.drv_run.specs.Code.Telling.{AnnouncesPlan, SaysText, ShowsPlan};
 ghost use Rattle.drv_words.specs.Lines.{lines_of};
@@ -28,6 +29,7 @@ fn say_text<S: System>(sys: &mut S, text: &Word) -> Result<u8, AllocError>
         (λ status. SaysText (S.events sys.old) (S.events sys.new) text.now status) }
     ensures memory { OnErr result (S.events sys.new ≡ S.events sys.old) }
 {
+    // An empty text is no event of the journal.
     if text.is_empty() {
         return Ok(0);
     }

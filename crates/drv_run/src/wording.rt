@@ -19,6 +19,7 @@ use drv_words::Word;
 use itoa::Buffer;
 use std::alloc::{AllocError, Global};
 
+/// The text of each fault that is lack of memory.
 const MEMORY: &[u8] = b"out of memory";
 
 /// Adds a word between two texts.

@@ -9,14 +9,15 @@ use Rattle.std.specs.Prelude.{◌≡◌, List, ◌++◌, codes, ℕ}
 
 -- The same of two journals, the one after the other. Only private clauses cite it.
 
--- a text was said
+-- between two journals a text was said, and nothing else
 abbrev pub SaysText : List Event → List Event → List ℕ → ℕ → Type 0
 SaysText journal journal' text status = (said : List Event) × (journal' ≡ journal ++ said) × Says text status said
 
--- a plan was said
+-- between two journals a plan was shown, and nothing else
 abbrev pub ShowsPlan : List ℕ → List Event → List Event → Plan → ℕ → Type 0
 ShowsPlan name journal journal' plan status = (said : List Event) × (journal' ≡ journal ++ said) × Shows name plan status said
 
+-- what the journal has after the plan was announced
 abbrev pub AnnouncesPlan : List ℕ → List Event → List Event → Telling → Plan → Type 0
 AnnouncesPlan name journal journal' telling plan = (said : List Event) × (journal' ≡ journal ++ said) × Announces name telling plan said
 

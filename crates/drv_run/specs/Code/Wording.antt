@@ -9,6 +9,7 @@ use Rattle.std.specs.Prelude.{◌≡◌, Err, List, Ok, Result, ℕ, ⊤}
 
 -- What the words of a line ask for. Only private clauses cite it: `Refuses` says what a call's refusals are.
 
+-- the words of a line, or its refusal
 abbrev pub GivesWords : Facts → List (List ℕ) → Result Expanded Ending → Type 0
 GivesWords F args (Ok words) = Words F args words
 GivesWords F args (Err OutOfMemory) = ⊤

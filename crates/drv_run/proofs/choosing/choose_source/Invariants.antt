@@ -5,6 +5,7 @@ use Rattle.std.proofs.Common.{◌≡◌, ◌≤◌}
 -- The loops of choose_source (src/choosing.rt). Has a source go on that need not wait, where several may; where each would wait, the one
 -- whose child is the first to end.
 
+-- each turn has as many choices, and has changed no event
 abbrev pub invariant-loop : goal.invariant-loop
 invariant-loop g l = record {
   choices : ChoicesAre l.run.plan l.run.window l.run.events l.count;

@@ -8,6 +8,7 @@ use Rattle.std.proofs.Common.{refl}
 
 -- load_files (src/deciding.rt). A set with files of specs loaded, in their order.
 
+-- the refusal of a file is that of all
 pub returns-in_err-loaded-clause-loads : goal.returns-in_err-loaded-clause-loads
 returns-in_err-loaded-clause-loads g c F e =
     refusal_given specs_fault.Memory c.in_err-loaded.field-0.0 c.from_residual.result _
@@ -17,6 +18,7 @@ returns-in_err-loaded-clause-loads g c F e =
     c.loop-name-test.true c.name-item.is (c.in_err-loaded.ensures.loads F e)
     (c.loop-name.invariant.rest F (extends_then (asks_extends c.with_file.ensures.asks) e)))
 
+-- one more file was loaded
 pub loop-name-preserved : goal.loop-name-preserved
 loop-name-preserved g c = record {
   asks = asked_further c.loop-name.invariant.asks (record { asks = c.with_file.ensures.asks; same_sys = refl; same_facts = refl });

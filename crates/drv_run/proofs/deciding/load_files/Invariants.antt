@@ -7,6 +7,7 @@ use Rattle.std.proofs.Common.{◌≡◌, drop}
 
 -- The loops of load_files (src/deciding.rt). A set with files of specs loaded, in their order.
 
+-- the set so far, with the files that are left, gives what all files give; the call only asked
 abbrev pub invariant-loop-name : goal.invariant-loop-name
 invariant-loop-name g l = record {
   asks : Asked g.S.System.events l.fn.outside l.outside;

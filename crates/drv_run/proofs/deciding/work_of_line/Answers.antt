@@ -19,6 +19,7 @@ returns-in_err-work-clause-comes g c F e args words gives reads =
     (planning_ends (work_of F c.args.line.now c.in_ok-set.set c.args.seed) c.in_err-work.field-0.0 c.from_residual-in_err-work.result
     c.from_residual-in_err-work.ensures.1 (c.in_err-work.ensures.works F e))
 
+-- words, line, specs and work are those that the arguments give
 pub returns-clause-comes : goal.returns-clause-comes
 returns-clause-comes g c F e args words gives reads = record {
   words = words;

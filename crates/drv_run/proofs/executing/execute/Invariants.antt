@@ -6,6 +6,7 @@ use Rattle.std.proofs.Common.{◌≡◌, ◌≤◌, ◌+◌, ◌-◌, ◌++◌, 
 -- The loops of execute (src/executing.rt). Carries out a plan, with at most `window` of its sources under way at once, and gives the exit
 -- status: 0, or that of a failure where a command failed or something was not made or started.
 
+-- the journal has the events of the run so far, and there is room for all that can come
 abbrev pub invariant-loop-status : goal.invariant-loop-status
 invariant-loop-status g l = record {
   journal : g.S.System.events l.sys ≡ g.S.System.events l.fn.sys ++ map Run l.run.events;
@@ -16,5 +17,6 @@ invariant-loop-status g l = record {
   window : l.run.window ≡ l.window;
 }
 
+-- a run has at most so many events, and each turn adds one
 abbrev pub decreases-loop-status : goal.decreases-loop-status
 decreases-loop-status g l = needed l.plan - length l.run.events

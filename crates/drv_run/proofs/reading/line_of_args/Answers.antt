@@ -11,6 +11,7 @@ returns-in_err-words-clause-comes g c F e =
     line_stops F c.args.args c.in_err-words.field-0.0 c.from_residual.result c.from_residual.ensures.1
     (λ seed. words_end F c.args.args seed c.in_err-words.field-0.0 (Err c.in_err-words.field-0.0) refl (c.in_err-words.ensures.gives F e))
 
+-- words that give no line end the call so, whatever the seed
 pub returns-in_err-line-clause-comes : goal.returns-in_err-line-clause-comes
 returns-in_err-line-clause-comes g c F e =
     line_stops F c.args.args (stopped_by_args c.in_err-line.field-0.0) c.from_residual-in_err-line.result
