@@ -6,6 +6,7 @@ use Rattle.std.specs.Prelude.{◌≡◌, ◌++◌, List, [], ◌∷◌, None, Op
 
 -- For the places of a plan: its jobs by their numbers.
 
+-- the job of the number after the sources is the link
 pub the_link : (jobs : List Job) (link : Option Job) (k : ℕ) → k ≡ length jobs
     → get_or (jobs ++ option_to_list link) k no_job ≡ unwrap_or link no_job
 the_link [] None k is = refl
@@ -13,6 +14,7 @@ the_link [] (Some job) k is = rw is refl
 the_link (job ∷ jobs) link zero is = absurd cc
 the_link (job ∷ jobs) link (suc k) is = the_link jobs link k (omega (arith, is))
 
+-- every other number is that of a source
 pub a_source : (jobs : List Job) (link : Option Job) (k : ℕ) → (k ≡ length jobs → ⊥)
     → unwrap_or (slice_get jobs k) no_job ≡ get_or (jobs ++ option_to_list link) k no_job
 a_source [] None k other = refl

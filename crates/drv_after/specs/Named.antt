@@ -9,6 +9,7 @@ use Rattle.std.specs.Prelude.{List, None, Option, slice_get, ℕ}
 
 -- What the places of a plan have (this project's profile). There is none where the plan has no such place, or the place is of another kind.
 
+-- the command at a place
 abbrev pub command_at : Plan → Place → Option Command
 command_at plan (place.Command k g i) = slice_get (group_at (job_at plan k) g) i
 command_at plan (place.Temp k i) = None

@@ -28,32 +28,38 @@ use Rattle.std.specs.Prelude.{Bool, List, [], ◌∷◌, ◌++◌, None, Option,
 
 -- what went wrong with a step, as the words for given answers say it
 
+-- a word for a claim that did not succeed
 abbrev pub claim_trouble : ClaimAnswer → Option (List ℕ)
 claim_trouble claim.Claimed = None
 claim_trouble claim.Taken = Some (codes "taken")
 claim_trouble claim.Failed = Some (codes "not-claimed")
 
+-- a word for why a start was refused
 abbrev pub refused_word : NotStarted → List ℕ
 refused_word refused.NotFound = codes "not-found"
 refused_word refused.Denied = codes "denied"
 refused_word refused.NoMemory = codes "no-memory"
 refused_word refused.Other = codes "not-started"
 
+-- a word for a start that was refused
 abbrev pub start_trouble : StartAnswer → Option (List ℕ)
 start_trouble (start.Started id) = None
 start_trouble (start.NotStarted why) = Some (refused_word why)
 
+-- the status of a command that did not end well, or a word
 abbrev pub wait_trouble : WaitAnswer → Option (List ℕ)
 wait_trouble (wait.Exit n) = if nat_eq n 0 then None else Some (decimal n)
 wait_trouble wait.Signal = Some (codes "signal")
 wait_trouble wait.Lost = Some (codes "lost")
 
+-- a word for a removal that did not find its file
 abbrev pub remove_trouble : RemoveAnswer → Option (List ℕ)
 remove_trouble remove.Removed = None
 remove_trouble remove.Missing = Some (codes "missing")
 remove_trouble remove.NotPlain = Some (codes "not-plain")
 remove_trouble remove.Failed = Some (codes "not-removed")
 
+-- a word for an answer that isn't well
 abbrev pub trouble : Answer → Option (List ℕ)
 trouble (answer.Claim x) = claim_trouble x
 trouble (answer.Start x) = start_trouble x
@@ -62,7 +68,7 @@ trouble (answer.Wait x) = wait_trouble x
 trouble (answer.Remove x) = remove_trouble x
 trouble (answer.Reported told) = None
 
--- the end of a line
+-- what a line says at its end if not all is well, and the newline
 abbrev pub trouble_text : Option (List ℕ) → List ℕ
 trouble_text None = newline ∷ []
 trouble_text (Some word) = codes ": " ++ word ++ newline ∷ []
@@ -72,23 +78,29 @@ abbrev pub name_text : Option (List ℕ) → List ℕ
 name_text None = []
 name_text (Some name) = space ∷ quoted name
 
+-- the program and the words of a command
 abbrev pub command_text : Option Command → List ℕ
 command_text None = []
 command_text (Some command) = words_text (command.program ∷ command.words)
 
+-- ` |` after a command that writes into a pipe
 abbrev pub pipe_text : Bool → List ℕ
 pipe_text to_pipe = if to_pipe then codes " |" else []
 
+-- the line of a start
 abbrev pub start_text : Option Command → Bool → List ℕ
 start_text command to_pipe = codes "start" ++ command_text command ++ pipe_text to_pipe
 
+-- a line's first word, and the name of its file
 abbrev pub named_text : List ℕ → Option (List ℕ) → List ℕ
 named_text what name = what ++ name_text name
 
+-- the line of a command that did not end well
 abbrev pub end_text : Option (List ℕ) → Option (List ℕ) → List ℕ
 end_text name None = []
 end_text name (Some word) = named_text (codes "end") name ++ trouble_text (Some word)
 
+-- the line of an event
 abbrev pub event_text : Plan → Step → Option (List ℕ) → List ℕ
 event_text plan (step.Claim p) what = named_text (codes "claim") (name_at plan p) ++ trouble_text what
 event_text plan (step.Start p from_pipe to_pipe) what = start_text (command_at plan p) to_pipe ++ trouble_text what
@@ -97,14 +109,18 @@ event_text plan (step.Wait p id) what = end_text (name_at plan p) what
 event_text plan (step.Remove p) what = named_text (codes "remove") (name_at plan p) ++ trouble_text what
 event_text plan (step.Report note) what = []
 
+-- the lines of all events
 abbrev pub events_text : Plan → List RunEvent → List ℕ
 events_text plan = flat_map (λ (e : RunEvent). event_text plan e.step (trouble e.answer))
 
+-- the line of the status
 abbrev pub status_text : ℕ → List ℕ
 status_text status = codes "status " ++ decimal status ++ newline ∷ []
 
+-- a line for each file that is left
 abbrev pub left_text : List (List ℕ) → List ℕ
 left_text = flat_map (λ path. codes "left" ++ name_text (Some path) ++ newline ∷ [])
 
+-- the whole text
 abbrev pub story : Plan → List RunEvent → ℕ → List ℕ
 story plan events status = events_text plan events ++ status_text status ++ left_text (left_from plan [] events)

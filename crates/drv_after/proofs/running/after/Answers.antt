@@ -16,6 +16,7 @@ answer-requires-clause-fits c =
     (answer_fits c.args.given.now c.loop-run.run.events (length c.events.result.now) c.in-Make.step c.answer_to.result
     (ap length c.events.ensures) c.loop-run.invariant.answered c.answer_to.ensures)
 
+-- one more step has its answer, and the first source that may go on does so
 pub loop-run-preserved : goal.loop-run-preserved
 loop-run-preserved c =
     let grew : c.answer.new.self.events ≡ c.loop-run.run.events ++ event c.in-Make.step c.answer_to.result ∷ [] =

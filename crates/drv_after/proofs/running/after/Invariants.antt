@@ -8,6 +8,7 @@ use Rattle.std.proofs.Common.{◌≡◌, ◌-◌, [], length}
 -- The loops of after (src/running.rt). The whole run of a plan, in which each step is answered by the first answer that is given for its
 -- place, or else that all is well.
 
+-- each event so far has the answer of its place, and its step is that of the first source that may go on
 abbrev pub invariant-loop-run : goal.invariant-loop-run
 invariant-loop-run l = record {
   plan : l.run.plan ≡ l.fn.plan;
@@ -18,5 +19,6 @@ invariant-loop-run l = record {
   first : IsOfFirst l.run.plan l.run.window l.run.events (step_in l.run.action);
 }
 
+-- a run has at most so many events, and each turn adds one
 abbrev pub decreases-loop-run : goal.decreases-loop-run
 decreases-loop-run l = needed l.run.plan - length l.run.events
