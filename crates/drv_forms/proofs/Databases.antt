@@ -9,8 +9,9 @@ use Rattle.std.proofs.lemmas.List.{drop_more}
 use Rattle.std.specs.List.{flat_map}
 use Rattle.std.specs.Prelude.{get_or}
 
--- The entries of jobs, one after another.
+-- The entries of jobs, one after another. For `put_entry` and `put_entries` (src/database.rt).
 
+-- the tokens of entries before others are those of each, one after another
 some_more : {A : Type 0} (f : A → Json) (xs ys : List A)
     → items_tokens (items_json f (xs ++ ys)) ≡ flat_map (λ x. json_tokens (f x)) xs ++ items_tokens (items_json f ys)
 some_more f [] ys = refl
@@ -20,6 +21,7 @@ some_more f (x ∷ xs) ys =
 
 -- an object, member by member
 
+-- a member's name, its value, and the rest of the object make the object
 pub named_then : {X E : Type 0} (t : Token) (xs ys before a b c : List Token) (result : Result X E) → a ≡ before ++ t ∷ [] → b ≡ a ++ xs
     → OnOk result (c ≡ b ++ ys) → OnOk result (c ≡ before ++ t ∷ (xs ++ ys))
 named_then t xs ys before a b c (Err e) one two three = three
@@ -27,6 +29,7 @@ named_then t xs ys before a b c (Ok x) one two three =
     three ∙ ap (λ l. l ++ ys) (two ∙ ap (λ l. l ++ xs) one) ∙ append_assoc (before ++ t ∷ []) xs ys
     ∙ append_assoc before (t ∷ []) (xs ++ ys)
 
+-- for `put_entry`: three values, of which the second and third have their own keys (k and l), make the object
 pub named_two : {X E : Type 0} (t k l : Token) (xs ys zs before a b c d : List Token) (result : Result X E) → a ≡ before ++ t ∷ []
     → b ≡ a ++ k ∷ xs
     → c ≡ b ++ l ∷ ys → OnOk result (d ≡ c ++ zs) → OnOk result (d ≡ before ++ t ∷ (k ∷ (xs ++ l ∷ (ys ++ zs))))
@@ -35,6 +38,7 @@ named_two t k l xs ys zs before a b c d (Ok x) one two three four =
     four ∙ ap (λ m. m ++ zs) three ∙ append_assoc b (l ∷ ys) zs ∙ ap (λ m. m ++ l ∷ (ys ++ zs)) (two ∙ ap (λ m. m ++ k ∷ xs) one)
     ∙ append_assoc (before ++ t ∷ []) (k ∷ xs) (l ∷ (ys ++ zs)) ∙ append_assoc before (t ∷ []) (k ∷ (xs ++ l ∷ (ys ++ zs)))
 
+-- `put_entries` has written the entries of one job more: those of the jobs that are left complete the text
 pub entries_next : (directory : List ℕ) (names : List (List ℕ)) (n : ℕ) (jobs : List Job) (job : Job) (before after whole : List Token)
     → n < length jobs → job ≡ get_or jobs n job
     → after ≡ before ++ flat_map (λ entry. json_tokens (entry_json directory entry)) (entry_of names job)

@@ -13,26 +13,32 @@ use Rattle.std.proofs.Common.{refl, ap, ◌∙◌, arith, ℕ}
 use Rattle.std.proofs.lemmas.Fmt.{decimal_is_IsNumeral}
 use Rattle.std.specs.Str.{is_utf8}
 
--- For `plan_json`: the plan that is read from a plan's JSON is that plan.
+-- For `plan_json` (src/json_form.rt): the plan that is read from a plan's JSON is that plan.
 
+-- what is read first is there, and so is what is read after it: a step of the proofs of `job_back` and `plan_back`
 goes_on : {A B : Type 0} (o : Option A) (x : A) (f : A → Option B) (y : Option B) → o ≡ Some x → f x ≡ y → option_and_then f o ≡ y
 goes_on o x f y is gives = ap (option_and_then f) is ∙ gives
 
+-- what is read last is there: the last step of these proofs
 ends : {A B : Type 0} (o : Option A) (x : A) (f : A → B) → o ≡ Some x → option_map f o ≡ Some (f x)
 ends o x f is = ap (option_map f) is
 
+-- a list is read back from its array, if each item is
 items_back : {A : Type 0} (f : A → Json) (g : Json → Option A) (P : A → Type 0) → ((x : A) → P x → g (f x) ≡ Some x) → (xs : List A)
     → Each P xs → all_of g (items_json f xs) ≡ Some xs
 items_back f g P back [] each = refl
 items_back f g P back (x ∷ xs) each =
     goes_on (g (f x)) x _ _ (back x each.0) (ends (all_of g (items_json f xs)) xs _ (items_back f g P back xs each.1))
 
+-- a number is read back from its digits
 number_back : (n : ℕ) → IsNumber n → number_of (number_json n) ≡ Some n
 number_back n is = ap Some (decimal_is_IsNumeral n is).1
 
+-- bytes are read back from a list of numbers
 bytes_back : (word : List ℕ) → IsWord word → all_of number_of (items_json number_json word) ≡ Some word
 bytes_back = items_back number_json number_of (λ byte. byte < 256) (λ byte is. number_back byte (omega arith))
 
+-- a word is read back from its string, or from its list of bytes
 word_back : (word : List ℕ) → IsWord word → word_of (word_json word) ≡ Some word
 word_back word is = by (is_utf8 word) (bytes_back word is)
   where
@@ -41,13 +47,16 @@ word_back word is = by (is_utf8 word) (bytes_back word is)
     by true back = refl
     by false back = back
 
+-- words are read back from their array
 words_back : (words : List (List ℕ)) → Each IsWord words → words_of (words_json words) ≡ Some words
 words_back = items_back word_json word_of IsWord word_back
 
+-- the number of a source is read back, or that there is none
 source_back : (source : Option ℕ) → Maybe IsNumber source → option_of number_of (option_json number_json source) ≡ Some source
 source_back None is = refl
 source_back (Some n) is = ap (option_map Some) (number_back n is)
 
+-- an output is read back, or that there is none
 output_back : (output : Option (List ℕ)) → Maybe IsWord output → option_of word_of (option_json word_json output) ≡ Some output
 output_back None is = refl
 output_back (Some word) is = by (is_utf8 word) (bytes_back word is)
@@ -57,17 +66,21 @@ output_back (Some word) is = by (is_utf8 word) (bytes_back word is)
     by true back = refl
     by false back = ap (option_map Some) back
 
+-- a command is read back: its words' array is not empty, since the program is the first
 command_back : (command : Command) → IsCommand command → command_of (command_json command) ≡ Some command
 command_back command is = ap (option_and_then command_from) (words_back (command.program ∷ command.words) is)
 
+-- a group is read back
 group_back : (group : List Command) → Each IsCommand group → group_of (group_json group) ≡ Some group
 group_back = items_back command_json command_of IsCommand command_back
 
+-- a temporary is read back, member by member
 temp_back : (temp : Temp) → IsTemp temp → temp_of (temp_json temp) ≡ Some temp
 temp_back temp is =
     goes_on (word_of (word_json temp.path)) temp.path _ _ (word_back temp.path is.0)
     (ends (word_of (word_json temp.contents)) temp.contents _ (word_back temp.contents is.1))
 
+-- a job is read back, member by member
 job_back : (job : Job) → IsJob job → job_of (job_json job) ≡ Some job
 job_back job is =
     goes_on (option_of number_of (option_json number_json job.source)) job.source _ _ (source_back job.source is.source)
@@ -79,10 +92,12 @@ job_back job is =
     (goes_on (words_of (words_json job.on_failure)) job.on_failure _ _ (words_back job.on_failure is.on_failure)
     (ends (option_of word_of (option_json word_json job.output)) job.output _ (output_back job.output is.output))))))
 
+-- the link is read back, or that there is none
 link_back : (link : Option Job) → Maybe IsJob link → option_of job_of (option_json job_json link) ≡ Some link
 link_back None is = refl
 link_back (Some job) is = ap (option_map Some) (job_back job is)
 
+-- a plan whose numbers and bytes fit is read back: nothing of it is lost in JSON
 pub plan_back : (plan : Plan) → IsPlan plan → plan_of (plan_json plan) ≡ Some plan
 plan_back plan is =
     goes_on (words_of (words_json plan.notices)) plan.notices _ _ (words_back plan.notices is.notices)

@@ -6,23 +6,25 @@ use Rattle.std.proofs.Common.{length, nat_lt, refl, sym, ap, ◌∙◌, append_a
 use Rattle.std.proofs.lemmas.Bool.{eqb-true}
 use Rattle.std.specs.List.{list_all}
 
--- For `shell_word`: the shell reads a word that was written for it as that word.
+-- For `shell_word` (src/shell.rt): the shell reads a word that was written for it as that word.
 
--- bytes, and bytes before them
+-- bytes before a word's rest, and others before these, are all together before it
 together : (front bytes : List ℕ) (rest : Option Rest)
     → option_map (after_bytes front) (option_map (after_bytes bytes) rest) ≡ option_map (after_bytes (front ++ bytes)) rest
 together front bytes None = refl
 together front bytes (Some rest) = ap (λ word. Some (record { going_on = Some word; words = rest.words }))
     (sym (append_assoc front bytes (bytes_of rest.going_on)))
 
+-- of two tests that hold together each holds
 split_true : (a b : Bool) → (a && b) ≡ true → (a ≡ true) × (b ≡ true)
 split_true true b both = (refl, both)
 split_true false b both = absurd cc
 
--- plain bytes mean themselves
+-- a plain byte means itself
 plain_byte : (b : ℕ) (text : List ℕ) → is_plain b ≡ true → read Outside (b ∷ text) ≡ option_map (after_bytes (b ∷ [])) (read Outside text)
 plain_byte b text plain = rw plain refl
 
+-- a word of plain bytes is read as itself
 plain_read : (b : ℕ) (word rest : List ℕ) → list_all is_plain (b ∷ word) ≡ true
     → read Outside (b ∷ word ++ rest) ≡ option_map (after_bytes (b ∷ word)) (read Outside rest)
 plain_read b [] rest plain = plain_byte b rest (split_true (is_plain b) true plain).0
@@ -32,7 +34,7 @@ plain_read b (c ∷ word) rest plain =
     ∙ ap (option_map (after_bytes (b ∷ []))) (plain_read c word rest both.1)
     ∙ together (b ∷ []) (c ∷ word) (read Outside rest)
 
--- what is between single quotes
+-- what is between single quotes is read as the word, up to the quote that ends it
 inside_read : (word rest : List ℕ) → read Quoted (inside word ++ 39 ∷ rest) ≡ option_map (after_bytes word) (read Outside rest)
 inside_read [] rest = refl
 inside_read (b ∷ word) rest = by (b == 39) refl (inside_read word rest)
@@ -48,7 +50,7 @@ inside_read (b ∷ word) rest = by (b == 39) refl (inside_read word rest)
         ∙ ap (λ c. option_map (after_bytes (c ∷ word)) (read Outside rest)) (sym (eqb-true b 39 is))
     by false is later = rw is (ap (option_map (after_bytes (b ∷ []))) later ∙ together (b ∷ []) word (read Outside rest))
 
--- a word in either form
+-- a word in either form, bare or between quotes, is read as itself before what follows
 word_read : (word rest : List ℕ) → read Outside (shell_word word ++ rest) ≡ option_map (after_bytes word) (read Outside rest)
 word_read word rest = by (is_bare word) refl
   where
@@ -64,6 +66,7 @@ word_read word rest = by (is_bare word) refl
         ∙ ap (option_map (after_bytes [])) (inside_read word rest)
         ∙ together [] word (read Outside rest)
 
+-- a line of words with a blank before each is read as these words
 line_read : (words : List (List ℕ)) → read Outside (shell_text words) ≡ Some (record { going_on = None; words = words })
 line_read [] = refl
 line_read (word ∷ words) =
@@ -71,9 +74,11 @@ line_read (word ∷ words) =
     ∙ ap (λ r. option_map after_blank (option_map (after_bytes word) r)) (line_read words)
     ∙ ap (λ w. Some (record { going_on = None; words = w ∷ words })) (append-nil word)
 
+-- for `shell_line` (src/shell.rt): the shell reads its text as the words
 pub words_read : (text : List ℕ) (words : List (List ℕ)) → text ≡ shell_text words → shell_words text ≡ Some words
 words_read text words is = ap shell_words is ∙ ap (option_map (λ rest. words_of rest.going_on rest.words)) (line_read words)
 
+-- for `shell_word` (src/shell.rt): the shell reads its text as the one word
 pub one_read : (text word : List ℕ) → text ≡ shell_word word → shell_words text ≡ Some (word ∷ [])
 one_read text word is =
     ap shell_words (is ∙ sym (append-nil (shell_word word)))

@@ -6,11 +6,13 @@ use Rattle.std.proofs.Common.{◌≡◌, ◌∷◌, [], Bool, false, true, List,
 use Rattle.std.proofs.lemmas.Str.{IsUtf8-from_is_utf8, is_utf8-from_IsUtf8}
 use Rattle.std.specs.Str.{IsUtf8, is_utf8}
 
--- For `plan_json`: a word is a string if its bytes are UTF-8, or else a list of bytes.
+-- For `plan_json` (src/json_form.rt): a word is a string if its bytes are UTF-8, or else a list of bytes.
 
+-- a word whose bytes are UTF-8 is a string
 pub text_word : (word : List ℕ) → IsUtf8 word → word_json word ≡ string word
 text_word word is = rw (is_utf8-from_IsUtf8 word is) refl
 
+-- a word of other bytes is a list of numbers
 pub bytes_word : (word : List ℕ) → ¬ (IsUtf8 word) → word_json word ≡ list_json number_json word
 bytes_word word isnt = by (is_utf8 word) refl
   where
@@ -18,9 +20,11 @@ bytes_word word isnt = by (is_utf8 word) refl
     by true is = absurd (isnt (IsUtf8-from_is_utf8 word is))
     by false is = refl
 
+-- `put_word` writes a word of text as one token
 pub text_tokens : (word text : List ℕ) → text ≡ word → IsUtf8 word → Token.string text ∷ [] ≡ json_tokens (word_json word)
 text_tokens word text is utf8 = ap (λ t. Token.string t ∷ []) is ∙ sym (ap json_tokens (text_word word utf8))
 
+-- `put_word` writes another word byte by byte
 pub bytes_tokens : (word bytes : List ℕ) → bytes ≡ word → ¬ (IsUtf8 word)
     → json_tokens (list_json number_json bytes) ≡ json_tokens (word_json word)
 bytes_tokens word bytes is isnt = ap (λ b. json_tokens (list_json number_json b)) is ∙ sym (ap json_tokens (bytes_word word isnt))

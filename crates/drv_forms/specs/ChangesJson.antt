@@ -6,11 +6,13 @@ use Rattle.std.specs.Prelude.{List, codes}
 
 -- What differs between two plans as a value of JSON (RFC 8259; the names of members are this project's profile): for each change the line of
 -- the one plan and that of the other.
+-- For clauses of src/changes_json.rt. drv_why cites it too.
 
 -- a line: its command, and whether that is piped into the next one
 abbrev pub line_json : PlanLine → Json
 line_json line = object (member (codes "command") (command_json line.command) (member (codes "piped") (boolean line.piped) no_members))
 
+-- a change as an object: null where one of the plans has no line
 abbrev pub change_json : LineChange → Json
 change_json change =
     object
@@ -18,5 +20,6 @@ change_json change =
     (member (codes "other") (option_json line_json change.other)
     no_members))
 
+-- changes as an array
 abbrev pub changes_json : List LineChange → Json
 changes_json = list_json change_json

@@ -11,12 +11,15 @@ use Rattle.std.specs.Prelude.{List, [], ◌∷◌, ◌++◌, None, Option, Some,
 
 -- A plan as a compilation database (Clang, "JSON Compilation Database Format Specification"): an entry for each source. It has the folder
 -- that its words are relative to, its name, its first command, which reads it, and its output, if that has a name.
+-- For clauses of src/database.rt. gdrv_specs cites it too.
 
+-- an entry of the database: the source, the command that reads it, and what that job makes
 pub record Entry : Type 0 where
   pub file : List ℕ
   pub command : Command
   pub output : Option (List ℕ)
 
+-- the first of a list, if there is one
 abbrev pub first_of : {A : Type 0} → List A → Option A
 first_of [] = None
 first_of (x ∷ xs) = Some x
@@ -35,12 +38,15 @@ abbrev pub entry_with : Job → Option (List ℕ) → Option Command → List En
 entry_with job (Some file) (Some command) = record { file = file; command = command; output = job.output } ∷ []
 entry_with job file command = []
 
+-- the entry of a job, if it has one: a link has none
 abbrev pub entry_of : List (List ℕ) → Job → List Entry
 entry_of names job = entry_with job (source_name names job.source) (first_command job)
 
+-- the entries of a plan, one for each source
 abbrev pub entries : List (List ℕ) → Plan → List Entry
 entries names plan = flat_map (entry_of names) plan.jobs
 
+-- the member for an entry's output, if it has a name
 abbrev pub output_member : Option (List ℕ) → Members
 output_member None = no_members
 output_member (Some word) = member (codes "output") (word_json word) no_members
@@ -49,6 +55,7 @@ output_member (Some word) = member (codes "output") (word_json word) no_members
 abbrev pub made_members : Command → Option (List ℕ) → Members
 made_members command output = member (codes "arguments") (command_json command) (output_member output)
 
+-- an entry as an object
 abbrev pub entry_json : List ℕ → Entry → Json
 entry_json directory entry =
     object

@@ -10,64 +10,82 @@ use Rattle.std.specs.List.{flat_map, list_any}
 use Rattle.std.specs.Prelude.{Bool, List, [], ◌∷◌, ◌++◌, None, Option, Some, if◌then◌else◌, map, nat_eq, ℕ}
 
 -- What differs between two plans: their lines, as they are printed, are compared one by one in their order.
+-- For clauses of src/comparing.rt. drv_why and gdrv_specs cite it too.
 
+-- a line that only the second plan has
 abbrev pub added : PlanLine → LineChange
 added line = record { line = None; other = Some line }
 
+-- a line that only the first plan has
 abbrev pub removed : PlanLine → LineChange
 removed line = record { line = Some line; other = None }
 
+-- a line of the first plan, and the one that the second has in its place
 abbrev pub replaced : PlanLine → PlanLine → LineChange
 replaced line other = record { line = Some line; other = Some other }
 
+-- what differs between two lines at one place, if their texts do
 abbrev pub pair_changes : PlanLine → PlanLine → List LineChange
 pair_changes line other = if pointwise nat_eq (line_text line) (line_text other) then [] else replaced line other ∷ []
 
+-- what differs between lines, place by place; the longer list has the rest
 abbrev pub lines_changes : List PlanLine → List PlanLine → List LineChange
 lines_changes [] others = map added others
 lines_changes (line ∷ lines) [] = removed line ∷ lines_changes lines []
 lines_changes (line ∷ lines) (other ∷ others) = pair_changes line other ++ lines_changes lines others
 
+-- what differs between two plans, as gdrv-specs diff and why report it
 abbrev pub changes : Plan → Plan → List LineChange
 changes plan other = lines_changes (lines_of plan) (lines_of other)
 
 -- The same as text (POSIX XCU 4 "diff": - precedes a line of the first, and + one of the second). The words that only one of two lines has
 -- follow them: those of the first after <, those of the second after >.
 
+-- the words of a command, its program first
 abbrev pub words_of : Command → List (List ℕ)
 words_of command = command.program ∷ command.words
 
+-- whether a word is one of a command's
 abbrev pub is_among : List (List ℕ) → List ℕ → Bool
 is_among words word = list_any (pointwise nat_eq word) words
 
+-- a line for a word, after a mark: as a shell reads the word
 abbrev pub word_line : ℕ → List ℕ → List ℕ
 word_line mark word = mark ∷ byte.space ∷ quoted word ++ byte.newline ∷ []
 
+-- a line for a word, unless the other command has the word too
 abbrev pub word_text : ℕ → List (List ℕ) → List ℕ → List ℕ
 word_text mark others word = if is_among others word then [] else word_line mark word
 
+-- the words that only one of two commands has, each on a line of its own
 abbrev pub only_text : ℕ → Command → Command → List ℕ
 only_text mark command other = flat_map (word_text mark (words_of other)) (words_of command)
 
+-- a line of a plan after a mark
 abbrev pub marked_line : ℕ → PlanLine → List ℕ
 marked_line mark line = mark ∷ line_text line
 
+-- a line that differs: both lines, and then the words that only one of them has
 abbrev pub changed_text : PlanLine → PlanLine → List ℕ
 changed_text line other =
     marked_line byte.hyphen line ++ marked_line byte.plus other
     ++ only_text byte.less_than line.command other.command ++ only_text byte.greater_than other.command line.command
 
+-- a change as text, by which of the two plans has a line there
 abbrev pub sides_text : Option PlanLine → Option PlanLine → List ℕ
 sides_text None None = []
 sides_text None (Some other) = marked_line byte.plus other
 sides_text (Some line) None = marked_line byte.hyphen line
 sides_text (Some line) (Some other) = changed_text line other
 
+-- a change as text
 abbrev pub change_text : LineChange → List ℕ
 change_text change = sides_text change.line change.other
 
+-- changes as text, one after another
 abbrev pub changes_text : List LineChange → List ℕ
 changes_text = flat_map change_text
 
+-- what differs between two plans, as text; it is empty where they are printed alike
 abbrev pub difference : Plan → Plan → List ℕ
 difference plan other = changes_text (changes plan other)

@@ -4,6 +4,7 @@ use Rattle.drv_forms.specs.declared.pieces.Piece.{Piece}
 use Rattle.std.specs.Prelude.{◌++◌, List, codes, ℕ}
 
 -- The fixed texts of a script of the shell (POSIX XCU 2 "Shell Command Language", and there 2.14 "set", "trap"; XCU 4 "command").
+-- For clauses of src/pieces.rt.
 
 unfoldable pub text : Piece → List ℕ
 -- the head of the script: its functions, and what is removed at its end. The positional parameters are those files; 4 is standard output,

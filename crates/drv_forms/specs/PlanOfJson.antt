@@ -9,19 +9,24 @@ use Rattle.std.specs.Str.Parse.{digits_value}
 
 -- The plan that a value of JSON shows. Members may come in any order, and of one that comes twice the first counts; a member
 -- that a plan doesn't have is passed over.
+-- For clauses of src/json_form.rt.
 
+-- the number that a value shows, if it is one
 abbrev pub number_of : Json → Option ℕ
 number_of (number digits) = Some (digits_value 10 digits)
 number_of json = None
 
+-- the values of an array's items, if f reads each of them
 abbrev pub all_of : {A : Type 0} → (Json → Option A) → Items → Option (List A)
 all_of f no_items = Some []
 all_of f (item json items) = option_and_then (λ x. option_map (λ xs. x ∷ xs) (all_of f items)) (f json)
 
+-- the list that an array shows
 abbrev pub list_of : {A : Type 0} → (Json → Option A) → Json → Option (List A)
 list_of f (array items) = all_of f items
 list_of f json = None
 
+-- what may be there: null shows that it isn't
 abbrev pub option_of : {A : Type 0} → (Json → Option A) → Json → Option (Option A)
 option_of f null = Some None
 option_of f (boolean b) = option_map Some (f (boolean b))
@@ -30,14 +35,17 @@ option_of f (string text) = option_map Some (f (string text))
 option_of f (array items) = option_map Some (f (array items))
 option_of f (object members) = option_map Some (f (object members))
 
+-- the word that a value shows: a string, or the list of its bytes
 abbrev pub word_of : Json → Option (List ℕ)
 word_of (string text) = Some text
 word_of (array items) = all_of number_of items
 word_of json = None
 
+-- the words that an array shows
 abbrev pub words_of : Json → Option (List (List ℕ))
 words_of = list_of word_of
 
+-- the first member of a name
 abbrev pub named : List ℕ → Members → Option Json
 named name no_members = None
 named name (member key json members) = if bytes_eq name key then Some json else named name members
@@ -52,12 +60,15 @@ abbrev pub command_from : List (List ℕ) → Option Command
 command_from [] = None
 command_from (program ∷ words) = Some (record { program = program; words = words })
 
+-- the command that an array of words shows; an empty one shows none
 abbrev pub command_of : Json → Option Command
 command_of json = option_and_then command_from (words_of json)
 
+-- the group that an array shows: its commands in the order of the pipe
 abbrev pub group_of : Json → Option (List Command)
 group_of = list_of command_of
 
+-- the temporary that an object shows
 abbrev pub temp_of : Json → Option Temp
 temp_of json =
     option_and_then (λ path.
@@ -65,6 +76,7 @@ temp_of json =
     (field (codes "contents") word_of json))
     (field (codes "path") word_of json)
 
+-- the job that an object shows
 abbrev pub job_of : Json → Option Job
 job_of json =
     option_and_then (λ source.
@@ -88,6 +100,7 @@ job_of json =
     (field (codes "groups") (list_of group_of) json))
     (field (codes "source") (option_of number_of) json)
 
+-- the plan that an object shows, if its members are those of one
 abbrev pub plan_of : Json → Option Plan
 plan_of json =
     option_and_then (λ notices.

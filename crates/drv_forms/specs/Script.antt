@@ -14,11 +14,13 @@ use Rattle.std.specs.Prelude.{List, [], ◌∷◌, ◌++◌, None, Option, Some,
 -- temporary is claimed where nothing has its name. A job stops at its first fault and removes its failure files, if a command of it was
 -- started; the other sources go on, and the link runs where all succeeded. At the end temporaries that were claimed and marked files are
 -- removed, plain files alone. The status is 0, or 1 where something failed.
+-- For clauses of src/scripting.rt. gdrv_specs cites it too.
 
 -- the words of a command
 abbrev pub command_text : Command → List ℕ
 command_text command = shell_text (command.program ∷ command.words)
 
+-- a notice, said on standard error in the driver's name
 abbrev pub notice_text : List ℕ → List ℕ
 notice_text notice = text Say ++ spaced (text Driver ++ notice) ++ text ToError
 
@@ -26,9 +28,11 @@ notice_text notice = text Say ++ spaced (text Driver ++ notice) ++ text ToError
 abbrev pub kept_text : List ℕ → List ℕ
 kept_text path = text Keep ++ spaced path
 
+-- a marked file, which is removed at the end
 abbrev pub marked_text : List ℕ → List ℕ
 marked_text path = kept_text path ++ newline ∷ []
 
+-- a temporary, which is claimed and then removed at the end
 abbrev pub temp_text : Temp → List ℕ
 temp_text temp = text Claim ++ spaced temp.path ++ spaced temp.contents ++ text Then ++ kept_text temp.path ++ text ThenNext
 
@@ -41,6 +45,7 @@ abbrev pub pipe_text : Command → List Command → List ℕ
 pipe_text first others =
     text Start ++ spaced first.program ++ text Pipe ++ command_text first ++ flat_map member_text others ++ text EndPipe
 
+-- the commands of a group: one is run alone, and several in a pipe
 abbrev pub group_text : List Command → List ℕ
 group_text [] = []
 group_text (command ∷ []) = text Run ++ command_text command ++ text ThenNext
@@ -50,6 +55,7 @@ group_text (first ∷ command ∷ commands) = pipe_text first (command ∷ comma
 abbrev pub fault_text : List (List ℕ) → List ℕ
 fault_text on_failure = text Fault ++ shell_text on_failure ++ text EndFault
 
+-- what the script does for a job
 abbrev pub steps_text : Job → List ℕ
 steps_text job =
     flat_map marked_text job.marked ++ text NotStarted
@@ -60,12 +66,15 @@ abbrev pub job_if : List (List Command) → Job → List ℕ
 job_if [] job = []
 job_if (group ∷ groups) job = steps_text job
 
+-- a job, if it has any group
 abbrev pub job_text : Job → List ℕ
 job_text job = job_if job.groups job
 
+-- the link, which runs where no source failed
 abbrev pub link_text : Option Job → List ℕ
 link_text None = []
 link_text (Some job) = text Unless ++ job_text job
 
+-- the script of a plan: gdrv-specs plan --sh prints it
 abbrev pub script : Plan → List ℕ
 script plan = text Opening ++ flat_map notice_text plan.notices ++ flat_map job_text plan.jobs ++ link_text plan.link ++ text Status

@@ -5,6 +5,7 @@ use Rattle.std.specs.Prelude.{◌==◌, List, [], ◌∷◌, ◌++◌, None, Opt
 
 -- Words of the shell's language that mean themselves: no parameter, substitution, pattern or tilde in them (POSIX XCU 2.2 "Quoting", 2.3
 -- "Token Recognition").
+-- For clauses of src/shell.rt.
 
 -- Reading them.
 
@@ -19,10 +20,12 @@ pub record Rest : Type 0 where
   pub going_on : Option (List ℕ)
   pub words : List (List ℕ)
 
+-- the bytes of a word that goes on, or none
 abbrev pub bytes_of : Option (List ℕ) → List ℕ
 bytes_of None = []
 bytes_of (Some bytes) = bytes
 
+-- words with the one that goes on before them
 abbrev pub words_of : Option (List ℕ) → List (List ℕ) → List (List ℕ)
 words_of None words = words
 words_of (Some bytes) words = bytes ∷ words
@@ -35,6 +38,7 @@ after_bytes bytes rest = record { going_on = Some (bytes ++ bytes_of rest.going_
 abbrev pub after_blank : Rest → Rest
 after_blank rest = record { going_on = None; words = words_of rest.going_on rest.words }
 
+-- what the shell reads from a place on; None where a byte has another meaning there, or a quote isn't closed
 abbrev pub read : Place → List ℕ → Option Rest
 read Outside [] = Some (record { going_on = None; words = [] })
 read Escaped [] = None
