@@ -42,10 +42,12 @@ use Rattle.std.proofs.lemmas.List.{append-nil}
 use Rattle.std.specs.List.{flat_map}
 use Rattle.std.specs.Prelude.{filter, map}
 
--- For first_fault_is_refusal: a check finds no fault exactly where the driver loads the files, and its first fault is the driver's refusal.
+-- For first_fault_is_refusal (src/laws.rt): a check finds no fault exactly where the driver loads the files, and its first fault is the
+-- driver's refusal.
 
 -- what is known is one thing
 
+-- the value that is known, or another: it shows that a known value is one value
 abbrev known_or : {X : Type 0} → X → Known X → X
 known_or x Unasked = x
 known_or x (Is y) = y
@@ -56,6 +58,7 @@ same_in {x = x} is = ap (known_or x) is
 
 -- the faults of findings
 
+-- the faults of two lists of findings, one after the other
 faults_both : (first second : List Finding) → faults_of (first ++ second) ≡ faults_of first ++ faults_of second
 faults_both [] second = refl
 faults_both (finding ∷ first) second =
@@ -78,6 +81,7 @@ noted_faults c spot fault = faults_both c.findings (record { spot = spot; note =
 
 -- what the driver makes of it, after these faults and with these
 
+-- what the driver carries along where the check has this: its set, and how many files it may still read
 abbrev pub carried_of : Checking → Carried
 carried_of c = record { set = c.set; files = c.files }
 
@@ -154,6 +158,7 @@ number_in (Include missing name) = 0
 module _ (F : Facts) (prefixes : Prefixes) where
   -- a piece loaded as a text by itself
 
+  -- a set that is loaded from one directive is the set that this makes
   change_alone : (result : Result Set SpecsFault) → then_by (then_by (load.changed most_files result) (λ d. Is (Ok d))) set_in ≡ Is result
   change_alone (Ok set) = refl
   change_alone (Err fault) = refl
@@ -179,20 +184,24 @@ module _ (F : Facts) (prefixes : Prefixes) where
 
   -- how deep files may be within one another
 
+  -- from this state (c) the check of an included file, at most `levels` deep, ends as the driver's reading of it does
   abbrev pub OpensFrom : Enters → ℕ → Checking → Type 0
   OpensFrom enters levels c = (c' : Checking) (from : Option Spot) (may : Bool) (missing : _) (name : List ℕ)
       → ((path : List ℕ) (answer : ReadAnswer) → text_read missing path answer ≡ read_text may path answer)
       → (opened F prefixes levels c from (record { may_miss = may; file = name }) >>= λ next. entered enters next.0 next.1) ≡ Is c'
       → Follows (faults_of c.findings) c' (including F prefixes levels (carried_of c) missing name)
 
+  -- from each state the check of an included file ends as the driver does
   abbrev Opens : ℕ → Type 0
   Opens levels = (c : Checking) → OpensFrom (enters_at F prefixes levels) levels c
 
+  -- the check of pieces ends as the driver does with the same directives, from each state c to c'
   abbrev Checks : ℕ → Type 0
   Checks levels = (c c' : Checking) (file : OpenFile) (pieces : List Piece) (directives : List Directive) → AreRead pieces directives
       → pieces_checked F prefixes levels (enters_at F prefixes levels) c file pieces ≡ Is c'
       → Follows (faults_of c.findings) c' (all_carried (including F prefixes levels) (carried_of c) directives)
 
+  -- one piece ends as the driver does with its directive, where the files that it may include do
   pub one_as : (enters : Enters) (levels : ℕ) (c : Checking) → OpensFrom enters levels c
       → (c' : Checking) (file : OpenFile) (piece : Piece) (directive : Directive)
       → IsRead piece directive
@@ -217,6 +226,7 @@ module _ (F : Facts) (prefixes : Prefixes) where
       (ap (λ i. stepped F prefixes levels c file piece i >>= λ next. entered enters next.0 next.1)
       (sym read.includes.1) ∙ is)
 
+  -- pieces one after another end as the driver does, where included files do: by induction on the pieces
   checks_at : (levels : ℕ) → Opens levels → Checks levels
   checks_at levels opens c c' file [] [] are is =
       subst (λ x. Follows (faults_of c.findings) x (Is (Ok (carried_of c)))) (same_in is) (refl, refl)
@@ -257,15 +267,18 @@ module _ (F : Facts) (prefixes : Prefixes) where
 
   -- an included file
 
+  -- at the deepest level both refuse an included file
   opens_none : Opens zero
   unfolding including
   opens_none c c' from may missing name alike is =
       subst (λ x. Follows (faults_of c.findings) x (Is (Err IncludeTooDeep))) (same_in is) ([], noted_faults c from IncludeTooDeep)
 
+  -- the check of a file by the text that was read, or by the fault of reading it
   abbrev opens_text : ℕ → ℕ → Checking → Option Spot → List ℕ → Result (List ℕ) SpecsFault → Known Checking
   opens_text levels left c from path text =
       Is (by_text (record c { files = left }) from path text) >>= λ next. entered (file_checked F prefixes levels) next.0 next.1
 
+  -- a file that was read is checked as the driver loads it, and one that wasn't is refused alike
   by_result : (levels left : ℕ) → Checks levels → (c c' : Checking) (from : Option Spot) (path : List ℕ) (text : Result (List ℕ) SpecsFault)
       → opens_text levels left c from path text ≡ Is c'
       → Follows (faults_of c.findings) c'
@@ -279,14 +292,17 @@ module _ (F : Facts) (prefixes : Prefixes) where
       (open_file (length c.sources) text) ∙ is)
 
   module _ (levels left : ℕ) (checks : Checks levels) (c c' : Checking) (from : Option Spot) (may : Bool) (name : List ℕ) where
+    -- the path of an included file and its text, as the check finds them
     abbrev texts : Known (List ℕ) → Known (List ℕ × Result (List ℕ) SpecsFault)
     texts known = known >>= λ path. asked (read_of F path) >>= λ answer. Is (path, read_text may path answer)
 
+    -- the check of an included file, by what was found
     abbrev goes : Known (List ℕ × Result (List ℕ) SpecsFault) → Known Checking
     goes known =
         (known >>= λ found. Is (by_text (record c { files = left }) from found.0 found.1))
         >>= λ next. entered (file_checked F prefixes levels) next.0 next.1
 
+    -- whatever the answer for the path is, both go on alike
     by_answer : (missing : _) → ((path : List ℕ) (answer : ReadAnswer) → text_read missing path answer ≡ read_text may path answer)
         → (path : List ℕ) (answer : Option ReadAnswer) → goes (asked answer >>= λ a. Is (path, read_text may path a)) ≡ Is c'
         → Follows (faults_of c.findings) c' (then_by (asked answer >>= λ a. Is (text_read missing path a))
@@ -298,6 +314,7 @@ module _ (F : Facts) (prefixes : Prefixes) where
         (sym (alike path answer))
         (by_result levels left checks c c' from path (read_text may path answer) is)
 
+    -- wherever the file is found, both go on alike
     by_path : (missing : _) → ((path : List ℕ) (answer : ReadAnswer) → text_read missing path answer ≡ read_text may path answer)
         → (known : Known (List ℕ)) → goes (texts known) ≡ Is c'
         → Follows (faults_of c.findings) c' (then_by (known >>= λ path. asked (read_of F path) >>= λ a. Is (text_read missing path a))
@@ -305,6 +322,7 @@ module _ (F : Facts) (prefixes : Prefixes) where
     by_path missing alike Unasked is = absurd cc
     by_path missing alike (Is path) is = by_answer missing alike path (read_of F path) is
 
+  -- within the limit of files both read the file, and beyond it both refuse it
   by_files : (levels : ℕ) → Checks levels → (n : ℕ) (c c' : Checking) (from : Option Spot) (may : Bool) (missing : _) (name : List ℕ)
       → ((path : List ℕ) (answer : ReadAnswer) → text_read missing path answer ≡ read_text may path answer)
       → (opened_of F prefixes n c from (record { may_miss = may; file = name })
@@ -315,27 +333,32 @@ module _ (F : Facts) (prefixes : Prefixes) where
   by_files levels checks (suc left) c c' from may missing name alike is =
       by_path levels left checks c c' from may name missing alike (file_found F prefixes name) is
 
+  -- at each higher level an included file ends alike, where pieces at the level below do
   opens_some : (levels : ℕ) → Checks levels → Opens (suc levels)
   unfolding including
   opens_some levels checks c c' from may missing name alike is = by_files levels checks c.files c c' from may missing name alike is
 
+  -- included files end alike at each level: by induction on the levels
   all_open : (levels : ℕ) → Opens levels
   all_open zero = opens_none
   all_open (suc levels) = opens_some levels (checks_at levels (all_open levels))
 
   -- the files of the call
 
+  -- a check of files ends as the driver's loading: with the same set and no new fault, or its refusal as the first new one
   abbrev pub Loads : List SpecsFault → Checking → Known (Result Set SpecsFault) → Type 0
   Loads before c Unasked = ⊥
   Loads before c (Is (Ok set)) = (faults_of c.findings ≡ before) × (c.set ≡ set)
   Loads before c (Is (Err fault)) = (more : List SpecsFault) × (faults_of c.findings ≡ before ++ fault ∷ more)
 
+  -- what is carried along while a file is read becomes the set that it makes
   pub loads_set : (before : List SpecsFault) (c : Checking) (known : Known (Result Carried SpecsFault)) → Follows before c known
       → Loads before c (then_by known set_in)
   loads_set before c Unasked follows = follows
   loads_set before c (Is (Ok d)) follows = (follows.0, ap (λ x. x.set) follows.1)
   loads_set before c (Is (Err fault)) follows = follows
 
+  -- one file of the call ends as the driver's loading of it
   one_loads : (c c' : Checking) (name : List ℕ) → called F prefixes c name ≡ Is c'
       → Loads (faults_of c.findings) c' (file_loaded F prefixes c.set name)
   unfolding file_loaded
@@ -344,6 +367,7 @@ module _ (F : Facts) (prefixes : Prefixes) where
       (all_open most_levels (record c { files = most_files }) c' None false refusing.0 name
       (answers_alike refusing.0 false (λ path text. refl) (λ path. refl) (λ path. refl) (λ path. refl)) is)
 
+  -- checks with the same faults and set end alike
   loads_alike : (before : List SpecsFault) (c d : Checking) (known : Known (Result Set SpecsFault))
       → faults_of d.findings ≡ faults_of c.findings
       → d.set ≡ c.set → Loads before c known → Loads before d known
@@ -351,12 +375,14 @@ module _ (F : Facts) (prefixes : Prefixes) where
   loads_alike before c d (Is (Ok set)) faults sets loads = (faults ∙ loads.0, sets ∙ loads.1)
   loads_alike before c d (Is (Err fault)) faults sets loads = (loads.0, faults ∙ loads.1)
 
+  -- the faults before stay at the front of the list
   loads_grow : (before : List SpecsFault) (c : Checking) (known : Known (Result Set SpecsFault)) → Loads before c known
       → (more : List SpecsFault) × (faults_of c.findings ≡ before ++ more)
   loads_grow before c Unasked loads = absurd loads
   loads_grow before c (Is (Ok set)) loads = ([], loads.0 ∙ sym (append-nil before))
   loads_grow before c (Is (Err fault)) loads = (fault ∷ loads.0, loads.1)
 
+  -- two files one after another end as the driver's loading of both
   pub loads_join : (before : List SpecsFault) (c c' : Checking) (known : Known (Result Set SpecsFault))
       (next : Set → Known (Result Set SpecsFault))
       → Loads before c known → Loads (faults_of c.findings) c' (next c.set) → Loads before c' (then_by known next)
@@ -369,6 +395,7 @@ module _ (F : Facts) (prefixes : Prefixes) where
         later.1 ∙ ap (λ fs. fs ++ later.0) first.1 ∙ append_assoc before (fault ∷ first.0) later.0,
       )
 
+  -- all files of the call end so: by induction on their names
   all_load : (c c' : Checking) (names : List (List ℕ)) → all_called F prefixes c names ≡ Is c'
       → Loads (faults_of c.findings) c' (all_loaded F prefixes c.set names)
   all_load c c' [] is = subst (λ x. Loads (faults_of c.findings) x (Is (Ok c.set))) (same_in is) (refl, refl)
@@ -382,6 +409,7 @@ module _ (F : Facts) (prefixes : Prefixes) where
           loads_join (faults_of c.findings) c'' c' (file_loaded F prefixes c.set name) (λ set. all_loaded F prefixes set names)
           (one_loads c c'' name calls) (later c'' more)
 
+  -- loading two lists of files is loading the one and then the other
   loaded_both : (set : Set) (first second : List (List ℕ))
       → all_loaded F prefixes set (first ++ second) ≡ then_by (all_loaded F prefixes set first) (λ next. all_loaded F prefixes next second)
   loaded_both set [] second = refl
@@ -397,6 +425,7 @@ module _ (F : Facts) (prefixes : Prefixes) where
 
 -- what isn't meant is no fault
 
+-- leaving out warnings changes no fault
 faults_stay : (findings : List Finding) → faults_of (filter tells_fault findings) ≡ faults_of findings
 faults_stay [] = refl
 faults_stay (finding ∷ findings) = by finding.note refl (faults_stay findings)
@@ -407,6 +436,7 @@ faults_stay (finding ∷ findings) = by finding.note refl (faults_stay findings)
     by (Fault fault) is same = ap (λ n. fault_in n ++ faults_of (filter tells_fault findings)) is ∙ ap (λ fs. fault ∷ fs) same
     by (Warned warning) is same = same
 
+-- what only the whole shows of pieces is no fault
 pieces_well : (set : Set) (worked : List (List ℕ)) (file : OpenFile) (pieces : List Piece)
     → faults_of (pieces_judged set worked file pieces) ≡ []
 pieces_well set worked file [] = refl
@@ -414,6 +444,7 @@ pieces_well set worked file (piece ∷ later) =
     faults_with (map (finding_of file piece) (whole_marks set worked later piece.text)) (pieces_judged set worked file later)
     (pieces_well set worked file later) ∙ no_faults file piece (whole_marks set worked later piece.text)
 
+-- what only the whole shows of files is no fault
 sources_well : (set : Set) (worked : List (List ℕ)) (n : ℕ) (sources : List Source) → faults_of (sources_judged set worked n sources) ≡ []
 sources_well set worked n [] = refl
 sources_well set worked n (source ∷ sources) =
@@ -421,10 +452,12 @@ sources_well set worked n (source ∷ sources) =
     (sources_well set worked (n + 1) sources)
     ∙ pieces_well set worked (open_file n source.text) (open_file n source.text).pieces
 
+-- judging the whole adds no fault to a check
 judged_well : (first : ℕ) (c : Checking) → faults_of (judged first c).findings ≡ faults_of c.findings
 judged_well first c = faults_with c.findings (sources_judged c.set (flat_map source_names c.sources) first (drop first c.sources))
     (sources_well c.set (flat_map source_names c.sources) first (drop first c.sources))
 
+-- a check that loads as the driver does agrees with it: the end of the law's proof
 pub agrees : (F : Facts) (prefixes : Prefixes) (c : Checking) (known : Known (Result Set SpecsFault)) → Loads F prefixes [] c known
     → Agrees (faults_of c.findings) known
 agrees F prefixes c Unasked loads = loads
@@ -432,6 +465,7 @@ agrees F prefixes c (Is (Ok set)) loads = loads.0
 agrees F prefixes c (Is (Err fault)) loads = loads
 
 module _ (F : Facts) (prefixes : Prefixes) (over names : List (List ℕ)) (c : Checking) where
+  -- the faults of the files `over` are the driver's: leaving out their warnings changes none
   base_faults : (base : Checking) → based F prefixes over ≡ Is base → Loads F prefixes [] base (all_loaded F prefixes builtin_specs over)
   base_faults base is = by (all_called F prefixes unchecked over) refl is
     where
@@ -443,6 +477,7 @@ module _ (F : Facts) (prefixes : Prefixes) (over names : List (List ℕ)) (c : C
           (loads_alike F prefixes [] d (faults_alone d) (all_loaded F prefixes builtin_specs over) (faults_stay d.findings) refl
           (all_load F prefixes unchecked d over calls))
 
+  -- the faults of all files are the driver's, and judging the whole adds none
   over_agrees : checked_over F prefixes over names ≡ Is c
       → Agrees (faults_of c.findings) (all_loaded F prefixes builtin_specs (over ++ names))
   over_agrees is = by_base (based F prefixes over) refl is
@@ -464,6 +499,7 @@ module _ (F : Facts) (prefixes : Prefixes) (over names : List (List ℕ)) (c : C
       by_base Unasked first more = absurd cc
       by_base (Is base) first more = by_rest base first (all_called F prefixes base names) refl more
 
+  -- the whole check agrees with the driver: this is what the law of the first fault needs
   pub checked_agrees : prefixes_of F [] ≡ Is prefixes → checked F over names ≡ Is c
       → Agrees (faults_of c.findings) (all_loaded F prefixes builtin_specs (over ++ names))
   unfolding checked

@@ -14,7 +14,7 @@ use Rattle.std.specs.Cmp.Lexicographic.{pointwise}
 use Rattle.std.specs.List.{filter, range_with_len, starts_with}
 use Rattle.std.specs.Prelude.{nat_le, nat_lt}
 
--- A pattern that names all that another one names hits a switch wherever that one does.
+-- A pattern that names all that another one names hits a switch wherever that one does. For `covered_tests_are_true` (src/laws.rt).
 
 -- Equal by comparison is equal: tests of words become equations.
 same : (a b : List ℕ) → pointwise nat_eq a b ≡ true → a ≡ b

@@ -9,8 +9,9 @@ use Rattle.std.proofs.Common.{◌≡◌, ◌∙◌, ◌+◌, ◌++◌, ◌∷◌
 use Rattle.std.proofs.Common.{refl, sym, take, true, ℕ}
 use Rattle.std.specs.List.{list_all}
 
--- For check_files: a text is cut into lines, one after another.
+-- For check_files (src/checking.rt): a text is cut into lines, one after another.
 
+-- a line without a newline, and one after it, is the first line of a text
 first_of : (text line rest : List ℕ) → text ≡ line ++ newline ∷ rest → list_all (λ b. not (ends_line b)) line ≡ true
     → lines_of text ≡ line ∷ lines_of rest
 first_of text line rest is clean =
@@ -28,6 +29,7 @@ only_line text found h is = one_piece text [] (line_alone text found h is)
 
 -- one more line
 
+-- `pieces_from` by one line, whether or not a piece goes on before it
 more : (begun : Option Piece) (n at : ℕ) (line : List ℕ) (rest : List (List ℕ))
     → pieces_from begun n at (line ∷ rest)
     ≡ ended_by begun n at line ++ pieces_from (begun_after begun n at line) (n + 1) (at + length line + 1) rest

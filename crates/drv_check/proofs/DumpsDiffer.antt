@@ -3,7 +3,7 @@ use Rattle.drv_check.specs.declared.pieces.Piece.{Piece}
 use Rattle.std.proofs.Common.{◌≡◌, ◌∙◌, ◌++◌, ◌∷◌, List, ap, append_assoc, sym, ℕ}
 use Rattle.std.specs.List.{flat_map}
 
--- For `texts_difference`: what differs between two dumps, step by step.
+-- For `texts_difference` (src/differing.rt): what differs between two dumps, step by step.
 
 -- The loop takes one more line of a directive, with its mark.
 pub lines_next : (mark before after line all : List ℕ) (lines rest : List (List ℕ)) → lines ≡ line ∷ rest
@@ -14,7 +14,7 @@ lines_next mark before after line all lines rest cut grows is =
     ∙ append_assoc before (marked_line mark line) (flat_map (marked_line mark) rest)
     ∙ ap (λ ls. before ++ flat_map (marked_line mark) ls) (sym cut) ∙ is
 
--- The loop takes one more directive, which is told unless the other dump has it.
+-- The loop takes one more directive, which is reported unless the other dump has it.
 pub missing_next : (mark text : List ℕ) (others pieces : List Piece) (piece : Piece)
     → (text ++ unless_there mark others piece) ++ missing mark others pieces ≡ text ++ missing mark others (piece ∷ pieces)
 missing_next mark text others pieces piece = append_assoc text (unless_there mark others piece) (missing mark others pieces)

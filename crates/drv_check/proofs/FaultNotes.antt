@@ -17,7 +17,7 @@ use Rattle.drv_system.specs.Facts.{Facts}
 use Rattle.drv_system.specs.Known.{◌>>=◌, Is, Known, Unasked}
 use Rattle.std.proofs.Common.{◌≡◌, ◌∙◌, ◌++◌, ◌∷◌, Err, IfOk, List, None, Ok, Option, Result, Some, [], ap, if◌then◌else◌, refl, sym, ℕ}
 
--- For `fault_note`: files are checked, and what is found first is noted.
+-- For `fault_note` (src/fault_notes.rt): files are checked, and what is found first is noted.
 
 module _ (F : Facts) (prefixes : Prefixes) (set : Set) (names : List (List ℕ)) where
   -- The note is that of the check which starts over the set: so it is the one that the definition names.

@@ -12,7 +12,7 @@ use Rattle.std.proofs.Common.{ℕ}
 use Rattle.std.proofs.lemmas.List.{append-nil}
 use Rattle.std.specs.Prelude.{filter}
 
--- For check_files: of files that are loaded first, the faults stay and the warnings go.
+-- For check_files (src/checking.rt): of files that are loaded first, the faults stay and the warnings go.
 
 -- One finding more is kept or not, by itself: the loop takes the findings one by one.
 more_kept : (findings : List Finding) (finding : Finding)

@@ -15,7 +15,7 @@ use Rattle.drv_system.specs.Known.{◌>>=◌, Is, asked}
 use Rattle.drv_system.specs.declared.event.ReadAnswer.{ReadAnswer}
 use Rattle.std.proofs.Common.{◌≡◌, ◌∙◌, ◌<◌, ◌-◌, Err, IfOk, List, None, Ok, Option, Result, Some, ap, arith, refl, suc, sym, zero, ℕ}
 
--- For check_files: an included file is opened within the limits, or the reason is noted.
+-- For check_files (src/checking.rt): an included file is opened within the limits, or the reason is noted.
 
 module _ (F : Facts) (prefixes : Prefixes) (c : Checking) (from : Option Spot) (inclusion : Inclusion) where
   -- No file is opened within too many others: the reason is noted.
@@ -66,6 +66,7 @@ module _ (F : Facts) (prefixes : Prefixes) (c : Checking) (from : Option Spot) (
 
 -- the text of a file that was found
 
+-- an included file is opened by its path and its text, once both are known
 pub found_is : (F G : Facts) (prefixes : Prefixes) (inclusion : Inclusion) (path : List ℕ) (answer : ReadAnswer)
     (text : Result (List ℕ) SpecsFault)
     → file_found F prefixes inclusion.file ≡ Is path → Extends G F → read_of G path ≡ Some answer

@@ -17,7 +17,8 @@ use Rattle.std.specs.List.{ends_with}
 use Rattle.std.specs.Ordering.{is_eq}
 use Rattle.std.specs.declared.cmp.Ordering.TheVariants.{Equal, Greater, Less}
 
--- For first_fault_is_refusal and pieces_are_directives: the file that a piece includes is the one that its directive includes.
+-- For first_fault_is_refusal and pieces_are_directives (src/laws.rt): the file that a piece includes is the one that its directive
+-- includes.
 
 -- An ordering that is tested as equal is equal.
 is_equal : (o : Ordering) → is_eq o ≡ true → o ≡ Equal
@@ -62,12 +63,14 @@ renamed_as m n may (old ∷ new ∷ word ∷ words) = refl
 
 -- the words that may begin the line
 
+-- a line that begins with this word includes the same file, whatever its number is (m for the check, n for the driver)
 abbrev Alike : ℕ → ℕ → List ℕ → List ℕ → List (List ℕ) → Type 0
 Alike m n line word words = IncludesAs (inclusion_of (may_miss (word ∷ words)) (by_keyword m line (word ∷ words)))
     (by_keyword n line (word ∷ words))
 
 -- what becomes of a file that is missing, by a line of each kind
 
+-- how the driver reads %include, by an example: the file must be there
 abbrev pub refusing : (missing : _) × (name : List ℕ) × (by_keyword 0 (codes "%include <a>") (codes "%include" ∷ []) ≡ Include missing name)
 refusing = (_, codes "a", refl)
 
@@ -106,6 +109,7 @@ keyword_as m n line (word ∷ words) =
 
 -- a piece with a body, whose first line is this one without the blanks at its front
 
+-- blanks at the front of a first line are those at the front of the whole piece
 front_kept : (first rest : List ℕ) → is_empty_line first ≡ false
     → without_front is_blank (first ++ rest) ≡ without_front is_blank first ++ rest
 front_kept [] rest full = absurd cc

@@ -6,7 +6,7 @@ use Rattle.std.proofs.Common.{◌≡◌, ◌∷◌, [], Bool, false, true, List,
 use Rattle.std.proofs.lemmas.Str.{IsUtf8-from_is_utf8, is_utf8-from_IsUtf8}
 use Rattle.std.specs.Str.{IsUtf8, is_utf8}
 
--- For report_json: a word is a string if its bytes are UTF-8, or else a list of bytes.
+-- For report_json (src/told_json.rt): a word is a string if its bytes are UTF-8, or else a list of bytes.
 
 -- A word that is UTF-8 is a string.
 pub text_word : (word : List ℕ) → IsUtf8 word → word_json word ≡ string word

@@ -9,7 +9,7 @@ use Rattle.std.proofs.Common.{◌≡◌, ◌∙◌, ◌<◌, ◌+◌, ◌++◌, 
 use Rattle.std.proofs.lemmas.List.{drop_more}
 use Rattle.std.specs.Prelude.{get_or, map}
 
--- For check_files: the warnings that show in the whole of the files, piece by piece.
+-- For check_files (src/checking.rt): the warnings that show in the whole of the files, piece by piece.
 
 -- The loop takes one more piece of a file, with what shows over those behind it.
 pub pieces_next : (set : Set) (worked : List (List ℕ)) (file : OpenFile) (piece : Piece) (later left : List Piece)

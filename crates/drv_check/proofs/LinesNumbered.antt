@@ -16,7 +16,7 @@ use Rattle.std.specs.List.{list_all}
 use Rattle.std.specs.Map.{set_key}
 use Rattle.std.specs.Prelude.{⊤}
 
--- For first_fault_is_refusal: the faults of a directive have no number of a line, unless the line is none.
+-- For first_fault_is_refusal (src/laws.rt): the faults of a directive have no number of a line, unless the line is none.
 
 -- A refusal stays as it is when it gets the number of a line.
 abbrev pub Same : ℕ → {X : Type 0} → Result X SpecsFault → Type 0

@@ -3,7 +3,7 @@ use Rattle.drv_check.specs.declared.warning.Mark.{Mark}
 use Rattle.drv_syntax.specs.declared.token.Token.{Token}
 use Rattle.std.proofs.Common.{◌≡◌, ◌∙◌, ◌++◌, ◌∷◌, Bool, List, Option, Some, ap, append_assoc, sym, ℕ}
 
--- Directives that mark no word, one after another.
+-- Directives that mark no word, one after another. For `push_all_lost` (src/lost_marks.rt).
 
 -- The loop takes one more token, which is lost or not by those beside it.
 pub lost_next : (start : ℕ) (last next : Option Token) (token : Token) (left rest : List Token) (lost : Bool)

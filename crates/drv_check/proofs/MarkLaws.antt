@@ -3,7 +3,7 @@ use Rattle.drv_check.specs.declared.marking.MarkedPart.{MarkedPart}
 use Rattle.std.proofs.Common.{◌≡◌, ◌+◌, ◌-◌, ◌++◌, ◌∷◌, List, [], append_assoc, arith, drop, length, subst, suc, sym, zero, ℕ}
 use Rattle.std.specs.Prelude.{take}
 
--- A dump with marks is the dump with marks between its bytes, numbered one after another.
+-- A dump with marks is the dump with marks between its bytes, numbered one after another. For `marks_are_in_order` (src/mark_laws.rt).
 
 -- A text without marks is itself: this ends the induction over the parts.
 unmarked : (n : ℕ) (text : List ℕ) → Marked n n text text

@@ -20,7 +20,7 @@ use Rattle.std.proofs.lemmas.Bool.Decides.{nat_tests}
 use Rattle.std.proofs.lemmas.List.{append-nil}
 use Rattle.std.specs.Prelude.{map, nat_lt}
 
--- For marked_parts: the parts of a text that have a mark, one after another.
+-- For marked_parts (src/marking.rt): the parts of a text that have a mark, one after another.
 
 -- The loop takes one more token, and the part that begins with it, if that has a mark.
 pub extent_next : (text : List ℕ) (reading next : Reading) (token : Token) (left rest : List Token) (joint : Option Joint)
@@ -34,14 +34,16 @@ extent_next text reading next token left rest joint before after whole cut judge
     ∙ append_assoc before (part_if (joint_of reading token) token rest) (parts_from text (read_by text reading token) rest)
     ∙ ap (λ ts. before ++ parts_from text reading ts) (sym cut) ∙ is
 
--- a part goes on behind the tokens inside its items, with each item that begins where it has come to
+-- a part goes on behind the tokens inside its items, with each item that begins where the last one ends
 
+-- a token inside the part's last item doesn't end the part
 pub end_inside : (last : Role) (at : ℕ) (token : Token) (left rest : List Token) → left ≡ token ∷ rest → token.start < at
     → part_end last at left ≡ part_end last at rest
 end_inside last at token left rest cut inside =
     let is : nat_lt token.start at ≡ true = grind (arith, nat_tests, inside) in
     ap (part_end last at) cut ∙ rw is refl
 
+-- a part goes on with an item that begins where its last one ends
 pub end_further : (last : Role) (at : ℕ) (token : Token) (left rest : List Token) → left ≡ token ∷ rest → at ≤ token.start
     → goes_on last at token ≡ true → part_end last at left ≡ part_end (role_of token.kind) token.end rest
 end_further last at token left rest cut beyond goes =

@@ -2,8 +2,9 @@ use Rattle.drv_check.specs.Warnings.{line_marks, lines_marks}
 use Rattle.drv_check.specs.declared.warning.Mark.{Mark}
 use Rattle.std.proofs.Common.{◌≡◌, ◌∙◌, ◌+◌, ◌++◌, ◌∷◌, List, ap, append_assoc, length, sym, ℕ}
 
--- For check_files: the warnings of a piece, line by line.
+-- For check_files (src/checking.rt): the warnings of a piece, line by line.
 
+-- the loop takes one more line: the warnings of the lines that are left complete the list
 pub lines_more : (before after all : List Mark) (at : ℕ) (line : List ℕ) (lines rest : List (List ℕ))
     → before ++ lines_marks at lines ≡ all → lines ≡ line ∷ rest → after ≡ before ++ line_marks at line
     → after ++ lines_marks (at + length line + 1) rest ≡ all

@@ -15,7 +15,7 @@ use Rattle.std.proofs.Common.{length, sym, ℕ}
 use Rattle.std.proofs.lemmas.List.{append-nil, drop_more}
 use Rattle.std.specs.Prelude.{get_or}
 
--- For namings_of: the parts of a text that name switches, one after another.
+-- For namings_of (src/naming.rt): the parts of a text that name switches, one after another.
 
 -- The loop takes one more token, and the naming that it is.
 pub tokens_next : (head text : List ℕ) (spots : List Spot) (items : Items) (n : ℕ) (tokens : List Token) (token : Token)

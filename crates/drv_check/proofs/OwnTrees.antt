@@ -4,7 +4,8 @@ use Rattle.drv_syntax.specs.Tree.{none}
 use Rattle.drv_syntax.specs.declared.fault.SyntaxFault.{SyntaxFault}
 use Rattle.std.proofs.Common.{◌≡◌, Err, List, ap, sym, ℕ}
 
--- For check_files: a text that the grammar refuses has no tree, so its tokens get no warnings.
+-- For check_files (src/checking.rt): a text that the grammar refuses has no tree, so its tokens get no warnings.
 
+-- for `own_tree` where the grammar refuses the text: no tree is what the definition has
 pub refused : (text : List ℕ) (fault : SyntaxFault) → parsed text ≡ Err fault → none ≡ tree_of text
 refused text fault is = sym (ap tree_in is)

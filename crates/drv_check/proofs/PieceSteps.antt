@@ -15,7 +15,7 @@ use Rattle.drv_system.specs.Facts.{Facts}
 use Rattle.drv_system.specs.Known.{Is, Known}
 use Rattle.std.proofs.Common.{◌≡◌, ◌∙◌, Err, IfOk, None, Ok, Option, Result, Some, ap, sym, ℕ}
 
--- For check_files: a piece changes the set, adds its fault, or opens a file.
+-- For check_files (src/checking.rt): a piece changes the set, adds its fault, or opens a file.
 
 -- Where the driver changes the set, so does the check.
 pub changes : (c : Checking) (file : OpenFile) (piece : Piece) (known : Known (Result Set SpecsFault)) (set : Set)

@@ -11,7 +11,7 @@ use Rattle.std.proofs.Common.{length, refl, subst, suc, sym, zero, ℕ}
 use Rattle.std.proofs.lemmas.List.{drop_more}
 use Rattle.std.specs.Prelude.{get_or}
 
--- For check_files: pieces and files are checked one after another.
+-- For check_files (src/checking.rt): pieces and files are checked one after another.
 
 module _ (F : Facts) (prefixes : Prefixes) where
   -- what a file of so many levels enters

@@ -24,10 +24,11 @@ use Rattle.std.proofs.lemmas.List.Folds.{list_all-append}
 use Rattle.std.specs.Cmp.Lexicographic.{pointwise}
 use Rattle.std.specs.List.{ends_with, join_with_byte, list_all, position}
 
--- For pieces_are_directives: each piece of a settled text, read alone, is one of its directives.
+-- For pieces_are_directives (src/laws.rt): each piece of a settled text, read alone, is one of its directives.
 
 -- the number of a line changes a directive that is none, and no other
 
+-- a text or pair has no number: only a line that is no directive has
 key_renumbered : (n : ℕ) (key body : List ℕ) → renumbered n (by_key key body) ≡ by_key key body
 key_renumbered n [] body = refl
 key_renumbered n (b ∷ key) body = by (b == asterisk)
@@ -36,17 +37,20 @@ key_renumbered n (b ∷ key) body = by (b == asterisk)
     by true = refl
     by false = refl
 
+-- a line with a body by another number is that line with the number
 colon_renumbered : (m n : ℕ) (line : List ℕ) (lines : List (List ℕ)) (at : Option ℕ)
     → renumbered m (by_colon n line lines at) ≡ by_colon m line lines at
 colon_renumbered m n line lines None = refl
 colon_renumbered m n line lines (Some at) = key_renumbered m (take at line) (body_of (drop (at + 1) line) lines)
 
+-- a line %rename by another number is that line with the number
 rename_renumbered : (m n : ℕ) (words : List (List ℕ)) → renumbered m (renamed n words) ≡ renamed m words
 rename_renumbered m n [] = refl
 rename_renumbered m n (old ∷ []) = refl
 rename_renumbered m n (old ∷ new ∷ []) = refl
 rename_renumbered m n (old ∷ new ∷ word ∷ words) = refl
 
+-- a line %include by another number is that line with the number
 include_renumbered : (m n : ℕ) (missing : _) (text : List ℕ) → renumbered m (included n missing text) ≡ included m missing text
 include_renumbered m n missing [] = refl
 include_renumbered m n missing (b ∷ text) = by (b == less_than && ends_with nat_eq text (greater_than ∷ []))
@@ -56,6 +60,7 @@ include_renumbered m n missing (b ∷ text) = by (b == less_than && ends_with na
     by true = refl
     by false = refl
 
+-- a line of % by another number is that line with the number
 keyword_renumbered : (m n : ℕ) (line : List ℕ) (words : List (List ℕ)) → renumbered m (by_keyword n line words) ≡ by_keyword m line words
 keyword_renumbered m n line [] = refl
 keyword_renumbered m n line (word ∷ words) =
@@ -72,6 +77,7 @@ keyword_renumbered m n line (word ∷ words) =
 
 -- the lines of a body, once more
 
+-- the lines of a body, up to an empty one, have no empty line: taking them again changes nothing
 body_again : (lines : List (List ℕ)) → body_lines (body_lines lines) ≡ body_lines lines
 body_again [] = refl
 body_again (line ∷ lines) = by (is_empty_line line) refl (body_again lines)
@@ -85,6 +91,7 @@ body_again (line ∷ lines) = by (is_empty_line line) refl (body_again lines)
 abbrev entry_of : ℕ → List ℕ → List (List ℕ) → Directive
 entry_of n line lines = by_colon n line lines (position is_colon line)
 
+-- it is the same with the lines of its body alone
 entry_again : (n : ℕ) (line : List ℕ) (lines : List (List ℕ)) (at : Option ℕ)
     → by_colon n line (body_lines lines) at ≡ by_colon n line lines at
 entry_again n line lines None = refl
@@ -93,6 +100,7 @@ entry_again n line lines (Some at) =
 
 -- texts and their lines
 
+-- two settled texts, the second read after the first, are settled together; `back` says that a backslash precedes
 settled_both : (text rest : List ℕ) (back : Bool) → is_settled back text ≡ true → is_settled (last_back back text) rest ≡ true
     → is_settled back (text ++ rest) ≡ true
 settled_both [] rest back is later = later
@@ -101,6 +109,7 @@ settled_both (b ∷ text) rest back is later =
     rw (and_first (is_kept b) _ is) (rw (and_first (not (b == newline && back)) _ more)
     (settled_both text rest (ends_with_backslash (b ∷ [])) (and_second (not (b == newline && back)) _ more) later))
 
+-- a line of a settled text is settled by itself
 line_settled : (line : List ℕ) (back : Bool) → list_all is_line_byte line ≡ true → is_settled back line ≡ true
 line_settled [] back is = refl
 line_settled (b ∷ line) back is =
@@ -109,29 +118,35 @@ line_settled (b ∷ line) back is =
     rw (and_first (is_kept b) _ fit)
     (rw apart (line_settled line (ends_with_backslash (b ∷ [])) (and_second (is_line_byte b) _ is)))
 
+-- a line has no newline in it
 line_alone : (line : List ℕ) → list_all is_line_byte line ≡ true → list_all (λ b. not (ends_line b)) line ≡ true
 line_alone [] is = refl
 line_alone (b ∷ line) is =
     rw (and_second (is_kept b) _ (and_first (is_line_byte b) _ is)) (line_alone line (and_second (is_line_byte b) _ is))
 
+-- whether two texts end with a backslash is what the second says after the first
 last_both : (text rest : List ℕ) (back : Bool) → last_back back (text ++ rest) ≡ last_back (last_back back text) rest
 last_both [] rest back = refl
 last_both (b ∷ text) rest back = last_both text rest (ends_with_backslash (b ∷ []))
 
+-- a piece with one more line is settled, if no backslash hides the newline between
 longer_settled : (text line : List ℕ) → is_settled false text ≡ true → ends_with_backslash text ≡ false → list_all is_line_byte line ≡ true
     → is_settled false (text ++ newline ∷ line) ≡ true
 longer_settled text line is ends bytes =
     settled_both text (newline ∷ line) false is
     (ap (λ back. is_settled back (newline ∷ line)) (last_is text ∙ ends) ∙ line_settled line false bytes)
 
+-- the lines of a piece with one more line
 longer_lines : (text line : List ℕ) (lines : List (List ℕ)) → lines_of text ≡ lines → list_all is_line_byte line ≡ true
     → lines_of (text ++ newline ∷ line) ≡ lines ++ line ∷ []
 longer_lines text line lines is bytes =
     pieces_then text [] line ∙ ap (λ ls. ls ++ lines_of line) is ∙ ap (λ ls. lines ++ ls) (one_piece line [] (line_alone line bytes))
 
+-- a piece with one more line ends as that line does
 longer_ends : (text line : List ℕ) → ends_with_backslash (text ++ newline ∷ line) ≡ ends_with_backslash line
 longer_ends text line = sym (last_is (text ++ newline ∷ line)) ∙ last_both text (newline ∷ line) false ∙ last_is line
 
+-- the lines of a body are no directives of their own
 inside_all : (body : List (List ℕ)) (n : ℕ) → list_all is_full body ≡ true → read_lines true n body ≡ []
 inside_all [] n is = refl
 inside_all (line ∷ body) n is =
@@ -140,11 +155,13 @@ inside_all (line ∷ body) n is =
 
 -- what a line begins, without the blanks at its front
 
+-- what a line begins, whatever its number and the lines after it are: nothing, a directive of one line, or one with a body
 data Begins (line : List ℕ) : Type 0 where
   begins_nothing : ((n : ℕ) (lines : List (List ℕ)) → start_of n line lines ≡ Passed) → Begins line
   begins_alone : ((n : ℕ) (lines : List (List ℕ)) → start_of n line lines ≡ Alone (by_keyword n line (words_of line))) → Begins line
   begins_body : ((n : ℕ) (lines : List (List ℕ)) → start_of n line lines ≡ WithBody (entry_of n line lines)) → Begins line
 
+-- each line begins nothing, a directive of one line, or one with a body
 begins : (line : List ℕ) → Begins line
 begins [] = begins_nothing (λ n lines. refl)
 begins (b ∷ line) = by (b == number_sign) refl (b == percent) refl
@@ -154,12 +171,14 @@ begins (b ∷ line) = by (b == number_sign) refl (b == percent) refl
     by false c true k' = begins_alone (λ n lines. rw c (rw k' refl))
     by false c false k' = begins_body (λ n lines. rw c (rw k' refl))
 
+-- an empty line has nothing but blanks
 no_front : (line : List ℕ) → is_empty_line line ≡ true → without_front is_blank line ≡ []
 no_front [] is = refl
 no_front (b ∷ line) is = rw (and_first (is_blank b) _ is) (no_front line (and_second (is_blank b) _ is))
 
 -- a piece of one line, and one that goes on before lines
 
+-- a piece of one line, read alone, is the directive of that line
 alone_read : (n at : ℕ) (line : List ℕ) → list_all is_line_byte line ≡ true → is_empty_line line ≡ false
     → ((n : ℕ) (lines : List (List ℕ)) → start_of n (without_front is_blank line) lines
     ≡ Alone (by_keyword n (without_front is_blank line) (words_of (without_front is_blank line))))
@@ -178,6 +197,7 @@ alone_read n at line bytes full is = record {
       (keyword_as 1 n (without_front is_blank line) (words_of (without_front is_blank line)));
 }
 
+-- a piece that goes on before these lines: what is known of its text, by which it is read when it ends
 record Going (piece : Piece) (first : List ℕ) (body lines : List (List ℕ)) : Type 0 where
   settles : is_settled false piece.text ≡ true
   lines_are : lines_of piece.text ≡ first ∷ body
@@ -188,6 +208,7 @@ record Going (piece : Piece) (first : List ℕ) (body lines : List (List ℕ)) :
   ends : (lines ≡ []) ⊎ (ends_with_backslash piece.text ≡ false)
   begins : (rest : List ℕ) × (piece.text ≡ first ++ rest)
 
+-- a directive with a body includes no file
 entry_as : (inclusion : Option Inclusion) (n : ℕ) (line : List ℕ) (lines : List (List ℕ)) (at : Option ℕ) → inclusion ≡ None
     → IncludesAs inclusion (by_colon n line lines at)
 entry_as inclusion n line lines None is = is
@@ -202,6 +223,7 @@ entry_as inclusion n line lines (Some at) is = by (take at line)
         by_star true = is
         by_star false = is
 
+-- a piece with a body that has ended, read alone, is the directive of its first line
 entry_read : (piece : Piece) (first : List ℕ) (body lines : List (List ℕ)) → Going piece first body lines
     → IsRead piece (entry_of piece.number (without_front is_blank first) body)
 entry_read piece first body lines g =
@@ -224,23 +246,28 @@ entry_read piece first body lines g =
 
 -- all pieces of lines, by induction
 
+-- the pieces of lines, of which none is in a body at first, are the directives of these lines
 abbrev Outside : List (List ℕ) → Type 0
 Outside lines = (n at : ℕ) → AreRead (pieces_from None n at lines) (read_lines false n lines)
 
+-- the pieces of lines after a piece that goes on are its directive and those of the lines after its body
 abbrev Inside : List (List ℕ) → Type 0
 Inside lines = (piece : Piece) (first : List ℕ) (body : List (List ℕ)) (n at : ℕ) → Going piece first body lines
     → AreRead (pieces_from (Some piece) n at lines) (entry_of piece.number (without_front is_blank first) (body ++ body_lines lines)
     ∷ read_lines true n lines)
 
+-- at the end of the text the piece that goes on ends
 inside_end : Inside []
 inside_end piece first body n at g =
     subst (λ b. AreRead (piece ∷ []) (entry_of piece.number (without_front is_blank first) b ∷ [])) (sym (append-nil body))
     (entry_read piece first body [] g, tt)
 
+-- where a line follows, no backslash hides the newline before it
 apart_of : {line : List ℕ} {lines : List (List ℕ)} {t : Bool} → ((line ∷ lines) ≡ []) ⊎ (t ≡ false) → t ≡ false
 apart_of (inl none) = absurd cc
 apart_of (inr apart) = apart
 
+-- one more line in a body: it is part of the piece, or ends it if it is empty
 inside_more : (line : List ℕ) (lines : List (List ℕ)) → list_all is_line_byte line ≡ true
     → (lines ≡ []) ⊎ (ends_with_backslash line ≡ false) → Outside lines → Inside lines → Inside (line ∷ lines)
 inside_more line lines bytes ends out within piece first body n at g = by (is_empty_line line) refl
@@ -285,6 +312,7 @@ inside_more line lines bytes ends out within piece first body n at g = by (is_em
         (append_assoc body (line ∷ []) (body_lines lines))
         (within (longer piece line) first (body ++ line ∷ []) (n + 1) (at + length line + 1) (longer_goes is)))
 
+-- one more line outside of a body: it begins nothing, a piece of one line, or one that goes on
 outside_more : (line : List ℕ) (lines : List (List ℕ)) → list_all is_line_byte line ≡ true
     → (lines ≡ []) ⊎ (ends_with_backslash line ≡ false) → Outside lines → Inside lines → Outside (line ∷ lines)
 outside_more line lines bytes ends out within n at = by (is_empty_line line) refl
@@ -336,6 +364,7 @@ outside_more line lines bytes ends out within n at = by (is_empty_line line) ref
         (sym (ap (λ l. kind_of (start_of 1 l [])) (no_front line is))) (out (n + 1) (at + length line + 1)))
     by false is = subst whole (sym is) (by_start is (begins f))
 
+-- both hold for all lines of a settled text, by induction
 both : (lines : List (List ℕ)) → Clean lines → Outside lines × Inside lines
 both [] clean = (λ n at. tt, inside_end)
 both (line ∷ lines) clean =

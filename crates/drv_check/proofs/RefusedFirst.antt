@@ -31,10 +31,12 @@ use Rattle.std.proofs.Common.{suc, sym, true, zero, ℕ}
 use Rattle.std.proofs.lemmas.Bool.{false≢true}
 use Rattle.std.specs.List.{list_any}
 
--- For noted_fault_is_refusal: a check up to the first fault finds none exactly where the driver loads the files, and else its refusal.
+-- For noted_fault_is_refusal (src/laws.rt): a check up to the first fault finds none exactly where the driver loads the files, and else its
+-- refusal.
 
 -- a fault was found where there is one among all of them
 
+-- whether there is a fault among these: it is asked where the check asks whether it is refused
 abbrev has_some : List SpecsFault → Bool
 has_some [] = false
 has_some (fault ∷ faults) = true

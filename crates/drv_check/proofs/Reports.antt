@@ -6,7 +6,7 @@ use Rattle.std.proofs.lemmas.List.{drop_more}
 use Rattle.std.specs.List.{flat_map}
 use Rattle.std.specs.Prelude.{get_or}
 
--- For report_text and report_json: findings are printed one after another.
+-- For report_text and report_json (src/told.rt and src/told_json.rt): findings are printed one after another.
 
 -- the places where files are included
 pub places_next : (before after : List ℕ) (places : List Place) (n : ℕ) (place : Place) (whole : List ℕ) → n < length places

@@ -16,7 +16,7 @@ use Rattle.std.proofs.lemmas.List.{drop_more}
 use Rattle.std.specs.List.{list_any}
 use Rattle.std.specs.Prelude.{◌||◌, get_or}
 
--- The switches that texts name, part by part.
+-- The switches that texts name, part by part. For the loops of src/switch_names.rt.
 
 module _ (name : List ℕ) (items : Items) (n : ℕ) (tokens : List Token) (token : Token) where
   -- What parts name is what the next one names, or what the rest does.

@@ -13,7 +13,7 @@ use Rattle.std.proofs.Common.{length, sym, ℕ}
 use Rattle.std.proofs.lemmas.List.{append-nil, drop_more}
 use Rattle.std.specs.Prelude.{get_or}
 
--- For check_files: the warnings of the tokens of a text, one after another.
+-- For check_files (src/checking.rt): the warnings of the tokens of a text, one after another.
 
 -- The loop takes one more token, with its warning.
 pub marks_next : (set : Set) (text : List ℕ) (items : Items) (start n at : ℕ) (tokens : List Token) (token : Token)

@@ -22,19 +22,23 @@ use Rattle.std.proofs.Math.Seq.{drop-append_seam}
 use Rattle.std.proofs.lemmas.Bool.{le-ltb, lt-ltb}
 use Rattle.std.proofs.lemmas.List.{drop_all, get_or-drop}
 
--- Branches that no line reaches: what the code finds in the flat list of parts is what the tree has.
+-- Branches that no line reaches: what the code finds in the flat list of parts is what the tree has. For `push_choices` (src/branches.rt).
 
 -- where a part of a list is in the whole
 
+-- a part of a list is in the whole at place n, with these elements before and after it
 abbrev Sits : {X : Type 0} → List X → ℕ → List X → Type 0
 Sits {X} all n part = (before : List X) × (after : List X) × (length before ≡ n) × (all ≡ before ++ (part ++ after))
 
+-- the whole is in itself at place 0
 sits_whole : {X : Type 0} → (all : List X) → Sits all 0 all
 sits_whole all = ([], [], refl, sym (append-nil all))
 
+-- the first of two parts is where both are
 sits_front : {X : Type 0} → (all : List X) (n : ℕ) (xs ys : List X) → Sits all n (xs ++ ys) → Sits all n xs
 sits_front all n xs ys s = (s.0, ys ++ s.1, s.2, s.3 ∙ ap (λ zs. s.0 ++ zs) (append_assoc xs ys s.1))
 
+-- the second of two parts is behind the first
 sits_back : {X : Type 0} → (all : List X) (n m : ℕ) (xs ys : List X) → n + length xs ≡ m → Sits all n (xs ++ ys) → Sits all m ys
 sits_back all n m xs ys is s = (
   s.0 ++ xs,
@@ -43,10 +47,12 @@ sits_back all n m xs ys is s = (
   s.3 ∙ ap (λ zs. s.0 ++ zs) (append_assoc xs ys s.1) ∙ sym (append_assoc s.0 xs (ys ++ s.1)),
 )
 
+-- after n elements the list begins with that part
 sits_drop : {X : Type 0} → (all : List X) (n : ℕ) (xs : List X) → Sits all n xs → (after : List X) × (drop n all ≡ xs ++ after)
 sits_drop all n xs s =
     (s.1, ap (λ k. drop k all) (sym s.2) ∙ ap (drop (length s.0)) s.3 ∙ drop-append_seam s.0 (xs ++ s.1))
 
+-- the first element of a part is at its place
 sits_at : {X : Type 0} → (all : List X) (n : ℕ) (x : X) (xs : List X) (d : X) → Sits all n (x ∷ xs) → get_or all n d ≡ x
 sits_at {X} all n x xs d s =
     let dropped : (after : List X) × (drop n all ≡ (x ∷ xs) ++ after) = sits_drop all n (x ∷ xs) s in
@@ -55,23 +61,28 @@ sits_at {X} all n x xs d s =
 
 -- where parts of a tree are: their tokens and their labels
 
+-- parts of a tree are in a text's list at place n: their tokens and their labels, one for each
 record Lies (items : Items) (n : ℕ) (xs : Nodes) : Type 0 where
   pub has_tokens : Sits (tokens_of items) n (flat n xs)
   pub has_labels : Sits (labels_of items) n (labels xs)
 
+-- all parts of a tree are in its list at place 0
 lies_whole : (items : Items) → Lies items 0 (nodes_of items)
 lies_whole items = record {
   has_tokens = subst (λ ts. Sits (tokens_of items) 0 ts) (items_flat 0 items) (sits_whole (tokens_of items));
   has_labels = sits_whole (labels_of items);
 }
 
+-- the place of the part after one at n: it and all that is inside it precede that
 abbrev behind : ℕ → Nodes → ℕ
 behind n inner = n + 1 + length (flat (n + 1) inner)
 
+-- the token of the part at place n
 abbrev first : ℕ → TokenKind → Span → Nodes → Token
 first n kind s inner = record { kind = kind; start = s.start; end = s.end; next = behind n inner }
 
 module _ (items : Items) (n : ℕ) (kind : TokenKind) (label : Label) (s : Span) (inner others : Nodes) where
+  -- what is inside a part is one place behind it
   lies_inside : Lies items n (node kind label s inner others) → Lies items (n + 1) inner
   lies_inside l = record {
     has_tokens = sits_front (tokens_of items) (n + 1) (flat (n + 1) inner) (flat (behind n inner) others)
@@ -81,6 +92,7 @@ module _ (items : Items) (n : ℕ) (kind : TokenKind) (label : Label) (s : Span)
         (sits_back (labels_of items) n (n + 1) (label ∷ []) (labels inner ++ labels others) refl l.has_labels);
   }
 
+  -- the parts after one are behind all that is inside it
   lies_after : Lies items n (node kind label s inner others) → Lies items (behind n inner) others
   lies_after l = record {
     has_tokens = sits_back (tokens_of items) (n + 1) (behind n inner) (flat (n + 1) inner) (flat (behind n inner) others) refl
@@ -91,16 +103,19 @@ module _ (items : Items) (n : ℕ) (kind : TokenKind) (label : Label) (s : Span)
         (sits_back (labels_of items) n (n + 1) (label ∷ []) (labels inner ++ labels others) refl l.has_labels);
   }
 
+  -- the label at a part's place is its own
   lies_label : Lies items n (node kind label s inner others) → label_at items n ≡ label
   lies_label l = sits_at (labels_of items) n label (labels inner ++ labels others) no_label l.has_labels
 
 -- What the code gathers from the parts inside a part is what they give, one after another.
 
+-- what f gives of parts that are beside one another, nothing of what is inside them
 abbrev node_parts : {X : Type 0} → (ℕ → Token → List X) → ℕ → Nodes → List X
 node_parts f n no_node = []
 node_parts f n (node kind label s inner others) =
     f n (first n kind s inner) ++ node_parts f (behind n inner) others
 
+-- tokens inside another part give nothing
 skipped : {X : Type 0} → (f : ℕ → Token → List X) (end next n m : ℕ) (xs ys : List Token) → n + length xs ≡ m → m ≤ next → m ≤ end
     → parts_from f end next n (xs ++ ys) ≡ parts_from f end next m ys
 skipped f end next n m [] ys is near inside = ap (λ k. parts_from f end next k ys) (let same : n ≡ m = omega (arith, is) in same)
@@ -112,6 +127,7 @@ skipped f end next n m (x ∷ xs) ys is near inside =
     ∙ ap (λ t. (if t then [] else f n x) ++ parts_from f end (if t then next else x.next) (n + 1) (xs ++ ys)) (lt-ltb n next skips)
     ∙ skipped f end next (n + 1) m xs ys on near inside
 
+-- the code's loop over the tokens inside a part gives what the parts there give
 gathered : {X : Type 0} → (f : ℕ → Token → List X) (end n : ℕ) (xs : Nodes) (after : List Token) → n + length (flat n xs) ≡ end
     → parts_from f end n n (flat n xs ++ after) ≡ node_parts f n xs
 gathered f end n no_node after is = parts_done f end n n after (le-ltb n end (let past : end ≤ n = omega (arith, is) in past))
@@ -134,6 +150,7 @@ gathered f end n (node kind label s inner others) after is =
     ∙ ap (λ ps. f n t ++ ps) (skipped f end m (n + 1) m (flat (n + 1) inner) (flat m others ++ after) refl near inside
     ∙ gathered f end m others after ends)
 
+-- the code's loop from the place of a part in the whole list gives what the parts inside it give
 gathered_at : {X : Type 0} → (f : ℕ → Token → List X) (items : Items) (n : ℕ) (xs : Nodes) → Lies items n xs
     → parts_from f (n + length (flat n xs)) n n (drop n (tokens_of items)) ≡ node_parts f n xs
 gathered_at f items n xs l =
@@ -143,6 +160,7 @@ gathered_at f items n xs l =
 
 -- An item is no test and no branch.
 
+-- the token of an item is neither a test nor a branch
 no_part : (item : Item) (n : ℕ) (label : Label) (token : Token)
     → (test_if (kind_of item) label ≡ []) × (branch_if (kind_of item) n token ≡ [])
 no_part (tree.Plain b) n label token = (refl, refl)
@@ -165,6 +183,7 @@ no_part tree.Star n label token = (refl, refl)
 no_part (tree.FailureFile brace) n label token = (refl, refl)
 no_part (tree.ArgumentsFile brace) n label token = (refl, refl)
 
+-- items have no tests beside one another
 no_tests : (items : Items) (n : ℕ) (xs : Items) → node_parts (test_in items) n (nodes_of xs) ≡ []
 no_tests items n tree.none = refl
 no_tests items n (tree.more s item xs) =
@@ -173,6 +192,7 @@ no_tests items n (tree.more s item xs) =
     (no_part item n (test_at items n) (record { kind = kind_of item; start = s.start; end = s.end; next = m })).0
     ∙ no_tests items m xs
 
+-- items have no branches beside one another
 no_branches : (n : ℕ) (xs : Items) → node_parts branch_in n (nodes_of xs) ≡ []
 no_branches n tree.none = refl
 no_branches n (tree.more s item xs) =
@@ -181,22 +201,26 @@ no_branches n (tree.more s item xs) =
     (no_part item n no_label (record { kind = kind_of item; start = s.start; end = s.end; next = m })).1
     ∙ no_branches m xs
 
+-- an alternative has no branches beside one another: its tests and items are none
 none_in_branch : (n : ℕ) (tests : Tests) (xs : Items) → node_parts branch_in n (both (test_nodes tests) (nodes_of xs)) ≡ []
 none_in_branch n tree.no_test xs = no_branches n xs
 none_in_branch n (tree.test s negated asked tests) xs = none_in_branch (n + 1 + length (flat (n + 1) (asked_nodes asked))) tests xs
 
+-- what a test asks has no branches beside one another
 none_in_asked : (n : ℕ) (asked : Asked) → node_parts branch_in n (asked_nodes asked) ≡ []
 none_in_asked n (tree.HasSwitch p) = refl
 none_in_asked n (tree.HasSuffix word) = refl
 none_in_asked n (tree.HasLanguage word) = refl
 none_in_asked n (tree.HasResult name arguments) = no_branches n arguments
 
+-- patterns have no branches beside one another
 none_in_patterns : (n : ℕ) (patterns : List (Span × Pattern)) → node_parts branch_in n (pattern_nodes patterns) ≡ []
 none_in_patterns n [] = refl
 none_in_patterns n (p ∷ patterns) = none_in_patterns (n + 1 + 0) patterns
 
 -- The tests of a branch are those of its alternative.
 
+-- the code's label of a test is that of the tree
 plain : (negated : Bool) (asked : Asked)
     → part_label (test_label negated asked).word (test_label negated asked).starred (test_label negated asked).negated
     (test_label negated asked).asks
@@ -206,6 +230,7 @@ plain negated (tree.HasSuffix word) = refl
 plain negated (tree.HasLanguage word) = refl
 plain negated (tree.HasResult name arguments) = refl
 
+-- the tests that the code finds in a branch are those of its alternative
 asks : (items : Items) (n : ℕ) (tests : Tests) (xs : Items) → Lies items n (both (test_nodes tests) (nodes_of xs))
     → node_parts (test_in items) n (both (test_nodes tests) (nodes_of xs)) ≡ of_tree.tests_of tests
 asks items n tree.no_test xs l = no_tests items n xs
@@ -220,6 +245,7 @@ asks items n (tree.test s negated asked tests) xs l =
 
 -- The marks of the branches of braces are those of their alternatives.
 
+-- the warnings on branches one after another are those of the tree's alternatives
 listed : (items : Items) (start n : ℕ) (earlier : List Label) (choices : Choices) → Lies items n (choice_nodes choices)
     → listed_marks items start earlier (node_parts branch_in n (choice_nodes choices)) ≡ of_tree.branches_marks start earlier choices
 listed items start n earlier tree.no_choice l = refl
@@ -239,12 +265,14 @@ listed items start n earlier (tree.choice s tests xs choices) l =
 
 -- The marks of parts, one after another: of the branches inside each, then of what is inside it.
 
+-- the warnings on parts, each with those inside it, in the order of the code's list
 abbrev node_marks : Items → ℕ → ℕ → Nodes → List Mark
 node_marks items start n no_node = []
 node_marks items start n (node kind label s inner others) =
     listed_marks items start [] (node_parts branch_in (n + 1) inner)
     ++ (node_marks items start (n + 1) inner ++ node_marks items start (n + 1 + length (flat (n + 1) inner)) others)
 
+-- the warnings on two lists of tokens, one after the other
 marks_joined : (items : Items) (start n : ℕ) (xs ys : List Token)
     → parts_marks items start n (xs ++ ys) ≡ parts_marks items start n xs ++ parts_marks items start (n + length xs) ys
 marks_joined items start n [] ys = ap (λ k. parts_marks items start k ys) (let same : n ≡ n + 0 = omega arith in same)
@@ -255,6 +283,7 @@ marks_joined items start n (x ∷ xs) ys =
     ∙ sym (append_assoc (listed_marks items start [] (branches_of items x.next (n + 1))) (parts_marks items start (n + 1) xs)
     (parts_marks items start (n + length (x ∷ xs)) ys))
 
+-- the warnings on the tokens of parts are those of the parts
 parts_are_nodes : (items : Items) (start n : ℕ) (xs : Nodes) → Lies items n xs
     → parts_marks items start n (flat n xs) ≡ node_marks items start n xs
 parts_are_nodes items start n no_node l = refl
@@ -269,14 +298,16 @@ parts_are_nodes items start n (node kind label s inner others) l =
     ∙ ap (λ ms. ms ++ parts_marks items start m (flat m others)) (parts_are_nodes items start (n + 1) inner inside)
     ∙ ap (λ ms. node_marks items start (n + 1) inner ++ ms) (parts_are_nodes items start m others after))
 
+-- patterns have no branches, and so no warnings
 patterns_unmarked : (items : Items) (start n : ℕ) (patterns : List (Span × Pattern))
     → node_marks items start n (pattern_nodes patterns) ≡ []
 patterns_unmarked items start n [] = refl
 patterns_unmarked items start n (p ∷ patterns) = patterns_unmarked items start (n + 1 + 0) patterns
 
--- They are those of the tree.
+-- So the warnings on parts are those of the tree.
 
 mutual
+  -- the warnings on the parts of items are those of the items
   of_items : (items : Items) (start n : ℕ) (xs : Items) → Lies items n (nodes_of xs)
       → node_marks items start n (nodes_of xs) ≡ of_tree.unreached start xs
   of_items items start n tree.none l = refl
@@ -291,6 +322,7 @@ mutual
       ∙ ap (λ ms. ms ++ node_marks items start m (nodes_of xs)) (of_item items start (n + 1) item inside)
       ∙ ap (λ ms. of_tree.unreached_in start item ++ ms) (of_items items start m xs after)
 
+  -- the warnings inside an item are those of its braces and arguments
   of_item : (items : Items) (start n : ℕ) (item : Item) → Lies items n (inner_nodes item)
       → listed_marks items start [] (node_parts branch_in n (inner_nodes item)) ++ node_marks items start n (inner_nodes item)
       ≡ of_tree.unreached_in start item
@@ -315,6 +347,7 @@ mutual
   of_item items start n (tree.FailureFile brace) l = of_brace items start n brace l
   of_item items start n (tree.ArgumentsFile brace) l = of_brace items start n brace l
 
+  -- the warnings on braces are those on their branches, and those inside these
   of_brace : (items : Items) (start n : ℕ) (brace : Brace) → Lies items n (brace_nodes brace)
       → listed_marks items start [] (node_parts branch_in n (brace_nodes brace)) ++ node_marks items start n (brace_nodes brace)
       ≡ of_tree.brace_unreached start brace
@@ -325,6 +358,7 @@ mutual
       ap (λ ms. ms ++ node_marks items start n (choice_nodes choices)) (listed items start n [] choices l)
       ∙ ap (λ ms. of_tree.branches_marks start [] choices ++ ms) (of_choices items start n choices l)
 
+  -- the warnings inside branches are those of their tests and items
   of_choices : (items : Items) (start n : ℕ) (choices : Choices) → Lies items n (choice_nodes choices)
       → node_marks items start n (choice_nodes choices) ≡ of_tree.inside_branches start choices
   of_choices items start n tree.no_choice l = refl
@@ -341,6 +375,7 @@ mutual
       (of_branch items start (n + 1) tests xs (λ k. of_items items start k xs) inside)
       ∙ ap (λ ms. (of_tree.inside_tests start tests ++ of_tree.unreached start xs) ++ ms) (of_choices items start m choices after)
 
+  -- the warnings inside one branch: in its tests, and then in its items
   of_branch : (items : Items) (start n : ℕ) (tests : Tests) (xs : Items)
       → ((k : ℕ) → Lies items k (nodes_of xs) → node_marks items start k (nodes_of xs) ≡ of_tree.unreached start xs)
       → Lies items n (both (test_nodes tests) (nodes_of xs))
@@ -358,6 +393,7 @@ mutual
       ∙ ap (λ ms. of_tree.inside_asked start asked ++ ms) (of_branch items start m tests xs are after)
       ∙ sym (append_assoc (of_tree.inside_asked start asked) (of_tree.inside_tests start tests) (of_tree.unreached start xs))
 
+  -- the warnings inside what a test asks: in the arguments of a function
   of_asked : (items : Items) (start n : ℕ) (asked : Asked) → Lies items n (asked_nodes asked)
       → node_marks items start n (asked_nodes asked) ≡ of_tree.inside_asked start asked
   of_asked items start n (tree.HasSwitch p) l = refl
@@ -365,6 +401,7 @@ mutual
   of_asked items start n (tree.HasLanguage word) l = refl
   of_asked items start n (tree.HasResult name arguments) l = of_items items start n arguments l
 
+-- the warnings on all tokens of a text are those of its tree
 tree_has : (items : Items) (start : ℕ) → parts_marks items start 0 (tokens_of items) ≡ of_tree.unreached start items
 tree_has items start =
     ap (λ ts. parts_marks items start 0 ts) (items_flat 0 items)

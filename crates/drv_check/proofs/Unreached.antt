@@ -12,7 +12,7 @@ use Rattle.std.proofs.lemmas.Bool.{le-ltb}
 use Rattle.std.proofs.lemmas.List.{drop_all, drop_more}
 use Rattle.std.specs.Prelude.{get_or, nat_lt}
 
--- Branches that no line reaches, one after another, as the code finds them.
+-- Branches that no line reaches, one after another, as the code finds them. For the loops of src/branches.rt.
 
 -- what the parts inside a part give
 
@@ -50,6 +50,7 @@ parts_next f end next n tokens token before after whole below is_here inside gro
 
 -- the tests of a branch
 
+-- for `tests_of`: the loop takes one token more, and its test, if it is one
 pub tests_next : (items : Items) (end next n : ℕ) (tokens : List Token) (token : Token) (before after whole : List Label)
     → n < length tokens → token ≡ get_or tokens n token → nat_lt n end ≡ true → after ≡ before ++ here (test_in items) next n token
     → before ++ tests_from items end next n (drop n tokens) ≡ whole
@@ -59,6 +60,7 @@ tests_next items end next n tokens token before after whole below is_here inside
 
 -- the branches of a choice
 
+-- for `branches_of`: the loop takes one token more, and its branch, if it is one
 pub branches_next : (end next n : ℕ) (tokens : List Token) (token : Token) (before after whole : List Branch)
     → n < length tokens → token ≡ get_or tokens n token → nat_lt n end ≡ true → after ≡ before ++ here branch_in next n token
     → before ++ branches_from end next n (drop n tokens) ≡ whole
@@ -68,6 +70,7 @@ branches_next end next n tokens token before after whole below is_here inside gr
 
 -- the marks of the branches of a choice
 
+-- for `push_branches`: the loop takes one branch more, whose tests are earlier ones for the next
 pub marks_next : (items : Items) (start n : ℕ) (unreachable : Bool) (earlier earlier' tests : List Label) (branches : List Branch)
     (branch : Branch)
     (before after whole : List Mark) → n < length branches → branch ≡ get_or branches n branch → tests ≡ tests_of items branch
@@ -89,6 +92,7 @@ marks_next items start n unreachable earlier earlier' tests branches branch befo
 
 -- the marks of the parts of a text
 
+-- for `push_choices`: the loop takes one token more, and the warnings of its branches
 pub choices_next : (items : Items) (start n : ℕ) (tokens : List Token) (token : Token) (branches : List Branch)
     (before after whole : List Mark)
     → n < length tokens → token ≡ get_or tokens n token → branches ≡ branches_of items token.next (n + 1)

@@ -12,7 +12,7 @@ use Rattle.std.proofs.Common.{false, if◌then◌else◌, length, refl, subst, s
 use Rattle.std.proofs.lemmas.List.{drop_more}
 use Rattle.std.specs.Prelude.{get_or}
 
--- For fault_note: pieces and files are checked one after another, up to the first fault.
+-- For fault_note (src/fault_notes.rt): pieces and files are checked one after another, up to the first fault.
 
 module _ (F : Facts) (prefixes : Prefixes) where
   -- what a file of so many levels enters

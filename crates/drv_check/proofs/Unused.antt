@@ -11,7 +11,7 @@ use Rattle.std.proofs.Common.{drop, length, sym, ℕ}
 use Rattle.std.proofs.lemmas.List.{drop_more}
 use Rattle.std.specs.Prelude.{get_or}
 
--- The names that texts work, one after another.
+-- The names that texts work, one after another. For the loops of src/unused_text.rt.
 
 -- The loop takes one more token, and the name that it works.
 pub names_next : (items : Items) (n : ℕ) (tokens : List Token) (token : Token) (before after whole : List (List ℕ)) → n < length tokens

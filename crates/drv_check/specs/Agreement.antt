@@ -11,11 +11,14 @@ use Rattle.std.specs.List.{flat_map}
 use Rattle.std.specs.Prelude.{◌≡◌, Err, List, [], ◌∷◌, Ok, Result, ℕ}
 
 -- How a check and the driver agree on spec files (GCC manual, "Spec Files").
+-- For the laws of src/laws.rt.
 
+-- the fault of a note, if it is one
 abbrev pub fault_in : Note → List SpecsFault
 fault_in (Fault fault) = fault ∷ []
 fault_in (Warned warning) = []
 
+-- the fault of a finding, if it is one
 abbrev pub fault_of : Finding → List SpecsFault
 fault_of finding = fault_in finding.note
 

@@ -11,6 +11,7 @@ use Rattle.std.specs.Prelude.{◌+◌, ◌&&◌, Bool, List, [], ◌∷◌, ◌+
 
 -- Branches that no line reaches (GCC manual, "Spec Files", %{S:X; T:Y; :D}; that it is a warning is this project's profile). A branch is an
 -- alternative of braces. The first one with a true test counts.
+-- For clauses of src/branches.rt, and laws of src/laws.rt.
 
 -- each switch that the second pattern names is named by the first
 abbrev pub names_all : Label → Label → Bool
@@ -32,16 +33,20 @@ covers first second =
 
 -- A branch that can't be reached: it has a test, and a test of an earlier one covers each of its own. One without a test is the last one.
 
+-- whether a test is covered by an earlier one: where it is true, that one was true before it
 abbrev pub is_covered : List Label → Label → Bool
 is_covered earlier test = list_any (λ other. covers other test) earlier
 
+-- whether a branch has no test and so is always reached, if it is the last
 abbrev pub is_default : List Label → Bool
 is_default [] = true
 is_default (test ∷ tests) = false
 
+-- whether no line reaches a branch of these tests after earlier ones
 abbrev pub is_unreachable : List Label → List Label → Bool
 is_unreachable earlier tests = not (is_default tests) && list_all (is_covered earlier) tests
 
+-- the warning on a branch that no line reaches
 abbrev pub mark_if : ℕ → Bool → List Mark
 mark_if at unreachable = if unreachable then record { at = at; warning = Unreachable } ∷ [] else []
 
@@ -56,13 +61,13 @@ branches_marks start earlier tree.no_choice = []
 branches_marks start earlier (tree.choice span tests items choices) =
     mark_if (start + span.start) (is_unreachable earlier (tests_of tests)) ++ branches_marks start (earlier ++ tests_of tests) choices
 
--- of all braces of a text, outer ones first
-
 abbrev mutual
+  -- the warnings on branches that no line reaches, of all braces of a text, outer ones first
   pub unreached : ℕ → Items → List Mark
   unreached start tree.none = []
   unreached start (tree.more span item items) = unreached_in start item ++ unreached start items
 
+  -- the warnings in one item: in the arguments of a function and in braces
   pub unreached_in : ℕ → Item → List Mark
   unreached_in start (tree.Function name arguments) = unreached start arguments
   unreached_in start (tree.Braces brace) = brace_unreached start brace
@@ -70,19 +75,23 @@ abbrev mutual
   unreached_in start (tree.ArgumentsFile brace) = brace_unreached start brace
   unreached_in start _ = []
 
+  -- the warnings of braces: on their branches, and then on all braces inside these
   pub brace_unreached : ℕ → Brace → List Mark
   brace_unreached start (tree.Emit patterns) = []
   brace_unreached start (tree.Choose choices) = branches_marks start [] choices ++ inside_branches start choices
 
+  -- the warnings inside branches: in their tests, and in what they give
   pub inside_branches : ℕ → Choices → List Mark
   inside_branches start tree.no_choice = []
   inside_branches start (tree.choice span tests items choices) =
       (inside_tests start tests ++ unreached start items) ++ inside_branches start choices
 
+  -- the warnings inside tests
   pub inside_tests : ℕ → Tests → List Mark
   inside_tests start tree.no_test = []
   inside_tests start (tree.test span negated asked tests) = inside_asked start asked ++ inside_tests start tests
 
+  -- the warnings inside what a test asks: a function's arguments have items
   pub inside_asked : ℕ → Asked → List Mark
   inside_asked start (tree.HasResult name arguments) = unreached start arguments
   inside_asked start _ = []

@@ -12,20 +12,26 @@ use Rattle.std.specs.Prelude.{Bool, List, [], false, filter, length, true, ℕ}
 
 -- Spec files checked (GCC manual, "Spec Files"): the files `names` over the built-in set as the files `over` change it, each over what the
 -- earlier ones made. Of the files `over` only the faults are given, and no warnings.
+-- For clauses of src/checking.rt, and laws of src/laws.rt. gdrv_specs cites it too.
 
+-- whether a note is a fault, for which the driver refuses the file
 abbrev pub is_fault : Note → Bool
 is_fault (Fault fault) = true
 is_fault (Warned warning) = false
 
+-- whether a finding is a fault
 abbrev pub tells_fault : Finding → Bool
 tells_fault finding = is_fault finding.note
 
+-- a check without its warnings
 abbrev pub faults_alone : Checking → Checking
 faults_alone c = record c { findings = filter tells_fault c.findings }
 
+-- the check of the files `over`: their faults, and the set that they make
 abbrev pub based : Facts → Prefixes → List (List ℕ) → Known Checking
 based F prefixes over = all_called F prefixes unchecked over >>= λ c. Is (faults_alone c)
 
+-- the check of the files `names` over that set, with what only the whole shows
 abbrev pub checked_over : Facts → Prefixes → List (List ℕ) → List (List ℕ) → Known Checking
 checked_over F prefixes over names =
     based F prefixes over >>= λ base. all_called F prefixes base names >>= λ c. Is (judged (length base.sources) c)

@@ -29,7 +29,9 @@ use Rattle.std.specs.Prelude.{Err, List, [], ◌∷◌, ◌++◌, None, Ok, Opti
 -- profile). The pieces of a file are loaded one after another, those of an included file in its place; a piece that is refused changes
 -- nothing. The limits of loading hold for the whole: how many files are read for each file of the call, and how deep they are within one
 -- another.
+-- For clauses of src/stepping.rt, src/opening.rt, src/checking.rt and others.
 
+-- a check with one more finding
 abbrev pub noted : Checking → Option Spot → Note → Checking
 noted c spot note = record c { findings = c.findings ++ record { spot = spot; note = note } ∷ [] }
 
@@ -42,6 +44,7 @@ numbered n fault = fault
 abbrev pub spot_at : OpenFile → ℕ → Option Spot
 spot_at file at = Some (record { source = file.number; at = at })
 
+-- where a byte of a piece is in its file; after the last byte it is the file's end
 abbrev pub spot_in : OpenFile → Piece → ℕ → Option Spot
 spot_in file piece at = spot_at file (get_or (drop piece.start file.places) at file.size)
 
@@ -49,6 +52,7 @@ spot_in file piece at = spot_at file (get_or (drop piece.start file.places) at f
 abbrev pub finding_of : OpenFile → Piece → Mark → Finding
 finding_of file piece mark = record { spot = spot_in file piece mark.at; note = Warned mark.warning }
 
+-- a check with the warnings on a piece, which are found before the piece is loaded
 abbrev pub warned : Checking → OpenFile → Piece → Checking
 warned c file piece = record c { findings = c.findings ++ map (finding_of file piece) (marks_of c.set piece.text) }
 
@@ -57,6 +61,7 @@ abbrev pub faulty : Checking → OpenFile → Piece → SpecsFault → Checking
 faulty c file piece fault =
     noted c (spot_at file (point c.set piece.text (drop piece.start file.places) file.size fault)) (Fault (numbered piece.number fault))
 
+-- a check after a piece was loaded: its set is another, or a fault is noted and the set stays
 abbrev pub changed : Checking → OpenFile → Piece → Known (Result Set SpecsFault) → Known Checking
 changed c file piece Unasked = Unasked
 changed c file piece (Is (Ok set)) = Is (record c { set = set })
@@ -66,6 +71,7 @@ changed c file piece (Is (Err fault)) = Is (faulty c file piece fault)
 abbrev pub open_file : ℕ → List ℕ → OpenFile
 open_file number text = record { number = number; size = length text; places = places_of text; pieces = pieces_of (settled text) }
 
+-- a file that was read, as the next of the sources and open; or the fault of one that can't be read
 abbrev pub by_text : Checking → Option Spot → List ℕ → Result (List ℕ) SpecsFault → Checking × Option OpenFile
 by_text c from path (Err fault) = (noted c from (Fault fault), None)
 by_text c from path (Ok text) =
@@ -83,6 +89,7 @@ opened_of F prefixes zero c from inclusion = Is (noted c from (Fault TooManyIncl
 opened_of F prefixes (suc left) c from inclusion =
     found_text F prefixes inclusion >>= λ found. Is (by_text (record c { files = left }) from found.0 found.1)
 
+-- an included file, where so many levels more may be: too deep is a fault, and opens none
 abbrev pub opened : Facts → Prefixes → ℕ → Checking → Option Spot → Inclusion → Known (Checking × Option OpenFile)
 opened F prefixes zero c from inclusion = Is (noted c from (Fault IncludeTooDeep), None)
 opened F prefixes (suc levels) c from inclusion = opened_of F prefixes c.files c from inclusion
@@ -91,11 +98,13 @@ opened F prefixes (suc levels) c from inclusion = opened_of F prefixes c.files c
 abbrev pub put_aside : Known Checking → Known (Checking × Option OpenFile)
 put_aside known = known >>= λ c. Is (c, None)
 
+-- one piece: by what it includes, if it includes a file, or as a change of the set
 abbrev pub stepped : Facts → Prefixes → ℕ → Checking → OpenFile → Piece → Option Inclusion → Known (Checking × Option OpenFile)
 stepped F prefixes levels c file piece None = put_aside (changed (warned c file piece) file piece (loaded F prefixes c.set piece.text))
 stepped F prefixes levels c file piece (Some inclusion) =
     opened F prefixes levels c (spot_in file piece (front_length is_blank piece.text)) inclusion
 
+-- one piece of an open file: the check after it, and the file that it opens, if it does
 abbrev pub step : Facts → Prefixes → ℕ → Checking → OpenFile → Piece → Known (Checking × Option OpenFile)
 step F prefixes levels c file piece = stepped F prefixes levels c file piece (inclusion_in piece.text)
 
@@ -103,10 +112,12 @@ step F prefixes levels c file piece = stepped F prefixes levels c file piece (in
 abbrev pub Enters : Type 0
 Enters = Checking → OpenFile → Known Checking
 
+-- a check goes on in a file that was opened, if one was
 abbrev pub entered : Enters → Checking → Option OpenFile → Known Checking
 entered enters c None = Is c
 entered enters c (Some file) = enters c file
 
+-- the pieces of a file one after another, each with the file that it opens in its place
 abbrev pub pieces_checked : Facts → Prefixes → ℕ → Enters → Checking → OpenFile → List Piece → Known Checking
 pieces_checked F prefixes levels enters c file [] = Is c
 pieces_checked F prefixes levels enters c file (piece ∷ pieces) =
@@ -129,9 +140,11 @@ called F prefixes c name =
     opened F prefixes most_levels (record c { files = most_files }) None (record { may_miss = false; file = name })
     >>= λ next. entered (file_checked F prefixes 15) next.0 next.1
 
+-- the files of a call one after another, each over the set that the earlier ones made
 abbrev pub all_called : Facts → Prefixes → Checking → List (List ℕ) → Known Checking
 all_called F prefixes c [] = Is c
 all_called F prefixes c (name ∷ names) = called F prefixes c name >>= λ c'. all_called F prefixes c' names
 
+-- a check of nothing yet: gcc's own texts, and no findings
 abbrev pub unchecked : Checking
 unchecked = record { set = builtin_specs; files = most_files; sources = []; findings = [] }

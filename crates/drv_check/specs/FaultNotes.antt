@@ -19,22 +19,28 @@ use Rattle.std.specs.Prelude.{◌≡◌, Err, List, [], ◌++◌, None, Ok, Opti
 -- Where files are refused that are loaded over a set, each over what the earlier ones made, as a note (GNU coding standards, "Formatting
 -- Error Messages"; its words are this project's profile). It is the place of the first fault, which is the driver's refusal: the law
 -- `noted_fault_is_refusal`. A file that isn't there and that no file includes has no place.
+-- For clauses of src/fault_notes.rt, and laws of src/laws.rt. drv_compile and gdrv cite it too.
 
+-- the first fault among findings; warnings don't count
 abbrev pub first_fault : List Finding → Option Finding
 first_fault findings = find tells_fault findings
 
+-- the note for a place in a file
 abbrev pub note_in : Option Source → ℕ → List ℕ
 note_in None at = []
 note_in (Some source) at = place_text (place_in source at) ++ codes ": note: refused here\n"
 
+-- the note for a spot, if the finding has one
 abbrev pub note_at : List Source → Option Spot → List ℕ
 note_at sources None = []
 note_at sources (Some spot) = note_in (slice_get sources spot.source) spot.at
 
+-- the note for the first fault, if there is one
 abbrev pub note_for : List Source → Option Finding → List ℕ
 note_for sources None = []
 note_for sources (Some finding) = note_at sources finding.spot
 
+-- the note that a check makes
 abbrev pub note_of : Checking → List ℕ
 note_of c = note_for c.sources (first_fault c.findings)
 
@@ -42,6 +48,7 @@ note_of c = note_for c.sources (first_fault c.findings)
 abbrev pub unchecked_over : Set → Checking
 unchecked_over set = record { set = set; files = most_files; sources = []; findings = [] }
 
+-- the note on these files, loaded over a set along prefixes, up to the first fault
 abbrev pub noted_along : Facts → Prefixes → Set → List (List ℕ) → Known (List ℕ)
 noted_along F prefixes set names = all_until F prefixes (unchecked_over set) names >>= λ c. Is (note_of c)
 

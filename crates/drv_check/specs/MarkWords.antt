@@ -6,13 +6,17 @@ use Rattle.std.specs.Prelude.{◌+◌, ◌-◌, List, [], ◌∷◌, ◌++◌, d
 
 -- Marks in a text (this project's profile). A mark is a number in decimal digits between two bytes of 1. It is a word of its own, which a
 -- blank ends, or it is joined to the word that follows.
+-- For clauses of src/mark_words.rt, and laws of src/mark_laws.rt.
 
+-- the byte at both ends of a mark
 abbrev pub mark_end : ℕ
 mark_end = 1
 
+-- a mark with this number
 abbrev pub mark_word : ℕ → List ℕ
 mark_word number = mark_end ∷ decimal number ++ mark_end ∷ []
 
+-- a mark as it is put into a text: a word of its own, or joined to the next
 abbrev pub mark_text : Joint → ℕ → List ℕ
 mark_text Apart number = mark_word number ++ space ∷ []
 mark_text Joined number = mark_word number

@@ -15,9 +15,10 @@ use Rattle.std.specs.Prelude.{not, slice_get, true, ℕ}
 
 -- The parts of a text that have a mark (this project's profile). Blanks, newlines and pipes cut a list of items into parts. So does the end
 -- of an item that may have marks inside: a choice, a named text, or what a function gives. A part has a mark where another part precedes it
--- in its list and its command. So a mark never stands first, and a part without one belongs to the part that its list or its text is in.
+-- in its list and its command. So a mark is never first, and a part without one belongs to the part that its list or its text is in.
 -- Where no blank precedes the part, its mark is joined to the word, so it cuts none. A list whose test has a star has a mark at its
--- beginning, since it may be worked more than once. Items inside a test, a function, %W and %@ have none: they give no words of their own.
+-- beginning, since it may give words more than once. Items inside a test, a function, %W and %@ have none: they give no words of their own.
+-- For clauses of src/marking.rt.
 
 -- what a token is for marks
 abbrev pub role_of : TokenKind → Role
@@ -50,6 +51,7 @@ is_nested role.Item = false
 
 -- what precedes the next token
 
+-- what precedes a token after a blank; at the beginning of a list a blank changes nothing
 abbrev pub after_blank : Before → Before
 after_blank Opens = Opens
 after_blank Loops = Spaces
@@ -57,10 +59,12 @@ after_blank Follows = Spaces
 after_blank Returns = Spaces
 after_blank Spaces = Spaces
 
+-- whether a byte that may be there is a star
 abbrev pub is_star : Option ℕ → Bool
 is_star None = false
 is_star (Some b) = b == asterisk
 
+-- whether a token that ends here ends with a star
 abbrev pub ends_starred : List ℕ → ℕ → Bool
 ends_starred text end = is_star (slice_get text (end - 1))
 
@@ -72,6 +76,7 @@ after_test Follows starred = if starred then Loops else Opens
 after_test Returns starred = if starred then Loops else Opens
 after_test Spaces starred = if starred then Loops else Opens
 
+-- what precedes the token after one of this role; `starred` says whether it is a test with a star
 abbrev pub after_role : Before → Role → Bool → Before
 after_role before role.Blank starred = after_blank before
 after_role before role.Break starred = Opens
@@ -81,14 +86,17 @@ after_role before role.Item starred = Follows
 
 -- tokens are read inside choices and alternatives alone; those before the byte `until` are passed over
 
+-- whether the tokens inside a token are read too: inside a choice and an alternative they are
 abbrev pub is_entered : TokenKind → Bool
 is_entered kinds.Choose = true
 is_entered kinds.Alternative = true
 is_entered kind = false
 
+-- the byte before which tokens are passed over after this one: its end, unless they are read
 abbrev pub read_until : Token → ℕ
 read_until token = if is_entered token.kind then token.start else token.end
 
+-- where the last alternative ends that was read
 abbrev pub inside_until : TokenKind → ℕ → ℕ → ℕ
 inside_until kinds.Alternative end inside = end
 inside_until kind end inside = inside
@@ -97,12 +105,15 @@ inside_until kind end inside = inside
 abbrev pub has_left : Reading → ℕ → Bool
 has_left reading start = nat_le reading.inside start && not (start == reading.until)
 
+-- what precedes a token at this place
 abbrev pub before_at : Reading → ℕ → Before
 before_at reading start = if has_left reading start then Returns else reading.before
 
+-- whether a token is inside one that isn't entered
 abbrev pub is_passed : Reading → Token → Bool
 is_passed reading token = nat_lt token.start reading.until
 
+-- what was read after one more token
 abbrev pub read_token : List ℕ → Reading → Token → Reading
 read_token text reading token = record {
   before = after_role (before_at reading token.start) (role_of token.kind) (ends_starred text token.end);
@@ -110,11 +121,13 @@ read_token text reading token = record {
   inside = inside_until token.kind token.end reading.inside;
 }
 
+-- what was read after one more token, unless it is passed over
 abbrev pub read_by : List ℕ → Reading → Token → Reading
 read_by text reading token = if is_passed reading token then reading else read_token text reading token
 
 -- how the mark of a part that begins with a token is put, if it has one
 
+-- how a part's mark is put, by what precedes it: a part at the beginning, or one that another goes on with, has none
 abbrev pub joint_after : Before → Option Joint
 joint_after Opens = None
 joint_after Loops = Some Joined
@@ -122,28 +135,34 @@ joint_after Follows = None
 joint_after Returns = Some Joined
 joint_after Spaces = Some Apart
 
+-- how the mark is put of a part that begins with this token, if it begins one and has a mark
 abbrev pub joint_of : Reading → Token → Option Joint
 joint_of reading token =
     if is_passed reading token || not (is_item (role_of token.kind)) then None else joint_after (before_at reading token.start)
 
--- a part that has come to this place goes on with the item that begins there, unless its last item may have marks inside
+-- a part that has reached this place goes on with the item that begins there, unless its last item may have marks inside
 
+-- whether a part goes on with this token: it begins where the last item ends, and that has no marks inside
 abbrev pub goes_on : Role → ℕ → Token → Bool
 goes_on last end token = not (is_nested last) && token.start == end && is_item (role_of token.kind)
 
+-- where a part ends: after the last item that it goes on with
 abbrev pub part_end : Role → ℕ → List Token → ℕ
 part_end last end [] = end
 part_end last end (token ∷ tokens) =
     if nat_lt token.start end then part_end last end tokens
     else if goes_on last end token then part_end (role_of token.kind) token.end tokens else end
 
+-- a part that begins with this token, with its mark
 abbrev pub part_at : Joint → Token → List Token → Extent
 part_at joint token tokens = record { start = token.start; end = part_end (role_of token.kind) token.end tokens; joint = joint }
 
+-- a part as a list of one, or none where it has no mark
 abbrev pub part_if : Option Joint → Token → List Token → List Extent
 part_if None token tokens = []
 part_if (Some joint) token tokens = part_at joint token tokens ∷ []
 
+-- the marked parts among tokens, after what was read before them
 abbrev pub parts_from : List ℕ → Reading → List Token → List Extent
 parts_from text reading [] = []
 parts_from text reading (token ∷ tokens) =
@@ -153,5 +172,6 @@ parts_from text reading (token ∷ tokens) =
 abbrev pub at_start : Reading
 at_start = record { before = Opens; until = 0; inside = 0 }
 
+-- the marked parts of a text, by its tokens, in the order of their bytes
 abbrev pub parts_of : List ℕ → List Token → List Extent
 parts_of text tokens = parts_from text at_start tokens

@@ -15,6 +15,7 @@ use Rattle.std.specs.Prelude.{◌+◌, ◌-◌, List, None, Option, Some, [], dr
 
 -- The marked parts of a set's texts, by its dump (this project's profile). Each has the head of its text, as *cc1 or .c, what is written
 -- there, the place of its first byte in the dump, and where that byte is in a file, if a file put its text.
+-- For clauses of src/marking.rt.
 
 -- a part of a text with this head, which begins at this place of the dump and whose last bytes have these spots
 abbrev pub marked_part : List ℕ → List ℕ → List Spot → ℕ → Extent → MarkedPart
@@ -26,18 +27,22 @@ marked_part head text spots at part = record {
   joint = part.joint;
 }
 
+-- the marked parts of a text with this tree
 abbrev pub tree_parts : List ℕ → List ℕ → List Spot → ℕ → Items → List MarkedPart
 tree_parts head text spots at items = map (marked_part head text spots at) (parts_of text (tokens_of items))
 
 -- of a text that is a directive of the dump
 
+-- the marked parts of a text by its head; a directive without one gives no text
 abbrev pub headed_parts : List Source → List OpenFile → Option (List ℕ) → List ℕ → ℕ → Items → List MarkedPart
 headed_parts sources files None text at items = []
 headed_parts sources files (Some head) text at items = tree_parts head text (text_spots sources files head text) at items
 
+-- the marked parts of a directive of the dump, with the spots of its bytes in files
 abbrev pub piece_parts : List Source → List OpenFile → Piece → List MarkedPart
 piece_parts sources files piece =
     headed_parts sources files (head_in piece.text) (own_text piece.text) (piece.start + own_start piece.text) (own_tree piece.text)
 
+-- all marked parts of a set, by its dump
 abbrev pub marked_parts : List Source → List ℕ → List MarkedPart
 marked_parts sources dump = flat_map (piece_parts sources (files_from 0 sources)) (pieces_of dump)

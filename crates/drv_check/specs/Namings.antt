@@ -21,15 +21,18 @@ use Rattle.std.specs.Prelude.{◌+◌, ◌-◌, List, [], ◌∷◌, ◌++◌, N
 
 -- The parts of a set's texts that name switches (GCC manual, "Spec Files", %{S}, %{S:X} and %<S), each with its place in a file, if a file
 -- put its text.
+-- For clauses of src/naming.rt. gdrv_specs cites it too.
 
 -- what a part does with the switches that its pattern names
 
+-- what a test does with switches: only one of a switch asks for any
 abbrev pub test_deed : TestKind → Option Deed
 test_deed asking.Switch = Some Tests
 test_deed asking.Suffix = None
 test_deed asking.Language = None
 test_deed asking.Result = None
 
+-- what a part does with switches, if it names any: it passes them on, hides them, or asks for them
 abbrev pub deed_of : TokenKind → TestKind → Option Deed
 deed_of kinds.Pattern asks = Some Passes
 deed_of kinds.Hide asks = Some Hides
@@ -40,6 +43,7 @@ deed_of kind asks = None
 abbrev pub written : List ℕ → Token → List ℕ
 written text token = take (token.end - token.start) (drop token.start text)
 
+-- the naming of a token that has a deed
 abbrev pub naming_if : List ℕ → List ℕ → List Spot → Token → Label → Option Deed → List Naming
 naming_if head text spots token label None = []
 naming_if head text spots token label (Some deed) = record {
@@ -51,6 +55,7 @@ naming_if head text spots token label (Some deed) = record {
   spot = spot_at spots (length text) token.start;
 } ∷ []
 
+-- the naming of a token, or none
 abbrev pub token_namings : List ℕ → List ℕ → List Spot → Token → Label → List Naming
 token_namings head text spots token label = naming_if head text spots token label (deed_of token.kind label.asks)
 
@@ -60,17 +65,21 @@ tokens_namings head text spots items n [] = []
 tokens_namings head text spots items n (token ∷ tokens) =
     token_namings head text spots token (label_at items n) ++ tokens_namings head text spots items (n + 1) tokens
 
+-- the namings of a text's tree, in the order of its tokens
 abbrev pub tree_namings : List ℕ → List ℕ → List Spot → Items → List Naming
 tree_namings head text spots items = tokens_namings head text spots items 0 (tokens_of items)
 
 -- of a text of a set, which is a directive of its dump
 
+-- the namings of a text by its head; a directive without one gives no text
 abbrev pub headed_namings : List Source → List OpenFile → Option (List ℕ) → List ℕ → Items → List Naming
 headed_namings sources files None text items = []
 headed_namings sources files (Some head) text items = tree_namings head text (text_spots sources files head text) items
 
+-- the namings of a directive of the dump, with the spots of its bytes in files
 abbrev pub piece_namings : List Source → List OpenFile → Piece → List Naming
 piece_namings sources files piece = headed_namings sources files (head_in piece.text) (own_text piece.text) (own_tree piece.text)
 
+-- all namings of a set, by its dump: gdrv-specs lists them
 abbrev pub namings_of : List Source → List ℕ → List Naming
 namings_of sources dump = flat_map (piece_namings sources (files_from 0 sources)) (pieces_of dump)

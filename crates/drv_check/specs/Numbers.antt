@@ -7,7 +7,9 @@ use Rattle.drv_system.specs.declared.event.ReadAnswer.{ReadAnswer}
 use Rattle.std.specs.Prelude.{◌≡◌, Bool, List, [], ◌∷◌, None, Option, Some, ⊤, ℕ}
 
 -- What a piece is: a directive, alone. A line that is none has its number in the file.
+-- For the laws of src/laws.rt.
 
+-- a line that is no directive, with this number; another directive has none
 abbrev pub renumbered : ℕ → Directive → Directive
 renumbered n (Bad m) = Bad n
 renumbered n directive = directive
@@ -22,11 +24,13 @@ IncludesAs inclusion (Include missing name) =
     (may : Bool) × (inclusion ≡ Some (record { may_miss = may; file = name }))
     × ((path : List ℕ) (answer : ReadAnswer) → text_read missing path answer ≡ read_text may path answer)
 
+-- a piece is this directive: it is the only one of its text, has its number, and includes what the driver includes
 pub record IsRead (piece : Piece) (directive : Directive) : Type 0 where
   pub alone : directives_of piece.text ≡ renumbered 1 directive ∷ []
   pub here : directive ≡ renumbered piece.number directive
   pub includes : IncludesAs (inclusion_in piece.text) directive
 
+-- pieces are these directives, one by one: so the check reads a file as the driver does
 abbrev pub AreRead : List Piece → List Directive → Type 0
 AreRead [] [] = ⊤
 AreRead [] (directive ∷ directives) = ⊥

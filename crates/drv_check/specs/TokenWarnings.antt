@@ -20,46 +20,56 @@ use Rattle.std.specs.Prelude.{◌+◌, ◌-◌, ◌==◌, ◌&&◌, ◌||◌, Bo
 use Rattle.std.specs.Prelude.{nat_lt, slice_get, true, ℕ}
 
 -- What is surely not meant in the tokens of a text (GCC manual, "Spec Files"; that it is a warning is this project's profile).
+-- For clauses of src/token_warning.rt.
 
 -- a quote that begins a word, which is a byte of it as any other: the text begins with it, or white space or a colon precedes it
 
+-- the byte before a place of a text, if there is one
 abbrev pub byte_before : List ℕ → ℕ → Option ℕ
 byte_before text at = if nat_lt 0 at then slice_get text (at - 1) else None
 
+-- whether a word begins after this byte: white space, a colon, or the beginning
 abbrev pub ends_before : Option ℕ → Bool
 ends_before None = true
 ends_before (Some b) = is_white b || is_colon b
 
+-- whether a word begins with a quote
 abbrev pub is_quote : List ℕ → Bool
 is_quote [] = false
 is_quote (b ∷ word) = b == double_quote || b == single_quote
 
+-- the warning on a quote that begins a word: spec files have no quotes, so it is given on as a byte
 abbrev pub quote_warning : Option ℕ → List ℕ → Option Warning
 quote_warning before word = if is_quote word && ends_before before then Some QuotedWord else None
 
 -- a pattern that no switch has: -DX is the switch D with the argument X, and so are -U and -I
 
+-- whether a switch of this letter takes the rest of its word as argument: D, U and I
 abbrev pub takes_argument : ℕ → Bool
 takes_argument b = b == 68 || b == 85 || b == 73
 
+-- whether a pattern names a switch with its argument, which no switch is called
 abbrev pub is_never : List ℕ → Bool
 is_never [] = false
 is_never (b ∷ []) = false
 is_never (b ∷ c ∷ word) = takes_argument b
 
+-- the warning on a pattern that no switch has
 abbrev pub switch_warning : List ℕ → Option Warning
 switch_warning word = if is_never word then Some NeverTrue else None
 
+-- the warning on a test whose pattern no switch has: only a test of a switch has such a pattern
 abbrev pub test_warning : TestKind → List ℕ → Option Warning
 test_warning asking.Switch word = switch_warning word
 test_warning asking.Suffix word = None
 test_warning asking.Language word = None
 test_warning asking.Result word = None
 
--- a text that the set hasn't
+-- the warning on %(NAME) of a text that the set hasn't: it gives no words
 abbrev pub name_warning : Set → List ℕ → Option Warning
 name_warning set name = if is_some (text_of set name) then None else Some UnknownText
 
+-- the warning on a token of a kind, with its label and the byte before it
 abbrev pub warning_of : Set → Option ℕ → TokenKind → Label → Option Warning
 warning_of set before kinds.Plain label = quote_warning before label.word
 warning_of set before kinds.Test label = test_warning label.asks label.word
@@ -71,6 +81,7 @@ warning_of set before kind label = None
 abbrev pub token_warning : Set → List ℕ → Token → Label → Option Warning
 token_warning set text token label = warning_of set (byte_before text token.start) token.kind label
 
+-- a warning at a byte, as a list of one; or none
 abbrev pub mark_at : ℕ → Option Warning → List Mark
 mark_at at None = []
 mark_at at (Some warning) = record { at = at; warning = warning } ∷ []

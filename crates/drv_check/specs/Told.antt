@@ -11,10 +11,13 @@ use Rattle.std.specs.Prelude.{Bool, List, [], ◌∷◌, ◌++◌, None, Option,
 
 -- What a check prints of findings: text (GNU coding standards, "Formatting Error Messages"), or JSON (RFC 8259; the names of members are
 -- this project's profile).
+-- For clauses of src/told.rt and src/told_json.rt. gdrv_specs cites it too.
 
+-- a place as compilers print it: FILE:LINE:COLUMN
 abbrev pub place_text : Place → List ℕ
 place_text place = place.file ++ codes ":" ++ decimal place.line ++ codes ":" ++ decimal place.column
 
+-- what a finding is called
 abbrev pub kind_text : Bool → List ℕ
 kind_text is_error = if is_error then codes "error" else codes "warning"
 
@@ -28,17 +31,21 @@ abbrev pub excerpt : Option Place → List ℕ → List ℕ → List ℕ
 excerpt None before after = []
 excerpt (Some place) before after = codes " " ++ shown before ++ shown after ++ codes "\n " ++ padding before ++ codes "^\n"
 
+-- the line that says where the file was included
 abbrev pub from_text : Place → List ℕ
 from_text place = codes "  included from " ++ place_text place ++ codes "\n"
 
+-- a finding as lines of text
 abbrev pub told_text : Told → List ℕ
 told_text told =
     head_text told.place ++ codes ": " ++ kind_text told.is_error ++ codes ": " ++ told.message ++ codes "\n"
     ++ excerpt told.place told.before told.after ++ flat_map from_text told.from
 
+-- all findings as text
 abbrev pub report_text : List Told → List ℕ
 report_text = flat_map told_text
 
+-- a place as an object
 abbrev pub place_json : Place → Json
 place_json place =
     object
@@ -47,6 +54,7 @@ place_json place =
     (member (codes "column") (number_json place.column)
     no_members)))
 
+-- what a finding is called, as a string
 abbrev pub kind_json : Bool → Json
 kind_json is_error = string (kind_text is_error)
 
@@ -55,6 +63,7 @@ abbrev pub told_members : Told → Members
 told_members told = member (codes "message") (word_json told.message)
     (member (codes "included_from") (list_json place_json told.from) no_members)
 
+-- a finding as an object
 abbrev pub told_json : Told → Json
 told_json told =
     object (member (codes "place") (option_json place_json told.place)

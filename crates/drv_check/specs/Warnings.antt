@@ -12,19 +12,23 @@ use Rattle.std.specs.Prelude.{◌+◌, ◌==◌, ◌&&◌, ◌||◌, Bool, List,
 use Rattle.std.specs.Prelude.{length, nat_eq, not, take, ℕ}
 
 -- What is legal in a piece and surely not meant, each at a byte of the piece (this project's profile).
+-- For clauses of src/warning.rt.
 
 -- An addition to a text that isn't there. gcc has a text self_spec without bytes, which the front gdrv-cc runs (GCC, "gcc.cc",
 -- static_specs, do_self_spec).
 
+-- whether a name is self_spec: gcc has that text without bytes, so adding to it is meant
 abbrev pub is_self_spec : Option (List ℕ) → Bool
 is_self_spec None = false
 is_self_spec (Some name) = pointwise nat_eq name (codes "self_spec")
 
+-- whether a body adds to a text that isn't there
 abbrev pub adds_to_nothing : Option (Option ℕ) → List ℕ → Bool
 adds_to_nothing None body = false
 adds_to_nothing (Some None) body = is_addition body
 adds_to_nothing (Some (Some size)) body = false
 
+-- the warning on a piece that adds to a text which isn't there: + is often a typing error then
 abbrev pub append_marks : Set → List ℕ → List Mark
 append_marks set text =
     if adds_to_nothing (old_length set (name_in text)) (drop (body_start text) text) && not (is_self_spec (name_in text))
@@ -32,22 +36,27 @@ append_marks set text =
 
 -- a line of a body that would begin a directive, were the line before it empty
 
+-- whether what precedes a colon is a name that a directive may have
 abbrev pub is_named : Option ℕ → List ℕ → Bool
 is_named None line = false
 is_named (Some at) line = is_name (take at line)
 
+-- whether a line begins as a directive of a name: *NAME:
 abbrev pub begins_name : List ℕ → Bool
 begins_name [] = false
 begins_name (b ∷ line) = b == asterisk && is_named (position is_colon line) line
 
+-- whether a line's first word is that of a directive of %
 abbrev pub is_keyword : List (List ℕ) → Bool
 is_keyword [] = false
 is_keyword (word ∷ words) =
     pointwise nat_eq word (codes "%rename") || pointwise nat_eq word (codes "%include") || pointwise nat_eq word (codes "%include_noerr")
 
+-- whether a line of a body looks like a directive: the empty line before it may have been forgotten
 abbrev pub begins_directive : List ℕ → Bool
 begins_directive line = begins_name (without_front is_blank line) || is_keyword (words_of line)
 
+-- the warning on a line of a body that looks like a directive; it begins at this byte of the piece
 abbrev pub line_marks : ℕ → List ℕ → List Mark
 line_marks at line = if begins_directive line then record { at = at + front_length is_blank line; warning = DirectiveInBody } ∷ [] else []
 
@@ -61,5 +70,6 @@ abbrev pub body_marks : List (List ℕ) → List Mark
 body_marks [] = []
 body_marks (line ∷ lines) = lines_marks (length line + 1) lines
 
+-- all warnings on a piece that need only the set before it
 abbrev pub marks_of : Set → List ℕ → List Mark
 marks_of set text = append_marks set text ++ body_marks (lines_of text)

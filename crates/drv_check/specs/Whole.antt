@@ -19,30 +19,37 @@ use Rattle.std.specs.Prelude.{◌+◌, ◌==◌, ◌||◌, Bool, List, [], ◌�
 use Rattle.std.specs.Prelude.{ℕ}
 
 -- What spec files show once all of them are loaded that is legal and surely not meant (GCC manual, "Spec Files"; this project's profile).
+-- For clauses of src/judging.rt.
 
 -- the key of a pair, before the colon
 
+-- the key by the place of its colon; a name (after *) and a directive (after %) are no keys
 abbrev pub key_before : Option ℕ → List ℕ → Option (List ℕ)
 key_before None line = None
 key_before (Some at) [] = None
 key_before (Some at) (b ∷ line) = if b == asterisk || b == percent then None else Some (take at (b ∷ line))
 
+-- the key of a piece that is a pair, such as .c or @c
 abbrev pub key_in : List ℕ → Option (List ℕ)
 key_in text = key_before (position is_colon (drop (front_length is_blank text) text)) (drop (front_length is_blank text) text)
 
 -- a pair that is never used: of pairs with one key the last counts, and a later piece of the file has this one's
 
+-- whether a key is there and is this one
 abbrev pub is_key : List ℕ → Option (List ℕ) → Bool
 is_key key None = false
 is_key key (Some other) = pointwise nat_eq key other
 
+-- whether a piece puts the pair of this key
 abbrev pub puts_key : List ℕ → Piece → Bool
 puts_key key piece = is_key key (key_in piece.text)
 
+-- whether a later piece of the file puts the same key: then this pair is never used
 abbrev pub is_hidden : Option (List ℕ) → List Piece → Bool
 is_hidden None later = false
 is_hidden (Some key) later = list_any (puts_key key) later
 
+-- the warning on a pair that a later one hides
 abbrev pub pair_marks : List Piece → List ℕ → List Mark
 pair_marks later text = if is_hidden (key_in text) later then record { at = front_length is_blank text; warning = HiddenPair } ∷ [] else []
 
@@ -50,11 +57,13 @@ pair_marks later text = if is_hidden (key_in text) later then record { at = fron
 abbrev pub whole_marks : Set → List (List ℕ) → List Piece → List ℕ → List Mark
 whole_marks set worked later text = pair_marks later text ++ unused_marks set worked text ++ own_marks set text
 
+-- the findings on pieces of a file; of each the later pieces are known
 abbrev pub pieces_judged : Set → List (List ℕ) → OpenFile → List Piece → List Finding
 pieces_judged set worked file [] = []
 pieces_judged set worked file (piece ∷ later) =
     map (finding_of file piece) (whole_marks set worked later piece.text) ++ pieces_judged set worked file later
 
+-- the findings on a file, by the whole set and the names that all texts work
 abbrev pub file_judged : Set → List (List ℕ) → OpenFile → List Finding
 file_judged set worked file = pieces_judged set worked file file.pieces
 
@@ -64,6 +73,7 @@ sources_judged set worked n [] = []
 sources_judged set worked n (source ∷ sources) =
     file_judged set worked (open_file n source.text) ++ sources_judged set worked (n + 1) sources
 
+-- a check with what only the whole shows, of its files from the number `first` on
 abbrev pub judged : ℕ → Checking → Checking
 judged first c =
     record c { findings = c.findings ++ sources_judged c.set (flat_map source_names c.sources) first (drop first c.sources) }

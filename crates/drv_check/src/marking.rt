@@ -49,7 +49,7 @@ pub enum Joint {
 pub(crate) enum Before {
     /// Nothing, or blanks.
     Opens,
-    /// Nothing, in a list that is worked for each of several switches.
+    /// Nothing, in a list that gives words for each of several switches.
     Loops,
     /// An item without marks inside.
     Follows,
@@ -262,14 +262,14 @@ fn joint_of(reading: Reading, token: Token) -> Option<Joint>
     joint_after(before_at(reading, token.start))
 }
 
-/// Whether a part that has come to this place, behind an item of this role, goes on with a token.
+/// Whether a part that has reached this place, behind an item of this role, goes on with a token.
 fn goes_on(last: Role, end: u32, token: Token) -> bool
     ensures { result ≡ goes_on last end token }
 {
     !is_nested(last) && token.start == end && is_item(role_of(token.kind))
 }
 
-/// Where a part ends that has come to this place, behind an item of this role.
+/// Where a part ends that has reached this place, behind an item of this role.
 #[tactic(auto, using(crate::proofs::MarkSteps::end_inside, crate::proofs::MarkSteps::end_further, crate::proofs::MarkSteps::end_here))]
 fn part_end(role: Role, end: u32, tokens: &[Token]) -> u32
     ensures { result ≡ part_end role end tokens.now }

@@ -9,17 +9,20 @@ use Rattle.drv_syntax.specs.declared.token.TokenKind.TheVariants as kinds
 use Rattle.drv_syntax.specs.declared.token.TokenKind.{TokenKind}
 use Rattle.std.specs.Prelude.{◌+◌, List, [], ◌∷◌, ◌++◌, drop, if◌then◌else◌, nat_lt, ℕ}
 
--- Branches that no line reaches, as the code finds them in the flat list of parts.
+-- Branches that no line reaches, as the code finds them in the flat list of parts. For private clauses of src/branches.rt.
 
 -- What the parts inside a part give that are inside no other one of these. Its last part precedes the place `end`; the first token has the
 -- place n, and those before `next` are inside another part.
 
+-- the place before which tokens are inside another part, after one more token
 abbrev pub beyond : ℕ → ℕ → Token → ℕ
 beyond next n token = if nat_lt n next then next else token.next
 
+-- what a token gives, unless it is inside another part
 abbrev pub here : {X : Type 0} → (ℕ → Token → List X) → ℕ → ℕ → Token → List X
 here f next n token = if nat_lt n next then [] else f n token
 
+-- what the parts inside a part give, one after another
 abbrev pub parts_from : {X : Type 0} → (ℕ → Token → List X) → ℕ → ℕ → ℕ → List Token → List X
 parts_from f end next n [] = []
 parts_from f end next n (token ∷ tokens) =
@@ -27,28 +30,35 @@ parts_from f end next n (token ∷ tokens) =
 
 -- its tests
 
+-- the test that the n-th token's label shows
 abbrev pub test_at : Items → ℕ → Label
 test_at items n = part_label (label_at items n).word (label_at items n).starred (label_at items n).negated (label_at items n).asks
 
+-- a label, if its token is a test
 abbrev pub test_if : TokenKind → Label → List Label
 test_if kinds.Test label = label ∷ []
 test_if kind label = []
 
+-- the test of a token, or none
 abbrev pub test_in : Items → ℕ → Token → List Label
 test_in items n token = test_if token.kind (test_at items n)
 
+-- the tests of tokens, as far as none is inside another part
 abbrev pub tests_from : Items → ℕ → ℕ → ℕ → List Token → List Label
 tests_from items = parts_from (test_in items)
 
 -- its branches
 
+-- the branch of a token that is an alternative: where it begins, and which tokens are inside it
 abbrev pub branch_if : TokenKind → ℕ → Token → List Branch
 branch_if kinds.Alternative n token = record { start = token.start; inside = n + 1; end = token.next } ∷ []
 branch_if kind n token = []
 
+-- the branch of a token, or none
 abbrev pub branch_in : ℕ → Token → List Branch
 branch_in n token = branch_if token.kind n token
 
+-- the branches of tokens, as far as none is inside another part
 abbrev pub branches_from : ℕ → ℕ → ℕ → List Token → List Branch
 branches_from = parts_from branch_in
 
@@ -56,6 +66,7 @@ branches_from = parts_from branch_in
 abbrev pub tests_of : Items → Branch → List Label
 tests_of items branch = tests_from items branch.end branch.inside branch.inside (drop branch.inside (tokens_of items))
 
+-- the branches of the part whose tokens begin here
 abbrev pub branches_of : Items → ℕ → ℕ → List Branch
 branches_of items end inside = branches_from end inside inside (drop inside (tokens_of items))
 
