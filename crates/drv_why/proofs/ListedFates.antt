@@ -10,8 +10,9 @@ use Rattle.std.proofs.Common.{◌≡◌, ◌∙◌, ◌<◌, ◌+◌, ◌++◌, 
 use Rattle.std.proofs.lemmas.List.{drop_more}
 use Rattle.std.specs.Prelude.{get_or}
 
--- For fates_json: the switches of a line and the parts of texts, one after another.
+-- For fates_json (src/fates_json.rt): the switches of a line and the parts of texts, one after another.
 
+-- a part of a text is an item if it has to do with the switch, and none otherwise
 one_more : (sources : List Source) (name : List ℕ) (live : Bool) (naming : Naming) (namings : List Naming)
     → items_tokens (namings_items sources name live (naming ∷ namings))
     ≡ naming_tokens sources name live naming ++ items_tokens (namings_items sources name live namings)
@@ -23,6 +24,7 @@ one_more sources name live naming namings = by (concerns name live naming) refl
     by true is = rw is refl
     by false is = rw is refl
 
+-- `put_namings` has written one part more: those that are left complete the array
 pub naming_next : (sources : List Source) (name : List ℕ) (live : Bool) (n : ℕ) (namings : List Naming) (naming : Naming)
     (before after whole : List Token) → n < length namings → naming ≡ get_or namings n naming
     → after ≡ before ++ naming_tokens sources name live naming
@@ -35,6 +37,7 @@ naming_next sources name live n namings naming before after whole below here gro
     ∙ ap (λ m. before ++ items_tokens (namings_items sources name live (m ∷ drop (n + 1) namings))) here
     ∙ ap (λ ns. before ++ items_tokens (namings_items sources name live ns)) (sym (drop_more namings n naming below)) ∙ is
 
+-- `put_fates` has written one switch more: those that are left complete the array
 pub fate_next : (sources : List Source) (namings : List Naming) (switch : Switch) (later left : List Switch)
     (before after whole : List Token)
     → left ≡ switch ∷ later → after ≡ before ++ json_tokens (fate_json sources namings switch later)

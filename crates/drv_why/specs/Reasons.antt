@@ -15,32 +15,38 @@ use Rattle.std.specs.List.{flat_map}
 use Rattle.std.specs.Prelude.{List, [], ◌∷◌, ◌++◌, codes, ℕ}
 
 -- What is said of each part of a line: what the line without it is (this project's profile).
+-- For clauses of src/reasons.rt and src/reasons_json.rt. gdrv_specs cites it too.
 
 -- the words before it, as the driver prints words
 abbrev pub heading : List (List ℕ) → List ℕ
 heading words = codes "without" ++ words_text words
 
+-- what differs, or that nothing does: then the part has no effect
 abbrev pub changed : List ℕ → List ℕ
 changed [] = codes ": no difference\n"
 changed (b ∷ text) = codes ":\n" ++ b ∷ text
 
+-- what the line without the part is, as text
 abbrev pub rest_text : Rest → List ℕ
 rest_text (Refused text) = codes ": " ++ text ++ codes "\n"
 rest_text (Commands changes) = changed (changes_text changes)
 rest_text (Texts text) = changed text
 rest_text Unlike = codes ": only one of the two lines has commands\n"
 
+-- a part of the line, and what the line without it is
 abbrev pub reason_text : Reason → List ℕ
 reason_text reason = heading reason.part ++ rest_text reason.rest
 
 -- as JSON (RFC 8259)
 
+-- what the line without the part is, as a member
 abbrev pub rest_members : Rest → Members
 rest_members (Refused text) = member (codes "refusal") (word_json text) no_members
 rest_members (Commands changes) = member (codes "commands") (changes_json changes) no_members
 rest_members (Texts text) = member (codes "texts") (word_json text) no_members
 rest_members Unlike = no_members
 
+-- a part of the line with that, as an object
 abbrev pub reason_json : Reason → Json
 reason_json reason = object (member (codes "without") (words_json reason.part) (rest_members reason.rest))
 
@@ -48,9 +54,11 @@ reason_json reason = object (member (codes "without") (words_json reason.part) (
 abbrev pub reasons_json : List Reason → List ℕ
 reasons_json reasons = pretty (json_tokens (list_json reason_json reasons)) ++ newline ∷ []
 
+-- the reasons of all parts as text
 abbrev pub reasons_text : List Reason → List ℕ
 reasons_text = flat_map reason_text
 
+-- what gdrv-specs why prints, in the form that is asked for
 abbrev pub reasons_report : Report → List Reason → List ℕ
 reasons_report Lines reasons = reasons_text reasons
 reasons_report InJson reasons = reasons_json reasons

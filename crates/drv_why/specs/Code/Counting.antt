@@ -2,7 +2,7 @@ use Rattle.drv_args.specs.Fronts.{start_of}
 use Rattle.drv_why.specs.Parts.{wants_next}
 use Rattle.std.specs.Prelude.{List, [], ◌∷◌, if◌then◌else◌, ℕ}
 
--- How many words the first part of these has.
+-- How many words the first part of these has. Only private clauses of src/parting.rt cite it.
 abbrev pub count_of : List (List ℕ) → ℕ
 count_of [] = 0
 count_of (word ∷ []) = 1

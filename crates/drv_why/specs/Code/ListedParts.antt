@@ -6,6 +6,6 @@ use Rattle.json.specs.Token.{Token}
 use Rattle.json.specs.Tree.{json_tokens}
 use Rattle.std.specs.Prelude.{Bool, List, [], if◌then◌else◌, ℕ}
 
--- what the code writes of a part, by whether it has to do with a switch
+-- What the code writes of a part, by whether it has to do with a switch. Only private clauses of src/fates_json.rt cite it.
 abbrev pub naming_tokens : List Source → List ℕ → Bool → Naming → List Token
 naming_tokens sources name live naming = if concerns name live naming then json_tokens (naming_json sources naming) else []
