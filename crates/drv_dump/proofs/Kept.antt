@@ -11,8 +11,9 @@ use Rattle.std.proofs.Common.{◌≡◌, ◌+◌, ◌∙◌, Bool, Err, List, []
 use Rattle.std.proofs.Common.{true, ℕ}
 use Rattle.std.proofs.lemmas.Grind.{flat_map-append}
 
--- For text_is_kept: the pieces of a text are written back as that text.
+-- For text_is_kept (src/laws.rt): the pieces of a text are written back as that text.
 
+-- the value of a result, or another: it shows that a result has one value
 abbrev pub ok_or : {X E : Type 0} → X → Result X E → X
 ok_or x (Ok y) = y
 ok_or x (Err fault) = x

@@ -19,7 +19,7 @@ use Rattle.std.proofs.lemmas.Bool.{eqb-true}
 use Rattle.std.proofs.lemmas.Grind.{flat_map-append}
 use Rattle.std.specs.List.{flat_map}
 
--- For dump_is_kept: the texts of a dump are written back as that dump.
+-- For dump_is_kept (src/laws.rt): the texts of a dump are written back as that dump.
 
 -- how entries are written
 abbrev written_all : List Entry → List ℕ

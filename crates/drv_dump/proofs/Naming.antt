@@ -8,7 +8,7 @@ use Rattle.std.proofs.Common.{◌≡◌, ◌-◌, ◌<◌, ◌≤◌, ◌∙◌,
 use Rattle.std.proofs.Common.{length, suc, sym, take, true, zero, ℕ}
 use Rattle.std.proofs.lemmas.List.{take_all}
 
--- For `translate_text`: the loops that replace the names of files by named texts.
+-- For `translate_text` (src/ours.rt): the loops that replace the names of files by named texts.
 
 -- all that follows the first one
 after_first : {X : Type 0} (x : X) (xs : List X) → take (length (x ∷ xs) - 1) xs ≡ xs

@@ -4,7 +4,7 @@ use Rattle.std.proofs.Common.{◌≡◌, ◌-◌, ◌≤◌, ◌∙◌, List, []
 use Rattle.std.proofs.Common.{length, sym, take, true, ℕ}
 use Rattle.std.proofs.lemmas.List.{take_all}
 
--- For `pass_libraries`: the loop that copies the names of libraries, byte by byte.
+-- For `pass_libraries` (src/passed.rt): the loop that copies the names of libraries, byte by byte.
 
 -- a word after the option
 pub option_put : (copy mid after word : List ℕ) → mid ≡ copy ++ codes "-plugin-opt=-pass-through=" → after ≡ mid ++ word

@@ -11,7 +11,7 @@ use Rattle.std.proofs.Common.{ℕ}
 use Rattle.std.proofs.lemmas.List.{at_drop_more, take_all}
 use Rattle.drv_dump.proofs.Kept.{same_value}
 
--- For `translate_text`: the loops that replace forms of gcc by those of the driver.
+-- For `translate_text` (src/ours.rt): the loops that replace forms of gcc by those of the driver.
 
 -- all that follows the first byte
 after_first : (b : ℕ) (text : List ℕ) → take (length (b ∷ text) - 1) text ≡ text

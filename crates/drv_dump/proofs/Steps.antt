@@ -10,7 +10,7 @@ use Rattle.drv_words.specs.Gives.{Gives}
 use Rattle.std.proofs.Common.{◌≡◌, ◌+◌, ◌<◌, ◌∙◌, ◌⊎◌, Err, IsErrAnd, List, Ok, Result, ap, drop, get_or, inl, inr, length, sym, ℕ}
 use Rattle.std.proofs.lemmas.List.{at_drop_more}
 
--- For `read_text` and `read_dump`: one more byte of the loops.
+-- For `read_text` and `read_dump` (src/reading.rt and src/dump.rt): one more byte of the loops.
 
 -- a refusal is handed on
 pub handed_on : {X Y E : Type 0} (none fault : E) (result : Result X E) (view : X → Y) (defined : Result Y E)

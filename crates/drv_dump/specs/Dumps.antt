@@ -14,6 +14,7 @@ use Rattle.std.specs.List.{flat_map}
 use Rattle.std.specs.Prelude.{◌+◌, ◌==◌, Err, List, [], ◌∷◌, ◌++◌, Ok, Result, if◌then◌else◌, ℕ}
 
 -- The dump of -dumpspecs: of each text a line *NAME:, its lines, and an empty line (main of gcc.cc). A text has no empty line.
+-- For clauses of src/dump.rt and src/passed.rt, and laws of src/laws.rt. drv_gcc cites it too.
 
 -- a dump of which nothing is read
 abbrev pub nothing_read : DumpReader
@@ -23,6 +24,7 @@ nothing_read = record { done = []; name = []; text = []; line = Between }
 abbrev pub ended : DumpReader → DumpReader
 ended r = record { done = r.done ++ record { name = r.name; text = r.text } ∷ []; name = []; text = []; line = Between }
 
+-- what is read with the byte after a newline: an empty line ends the text
 abbrev pub after_newline : DumpReader → ℕ → DumpReader
 after_newline r b =
     if b == byte.newline then ended r
@@ -39,6 +41,7 @@ entry_step Named r at b = if b == byte.newline then Ok (record r { line = Text }
 entry_step Text r at b = if b == byte.newline then Ok (record r { line = NewLine }) else Ok (record r { text = r.text ++ b ∷ [] })
 entry_step NewLine r at b = Ok (after_newline r b)
 
+-- what is read with a byte, by the state so far
 abbrev pub entry_at : DumpReader → ℕ → ℕ → Result DumpReader DumpFault
 entry_at r at b = entry_step r.line r at b
 
@@ -50,6 +53,7 @@ at_end Named done at = Err (Misplaced at)
 at_end Text done at = Err (Misplaced at)
 at_end NewLine done at = Err (Misplaced at)
 
+-- the rest is read, unless a byte was misplaced
 abbrev pub then_read : (DumpReader → Result (List Entry) DumpFault) → Result DumpReader DumpFault → Result (List Entry) DumpFault
 then_read again (Ok r) = again r
 then_read again (Err fault) = Err fault
@@ -69,14 +73,17 @@ named_pieces name (Ok pieces) = Ok (record { name = name; pieces = pieces })
 named_pieces name (Err fault.Memory) = Err Memory
 named_pieces name (Err (fault.Unreadable misfit at)) = Err (InText name misfit at)
 
+-- a text of a dump in pieces, or why it can't be read
 abbrev pub text_of_entry : Entry → Result DumpedText DumpFault
 text_of_entry entry = named_pieces entry.name (pieces_of entry.text)
 
+-- a text before others, if all can be read
 abbrev pub and_texts : Result DumpedText DumpFault → Result (List DumpedText) DumpFault → Result (List DumpedText) DumpFault
 and_texts (Ok text) (Ok texts) = Ok (text ∷ texts)
 and_texts (Ok text) (Err fault) = Err fault
 and_texts (Err fault) texts = Err fault
 
+-- all texts in pieces, or the first that can't be read
 abbrev pub all_texts : List Entry → Result (List DumpedText) DumpFault
 all_texts [] = Ok []
 all_texts (entry ∷ entries) = and_texts (text_of_entry entry) (all_texts entries)
@@ -86,10 +93,12 @@ abbrev pub texts_before : List DumpedText → Result (List DumpedText) DumpFault
 texts_before before (Ok texts) = Ok (before ++ texts)
 texts_before before (Err fault) = Err fault
 
+-- the texts in pieces, or why the dump can't be read
 abbrev pub with_entries : Result (List Entry) DumpFault → Result (List DumpedText) DumpFault
 with_entries (Ok entries) = all_texts entries
 with_entries (Err fault) = Err fault
 
+-- the texts of a dump in pieces, each with its name
 abbrev pub texts_of : List ℕ → Result (List DumpedText) DumpFault
 texts_of dump = with_entries (entries_of dump)
 
@@ -97,5 +106,6 @@ texts_of dump = with_entries (entries_of dump)
 abbrev pub written_entry : List ℕ → List ℕ → List ℕ
 written_entry name text = byte.asterisk ∷ (name ++ (byte.colon ∷ byte.newline ∷ (text ++ (byte.newline ∷ byte.newline ∷ []))))
 
+-- the dump that these texts are: reading it gives them again
 abbrev pub written_texts : List DumpedText → List ℕ
 written_texts texts = flat_map (λ text. written_entry text.name (written text.pieces)) texts

@@ -15,7 +15,9 @@ use Rattle.std.specs.Prelude.{zero, ℕ}
 
 -- The files that a text of gcc looks for by their names: NAME%s and NAME%O%s (GCC manual, "Spec Files", %s). Where gcc finds one depends on
 -- how gcc was built and on the machine of the line, so each becomes a named text.
+-- For clauses of src/files.rt.
 
+-- whether a byte may be in the name of a named text
 abbrev pub is_name_byte : ℕ → Bool
 is_name_byte b = is_ascii_alphanumeric b || is_of (codes "_.+-") b
 
@@ -25,11 +27,12 @@ split_from front word [] = record { front = front; word = word }
 split_from front word (b ∷ text) = if is_white b then split_from ((front ++ word) ++ b ∷ []) [] text
     else split_from front (word ++ b ∷ []) text
 
--- what follows a text
+-- what follows %O after a word: an object is looked for if it is %s
 abbrev pub second_ending : List Piece → Ending
 second_ending [] = Other
 second_ending (second ∷ rest) = if pointwise nat_eq second.bytes (codes "%s") then FoundObject else Other
 
+-- what follows a word: %s (a file is looked for), %O%s (an object is), or anything else
 abbrev pub ending_of : List Piece → Ending
 ending_of [] = Other
 ending_of (first ∷ rest) =
@@ -40,16 +43,20 @@ ending_of (first ∷ rest) =
 abbrev pub is_other_byte : ℕ → Bool
 is_other_byte b = not (is_name_byte b)
 
+-- whether a word may be the name of a named text: it has a byte, and no other bytes than those
 abbrev pub is_name : List ℕ → Bool
 is_name word = nat_lt 0 (length word) && not (list_any is_other_byte word)
 
+-- whether a text's last word is whole: another piece before it may be the word's beginning
 abbrev pub is_whole_word : Joint → List ℕ → Bool
 is_whole_word Open front = true
 is_whole_word Glued front = nat_lt 0 (length front)
 
+-- whether a text ends in a whole name
 abbrev pub ends_in_name : Joint → LastWord → Bool
 ends_in_name joint last = is_name last.word && is_whole_word joint last.front
 
+-- whether a piece is of plain bytes, in which alone a file's name may be
 abbrev pub is_text : Kind → Bool
 is_text kind.Text = true
 is_text kind.Directive = false
@@ -79,11 +86,13 @@ file_pieces text suffix =
     record { kind = kind.Text; bytes = (split_from [] [] text).front }
     ∷ record { kind = kind.NamedText; bytes = codes "%(file_" ++ (split_from [] [] text).word ++ suffix ++ codes ")" } ∷ []
 
+-- a piece, with a named text in place of the name at its end if a file is looked for
 abbrev pub put_piece : Ending → Piece → List Piece
 put_piece Other piece = piece ∷ []
 put_piece Found piece = file_pieces piece.bytes []
 put_piece FoundObject piece = file_pieces piece.bytes (codes ".o")
 
+-- how many pieces belong to a name: %s, or %O and %s
 abbrev pub skip_after : Ending → ℕ
 skip_after Other = 0
 skip_after Found = 1

@@ -6,7 +6,9 @@ use Rattle.std.specs.Prelude.{◌-◌, List, [], ◌∷◌, None, Option, Some, 
 -- The forms of gcc's spec texts that this driver has in other words (GCC manual, "Spec Files"; the functions of gcc.cc by these names).
 -- Named texts on the right side are those of the spec file that is written: what they say is known when it is written, or told by
 -- the front (its switches begin with --gdrv-).
+-- For clauses of src/ours.rt. A form that changes here changes in src/forms.rt and in rows of tests/tables/dumps (docs/CHANGING.md).
 
+-- a form as gcc's texts have it; some have had two forms in different versions
 abbrev pub of_gcc : WholeForm → List ℕ
 of_gcc form.Object = codes "%{c:%W{o*}%{!o*:-o %w%b%O}}%{!c:-o %d%w%u%O}"
 of_gcc form.OlderObject = codes "%{c:%W{o*}%{!o*:-o %w%b%O}}%{!c:-o %d%u%O}"
@@ -23,6 +25,7 @@ of_gcc form.LinkerChoice = codes "%{fuse-ld=*:-fuse-ld=%*}"
 of_gcc form.LinkOutput = codes "%{o*}"
 of_gcc form.MachineOptions = codes "%{m*}"
 
+-- what it is in this driver's language
 abbrev pub ours : WholeForm → List ℕ
 ours form.Object = codes "%(object)"
 ours form.OlderObject = codes "%(object)"
@@ -43,6 +46,7 @@ ours form.MachineOptions = codes "%(machine_options)"
 abbrev pub others : WholeForm → ℕ
 others form = length (of_gcc form) - 1
 
+-- all forms of several pieces, in the order in which they are tried at a place of a text
 abbrev pub whole_forms : List WholeForm
 whole_forms =
     form.Object ∷ form.OlderObject ∷ form.SplitObject ∷ form.OlderSplitObject ∷ form.Dependencies ∷ form.OlderDwoName ∷ form.DwoName
@@ -54,6 +58,7 @@ abbrev pub first_at : List WholeForm → List ℕ → Option WholeForm
 first_at [] text = None
 first_at (form ∷ forms) text = if starts_with nat_eq text (of_gcc form) then Some form else first_at forms text
 
+-- the form with which a text begins, if it begins with one
 abbrev pub form_at : List ℕ → Option WholeForm
 form_at text = first_at whole_forms text
 
@@ -65,6 +70,7 @@ directives =
     ∷ (codes "%R", codes "%(sysroot_folder)") ∷ (codes "%j", codes "%(checked)")
     ∷ (codes "%o", codes "%@{!-gdrv-none:%o}") ∷ []
 
+-- directives that this driver lacks: a text that has one is refused
 abbrev pub lacking_directives : List (List ℕ)
 lacking_directives = codes "%c" ∷ codes "%p" ∷ codes "%P" ∷ codes "%v" ∷ codes "%." ∷ codes "%\"" ∷ []
 
@@ -80,11 +86,13 @@ calls =
 abbrev pub other_checks : List (List ℕ × List ℕ)
 other_checks = (codes "%:sanitize(leak)", codes "-gdrv-san=lsan") ∷ (codes "%:sanitize(undefined)", codes "-gdrv-san=ubsan") ∷ []
 
+-- tests for the libraries of checks, which the front names by --gdrv-san=
 abbrev pub checks : List (List ℕ × List ℕ)
 checks =
     (codes "%:sanitize(address)", codes "-gdrv-san=asan") ∷ (codes "%:sanitize(hwaddress)", codes "-gdrv-san=hwasan")
     ∷ (codes "%:sanitize(thread)", codes "-gdrv-san=tsan") ∷ other_checks
 
+-- functions that are tests, and the switches of the front that take their place
 abbrev pub tests : List (List ℕ × List ℕ)
 tests =
     (codes "%:debug-level-gt(0)", codes "-gdrv-level=*") ∷ (codes "%:debug-level-gt(2)", codes "-gdrv-level=3")

@@ -16,6 +16,7 @@ use Rattle.std.specs.Prelude.{◌&&◌, ◌||◌, ◌==◌, ◌+◌, ◌-◌, Bo
 
 -- The pieces of gcc's spec texts, byte by byte (GCC manual, "Spec Files"; do_spec_1, handle_braces, process_brace_body and
 -- handle_spec_function of gcc.cc). What gcc reads in two ways, or only by chance, is refused.
+-- For clauses of src/reading.rt.
 
 -- the byte is one of these
 abbrev pub is_of : List ℕ → ℕ → Bool
@@ -45,6 +46,7 @@ is_mark b = is_of (codes "{};") b
 abbrev pub most_levels : ℕ
 most_levels = 64
 
+-- a byte is read as part of a kind of piece, and this is what may follow
 abbrev pub reads : InPiece → Kind → Place → ℕ → Turn
 reads in_piece piece after depth = Reads in_piece piece after depth
 
@@ -52,6 +54,7 @@ reads in_piece piece after depth = Reads in_piece piece after depth
 abbrev pub opens : ℕ → Turn
 opens depth = if nat_lt depth most_levels then reads Later kind.Opening place.BeforeTest (depth + 1) else Refused TooNested
 
+-- the brace that closes; outside of braces there is none to close
 abbrev pub closes : ℕ → Turn
 closes depth = if depth == 0 then Refused BareBrace else reads First kind.Closing place.Ready (depth - 1)
 
@@ -94,6 +97,7 @@ closed_turn piece here end depth b = if b == end then reads Later piece place.Re
 abbrev pub brace_turn : ℕ → ℕ → Turn
 brace_turn depth b = if b == byte.opening_brace then opens depth else Refused UnknownDirective
 
+-- after %x only a brace may follow
 abbrev pub option_turn : ℕ → ℕ → Turn
 option_turn depth b = if b == byte.opening_brace then reads Later kind.LinkerOption place.Option depth else Refused UnknownDirective
 
@@ -110,11 +114,13 @@ function_turn side depth b =
     else if is_function_byte b then reads Later (call_kind side) (place.Function side) depth
     else Refused BadFunction
 
+-- what follows a function, by where it is called: text, or the end of a test
 abbrev pub after_call : Side → Place
 after_call InText = place.Ready
 after_call AmongTests = place.AfterTest
 after_call Negated = place.AfterTest
 
+-- inside a function's parentheses: `inside` of them are open within the first
 abbrev pub argument_turn : Side → ℕ → ℕ → ℕ → Turn
 argument_turn side inside depth b =
     if b == byte.opening_parenthesis
@@ -147,9 +153,11 @@ asked_turn side depth b =
     else if is_test_byte b then reads First kind.Test place.Test depth
     else Refused BadTest
 
+-- after the ! of a test
 abbrev pub negated_turn : ℕ → ℕ → Turn
 negated_turn depth b = if is_white b then reads First kind.Blank place.Negated depth else asked_turn Negated depth b
 
+-- where a test begins, perhaps with a !
 abbrev pub test_turn : ℕ → ℕ → Turn
 test_turn depth b =
     if is_white b then reads First kind.Blank place.BeforeTest depth

@@ -17,12 +17,15 @@ use Rattle.std.specs.Map.{lookup}
 use Rattle.std.specs.Prelude.{◌==◌, Err, List, [], ◌∷◌, ◌++◌, None, Ok, Option, Result, Some, codes, if◌then◌else◌, nat_eq, suc, zero, ℕ}
 
 -- A text of gcc in this driver's spec language.
+-- For clauses of src/ours.rt, src/passed.rt and src/our_dump.rt.
 
 -- the forms of several pieces are replaced from the front; so many bytes are part of the one before
 abbrev pub put_form : (ℕ → List ℕ) → Option WholeForm → ℕ → List ℕ
 put_form after (Some form) b = ours form ++ after (others form)
 put_form after None b = b ∷ after zero
 
+-- a text with each form of several pieces in this driver's words; the first form that fits decides, and `skip` bytes belong to the one
+-- before
 abbrev pub replaced : ℕ → List ℕ → List ℕ
 replaced skip [] = []
 replaced zero (b ∷ text) = put_form (λ skip. replaced skip text) (form_at (b ∷ text)) b
@@ -49,6 +52,7 @@ other_call_words call =
     else if list_any (starts_with nat_eq call) own_calls then call
     else refusing call
 
+-- what a call of a function becomes: other words where there are any
 abbrev pub call_words : Option (List ℕ) → List ℕ → List ℕ
 call_words (Some words) call = words
 call_words None call = other_call_words call
@@ -58,14 +62,17 @@ abbrev pub directive_words : Option (List ℕ) → List ℕ → Option (List ℕ
 directive_words (Some words) directive = Some words
 directive_words None directive = if list_any (pointwise nat_eq directive) lacking_directives then None else Some directive
 
+-- what the test by a function becomes after a ! : one test, or itself if this driver has the function
 abbrev pub negated_words : Option (List ℕ) → List ℕ → Option (List ℕ)
 negated_words (Some words) call = Some words
 negated_words None call = if list_any (starts_with nat_eq call) own_calls then Some call else None
 
+-- what the test by a function becomes without a !: several tests too, of which one must hold
 abbrev pub test_words : Option (List ℕ) → List ℕ → Option (List ℕ)
 test_words (Some words) call = Some words
 test_words None call = negated_words (lookup (pointwise nat_eq call) tests) call
 
+-- what a piece of a kind becomes: directives and calls by the lists in Forms.antt, and all else stays
 abbrev pub words_of : Kind → List ℕ → Option (List ℕ)
 words_of kind.Directive bytes = directive_words (lookup (pointwise nat_eq bytes) directives) bytes
 words_of kind.Call bytes = Some (call_words (lookup (pointwise nat_eq bytes) calls) bytes)
@@ -91,23 +98,27 @@ with_words None bytes more = Err (ours_fault.Lacking bytes)
 with_words (Some words) bytes (Ok more) = Ok (words ++ more)
 with_words (Some words) bytes (Err fault) = Err fault
 
+-- what all pieces become, or the first that becomes nothing
 abbrev pub all_words : List Piece → Result (List ℕ) OursFault
 all_words [] = Ok []
 all_words (piece ∷ pieces) = with_words (words_of piece.kind piece.bytes) piece.bytes (all_words pieces)
 
+-- what the pieces of a text become, with its files as named texts
 abbrev pub with_pieces : Result (List Piece) TextFault → Result (List ℕ) OursFault
 with_pieces (Ok pieces) = all_words (files_from zero Open pieces)
 with_pieces (Err text_fault.Memory) = Err ours_fault.Memory
 with_pieces (Err (text_fault.Unreadable misfit at)) = Err (ours_fault.Unreadable misfit at)
 
--- words with what one more piece becomes; words before those of other pieces
+-- words with what one more piece becomes, if it becomes anything
 abbrev pub put_words : List ℕ → Option (List ℕ) → List ℕ → Result (List ℕ) OursFault
 put_words before None bytes = Err (ours_fault.Lacking bytes)
 put_words before (Some words) bytes = Ok (before ++ words)
 
+-- words with one more piece in this driver's language
 abbrev pub put : List ℕ → Piece → Result (List ℕ) OursFault
 put before piece = put_words before (words_of piece.kind piece.bytes) piece.bytes
 
+-- words before those of other pieces
 abbrev pub words_before : List ℕ → Result (List ℕ) OursFault → Result (List ℕ) OursFault
 words_before before (Ok words) = Ok (before ++ words)
 words_before before (Err fault) = Err fault

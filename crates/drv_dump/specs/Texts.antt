@@ -16,6 +16,7 @@ use Rattle.std.specs.List.{flat_map}
 use Rattle.std.specs.Prelude.{◌+◌, Bool, Err, List, [], ◌∷◌, ◌++◌, Ok, Result, if◌then◌else◌, ℕ}
 
 -- The pieces of a spec text, each with its bytes (the grammar of Grammar, one byte after another).
+-- For clauses of src/reading.rt and src/writing.rt, and laws of src/laws.rt.
 
 -- a text of which nothing is read
 abbrev pub begun : Reader
@@ -52,6 +53,7 @@ abbrev pub taken : Turn → Reader → ℕ → ℕ → Result Reader TextFault
 taken (Reads in_piece kind place depth) r at b = Ok (with_byte r in_piece kind place depth b)
 taken (Refused misfit) r at b = Err (Unreadable misfit at)
 
+-- what is read with a byte, by the grammar's turn at this place
 abbrev pub read_at : Reader → ℕ → ℕ → Result Reader TextFault
 read_at r at b = taken (turn r.place r.depth b) r at b
 
@@ -59,6 +61,7 @@ read_at r at b = taken (turn r.place r.depth b) r at b
 abbrev pub at_end : Bool → Reader → ℕ → Result (List Piece) TextFault
 at_end whole r at = if whole then Ok (closed r) else Err (Unreadable Unclosed at)
 
+-- the rest is read, unless a byte fits nothing
 abbrev pub then_read : (Reader → Result (List Piece) TextFault) → Result Reader TextFault → Result (List Piece) TextFault
 then_read again (Ok r) = again r
 then_read again (Err fault) = Err fault
