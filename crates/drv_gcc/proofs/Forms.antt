@@ -4,7 +4,7 @@ use Rattle.std.proofs.Common.{suc, sym, take, true, zero, ℕ}
 use Rattle.std.proofs.lemmas.List.{take_all}
 use Rattle.std.specs.List.{starts_with}
 
--- For `replace`: the steps of the loop that replaces a form.
+-- For `replace` (src/replacing.rt): the steps of the loop that replaces a form.
 
 -- all that follows the first byte
 after_first : (b : ℕ) (text : List ℕ) → take (length (b ∷ text) - 1) text ≡ text

@@ -5,7 +5,7 @@ use Rattle.std.proofs.lemmas.List.{append-nil, take-append-drop}
 use Rattle.std.specs.List.{filter, flat_map, list_any}
 use Rattle.std.specs.Prelude.{◌/◌}
 
--- For words that a program refuses: halves find each of them.
+-- For words that a program refuses (src/halving.rt): halves find each of them.
 
 -- one word of which some are refused is refused itself
 all_found_of_one : (refuses : List ℕ → Bool) (word : List ℕ) → list_any refuses (word ∷ []) ≡ true → word ∷ [] ≡ filter refuses (word ∷ [])

@@ -1,6 +1,7 @@
 use Rattle.std.proofs.Common.{◌≡◌, ◌∙◌, List, ◌++◌, ap, append_assoc, ℕ}
 
--- For the texts of a spec file: a text to which one part and then another is added ends with both.
+-- For the texts of a spec file (src/programs.rt, src/composing.rt and others): a text to which one part and then another is added ends with
+-- both.
 
 -- what is added in two steps
 pub joined : (first second third one other : List ℕ) → second ≡ first ++ one → third ≡ second ++ other → third ≡ first ++ (one ++ other)

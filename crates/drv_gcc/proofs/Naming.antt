@@ -4,7 +4,7 @@ use Rattle.std.proofs.Common.{◌≡◌, ◌-◌, ◌==◌, ◌≤◌, ◌∙◌
 use Rattle.std.proofs.Common.{length, sym, take, true, ℕ}
 use Rattle.std.proofs.lemmas.List.{take_all}
 
--- For `named_texts`, `values` and `options`: the steps of the loops that look for names.
+-- For `named_texts`, `values` and `options` (src/answers.rt and src/listed.rt): the steps of the loops that look for names.
 
 -- all that follows the first byte
 after_first : (b : ℕ) (text : List ℕ) → take (length (b ∷ text) - 1) text ≡ text

@@ -3,6 +3,7 @@ use Rattle.std.specs.Prelude.{List, ◌++◌, codes, ℕ}
 
 -- What no dump has: how gcc compiles and assembles a source of each language (gcc.cc, default_compilers), and where files go whose names
 -- the front of gdrv-cc hands on. These texts are the same for every gcc.
+-- For clauses of src/fixed.rt.
 
 -- texts that a dump may replace
 unfoldable pub first_texts : List ℕ
