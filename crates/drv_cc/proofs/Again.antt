@@ -19,7 +19,7 @@ use Rattle.std.proofs.lemmas.List.{append-nil, length-drop}
 use Rattle.std.specs.Bool.{⊤}
 use Rattle.std.specs.List.{list_any}
 
--- For `Items::with_names`: reading a line again by names of options changes only the unknown words.
+-- For `Items::with_names` (src/items.rt): reading a line again by names of options changes only the unknown words.
 
 -- No row of the option table is for an unknown word, so an option of the table is never asked again. The table is computed to see it.
 no_row : list_any (λ r. is_unknown r.role) table ≡ false

@@ -5,7 +5,8 @@ use Rattle.drv_cc.specs.SideFiles.{are_several, is_some, only, suffix_words}
 use Rattle.std.proofs.Common.{◌≡◌, Bool, List, [], ◌∷◌, ap, false, if◌then◌else◌, refl, true, ℕ}
 use Rattle.std.specs.List.{list_all}
 
--- For the sources and suffixes of a line: what the code counts of a list is what the definitions say of it.
+-- For the sources and suffixes of a line (src/sources.rt and src/sides.rt): what the code counts of a list is what the definitions say of
+-- it.
 
 -- Once there are more than one, a further name changes nothing of the count.
 many_stays : (names : List (List ℕ)) → all_counted Many names ≡ Many

@@ -6,7 +6,7 @@ use Rattle.std.proofs.lemmas.Bool.Decides.{nat_tests}
 use Rattle.std.proofs.lemmas.List.{take_all}
 use Rattle.std.specs.List.{position, position_or_len}
 
--- For the name of an option up to its `=`: a text is cut at the first byte of a kind.
+-- For the name of an option up to its `=` (src/values.rt): a text is cut at the first byte of a kind.
 
 -- The test of a byte by which std's `position` looks.
 abbrev is_mark : ℕ → ℕ → Bool

@@ -5,7 +5,7 @@ use Rattle.std.proofs.Common.{◌≡◌, ◌∙◌, List, [], ◌∷◌, ◌++�
 use Rattle.std.proofs.lemmas.List.{flat_map_more, map-append}
 use Rattle.std.specs.List.{flat_map}
 
--- For the folders of COMPILER_PATH and LIBRARY_PATH: each folder of such a path gives its words.
+-- For the folders of COMPILER_PATH and LIBRARY_PATH (src/adding.rt and src/line_adding.rt): each folder of such a path gives its words.
 
 -- For `add_path` (src/adding.rt) before its first folder.
 pub no_folder : (f : List ℕ → List (List ℕ)) (words : List (List ℕ)) → words ≡ words ++ flat_map f (map named_folder [])

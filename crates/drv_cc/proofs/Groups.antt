@@ -10,7 +10,7 @@ use Rattle.std.proofs.lemmas.List.Folds.{find-append}
 use Rattle.std.specs.List.{filter}
 use Rattle.std.specs.Option.{option_or}
 
--- For the look-up of options: the first row of the table that fits a word is in the group of its key.
+-- For the look-up of options (src/table.rt): the first row of the table that fits a word is in the group of its key.
 
 -- rows that pass both tests are found among those that pass one, where the other follows
 find_both : (p a b : OptionRow → Bool) → ((r : OptionRow) → p r ≡ true → a r ≡ true → b r ≡ true) → (rows : List OptionRow)

@@ -3,7 +3,7 @@ use Rattle.drv_cc.specs.SelfSpecs.{is_left, live, written}
 use Rattle.drv_cc.specs.declared.item.Item.{Item}
 use Rattle.std.proofs.Common.{◌≡◌, Bool, List, ◌∷◌, ◌++◌, ◌∙◌, ap, append_assoc, false, refl, sym, true, ℕ}
 
--- For `front_with`: the switches that a self spec leaves, and those that it hides.
+-- For `front_with` (src/giving.rt): the switches that a self spec leaves, and those that it hides.
 
 -- The definition `live` (specs/SelfSpecs.antt) takes the words of one item and goes on with those that are left after it.
 live_more : (i : Item) (tail : List Item) (left : List (List ℕ)) → live (i ∷ tail) left ≡ live_item i left ++ live tail (left_after i left)

@@ -6,7 +6,7 @@ use Rattle.std.proofs.Common.{◌≡◌, ◌∙◌, ◌||◌, ◌++◌, Bool, Li
 use Rattle.std.specs.List.{list_any}
 use Rattle.std.specs.Option.{is_some, unwrap_or}
 
--- For last_level_counts: of the options of debugging the last one that names a level decides.
+-- For last_level_counts (src/laws.rt): of the options of debugging the last one that names a level decides.
 
 -- The options of a line are read in turn, so those after an option start from what those before it set.
 append_debugged : (d : Debugging) (before after : List Item) → debugged d (before ++ after) ≡ debugged (debugged d before) after

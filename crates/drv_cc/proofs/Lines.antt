@@ -12,7 +12,7 @@ use Rattle.std.specs.Cmp.Lexicographic.{same_text}
 use Rattle.std.specs.List.{list_any, onto_first, slice_split, starts_with}
 use Rattle.std.specs.Prelude.{slice_index_or}
 
--- For the look-up of a word among the known names: a line of a text begins with it, or doesn't.
+-- For the look-up of a word among the known names (src/known.rt): a line of a text begins with it, or doesn't.
 
 -- The test of a byte by which std's `slice_split` cuts lines.
 abbrev ends : ℕ → Bool

@@ -3,7 +3,8 @@ use Rattle.drv_cc.specs.SideFiles.{given_base, given_folder, link_leading, link_
 use Rattle.drv_cc.specs.declared.item.Item.{Item}
 use Rattle.std.proofs.Common.{◌≡◌, ◌∙◌, List, None, Option, Some, ap, refl, ℕ}
 
--- For `link_beginning`: what leads the names of a link's side files is what the base and the folder that options give lead to.
+-- For `link_beginning` (src/leading.rt): what leads the names of a link's side files is what the base and the folder that options give lead
+-- to.
 
 -- The code takes the folder of the options as an argument, which the definition looks up.
 leading_so : (items : List Item) (base : Option (List ℕ)) → link_leading_in items base (given_folder items) ≡ link_leading_by items base

@@ -9,8 +9,8 @@ use Rattle.std.proofs.lemmas.List.Folds.{find-append}
 use Rattle.std.specs.List.{filter, flat_map}
 use Rattle.std.specs.Option.{option_map, option_or}
 
--- For the lists of option names: a name that is in one is in the group of its key. And the ring of an option is found among the options
--- of all rings.
+-- For the lists of option names (src/classes.rt): a name that is in one is in the group of its key. And the ring of an option is found
+-- among the options of all rings.
 
 -- another name passes no test that this one passes
 differs : (p : List ℕ → Bool) (a b : List ℕ) → p a ≡ true → p b ≡ false → same a b ≡ false

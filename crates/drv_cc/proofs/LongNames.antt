@@ -2,7 +2,7 @@ use Rattle.drv_cc.specs.Items.{begins, is_longer}
 use Rattle.drv_cc.specs.Table.{renames}
 use Rattle.std.proofs.Common.{◌≡◌, ◌==◌, ◌&&◌, ◌∙◌, Bool, List, [], ◌∷◌, None, codes, false, find, refl, sym, true, ℕ}
 
--- For the options that long names mean: all long names begin with two hyphens.
+-- For the options that long names mean (src/renaming.rt): all long names begin with two hyphens.
 
 -- For `rename_of` (src/renaming.rt), which tests the two hyphens first: a word without them is no long name.
 pub no_rename : (word : List ℕ) (long : Bool) → long ≡ begins (codes "--") word → long ≡ false → None ≡ find (is_longer word) renames

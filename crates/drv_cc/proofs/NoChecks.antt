@@ -9,7 +9,7 @@ use Rattle.std.proofs.Common.{◌≡◌, ◌∙◌, ◌&&◌, ◌||◌, ◌++◌
 use Rattle.std.proofs.lemmas.List.{append-nil}
 use Rattle.std.specs.List.{list_any}
 
--- For the libraries of checks: a line that turns no check on needs none.
+-- For the libraries of checks (src/checks.rt): a line that turns no check on needs none.
 
 -- The option that turns checks on. A line without it is what the code asks for first (`add_check_words`, src/checks.rt).
 abbrev turns_on : List ℕ

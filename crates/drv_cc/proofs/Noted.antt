@@ -3,7 +3,7 @@ use Rattle.drv_cc.specs.Table.{OptionRow}
 use Rattle.drv_cc.specs.declared.item.Item.{Item}
 use Rattle.std.proofs.Common.{◌≡◌, ◌∙◌, List, [], ◌∷◌, ◌++◌, None, Some, ap, append_assoc, ℕ}
 
--- For `front`: each word of a line is noted as the table says.
+-- For `front` (src/fronting.rt): each word of a line is noted as the table says.
 
 -- For `note_word` (src/reading.rt), where an option waited for this word as its argument.
 pub wanted_noted : (known : List ℕ) (items : List Item) (word : List ℕ) (r : OptionRow) (rest : List (List ℕ))

@@ -14,10 +14,10 @@ apart of a b other = by (same a b) refl
     by false e = refl
     by true e = absurd (let clash : true ≡ false = sym (eq-eqb (of a) (of b) (ap of (same_is a b e))) ∙ other in cc)
 
--- Their lengths do,
+-- names whose lengths differ are not the same
 pub other_length : (a b : List ℕ) → (length a == length b) ≡ false → false ≡ same a b
 other_length a b other = apart length a b other
 
--- and so do their last bytes.
+-- names whose last bytes differ are not the same
 pub other_end : (a b : List ℕ) (x y : ℕ) → x ≡ last_byte a → y ≡ last_byte b → (x == y) ≡ false → false ≡ same a b
 other_end a b x y x_is y_is other = apart last_byte a b (ap (λ z. z == last_byte b) (sym x_is) ∙ ap (λ z. x == z) (sym y_is) ∙ other)

@@ -4,7 +4,7 @@ use Rattle.drv_cc.specs.declared.levels.Debugging.{Debugging}
 use Rattle.std.proofs.Common.{◌≡◌, ◌==◌, ◌&&◌, ◌∙◌, Bool, List, [], ◌∷◌, codes, false, refl, sym, true, ℕ}
 use Rattle.std.proofs.lemmas.Bool.{eq-eqb, eqb-true}
 
--- For the level of debugging: an option that doesn't begin with -g changes nothing of it.
+-- For the level of debugging (src/levels.rt): an option that doesn't begin with -g changes nothing of it.
 
 -- Two bytes that are those of -g make a word begin with it.
 both : (x y : Bool) → x ≡ true → y ≡ true → (x && (y && true)) ≡ true

@@ -3,7 +3,7 @@ use Rattle.drv_cc.specs.Front.{folders, prefix, prefixes, program_prefix}
 use Rattle.drv_cc.specs.declared.answer.Surroundings.{Surroundings}
 use Rattle.std.proofs.Common.{◌≡◌, ◌∙◌, List, ◌++◌, ap, append_assoc, map, ℕ}
 
--- For the folders that the front adds as -B: those of COMPILER_PATH, then gcc's own.
+-- For the folders that the front adds as -B (src/line_adding.rt): those of COMPILER_PATH, then gcc's own.
 
 -- For `add_all_prefixes` (src/line_adding.rt), which adds those two lists one after the other.
 pub all_added : (around : Surroundings) (old first second : List LineItem) (named own : List (List ℕ))

@@ -13,7 +13,7 @@ use Rattle.std.proofs.lemmas.List.{reverse-append, take_more}
 use Rattle.std.specs.List.{list_any}
 use Rattle.std.specs.Prelude.{reverse}
 
--- For the items that stay: of each class the last one, found from the end of the line.
+-- For the items that stay (src/keeping.rt and src/fronting.rt): of each class the last one, found from the end of the line.
 
 -- nothing was seen yet
 pub keeping_starts : (items stay : List Item) (seen : List ℕ → Bool) → stay ≡ [] → ((p : List ℕ) → seen p ≡ false)
@@ -54,7 +54,7 @@ noted_class p class new old is = is ∙ by (same class p) ∙ ap (λ b. b || old
     by true = refl
     by false = refl
 
--- and one that is of none
+-- no class that has a name is that of an item of none
 not_same : (p : List ℕ) → 0 < length p → same p [] ≡ false
 not_same [] some = absurd (omega (arith, some))
 not_same (b ∷ p) some = refl
@@ -93,7 +93,7 @@ pub keeping_ends : (items left stay : List Item) (seen : List ℕ → Bool) → 
     → reverse stay ≡ kept items
 keeping_ends items left stay seen h none = h.stays ∙ ap kept (ap (λ l. l ++ h.following) (sym none) ∙ h.parts)
 
--- For `do_all_stay` (src/keeping.rt), which goes over the same items but makes no list: before its loop,
+-- For `do_all_stay` (src/keeping.rt), which goes over the same items but makes no list: before its loop
 pub all_start : (items : List Item) (seen : List ℕ → Bool) → ((p : List ℕ) → seen p ≡ false) → KeepingAll items items seen
 all_start items seen none = record {
   following = [];
@@ -102,7 +102,7 @@ all_start items seen none = record {
   seen_are = λ p some. none p;
 }
 
--- after an item that stays,
+-- after an item that stays
 pub all_more : (items left before : List Item) (i : Item) (seen new : List ℕ → Bool) → KeepingAll items left seen → left ≡ before ++ i ∷ []
     → true ≡ stays_before i.class seen → Notes i.class seen new → KeepingAll items before new
 all_more items left before i seen new h parts is notes = record {
@@ -112,7 +112,7 @@ all_more items left before i seen new h parts is notes = record {
   seen_are = λ p some. notes p some ∙ ap (λ b. same p i.class || b) (h.seen_are p some);
 }
 
--- and where none is left.
+-- `do_all_stay` ends where no item is left: all stay
 pub all_end : (items left : List Item) (seen : List ℕ → Bool) → KeepingAll items left seen → left ≡ [] → kept items ≡ items
 all_end items left seen h none = let all : h.following ≡ items = ap (λ l. l ++ h.following) (sym none) ∙ h.parts in
     ap kept (sym all) ∙ h.stays ∙ all

@@ -8,7 +8,8 @@ use Rattle.drv_cc.specs.declared.table.Spelling.TheVariants.{Alone, Joined, Nowh
 use Rattle.std.proofs.Common.{◌≡◌, [], codes, refl}
 use Rattle.std.specs.Prelude.{None, Some}
 
--- Worked items: what gcc hands on of a library, a folder and pieces without a text, and of options of each spelling.
+-- Worked items: what gcc hands on of a library, a folder and pieces without a text, and of options of each spelling. Nothing cites them:
+-- each fails where a definition of specs/ changes what it gives.
 
 -- -l with an empty argument is handed on as a library, as gcc does.
 no_library : line_item (item (codes "-l") [] Joined Library) ≡ Some (item_of effect.Library (codes "-l") [])

@@ -31,7 +31,6 @@ nowhere = record { compiler = codes "/usr/bin/gcc"; folders = codes "/g/" ∷ []
 abbrev front_by : List ℕ → List ℕ → Answer
 front_by names line = front_of names [] nowhere (texts line)
 
--- The answer by the names above.
 abbrev front : List ℕ → Answer
 front line = front_by known line
 
@@ -60,7 +59,6 @@ children_given _ = []
 abbrev line_by : List ℕ → List ℕ → Option (List (List ℕ))
 line_by names text = words_given (front_by names text)
 
--- The words of a line by the names above.
 abbrev line : List ℕ → Option (List (List ℕ))
 line text = words_given (front text)
 
@@ -83,7 +81,6 @@ linked : line (codes "a.c -o foo") ≡ gives (codes "a.c -o foo --gdrv-dir=foo- 
 unfolding sections ignored unpaired debugged_by
 linked = refl
 
--- Where the program is named as the only source, nothing is put before them.
 named_as_source : line (codes "a.c -o a") ≡ gives (codes "a.c -o a --gdrv-base=a.c --gdrv-ext=.c -pipe")
 unfolding sections ignored unpaired debugged_by
 named_as_source = refl
@@ -98,7 +95,6 @@ nothing_compared : line (codes "-c a.c -fno-compare-debug") ≡ gives (codes "-c
 unfolding sections ignored unpaired debugged_by
 nothing_compared = refl
 
--- That is no comparison, so it is not refused.
 compared_with_nothing : line (codes "-fcompare-debug= -c a.c") ≡ gives (codes "-fcompare-debug= -c a.c --gdrv-base=a.c --gdrv-ext=.c -pipe")
 unfolding sections ignored unpaired debugged_by
 compared_with_nothing = refl
@@ -108,17 +104,14 @@ dependencies_printed : line (codes "-c a.c -MD -MF -") ≡ gives (codes "-c a.c 
 unfolding sections ignored unpaired debugged_by
 dependencies_printed = refl
 
--- The same where -Wp, says so.
 dependencies_in_a_piece : line (codes "-c a.c -Wp,-MMD,-") ≡ gives (codes "-c a.c -Wp,-MMD,- --gdrv-base=a.c --gdrv-ext=.c")
 unfolding sections ignored unpaired debugged_by
 dependencies_in_a_piece = refl
 
--- In a file they don't mix.
 dependencies_in_a_file : line (codes "-c a.c -MD -MF d") ≡ gives (codes "-c a.c -MD -MF d --gdrv-base=a.c --gdrv-ext=.c -pipe")
 unfolding sections ignored unpaired debugged_by
 dependencies_in_a_file = refl
 
--- Nor is there a pipe beside a dump on standard output.
 dump_printed : line (codes "-c a.c -fdump-tree-optimized=stdout")
     ≡ gives (codes "-c a.c -fdump-tree-optimized=stdout --gdrv-base=a.c --gdrv-ext=.c")
 unfolding sections ignored unpaired debugged_by
@@ -129,7 +122,6 @@ listing : line (codes "-c a.c -Wa,-W,-alh=l") ≡ gives (codes "-c a.c -Wa,-W,-a
 unfolding sections ignored unpaired debugged_by
 listing = refl
 
--- A word for the assembler that only ends like the option of a listing is none.
 no_listing : line (codes "-c a.c -Wa,-W,--al") ≡ gives (codes "-c a.c -Wa,-W,--al --gdrv-base=a.c --gdrv-ext=.c -pipe")
 unfolding sections ignored unpaired debugged_by
 no_listing = refl
@@ -139,12 +131,10 @@ two_sources : line (codes "a.c b.c") ≡ gives (codes "a.c b.c --gdrv-dir=a- -pi
 unfolding sections ignored unpaired debugged_by
 two_sources = refl
 
--- Their dependencies go to one file, named after the output.
 two_dependencies : line (codes "a.c b.c -o d/foo -MD") ≡ gives (codes "a.c b.c -o d/foo -MD --gdrv-dir=d/foo- --gdrv-dep=d/foo.d -pipe")
 unfolding sections ignored unpaired debugged_by
 two_dependencies = refl
 
--- That name is the output's without its last suffix.
 dependencies : line (codes "-c a.c -MD -o d/x.y.o")
     ≡ gives (codes "-c a.c -MD -o d/x.y.o --gdrv-dir=d/ --gdrv-base=x.y.c --gdrv-ext=.c --gdrv-dep=d/x.y.d -pipe")
 unfolding sections ignored unpaired debugged_by
@@ -188,7 +178,6 @@ renamed_options : line (codes "-c a.c --std=c99 --warn-no-unused --no-inline --m
 unfolding sections ignored unpaired debugged_by
 renamed_options = refl
 
--- --param and its argument become one word.
 parameter : line (codes "-c --param ssp-buffer-size=4 a.c")
     ≡ gives (codes "-c --param=ssp-buffer-size=4 a.c --gdrv-base=a.c --gdrv-ext=.c -pipe")
 unfolding sections ignored unpaired debugged_by
@@ -215,7 +204,6 @@ tuned : line_by (codes "-mcpu=\n-mcpu=>-mtune=") (codes "-c a.c -mtune=nocona -m
 unfolding sections ignored unpaired debugged_by
 tuned = refl
 
--- On other machines -mcpu= is an option of its own.
 own_machine : line_by (codes "-mcpu=") (codes "-c a.c -mcpu=a53 -mtune=a72")
     ≡ gives (codes "-c a.c -mcpu=a53 -mtune=a72 --gdrv-base=a.c --gdrv-ext=.c -pipe")
 unfolding sections ignored unpaired debugged_by
@@ -226,22 +214,18 @@ no_machine : front_by (codes "-mcpu=") (codes "-c a.c -mcpu=") ≡ Ask
 unfolding sections ignored unpaired debugged_by
 no_machine = refl
 
--- Of -no-pie and -pie the last stays.
 pie_last : line (codes "o.o -no-pie -pie") ≡ gives (codes "o.o -pie")
 unfolding sections ignored unpaired debugged_by
 pie_last = refl
 
--- -static-pie is in that ring too.
 no_pie_last : line (codes "o.o -static-pie -no-pie") ≡ gives (codes "o.o -no-pie")
 unfolding sections ignored unpaired debugged_by
 no_pie_last = refl
 
--- So is -shared, and -static is not.
 shared_then_pie : line (codes "o.o -shared -static -pie") ≡ gives (codes "o.o -static -pie")
 unfolding sections ignored unpaired debugged_by
 shared_then_pie = refl
 
--- -static and -static-pie stay side by side.
 static_twice : line (codes "o.o -static -static-pie") ≡ gives (codes "o.o -static -static-pie")
 unfolding sections ignored unpaired debugged_by
 static_twice = refl
@@ -251,12 +235,10 @@ code_models : line (codes "-c a.c -fPIC -fpie -fno-pic") ≡ gives (codes "-c a.
 unfolding sections ignored unpaired debugged_by
 code_models = refl
 
--- -m32, -mx32 and -m64 are one ring.
 widths : line (codes "-c a.c -m32 -mx32 -m64") ≡ gives (codes "-c a.c -m64 --gdrv-base=a.c --gdrv-ext=.c -pipe")
 unfolding sections ignored unpaired debugged_by
 widths = refl
 
--- Of two -march= the last stays.
 machines : line (codes "-c a.c -march=k8 -march=nocona") ≡ gives (codes "-c a.c -march=nocona --gdrv-base=a.c --gdrv-ext=.c -pipe")
 unfolding sections ignored unpaired debugged_by
 machines = refl
@@ -271,18 +253,15 @@ debug_again : line (codes "-c a.c -g0 -g") ≡ gives (codes "-c a.c -g0 -g --gdr
 unfolding sections ignored unpaired debugged_by
 debug_again = refl
 
--- For the assembler the last version counts.
 assembler_versions : line (codes "-c s.s -gdwarf-2 -gdwarf-5")
     ≡ gives (codes "-c s.s -gdwarf-2 -gdwarf-5 --gdrv-level=2 --gdrv-dwarf=5 -pipe")
 unfolding sections ignored unpaired debugged_by
 assembler_versions = refl
 
--- -gstrict-dwarf alone asks for no records.
 strict_alone : line (codes "-c s.s -gstrict-dwarf") ≡ gives (codes "-c s.s -gstrict-dwarf -pipe")
 unfolding sections ignored unpaired debugged_by
 strict_alone = refl
 
--- The last level that is named counts.
 level_set : line (codes "-c a.c -g3 -g1") ≡ gives (codes "-c a.c -g3 -g1 --gdrv-base=a.c --gdrv-ext=.c --gdrv-level=1 --gdrv-dwarf=5 -pipe")
 unfolding sections ignored unpaired debugged_by
 level_set = refl
@@ -325,12 +304,10 @@ two_formats : front (codes "o.o -gdwarf-4 -gstabs") ≡ Ask
 unfolding sections ignored unpaired debugged_by
 two_formats = refl
 
--- So is a number that is none,
 no_loops : front (codes "o.o -ftree-parallelize-loops=x") ≡ Ask
 unfolding sections ignored unpaired debugged_by
 no_loops = refl
 
--- and an option whose argument is missing.
 no_error_named : front_by (codes "-Werror=") (codes "o.o -Werror=") ≡ Ask
 unfolding sections ignored unpaired debugged_by
 no_error_named = refl
@@ -350,7 +327,6 @@ parameter_of_a_link : front (codes "o.o --param x=1") ≡ Ask
 unfolding sections ignored unpaired debugged_by
 parameter_of_a_link = refl
 
--- The compiler of a source judges it.
 parameter_of_a_source : line (codes "-c a.c --param x=1") ≡ gives (codes "-c a.c --param=x=1 --gdrv-base=a.c --gdrv-ext=.c -pipe")
 unfolding sections ignored unpaired debugged_by
 parameter_of_a_source = refl
@@ -422,7 +398,6 @@ numbered : line_by (codes "-fmax-errors=#") (codes "o.o -fmax-errors=10") ≡ gi
 unfolding sections ignored unpaired debugged_by
 numbered = refl
 
--- What is none is left to gcc, before an unknown word is refused.
 no_number : front_by (codes "-fmax-errors=#") (codes "o.o -fmax-errors=x -foo") ≡ Ask
 unfolding sections ignored unpaired debugged_by
 no_number = refl
@@ -433,22 +408,18 @@ listed : line_by (codes "-ftls-model=?\n-ftls-model=local-exec") (codes "o.o -ft
 unfolding sections ignored unpaired debugged_by
 listed = refl
 
--- Another argument is left to gcc.
 unlisted : front_by (codes "-ftls-model=?\n-ftls-model=local-exec") (codes "o.o -ftls-model=local") ≡ Ask
 unfolding sections ignored unpaired debugged_by
 unlisted = refl
 
--- So is a check that doesn't exist,
 check_of_none : front (codes "o.o -fsanitize=address,adress") ≡ Ask
 unfolding sections ignored unpaired debugged_by
 check_of_none = refl
 
--- while all checks may be turned off,
 all_checks_off : line (codes "o.o -fno-sanitize=all,,leak") ≡ gives (codes "o.o -fno-sanitize=all,,leak")
 unfolding sections ignored unpaired debugged_by
 all_checks_off = refl
 
--- and not turned on.
 all_checks_on : front (codes "o.o -fsanitize=all") ≡ Ask
 unfolding sections ignored unpaired debugged_by
 all_checks_on = refl
@@ -463,22 +434,18 @@ unknown : front (codes "-c a.c -shred") ≡ Refuse (UnknownOption (codes "-shred
 unfolding sections ignored unpaired debugged_by
 unknown = refl
 
--- -o at the end of a line lacks its argument.
 no_argument : front (codes "a.c -o") ≡ Refuse (NoArgument (codes "-o") ∷ [])
 unfolding sections ignored unpaired debugged_by
 no_argument = refl
 
--- An empty name of the output is refused.
 no_output : front_of known [] nowhere (codes "-o" ∷ [] ∷ codes "a.c" ∷ []) ≡ Refuse (EmptyOutput ∷ [])
 unfolding sections ignored unpaired debugged_by
 no_output = refl
 
--- So is a line without a file or a library.
 no_input : front (codes "-c") ≡ Refuse (NoInput ∷ [])
 unfolding sections ignored unpaired debugged_by
 no_input = refl
 
--- The linkers of -fuse-ld= are listed in the table too.
 linkers : front (codes "-fuse-ld=foo o.o") ≡ Refuse (UnknownOption (codes "-fuse-ld=foo") ∷ [])
 unfolding sections ignored unpaired debugged_by
 linkers = refl
@@ -489,12 +456,10 @@ own_words : front_of known named nowhere (texts (codes "a.c -specs=v --gdrv-dir=
 unfolding sections ignored unpaired debugged_by
 own_words = refl
 
--- -time is refused, and -dumpbase is not.
 bases : front (codes "-S a.c -dumpbase zz.c -time -foo") ≡ Refuse (NotTaken (codes "-time") ∷ UnknownOption (codes "-foo") ∷ [])
 unfolding sections ignored unpaired debugged_by
 bases = refl
 
--- --version is a question, also beside a file.
 version : front (codes "--version a.c") ≡ Ask
 unfolding sections ignored unpaired debugged_by
 version = refl
@@ -504,12 +469,10 @@ verbose_alone : front (codes "-v") ≡ Ask
 unfolding sections ignored unpaired debugged_by
 verbose_alone = refl
 
--- -print-file-name= is one with any options.
 named_file : front (codes "-print-file-name=libc.so -m32") ≡ Ask
 unfolding sections ignored unpaired debugged_by
 named_file = refl
 
--- A question goes before an unknown word.
 version_before_unknown : front (codes "-dumpversion -foo") ≡ Ask
 unfolding sections ignored unpaired debugged_by
 version_before_unknown = refl

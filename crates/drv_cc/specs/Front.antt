@@ -26,36 +26,48 @@ use Rattle.std.specs.Prelude.{map, nat_eq, nat_lt, not, true, ℕ}
 -- A line of gcc as a line of the driver: a question for the compiler, refusals, or the items of what stays of the line and of what gcc's
 -- driver adds to it (GCC manual, "Invoking GCC"). No words are made of them: an empty argument is one, and what is added is a switch of its
 -- name.
+-- For clauses of src/quoting.rt, src/line_adding.rt, src/piping.rt and others. drv_compile cites it too. The texts of drv_gcc
+-- (specs/SpecFile.antt, specs/Fixed.antt) read its words --gdrv-..: a word that changes here changes there too.
 
 -- Added: threads, where an option needs them ("C Dialect Options", -fopenmp; "Optimize Options", -ftree-parallelize-loops).
+
+-- whether -ftree-parallelize-loops= asks for more than one thread: no number, 0 and 1 don't
 abbrev pub is_several : Option (List ℕ) → Bool
 is_several None = false
 is_several (Some number) = not (is_among ([] ∷ codes "0" ∷ codes "1" ∷ []) number)
 
+-- whether an option of the line needs threads, as gcc's driver says it
 abbrev pub needs_threads : List Item → Bool
 needs_threads items =
     has (codes "-fopenmp") items || has (codes "-fopenacc") items || has (codes "-fgnu-tm") items
     || is_several (last_argument (codes "-ftree-parallelize-loops=") items)
 
+-- the switch -pthread, where the line needs threads
 abbrev pub thread_words : List Item → List (List ℕ)
 thread_words items = if needs_threads items then codes "-pthread" ∷ [] else []
 
 -- Added: the folders of COMPILER_PATH and LIBRARY_PATH ("Environment Variables"); an empty one is the folder of the call.
+
+-- a folder of such a path: ./ for an empty one, since a prefix of no text would name no folder
 abbrev pub named_folder : List ℕ → List ℕ
 named_folder [] = codes "./"
 named_folder (b ∷ folder) = b ∷ folder
 
+-- the folders of a path whose parts have a colon between them; none where the variable isn't set
 abbrev pub folders : Option (List ℕ) → List (List ℕ)
 folders None = []
 folders (Some path) = map named_folder (slice_split (λ b. b == colon) path)
 
+-- whether a variable is set, be it empty
 abbrev pub is_set : Option (List ℕ) → Bool
 is_set None = false
 is_set (Some value) = true
 
+-- the word for a folder of LIBRARY_PATH: the texts put it after the line's own -L
 abbrev pub library_words : List ℕ → List (List ℕ)
 library_words folder = (codes "--gdrv-lib=" ++ folder) ∷ []
 
+-- a folder as the line's own -B would give it
 abbrev pub prefix : List ℕ → LineItem
 prefix = item_of effect.Prefix (codes "-B")
 
@@ -68,48 +80,62 @@ program_prefix = item_of effect.Prefix (codes "--gdrv-path=")
 abbrev pub prefixes : Surroundings → List LineItem
 prefixes around = map program_prefix (folders around.compiler_path) ++ map prefix around.folders
 
--- and so are start files, also those that a vendor's spec file names
+-- whether the line has -B or names a vendor's spec file: then start files are looked for in the compiler's own folders last too
 abbrev pub has_folders : List Item → Bool
 has_folders items = has (codes "-B") items || is_vendors items
 
+-- the word by which the texts name those folders of start files
 abbrev pub folder_words : List Item → List (List ℕ)
 folder_words items = if has_folders items then codes "--gdrv-dirs" ∷ [] else []
 
+-- the folders where programs are looked for beside those of the line, where -B, a spec file or COMPILER_PATH asks for it
 abbrev pub program_items : Surroundings → List Item → List LineItem
 program_items around items = if has_folders items || is_set around.compiler_path then prefixes around else []
 
 -- Added: the words that -wrapper puts before each command ("Overall Options", -wrapper; "gcc.cc", insert_wrapper: several commas are one,
 -- and the last word may be empty).
+
+-- the parts of an argument between its commas
 abbrev pub pieces : List ℕ → List (List ℕ)
 pieces argument = slice_split (λ b. b == comma) argument
 
+-- whether the last word of -wrapper is empty: gcc keeps it then
 abbrev pub has_empty_end : List ℕ → Bool
 has_empty_end argument = length argument == 0 || ends_with nat_eq argument (codes ",")
 
+-- the empty last word of -wrapper, where there is one
 abbrev pub wrapper_end : List ℕ → List (List ℕ)
 wrapper_end argument = if has_empty_end argument then codes "--gdrv-wrapper=" ∷ [] else []
 
+-- a word for each part of -wrapper that isn't empty, and for an empty last one
 abbrev pub wrapper_words_of : Option (List ℕ) → List (List ℕ)
 wrapper_words_of None = []
 wrapper_words_of (Some argument) = flat_map (with_value (codes "--gdrv-wrapper=")) (pieces argument) ++ wrapper_end argument
 
+-- the words of the last -wrapper: the driver puts them before each command
 abbrev pub wrapper_words : List Item → List (List ℕ)
 wrapper_words items = wrapper_words_of (last_argument (codes "-wrapper") items)
 
 -- Added: pipes, where a source is compiled or assembled and nothing speaks against them ("Overall Options", -pipe).
+
+-- the options that speak against pipes: they stop early, keep files, or run their own commands
 abbrev pub unpiped : List (List ℕ)
 unpiped = texts (codes "-pipe -save-temps -save-temps=cwd -save-temps=obj -S -E -M -MM -fsyntax-only -no-integrated-cpp -wrapper")
 
 -- what may write on standard output, which is the pipe then ("Preprocessor Options", -MF, -Wp,; "C Dialect Options", -aux-info;
 -- "Developer Options", -fdump-, -fopt-info; "Instrumentation Options", -fprofile-note=; "Overall Options", -fplugin=)
+
+-- whether an argument names standard output
 abbrev pub is_output : List ℕ → Bool
 is_output name = same name (codes "-") || same name (codes "/dev/stdout")
 
+-- whether an item names standard output as its file: -MF, -aux-info, or a piece for the preprocessor
 abbrev pub names_output : Item → Bool
 names_output i =
     ((same i.name (codes "-MF") || same i.name (codes "-aux-info") || same i.name (codes "-Xpreprocessor")) && is_output i.argument)
     || (same i.name (codes "-Wp,") && list_any is_output (pieces i.argument))
 
+-- whether an item may write on standard output: then commands must not be joined by a pipe
 abbrev pub prints : Item → Bool
 prints i =
     begins (codes "-fplugin=") i.name || begins (codes "-fdump-") i.name || begins (codes "-fopt-info") i.name
@@ -121,25 +147,33 @@ lists i =
     (same i.name (codes "-Xassembler") && begins (codes "-a") i.argument)
     || (same i.name (codes "-Wa,") && list_any (begins (codes "-a")) (pieces i.argument))
 
+-- whether an item speaks against pipes
 abbrev pub is_unpiped : Item → Bool
 is_unpiped i = is_among unpiped i.name || prints i || lists i
 
+-- whether the commands of a line are joined by pipes: it has a source, and no item speaks against them
 abbrev pub is_piped : List Item → Bool
 is_piped items = is_some (sources worked items) && not (list_any is_unpiped items)
 
+-- the switch -pipe, where commands are joined: files between them would be slower and mean the same
 abbrev pub pipe_words : List Item → List (List ℕ)
 pipe_words items = if is_piped items then codes "-pipe" ∷ [] else []
 
 -- All that is added: each word is a switch, and the pipe a setting too.
+
+-- the words for folders, libraries and the wrapper, which precede the other words that are added
 abbrev pub first_words : Surroundings → List Item → List (List ℕ)
 first_words around items = folder_words items ++ flat_map library_words (folders around.library_path) ++ wrapper_words items
 
+-- all words that are added as switches, in their order
 abbrev pub added_switches : Surroundings → List Item → List (List ℕ)
 added_switches around items = first_words around items ++ side_words items ++ debug_words items ++ check_words items
 
+-- the setting of the driver that joins commands by pipes
 abbrev pub added_pipe : List Item → List LineItem
 added_pipe items = map (alone (effect.TurnsOn setting.Pipe)) (pipe_words items)
 
+-- all items that gcc's driver would add to a line, or add in effect
 abbrev pub added_items : Surroundings → List Item → List LineItem
 added_items around items =
     map (alone effect.Switch) (thread_words items) ++ program_items around items ++ map (alone effect.Switch) (added_switches around items)
@@ -147,93 +181,120 @@ added_items around items =
 
 -- For the children of a link: the linker's plugin calls the compiler again, with the switches of the line (GCC Internals, "LTO",
 -- "lto-wrapper"). Each word is between single quotes.
+
+-- a byte between single quotes: a quote ends them, is quoted alone, and begins them again
 abbrev pub quoted_byte : ℕ → List ℕ
 quoted_byte b = if b == single_quote then codes "'\\''" else b ∷ []
 
+-- a word between single quotes, as a shell reads it
 abbrev pub quoted : List ℕ → List ℕ
 quoted word = single_quote ∷ flat_map quoted_byte word ++ single_quote ∷ []
 
+-- words between quotes, with a blank between two: the form in which gcc's plugin reads a line
 abbrev pub quoted_line : List (List ℕ) → List ℕ
 quoted_line words = drop 1 (flat_map (λ word. space ∷ quoted word) words)
 
+-- whether an item is a switch, known or not: the plugin gets these alone
 abbrev pub is_switch : Role → Bool
 is_switch role.Switch = true
 is_switch role.Unknown = true
 is_switch _ = false
 
+-- the words of the line's switches
 abbrev pub switch_words : List Item → List (List ℕ)
 switch_words items = flat_map words_of (filter (λ i. is_switch i.role) items)
 
+-- the folder and name for the side files of what the plugin compiles
 abbrev pub dump_words : List Item → List (List ℕ)
 dump_words items = codes "-dumpdir" ∷ link_beginning items ∷ []
 
+-- the words that COLLECT_GCC_OPTIONS holds
 abbrev pub collected : List Item → List (List ℕ)
 collected items = switch_words items ++ thread_words items ++ dump_words items
 
 -- The pieces for the assembler, each between quotes: those of -Wa, between commas, and those of -Xassembler ("Assembler Options").
+
+-- a byte of -Wa,: a comma ends a quoted piece and begins the next
 abbrev pub piece_byte : ℕ → List ℕ
 piece_byte b = if b == comma then codes "' '" else quoted_byte b
 
+-- the argument of -Wa, as quoted pieces with a blank between two
 abbrev pub quoted_pieces : List ℕ → List ℕ
 quoted_pieces argument = single_quote ∷ flat_map piece_byte argument ++ single_quote ∷ []
 
+-- what an item adds to COLLECT_AS_OPTIONS: its pieces for the assembler
 abbrev pub piece_text : Item → List ℕ
 piece_text i =
     if same i.name (codes "-Wa,") then space ∷ quoted_pieces i.argument
     else if same i.name (codes "-Xassembler") then space ∷ quoted i.argument else []
 
+-- all pieces for the assembler, quoted, with a blank between two
 abbrev pub assembler_line : List Item → List ℕ
 assembler_line items = drop 1 (flat_map piece_text items)
 
+-- a variable of the environment, by its name and value
 abbrev pub variable : List ℕ → List ℕ → Variable
 variable name value = record { name = name; value = value }
 
+-- whether the line has pieces for the assembler: without them the variable isn't set
 abbrev pub has_pieces : List Item → Bool
 has_pieces items = has (codes "-Wa,") items || has (codes "-Xassembler") items
 
+-- the variable that gives the pieces for the assembler to a link's children
 abbrev pub piece_variables : List Item → List Variable
 piece_variables items = variable (codes "COLLECT_AS_OPTIONS") (assembler_line items) ∷ []
 
+-- the variable COLLECT_AS_OPTIONS, where the line has pieces for the assembler
 abbrev pub assembler_variables : List Item → List Variable
 assembler_variables items = if has_pieces items then piece_variables items else []
 
+-- the variables that name the compiler and its line, by the words of that line
 abbrev pub variables_by : Surroundings → List (List ℕ) → List Variable
 variables_by around words = variable (codes "COLLECT_GCC") around.compiler ∷ variable (codes "COLLECT_GCC_OPTIONS") (quoted_line words) ∷ []
 
+-- the variables that name the compiler and the line's own switches
 abbrev pub compiler_variables : Surroundings → List Item → List Variable
 compiler_variables around items = variables_by around (collected items)
 
+-- the variables that are set for a link's children: none where the line stops before the link or turns LTO off
 abbrev pub children : Surroundings → List Item → List Variable
 children around items =
     if stops items || has (codes "-fno-lto") items then [] else compiler_variables around items ++ assembler_variables items
 
 -- Which stages there are: no link with -c, -S and -E ("Overall Options"), -M and -MM ("Preprocessor Options") and -fsyntax-only ("Warning
 -- Options"), and nothing but the link where no file has the suffix of a source and -x gives none its language.
+
+-- whether an option keeps the line from linking
 abbrev pub is_unlinked : Item → Bool
 is_unlinked i = is_among (texts (codes "-c -S -E -M -MM -fsyntax-only")) i.name
 
+-- whether a file's suffix is that of a source
 abbrev pub ends_as_source : List ℕ → Bool
 ends_as_source name = list_any (ends_with nat_eq name) (texts (codes ".c .i .h .s .S .sx"))
 
+-- whether an item is a file with the suffix of a source
 abbrev pub is_source_file : Item → Bool
 is_source_file i = is_file_role i.role && ends_as_source i.name
 
--- Each source is of C where -x is on no file, none is standard input, and the only suffix of a source is .c.
+-- whether an item is a source that isn't of C: each source is of C where -x is on no file, none is standard input, and the only suffix is
+-- .c
 abbrev pub is_other_file : Item → Bool
 is_other_file i =
     is_file_role i.role && ((ends_as_source i.name && not (ends_with nat_eq i.name (codes ".c"))) || same i.name (codes "-"))
 
--- Nor is there a preprocessor alone: -E, -M and -MM.
+-- whether an option makes the line a preprocessor alone: then not each source is compiled
 abbrev pub preprocesses : Item → Bool
 preprocesses i = is_among (texts (codes "-E -M -MM")) i.name
 
+-- whether all sources of the line are of C and compiled: a shorter file of texts has all that it needs then
 abbrev pub is_c_alone : List Item → Bool
 is_c_alone items = not (has (codes "-x") items) && not (list_any is_other_file items || list_any preprocesses items)
 
--- A link with the library of a check has texts that others lack.
+-- whether the line names a check: its link needs texts that the shorter files lack
 abbrev pub is_checking : List Item → Bool
 is_checking = has (codes "-fsanitize=")
 
+-- which stages the line may have: it chooses the file of texts that the driver reads, the shortest that has what it needs
 abbrev pub stages : List Item → Stages
 stages items =
     if list_any is_unlinked items then (if is_c_alone items then SourcesOfC else Sources)
@@ -242,9 +303,12 @@ stages items =
     else Link
 
 -- The answer.
+
+-- the items of the driver's line: those of gcc's line that stay, and those that are added
 abbrev pub line_items : Surroundings → List Item → List LineItem
 line_items around items = filter_map line_item items ++ added_items around items
 
+-- the answer for a line that is carried out
 abbrev pub run_of : Surroundings → List Item → Answer
 run_of around items =
     Run (record {
@@ -255,11 +319,14 @@ run_of around items =
       stages = stages items;
     })
 
+-- the faults of a line, or what it runs: of each class only the last item, since the others have no effect
 abbrev pub refused_or_run : Surroundings → List Item → List Refusal → Answer
 refused_or_run around items faults = if nat_lt 0 (length faults) then Refuse faults else run_of around (kept items)
 
+-- the answer for a line that was read as items: a question goes to gcc whole, before faults are looked for
 abbrev pub answer_of : List (List ℕ) → Surroundings → List Item → Answer
 answer_of named around items = if is_asked items then Ask else refused_or_run around items (refusals named items)
 
+-- the answer for the words of a line. `known` has the options beyond the table, `named` the switches that its spec files name
 abbrev pub front_of : List ℕ → List (List ℕ) → Surroundings → List (List ℕ) → Answer
 front_of known named around words = answer_of named around (items_of known None words)

@@ -13,13 +13,17 @@ use Rattle.std.specs.Prelude.{◌==◌, ◌&&◌, ◌||◌, Bool, List, [], ◌�
 use Rattle.std.specs.Prelude.{length, nat_eq, nat_lt, not, true, ℕ}
 
 -- A line of gcc as a list of items (GCC manual, "Invoking GCC"; "Option Summary").
+-- For clauses of src/reading.rt, src/values.rt, src/classes.rt and others. drv_compile cites it too.
 
+-- whether two texts have the same bytes
 abbrev pub same : List ℕ → List ℕ → Bool
 same = pointwise nat_eq
 
+-- whether a word begins with a beginning
 abbrev pub begins : List ℕ → List ℕ → Bool
 begins beginning word = starts_with nat_eq word beginning
 
+-- whether a name is one of a list
 abbrev pub is_among : List (List ℕ) → List ℕ → Bool
 is_among names name = list_any (same name) names
 
@@ -30,6 +34,7 @@ abbrev pub paired : List ℕ → List ℕ
 paired (dash ∷ letter ∷ rest) = dash ∷ letter ∷ (if begins (codes "no-") rest then drop 3 rest else rest)
 paired word = word
 
+-- whether an option's letter is one that takes no-: -W, -f, -g and -m do (-Wall, -Wno-all)
 abbrev pub has_two_signs : List ℕ → Bool
 has_two_signs (dash ∷ letter ∷ rest) = list_any (nat_eq letter) (codes "Wfgm")
 has_two_signs word = false
@@ -41,21 +46,25 @@ class_alone name =
     else if list_any (nat_eq equals) name then []
     else if is_among (texts unpaired) name then [] else paired name
 
+-- the class of a name by its spelling, apart from the rings: an option with an argument is of none
 abbrev pub class_by : Spelling → List ℕ → List ℕ
 class_by Alone name = class_alone name
 class_by Joined name = []
 class_by Separate name = []
 class_by Nowhere name = []
 
+-- the class of an option that a ring may have: the ring takes the place of its own
 abbrev pub ring_or : List ℕ → Option (List ℕ) → List ℕ
 ring_or class None = class
 ring_or class (Some ring) = ring
 
+-- the class of an option, by which a later one on the line takes it back
 abbrev pub class_of : Spelling → List ℕ → List ℕ
 class_of spelling name = ring_or (class_by spelling name) (find (λ ring. is_among (texts ring) name) rings)
 
 -- Items.
 
+-- an item of an option, with the class that its name has
 abbrev pub item : List ℕ → List ℕ → Spelling → Role → Item
 item name argument spelling role = record {
   name = name;
@@ -70,6 +79,7 @@ item name argument spelling role = record {
 abbrev pub plain : Role → List ℕ → Item
 plain role word = record { name = word; argument = []; spelling = Alone; role = role; class = [] }
 
+-- the item of a row of the table, with an argument
 abbrev pub by_row : OptionRow → List ℕ → Item
 by_row r argument = item r.name argument r.spelling r.role
 
@@ -78,6 +88,7 @@ pub data Start : Type 0 where
   Whole : Item → Start
   Wants : OptionRow → Start
 
+-- what an option makes of the rest of its word; one that needs an argument in its word and has none is Lacking
 abbrev pub with_rest : Takes → OptionRow → List ℕ → Start
 with_rest Nothing r rest = Whole (by_row r [])
 with_rest Next r rest = Wants r
@@ -87,6 +98,7 @@ with_rest Rest r rest = Whole (by_row r rest)
 with_rest Either r [] = Wants r
 with_rest Either r (b ∷ rest) = Whole (by_row r (b ∷ rest))
 
+-- whether an argument may follow the option in its word: then a word that only begins with the option fits too
 abbrev pub takes_rest : Takes → Bool
 takes_rest Nothing = false
 takes_rest Next = false
@@ -94,23 +106,28 @@ takes_rest Attached = true
 takes_rest Rest = true
 takes_rest Either = true
 
+-- whether a word fits an option: it is the option, or begins with it where the rest may be an argument
 abbrev pub option_fits : Takes → List ℕ → List ℕ → Bool
 option_fits takes word option = if takes_rest takes then begins option word else same option word
 
+-- whether a word fits a row of the table
 abbrev pub fits : List ℕ → OptionRow → Bool
 fits word r = option_fits r.takes word r.option
 
+-- the row that decides a word: the first one that fits
 abbrev pub first_row : List ℕ → Option OptionRow
 first_row word = find (fits word) table
 
--- what a word that no row fits is read as
+-- whether a word begins as a long name and goes on: only then is it read by its other name
 abbrev pub is_longer : List ℕ → List ℕ × List ℕ → Bool
 is_longer word rename = begins rename.0 word && nat_lt (length rename.0) (length word)
 
+-- a word with the beginning of its other name, where there is one
 abbrev pub renamed_by : List ℕ → Option (List ℕ × List ℕ) → List ℕ
 renamed_by word None = word
 renamed_by word (Some rename) = rename.1 ++ drop (length rename.0) word
 
+-- what a word that no row fits is read as: by its other name, or as it is
 abbrev pub renamed : List ℕ → List ℕ
 renamed word = renamed_by word (find (is_longer word) renames)
 
@@ -127,26 +144,33 @@ is_known known name = is_among (slice_split (λ b. b == newline) known) name
 abbrev pub machine_name : List ℕ → List ℕ
 machine_name known = if is_known known (codes "-mcpu=>-mtune=") then codes "-mtune=" else codes "-mcpu="
 
+-- an item of -mcpu=, by the name that this compiler's machine has for it
 abbrev pub machine_item : List ℕ → List ℕ → Item
 machine_item known machine = item (machine_name known) machine Joined Switch
 
+-- a name that is known beyond the table, as an item: a switch that is one word
 abbrev pub known_item : List ℕ → List ℕ → Item
 known_item known name =
     if begins (codes "-mcpu=") name then machine_item known (drop (length (codes "-mcpu=")) name) else item name [] Alone Switch
 
--- an option is known by its whole name, with any argument by its name up to =, and with a number by that and a mark
+-- what follows a name's first =; an option is known by its whole name, with any argument by its name up to =, and with a number by that and
+-- #
 abbrev pub value_of : List ℕ → List ℕ
 value_of name = drop (length (head_of name)) name
 
+-- whether a byte is a decimal digit
 abbrev pub is_digit : ℕ → Bool
 is_digit b = nat_lt 47 b && nat_lt b 58
 
+-- whether an argument is a number: digits alone, and at least one
 abbrev pub is_number : List ℕ → Bool
 is_number value = nat_lt 0 (length value) && list_all is_digit value
 
+-- the name under which an option with a number is known: up to its =, and a # there
 abbrev pub numbered : List ℕ → List ℕ
 numbered name = if is_number (value_of name) then head_of name ++ codes "#" else head_of name
 
+-- whether a name with its argument is known: with any, or with a number if it is one
 abbrev pub takes_value : List ℕ → List ℕ → Bool
 takes_value known name = is_known known (head_of name) || is_known known (numbered name)
 
@@ -154,6 +178,7 @@ takes_value known name = is_known known (head_of name) || is_known known (number
 abbrev pub is_open : List ℕ → Bool
 is_open name = list_any (ends_with nat_eq name) (texts (codes "= - ? #"))
 
+-- whether a name is an option beyond the table: the compiler takes it as it is
 abbrev pub accepts : List ℕ → List ℕ → Bool
 accepts known name = if is_open name then not (is_known known name) && takes_value known name
     else is_known known name || takes_value known name
@@ -168,6 +193,7 @@ judges known name = is_known known name || (is_known known (head_of name ++ code
 abbrev pub leaves : List ℕ → List ℕ → Bool
 leaves known positive = nat_lt 0 (length known) && not (is_known known (head_of positive) || judges known positive)
 
+-- whether a word is a -Wno- that is left to the compiler: one without =, or one whose positive form gcc's driver doesn't know
 abbrev pub turns_off : List ℕ → List ℕ → Bool
 turns_off known word = begins (codes "-Wno-") word && (not (list_any (nat_eq equals) word) || leaves known (paired word))
 
@@ -180,19 +206,23 @@ beyond known word name =
     else if judges known name then plain Question word
     else plain Unknown word
 
+-- whether a word is a file: one that doesn't begin with a hyphen, and - alone
 abbrev pub is_file : List ℕ → Bool
 is_file [] = true
 is_file (b ∷ []) = true
 is_file (b ∷ c ∷ rest) = not (b == hyphen)
 
+-- a word that no row fits, by its other name: the row of that name decides, or the names beyond the table do
 abbrev pub start_renamed : List ℕ → List ℕ → List ℕ → Option OptionRow → Start
 start_renamed known word name (Some r) = with_rest r.takes r (drop (length r.option) name)
 start_renamed known word name None = Whole (beyond known word name)
 
+-- a word that begins with a hyphen: its row decides, or else its other name
 abbrev pub start_option : List ℕ → List ℕ → Option OptionRow → Start
 start_option known word (Some r) = with_rest r.takes r (drop (length r.option) word)
 start_option known word None = start_renamed known word (renamed word) (first_row (renamed word))
 
+-- how a word begins, where no option before it takes it as argument
 abbrev pub start_of : List ℕ → List ℕ → Start
 start_of known word = if is_file word then Whole (plain Input word) else start_option known word (first_row word)
 
@@ -201,6 +231,7 @@ abbrev pub with_start : Start → (Option OptionRow → List Item) → List Item
 with_start (Whole i) following = i ∷ following None
 with_start (Wants r) following = following (Some r)
 
+-- the items of a line's words. `known` has the names beyond the table; a row that waits for its argument at the end is Lacking
 abbrev pub items_of : List ℕ → Option OptionRow → List (List ℕ) → List Item
 items_of known None [] = []
 items_of known (Some r) [] = plain Lacking r.option ∷ []
@@ -214,5 +245,6 @@ spelled_by Joined name argument = (name ++ argument) ∷ []
 spelled_by Separate name argument = name ∷ argument ∷ []
 spelled_by Nowhere name argument = []
 
+-- the words by which an item is given on; what is called by another name is spelled by that
 abbrev pub words_of : Item → List (List ℕ)
 words_of i = spelled_by i.spelling i.name i.argument

@@ -5,6 +5,7 @@ use Rattle.std.specs.Option.{is_some}
 use Rattle.std.specs.Prelude.{◌≡◌, List, Option, false, ℕ}
 
 -- What holds of the level of a line (GCC manual, "Debugging Options").
+-- For the laws of src/laws.rt.
 
 -- no option of a list names one
 abbrev pub NoneNames : {A : Type 0} → (List ℕ → Option A) → List Item → Type 0

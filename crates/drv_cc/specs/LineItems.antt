@@ -13,6 +13,7 @@ use Rattle.std.specs.Prelude.{List, [], None, Option, Some, codes, if◌then◌e
 
 -- An item of a line of gcc as one of the driver's line (GCC manual, "Overall Options", "Directory Options", "Link Options", "Preprocessor
 -- Options", "Assembler Options"): what it does there, by the name of its option.
+-- For clauses of src/line_items.rt, src/line_adding.rt and src/giving.rt. drv_compile cites it too.
 
 -- what an option does that has no argument, one in its word, or one after it
 abbrev pub alone_effect : List ℕ → Effect
@@ -23,6 +24,7 @@ alone_effect name =
     else if same name (codes "-pipe") then effect.TurnsOn setting.Pipe
     else effect.Switch
 
+-- what an option does whose argument is in its word
 abbrev pub joined_effect : List ℕ → Effect
 joined_effect name =
     if same name (codes "-specs=") then effect.Specs
@@ -32,6 +34,7 @@ joined_effect name =
     else if same name (codes "-Wp,") then effect.Pieces tool.Preprocessor
     else effect.JoinedSwitch
 
+-- what an option does whose argument is the next word
 abbrev pub separate_effect : List ℕ → Effect
 separate_effect name =
     if same name (codes "-x") then effect.Language
@@ -42,23 +45,28 @@ separate_effect name =
     else if same name (codes "-Xpreprocessor") then effect.Piece tool.Preprocessor
     else effect.SwitchWithArgument
 
+-- what an option does on the driver's line, by its spelling; one that is spelled nowhere does nothing there
 abbrev pub option_effect : Spelling → List ℕ → Option Effect
 option_effect Alone name = Some (alone_effect name)
 option_effect Joined name = Some (joined_effect name)
 option_effect Separate name = Some (separate_effect name)
 option_effect Nowhere name = None
 
+-- what an item does there: a file is a file, whatever its name
 abbrev pub effect_of : Role → Spelling → List ℕ → Option Effect
 effect_of role.Input spelling name = Some effect.File
 effect_of _ spelling name = option_effect spelling name
 
+-- an item of the driver's line
 abbrev pub item_of : Effect → List ℕ → List ℕ → LineItem
 item_of effect option argument = record { effect = effect; option = option; argument = argument }
 
+-- an item as one of the driver's line, if it does anything there
 abbrev pub with_effect : Option Effect → Item → Option LineItem
 with_effect None i = None
 with_effect (Some effect) i = Some (item_of effect i.name i.argument)
 
+-- an item of gcc's line as one of the driver's, by its role and spelling; some do nothing there
 abbrev pub line_item : Item → Option LineItem
 line_item i = with_effect (effect_of i.role i.spelling i.name) i
 

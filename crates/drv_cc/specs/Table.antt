@@ -10,6 +10,10 @@ use Rattle.std.specs.Prelude.{◌==◌, List, [], ◌∷◌, ◌++◌, codes, if
 
 -- The option table (GCC manual, the section that each part names; "GCC Internals", "Option Files": which forms an option has and which
 -- other it is an alias of). The first row that fits a word decides.
+-- The values of Takes, Spelling and Role are explained in src/table.rt: Attached takes the word's rest, which isn't empty, and Rest one that
+-- may be; Either takes the next word where the rest is empty. After a change run tools/option_rows: it writes the rows and names of the code
+-- (src/whole_options.rt and its like; docs/CHANGING.md).
+-- For clauses of src/classes.rt, src/reading.rt, src/renaming.rt and src/checks.rt. drv_compile cites it too.
 
 -- an option, how it takes its argument, the name that it is called by, how that is spelled, and what it is on the line
 pub record OptionRow : Type 0 where
@@ -26,6 +30,7 @@ pub record Section : Type 0 where
   pub role : Role
   pub entries : List ℕ
 
+-- a section by its four parts, so that each one below is a line and its text
 abbrev pub section : Takes → Spelling → Role → List ℕ → Section
 section takes spelling role entries = record { takes = takes; spelling = spelling; role = role; entries = entries }
 
@@ -33,18 +38,22 @@ section takes spelling role entries = record { takes = takes; spelling = spellin
 abbrev pub texts : List ℕ → List (List ℕ)
 texts text = slice_split (λ b. b == space) text
 
+-- the option of an entry: what precedes its >
 abbrev pub option_of : List ℕ → List ℕ
 option_of [] = []
 option_of (b ∷ entry) = if b == greater_than then [] else b ∷ option_of entry
 
+-- the name after the > of an entry; no text where it has none
 abbrev pub name_after : List ℕ → List ℕ
 name_after [] = []
 name_after (b ∷ entry) = if b == greater_than then entry else name_after entry
 
+-- a name, or the entry itself where it has no other name
 abbrev pub or_itself : List ℕ → List ℕ → List ℕ
 or_itself [] entry = entry
 or_itself (b ∷ name) entry = b ∷ name
 
+-- the row of an entry of a section
 abbrev pub row_of : Section → List ℕ → OptionRow
 row_of s entry = record {
   option = option_of entry;
@@ -55,11 +64,13 @@ row_of s entry = record {
   role = s.role;
 }
 
+-- the rows of a section, one for each of its entries
 abbrev pub section_rows : Section → List OptionRow
 section_rows s = map (row_of s) (texts s.entries)
 
--- an option that takes the rest of a word follows those that begin with it
--- each value of -std= ("C Dialect Options") and of -fdiagnostics-color= is an option of its own
+-- The options in sections, each with how its options take an argument, how they are spelled and what they are on a line. An option that
+-- takes the rest of a word follows those that begin with it, since the first row that fits decides. Each value of -std= ("C Dialect
+-- Options") and of -fdiagnostics-color= is an option of its own.
 unfoldable pub sections : List Section
 sections =
     section Nothing Alone Switch
@@ -232,6 +243,7 @@ sections =
     (codes "-R -h -J")
     ∷ []
 
+-- all rows, in the order in which a word tries them: a section that is earlier decides first
 abbrev pub table : List OptionRow
 table = flat_map section_rows sections
 

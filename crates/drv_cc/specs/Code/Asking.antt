@@ -7,8 +7,9 @@ use Rattle.drv_words.specs.Bytes.{equals}
 use Rattle.std.specs.Prelude.{◌==◌, ◌||◌, Bool, List, codes, false, true, ℕ}
 
 -- Which items may make their line a question for gcc: the code asks this of each before it goes over them for each question. Only private
--- clauses cite it.
+-- clauses of src/asking.rt cite it.
 
+-- whether an item by its role may make its line a question
 abbrev pub is_speaking : Role → Bool
 is_speaking role.Question = true
 is_speaking role.Tells = true
@@ -18,5 +19,6 @@ is_speaking _ = false
 abbrev pub is_judged : List ℕ → Bool
 is_judged name = begins (codes "-g") name || last_byte name == equals
 
+-- whether an item may make its line a question: only such ones are looked at further
 abbrev pub may_ask : Item → Bool
 may_ask i = is_speaking i.role || is_judged i.name

@@ -2,7 +2,7 @@ use Rattle.drv_cc.specs.SelfSpecs.{is_left, written}
 use Rattle.drv_cc.specs.declared.item.Item.{Item}
 use Rattle.std.specs.Prelude.{List, [], ◌∷◌, drop, if◌then◌else◌, length, ℕ}
 
--- How the code goes over the items of a line with the words that a text left. Only private clauses cite it.
+-- How the code goes over the items of a line with the words that a text left. Only private clauses of src/hiding.rt cite it.
 
 -- an item, if it stays
 abbrev pub live_item : Item → List (List ℕ) → List Item

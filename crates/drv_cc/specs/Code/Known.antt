@@ -5,7 +5,8 @@ use Rattle.drv_cc.specs.declared.table.Role.TheVariants.{Question, Unknown}
 use Rattle.drv_words.specs.Bytes.{newline}
 use Rattle.std.specs.Prelude.{◌==◌, ◌||◌, Bool, List, [], ◌∷◌, if◌then◌else◌, true, ℕ}
 
--- How the code looks for a line of a text, and how it asks unknown words again. Only private clauses cite them.
+-- How the code looks for a line of a text, and how it asks unknown words again. Only private clauses of src/reading.rt, src/known.rt and
+-- others cite them.
 
 -- a line ends where this text begins
 abbrev pub is_ended : List ℕ → Bool

@@ -4,12 +4,14 @@ use Rattle.drv_cc.specs.declared.item.Item.{Item}
 use Rattle.std.specs.List.{list_any}
 use Rattle.std.specs.Prelude.{◌≡◌, ◌<◌, ◌&&◌, ◌||◌, Bool, List, [], ◌∷◌, ◌++◌, if◌then◌else◌, length, nat_lt, not, reverse, ℕ}
 
--- How the code goes over items from the last one on, with the classes of those that it has seen. Only private clauses cite it.
+-- How the code goes over items from the last one on, with the classes of those that it has seen. Only private clauses of src/keeping.rt
+-- cite it.
 
 -- whether a class is that of a key
 abbrev pub is_seen : {K : Type 0} → List K → (K → List ℕ) → List ℕ → Bool
 is_seen keys class_of class = list_any (λ k. same class (class_of k)) keys
 
+-- whether an item of a class stays before items whose classes were seen; one of no class always does
 abbrev pub stays_before : List ℕ → (List ℕ → Bool) → Bool
 stays_before class seen = not (nat_lt 0 (length class) && seen class)
 

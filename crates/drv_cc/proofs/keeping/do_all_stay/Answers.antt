@@ -3,7 +3,7 @@ use Rattle.drv_cc.proofs.keeping.do_all_stay.Goals as goal
 use Rattle.drv_cc.specs.Code.Staying.{is_seen}
 use Rattle.std.proofs.Common.{◌-◌, ◌∙◌, length, sym, take}
 
--- do_all_stay (src/keeping.rt). Whether all items stay.
+-- do_all_stay (src/keeping.rt). Whether all items stay: no two are of one class.
 
 pub loop-left-preserved : goal.loop-left-preserved
 loop-left-preserved c =
