@@ -13,7 +13,7 @@ use Rattle.std.proofs.lemmas.Bool.{false≢true}
 use Rattle.std.proofs.lemmas.List.{append-nil, drop_all, drop_more}
 use Rattle.std.specs.Prelude.{get_or, is_some}
 
--- For the inputs of a line: those that are not there, and those that are the output, one after another.
+-- For the inputs of a line (src/inputs.rt): those that are not there, and those that are the output, one after another.
 
 -- the text so far, and then others
 abbrev pub after_text : List ℕ → Known (List ℕ) → Known (List ℕ)
@@ -30,7 +30,7 @@ text_further : (done after line : List ℕ) (others : Known (List ℕ)) → afte
 text_further done after line Unasked is = refl
 text_further done after line (Is lines) is = rw (is, append_assoc) refl
 
--- one input more
+-- `absent` adds the line of one input more, if that isn't there
 pub absent_more : (F : Facts) (name : List ℕ) (inputs : List (List ℕ)) (i : ℕ) (input : List ℕ) (kind : PathKind) (done after : List ℕ)
     → i < length inputs → input ≡ get_or inputs i input → kind_of F input ≡ Some kind → after ≡ done ++ absent_by name input kind
     → after_text done (absent_of F name (drop i inputs)) ≡ absent_of F name inputs
@@ -60,7 +60,7 @@ unset_objects F name inputs value (Err e) known none is = tt
 unset_objects F name inputs (Some set) (Ok text) known none is = absurd (false≢true (sym none))
 unset_objects F name inputs None (Ok text) known none is = ap (λ v. v >>= λ w. objection_by F name inputs w) known ∙ is
 
--- one input more that leads elsewhere
+-- `reaches` goes on behind an input that leads elsewhere
 pub reaches_more : (path : List ℕ) (inputs : List (List ℕ)) (i : ℕ) (input : List ℕ) (answer : Option (List ℕ))
     (before so after : List HostEvent)
     → i < length inputs → input ≡ get_or inputs i input → is_at path answer ≡ false
@@ -80,7 +80,7 @@ reaches_more path inputs i input answer before so after below here differs grown
       (to_another differs reaches))),
 )
 
--- one that leads there
+-- `reaches` ends at an input that leads to the output
 pub reaches_it : (path : List ℕ) (inputs : List (List ℕ)) (i : ℕ) (input : List ℕ) (answer : Option (List ℕ))
     (before so after : List HostEvent)
     → i < length inputs → input ≡ get_or inputs i input → is_at path answer ≡ true
@@ -96,7 +96,7 @@ reaches_it path inputs i input answer before so after below here same grown (eve
       (sym (drop_more inputs i input below ∙ ap (λ x. x ∷ drop (i + 1) inputs) (sym here))) (to_it same)),
 )
 
--- none does
+-- `reaches` finds no input that leads to the output, after all were asked for
 pub reaches_none : (path : List ℕ) (inputs : List (List ℕ)) (i : ℕ) (before so : List HostEvent) → length inputs ≤ i
     → Noted before so (λ events. (more : List HostEvent) (found : Bool) → Reaches path (drop i inputs) more found
     → Reaches path inputs (events ++ more) found)
@@ -110,24 +110,26 @@ reaches_none path inputs i before so past (events, is, so_far) = (
 
 -- an output
 
--- an output that is no file (`-`, `/dev/null`) leaves none to ask of, and any other is a file of its own
+-- an output that is no file (`-`, `/dev/null`) leaves none to ask of
 no_file : (given : Option (List ℕ)) (output : List ℕ) → given ≡ Some output → is_no_file output ≡ true → file_of given ≡ None
 no_file given output some is = ap file_of some ∙ ap (λ t. if t then None else Some output) is
 
+-- an output that is a file is asked of under its own name
 own_file : (given : Option (List ℕ)) (output : List ℕ) → given ≡ Some output → is_no_file output ≡ false → file_of given ≡ Some output
 own_file given output some is = ap file_of some ∙ ap (λ t. if t then None else Some output) is
 
--- `overwrites` asks the host nothing for a line without an output, nor for an output that is no file,
+-- `overwrites` asks the host nothing for a line without an output
 pub none_written : (inputs : List (List ℕ)) (given : Option (List ℕ)) (notes : List HostEvent) → given ≡ None
     → Noted notes notes (λ events. Overwrites inputs given events false)
 none_written inputs given notes none = ([], sym (append-nil notes), subst (λ o. IsRead inputs o [] false) (sym (ap file_of none)) no_output)
 
+-- `overwrites` asks the host nothing for an output that is no file
 pub sink_written : (inputs : List (List ℕ)) (given : Option (List ℕ)) (output : List ℕ) (notes : List HostEvent) → given ≡ Some output
     → is_no_file output ≡ true → Noted notes notes (λ events. Overwrites inputs given events false)
 sink_written inputs given output notes some is =
     ([], sym (append-nil notes), subst (λ o. IsRead inputs o [] false) (sym (no_file given output some is)) no_output)
 
--- one thing for an output that is not there,
+-- `overwrites` asks one thing for an output that isn't there
 pub new_written : (inputs : List (List ℕ)) (given : Option (List ℕ)) (output : List ℕ) (found : Option (List ℕ))
     (before after : List HostEvent) → given ≡ Some output → is_no_file output ≡ false → found ≡ None
     → after ≡ before ++ Resolved output found ∷ [] → Noted before after (λ events. Overwrites inputs given events false)
@@ -137,7 +139,7 @@ new_written inputs given output found before after some file none grown = (
   subst (λ o. IsRead inputs o (Resolved output None ∷ []) false) (sym (own_file given output some file)) new_output,
 )
 
--- and else for the inputs too, whose answer it hands on
+-- `overwrites` asks one thing for an output that isn't there, and else for the inputs too, whose answer it hands on
 pub old_written : {E : Type 0} (inputs : List (List ℕ)) (given : Option (List ℕ)) (output path : List ℕ) (found : Option (List ℕ))
     (before mid after : List HostEvent) (result : Result Bool E)
     → given ≡ Some output → is_no_file output ≡ false → found ≡ Some path → mid ≡ before ++ Resolved output found ∷ []

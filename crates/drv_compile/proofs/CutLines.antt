@@ -9,21 +9,21 @@ use Rattle.std.proofs.lemmas.List.Splits.{slice_split-cons_no, slice_split-cons_
 use Rattle.std.specs.List.{list_all, onto_first}
 use Rattle.std.specs.Prelude.{None, Option, Some}
 
--- For the files beside a spec file: the search for the end of a line gives the first line.
+-- For the files beside a spec file (src/compilers.rt): the search for the end of a line gives the first line.
 
 -- a byte that is no newline, and a rest without one: what a line without newlines is made of
 both : (t u : Bool) → (not t && u) ≡ true → (t ≡ false) × (u ≡ true)
 both true u e = absurd cc
 both false u e = (refl, e)
 
--- what precedes a newline is a line by itself,
+-- what precedes a newline is a line by itself
 first_line : (line after : List ℕ) → list_all (λ b. not (b == newline)) line ≡ true → lines (line ++ newline ∷ after) ≡ line ∷ lines after
 first_line [] after clean = slice_split-cons_yes (λ b. b == newline) newline after refl
 first_line (b ∷ line) after clean =
     let parts = both (b == newline) (list_all (λ b. not (b == newline)) line) clean in
     slice_split-cons_no (λ b. b == newline) b (line ++ newline ∷ after) parts.0 ∙ ap (onto_first b) (first_line line after parts.1)
 
--- and so is a text without one
+-- a text without a newline is a line by itself
 only_line : (line : List ℕ) → list_all (λ b. not (b == newline)) line ≡ true → lines line ≡ line ∷ []
 only_line [] clean = refl
 only_line (b ∷ line) clean =
@@ -44,7 +44,7 @@ line_cut_off text found at h is =
     ∙ ap (λ rest. take at text ∷ lines rest) (sym (take_all (length text - (at + 1)) (drop (at + 1) text)
     (omega (arith, length-drop (at + 1) text))))
 
--- it finds none: the text is its only line
+-- the search for a newline finds none: the text is its only line
 pub line_alone : (text : List ℕ) (found : Option ℕ) → IsFirstByte (is_byte newline) text found → found ≡ None → lines text ≡ text ∷ []
 line_alone text found h is = only_line text (clean_all (is_byte newline) text found h is)
 

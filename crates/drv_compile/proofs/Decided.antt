@@ -15,7 +15,7 @@ use Rattle.drv_system.specs.Known.{◌>>=◌, Is, asked}
 use Rattle.drv_system.specs.declared.event.PathKind.{PathKind}
 use Rattle.std.proofs.Common.{◌≡◌, ◌∙◌, Err, IfOk, List, Ok, Option, Result, Some, ap, codes, sym, ℕ}
 
--- For `decided`: what was asked, one thing after another, gives the decision.
+-- For `decided` (src/deciding.rt): what was asked, one thing after another, gives the decision.
 
 -- `file_of_variable` asks for the variable by a word that it makes of its name
 pub named_by_variable : {E : Type 0} (F : Facts) (name : List ℕ) (value : Option (List ℕ)) (result : Result (Option (List ℕ)) E)

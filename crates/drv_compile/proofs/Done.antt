@@ -34,16 +34,17 @@ use Rattle.std.proofs.lemmas.List.{append-nil, drop_all, drop_more, length-appen
 use Rattle.std.specs.Bool.{IsTrue}
 use Rattle.std.specs.Prelude.{get_or, ⊤}
 
--- For `compile`: what a call does after its questions is one of the cases of `Compiled`.
+-- For `compile` (src/compiling.rt): what a call does after its questions is one of the cases of `Compiled`.
 
 -- the variables of a line, one after another
 
+-- of a line's variables the first i are set: these are the events since then, and those of the rest would make all
 pub record Setting (at : ℕ) (children : List Variable) (i : ℕ) (before so : List HostEvent) : Type 0 where
   pub events : List HostEvent
   pub grown : so ≡ before ++ events
   pub rest : events ++ settings at (drop i children) ≡ settings at children
 
--- `set_children` sets one variable more,
+-- `set_children` sets one variable more
 pub set_more : (at : ℕ) (children : List Variable) (i : ℕ) (variable : Variable) (at' : ℕ) (before so after : List HostEvent)
     → i < length children
     → variable ≡ get_or children i variable → at' ≡ at → after ≡ so ++ Set at' variable ∷ [] → Setting at children i before so
@@ -59,11 +60,11 @@ set_more at children i variable at' before so after below here same grown settin
       (drop_more children i variable below ∙ ap (λ v. v ∷ drop (i + 1) children) (sym here))) ∙ setting.rest;
 }
 
--- none at first,
+-- no variable is set at first in `set_children`
 pub none_set : (at : ℕ) (children : List Variable) (before : List HostEvent) → Setting at children 0 before before
 none_set at children before = record { events = []; grown = sym (append-nil before); rest = refl }
 
--- all at the end,
+-- all variables are set at the end of `set_children`
 pub all_set : (at : ℕ) (children : List Variable) (i : ℕ) (before so : List HostEvent) → length children ≤ i
     → Setting at children i before so
     → Noted before so (λ events. events ≡ settings at children)
@@ -73,7 +74,7 @@ all_set at children i before so past setting = (
   sym (append-nil setting.events) ∙ ap (λ xs. setting.events ++ settings at xs) (sym (drop_all i children past)) ∙ setting.rest,
 )
 
--- and some where memory lacked: then nothing is said of them
+-- some variables were set where memory lacked for the next: then nothing is said of them
 pub some_set : {X E : Type 0} (at : ℕ) (children : List Variable) (i : ℕ) (before so after : List HostEvent) (result : Result X E)
     (what : E → Type 0)
     → Setting at children i before so → after ≡ so → IsErrAnd result what
@@ -83,25 +84,25 @@ some_set at children i before so after (Err e) what setting same is = (setting.e
 
 -- a text after a work
 
--- `closed` says no text where it has none,
+-- `closed` says no text where it has none
 pub nothing_closed : (journal : List Event) (text : List ℕ) (status : ℕ) → length text ≤ 0
     → IsClosed journal journal text status (Done status)
 nothing_closed journal [] status none = ([], sym (append-nil journal), closed)
 nothing_closed journal (b ∷ text) status none = absurd (omega (arith, none))
 
--- the whole text where it has one,
+-- `closed` says the whole text where it has one
 pub text_closed : (journal journal' : List Event) (text : List ℕ) (status : ℕ) (answer : TellAnswer) → 0 < length text
     → journal' ≡ journal ++ Say text answer ∷ [] → IsClosed journal journal' text status (Done status)
 text_closed journal journal' [] status answer some says = absurd (omega (arith, some))
 text_closed journal journal' (b ∷ text) status answer some says = (Say (b ∷ text) answer ∷ [], says, noted)
 
--- and nothing where memory lacked for it, as the outcome says
+-- `closed` says nothing where memory lacked for its text, as the outcome says
 pub text_unclosed : (journal journal' : List Event) (text : List ℕ) (status : ℕ) → 0 < length text → journal' ≡ journal
     → IsClosed journal journal' text status (Unnoted status)
 text_unclosed journal journal' [] status some same = absurd (omega (arith, some))
 text_unclosed journal journal' (b ∷ text) status some same = ([], same ∙ sym (append-nil journal), unnoted)
 
--- the hint or the remark
+-- `noted` says the hint or the remark, by what it found in the events of the work
 pub closing_noted : (journal journal' : List Event) (before : ℕ) (prepared : Prepared) (lacks : Bool) (text : List ℕ) (status : ℕ)
     (outcome : Outcome)
     → lacks_program prepared (drop before journal) ≡ lacks → text ≡ closing prepared lacks → IsClosed journal journal' text status outcome
@@ -109,7 +110,7 @@ pub closing_noted : (journal journal' : List Event) (before : ℕ) (prepared : P
 closing_noted journal journal' before prepared lacks text status outcome finds is closes =
     subst (λ t. IsClosed journal journal' t status outcome) (is ∙ ap (closing prepared) (sym finds)) closes
 
--- the events after so many are all that are left
+-- the events after so many are all that are left: in these `noted` looks for a missing program
 pub after_all : (prepared : Prepared) (shown journal : List Event) (before : ℕ) → shown ≡ journal
     → lacks_program prepared (drop before journal) ≡ lacks_program prepared (take (length shown - before) (drop before shown))
 after_all prepared shown journal before same =
@@ -119,12 +120,12 @@ after_all prepared shown journal before same =
 
 -- no pipe is pending after a text
 
--- a text that is said starts nothing,
+-- a text that is said starts nothing
 pub no_pipe_after_text : (journal journal' : List Event) (text : List ℕ) (told : TellAnswer) → journal' ≡ journal ++ Say text told ∷ []
     → pipe_pending (run_of journal) ≡ false → pipe_pending (run_of journal') ≡ false
 no_pipe_after_text journal journal' text told says before = no_pipe_after_texts journal journal' (Say text told ∷ [], says, tt) before
 
--- and a journal that is the same has no other runs
+-- no pipe is pending in a journal that stayed the same
 pub no_pipe_in_same : (journal journal' : List Event) → journal' ≡ journal → pipe_pending (run_of journal) ≡ false
     → pipe_pending (run_of journal') ≡ false
 no_pipe_in_same journal journal' same before = ap (λ j. pipe_pending (run_of j)) same ∙ before
@@ -179,21 +180,21 @@ work_noted name journal journal' journal'' prepared status before (Unnoted code)
 
 -- after a text
 
--- `is_empty` says that a text has no bytes,
+-- `is_empty` says that a text has no bytes
 pub no_bytes : (text : List ℕ) (empty : Bool) → (IsTrue empty ↔ (text ≡ [])) → empty ≡ true → length text ≤ 0
 no_bytes text empty means is = let none = ap length (means.0 is) in omega (arith, none)
 
--- or that it has some
+-- `is_empty` says that a text has bytes
 pub some_bytes : (text : List ℕ) (empty : Bool) → (IsTrue empty ↔ (text ≡ [])) → empty ≡ false → 0 < length text
 some_bytes [] empty means is = absurd (false≢true (sym is ∙ means.1 refl))
 some_bytes (b ∷ text) empty means is = omega (arith)
 
--- `opened` says nothing where it has no text,
+-- `opened` says nothing where it has no text
 pub nothing_opened : (journal : List Event) (said : List ℕ) → length said ≤ 0 → IsOpened journal journal said
 nothing_opened journal [] none = ([], silent, sym (append-nil journal))
 nothing_opened journal (b ∷ said) none = absurd (omega (arith, none))
 
--- and the whole text where it has one
+-- `opened` says the whole text where it has one
 pub text_opened : (journal journal' : List Event) (said : List ℕ) (answer : TellAnswer) → 0 < length said
     → journal' ≡ journal ++ Say said answer ∷ []
     → IsOpened journal journal' said
@@ -220,7 +221,7 @@ work_spoken name journal journal' journal'' prepared said (Unnoted status) same 
 
 -- after its variables were set
 
--- `carried_out` hands on what was done after all variables were set,
+-- `carried_out` hands on what was done after all variables were set
 pub carried : (name : List ℕ) (journal journal' journal'' : List Event) (prepared : Prepared) (children : List Variable)
     (before after : List HostEvent) (outcome : Outcome)
     → children ≡ prepared.children → Noted before after (λ events. events ≡ settings (length journal) children) → journal' ≡ journal
@@ -233,7 +234,7 @@ carried name journal journal' journal'' prepared children before after (Done sta
 carried name journal journal' journal'' prepared children before after (Unnoted status) are (events, grown, set) same does =
     (events, grown, (set ∙ ap (settings (length journal)) are, subst (λ j. OpensWork name j journal'' prepared (Unnoted status)) same does))
 
--- and did nothing where memory lacked for one of them
+-- `carried_out` did nothing where memory lacked for a variable
 pub nothing_carried : (name : List ℕ) (journal journal' : List Event) (prepared : Prepared) (before after : List HostEvent)
     → Noted before after (λ events. ⊤) → journal' ≡ journal
     → Noted before after (λ events. Carried name journal journal' prepared events OutOfMemory)
@@ -300,7 +301,7 @@ compiled_by {F' = F'} calling own args seed prepared OutOfMemory before (resolve
   ends = cut_short only.2;
 }
 
--- it carries out what was prepared, in the name of the call
+-- `compile_settled` carries out what was prepared, in the name of the call
 pub compiled_done : {journal mid journal'' : List Event} {F' : Facts} {first notes notes' notes'' : List HostEvent} (calling : Calling)
     (own : Option (List ℕ)) (args : List (List ℕ)) (seed : ℕ)
     (prepared : Prepared) (name : List ℕ) (outcome : Outcome) → name ≡ calling.name → Going journal mid first notes F'
@@ -316,7 +317,7 @@ compiled_done {mid = mid} {journal'' = journal''} {notes' = notes'}
 abbrev pub Declined : Facts → Calling → Option (List ℕ) → List (List ℕ) → ℕ → Stop → List HostEvent → Type 0
 Declined F' calling own args seed stop events = (G : Facts) → Extends F' G → IfTold stop (Refuses G calling own args seed events)
 
--- `stopped` says that text with the status 1,
+-- `stopped` says that text with the status 1
 refusal_said : {journal mid journal'' : List Event} {F' : Facts} {first notes notes' : List HostEvent} (calling : Calling)
     (own : Option (List ℕ)) (args : List (List ℕ)) (seed : ℕ)
     (text : List ℕ) (status : ℕ) → Going journal mid first notes F' → Noted notes notes' (Declined F' calling own args seed (Told text))
@@ -338,7 +339,7 @@ refusal_said {journal} {F' = F'} {first = first} calling own args seed text stat
           (refused (refuses F' (extends_refl F')));
     }
 
--- and nothing where memory lacked: both are ends of a call
+-- `stopped` says the refusal, or nothing where memory lacked: both are ends of a call
 pub compiled_stopped : {journal mid journal'' : List Event} {F' : Facts} {first notes notes' : List HostEvent} (calling : Calling)
     (own : Option (List ℕ)) (args : List (List ℕ)) (seed : ℕ)
     (stop : Stop) (outcome : Outcome) → Going journal mid first notes F' → Noted notes notes' (Declined F' calling own args seed stop)

@@ -33,7 +33,7 @@ use Rattle.drv_system.specs.Known.{Is}
 use Rattle.std.proofs.Common.{◌≡◌, ◌⊎◌, ◌∙◌, Err, IsErrAnd, List, [], None, Ok, Option, Result, Some, ap, inl, inr, subst, sym, ℕ}
 use Rattle.std.specs.Prelude.{MatchResult}
 
--- For the functions of `driving`: who carries out a line.
+-- For the functions of `driving` (src/driving.rt): who carries out a line.
 
 -- what its spec files give
 
@@ -46,7 +46,7 @@ answer_by_slices F chain given first specs known words same_specs same_known sam
     ∙ ap (λ k. answer_given F chain.specs chain.around k words first.line) same_known
     ∙ ap (λ w. answer_given F chain.specs chain.around chain.known w first.line) same_words
 
--- it hands on how the driver ends where their self spec can't be worked
+-- `answer` hands on how the driver ends where the line's self spec can't be carried out
 pub answer_told : (F : Facts) (name : List ℕ) (chain : Toolchain) (given : Expanded) (first : Driven) (ending : Ending) (stop : Stop)
     → (ending ≡ OutOfMemory) ⊎ (answer_of F chain given first ≡ Is (Err ending)) → IfTold stop (IsEndSaid F name first.line ending)
     → IfTold stop (IsUnanswered F name chain given first)
@@ -76,7 +76,7 @@ machined_driver path rows text call given made items suffixed all driven same ma
       (all_is ∙ ap (driver_items path) (suffixed_is ∙ same_suffix)),
 )
 
--- or the compiler gets it
+-- `machined_call` gives the line to the compiler where no row has its words
 pub machined_compiler : (path : List ℕ) (rows text : Option (List ℕ)) (call : Call) (given : Expanded) (made : MachineItems)
     (options : List ℕ)
     → machined_by text call.items ≡ machined_by rows call.items → made ≡ machined_by text call.items → made ≡ Lacks options
@@ -125,7 +125,7 @@ answered_run F calling chain answer given first call specs (Err stop) is same te
     (told_as stop (IsUncalled F calling specs call) (IsDenied F calling chain (Some (Run call)))
     (λ text un. uncalled_after (subst (λ s. IsUncalled F calling s call text) same un)) tells)
 
--- it tells why the line that they made is refused
+-- `answered` says why the line that the spec files made is refused
 pub answered_refusal : (F : Facts) (calling : Calling) (chain : Toolchain) (answer : Option Answer) (refusals slice : List Refusal)
     (name known text : List ℕ)
     → answer ≡ Some (Refuse refusals) → name ≡ calling.name → known ≡ chain.known → slice ≡ refusals
@@ -136,19 +136,19 @@ answered_refusal F calling chain answer refusals slice name known text is named 
     (refuses (subst (λ n. AreTold n (values [] chain.known) refusals text) named
     (subst (λ k. AreTold name (values [] k) refusals text) same (subst (λ rs. AreTold name (values [] known) rs text) are told))))
 
--- it leaves the line as it is where they made a question of it, or nothing
+-- `answered` leaves the line as it is where the spec files made a question of it
 pub answered_ask : (F : Facts) (specs : List ℕ) (given : Expanded) (first : Driven) (answer : Option Answer) → answer ≡ Some Ask
     → IsAnswered F specs given first answer (Driver first)
 answered_ask F specs given first answer is = subst (λ a. IsAnswered F specs given first a (Driver first)) (sym is) asks
 
--- or nothing of it
+-- `answered` leaves the line as it is where the spec files gave it nothing
 pub answered_none : (F : Facts) (specs : List ℕ) (given : Expanded) (first : Driven) (answer : Option Answer) → answer ≡ None
     → IsAnswered F specs given first answer (Driver first)
 answered_none F specs given first answer is = subst (λ a. IsAnswered F specs given first a (Driver first)) (sym is) stays
 
 -- the steps of a line
 
--- `worker_after` hands on why its spec files give no answer,
+-- `worker_after` hands on why its spec files give no answer
 pub undriven_answer : (F : Facts) (calling : Calling) (chain : Toolchain) (given : Expanded) (name : List ℕ) (first : Driven) (stop : Stop)
     (result : Result Worker Stop)
     → name ≡ calling.name → IsErrAnd result (λ s. s ≡ stop) → IfTold stop (IsUnanswered F name chain given first)
@@ -159,7 +159,7 @@ undriven_answer F calling chain given name first stop result named is tells =
     (told_as stop (IsUnanswered F name chain given first) (IsUndrivenAfter F calling chain given first)
     (λ text un. not_answered (subst (λ n. IsUnanswered F n chain given first text) named un)) tells)
 
--- and what `answered` makes of their answer
+-- `worker_after` hands on what `answered` makes of the spec files' answer
 pub worker_answered : (F : Facts) (calling : Calling) (chain : Toolchain) (given : Expanded) (first : Driven) (answer : Option Answer)
     (result : Result Worker Stop)
     → answer_of F chain given first ≡ Is (Ok answer)
@@ -170,7 +170,7 @@ worker_answered F calling chain given first answer (Ok worker) gives answered = 
 worker_answered F calling chain given first answer (Err stop) gives tells =
     told_as stop (IsDenied F calling chain answer) (IsUndrivenAfter F calling chain given first) (λ text un. denied gives un) tells
 
--- `worker_of` refuses a line whose texts are damaged,
+-- `worker_of` refuses a line whose texts are damaged
 pub undriven_texts : (F : Facts) (calling : Calling) (chain : Toolchain) (call : Call) (given : Expanded) (specs : List ℕ) (stop : Stop)
     (result : Result Worker Stop) → specs ≡ chain.specs
     → IsErrAnd result (λ s. s ≡ stop) → IfTold stop (IsUncalled F calling specs call)
@@ -180,7 +180,7 @@ undriven_texts F calling chain call given specs stop result same is tells =
     (told_as stop (IsUncalled F calling specs call) (Undriven F calling chain call given)
     (λ text un. uncalled (subst (λ s. IsUncalled F calling s call text) same un)) tells)
 
--- asks the spec files of one that the driver carries out,
+-- `worker_of` asks the spec files of a line that the driver carries out
 pub worker_later : (F : Facts) (calling : Calling) (chain : Toolchain) (call : Call) (given : Expanded) (specs : List ℕ) (worker : Worker)
     (first : Driven) (result : Result Worker Stop)
     → specs ≡ chain.specs → IsCalled F specs call given worker → worker ≡ Driver first
@@ -193,7 +193,7 @@ worker_later F calling chain call given specs worker first (Err stop) same calle
     (λ text un. undriven_after (subst (λ s. IsCalled F s call given (Driver first)) same
     (subst (λ w. IsCalled F specs call given w) is called)) un) tells
 
--- and gives any other to the compiler
+-- `worker_of` gives a line to the compiler that the driver doesn't carry out
 pub worker_at_once : (F : Facts) (chain : Toolchain) (call : Call) (given : Expanded) (specs : List ℕ) (worker : Worker)
     (options : List ℕ)
     → specs ≡ chain.specs → IsCalled F specs call given worker → worker ≡ Compiler options

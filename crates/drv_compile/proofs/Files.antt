@@ -8,7 +8,7 @@ use Rattle.drv_system.specs.declared.event.ReadAnswer.{ReadAnswer}
 use Rattle.std.proofs.Common.{◌≡◌, Err, IfOk, List, Ok, Option, Result, Some, refl, sym, true, ℕ}
 use Rattle.std.specs.Option.{is_some, option_and_then}
 
--- For the spec file of a call: files that were read, and paths that were found.
+-- For the spec file of a call (src/finding.rt): files that were read, and paths that were found.
 
 -- `plain_at` asks what is at a path, if there is one
 pub plain_asked : (F : Facts) (given : Option (List ℕ)) (path : List ℕ) (kind : PathKind) (found : Option (List ℕ))

@@ -38,7 +38,7 @@ use Rattle.std.proofs.Common.{◌≡◌, ◌⊎◌, ◌∙◌, Err, IfOk, IsErrA
 use Rattle.std.proofs.Common.{sym, ℕ}
 use Rattle.std.specs.Option.{option_map, unwrap_or}
 
--- For the options that spec files give: the text of the self specs is run step by step.
+-- For the options that spec files give (src/self_specs.rt): the text of the self specs is run step by step.
 
 -- a step that ends the call
 pub ends_as : {X Y : Type 0} (ending : Ending) (result : Result X Ending) (view : X → Y) (defined : Ended Y)
@@ -77,7 +77,7 @@ by_plan : (fault : PlanFault) (found : Known (Result Outcome PlanFault)) (define
 by_plan fault found defined same (inl memory) = inl (ap stopped_by_plan memory)
 by_plan fault found defined same (inr refused) = inr (same ∙ ap of_outcome refused)
 
--- so `worked_in` hands it on
+-- `worked_in` hands on a fault of the plan, or lack of memory
 pub text_refused : (found : Known (Result Outcome PlanFault)) (fault : PlanFault) (result : Result Worked Ending)
     → IsErrAnd result (λ e. e ≡ stopped_by_plan fault) → (fault ≡ plan_fault.Memory) ⊎ (found ≡ Is (Err fault))
     → GivesKnown OutOfMemory (λ worked. worked) result (of_outcome found)
@@ -92,7 +92,7 @@ by_args : (fault : ArgsFault) (read : Result Line ArgsFault) (next : Result Line
 by_args fault read next stops (inl memory) = inl (ap stopped_by_args memory)
 by_args fault read next stops (inr refused) = inr (ap next refused ∙ stops)
 
--- so `worked_for` and `self_worked` hand on the refusal of a line
+-- `worked_for` and `self_worked` hand on the refusal of a line
 pub line_refused : (fault : ArgsFault) (read : Result Line ArgsFault) (next : Result Line ArgsFault → Ended Worked)
     (result : Result Worked Ending) → next (Err fault) ≡ Is (Err (stopped_by_args fault))
     → IsErrAnd result (λ e. e ≡ stopped_by_args fault) → (fault ≡ args_fault.Memory) ⊎ (read ≡ Err fault)
@@ -107,7 +107,7 @@ by_specs : (fault : SpecsFault) (F : Facts) (own : Line) (judged read : Result L
 by_specs fault F own judged read reads (inl memory) = inl (ap stopped_by_specs memory)
 by_specs fault F own judged read reads (inr refused) = inr (ap (worked_of F judged) reads ∙ ap (worked_over F own.settings judged) refused)
 
--- so `self_worked` hands on the refusal of a spec file
+-- `self_worked` hands on the refusal of a spec file
 pub specs_refused : (fault : SpecsFault) (F : Facts) (own : Line) (judged read : Result Line ArgsFault) (result : Result Worked Ending)
     → read ≡ Ok own
     → IsErrAnd result (λ e. e ≡ stopped_by_specs fault) → (fault ≡ specs_fault.Memory) ⊎ (specs_of F own.settings ≡ Is (Err fault))
@@ -115,7 +115,7 @@ pub specs_refused : (fault : SpecsFault) (F : Facts) (own : Line) (judged read :
 specs_refused fault F own judged read result reads is given =
     ends_as (stopped_by_specs fault) result (λ worked. worked) (worked_of F judged read) is (by_specs fault F own judged read reads given)
 
--- it works the text of the set that was loaded
+-- `self_worked` runs the text of the set that was loaded
 pub specs_go : (F : Facts) (own : Line) (set : Set) (judged read : Result Line ArgsFault) → read ≡ Ok own
     → specs_of F own.settings ≡ Is (Ok set)
     → worked_of F judged read ≡ worked_by F own.settings set judged (text_of set (codes "gdrv_self"))
@@ -158,7 +158,7 @@ options_given F specs around known args first given options all named names slic
 abbrev after_work : Facts → List ℕ → Surroundings → List ℕ → List (List ℕ) → DriverLine → List Item → Ended (Option Answer)
 after_work F specs around known args first items = answer_after F specs around known args first (self_worked F first items)
 
--- the end of the work is that of the answer,
+-- the end of the work is that of the answer
 by_work : (F : Facts) (specs : List ℕ) (around : Surroundings) (known : List ℕ) (args : List (List ℕ)) (first : DriverLine)
     (items : List Item) (ending : Ending)
     → items ≡ seen_items known args → (ending ≡ OutOfMemory) ⊎ (self_worked F first items ≡ Is (Err ending))
@@ -167,7 +167,7 @@ by_work F specs around known args first items ending are (inl memory) = inl memo
 by_work F specs around known args first items ending are (inr ends) =
     inr (ap (after_work F specs around known args first) (sym are) ∙ ap (answer_after F specs around known args first) ends)
 
--- so `answer_of_specs` hands it on,
+-- `answer_of_specs` hands on the end of the work
 pub work_ends : (F : Facts) (specs : List ℕ) (around : Surroundings) (known : List ℕ) (args : List (List ℕ)) (first : DriverLine)
     (items : List Item) (ending : Ending) (result : Result (Option Answer) Ending)
     → items ≡ seen_items known args → IsErrAnd result (λ e. e ≡ ending)
@@ -177,7 +177,7 @@ work_ends F specs around known args first items ending result are is given =
     ends_as ending result (λ answer. answer) (after_work F specs around known args first (seen_items known args)) is
     (by_work F specs around known args first items ending are given)
 
--- and answers by what was given
+-- `answer_of_specs` answers by what the work gave
 pub work_answers : (F : Facts) (specs : List ℕ) (around : Surroundings) (known : List ℕ) (args : List (List ℕ)) (first : DriverLine)
     (items : List Item) (worked : Worked) (answer : Option Answer)
     → items ≡ seen_items known args → self_worked F first items ≡ Is (Ok worked)

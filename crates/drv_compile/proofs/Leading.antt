@@ -13,15 +13,15 @@ use Rattle.drv_compile.specs.declared.reading.Reading.{Reading}
 use Rattle.drv_compile.specs.declared.tasks.Task.TheVariants.{Compilation, Question}
 use Rattle.std.proofs.Common.{◌≡◌, ◌∙◌, Err, IfOk, List, [], None, Ok, Option, Result, Some, ap, subst, sym, ℕ}
 
--- For the functions of `tasks`: what a call does by the answer to its line.
+-- For the functions of `tasks` (src/tasks.rt): what a call does by the answer to its line.
 
--- `task_by` makes a question of such an answer,
+-- `task_by` makes a question of such an answer
 pub answer_asks : (specs : List ℕ) (around : Surroundings) (reading : Reading) → reading.answer ≡ Ask
     → Leads (Read specs around reading) (Question specs around.compiler)
 answer_asks specs around reading is = subst (λ a. Leads (Read specs around (record { known = reading.known; answer = a }))
     (Question specs around.compiler)) (sym is) asks
 
--- a line that is carried out of another,
+-- a line that is carried out of another
 pub answer_runs : (specs : List ℕ) (around : Surroundings) (reading : Reading) (call : Call) → reading.answer ≡ Run call
     → Leads (Read specs around reading) (Compilation (record { specs = specs; around = around; known = reading.known }) call)
 answer_runs specs around reading call is =
@@ -29,7 +29,7 @@ answer_runs specs around reading call is =
     (Compilation (record { specs = specs; around = around; known = reading.known }) call))
     (sym is) runs
 
--- and tells the refusals of the third
+-- `task_by` tells the refusals of a line that is refused
 pub answer_refused : (calling : Calling) (specs : List ℕ) (around : Surroundings) (reading : Reading) (refusals slice : List Refusal)
     (name known text : List ℕ)
     → reading.answer ≡ Refuse refusals → name ≡ calling.name → known ≡ reading.known → slice ≡ refusals
@@ -42,7 +42,7 @@ answer_refused calling specs around reading refusals slice name known text is na
 
 -- the text where there is no spec file
 
--- `without_specs` names the file that should be there,
+-- `without_specs` names the file that should be there
 pub specs_declined : {E : Type 0} (calling : Calling) (given : Option (List ℕ)) (path name place machine : List ℕ)
     (result : Result (List ℕ) E) → given ≡ Some path
     → name ≡ calling.name → place ≡ path → machine ≡ calling.machine → IfOk result (λ text. text ≡ no_specs_text name place machine)
@@ -54,7 +54,7 @@ specs_declined calling given path name place machine (Ok text) some named placed
     (sym (is ∙ ap (λ n. no_specs_text n place machine) named ∙ ap (λ p. no_specs_text calling.name p machine) placed
     ∙ ap (no_specs_text calling.name path) built)) no_specs)
 
--- or says that its place is not known
+-- `without_specs` says that the place of the spec file isn't known
 pub place_declined : {E : Type 0} (calling : Calling) (given : Option (List ℕ)) (name : List ℕ) (result : Result (List ℕ) E) → given ≡ None
     → name ≡ calling.name
     → IfOk result (λ text. text ≡ no_place_text name) → IfOk result (λ text. Declines calling (NoSpecs given) text)
@@ -63,9 +63,9 @@ place_declined calling given name (Ok text) none named is =
     subst (λ g. Declines calling (NoSpecs g) text) (sym none)
     (subst (λ t. Declines calling (NoSpecs None) t) (sym (is ∙ ap no_place_text named)) no_place)
 
--- and for lack of a compiler or of a whole file
+-- Refusals for lack of a compiler or of a whole file.
 
--- `task_of` lends the parts of the call to the text about the compiler,
+-- `task_of` lends the parts of the call to the text about the compiler
 pub compiler_declined : (calling : Calling) (decision : Decision) (specs name slice machine text : List ℕ) → decision ≡ NoCompiler specs
     → name ≡ calling.name → slice ≡ specs
     → machine ≡ calling.machine → text ≡ no_compiler_text name slice machine → Declines calling decision text
@@ -75,7 +75,7 @@ compiler_declined calling decision specs name slice machine text decided named s
     (sym (is ∙ ap (λ n. no_compiler_text n slice machine) named ∙ ap (λ s. no_compiler_text calling.name s machine) same
     ∙ ap (no_compiler_text calling.name specs) built)) no_compiler)
 
--- and to that about a file
+-- `task_of` lends the parts of the call to the text about a file that isn't whole
 pub damaged_declined : (calling : Calling) (decision : Decision) (specs path name slice place machine text : List ℕ)
     → decision ≡ Damaged specs path → name ≡ calling.name
     → slice ≡ specs → place ≡ path → machine ≡ calling.machine → text ≡ damaged_text name place slice machine

@@ -8,7 +8,8 @@ use Rattle.std.proofs.Common.{◌≡◌, ◌∙◌, ◌||◌, ◌∷◌, [], Boo
 use Rattle.std.proofs.lemmas.Bool.{false≢true}
 use Rattle.std.specs.List.{flat_map, list_any, starts_with}
 
--- For the rows for machines: a text that has neither rows nor a suffix leaves a line as it is, so `for_machines` may leave that text out.
+-- For the rows for machines (src/machines.rt): a text that has neither rows nor a suffix leaves a line as it is, so `for_machines` may
+-- leave that text out.
 
 -- what `has_either` says of a line and the rest, it says of each key
 neither : (a b c : Bool) → ((a || b) || c) ≡ false → (a ≡ false) × (b ≡ false) × (c ≡ false)
@@ -16,14 +17,14 @@ neither false false c none = (refl, refl, none)
 neither true b c none = absurd (false≢true (sym none))
 neither false true c none = absurd (false≢true (sym none))
 
--- no line begins with the first of two keys,
+-- no line begins with the first of two keys
 no_first : (one other : List ℕ) (all : List (List ℕ)) → list_any (begins_with one other) all ≡ false → flat_map (value_in one) all ≡ []
 no_first one other [] none = refl
 no_first one other (line ∷ all) none =
     let parts = neither (starts_with nat_eq line one) (starts_with nat_eq line other) (list_any (begins_with one other) all) none in
     rw parts.0 (no_first one other all parts.2)
 
--- nor with the second
+-- no line begins with the second of two keys
 no_second : (one other : List ℕ) (all : List (List ℕ)) → list_any (begins_with one other) all ≡ false
     → flat_map (value_in other) all ≡ []
 no_second one other [] none = refl
@@ -31,14 +32,14 @@ no_second one other (line ∷ all) none =
     let parts = neither (starts_with nat_eq line one) (starts_with nat_eq line other) (list_any (begins_with one other) all) none in
     rw parts.1 (no_second one other all parts.2)
 
--- `for_machines` leaves out a text without such lines: the rows change nothing,
+-- `for_machines` leaves out a text without such lines: the rows change nothing
 pub rows_left_out : (text : List ℕ) (found : Bool) (items : List Item)
     → found ≡ list_any (begins_with (codes "machine") (codes "suffix ")) (lines text) → found ≡ false
     → machined_by None items ≡ machined_by (Some text) items
 rows_left_out text found items is none =
     sym (ap (λ found. by_rows text items (first_of found)) (no_first (codes "machine") (codes "suffix ") (lines text) (sym is ∙ none)))
 
--- and no more does the suffix
+-- `for_machines` leaves out a text without such lines: the suffix changes nothing
 pub suffix_left_out : (text : List ℕ) (found : Bool) (items : List Item)
     → found ≡ list_any (begins_with (codes "machine") (codes "suffix ")) (lines text) → found ≡ false
     → suffixed_by None items ≡ suffixed_by (Some text) items

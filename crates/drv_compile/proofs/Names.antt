@@ -29,7 +29,7 @@ use Rattle.std.proofs.lemmas.List.{drop_more}
 use Rattle.std.specs.Option.{option_and_then, unwrap_or}
 use Rattle.std.specs.Prelude.{get_or}
 
--- For the reading of a line: the names that its files list, and the answer by them.
+-- For the reading of a line (src/reading.rt and src/naming.rt): the names that its files list, and the answer by them.
 
 -- the names so far, and then others
 abbrev pub after_names : List (List ℕ) → Known (List (List ℕ)) → Known (List (List ℕ))
@@ -109,7 +109,7 @@ ended F known around words Ask not_refused = refl
 ended F known around words (Refuse refusals) not_refused = absurd (not_refused refusals refl)
 ended F known around words (Run call) not_refused = refl
 
--- `known_answer` takes the first answer where that is no refusal,
+-- `known_answer` takes the first answer where that is no refusal
 pub known_ended : (F : Facts) (known : List ℕ) (around : Surroundings) (words : List (List ℕ)) (items : List Read) (answer : Answer)
     → items ≡ items_of known None words → answer ≡ answer_of [] around items → ((refusals : List Refusal) → answer ≡ Refuse refusals → ⊥)
     → known_answer F known around words ≡ Is answer
@@ -117,7 +117,7 @@ known_ended F known around words items answer items_are is not_refused =
     ap (or_by_files F known around words) (ap (answer_of [] around) (sym items_are) ∙ sym is)
     ∙ ended F known around words answer not_refused
 
--- and else reads the spec files of the line
+-- `known_answer` reads the spec files of a line that is refused at first
 pub known_refused : {E : Type 0} (F : Facts) (known : List ℕ) (around : Surroundings) (words : List (List ℕ)) (items : List Read)
     (answer : Answer)
     (refusals slice : List Refusal) (result : Result Answer E) → items ≡ items_of known None words → answer ≡ answer_of [] around items
@@ -182,7 +182,7 @@ kept_so F specs answer known found names reads some is names_are = rw reads (nam
     from_found None = refl
     from_found (Some xs) = refl
 
--- `read_by` answers by the items that it read with the names,
+-- `read_by` answers by the items that it read with the names
 pub read_named : (F : Facts) (specs : List ℕ) (around : Surroundings) (words : List (List ℕ)) (named : Option (List Read))
     (items : List Read) (answer : Answer) (names : List ℕ)
     → items_beside F specs words ≡ Is named → named ≡ Some items
@@ -200,7 +200,7 @@ read_named F specs around words named items answer names asked some answers keep
         (answers known (sym (ap or_nothing (there ∙ ap Is some))))
         ∙ ap (λ n. Is (Some (record { known = n; answer = answer }))) (sym (keeps known is))
 
--- and has no answer where their file is not whole
+-- `read_by` has no answer where the file with the names isn't whole
 pub read_unnamed : (F : Facts) (specs : List ℕ) (around : Surroundings) (words : List (List ℕ)) (named : Option (List Read))
     → items_beside F specs words ≡ Is named → named ≡ None → read_beside F specs around words ≡ Is None
 read_unnamed F specs around words named asked none = by (known_names F specs) asked

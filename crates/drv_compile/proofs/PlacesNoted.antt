@@ -10,7 +10,7 @@ use Rattle.drv_system.specs.Facts.{Facts}
 use Rattle.drv_system.specs.Known.{Is}
 use Rattle.std.proofs.Common.{◌≡◌, ◌∙◌, ◌++◌, Err, IfOk, List, Ok, Result, ap, sym, ℕ}
 
--- For what is said of a refused line of the driver: the text of the refusal, and where its spec file has the fault.
+-- For what is said of a refused line of the driver (src/refusing.rt): the text of the refusal, and where its spec file has the fault.
 
 -- `note_over` loads the files over a copy of the suffixes
 pub note_of_suffixes : {E : Type 0} (F : Facts) (set : Set) (folders names : List (List ℕ)) (result : Result (List ℕ) E)

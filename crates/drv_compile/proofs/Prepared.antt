@@ -36,7 +36,7 @@ use Rattle.std.proofs.lemmas.Bool.{false≢true}
 use Rattle.std.proofs.lemmas.List.{append-nil}
 use Rattle.std.specs.Prelude.{MatchResult, is_some}
 
--- For `prepared`: what a call does, from step to step.
+-- For `prepared` (src/preparing.rt): what a call does, from step to step.
 
 -- nothing was noted
 pub none_noted : (notes : List HostEvent) (what : List HostEvent → Type 0) → what [] → Noted notes notes what
@@ -69,7 +69,7 @@ none_is_read (old_output reaches) none = absurd (some_is_none none)
     some_is_none : {path : List ℕ} → Some path ≡ None → ⊥
     some_is_none is = absurd (false≢true (sym (ap is_some is)))
 
--- `refuse_overwriting` lets pass a line without an output,
+-- `refuse_overwriting` lets pass a line without an output
 pub no_overwriting : (slice inputs : List (List ℕ)) (given : Option (List ℕ)) (found : Bool) (before after : List HostEvent)
     → slice ≡ inputs → given ≡ None
     → Noted before after (λ events. Overwrites slice given events found)
@@ -81,7 +81,7 @@ no_overwriting slice inputs given found before after same none (events, grown, o
       (subst (λ f. Overwrites slice given events f) (none_is_read overwrites (ap file_of none)) overwrites),
 )
 
--- and one whose output is no input,
+-- `refuse_overwriting` lets pass a line whose output is no input
 pub not_overwriting : (slice inputs : List (List ℕ)) (given : Option (List ℕ)) (found : Bool) (before after : List HostEvent)
     → slice ≡ inputs → found ≡ false
     → Noted before after (λ events. Overwrites slice given events found)
@@ -89,7 +89,7 @@ pub not_overwriting : (slice inputs : List (List ℕ)) (given : Option (List ℕ
 not_overwriting slice inputs given found before after same is (events, grown, overwrites) =
     (events, grown, subst (λ xs. Overwrites xs given events false) same (subst (λ f. Overwrites slice given events f) is overwrites))
 
--- and refuses any other by the name of its output
+-- `refuse_overwriting` refuses a line whose output is an input, by the name of its output
 pub overwriting_told : (name text output slice : List ℕ) (call : Call) (inputs : List (List ℕ)) (found : Bool)
     (before after : List HostEvent) → call.output ≡ Some output
     → slice ≡ output → inputs ≡ call.inputs → found ≡ true → Noted before after (λ events. Overwrites inputs call.output events found)
@@ -108,7 +108,7 @@ overwriting_told name text output slice call inputs found before after some same
 
 -- the steps of a line
 
--- `compilation` carries a line out that nothing speaks against, or refuses it for want of work
+-- `compilation` carries out a line that nothing speaks against, or refuses it as its plan is refused
 pub fails_planned : (F : Facts) (calling : Calling) (chain : Toolchain) (call : Call) (args : List (List ℕ)) (given : Expanded) (seed : ℕ)
     (events : List HostEvent) (result : Result Prepared Stop)
     → objection F calling.name call.inputs ≡ Is [] → Overwrites call.inputs call.output events false
@@ -127,7 +127,7 @@ fails_planned F calling chain call args given seed events (Err stop) free apart 
     by text (inl un) = undriven free apart un
     by text (inr (driven, works, (refusal, stops, said))) = stopped free apart works stops said
 
--- `compilation` refuses a line that something speaks against, by that text,
+-- `compilation` refuses a line that something speaks against, by that text
 pub objected_as : (F : Facts) (calling : Calling) (chain : Toolchain) (call : Call) (given : Expanded) (seed : ℕ) (name text : List ℕ)
     (inputs : List (List ℕ)) (found : Bool)
     → name ≡ calling.name → inputs ≡ call.inputs → objection F name inputs ≡ Is text → IsTrue found ↔ (text ≡ []) → found ≡ false
@@ -136,14 +136,14 @@ objected_as F calling chain call given seed name [] inputs found named are is em
 objected_as F calling chain call given seed name (b ∷ text) inputs found named are is empty not =
     objected (ap (objection F calling.name) (sym are) ∙ ap (λ n. objection F n inputs) (sym named) ∙ is)
 
--- and goes on where no text was made
+-- `compilation` goes on where nothing speaks against a line
 pub free_as : (F : Facts) (calling : Calling) (call : Call) (name text : List ℕ) (inputs : List (List ℕ)) (found : Bool)
     → name ≡ calling.name → inputs ≡ call.inputs → objection F name inputs ≡ Is text → IsTrue found ↔ (text ≡ []) → found ≡ true
     → objection F calling.name call.inputs ≡ Is []
 free_as F calling call name text inputs found named are is empty so =
     ap (objection F calling.name) (sym are) ∙ ap (λ n. objection F n inputs) (sym named) ∙ is ∙ ap Is (empty.0 so)
 
--- it refuses a line whose output is an input: nothing else spoke against that
+-- `compilation` refuses a line whose output is an input: nothing else spoke against that
 pub overwriting_fails : (calling : Calling) (chain : Toolchain) (name : List ℕ) (call : Call) (args : List (List ℕ)) (given : Expanded)
     (seed : ℕ) (stop : Stop) (before after : List HostEvent) (result : Result Prepared Stop)
     (knows : Facts → Type 0) → name ≡ calling.name → IsErrAnd result (λ s. s ≡ stop)
@@ -166,7 +166,7 @@ overwriting_fails calling chain name call args given seed stop before after resu
         subst (λ t. Fails F calling chain call given seed events t) (sym (same_text ∙ ap (λ n. overwritten_text n output) named))
         (overwriting (free F k) some overwrites)
 
--- it notes what it asked the host, and carries the line out
+-- `compilation` notes what it asked the host, and carries the line out
 pub performs_noted : (calling : Calling) (chain : Toolchain) (call : Call) (args : List (List ℕ)) (given : Expanded) (seed : ℕ)
     (before after : List HostEvent) (result : Result Prepared Stop) (knows : Facts → Type 0)
     → ((F : Facts) → knows F → objection F calling.name call.inputs ≡ Is [])
@@ -208,7 +208,7 @@ planned_so F calling chain seed driven specs wrapper said hint remark items chil
       remark = none;
     }
 
--- it refuses a line by the name that it lends
+-- `planned` refuses a line by the name that it lends
 pub failed_so : (F : Facts) (calling : Calling) (chain : Toolchain) (seed : ℕ) (driven : Driven) (name : List ℕ) (stop : Stop)
     (result : Result Prepared Stop)
     → name ≡ calling.name → IsErrAnd result (λ s. s ≡ stop) → IfTold stop (IsFailure F name driven.line seed)
@@ -218,7 +218,7 @@ failed_so F calling chain seed driven name stop result named is tells =
     stop_stays result stop (λ prepared. IsPlanned F calling chain driven seed prepared) (IsFailure F calling.name driven.line seed) is
     (subst (λ n. IfTold stop (IsFailure F n driven.line seed)) named tells)
 
--- `prepared_plan` hands on why nobody carries a line out,
+-- `prepared_plan` hands on why nobody carries a line out
 pub undriven_plan : (F : Facts) (calling : Calling) (chain : Toolchain) (call : Call) (args : List (List ℕ)) (given : Expanded) (seed : ℕ)
     (stop : Stop) (result : Result Prepared Stop)
     → IsErrAnd result (λ s. s ≡ stop) → IfTold stop (Undriven F calling chain call given)
@@ -229,7 +229,7 @@ undriven_plan F calling chain call args given seed stop result is tells =
     is
     (told_as stop (Undriven F calling chain call given) (IsUnplanned F calling chain call given seed) (λ text un. inl un) tells)
 
--- lets the driver do it,
+-- `prepared_plan` lets the driver carry the line out
 pub prepared_by_driver : (F : Facts) (calling : Calling) (chain : Toolchain) (call : Call) (args : List (List ℕ)) (given : Expanded)
     (seed : ℕ) (worker : Worker) (driven : Driven) (result : Result Prepared Stop)
     → IsWorker F chain call given worker → worker ≡ Driver driven
@@ -243,7 +243,7 @@ prepared_by_driver F calling chain call args given seed worker driven (Err stop)
     told_as stop (IsFailure F calling.name driven.line seed) (IsUnplanned F calling chain call given seed)
     (λ text un. inr (driven, subst (IsWorker F chain call given) is works, un)) tells
 
--- or the compiler
+-- `prepared_plan` lets the compiler carry the line out
 pub prepared_by_compiler : (F : Facts) (calling : Calling) (chain : Toolchain) (call : Call) (args : List (List ℕ)) (given : Expanded)
     (seed : ℕ) (worker : Worker) (options slice : List ℕ) (prepared : Prepared)
     → IsWorker F chain call given worker → worker ≡ Compiler options → slice ≡ options
@@ -254,7 +254,7 @@ prepared_by_compiler F calling chain call args given seed worker options slice p
 
 -- a task
 
--- `task_prepared` asks the compiler by the bytes of the spec file's path,
+-- `task_prepared` asks the compiler by the bytes of the spec file's path
 pub question_done : (F : Facts) (calling : Calling) (args : List (List ℕ)) (given : Expanded) (seed : ℕ) (task : Task)
     (specs slice compiler : List ℕ) (prepared : Prepared)
     → task ≡ Question specs compiler → slice ≡ specs → IsQuestion calling slice compiler args prepared
@@ -263,7 +263,7 @@ question_done F calling args given seed task specs slice compiler prepared is sa
     subst (λ t. IsTaskDone F calling args given seed t [] prepared) (sym is)
     (refl, subst (λ s. IsQuestion calling s compiler args prepared) same asked)
 
--- or carries the line out
+-- `task_prepared` carries the line out
 pub compilation_done : (calling : Calling) (args : List (List ℕ)) (given : Expanded) (seed : ℕ) (task : Task) (chain : Toolchain)
     (call : Call) (before after : List HostEvent)
     (result : Result Prepared Stop) (knows : Facts → Type 0) → task ≡ Compilation chain call
@@ -304,13 +304,13 @@ task_comes F calling own args seed words decision (Compilation chain call) event
     told_as stop (Fails F calling chain call words seed events) (Refuses F calling own args seed events)
     (λ text is. fails gives decides leads is) tells
 
--- `prepare` hands on why the words are refused,
+-- `prepare` hands on why the words are refused
 pub words_refused : (F : Facts) (calling : Calling) (own : Option (List ℕ)) (args : List (List ℕ)) (seed : ℕ) (stop : Stop)
     → IfTold stop (RefusesWords F calling args) → IfTold stop (Refuses F calling own args seed [])
 words_refused F calling own args seed stop tells =
     told_as stop (RefusesWords F calling args) (Refuses F calling own args seed []) (λ text is. no_words is) tells
 
--- and why the decision is
+-- `prepare` hands on why the decision refuses the line
 pub decision_declined : (F : Facts) (calling : Calling) (own : Option (List ℕ)) (args : List (List ℕ)) (seed : ℕ) (words : Expanded)
     (decision : Decision) (stop : Stop)
     → Words F calling args words → decided F own words.words ≡ Is decision → IfTold stop (Declines calling decision)
@@ -318,7 +318,7 @@ pub decision_declined : (F : Facts) (calling : Calling) (own : Option (List ℕ)
 decision_declined F calling own args seed words decision stop gives decides tells =
     told_as stop (Declines calling decision) (Refuses F calling own args seed []) (λ text is. declines gives decides is) tells
 
--- it does the task that the decision leads to
+-- `prepare` does the task that the decision leads to
 pub prepares : (calling : Calling) (own : Option (List ℕ)) (args : List (List ℕ)) (seed : ℕ) (words : Expanded) (slice : List (List ℕ))
     (decision : Decision) (task : Task)
     (before after : List HostEvent) (result : Result Prepared Stop) (knows : Facts → Type 0) → slice ≡ words.words

@@ -21,7 +21,7 @@ use Rattle.drv_system.specs.Known.{Is}
 use Rattle.std.proofs.Common.{◌≡◌, ◌⊎◌, Err, IsErrAnd, Ok, Result, false, inl, inr, subst, sym, true, ℕ}
 use Rattle.std.specs.Prelude.{MatchResult}
 
--- For a line that is carried out: how items of the driver's line end a call.
+-- For a line that is carried out (src/running.rt): how items of the driver's line end a call.
 
 -- what a line with its specs gives
 abbrev pub Worked : Facts → Line → Set → ℕ → Result Work Ending → Type 0
@@ -37,25 +37,25 @@ ended_as : (F : Facts) (own : DriverLine) (seed : ℕ) (ending : Ending) (result
 ended_as F own seed ending (Ok work) is stops = absurd is
 ended_as F own seed ending (Err e) is stops = subst (λ e'. Stops F own seed e') (sym is) stops
 
--- the refusal of a line ends it, or lack of memory,
+-- the refusal of a line ends it, or lack of memory
 args_stop : (F : Facts) (own : DriverLine) (seed : ℕ) (fault : ArgsFault) → (fault ≡ args_fault.Memory) ⊎ (line_given own ≡ Err fault)
     → Stops F own seed (stopped_by_args fault)
 args_stop F own seed fault (inl memory) = subst (λ f. Stops F own seed (stopped_by_args f)) (sym memory) lacks_memory
 args_stop F own seed fault (inr is) = not_read is
 
--- so it hands on what `line_given` answers
+-- the ending is what `line_given` answers: the refusal of a line, or lack of memory
 pub reading_ends : (F : Facts) (own : DriverLine) (seed : ℕ) (fault : ArgsFault) (result : Result Work Ending)
     → IsErrAnd result (λ e. e ≡ stopped_by_args fault)
     → (fault ≡ args_fault.Memory) ⊎ (line_given own ≡ Err fault) → Comes F own seed result
 reading_ends F own seed fault result is given = ended_as F own seed (stopped_by_args fault) result is (args_stop F own seed fault given)
 
--- the refusal of a spec file ends it, or lack of memory,
+-- the refusal of a spec file ends it, or lack of memory
 specs_stop : (F : Facts) (own : DriverLine) (seed : ℕ) (line : Line) (fault : SpecsFault) → line_given own ≡ Ok line
     → (fault ≡ specs_fault.Memory) ⊎ (specs_of F line.settings ≡ Is (Err fault)) → Stops F own seed (stopped_by_specs fault)
 specs_stop F own seed line fault reads (inl memory) = subst (λ f. Stops F own seed (stopped_by_specs f)) (sym memory) lacks_memory
 specs_stop F own seed line fault reads (inr is) = not_loaded reads is
 
--- so it hands on what `specs_of` answers
+-- the ending is what `specs_of` answers: the refusal of a spec file, or lack of memory
 pub loading_ends : (F : Facts) (own : DriverLine) (seed : ℕ) (line : Line) (fault : SpecsFault) (result : Result Work Ending)
     → IsErrAnd result (λ e. e ≡ stopped_by_specs fault)
     → line_given own ≡ Ok line → (fault ≡ specs_fault.Memory) ⊎ (specs_of F line.settings ≡ Is (Err fault)) → Comes F own seed result
@@ -71,27 +71,27 @@ unworked_as : (F : Facts) (line : Line) (set : Set) (seed : ℕ) (ending : Endin
 unworked_as F line set seed ending (Ok work) is unworked = absurd is
 unworked_as F line set seed ending (Err e) is unworked = subst (λ e'. IsUnworked F line set seed e') (sym is) unworked
 
--- several sources with one output end it, or lack of memory,
+-- several sources with one output end it, or lack of memory
 many_unworked : (F : Facts) (line : Line) (set : Set) (seed : ℕ) (fault : ArgsFault)
     → (fault ≡ args_fault.Memory) ⊎ ((fault ≡ args_fault.OutputWithMany) × (has_several set line ≡ true))
     → IsUnworked F line set seed (stopped_by_args fault)
 many_unworked F line set seed fault (inl memory) = subst (λ f. IsUnworked F line set seed (stopped_by_args f)) (sym memory) no_room
 many_unworked F line set seed fault (inr (is, two)) = subst (λ f. IsUnworked F line set seed (stopped_by_args f)) (sym is) (of_many two)
 
--- so it hands on what `refuse_several` answers
+-- the ending is what `refuse_several` answers: several sources with one output, or lack of memory
 pub many_end : (F : Facts) (line : Line) (set : Set) (seed : ℕ) (fault : ArgsFault) (result : Result Work Ending)
     → IsErrAnd result (λ e. e ≡ stopped_by_args fault)
     → (fault ≡ args_fault.Memory) ⊎ ((fault ≡ args_fault.OutputWithMany) × (has_several set line ≡ true)) → Worked F line set seed result
 many_end F line set seed fault result is given = unworked_as F line set seed (stopped_by_args fault) result is
     (many_unworked F line set seed fault given)
 
--- the refusal of a plan ends it, or lack of memory,
+-- the refusal of a plan ends it, or lack of memory
 plan_unworked : (F : Facts) (line : Line) (set : Set) (seed : ℕ) (fault : PlanFault) → has_several set line ≡ false
     → (fault ≡ plan_fault.Memory) ⊎ (work_of F line set seed ≡ Is (Err fault)) → IsUnworked F line set seed (stopped_by_plan fault)
 plan_unworked F line set seed fault single (inl memory) = subst (λ f. IsUnworked F line set seed (stopped_by_plan f)) (sym memory) no_room
 plan_unworked F line set seed fault single (inr is) = of_plan single is
 
--- so it hands on what `work_of` answers
+-- the ending is what `work_of` answers: the refusal of a plan, or lack of memory
 pub planning_ends : (F : Facts) (line : Line) (set : Set) (seed : ℕ) (fault : PlanFault) (result : Result Work Ending)
     → IsErrAnd result (λ e. e ≡ stopped_by_plan fault)
     → has_several set line ≡ false → (fault ≡ plan_fault.Memory) ⊎ (work_of F line set seed ≡ Is (Err fault))

@@ -30,11 +30,11 @@ use Rattle.std.specs.Option.{option_or}
 use Rattle.std.specs.Ordering.{nat_cmp}
 use Rattle.std.specs.Prelude.{◌≢◌, get_or, if◌then◌else◌, is_some}
 
--- For `compile`: the facts of a call whose folder of temporaries is settled.
+-- For `compile` (src/compiling.rt): the facts of a call whose folder of temporaries is settled.
 
 -- the names
 
--- `push_named` adds the value of a variable, if it is set,
+-- `push_named` adds the value of a variable, if it is set
 pub name_pushed : {X E : Type 0} (F : Facts) (variable : List ℕ) (value : Option (List ℕ)) (before after : List (List ℕ))
     (result : Result X E)
     → asked (variable_of F variable) ≡ Is value → OnOk result (after ≡ before ++ if_set value)
@@ -72,7 +72,7 @@ Choosing names i before so =
     Noted before so (λ events. (more : List HostEvent) (folder : List ℕ) → Chooses (drop i names) more folder
     → Chooses names (events ++ more) folder)
 
--- it goes on behind a folder that is not usable,
+-- `chosen` goes on behind a folder that isn't usable
 pub chooses_later : (names : List (List ℕ)) (i : ℕ) (name : List ℕ) (answer : Bool) (before so after : List HostEvent) → i < length names
     → name ≡ get_or names i name
     → answer ≡ false → after ≡ so ++ Tried name answer ∷ [] → Choosing names i before so → Choosing names (i + 1) before after
@@ -88,7 +88,7 @@ chooses_later names i name answer before so after below here says grown (events,
       (unusable chooses))),
 )
 
--- takes the first one that is,
+-- `chosen` takes the first folder that is usable
 pub chooses_it : {E : Type 0} (names : List (List ℕ)) (i : ℕ) (name : List ℕ) (answer : Bool) (before so after : List HostEvent)
     (result : Result (List ℕ) E) → i < length names
     → name ≡ get_or names i name → answer ≡ true → after ≡ so ++ Tried name answer ∷ [] → Choosing names i before so
@@ -110,7 +110,7 @@ chooses_it names i name answer before so after (Ok folder) below here says grown
       (sym (drop_more names i name below ∙ ap (λ x. x ∷ drop (i + 1) names) (sym here))) usable)),
 )
 
--- and the current folder where none is
+-- `chosen` takes the folder of the call where none is usable
 pub chooses_own : {E : Type 0} (names : List (List ℕ)) (i : ℕ) (before so : List HostEvent) (result : Result (List ℕ) E) → length names ≤ i
     → Choosing names i before so
     → IfOk result (λ folder. folder ≡ codes ".") → Noted before so (λ events. IfOk result (λ folder. Chooses names events folder))
@@ -129,11 +129,11 @@ chooses_own names i before so (Ok folder) past (events, is, so_far) same = (
 abbrev pub Trying : List (List ℕ) → ℕ → List HostEvent → List HostEvent → Type 0
 Trying names i before so = Noted before so (λ events. (more : List HostEvent) → Tries (drop i names) more → Tries names (events ++ more))
 
--- none at first,
+-- no folder was tried at first
 pub tries_none_yet : (names : List (List ℕ)) (before : List HostEvent) → Trying names 0 before before
 tries_none_yet names before = ([], sym (append-nil before), λ more tries. tries)
 
--- one more in vain,
+-- one folder more was tried in vain
 pub tries_later : (names : List (List ℕ)) (i : ℕ) (name : List ℕ) (answer : Bool) (before so after : List HostEvent) → i < length names
     → name ≡ get_or names i name
     → answer ≡ false → after ≡ so ++ Tried name answer ∷ [] → Trying names i before so → Trying names (i + 1) before after
@@ -148,7 +148,7 @@ tries_later names i name answer before so after below here says grown (events, i
       (tries_next tries))),
 )
 
--- one more, after which memory lacked,
+-- one folder more was tried, after which memory lacked
 pub tries_it : (names : List (List ℕ)) (i : ℕ) (name : List ℕ) (answer : Bool) (before so after : List HostEvent) → i < length names
     → name ≡ get_or names i name
     → after ≡ so ++ Tried name answer ∷ [] → Trying names i before so → Noted before after (Tries names)
@@ -160,7 +160,7 @@ tries_it names i name answer before so after below here grown (events, is, so_fa
       tries_last),
 )
 
--- or memory lacked before the next
+-- memory lacked before the next folder was tried
 pub tries_no_more : (names : List (List ℕ)) (i : ℕ) (before so after : List HostEvent) → after ≡ so → Trying names i before so
     → Noted before after (Tries names)
 tries_no_more names i before so after same (events, is, so_far) =
@@ -175,7 +175,7 @@ chooses_none names i before so after (Err e) what chosen (events, grown, so_far)
 
 -- the folder by its names
 
--- `folder_asked` chooses among the names that it asked for,
+-- `folder_asked` chooses among the names that it asked for
 pub folder_chosen : {E : Type 0} (known : Facts) (names slice : List (List ℕ)) (before after : List HostEvent) (result : Result (List ℕ) E)
     → slice ≡ names
     → ((F : Facts) → Extends known F → folder_names F ≡ Is names)
@@ -185,14 +185,14 @@ folder_chosen known names slice before after (Err e) same told (events, grown, c
 folder_chosen known names slice before after (Ok folder) same told (events, grown, chooses) =
     (events, grown, λ F e. (names, told F e, subst (λ xs. Chooses xs events folder) same chooses))
 
--- tried some of them where memory lacked,
+-- `folder_asked` tried some of the folders where memory lacked
 pub folder_tried : (known : Facts) (names slice : List (List ℕ)) (before after : List HostEvent) → slice ≡ names
     → ((F : Facts) → Extends known F → folder_names F ≡ Is names) → Noted before after (Tries slice)
     → Noted before after (λ events. (F : Facts) → Extends known F → IsTried F events)
 folder_tried known names slice before after same told (events, grown, tries) =
     (events, grown, λ F e. inr (names, told F e, subst (λ xs. Tries xs events) same tries))
 
--- or none where it lacked for their names
+-- `folder_asked` tried no folder where memory lacked for their names
 pub nothing_tried : (known : Facts) (notes : List HostEvent)
     → Noted notes notes (λ events. (F : Facts) → Extends known F → IsTried F events)
 nothing_tried known notes = ([], sym (append-nil notes), λ F e. inl refl)
@@ -263,7 +263,7 @@ settled_learnt F G folder (Say text answer) is new = absurd new
 settled_learnt F G folder (Put text answer) is new = absurd new
 settled_learnt F G folder (Run e) is new = absurd new
 
--- and so are all that follow: no question was asked twice
+-- all answers that are new to the table with the folder are new to that without it: no question was asked twice
 settled_learn : (F G : Facts) (folder : List ℕ) (events : List Event) → IsSettled F folder G → AreNew G events
     → AreNew F events × IsSettled (learn F events) folder (learn G events)
 settled_learn F G folder [] is new = (tt, is)
@@ -273,7 +273,7 @@ settled_learn F G folder (event ∷ events) is new =
 
 -- what a call goes by
 
--- `settle` ends before its first question,
+-- `settle` ends before its first question
 pub nothing_begun : (journal : List Event) (notes : List HostEvent) → BeginsToGo journal journal notes notes
 nothing_begun journal notes = record {
   asked = [];
@@ -285,7 +285,7 @@ nothing_begun journal notes = record {
   is_tried = inl refl;
 }
 
--- or before it has a folder: its questions and tries are those of the call
+-- `settle` ends before it has a folder: its questions and tries are those of the call
 pub begun : {journal journal' : List Event} {F known : Facts} {notes notes' : List HostEvent} → F ≡ no_facts → Asks journal journal' F known
     → Noted notes notes' (λ events. (G : Facts) → Extends known G → IsTried G events) → BeginsToGo journal journal' notes notes'
 begun {known = known} empty asks (tried, grown, is_tried) =
@@ -298,13 +298,13 @@ begun {known = known} empty asks (tried, grown, is_tried) =
       is_tried = subst (λ G. IsTried G tried) known_is (is_tried known (extends_refl known));
     }
 
--- then the call goes by no facts
+-- a call for whose folder memory lacked goes by no facts
 pub tried_goes : {asked : List Event} {tried : List HostEvent} → IsTried (learn no_facts asked) tried
     → GoesBy asked tried OutOfMemory no_facts
 tried_goes {asked} (inl none) = subst (λ t. GoesBy asked t OutOfMemory no_facts) (sym none) unnamed
 tried_goes (inr (names, known, tries)) = unsettled known tries
 
--- it has a folder: the call goes by the table with it
+-- `settle` has a folder: the call goes by the table with it
 pub going : {journal journal' : List Event} {F known : Facts} {notes notes' : List HostEvent} (folder : List ℕ) (table : Facts)
     → F ≡ no_facts
     → Asks journal journal' F known → Noted notes notes' (λ events. (G : Facts) → Extends known G → IsFolder G events folder)
@@ -322,7 +322,7 @@ going {known = known} folder table empty asks (tried, grown, is_folder) put =
           (subst (λ T. IsSettled known folder T) (sym put) (settled_with known folder));
     }
 
--- it puts the folder into the table by its own word for TMPDIR
+-- `settle` puts the folder into the table by its own word for TMPDIR
 pub table_settled : {X E : Type 0} {journal journal' : List Event} {F known : Facts} (notes notes' : List HostEvent) (result : Result X E)
     (folder name : List ℕ)
     (before table : Facts) → name ≡ codes "TMPDIR" → before ≡ known → F ≡ no_facts → Asks journal journal' F known
@@ -354,13 +354,13 @@ going_further {journal} {G = G} {G' = G'} before asks =
           (subst (λ T. IsSettled (learn (learn no_facts before.asked) asks.asked) before.folder T) (sym asks.facts_grow) both.1);
     }
 
--- a call with a folder goes by it,
+-- a call with a folder goes by it
 by_folder : {asked : List Event} {tried : List HostEvent} {folder : List ℕ} {G : Facts} {outcome : Outcome}
     → IsFolder (learn no_facts asked) tried folder
     → IsSettled (learn no_facts asked) folder G → GoesBy asked tried outcome G
 by_folder (names, known, chooses) settles = settled known chooses settles
 
--- and so does each that got so far
+-- each call that has a folder goes by it, however it ends
 pub goes_by : {journal journal' : List Event} {notes notes' : List HostEvent} {G : Facts} (outcome : Outcome)
     (all : Going journal journal' notes notes' G)
     → GoesBy all.asked all.tried outcome G

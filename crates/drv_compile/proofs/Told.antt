@@ -4,9 +4,9 @@ use Rattle.std.proofs.Common.{◌≡◌, ◌<◌, ◌≤◌, ◌+◌, ◌∙◌,
 use Rattle.std.proofs.lemmas.List.{append-nil, drop_all, drop_more}
 use Rattle.std.specs.Prelude.{get_or}
 
--- For the text of refusals: each refusal adds its own, one after another.
+-- For the text of refusals (src/telling.rt): each refusal adds its own, one after another.
 
--- `lines_told` adds the line of one refusal more,
+-- `lines_told` adds the line of one refusal more
 pub told_more : (name : List ℕ) (known : List (List ℕ)) (refusals : List Refusal) (i : ℕ) (refusal : Refusal) (text after : List ℕ)
     → i < length refusals → refusal ≡ get_or refusals i refusal
     → ((line : List ℕ) × IsTold name known refusal line × (after ≡ text ++ line))
@@ -19,7 +19,7 @@ told_more name known refusals i refusal text after below here (line, told, grown
     (sym (drop_more refusals i refusal below ∙ ap (λ r. r ∷ drop (i + 1) refusals) (sym here)))
     (line, rest, told, more, refl)))
 
--- and has the lines of all at the end
+-- `lines_told` has the lines of all refusals at the end
 pub told_all : (name : List ℕ) (known : List (List ℕ)) (refusals : List Refusal) (i : ℕ) (text : List ℕ) → length refusals ≤ i
     → ((rest : List ℕ) → AreTold name known (drop i refusals) rest → AreTold name known refusals (text ++ rest))
     → AreTold name known refusals text

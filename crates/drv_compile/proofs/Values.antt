@@ -4,9 +4,9 @@ use Rattle.std.proofs.Common.{◌≡◌, ◌∙◌, Bool, List, [], ◌∷◌, N
 use Rattle.std.specs.List.{flat_map, starts_with}
 use Rattle.std.specs.Option.{option_map}
 
--- For the files beside a spec file: the first value of a key is that of the first line that begins with the key.
+-- For the files beside a spec file (src/compilers.rt): the first value of a key is that of the first line that begins with the key.
 
--- the first value of a key is that of the first line that begins with it,
+-- the first value of a key is that of the first line that begins with it
 first_value : (key : List ℕ) (all : List (List ℕ))
     → first_of (flat_map (value_in key) all) ≡ option_map (drop (length key)) (find (λ line. starts_with nat_eq line key) all)
 first_value key [] = refl
@@ -19,13 +19,13 @@ first_value key (line ∷ all) = by (starts_with nat_eq line key) refl (first_va
     by true is rest = rw is refl
     by false is rest = rw is rest
 
--- so `first_value` has none where there is no such line,
+-- `first_value` has none where no line begins with the key
 pub value_none : (key : List ℕ) (all : List (List ℕ)) (seen : Option (List ℕ)) → seen ≡ None
     → seen ≡ find (λ line. starts_with nat_eq line key) all
     → None ≡ first_of (flat_map (value_in key) all)
 value_none key all seen is found = sym (first_value key all ∙ ap (option_map (drop (length key))) (sym found ∙ is))
 
--- and else what follows the key there
+-- `first_value` has what follows the key in the first line that begins with it
 pub value_some : (key : List ℕ) (all : List (List ℕ)) (seen : Option (List ℕ)) (line word : List ℕ) → seen ≡ Some line
     → seen ≡ find (λ line. starts_with nat_eq line key) all → word ≡ drop (length key) line
     → Some word ≡ first_of (flat_map (value_in key) all)

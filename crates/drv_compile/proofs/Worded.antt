@@ -26,7 +26,7 @@ use Rattle.std.proofs.lemmas.Bool.{false≢true}
 use Rattle.std.proofs.lemmas.List.{drop_all, drop_more}
 use Rattle.std.specs.Prelude.{MatchResult, get_or, is_some}
 
--- For the words of a call: they are those of its response files, or it is refused.
+-- For the words of a call (src/expanding.rt and src/preparing.rt): they are those of its response files, or it is refused.
 
 -- lack of memory says nothing
 pub memory_stops : {X : Type 0} (result : Result X Stop) (done : X → Type 0) (told : List ℕ → Type 0)
@@ -54,7 +54,7 @@ pub unread_asked : (F : Facts) (given : Option (List ℕ)) (path named : List �
 unread_asked F given path named answer found some same known is =
     ap (unread_at F) (some ∙ ap Some (sym same)) ∙ ap (λ k. asked k >>= λ a. Is (if_unread named a)) known ∙ ap Is (sym is)
 
--- `first_unread` goes on behind a file that can be read,
+-- `first_unread` goes on behind a file that can be read
 pub unread_more : (F : Facts) (words : List (List ℕ)) (i : ℕ) (word : List ℕ) → i < length words → word ≡ get_or words i word
     → unread_at F (file_named word) ≡ Is None → first_unread F (drop i words) ≡ first_unread F words
     → first_unread F (drop (i + 1) words) ≡ first_unread F words
@@ -62,7 +62,7 @@ unread_more F words i word below here none so_far =
     sym (ap (first_unread F) (drop_more words i word below ∙ ap (λ w. w ∷ drop (i + 1) words) (sym here))
     ∙ ap (λ k. k >>= λ path. or_later path (first_unread F (drop (i + 1) words))) none) ∙ so_far
 
--- ends at the first that can't,
+-- ends at the first that can't
 pub unread_here : (F : Facts) (words : List (List ℕ)) (i : ℕ) (word : List ℕ) (found : Option (List ℕ)) → i < length words
     → word ≡ get_or words i word
     → unread_at F (file_named word) ≡ Is found → is_some found ≡ true → first_unread F (drop i words) ≡ first_unread F words
@@ -80,14 +80,14 @@ pub not_some : {X : Type 0} (o : Option X) → is_some o ≡ false → o ≡ Non
 not_some None is = refl
 not_some (Some x) is = absurd (false≢true (sym is))
 
--- and finds none at the end
+-- `first_unread` finds none at the end of the words
 pub unread_nowhere : (F : Facts) (words : List (List ℕ)) (i : ℕ) → length words ≤ i → first_unread F (drop i words) ≡ first_unread F words
     → first_unread F words ≡ Is None
 unread_nowhere F words i past so_far = sym so_far ∙ ap (first_unread F) (drop_all i words past)
 
 -- faults as texts
 
--- `expansion` tells the refusal of the driver's words, unless memory lacked,
+-- `expansion` tells the refusal of the driver's words, unless memory lacked
 pub args_told : (F : Facts) (name : List ℕ) (args : List (List ℕ)) (fault : ArgsFault) (stop : Stop)
     → stop ≡ stop_of name (stopped_by_args fault)
     → Expands (within_limit F) 2000 args (Err fault) → IfTold stop (IsUnexpanded F name args)
@@ -111,7 +111,7 @@ args_told F name args fault stop is given = subst (λ s. IfTold s (IsUnexpanded 
     by fault (inl memory) = subst (λ f. IfTold (stop_of name (stopped_by_args f)) (IsUnexpanded F name args)) (sym memory) tt
     by fault (inr refuses) = refused fault refuses
 
--- `gcc_words` that of c99's,
+-- `gcc_words` that of c99's
 pub c99_told : (calling : Calling) (expanded : Expanded) (fault : C99Fault) (stop : Stop)
     → stop ≡ stop_of calling.name (stopped_by_c99 fault)
     → (fault ≡ c99_fault.Memory) ⊎ (fronted calling.front expanded ≡ Err fault) → IfTold stop (IsUnfronted calling expanded)
@@ -130,7 +130,7 @@ c99_told calling expanded fault stop is given = subst (λ s. IfTold s (IsUnfront
     by fault (inl memory) = subst (λ f. IfTold (stop_of calling.name (stopped_by_c99 f)) (IsUnfronted calling expanded)) (sym memory) tt
     by fault (inr refuses) = refused fault refuses
 
--- and `work_or_stop` that of a line of the driver
+-- `work_or_stop` says the refusal of a line of the driver
 pub driver_told : (F : Facts) (name : List ℕ) (own : DriverLine) (seed : ℕ) (ending : Ending) (stop : Stop) → Stops F own seed ending
     → IfTold stop (IsEndSaid F name own ending) → IfTold stop (IsFailure F name own seed)
 driver_told F name own seed ending stop stops tells =
@@ -143,7 +143,7 @@ driver_told F name own seed ending stop stops tells =
 
 -- the words from step to step
 
--- `line_words` hands on why the words aren't expanded,
+-- `line_words` hands on why the words aren't expanded
 pub unexpanded : (F : Facts) (calling : Calling) (name : List ℕ) (args : List (List ℕ)) (stop : Stop) (result : Result Expanded Stop)
     → name ≡ calling.name
     → IsErrAnd result (λ s. s ≡ stop) → IfTold stop (IsUnexpanded F name args)
@@ -153,7 +153,7 @@ unexpanded F calling name args stop result named is tells =
     (told_as stop (IsUnexpanded F name args) (RefusesWords F calling args)
     (λ text un. not_expanded (subst (λ n. IsUnexpanded F n args text) named un)) tells)
 
--- why a response file can't be read,
+-- why a response file can't be read
 pub unreadable : (F : Facts) (calling : Calling) (name : List ℕ) (args words : List (List ℕ)) (expanded : Expanded) (stop : Stop)
     (result : Result Expanded Stop) → name ≡ calling.name
     → words ≡ expanded.words → Expands (within_limit F) 2000 args (Ok expanded)
@@ -165,7 +165,7 @@ unreadable F calling name args words expanded stop result named are expands is t
     (λ text un. not_readable expands (subst (λ n. IsUnread F n expanded.words text) named (subst (λ w. IsUnread F name w text) are un)))
     tells)
 
--- and what the front makes of them, or why it refuses them
+-- `line_words` hands on what the front makes of the words, or why it refuses them
 pub words_given : (F : Facts) (calling : Calling) (args words : List (List ℕ)) (expanded : Expanded) (result : Result Expanded Stop)
     → words ≡ expanded.words
     → Expands (within_limit F) 2000 args (Ok expanded) → first_unread F words ≡ Is None

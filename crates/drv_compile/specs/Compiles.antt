@@ -56,8 +56,11 @@ use Rattle.std.specs.Prelude.{◌≡◌, ◌&&◌, Bool, List, [], ◌∷◌, �
 use Rattle.std.specs.Prelude.{true, ℕ}
 
 -- A call of gdrv-cc (GCC manual, "Invoking GCC"): what its words ask for, and what the journal has after it.
+-- For clauses of src/preparing.rt and src/compiling.rt.
 
 -- A question to the compiler is the run of a plan that has one command, and its status is the answer.
+
+-- a plan of one command alone
 abbrev pub one_command : Command → Plan
 one_command command = record {
   notices = [];
@@ -65,11 +68,15 @@ one_command command = record {
   link = None;
 }
 
+-- the work of a question: the compiler gets the arguments as they are, and its status is the call's
 abbrev pub question : List ℕ → List (List ℕ) → Work
 question compiler args = CarryOut (one_command (record { program = compiler; words = args }))
     (record { telling = Notices; pass_codes = GreatestCode; window = 1 })
 
 -- What is done for a line that the driver is called with so: its work.
+
+-- the work is that of the driver's line, its variables and wrapper are set, and `said` is said before it. After it the call says `hint`, if
+-- a program of the compiler lacks; such a line has no `remark`
 pub record IsPlanned (F : Facts) (calling : Calling) (chain : Toolchain) (driven : Driven) (seed : ℕ) (prepared : Prepared) : Type 0 where
   pub opens : opening F chain.specs driven.line.items driven.children ≡ Is prepared.said
   pub works : Works F driven.line seed prepared.work
@@ -80,10 +87,13 @@ pub record IsPlanned (F : Facts) (calling : Calling) (chain : Toolchain) (driven
 
 -- What is done for a line of which no row has the words for its machine: the compiler gets it, with the same words, those of c99 turned
 -- into gcc's. So no words are guessed, and a note says how they are added.
+
+-- the words that the compiler gets then: the call's own, or those of c99 turned into gcc's
 abbrev pub words_for : Front → List (List ℕ) → Expanded → List (List ℕ)
 words_for Gcc args given = args
 words_for C99 args given = given.words
 
+-- the compiler gets the line's words, and a note says how the words for its machine are added
 abbrev pub handed_on : Calling → Toolchain → List ℕ → List (List ℕ) → Expanded → Prepared
 handed_on calling chain options args given = record {
   work = question chain.around.compiler (words_for calling.front args given);
@@ -105,7 +115,8 @@ pub data Performs (F : Facts) (calling : Calling) (chain : Toolchain) (call : Ca
       → IsWorker F chain call given (Compiler options) → prepared ≡ handed_on calling chain options args given
       → Performs F calling chain call args given seed events prepared
 
--- or the text of its refusal
+-- why a line that could be carried out is refused, and the text that says it: an input is missing, the output is an input, no driver takes
+-- the line, or the driver refuses its items
 pub data Fails (F : Facts) (calling : Calling) (chain : Toolchain) (call : Call) (given : Expanded) (seed : ℕ) : List HostEvent → List ℕ
     → Type 0 where
   objected : {b : ℕ} {text : List ℕ} → objection F calling.name call.inputs ≡ Is (b ∷ text)
@@ -140,6 +151,7 @@ pub data Comes (F : Facts) (calling : Calling) (own : Option (List ℕ)) (args :
       → decided F own words.words ≡ Is decision → Leads decision (Compilation chain call)
       → Performs F calling chain call args words seed events prepared → Comes F calling own args seed events prepared
 
+-- why arguments are refused, with what the host was asked before: by their words, by what they ask for, or by the line
 pub data Refuses (F : Facts) (calling : Calling) (own : Option (List ℕ)) (args : List (List ℕ)) (seed : ℕ) : List HostEvent → List ℕ
     → Type 0 where
   no_words : {text : List ℕ} → RefusesWords F calling args text → Refuses F calling own args seed [] text
@@ -150,9 +162,8 @@ pub data Refuses (F : Facts) (calling : Calling) (own : Option (List ℕ)) (args
       → decided F own words.words ≡ Is decision → Leads decision (Compilation chain call)
       → Fails F calling chain call words seed events text → Refuses F calling own args seed events text
 
--- After a run that did not find a program of a source, or the compiler of a question, the call says the hint, and after another its remark,
--- if it has one. A line may choose a linker that is not there (GCC manual, "Link Options", -fuse-ld=), or a wrapper (-wrapper): the hint is
--- about neither. Where memory lacked for a text, the outcome says so.
+-- whether an answer says that the program to start isn't there. After such a one the call says the hint, and otherwise its remark: see
+-- `closing`
 abbrev pub is_missing : Answer → Bool
 is_missing (answer.Start (start.NotStarted NotFound)) = true
 is_missing _ = false
@@ -174,17 +185,21 @@ abbrev pub is_own : List ℕ → Option (List ℕ) → Bool
 is_own wrapper None = false
 is_own wrapper (Some program) = not (pointwise nat_eq program wrapper)
 
+-- whether an event shows that a program of the compiler isn't there: a command of a source didn't start, and it is no wrapper
 abbrev pub is_absent : List Job → List ℕ → Event → Bool
 is_absent jobs wrapper (Run e) = is_missing e.answer && is_own wrapper (program_of jobs e.step)
 is_absent jobs wrapper _ = false
 
+-- whether any event of a work shows that: then the spec file may be for a gcc that is gone. It decides which text ends the call
 abbrev pub lacks_program : Prepared → List Event → Bool
 lacks_program prepared = list_any (is_absent (jobs_before_link prepared.work) prepared.wrapper)
 
+-- the text that ends a call: the hint where a program lacks (true), or else the remark; no text is said where it is empty
 abbrev pub closing : Prepared → Bool → List ℕ
 closing prepared true = prepared.hint
 closing prepared false = prepared.remark
 
+-- the last event of a call that did its work: it says its closing text, if it has one. Memory may lack for that, and the outcome says it
 pub data Closes (status : ℕ) : List ℕ → Outcome → List Event → Type 0 where
   closed : Closes status [] (Done status) []
   noted : {b : ℕ} {text : List ℕ} {told : TellAnswer} → Closes status (b ∷ text) (Done status) (Say (b ∷ text) told ∷ [])

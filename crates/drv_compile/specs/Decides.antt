@@ -12,35 +12,40 @@ use Rattle.std.specs.Prelude.{List, [], ◌∷◌, None, Option, Some, codes, �
 
 -- What the words of a line ask for, over the spec file of the call and the files beside it (this project's profile). One set of facts
 -- answers all questions; which are asked follows from what was answered before.
+-- For clauses of src/deciding.rt and src/compilers.rt.
 
--- the line, over the compiler of the spec file
+-- what the reading of a line decides; the file with the names of options was damaged where there is no reading
 abbrev pub of_reading : List ℕ → Surroundings → Option Reading → Decision
 of_reading specs around None = Damaged specs (companion specs (codes ".options"))
 of_reading specs around (Some reading) = Read specs around reading
 
+-- what a line asks for where the compiler and its folders are known
 abbrev pub decided_around : Facts → List ℕ → List (List ℕ) → Surroundings → Known Decision
 decided_around F specs words around = line_read F specs around words >>= λ reading. Is (of_reading specs around reading)
 
--- the compiler is the first one that the file names, and the folders are all that it names
+-- what a line is read in: the first compiler that the file names, all folders that it names, and the two variables with paths
 abbrev pub surroundings : List ℕ → List (List ℕ) → Option (List ℕ) → Option (List ℕ) → Surroundings
 surroundings compiler folders programs libraries =
     record { compiler = compiler; folders = folders; compiler_path = programs; library_path = libraries }
 
+-- the first of several values, if there is any
 abbrev pub first_of : List (List ℕ) → Option (List ℕ)
 first_of [] = None
 first_of (compiler ∷ others) = Some compiler
 
+-- what a line asks for, by the compiler that the file beside the spec file names, if it names any
 abbrev pub decided_by : Facts → List ℕ → List (List ℕ) → List ℕ → Option (List ℕ) → Known Decision
 decided_by F specs words text None = Is (NoCompiler specs)
 decided_by F specs words text (Some compiler) =
     asked (variable_of F (codes "COMPILER_PATH")) >>= λ programs. asked (variable_of F (codes "LIBRARY_PATH")) >>= λ libraries.
     decided_around F specs words (surroundings compiler (values (codes "folder ") text) programs libraries)
 
+-- what a line asks for, by the text of that file, if it is whole
 abbrev pub decided_over : Facts → List ℕ → List (List ℕ) → Option (List ℕ) → Known Decision
 decided_over F specs words None = Is (Damaged specs (companion specs (codes ".gcc")))
 decided_over F specs words (Some text) = decided_by F specs words text (first_of (values (codes "compiler ") text))
 
--- the spec file, or where it should be
+-- what a line asks for, by its spec file; without one the decision says where it should be
 abbrev pub decided_with : Facts → Option (List ℕ) → List (List ℕ) → Option (List ℕ) → Known Decision
 decided_with F own words None = file_of_variable F >>= λ named. Is (NoSpecs (or_own own named))
 decided_with F own words (Some specs) = written_beside F specs (codes ".gcc") >>= λ text. decided_over F specs words text

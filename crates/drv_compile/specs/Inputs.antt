@@ -11,6 +11,7 @@ use Rattle.std.specs.Prelude.{◌≡◌, Bool, List, [], ◌∷◌, ◌++◌, No
 use Rattle.std.specs.Prelude.{ℕ}
 
 -- What is asked of a line that is carried out, before anything is started (GCC, "gcc.cc", process_command).
+-- For clauses of src/inputs.rt, src/preparing.rt, src/temp_folder.rt and src/compiling.rt.
 
 -- Inputs that are not there, each with a line of its own.
 abbrev pub absent_by : List ℕ → List ℕ → PathKind → List ℕ
@@ -19,9 +20,11 @@ absent_by name path Plain = []
 absent_by name path Dir = []
 absent_by name path Other = []
 
+-- the line for an input, if it isn't there
 abbrev pub absent_at : Facts → List ℕ → List ℕ → Known (List ℕ)
 absent_at F name path = asked (kind_of F path) >>= λ kind. Is (absent_by name path kind)
 
+-- the lines for all inputs that aren't there
 abbrev pub absent_of : Facts → List ℕ → List (List ℕ) → Known (List ℕ)
 absent_of F name [] = Is []
 absent_of F name (input ∷ inputs) = absent_at F name input >>= λ line. absent_of F name inputs >>= λ lines. Is (line ++ lines)
@@ -32,15 +35,19 @@ abbrev pub objection_by : Facts → List ℕ → List (List ℕ) → Option (Lis
 objection_by F name inputs None = absent_of F name inputs
 objection_by F name inputs (Some value) = Is (variable_text name)
 
+-- what speaks against a line before anything is started: GCC_EXEC_PREFIX is set, or inputs aren't there
 abbrev pub objection : Facts → List ℕ → List (List ℕ) → Known (List ℕ)
 objection F name inputs = asked (variable_of F (codes "GCC_EXEC_PREFIX")) >>= λ value. objection_by F name inputs value
 
 -- Whether an output is an input, by whatever path (canonical_filename_eq): where a file is there, the path that each input leads to is
 -- asked for, up to the first that is that of the output.
+
+-- whether an input leads to this path
 abbrev pub is_at : List ℕ → Option (List ℕ) → Bool
 is_at path None = false
 is_at path (Some found) = pointwise nat_eq found path
 
+-- the host's answers for the paths of inputs, up to the first that leads to the output; the last value says whether one does
 pub data Reaches (path : List ℕ) : List (List ℕ) → List HostEvent → Bool → Type 0 where
   to_none : Reaches path [] [] false
   to_it : {input : List ℕ} {inputs : List (List ℕ)} {answer : Option (List ℕ)} → is_at path answer ≡ true

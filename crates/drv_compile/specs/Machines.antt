@@ -13,7 +13,9 @@ use Rattle.std.specs.Prelude.{◌==◌, ◌||◌, Bool, List, [], ◌∷◌, ◌
 -- The options of a line that choose its machine, and the words that gcc makes of them (GCC, "gcc.cc", DRIVER_SELF_SPECS and
 -- OPTION_DEFAULT_SPECS, set_multilib_dir; in no dump). The file beside the spec file may have rows: `machine`, these options with a blank
 -- before each, and after a tab the words, with a tab between two. A line has the words of its row in their place, before all others.
+-- For clauses of src/machines.rt.
 
+-- whether an option chooses the machine: one that begins with -m, or -EB or -EL
 abbrev pub is_machine : List ℕ → Bool
 is_machine option =
     starts_with nat_eq option (codes "-m") || pointwise nat_eq option (codes "-EB") || pointwise nat_eq option (codes "-EL")
@@ -22,6 +24,7 @@ is_machine option =
 abbrev pub key_word : Item → List ℕ
 key_word i = if is_machine i.option then byte.space ∷ i.option ++ i.argument else []
 
+-- the options of a line for its machine, as the key by which a row is found
 abbrev pub key_of : List Item → List ℕ
 key_of items = flat_map key_word items
 
@@ -31,19 +34,25 @@ row_beginning items = codes "machine" ++ key_of items ++ codes "\t"
 
 -- A word of a row is a switch; one for a folder of the row's libraries is a prefix too, and files are looked for there first (GCC,
 -- "gcc.cc", for_each_path).
+
+-- how a word of a row begins that names a folder of libraries
 abbrev pub folder_option : List ℕ
 folder_option = codes "--gdrv-in="
 
+-- a folder of a row's libraries, as the driver's prefix with an option of its own
 abbrev pub folder_item : List ℕ → Item
 folder_item word = item_of effect.Prefix folder_option (drop (length folder_option) word)
 
+-- a word of a row as an item of the driver's line
 abbrev pub word_item : List ℕ → Item
 word_item word = if starts_with nat_eq word folder_option then folder_item word else alone effect.Switch word
 
+-- the item of a word of a row; an empty word is none
 abbrev pub word_items : List ℕ → List Item
 word_items [] = []
 word_items (b ∷ word) = word_item (b ∷ word) ∷ []
 
+-- the items of a row: its words have a tab between two
 abbrev pub row_items : List ℕ → List Item
 row_items row = flat_map word_items (slice_split (λ b. b == byte.tab) row)
 
@@ -51,6 +60,7 @@ row_items row = flat_map word_items (slice_split (λ b. b == byte.tab) row)
 abbrev pub plain_item : Item → List Item
 plain_item i = if is_machine i.option then [] else i ∷ []
 
+-- the items of a line without its options for the machine, whose place the row's words take
 abbrev pub plain_items : List Item → List Item
 plain_items items = flat_map plain_item items
 
@@ -64,6 +74,7 @@ abbrev pub by_rows : List ℕ → List Item → Option (List ℕ) → MachineIte
 by_rows text items None = Made items
 by_rows text items (Some first) = with_row items (first_of (values (row_beginning items) text))
 
+-- the items of a line by a file's text: rows count only if that text has any
 abbrev pub machined : List ℕ → List Item → MachineItems
 machined text items = by_rows text items (first_of (values (codes "machine") text))
 

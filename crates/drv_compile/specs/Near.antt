@@ -10,6 +10,7 @@ use Rattle.std.specs.Prelude.{take, ℕ, ⊤}
 
 -- The text of the refusals of a line, each with the option that an unknown word was meant to be (GCC, "opts-common.cc",
 -- candidates_list_and_hint). That option is among the known ones; which of them is near no definition says.
+-- For clauses of src/nearest.rt and src/telling.rt.
 
 -- what follows the first = of a word
 abbrev pub after_equals : List ℕ → List ℕ
@@ -20,17 +21,20 @@ after_equals (b ∷ word) = if b == equals then word else after_equals word
 abbrev pub meant_by : List ℕ → List ℕ → List ℕ
 meant_by word name = if ends_with nat_eq name (codes "=") then name ++ after_equals word else name
 
--- a name without the mark at its end, which says what arguments it takes, or that gcc refuses it
+-- whether a name ends with a mark that no user types: it says what arguments the option takes, or that gcc refuses it
 abbrev pub is_marked : List ℕ → Bool
 is_marked name = ends_with nat_eq name (codes "?") || ends_with nat_eq name (codes "=#")
 
+-- a name without that mark, as a user types it
 abbrev pub unmarked : List ℕ → List ℕ
 unmarked name = if is_marked name then take (length name - 1) name else name
 
+-- an option that the refusal of an unknown word may name: none, or one of the known ones
 abbrev pub MayMean : List (List ℕ) → List ℕ → Option (List ℕ) → Type 0
 MayMean known word None = ⊤
 MayMean known word (Some near) = (place : ℕ) × (place < length known) × (near ≡ meant_by word (unmarked (get_or known place [])))
 
+-- the option that a refusal names: only that of an unknown word may name one
 abbrev pub IsMeant : List (List ℕ) → Refusal → Option (List ℕ) → Type 0
 IsMeant known (UnknownOption word) near = MayMean known word near
 IsMeant known (NoArgument option) near = near ≡ None
@@ -40,6 +44,7 @@ IsMeant known GivenMore near = near ≡ None
 IsMeant known EmptyOutput near = near ≡ None
 IsMeant known NoInput near = near ≡ None
 
+-- the line on standard error for a refusal
 abbrev pub IsTold : List ℕ → List (List ℕ) → Refusal → List ℕ → Type 0
 IsTold name known refusal line = (near : Option (List ℕ)) × IsMeant known refusal near × (line ≡ refusal_text name refusal near)
 

@@ -12,18 +12,23 @@ use Rattle.std.specs.Prelude.{Bool, List, [], ◌∷◌, false, if◌then◌else
 
 -- What is said before the work of a line whose commands are shown: what the compiler says of itself, and the switches of a link (GCC
 -- manual, "Overall Options", -v and -###; GCC, "gcc.cc", driver::maybe_print_and_exit).
+-- For clauses of src/speaking.rt.
 
+-- whether an item shows the commands: -v or -###
 abbrev pub shows : Effect → Bool
 shows (effect.TurnsOn setting.Verbose) = true
 shows (effect.TurnsOn setting.Dry) = true
 shows _ = false
 
+-- what the compiler says of itself, if the line shows its commands
 abbrev pub lines_shown : Facts → List ℕ → List Item → Known (List (List ℕ))
 lines_shown F specs items = if list_any (λ i. shows i.effect) items then said F specs else Is []
 
+-- what the compiler says of itself, and then the switches of a link; nothing where it says nothing
 abbrev pub text_shown : List Variable → List (List ℕ) → List ℕ
 text_shown children [] = []
 text_shown children (line ∷ lines) = said_text (line ∷ lines) children
 
+-- the text that is said before a line's work, over facts; it is empty where no command is shown
 abbrev pub opening : Facts → List ℕ → List Item → List Variable → Known (List ℕ)
 opening F specs items children = lines_shown F specs items >>= λ lines. Is (text_shown children lines)

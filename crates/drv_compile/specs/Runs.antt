@@ -21,7 +21,9 @@ use Rattle.std.specs.Prelude.{◌≡◌, ◌&&◌, Bool, Err, Ok, Option, Result
 
 -- What items of the driver's line ask for: the definitions of `drive`, over facts that an earlier part of the call has asked for (GCC
 -- manual, "Overall Options"). The items give the line: no words of them are read.
+-- For clauses of src/running.rt, src/sources.rt and src/preparing.rt.
 
+-- the line that items of the driver denote, or why they are refused
 abbrev pub line_given : DriverLine → Result Line ArgsFault
 line_given given = line_judged given.from_file given.items
 
@@ -36,9 +38,11 @@ has_compiler (Ok (Some chosen)) = true
 has_compiler (Err (NotInstalled compiler)) = true
 has_compiler _ = false
 
+-- whether an input is a source: its language has a compiler, be that installed or not
 abbrev pub is_source : Set → Input → Bool
 is_source set input = has_compiler (chosen_for set input)
 
+-- whether one -o names the output of several sources on a line without a link
 abbrev pub has_several : Set → Line → Bool
 has_several set line = is_some line.settings.output && (stops line && nat_lt 1 (count_by (is_source set) line.inputs))
 

@@ -37,16 +37,19 @@ use Rattle.std.specs.Prelude.{Err, List, [], ◌∷◌, None, Ok, Option, Result
 --
 -- The spec file of the call has a text `gdrv_self` of two commands: the words of the one are what `self_spec` gives, and those of the other
 -- are the switches that it left (this project's profile).
+-- For clauses of src/self_specs.rt.
 
 -- what a job of that text gives: no pipe, no further command, no temporary
 abbrev pub of_groups : List (List Command) → Worked
 of_groups ((given ∷ []) ∷ (left ∷ []) ∷ []) = Gives (record { left = left.words; words = given.words })
 of_groups _ = More
 
+-- what a job gives by its temporaries and groups: a temporary is more than words
 abbrev pub of_parts : List Temp → List (List Command) → Worked
 of_parts [] groups = of_groups groups
 of_parts (temp ∷ temps) groups = More
 
+-- what the job of `gdrv_self` gives: two commands' words, or more than options, which is refused
 abbrev pub of_job : Job → Worked
 of_job job = of_parts job.temps job.groups
 
@@ -54,6 +57,7 @@ of_job job = of_parts job.temps job.groups
 abbrev pub Ended : Type 0 → Type 0
 Ended X = Known (Result X Ending)
 
+-- what that text gives, or how it ends the call
 abbrev pub of_outcome : Planned Outcome → Ended Worked
 of_outcome Unasked = Unasked
 of_outcome (Is (Ok done)) = Is (Ok (of_job done.job))
@@ -68,10 +72,12 @@ abbrev pub worked_for : Facts → Settings → Set → List ℕ → Result Line 
 worked_for F settings set text (Err fault) = Is (Err (stopped_by_args fault))
 worked_for F settings set text (Ok line) = prefixes_of F settings.prefixes >>= worked_along F set text line
 
+-- what a set's `self_spec` gives; nothing where no spec file has that text
 abbrev pub worked_by : Facts → Settings → Set → Result Line ArgsFault → Option (List ℕ) → Ended Worked
 worked_by F settings set line None = Is (Ok Nothing)
 worked_by F settings set line (Some text) = worked_for F settings set text line
 
+-- what the specs of a line give, or why they aren't loaded
 abbrev pub worked_over : Facts → Settings → Result Line ArgsFault → Known (Result Set SpecsFault) → Ended Worked
 worked_over F settings line Unasked = Unasked
 worked_over F settings line (Is (Err fault)) = Is (Err (stopped_by_specs fault))
@@ -95,6 +101,7 @@ answer_by F specs around known args first (Gives given) =
     known_names F specs >>= λ options. items_names F first.items >>= λ named.
     Is (Ok (Some (front_with (unwrap_or options known) named around args given)))
 
+-- the answer by what the specs gave, or how they ended the call
 abbrev pub answer_after : Facts → List ℕ → Surroundings → List ℕ → List (List ℕ) → DriverLine → Ended Worked → Ended (Option Answer)
 answer_after F specs around known args first Unasked = Unasked
 answer_after F specs around known args first (Is (Err ending)) = Is (Err ending)

@@ -15,6 +15,7 @@ use Rattle.drv_compile.specs.declared.tasks.Task.{Task}
 use Rattle.std.specs.Prelude.{List, [], None, Some, ℕ, ⊤}
 
 -- What a call does by what its words ask for: it asks the compiler the line, or carries it out, or says a text.
+-- For clauses of src/tasks.rt, src/refusing.rt, src/preparing.rt and others.
 
 pub data Leads : Decision → Task → Type 0 where
   asks : {specs : List ℕ} {around : Surroundings} {known : List ℕ}

@@ -5,18 +5,22 @@ use Rattle.drv_system.specs.Known.{◌>>=◌, Is, Known, asked}
 use Rattle.std.specs.Prelude.{◌≡◌, ◌≢◌, Bool, List, [], ◌∷◌, ◌++◌, None, Option, Some, codes, false, true, ℕ}
 
 -- The folder of temporaries (GCC manual, "Environment Variables", TMPDIR; GCC, "libiberty/make-temp-file.c", choose_tmpdir).
+-- For clauses of src/temp_folder.rt.
 
 -- the names that may be its, in their order; a variable that is not set has none
 abbrev pub if_set : Option (List ℕ) → List (List ℕ)
 if_set None = []
 if_set (Some name) = name ∷ []
 
+-- the name that a variable has for the folder, if it is set
 abbrev pub named_by : Facts → List ℕ → Known (List (List ℕ))
 named_by F variable = asked (variable_of F variable) >>= λ value. Is (if_set value)
 
+-- the folders that every system has for temporaries
 abbrev pub folders_of_all : List (List ℕ)
 folders_of_all = codes "/tmp" ∷ codes "/var/tmp" ∷ []
 
+-- the names that may be the folder's: of TMPDIR, TMP and TEMP, and then the system's
 abbrev pub folder_names : Facts → Known (List (List ℕ))
 folder_names F =
     named_by F (codes "TMPDIR") >>= λ tmpdir. named_by F (codes "TMP") >>= λ tmp. named_by F (codes "TEMP") >>= λ temp.

@@ -11,35 +11,42 @@ use Rattle.std.specs.List.{flat_map}
 use Rattle.std.specs.Prelude.{◌==◌, ◌||◌, Bool, List, [], ◌∷◌, ◌++◌, None, Option, Some, codes, false, if◌then◌else◌, nat_eq, ℕ}
 
 -- What the user reads, in the words of gcc's driver where it has them.
+-- For clauses of src/wording.rt and src/speaking.rt. Rows of tests/tables/cc and docs/gdrv-cc.1 have some of these texts too.
 
 -- a line on standard error: the program's name, what follows, and a newline
 abbrev pub error_line : List ℕ → List ℕ → List ℕ
 error_line name text = name ++ codes ": error: " ++ text ++ codes "\n"
 
+-- a word between two texts
 abbrev pub quoted : List ℕ → List ℕ → List ℕ → List ℕ
 quoted before word after = before ++ word ++ after
 
--- an option without its argument
+-- whether an option is this one
 abbrev pub is : List ℕ → List ℕ → Bool
 is = pointwise nat_eq
 
+-- whether an option lacks a file's name, as gcc says it
 abbrev pub takes_file : List ℕ → Bool
 takes_file option =
     is option (codes "-o") || is option (codes "-include") || is option (codes "-imacros") || is option (codes "-MF")
     || is option (codes "--output") || is option (codes "--include") || is option (codes "--imacros")
 
+-- whether an option lacks a macro's name
 abbrev pub takes_macro : List ℕ → Bool
 takes_macro option =
     is option (codes "-D") || is option (codes "-U") || is option (codes "--define-macro") || is option (codes "--undefine-macro")
 
+-- whether an option lacks a path
 abbrev pub takes_path : List ℕ → Bool
 takes_path option =
     is option (codes "-I") || is option (codes "-isystem") || is option (codes "-iquote") || is option (codes "-idirafter")
     || is option (codes "-isysroot") || is option (codes "--include-directory") || is option (codes "--include-directory-after")
 
+-- whether an option lacks a target of a makefile
 abbrev pub takes_goal : List ℕ → Bool
 takes_goal option = is option (codes "-MT") || is option (codes "-MQ")
 
+-- what gcc says of an option without its argument, up to the option
 abbrev pub lacking : List ℕ → List ℕ
 lacking option =
     if takes_file option then codes "missing filename after '"
@@ -49,11 +56,12 @@ lacking option =
     else if is option (codes "-A") || is option (codes "--assert") then codes "assertion missing after '"
     else codes "missing argument to '"
 
--- a word that is no option, with the option that was meant, if one is near
+-- how the message for an unknown word ends: with the option that was meant, if one is near
 abbrev pub meant : Option (List ℕ) → List ℕ
 meant None = codes "'"
 meant (Some option) = quoted (codes "'; did you mean '") option (codes "'?")
 
+-- what is said of a word that is no option, with the option that was meant
 abbrev pub unknown_text : List ℕ → Option (List ℕ) → List ℕ
 unknown_text word near = codes "unrecognized command-line option '" ++ word ++ meant near
 
@@ -63,6 +71,7 @@ given_text word =
     if is word (codes "-") then codes "spec-generated switch is just '-'"
     else quoted (codes "switch '") word (codes "' does not start with '-'")
 
+-- two lines on standard error, the second of which says that the call ends there, as gcc's fatal errors do
 abbrev pub fatal_line : List ℕ → List ℕ → List ℕ
 fatal_line name text = name ++ codes ": fatal error: " ++ text ++ codes "\ncompilation terminated.\n"
 
@@ -82,6 +91,7 @@ abbrev pub file_said : List ℕ → List ℕ
 file_said [] = []
 file_said (b ∷ path) = if b == at_sign then path else b ∷ path
 
+-- the line for an input or a response file that isn't there
 abbrev pub absent_text : List ℕ → List ℕ → List ℕ
 absent_text name path = error_line name (file_said path ++ codes ": No such file or directory")
 
@@ -90,24 +100,30 @@ abbrev pub overwritten_text : List ℕ → List ℕ → List ℕ
 overwritten_text name output =
     name ++ codes ": fatal error: input file '" ++ output ++ codes "' is the same as output file\ncompilation terminated.\n"
 
--- before a run whose commands are shown: what the compiler says of itself, and the switches of a link (GCC manual, "Overall Options", -v)
+-- a line that the compiler says of itself, with its newline (GCC manual, "Overall Options", -v)
 abbrev pub line_of : List ℕ → List ℕ
 line_of line = line ++ codes "\n"
 
+-- the line that shows the switches of a link, of the variable that has them
 abbrev pub switches_line : Variable → List ℕ
 switches_line v = if is v.name (codes "COLLECT_GCC_OPTIONS") then codes "COLLECT_GCC_OPTIONS=" ++ v.value ++ codes "\n" else []
 
+-- what -v and -### say before the commands
 abbrev pub said_text : List (List ℕ) → List Variable → List ℕ
 said_text lines children = flat_map line_of lines ++ flat_map switches_line children
 
 -- The command that writes the spec file of a machine. A file of another name may be for any gcc: the user says for which.
+
+-- whether a spec file's name, without its ending, is that of the machine
 abbrev pub is_for : List ℕ → Option (List ℕ) → Bool
 is_for machine None = false
 is_for machine (Some stem) = is stem machine
 
+-- the gcc for which a spec file was written: the machine that is its name, or else GCC, for the user to say
 abbrev pub gcc_of : List ℕ → List ℕ → List ℕ
 gcc_of specs machine = if is_for machine (before_ending (codes ".specs") (base specs)) then machine else codes "GCC"
 
+-- the command that writes a spec file, for a message
 abbrev pub writing : List ℕ → List ℕ → List ℕ
 writing specs machine = codes "'gdrv-write-specs -o " ++ specs ++ codes " " ++ gcc_of specs machine ++ codes "' writes it"
 
@@ -122,17 +138,21 @@ gone_text name specs machine = name ++ codes ": note: the spec file may be for a
 
 -- Where the only word of a line is --help or --version, the compiler's answer gets a line in the name of this program: before it, or after
 -- it (GCC manual, "Overall Options").
+
+-- a text, if the words are this one alone
 abbrev pub if_only : List ℕ → List (List ℕ) → List ℕ → List ℕ
 if_only word [] text = []
 if_only word (w ∷ []) text = if is w word then text else []
 if_only word (w ∷ v ∷ words) text = []
 
+-- the lines before the compiler's answer to --help alone
 abbrev pub help_text : List ℕ → List ℕ → List (List ℕ) → List ℕ
 help_text name compiler words =
     if_only (codes "--help") words
     (codes "Usage: " ++ name ++ codes " [options] file...\n"
     ++ codes "It compiles C and assembler as " ++ compiler ++ codes " does, whose options follow. See gdrv-cc(1).\n")
 
+-- the line after the compiler's answer to --version alone, by which a user sees that this driver asked
 abbrev pub version_text : List ℕ → List ℕ → List (List ℕ) → List ℕ
 version_text name compiler words = if_only (codes "--version") words (name ++ codes ": a driver for " ++ compiler ++ codes "\n")
 
@@ -163,13 +183,15 @@ no_compiler_text name specs machine = unwritten_text name (codes "no compiler is
 abbrev pub damaged_text : List ℕ → List ℕ → List ℕ → List ℕ → List ℕ
 damaged_text name path specs machine = unwritten_text name (codes "missing or damaged file '") path specs machine
 
--- options for a machine of which no words are beside the spec file, and the command that asks the compiler for them
+-- a note on standard error: the program's name, what follows, and a newline
 abbrev pub note_line : List ℕ → List ℕ → List ℕ
 note_line name text = name ++ codes ": note: " ++ text ++ codes "\n"
 
+-- the command that asks the compiler for the words of a machine that no row beside the spec file has, for a message
 abbrev pub adding : List ℕ → List ℕ → List ℕ
 adding specs options = codes "'gdrv-write-specs --add " ++ specs ++ codes " " ++ options ++ codes "' asks it for them"
 
+-- the note where the compiler gets a line because no row has the words for its machine
 abbrev pub handed_text : List ℕ → List ℕ → List ℕ → List ℕ
 handed_text name specs options =
     note_line name (quoted (codes "the words for '") options (codes "' are not known, and the compiler gets the line as it is; ")

@@ -23,6 +23,7 @@ use Rattle.std.specs.Prelude.{◌≡◌, Bool, Err, List, [], ◌∷◌, ◌++�
 
 -- The words of a call, over facts: response files expanded, of which none may be there and not be readable, and the words of c99 turned
 -- into gcc's (GCC manual, "Overall Options", @file; POSIX, c99).
+-- For clauses of src/expanding.rt and src/wording.rt.
 
 -- the path of a response file that a word still names, since it can't be read
 abbrev pub if_unread : List ℕ → ReadAnswer → Option (List ℕ)
@@ -31,14 +32,17 @@ if_unread path Missing = None
 if_unread path Failed = Some path
 if_unread path TooLarge = None
 
+-- the path of a word that names a response file, if that file is there and can't be read
 abbrev pub unread_at : Facts → Option (List ℕ) → Known (Option (List ℕ))
 unread_at F None = Is None
 unread_at F (Some path) = asked (read_of F path) >>= λ answer. Is (if_unread path answer)
 
+-- the first path of two that is there: the later one is asked for only without the first
 abbrev pub or_later : Option (List ℕ) → Known (Option (List ℕ)) → Known (Option (List ℕ))
 or_later None later = later
 or_later (Some path) later = Is (Some path)
 
+-- the first response file of the words that is there and can't be read
 abbrev pub first_unread : Facts → List (List ℕ) → Known (Option (List ℕ))
 first_unread F [] = Is None
 first_unread F (word ∷ words) = unread_at F (file_named word) >>= λ path. or_later path (first_unread F words)
@@ -48,6 +52,7 @@ abbrev pub with_words : Bool → Result (List (List ℕ)) C99Fault → Result Ex
 with_words from_file (Ok words) = Ok (record { words = words; from_file = from_file })
 with_words from_file (Err fault) = Err fault
 
+-- the words of a call by the name it was called by: those of c99 become gcc's, or are refused
 abbrev pub fronted : Front → Expanded → Result Expanded C99Fault
 fronted Gcc expanded = Ok expanded
 fronted C99 expanded = with_words expanded.from_file (front_of expanded.words)
@@ -56,6 +61,7 @@ fronted C99 expanded = with_words expanded.from_file (front_of expanded.words)
 abbrev pub within_limit : Facts → Facts
 within_limit F = limited (Some 262144) F
 
+-- the words of a call: response files are expanded, each could be read, and those of c99 are turned into gcc's
 pub record Words (F : Facts) (calling : Calling) (args : List (List ℕ)) (words : Expanded) : Type 0 where
   pub expanded : Expanded
   pub expands : Expands (within_limit F) 2000 args (Ok expanded)
@@ -83,13 +89,16 @@ abbrev pub IsUnexpanded : Facts → List ℕ → List (List ℕ) → List ℕ �
 IsUnexpanded F name args text =
     (fault : ArgsFault) × RefusesExpansion (within_limit F) 2000 args fault × (text ≡ told_refusal name (refusal.Args fault))
 
+-- a response file can't be read, and this text says it
 abbrev pub IsUnread : Facts → List ℕ → List (List ℕ) → List ℕ → Type 0
 IsUnread F name words text = (path : List ℕ) × (first_unread F words ≡ Is (Some path)) × (text ≡ unread_text name path)
 
+-- c99 refuses the words, and this text says it
 abbrev pub IsUnfronted : Calling → Expanded → List ℕ → Type 0
 IsUnfronted calling expanded text =
     (fault : C99Fault) × (fronted calling.front expanded ≡ Err fault) × (text ≡ told_refusal calling.name (refusal.C99 fault))
 
+-- why the words of a call are refused, and the text that says it
 pub data RefusesWords (F : Facts) (calling : Calling) (args : List (List ℕ)) (text : List ℕ) : Type 0 where
   not_expanded : IsUnexpanded F calling.name args text → RefusesWords F calling args text
   not_readable : {expanded : Expanded} → Expands (within_limit F) 2000 args (Ok expanded) → IsUnread F calling.name expanded.words text

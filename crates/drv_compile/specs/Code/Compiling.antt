@@ -11,7 +11,7 @@ use Rattle.drv_system.specs.declared.event.Event.{Event}
 use Rattle.drv_system.specs.declared.event.TellAnswer.{TellAnswer}
 use Rattle.std.specs.Prelude.{◌≡◌, List, [], ◌∷◌, ◌++◌, drop, length, ℕ}
 
--- What a call does after its questions, of two journals. Only private clauses cite it.
+-- What a call does after its questions, of two journals. Only private clauses of src/compiling.rt cite it.
 
 -- a text is said after a work
 abbrev pub IsClosed : List Event → List Event → List ℕ → ℕ → Outcome → Type 0
@@ -31,6 +31,7 @@ pub record DoesNoted (name : List ℕ) (journal journal' : List Event) (prepared
   pub does : Does name prepared.work status did
   pub told : Closes status (closing prepared (lacks_program prepared did)) outcome noted
 
+-- a work was done and ended, or memory lacked and nothing but texts was said
 abbrev pub Worked : List ℕ → List Event → List Event → Prepared → Outcome → Type 0
 Worked name journal journal' prepared OutOfMemory = OnlySays journal journal'
 Worked name journal journal' prepared outcome = DoesNoted name journal journal' prepared outcome
@@ -39,14 +40,17 @@ Worked name journal journal' prepared outcome = DoesNoted name journal journal' 
 abbrev pub IsOpened : List Event → List Event → List ℕ → Type 0
 IsOpened journal journal' said = (opened : List Event) × Opens said opened × (journal' ≡ journal ++ opened)
 
+-- a text was said first, if there is one; then a work was done, and the hint or the remark said
 abbrev pub OpensWork : List ℕ → List Event → List Event → Prepared → Outcome → Type 0
 OpensWork name journal journal' prepared outcome =
     (opened : List Event) × Opens prepared.said opened × DoesNoted name (journal ++ opened) journal' prepared outcome
 
+-- a call said its first text and did its work, or memory lacked and nothing but texts was said
 abbrev pub Spoken : List ℕ → List Event → List Event → Prepared → Outcome → Type 0
 Spoken name journal journal' prepared OutOfMemory = OnlySays journal journal'
 Spoken name journal journal' prepared outcome = OpensWork name journal journal' prepared outcome
 
+-- the variables of the children were set before all that, or memory lacked
 abbrev pub Carried : List ℕ → List Event → List Event → Prepared → List HostEvent → Outcome → Type 0
 Carried name journal journal' prepared events OutOfMemory = OnlySays journal journal'
 Carried name journal journal' prepared events outcome =

@@ -5,8 +5,9 @@ use Rattle.drv_system.specs.Facts.{Facts}
 use Rattle.drv_system.specs.Known.{◌>>=◌, Is, Known}
 use Rattle.std.specs.Prelude.{List, None, Option, Some, ℕ}
 
--- The items of a line by names of options in a file. Only private clauses cite it.
+-- The items of a line by names of options in a file. Only private clauses of src/naming.rt cite it.
 
+-- the items of a line by names of options, if the file that has them is whole
 abbrev pub items_named : List (List ℕ) → Option (List ℕ) → Option (List Item)
 items_named words None = None
 items_named words (Some known) = Some (items_of known None words)
@@ -15,5 +16,6 @@ items_named words (Some known) = Some (items_of known None words)
 abbrev pub items_at : Facts → List ℕ → List (List ℕ) → Known (Option (List Item))
 items_at F path words = written F path >>= λ known. Is (items_named words known)
 
+-- the items of a line by the names of options beside a spec file
 abbrev pub items_beside : Facts → List ℕ → List (List ℕ) → Known (Option (List Item))
 items_beside F specs words = known_names F specs >>= λ known. Is (items_named words known)

@@ -20,7 +20,7 @@ use Rattle.drv_run.specs.declared.ending.Refusal.{Refusal}
 use Rattle.drv_system.specs.Facts.{Facts}
 use Rattle.std.specs.Prelude.{◌≡◌, ◌⊎◌, List, [], Some, true, ℕ}
 
--- The steps of a line that is carried out. Only private clauses cite them.
+-- The steps of a line that is carried out. Only private clauses of src/preparing.rt cite them.
 
 -- a line of the driver is refused
 abbrev pub IsFailure : Facts → List ℕ → DriverLine → ℕ → List ℕ → Type 0
@@ -37,6 +37,7 @@ IsPrepared F calling chain call args given seed prepared =
     ((driven : Driven) × IsWorker F chain call given (Driver driven) × IsPlanned F calling chain driven seed prepared)
     ⊎ ((options : List ℕ) × IsWorker F chain call given (Compiler options) × (prepared ≡ handed_on calling chain options args given))
 
+-- why nothing is done for a line: no driver takes it, or the driver refuses its items
 abbrev pub IsUnplanned : Facts → Calling → Toolchain → Call → Expanded → ℕ → List ℕ → Type 0
 IsUnplanned F calling chain call given seed text =
     Undriven F calling chain call given text
@@ -61,6 +62,7 @@ IsTaskDone F calling args given seed (Question specs compiler) events prepared =
 IsTaskDone F calling args given seed (Compilation chain call) events prepared =
     Performs F calling chain call args given seed events prepared
 
+-- why a task is refused: a question never is, and a line as `Fails` says
 abbrev pub IsTaskRefused : Facts → Calling → Expanded → ℕ → Task → List HostEvent → List ℕ → Type 0
 IsTaskRefused F calling given seed (Question specs compiler) events text = ⊥
 IsTaskRefused F calling given seed (Compilation chain call) events text = Fails F calling chain call given seed events text

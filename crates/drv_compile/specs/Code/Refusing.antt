@@ -5,8 +5,9 @@ use Rattle.drv_run.specs.declared.ending.Ending.{Ending}
 use Rattle.drv_system.specs.Facts.{Facts}
 use Rattle.std.specs.Prelude.{List, ℕ}
 
--- What is said of a line that ends so. Only private clauses cite it.
+-- What is said of a line that ends so. Only private clauses of src/refusing.rt cite it.
 
+-- a line ends by a refusal, and this text says it
 abbrev pub IsEndSaid : Facts → List ℕ → DriverLine → Ending → List ℕ → Type 0
 IsEndSaid F name given (Refused refusal) text = IsSaid F name given refusal text
 IsEndSaid F name given (Done status) text = ⊥

@@ -6,7 +6,7 @@ use Rattle.drv_system.specs.Known.{Is}
 use Rattle.drv_system.specs.declared.event.Event.{Event}
 use Rattle.std.specs.Prelude.{◌≡◌, ◌⊎◌, List, [], ◌++◌, ℕ}
 
--- What a call goes by while it asks, of two journals. Only private clauses cite it.
+-- What a call goes by while it asks, of two journals. Only private clauses of src/temp_folder.rt and src/compiling.rt cite it.
 
 -- a folder of temporaries, by these facts and all that extend them
 abbrev pub IsFolder : Facts → List HostEvent → List ℕ → Type 0
@@ -27,7 +27,7 @@ pub record Going (journal journal' : List Event) (notes notes' : List HostEvent)
   pub is_folder : (F : Facts) → Extends (learn no_facts asked) F → IsFolder F tried folder
   pub settles : IsSettled (learn no_facts asked) folder G
 
--- or what was asked of the system and the host before memory lacked for that
+-- what was asked of the system and the host before memory lacked for the folder of temporaries
 pub record BeginsToGo (journal journal' : List Event) (notes notes' : List HostEvent) : Type 0 where
   pub asked : List Event
   pub tried : List HostEvent
