@@ -7,37 +7,50 @@ use Rattle.std.specs.Cmp.Lexicographic.{pointwise}
 use Rattle.std.specs.Prelude.{nat_eq}
 
 -- Words are near exactly where one edit makes the one the other.
+-- Names: `b` is a byte. `c` is the byte at the same place of the other word. `word` is a word. `edited` is another one, perhaps the first
+-- with one edit. `t` is the value of a test. `s` is the value of a test too. `is_same` compares two words. `IsEdit` is the same as rules: a
+-- byte less, more, another, or two bytes swapped. `is_near` says that one edit makes the second word of the first. `is_swapped` says that
+-- the words differ in the order of their first two bytes alone.
 
+-- words that compare as the same are
 same : (a b : List ℕ) → is_same a b ≡ true → a ≡ b
 same a b is = (slice_eq-Decides Decides-eqb a b (pointwise nat_eq a b) refl).0 is
 
+-- a word is the same as itself
 same_back : (a : List ℕ) → is_same a a ≡ true
 same_back a = (slice_eq-Decides Decides-eqb a a (pointwise nat_eq a a) refl).1 refl
 
+-- bytes that compare as equal are
 equal : (b c : ℕ) → (b == c) ≡ true → b ≡ c
 equal b c is = grind (arith, nat_tests, is)
 
+-- a byte is equal to itself
 equal_back : (b : ℕ) → (b == b) ≡ true
 equal_back b = grind (arith, nat_tests)
 
+-- if one of two tests holds, the first or the second does
 either : (s t : Bool) → (s || t) ≡ true → (s ≡ true) ⊎ (t ≡ true)
 either true t is = inl refl
 either false t is = inr is
 
+-- the first of two tests that hold together
 first_of : (s t : Bool) → (s && t) ≡ true → s ≡ true
 first_of true t is = refl
 first_of false t is = absurd cc
 
+-- the second
 second_of : (s t : Bool) → (s && t) ≡ true → t ≡ true
 second_of true t is = is
 second_of false t is = absurd cc
 
+-- a test or a true one is true
 or_true : (s : Bool) → (s || true) ≡ true
 or_true true = refl
 or_true false = refl
 
 -- near words are one edit apart
 
+-- two bytes swapped are an edit
 swapped_edit : (b c : ℕ) (word edited : List ℕ) → (b == c) ≡ false → is_swapped (b ∷ word) (c ∷ edited) ≡ true
     → IsEdit (b ∷ word) (c ∷ edited)
 swapped_edit b c [] edited apart is = absurd cc
@@ -50,11 +63,13 @@ swapped_edit b c (d ∷ word) (e ∷ edited) apart is =
     subst (λ x. IsEdit (b ∷ x ∷ word) (c ∷ e ∷ edited)) (sym two)
     (subst (λ x. IsEdit (b ∷ c ∷ word) (c ∷ x ∷ edited)) one (subst (λ ws. IsEdit (b ∷ c ∷ word) (c ∷ b ∷ ws)) ends (two_swapped apart)))
 
+-- what `is_front_edited` finds is an edit
 front_edit : (b c : ℕ) (word edited : List ℕ) → (b == c) ≡ false → is_front_edited (b ∷ word) (c ∷ edited) ≡ true
     → IsEdit (b ∷ word) (c ∷ edited)
 front_edit b c word edited apart is =
     by (either (is_same word edited) (is_same (b ∷ word) edited || (is_same word (c ∷ edited) || is_swapped (b ∷ word) (c ∷ edited))) is)
   where
+    -- Plan: by which of the four tests holds: a byte less, more or another, or two swapped.
     by_third : (is_same word (c ∷ edited) ≡ true) ⊎ (is_swapped (b ∷ word) (c ∷ edited) ≡ true) → IsEdit (b ∷ word) (c ∷ edited)
     by_third (inl one) = subst (λ ws. IsEdit (b ∷ word) ws) (same word (c ∷ edited) one) one_more
     by_third (inr two) = swapped_edit b c word edited apart two
@@ -70,6 +85,7 @@ front_edit b c word edited apart is =
     by (inl one) = subst (λ ws. IsEdit (b ∷ word) (c ∷ ws)) (same word edited one) (one_other apart)
     by (inr two) = by_second (either (is_same (b ∷ word) edited) (is_same word (c ∷ edited) || is_swapped (b ∷ word) (c ∷ edited)) two)
 
+-- what `is_near` finds is an edit
 pub near_is_edit : (word edited : List ℕ) → is_near word edited ≡ true → IsEdit word edited
 near_is_edit [] [] is = absurd cc
 near_is_edit [] (c ∷ []) is = one_less
@@ -85,9 +101,11 @@ near_is_edit (b ∷ word) (c ∷ edited) is = by (near_is_edit word edited) (b =
 
 -- and words that are one edit apart are near
 
+-- words stay near with the same byte before both
 stays_near : (b : ℕ) (word edited : List ℕ) → is_near word edited ≡ true → is_near (b ∷ word) (b ∷ edited) ≡ true
 stays_near b word edited is = rw (equal_back b) is
 
+-- a word without its first byte is near
 less_near : (b : ℕ) (word : List ℕ) → is_near word (b ∷ word) ≡ true
 less_near b [] = refl
 less_near b (d ∷ word) = by (less_near d word) (d == b) refl
@@ -97,6 +115,7 @@ less_near b (d ∷ word) = by (less_near d word) (d == b) refl
     by rest false apart =
         rw (apart, same_back (d ∷ word)) (or_true (is_same word (d ∷ word)))
 
+-- and one with a byte more
 more_near : (b : ℕ) (word : List ℕ) → is_near (b ∷ word) word ≡ true
 more_near b [] = refl
 more_near b (d ∷ word) = by (more_near d word) (b == d) refl
@@ -107,13 +126,16 @@ more_near b (d ∷ word) = by (more_near d word) (b == d) refl
         rw (apart, same_back (d ∷ word)) (ap (λ t. is_same (d ∷ word) word || t) (or_true (is_same (b ∷ d ∷ word) word))
         ∙ or_true (is_same (d ∷ word) word))
 
+-- and one with another first byte
 other_near : (b c : ℕ) (word : List ℕ) → (b == c) ≡ false → is_near (b ∷ word) (c ∷ word) ≡ true
 other_near b c word apart = rw (apart, same_back word) refl
 
+-- and one with its first two bytes swapped
 swapped_near : (b c : ℕ) (word : List ℕ) → (b == c) ≡ false → is_near (b ∷ c ∷ word) (c ∷ b ∷ word) ≡ true
 swapped_near b c word apart = rw apart (by (is_same (c ∷ word) (b ∷ word)) (is_same (b ∷ c ∷ word) (b ∷ word))
     (is_same (c ∷ word) (c ∷ b ∷ word)))
   where
+    -- Plan: two bytes in the other order pass the test for that (`both`), whatever the others say.
     both : is_swapped (b ∷ c ∷ word) (c ∷ b ∷ word) ≡ true
     both = rw (equal_back b, equal_back c) (same_back word)
 
@@ -123,6 +145,7 @@ swapped_near b c word apart = rw apart (by (is_same (c ∷ word) (b ∷ word)) (
     by false false true = refl
     by false false false = both
 
+-- so each edit is near
 pub edit_is_near : (word edited : List ℕ) → IsEdit word edited → is_near word edited ≡ true
 edit_is_near word (b ∷ rest) one_less = less_near b word
 edit_is_near (b ∷ word) rest one_more = more_near b rest

@@ -16,6 +16,7 @@ use Rattle.std.specs.Prelude.{filter, find, if◌then◌else◌, is_some, length
 -- Which option of the driver a word was meant to be that no spec text names (this project's profile; GCC asks so of a word that is no
 -- option of its own, "opts-common.cc", candidates_list_and_hint).
 
+-- whether two words are the same
 abbrev pub is_same : List ℕ → List ℕ → Bool
 is_same word other = pointwise nat_eq word other
 
@@ -29,6 +30,7 @@ abbrev pub is_front_edited : List ℕ → List ℕ → Bool
 is_front_edited word other =
     is_same (drop 1 word) (drop 1 other) || (is_same word (drop 1 other) || (is_same (drop 1 word) other || is_swapped word other))
 
+-- whether a word has one byte
 abbrev pub is_single : List ℕ → Bool
 is_single (b ∷ []) = true
 is_single word = false
@@ -51,6 +53,7 @@ pub data IsEdit : List ℕ → List ℕ → Type 0 where
 abbrev pub is_long : List ℕ → Bool
 is_long option = nat_lt 4 (length option)
 
+-- the option of a row of the table
 abbrev pub option_of : OptionRow → List ℕ
 option_of row = row.option
 
@@ -59,21 +62,26 @@ long_options = filter is_long (map option_of option_table)
 
 -- what of a word is compared with an option: what precedes its first =, and where the option has an = at its end, that too
 
+-- whether an option ends with an equals sign
 abbrev pub takes_equals : List ℕ → Bool
 takes_equals option = ends_with nat_eq option (equals ∷ [])
 
+-- a word up to its equals sign, and with it
 abbrev pub through : Option ℕ → List ℕ → List ℕ
 through None word = word
 through (Some at) word = take (at + 1) word
 
+-- a word up to its equals sign, without it
 abbrev pub before : Option ℕ → List ℕ → List ℕ
 before None word = word
 before (Some at) word = take at word
 
+-- the part of a word that is compared with an option
 abbrev pub compared : List ℕ → List ℕ → List ℕ
 compared word option =
     if takes_equals option then through (position (λ b. b == equals) word) word else before (position (λ b. b == equals) word) word
 
+-- whether a word was perhaps meant to be this option
 abbrev pub is_meant : List ℕ → List ℕ → Bool
 is_meant word option = is_near (compared word option) option
 
@@ -81,26 +89,32 @@ is_meant word option = is_near (compared word option) option
 abbrev pub names_file : List ℕ → Bool
 names_file word = starts_with nat_eq word (codes "-specs=") || starts_with nat_eq word (codes "--specs=")
 
+-- the first option that a word was perhaps meant to be
 abbrev pub meant : List ℕ → Option (List ℕ)
 meant word = if names_file word then None else find (is_meant word) long_options
 
--- the word of a switch
+-- the word of a switch, with its hyphen
 abbrev pub word_of : Switch → List ℕ
 word_of switch = hyphen ∷ switch.name
 
+-- whether a switch was perhaps meant to be an option
 abbrev pub is_doubtful : Switch → Bool
 is_doubtful switch = is_some (meant (word_of switch))
 
+-- the line of a hint
 abbrev pub hint_text : List ℕ → List ℕ → List ℕ
 hint_text word option = codes "gdrv: note: no spec text names '" ++ word ++ codes "'; did you mean '" ++ option ++ codes "'?\n"
 
+-- no hint where a spec text names the switch
 abbrev pub hint_on : List ℕ → Option (List ℕ) → Bool → List ℕ
 hint_on word None named = []
 hint_on word (Some option) named = if named then [] else hint_text word option
 
+-- the hint on a switch
 abbrev pub hint_of : Set → Switch → List ℕ
 hint_of set switch = hint_on (word_of switch) (meant (word_of switch)) (names_switch set switch.name)
 
+-- the hints on all switches
 abbrev pub hints_of : Set → List Switch → List ℕ
 hints_of set switches = flat_map (hint_of set) switches
 
@@ -111,5 +125,6 @@ HintsOf F line text =
     ((list_any is_doubtful line.switches ≡ false) × (text ≡ []))
     ⊎ ((set : Set) × (specs_of F line.settings ≡ Is (Ok set)) × (text ≡ hints_of set line.switches))
 
+-- the hints on a call's line
 abbrev pub Hints : Facts → List (List ℕ) → List ℕ → Type 0
 Hints F args text = (line : Line) × ReadsLine F args line × HintsOf F line text

@@ -5,11 +5,13 @@ use Rattle.std.specs.Prelude.{List, [], ◌∷◌, None, Option, Some, codes, if
 
 -- A call whose only word asks something about the program itself (this project's profile).
 
+-- the question that a word is
 abbrev pub asked : List ℕ → Option Question
 asked word =
     if pointwise nat_eq word (codes "--help") then Some Help
     else if pointwise nat_eq word (codes "--version") then Some Version else None
 
+-- a call asks one if it is its only word
 abbrev pub question_of : List (List ℕ) → Option Question
 question_of [] = None
 question_of (word ∷ []) = asked word

@@ -23,8 +23,10 @@ use std::alloc::{AllocError, Global};
 use std::io::{self, ErrorKind};
 use std::process::ExitCode;
 
+/// The message where there is no memory for another one.
 const OUT_OF_MEMORY: &[u8] = b"gdrv: out of memory\n";
 
+/// The message on an argument that is not UTF-8.
 const BAD_ARGUMENT: &[u8] = b"gdrv: bad argument\n";
 
 /// Reports an ending to the user, and returns its exit status.
@@ -99,6 +101,7 @@ fn call(rt: &HostRuntime, args: Listing<Word>) -> Result<ExitCode, AllocError> {
     Ok(status)
 }
 
+/// Answers a question about the program, or runs the driver.
 fn main(rt: HostRuntime) -> ExitCode {
     let args = match arguments(&rt) {
         Ok(args) => args,

@@ -1,5 +1,7 @@
 //! Which option of the driver a word was meant to be that no spec text names.
 
+// In clauses: `Extends F G` says that G has every answer of F. `Asked` says that a call only asked,
+// and that the table has the answers.
 ghost use Rattle.drv_run.specs.Drives.{specs_of};
 ghost use Rattle.drv_system.specs.Asking.{Asks, Extends};
 ghost use Rattle.drv_system.specs.Code.Asked.{Asked};
@@ -108,6 +110,7 @@ fn is_near(word: &[u8], other: &[u8]) -> bool
         let [c, others @ ..] = right else {
             return is_single(left);
         };
+        // The first byte that differs is where the edit is.
         if *b != *c {
             return is_front_edited(left, right);
         }
@@ -197,6 +200,7 @@ fn names_file(word: &[u8]) -> bool
 fn meant(word: &[u8]) -> Option<&'static [u8]>
     ensures { option_map (λ option. option.now) result ≡ meant word.now }
 {
+    // Such a word is that option, with its file.
     if names_file(word) {
         return None;
     }
@@ -294,6 +298,7 @@ fn hints_over<S: System>(
 {
     let switches = line.switches.as_slice();
     let doubtful = are_doubtful(alloc, switches)?;
+    // Nothing to say, so no specs are loaded.
     if !doubtful {
         return Ok(Word::empty(alloc));
     }

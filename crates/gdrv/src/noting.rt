@@ -1,5 +1,7 @@
 //! What is said after a refusal: where in a spec file its fault is.
 
+// In clauses: `Extends F G` says that G has every answer of F. `Asked` says that a call only asked,
+// and that the table has the answers.
 ghost use Rattle.drv_check.specs.FaultNotes.{fault_note};
 ghost use Rattle.drv_run.specs.LineReads.{ReadsLine};
 ghost use Rattle.drv_specs.specs.Builtin.{builtin_specs};

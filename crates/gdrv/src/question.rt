@@ -7,6 +7,7 @@ use drv_run::VERSION;
 use drv_words::Word;
 use std::io::{self, Write};
 
+/// The answer to `--help`.
 const HELP: &str = "\
 Usage: gdrv [option]... file...
 gdrv plans the runs of preprocessor, compiler, assembler and linker that spec

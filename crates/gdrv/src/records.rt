@@ -4,6 +4,7 @@ use drv_system::{Event, complain};
 use drv_words::{Answer, RunEvent, StartAnswer, Word};
 use std::io::IsTerminal;
 
+/// The message.
 const RECORDS: &[u8] =
     b"gdrv: rectool recorded these calls and compiled nothing; to compile, use gdrv-cc\n";
 

@@ -15,26 +15,31 @@ use Rattle.gdrv_specs.specs.declared.outcome.Outcome.{Outcome}
 use Rattle.std.proofs.Common.{◌≡◌, ◌∙◌, ◌++◌, Err, List, None, Ok, Some, [], ap, inl, inr, refl, subst, sym, ℕ}
 use Rattle.std.proofs.lemmas.List.{append-nil}
 
--- For `tell_difference`: the call prints what differs between two works.
+-- For `tell_difference` (src/differing.rt): the call prints what differs between two works.
 
+-- what differs was printed
 pub tells_put : (journal journal' : List Event) (text : List ℕ) (status : ℕ) (work work' : Work)
     → PutsText journal journal' text status → difference_in work work' ≡ Some text
     → TellsWorks journal journal' work work' (Ended (Done status))
 tells_put journal journal' text status work work' puts is = (puts.0, puts.1, (text, is, puts.2))
 
+-- memory lacked after the text was made, and nothing was printed
 pub tells_short : (journal journal' : List Event) (work work' : Work) → journal' ≡ journal
     → TellsWorks journal journal' work work' (Ended OutOfMemory)
 tells_short journal journal' work work' same = ([], same ∙ sym (append-nil journal), refl)
 
+-- memory lacked for the text
 pub tells_unmade : (journal : List Event) (work work' : Work) → TellsWorks journal journal work work' (Ended OutOfMemory)
 tells_unmade journal work work' = ([], sym (append-nil journal), refl)
 
+-- the two works are of two kinds, so there is nothing to compare
 pub tells_nothing : (journal : List Event) (work work' : Work) → None ≡ difference_in work work'
     → TellsWorks journal journal work work' NoPlan
 tells_nothing journal work work' none = ([], sym (append-nil journal), (sym none, refl))
 
 -- what the two lines give
 
+-- both lines have a work
 pub comes_both : (F : Facts) (c : Comparison) (seed : ℕ) (work other : Work) (line : List (List ℕ)) → line ≡ c.line
     → Comes F (with_specs c.first line) seed (Ok work) → Comes F (with_specs c.second line) seed (Ok other)
     → ComesTwice F c seed (Ok (work, other))
@@ -43,10 +48,12 @@ comes_both F c seed work other line same first second = (
   subst (λ l. Comes F (with_specs c.second l) seed (Ok other)) same second,
 )
 
+-- the first line has none: its ending is the call's
 pub ends_first : (F : Facts) (c : Comparison) (seed : ℕ) (ending : Ending) (line : List (List ℕ)) → line ≡ c.line
     → Comes F (with_specs c.first line) seed (Err ending) → ComesTwice F c seed (Err ending)
 ends_first F c seed ending line same comes = inl (subst (λ l. Comes F (with_specs c.first l) seed (Err ending)) same comes)
 
+-- the second line has none, and the first has: its ending is the call's
 pub ends_second : (F : Facts) (c : Comparison) (seed : ℕ) (work : Work) (ending : Ending) (line : List (List ℕ)) → line ≡ c.line
     → Comes F (with_specs c.first line) seed (Ok work) → Comes F (with_specs c.second line) seed (Err ending)
     → ComesTwice F c seed (Err ending)
@@ -59,6 +66,7 @@ ends_second F c seed work ending line same first second =
 
 -- A call that prints the difference: without two works, and with them.
 
+-- the call ended without two works
 pub compares_before : {journal journal' : List Event} {F F' : Facts} (c : Comparison) (seed : ℕ) (ending : Ending) → F ≡ no_facts
     → Asks journal journal' F F' → ((G : Facts) → Extends F' G → ComesTwice G c seed (Err ending))
     → TellsDifference journal journal' c seed (Ended ending)
@@ -70,6 +78,7 @@ compares_before {journal} {F' = F'} c seed ending empty asks comes = record {
   ends = inl (ending, refl, subst (λ G. ComesTwice G c seed (Err ending)) (known empty asks) (comes F' (extends_refl F')), refl);
 }
 
+-- the difference of the two works was printed, over the answers to the call's questions alone
 pub compares_after : {journal journal' journal'' : List Event} {F F' : Facts} (c : Comparison) (seed : ℕ) (work other : Work)
     (outcome : Outcome)
     → F ≡ no_facts → Asks journal journal' F F' → ((G : Facts) → Extends F' G → ComesTwice G c seed (Ok (work, other)))

@@ -25,8 +25,9 @@ use Rattle.std.proofs.lemmas.List.{append-nil, drop_more}
 use Rattle.std.specs.Option.{option_map}
 use Rattle.std.specs.Prelude.{filter, get_or, map, slice_get}
 
--- For `tell_check`: the call prints what is found in spec files.
+-- For `tell_check` (src/checks.rt): the call prints what is found in spec files.
 
+-- `put_report` wrote the findings that are shown, in JSON or in lines, and this is the exit status by them
 pub puts_report : (journal journal' : List Event) (request : Request) (c : Checking) (all : List Told) (text : List ℕ) (written : ℕ)
     → all ≡ all_told request c.sources c.findings → text ≡ report request.json all → PutsText journal journal' text written
     → PutsReport journal journal' request c (status_with written (verdict request.strict all))
@@ -40,10 +41,12 @@ puts_report journal journal' request c all text written are is puts = (
   ),
 )
 
+-- `tell_found` wrote the report, and ends with its status
 pub reports_put : (journal journal' : List Event) (request : Request) (c : Checking) (status : ℕ)
     → PutsReport journal journal' request c status → TellsFound journal journal' request c (Ended (Done status))
 reports_put journal journal' request c status puts = puts
 
+-- `tell_found` lacked memory, and wrote nothing
 pub reports_short : (journal journal' : List Event) (request : Request) (c : Checking) → journal' ≡ journal
     → TellsFound journal journal' request c (Ended OutOfMemory)
 reports_short journal journal' request c same = ([], same ∙ sym (append-nil journal), refl)
@@ -52,28 +55,34 @@ reports_short journal journal' request c same = ([], same ∙ sym (append-nil jo
 
 -- a source that was looked up
 
+-- a source that isn't found has no place among the sources
 pub lost_at : (sources : List Source) (place : ℕ) (found : Option (Bor Source))
     → option_map (λ source. source.now) found ≡ slice_get sources place
     → found ≡ None → slice_get sources place ≡ None
 lost_at sources place found looks is = sym looks ∙ ap (option_map (λ source. source.now)) is
 
+-- a source that is found is at its place among them
 pub found_at : (sources : List Source) (place : ℕ) (found : Option (Bor Source)) (source : Bor Source)
     → option_map (λ source. source.now) found ≡ slice_get sources place → found ≡ Some source → slice_get sources place ≡ Some source.now
 found_at sources place found source looks is = sym looks ∙ ap (option_map (λ source. source.now)) is
 
 module _ (sources : List Source) (places : List Place) where
+  -- a file of the call is included nowhere
   none_from : (more : ℕ) → places_from sources more None ≡ []
   none_from zero = refl
   none_from (suc more) = refl
 
+  -- `push_places` ends at a file of the call
   pub places_none : (more : ℕ) (from : Option Spot) → from ≡ None → places ≡ places ++ places_from sources more from
   places_none more from is =
       sym (append-nil places) ∙ ap (λ ps. places ++ ps) (sym (none_from more)) ∙ ap (λ f. places ++ places_from sources more f) (sym is)
 
+  -- `push_places` ends after the most levels
   pub places_end : (more : ℕ) (from : Option Spot) → more ≡ 0 → places ≡ places ++ places_from sources more from
   places_end zero from is = sym (append-nil places)
   places_end (suc more) from is = absurd cc
 
+  -- `push_places` ends at a source that isn't there
   pub places_lost : (more : ℕ) (from : Option Spot) (spot : Spot) → from ≡ Some spot → 0 < more → slice_get sources spot.source ≡ None
       → places ≡ places ++ places_from sources more from
   places_lost zero from spot is some lost = absurd (omega (arith, some))
@@ -82,6 +91,7 @@ module _ (sources : List Source) (places : List Place) where
       ∙ ap (λ s. places ++ (place_of s spot.at ++ places_from sources more (included_at s))) (sym lost)
       ∙ ap (λ f. places ++ places_from sources (suc more) f) (sym is)
 
+  -- `push_places` adds the place where the source is included, and goes on with those of that source
   pub places_more : {X E : Type 0} (after all : List Place) (more : ℕ) (from : Option Spot) (spot : Spot) (source : Source)
       (result : Result X E)
       → from ≡ Some spot → 0 < more → slice_get sources spot.source ≡ Some source → after ≡ places ++ place_in source spot.at ∷ []
@@ -99,6 +109,7 @@ module _ (sources : List Source) (places : List Place) where
 -- what a check prints of one more finding
 
 module _ (request : Request) (sources : List Source) (findings : List Finding) (n : ℕ) (finding : Finding) where
+  -- one finding more: it is printed first, or not at all if it is off
   left : (on : Bool) → n < length findings → finding ≡ get_or findings n finding → is_shown request finding ≡ on
       → map (told_of sources) (filter (is_shown request) (drop n findings))
       ≡ (if on then told_of sources finding ∷ map (told_of sources) (filter (is_shown request) (drop (n + 1) findings))
@@ -114,6 +125,7 @@ module _ (request : Request) (sources : List Source) (findings : List Finding) (
       by true is = rw is refl
       by false is = rw is refl
 
+  -- `all_told` has taken one finding more: those that are left complete the list
   pub told_more : (before after whole : List Told) → n < length findings → finding ≡ get_or findings n finding
       → is_shown request finding ≡ true
       → after ≡ before ++ told_of sources finding ∷ []
@@ -124,6 +136,7 @@ module _ (request : Request) (sources : List Source) (findings : List Finding) (
       ∙ append_assoc before (told_of sources finding ∷ []) (map (told_of sources) (filter (is_shown request) (drop (n + 1) findings)))
       ∙ ap (λ ts. before ++ ts) (sym (left true below here is)) ∙ rest
 
+  -- `all_told` has passed over one that is off
   pub told_passed : (before whole : List Told) → n < length findings → finding ≡ get_or findings n finding
       → is_shown request finding ≡ false
       → before ++ map (told_of sources) (filter (is_shown request) (drop n findings)) ≡ whole
@@ -132,6 +145,7 @@ module _ (request : Request) (sources : List Source) (findings : List Finding) (
 
 -- A call that checks files: where memory lacked first, and with what was found.
 
+-- memory lacked before the check ended: nothing is said of the files
 pub checks_before : {journal journal' : List Event} {F F' : Facts} (request : Request) → F ≡ no_facts → Asks journal journal' F F'
     → TellsCheck journal journal' request (Ended OutOfMemory)
 checks_before {journal} request empty asks = record {
@@ -142,6 +156,7 @@ checks_before {journal} request empty asks = record {
   ends = inl (refl, refl);
 }
 
+-- the check ended: its findings are those of the answers alone
 pub checks_after : {journal journal' journal'' : List Event} {F F' : Facts} (request : Request) (c : Checking) (outcome : Outcome)
     (over files : List (List ℕ)) → over ≡ request.over → files ≡ request.files → F ≡ no_facts → Asks journal journal' F F'
     → ((G : Facts) → Extends F' G → checked G over files ≡ Is c) → TellsFound journal' journal'' request c outcome

@@ -17,29 +17,34 @@ use Rattle.std.proofs.Common.{◌≡◌, ◌∙◌, ◌∷◌, Err, IsErrAnd, Li
 use Rattle.std.specs.List.{AllZip}
 use Rattle.std.specs.Prelude.{map}
 
--- For `tell_database`: the names of a line's inputs are asked for, and then its plan is printed.
+-- For `tell_database` (src/databases.rt): the names of a line's inputs are asked for, and then its plan is printed.
 
+-- copies that are the same word by word are the same list
 pub same_words : (words copies : List (List ℕ)) → AllZip (λ word copy. copy ≡ word) words copies → copies ≡ words
 same_words [] [] are = refl
 same_words [] (copy ∷ copies) are = absurd are
 same_words (word ∷ words) [] are = absurd are
 same_words (word ∷ words) (copy ∷ copies) are = ap (λ c. c ∷ copies) are.0 ∙ ap (λ cs. word ∷ cs) (same_words words copies are.1)
 
+-- words that have an ending in place of a line have no names
 pub stopped : (F : Facts) (args : List (List ℕ)) (ending : Ending) (result : Result (List (List ℕ)) Ending)
     → IsErrAnd result (λ e. e ≡ ending)
     → ((seed : ℕ) → Comes F args seed (Err ending)) → NamesOf F args result
 stopped F args ending (Ok names) is comes = absurd is
 stopped F args ending (Err e) is comes = subst (λ e'. NamesOf F args (Err e')) (sym is) comes
 
+-- memory lacked for the names
 pub short : (F : Facts) (args : List (List ℕ)) (result : Result (List (List ℕ)) Ending) → IsErrAnd result (λ e. e ≡ OutOfMemory)
     → NamesOf F args result
 short F args result is = stopped F args OutOfMemory result is (λ seed. tt)
 
+-- the names are those of the inputs of the line that was read
 pub named : (F : Facts) (args copy names : List (List ℕ)) (line : Line) → copy ≡ args → ReadsLine F copy line
     → names ≡ map input_name line.inputs
     → NamesOf F args (Ok names)
 named F args copy names line same reads are = (line, subst (λ a. ReadsLine F a line) same reads, are)
 
+-- the names hold over the answers to the questions that were asked for them
 asks_names : {journal journal' : List Event} {F F' : Facts} (args : List (List ℕ)) (names : Result (List (List ℕ)) Ending) → F ≡ no_facts
     → Asks journal journal' F F' → ((G : Facts) → Extends F' G → NamesOf G args names) → AsksNames journal journal' args names
 asks_names {F' = F'} args names empty asks are = record {
@@ -49,6 +54,7 @@ asks_names {F' = F'} args names empty asks are = record {
   names_are = subst (λ G. NamesOf G args names) (known empty asks) (are F' (extends_refl F'));
 }
 
+-- the plan was printed with the names
 pub tells_named : {journal journal' journal'' : List Event} {F F' : Facts} (directory : List ℕ) (args names : List (List ℕ)) (seed : ℕ)
     (outcome : Outcome)
     → F ≡ no_facts → Asks journal journal' F F' → ((G : Facts) → Extends F' G → NamesOf G args (Ok names))
@@ -57,6 +63,7 @@ pub tells_named : {journal journal' journal'' : List Event} {F F' : Facts} (dire
 tells_named {journal' = journal'} directory args names seed outcome empty asks are tells =
     (journal', Ok names, asks_names args (Ok names) empty asks are, tells)
 
+-- the call ended without names, and no plan was printed
 pub tells_stopped : {journal journal' : List Event} {F F' : Facts} (directory : List ℕ) (args : List (List ℕ)) (seed : ℕ) (ending : Ending)
     → F ≡ no_facts → Asks journal journal' F F' → ((G : Facts) → Extends F' G → NamesOf G args (Err ending))
     → TellsDatabase journal journal' directory args seed (Ended ending)

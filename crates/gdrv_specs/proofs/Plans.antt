@@ -11,16 +11,19 @@ use Rattle.gdrv_specs.specs.declared.outcome.Outcome.TheVariants.{Ended, NoPlan}
 use Rattle.std.proofs.Common.{◌≡◌, ◌∙◌, List, [], Some, refl, sym, ℕ}
 use Rattle.std.proofs.lemmas.List.{append-nil}
 
--- For `tell_plan`: the call prints the plan of the line's work.
+-- For `tell_plan` (src/planning.rt): the call prints the plan of the line's work.
 
+-- the plan was printed in the form that is asked for
 pub tells_put : (journal journal' : List Event) (form : Form) (plan : Plan) (status : ℕ) (work : Work)
     → PutsText journal journal' (form_text form plan) status
     → plan_in work ≡ Some plan → TellsWork (TellsOf form) journal journal' work (Ended (Done status))
 tells_put journal journal' form plan status work puts has = (puts.0, puts.1, (plan, has, puts.2))
 
+-- memory lacked, and nothing was printed
 pub tells_short : (journal journal' : List Event) (form : Form) (work : Work) → journal' ≡ journal
     → TellsWork (TellsOf form) journal journal' work (Ended OutOfMemory)
 tells_short journal journal' form work same = ([], same ∙ sym (append-nil journal), refl)
 
+-- a line with -dumpspecs has no plan to print
 pub tells_dump : (journal : List Event) (form : Form) (text : List ℕ) → TellsWork (TellsOf form) journal journal (Dump text) NoPlan
 tells_dump journal form text = ([], sym (append-nil journal), (refl, refl))

@@ -43,17 +43,20 @@ use Rattle.std.specs.Cmp.Lexicographic.{pointwise}
 use Rattle.std.specs.Option.{unwrap_or}
 use Rattle.std.specs.Prelude.{get_or, nat_eq}
 
--- For `tell_why`: the call prints what each part of a line changes.
+-- For `tell_why` (src/explaining.rt): the call prints what each part of a line changes.
 
+-- the reasons were printed
 pub tells_put : (journal journal' : List Event) (text : List ℕ) (status : ℕ) → PutsText journal journal' text status
     → TellsText journal journal' text (Ended (Done status))
 tells_put journal journal' text status puts = puts
 
+-- memory lacked, and nothing was printed
 pub tells_short : (journal journal' : List Event) (text : List ℕ) → journal' ≡ journal → TellsText journal journal' text (Ended OutOfMemory)
 tells_short journal journal' text same = ([], same ∙ sym (append-nil journal), refl)
 
 -- what is said of one part
 
+-- `answer` says of a part what the line without it asks for: its work, or its refusal
 pub answered : {E : Type 0} (F : Facts) (line : List (List ℕ)) (work : Work) (seed : ℕ) (part : LinePart) (rest : List (List ℕ))
     (found : Result Work Ending) (result : Result Reason E)
     → rest ≡ without line part → Comes F rest seed found → IfOk result (λ reason. Some reason ≡ reason_of line work part found)
@@ -69,6 +72,7 @@ answered F line work seed part rest (Err (Done status)) (Ok reason) is comes sai
 -- what is said of parts
 
 module _ (F : Facts) (line : List (List ℕ)) (work : Work) (seed : ℕ) (parts : List LinePart) where
+  -- `answers` has one reason more: those of the parts that are left complete the list
   pub more_answers : (n : ℕ) (part : LinePart) (reasons reasons' : List Reason) (one : Reason) → n < length parts
       → Answers F line work seed (get_or parts n part) one → reasons' ≡ reasons ++ one ∷ []
       → ((others : List Reason) → AnswersAll F line work seed (drop n parts) others
@@ -82,6 +86,7 @@ module _ (F : Facts) (line : List (List ℕ)) (work : Work) (seed : ℕ) (parts 
       (so_far (one ∷ others)
       (subst (λ ps. AnswersAll F line work seed ps (one ∷ others)) (sym split) (one, others, answers, rest, refl)))
 
+  -- no part is left: the reasons are all
   pub all_answers : (n : ℕ) (reasons : List Reason) → length parts ≤ n
       → ((others : List Reason) → AnswersAll F line work seed (drop n parts) others
       → AnswersAll F line work seed parts (reasons ++ others))
@@ -100,6 +105,7 @@ reported F report line work seed parts reasons (Ok text) are answers says =
 
 -- A line that was read, beside one whose specs are known.
 
+-- two texts that a test finds equal are the same
 same_bytes : (xs ys : List ℕ) → pointwise nat_eq xs ys ≡ true → xs ≡ ys
 same_bytes [] [] is = refl
 same_bytes [] (y ∷ ys) is = absurd cc
@@ -111,6 +117,7 @@ same_bytes (x ∷ xs) (y ∷ ys) is = by (nat_eq x y) refl (λ k. same_bytes xs 
     by true same others rest = ap (λ z. z ∷ xs) (eqb-true x y same) ∙ ap (λ zs. y ∷ zs) (others rest)
     by false same others rest = absurd cc
 
+-- two lists of words that a test finds equal are the same
 pub same_words : (words others : List (List ℕ)) → pointwise (pointwise nat_eq) words others ≡ true → words ≡ others
 same_words [] [] is = refl
 same_words [] (other ∷ others) is = absurd cc
@@ -138,6 +145,7 @@ few_sources F args line reads = jobs_are_few reads.0 (Ok line) reads.2
 
 -- its work, or the refusal of its plan
 
+-- the refusal of a plan ends the line so; lack of memory is an ending by itself
 refused_plan : (given : Known (Result Work PlanFault)) (fault : PlanFault) → given ≡ Is (Err fault)
     → ComesOfSpecs given (Err (stopped_by_plan fault))
 refused_plan given plan_fault.Memory refused = tt
@@ -160,6 +168,7 @@ refused_plan given (plan_fault.Machine (machine_fault.Funcs (funcs_fault.BadOper
 refused_plan given (plan_fault.UnknownLanguage name) refused = refused
 refused_plan given (plan_fault.NotInstalled name) refused = refused
 
+-- a plan that is refused, or lacks memory, ends its line so
 pub plan_refused : (given : Known (Result Work PlanFault)) (fault : PlanFault) (ending : Ending) → ending ≡ stopped_by_plan fault
     → GivesKnown plan_fault.Memory (λ (work : Work). work) (Err fault) given → ComesOfSpecs given (Err ending)
 plan_refused given fault ending is (inl memory) = subst (λ e. ComesOfSpecs given (Err e)) (sym (is ∙ ap stopped_by_plan memory)) tt
@@ -167,6 +176,7 @@ plan_refused given fault ending is (inr refused) = subst (λ e. ComesOfSpecs giv
 
 -- so words that are read as this line ask for it
 
+-- a line whose specs are known asks for what its plan gives
 pub comes_with_specs : (F : Facts) (line : Line) (set : Set) (seed : ℕ) (result : Result Work Ending) → HasSpecs F line set
     → ComesOfSpecs (work_of F line set seed) result → ComesOfLine F line seed result
 comes_with_specs F line set seed (Ok work) has works args words gives reads =
@@ -179,6 +189,7 @@ comes_with_specs F line set seed (Err (Refused (NoSpecs fault))) has works args 
 comes_with_specs F line set seed (Err (Refused (NoPlan fault))) has works args words gives reads =
     not_planned gives reads has works
 
+-- a line whose specs aren't loaded asks for that ending
 pub comes_without_specs : (F : Facts) (line : Line) (seed : ℕ) (fault : SpecsFault) (ending : Ending) → ending ≡ stopped_by_specs fault
     → GivesKnown specs_fault.Memory (λ (set : Set). set) (Err fault) (specs_of F line.settings)
     → ComesOfLine F line seed (Err ending)
@@ -187,18 +198,21 @@ comes_without_specs F line seed fault ending is loads args words gives reads =
 
 -- the reasons of a line that was read
 
+-- a line without a work has no reasons: its ending is the call's
 pub reasons_without_work : (F : Facts) (report : Report) (args : List (List ℕ)) (line : Line) (set : Set) (seed : ℕ) (ending : Ending)
     → HasSpecs F line set → ReadsLine F args line → ComesOfSpecs (work_of F line set seed) (Err ending)
     → Gives F report args seed (Err ending)
 reasons_without_work F report args line set seed ending has reads works =
     comes_with_specs F line set seed (Err ending) has works args reads.0 reads.1 reads.2
 
+-- the text about all parts is the answer to the line
 pub reasons_with_work : (F : Facts) (report : Report) (args : List (List ℕ)) (line : Line) (set : Set) (seed : ℕ) (work : Work)
     (text : List ℕ) → HasSpecs F line set → ReadsLine F args line → ComesOfSpecs (work_of F line set seed) (Ok work)
     → Reports F report args work seed text → Gives F report args seed (Ok text)
 reasons_with_work F report args line set seed work text has reads works reports =
     (work, comes_with_specs F line set seed (Ok work) has works args reads.0 reads.1 reads.2, reports)
 
+-- a line whose specs aren't loaded has no reasons
 pub reasons_without_specs : (F : Facts) (report : Report) (args : List (List ℕ)) (line : Line) (seed : ℕ) (fault : SpecsFault)
     (ending : Ending) → ending ≡ stopped_by_specs fault
     → GivesKnown specs_fault.Memory (λ (set : Set). set) (Err fault) (specs_of F line.settings) → ReadsLine F args line
@@ -208,12 +222,14 @@ reasons_without_specs F report args line seed fault ending is loads reads =
 
 -- A call that prints the reasons: without them, and with them.
 
+-- a line that has no work ends the call so
 stops : (F : Facts) (line : List (List ℕ)) (seed : ℕ) (ending : Ending) → Comes F line seed (Err ending)
     → Stops F line seed (Ended ending) []
 stops F line seed (Done status) comes = absurd comes
 stops F line seed (Refused refusal) comes = (comes, refl)
 stops F line seed OutOfMemory comes = refl
 
+-- the call ended without reasons
 pub explains_before : {journal journal' : List Event} {F F' : Facts} (report : Report) (line : List (List ℕ)) (seed : ℕ)
     (ending : Ending) → F ≡ no_facts
     → Asks journal journal' F F' → ((G : Facts) → Extends F' G → Gives G report line seed (Err ending))
@@ -228,6 +244,7 @@ explains_before {journal} {F' = F'} report line seed ending empty asks gives = r
       (extends_refl F'))));
 }
 
+-- the reasons were printed, over the answers to the call's questions alone
 pub explains_after : {journal journal' journal'' : List Event} {F F' : Facts} (report : Report) (line : List (List ℕ)) (seed : ℕ) (text : List ℕ)
     (outcome : Outcome)
     → F ≡ no_facts → Asks journal journal' F F' → ((G : Facts) → Extends F' G → Gives G report line seed (Ok text))

@@ -14,37 +14,44 @@ use Rattle.gdrv_specs.specs.declared.outcome.Outcome.TheVariants.{Ended, NoPlan,
 use Rattle.std.proofs.Common.{◌≡◌, ◌∙◌, ◌++◌, ◌∷◌, ◌⊎◌, Err, List, Ok, Result, [], ap, append_assoc, inl, inr, refl, sym, ℕ}
 use Rattle.std.proofs.lemmas.List.{append-nil}
 
--- For `tell_after`: the call prints the run over the answers that the words give.
+-- For `tell_after` (src/running.rt): the call prints the run over the answers that the words give.
 
+-- one more answer before the rest is an answer before all
 pub answers_more : (front : List Given) (g : Given) (rest : Result (List Given) AnswerFault)
     → after_answers (front ++ g ∷ []) rest ≡ after_answers front (with_answer (Ok g) rest)
 answers_more front g (Ok others) = ap Ok (append_assoc front (g ∷ []) others)
 answers_more front g (Err fault) = refl
 
+-- the run over the words' answers was printed
 pub tells_run : (journal journal' : List Event) (plan : Plan) (manner : Manner) (given : List Given) (status : ℕ) (words : List (List ℕ))
     → PutsRun journal journal' plan manner given status → answers_of plan words ≡ Ok given
     → TellsWork (AfterOf words) journal journal' (CarryOut plan manner) (Ended (Done status))
 tells_run journal journal' plan manner given status words puts reads =
     (puts.2.0, puts.2.1, record { given = given; text = puts.0; reads = reads; is_story = puts.1; puts = puts.2.2 })
 
+-- memory lacked after the answers were read, and nothing was printed
 pub tells_short : (journal journal' : List Event) (plan : Plan) (manner : Manner) (words : List (List ℕ))
     → journal' ≡ journal → TellsWork (AfterOf words) journal journal' (CarryOut plan manner) (Ended OutOfMemory)
 tells_short journal journal' plan manner words same = ([], same ∙ sym (append-nil journal), refl)
 
+-- memory lacked before that, and nothing was printed
 pub tells_short_here : (journal : List Event) (plan : Plan) (manner : Manner) (words : List (List ℕ))
     → TellsWork (AfterOf words) journal journal (CarryOut plan manner) (Ended OutOfMemory)
 tells_short_here journal plan manner words = ([], sym (append-nil journal), refl)
 
+-- a word gives no answer: the call names it and prints no run
 pub tells_unanswered : (journal : List Event) (plan : Plan) (manner : Manner) (words : List (List ℕ)) (word : List ℕ) (fault : GivenFault)
     → ((BadAnswer word fault ≡ Memory) ⊎ (answers_of plan words ≡ Err (BadAnswer word fault)))
     → TellsWork (AfterOf words) journal journal (CarryOut plan manner) (Unanswered word fault)
 tells_unanswered journal plan manner words word fault (inl is) = absurd cc
 tells_unanswered journal plan manner words word fault (inr is) = ([], sym (append-nil journal), (is, refl))
 
+-- a line with -dumpspecs has no run
 pub tells_no_plan : (journal : List Event) (words : List (List ℕ)) (text : List ℕ)
     → TellsWork (AfterOf words) journal journal (Dump text) NoPlan
 tells_no_plan journal words text = ([], sym (append-nil journal), refl)
 
+-- a line with -### has no run
 pub tells_no_run : (journal : List Event) (words : List (List ℕ)) (plan : Plan)
     → TellsWork (AfterOf words) journal journal (Show plan) NoRun
 tells_no_run journal words plan = ([], sym (append-nil journal), refl)

@@ -33,8 +33,9 @@ use Rattle.gdrv_specs.specs.declared.outcome.Outcome.{Outcome}
 use Rattle.std.proofs.Common.{◌≡◌, ◌∙◌, ◌⊎◌, ◌++◌, Err, IfOk, List, Ok, Result, [], ap, inl, inr, refl, subst, sym, ℕ}
 use Rattle.std.proofs.lemmas.List.{append-nil}
 
--- For `tell_switches`: the call prints what becomes of the switches of a line.
+-- For `tell_switches` (src/switches.rt): the call prints what becomes of the switches of a line.
 
+-- the text is made of the sources, the dump and the namings that were found
 pub fates_are : {E : Type 0} (F : Facts) (report : Report) (line : Line) (set : Set) (sources : List Source) (dump : List ℕ) (namings : List Naming)
     (result : Result (List ℕ) E) → sources_of F line.settings.prefixes line.settings.specs ≡ Is sources → dump ≡ dumped set
     → namings ≡ namings_of sources dump → IfOk result (λ text. text ≡ fates_report report sources namings line.switches)
@@ -45,19 +46,23 @@ fates_are F report line set sources dump namings (Ok text) opens dumps names tol
     ∙ ap (λ d. Is (fates_report report sources (namings_of sources d) line.switches)) (sym dumps)
     ∙ ap (λ ns. Is (fates_report report sources ns line.switches)) (sym names) ∙ ap Is (sym told)
 
+-- the specs of a line are those that its files make of the built-in set
 pub builtin_given : (F : Facts) (settings : Settings) (set : Set) (result : Result Set SpecsFault) → set ≡ builtin_specs
     → GivesKnown specs_fault.Memory (λ loaded. loaded) result (specs_over F set settings)
     → GivesKnown specs_fault.Memory (λ loaded. loaded) result (specs_of F settings)
 builtin_given F settings set result is gives =
     subst (λ s. GivesKnown specs_fault.Memory (λ loaded. loaded) result (specs_over F s settings)) is gives
 
+-- a line whose spec files are refused ends the call so
 pub line_refused : (F : Facts) (report : Report) (line : Line) (fault : SpecsFault) (ending : Ending) → ending ≡ stopped_by_specs fault
     → GivesKnown specs_fault.Memory (λ (set : Set). set) (Err fault) (specs_of F line.settings) → GivesLine F report line (Err ending)
 line_refused F report line fault ending is loads = (fault, loads, is)
 
+-- memory lacked for the text
 pub line_short : (F : Facts) (report : Report) (line : Line) → GivesLine F report line (Err OutOfMemory)
 line_short F report line = (specs_fault.Memory, inl refl, refl)
 
+-- the text about a line with its specs
 pub line_told : (F : Facts) (report : Report) (line : Line) (set : Set) (text : List ℕ)
     → GivesKnown specs_fault.Memory (λ (set' : Set). set') (Ok set) (specs_of F line.settings) → fates_of F report line set ≡ Is text
     → GivesLine F report line (Ok text)
@@ -65,6 +70,7 @@ line_told F report line set text loads tells = (set, loads, tells)
 
 -- a refused spec file ends the call so
 
+-- the refusal of a spec file ends a line so; lack of memory is an ending by itself
 refused_specs : (F : Facts) (args : List (List ℕ)) (seed : ℕ) (fault : SpecsFault) → Refuses F args seed (NoSpecs fault)
     → Comes F args seed (Err (stopped_by_specs fault))
 refused_specs F args seed specs_fault.Memory refused = tt
@@ -88,29 +94,34 @@ refused_specs F args seed (specs_fault.Syntax name (syntax_fault.UnknownFunction
 refused_specs F args seed (specs_fault.Syntax name (syntax_fault.EmptyTest n)) refused = refused
 refused_specs F args seed (specs_fault.Syntax name syntax_fault.TextTooLong) refused = refused
 
+-- a line whose spec files aren't loaded has no work but that ending
 pub loading_ends : (F : Facts) (args : List (List ℕ)) (seed : ℕ) (line : Line) (fault : SpecsFault) → ReadsLine F args line
     → (fault ≡ specs_fault.Memory) ⊎ (specs_of F line.settings ≡ Is (Err fault)) → Comes F args seed (Err (stopped_by_specs fault))
 loading_ends F args seed line fault reads (inl memory) = subst (λ f. Comes F args seed (Err (stopped_by_specs f))) (sym memory) tt
 loading_ends F args seed line fault reads (inr loads) = refused_specs F args seed fault (not_loaded reads.1 reads.2 loads)
 
+-- what a line that is read gives is what its words give
 pub call_gives : (F : Facts) (report : Report) (args : List (List ℕ)) (line : Line) (result : Result (List ℕ) Ending) → ReadsLine F args line
     → GivesLine F report line result → GivesFates F report args result
 call_gives F report args line (Ok text) reads gives = (line, gives.0, reads, gives.1, gives.2)
 call_gives F report args line (Err ending) reads gives =
     λ seed. subst (λ e. Comes F args seed (Err e)) (sym gives.2) (loading_ends F args seed line gives.0 reads gives.1)
 
+-- words that are refused give that refusal
 pub call_refused : (F : Facts) (report : Report) (args : List (List ℕ)) (ending : Ending) → ((seed : ℕ) → Comes F args seed (Err ending))
     → GivesFates F report args (Err ending)
 call_refused F report args ending comes = comes
 
 -- A call that prints them: before the text, and with it.
 
+-- words that have no work end the call so
 stops : (F : Facts) (args : List (List ℕ)) (seed : ℕ) (ending : Ending) → Comes F args seed (Err ending)
     → Stops F args seed (Ended ending) []
 stops F args seed (Done status) comes = absurd comes
 stops F args seed (Refused refusal) comes = (comes, refl)
 stops F args seed OutOfMemory comes = refl
 
+-- the call ended without the text: refused, or for lack of memory
 pub switches_before : {journal journal' : List Event} {F F' : Facts} (report : Report) (args : List (List ℕ)) (ending : Ending) → F ≡ no_facts
     → Asks journal journal' F F' → ((G : Facts) → Extends F' G → GivesFates G report args (Err ending))
     → TellsSwitches journal journal' report args (Ended ending)
@@ -125,6 +136,7 @@ switches_before {journal} {F' = F'} report args ending empty asks gives = record
       (extends_refl F') seed)));
 }
 
+-- the text was written, over the answers to the call's questions alone
 pub switches_after : {journal journal' journal'' : List Event} {F F' : Facts} (report : Report) (args : List (List ℕ)) (text : List ℕ) (outcome : Outcome)
     → F ≡ no_facts → Asks journal journal' F F' → ((G : Facts) → Extends F' G → GivesFates G report args (Ok text))
     → TellsText journal' journal'' text outcome

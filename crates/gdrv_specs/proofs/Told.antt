@@ -12,13 +12,14 @@ use Rattle.gdrv_specs.specs.declared.outcome.Outcome.{Outcome}
 use Rattle.std.proofs.Common.{◌≡◌, ◌∙◌, ◌++◌, Err, List, Ok, [], ap, inl, inr, refl, subst, sym, ℕ}
 use Rattle.std.proofs.lemmas.List.{append-nil}
 
--- For `tell_plan` and `tell_after`: a call adds questions to the journal, and one text at most.
+-- For `tell_plan` and `tell_after` (src/planning.rt and src/running.rt): a call adds questions to the journal, and one text at most.
 
 -- the answers to the questions of a call that began with an empty table
 pub known : {journal journal' : List Event} {F F' : Facts} → F ≡ no_facts → (asks : Asks journal journal' F F')
     → F' ≡ learn no_facts asks.asked
 known empty asks = asks.facts_grow ∙ ap (λ G. learn G asks.asked) empty
 
+-- a line that has no work ends the call so, whatever would have been printed
 stops : (F : Facts) (line : List (List ℕ)) (seed : ℕ) (ending : Ending) → Comes F line seed (Err ending)
     → Stops F line seed (Ended ending) []
 stops F line seed (Done status) comes = absurd comes

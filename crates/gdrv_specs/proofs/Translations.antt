@@ -10,8 +10,9 @@ use Rattle.gdrv_specs.specs.declared.outcome.Outcome.TheVariants.{Ended, Transla
 use Rattle.std.proofs.Common.{◌≡◌, ◌∙◌, ◌⊎◌, Err, List, Ok, [], ap, inl, inr, refl, subst, sym, ℕ}
 use Rattle.std.proofs.lemmas.List.{append-nil}
 
--- For `translate_file`: the call reads one file and prints its texts in the driver's language.
+-- For `translate_file` (src/translating.rt): the call reads one file and prints its texts in the driver's language.
 
+-- the texts of a dump were printed, and those that are refused are named
 pub puts_texts : (journal journal' : List Event) (path dump : List ℕ) (ours : OurDump) (status : ℕ) → our_dump_of dump ≡ Ok ours
     → PutsText journal journal' ours.texts status → TranslatesDump journal journal' path dump (Translated ours.refused status)
 puts_texts journal journal' path dump ours status is puts = (
@@ -20,10 +21,12 @@ puts_texts journal journal' path dump ours status is puts = (
   inr (subst (λ result. Translates path dump result (Translated ours.refused status) puts.0) (sym is) (status, refl, puts.2)),
 )
 
+-- memory lacked, and nothing was printed
 pub lacks_memory : (journal journal' : List Event) (path dump : List ℕ) → journal' ≡ journal
     → TranslatesDump journal journal' path dump (Ended OutOfMemory)
 lacks_memory journal journal' path dump same = ([], same ∙ sym (append-nil journal), inl (refl, refl))
 
+-- the file is no dump: the outcome names the place where it ceases to be one
 pub is_no_dump : (journal : List Event) (path dump : List ℕ) (fault : DumpFault) → ((fault ≡ Memory) ⊎ (our_dump_of dump ≡ Err fault))
     → TranslatesDump journal journal path dump (misread path dump fault)
 is_no_dump journal path dump fault (inl is) = ([], sym (append-nil journal), inl (ap (misread path dump) is, refl))

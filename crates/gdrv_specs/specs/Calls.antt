@@ -18,7 +18,10 @@ use Rattle.std.specs.Prelude.{Bool, Err, List, [], ◌∷◌, ◌++◌, None, Ok
 use Rattle.std.specs.Prelude.{nat_eq, nat_lt, true, ℕ}
 
 -- What a call of the program asks for: its first word is the command (this project's profile).
+-- For clauses of src/calling.rt and src/cutting.rt. A word that changes here changes in src/help.rt, docs/gdrv-specs.1 and
+-- share/bash-completion too.
 
+-- the command that a first word names, if it names one
 abbrev pub command_named : List ℕ → Option Command
 command_named word =
     if pointwise nat_eq word (codes "plan") then Some command.Plan
@@ -32,27 +35,33 @@ command_named word =
 
 -- The plan's form: a first word may ask for one, and the line is what follows it. Any other word belongs to the line.
 
+-- the form that a word asks for
 abbrev pub form_named : List ℕ → Option Form
 form_named word =
     if pointwise nat_eq word (codes "--json") then Some Json
     else if pointwise nat_eq word (codes "--sh") then Some Script
     else if pointwise nat_eq word (codes "--dot") then Some Picture else None
 
+-- the form that the first word asks for, if there is a word and it asks for one
 abbrev pub form_asked : List (List ℕ) → Option Form
 form_asked [] = None
 form_asked (word ∷ words) = form_named word
 
+-- the form, or lines where none is asked for
 abbrev pub form_or : Option Form → Form
 form_or None = Lines
 form_or (Some form) = form
 
+-- the form of a plan that words ask for
 abbrev pub form_of : List (List ℕ) → Form
 form_of words = form_or (form_asked words)
 
+-- the words after the one that asks for a form
 abbrev pub after_form : Option Form → List (List ℕ) → List (List ℕ)
 after_form None words = words
 after_form (Some form) words = drop 1 words
 
+-- the line of which a plan is asked
 abbrev pub line_of : List (List ℕ) → List (List ℕ)
 line_of words = after_form (form_asked words) words
 
@@ -61,20 +70,24 @@ abbrev pub asks_database : List (List ℕ) → Bool
 asks_database [] = false
 asks_database (word ∷ words) = pointwise nat_eq word (codes "--compdb")
 
+-- what the words after plan ask for: a database, or a plan in a form
 abbrev pub plan_asked : List (List ℕ) → Call
 plan_asked words = if asks_database words then Database (drop 1 words) else Plan (form_of words) (line_of words)
 
 -- Answers that are given ahead: each word --fail takes the word after it for one, and the line is what is left.
 
+-- before the first word: no line and no answers
 abbrev pub no_words : Cut
 no_words = record { line = []; given = []; awaits = false }
 
+-- what is known of the words of after, with one more word
 abbrev pub taken : Cut → List ℕ → Cut
 taken cut word =
     if cut.awaits then record cut { given = cut.given ++ word ∷ []; awaits = false }
     else if pointwise nat_eq word (codes "--fail") then record cut { awaits = true }
     else record cut { line = cut.line ++ word ∷ [] }
 
+-- what is known of the words of after, once all were read
 abbrev pub cut_from : Cut → List (List ℕ) → Cut
 cut_from cut [] = cut
 cut_from cut (word ∷ words) = cut_from (taken cut word) words
@@ -83,6 +96,7 @@ cut_from cut (word ∷ words) = cut_from (taken cut word) words
 abbrev pub most_answers : ℕ
 most_answers = 1000
 
+-- what the words of after ask for, or what is wrong with them
 abbrev pub run_asked : Cut → Result Call CallFault
 run_asked cut =
     if cut.awaits then Err MissingAnswer
@@ -91,6 +105,7 @@ run_asked cut =
 
 -- A translation takes the path of a dump, and no other word.
 
+-- what the words of translate ask for
 abbrev pub translation_asked : List (List ℕ) → Result Call CallFault
 translation_asked [] = Err NotOneFile
 translation_asked (path ∷ []) = Ok (Translate path)
@@ -98,63 +113,78 @@ translation_asked (path ∷ word ∷ words) = Err NotOneFile
 
 -- A comparison takes the paths of two spec files, and after the word -- a line. Without a line it is one of their texts.
 
+-- whether the words of diff are two paths, -- and a line
 abbrev pub are_compared : List (List ℕ) → Bool
 are_compared (first ∷ second ∷ dashes ∷ line) = pointwise nat_eq dashes (codes "--")
 are_compared words = false
 
+-- a comparison of two plans of a line, if the words are such
 abbrev pub line_compared : List (List ℕ) → Result Call CallFault
 line_compared (first ∷ second ∷ dashes ∷ line) =
     if are_compared (first ∷ second ∷ dashes ∷ line) then Ok (Differ (record { first = first; second = second; line = line }))
     else Err NotTwoFiles
 line_compared words = Err NotTwoFiles
 
+-- a comparison of the texts of two spec files: the line is -dumpspecs
 abbrev pub texts_compared : List ℕ → List ℕ → Call
 texts_compared first second = Differ (record { first = first; second = second; line = codes "-dumpspecs" ∷ [] })
 
+-- what the words of diff ask for
 abbrev pub difference_asked : List (List ℕ) → Result Call CallFault
 difference_asked (first ∷ second ∷ []) = Ok (texts_compared first second)
 difference_asked words = line_compared words
 
 -- A check takes options and the paths of files.
 
+-- a check of files, if any is named
 abbrev pub files_asked : Request → List (List ℕ) → Result Call CallFault
 files_asked request [] = Err NoFiles
 files_asked request (file ∷ files) = Ok (Check request)
 
+-- a check, unless a word is no option of it or --over lacks its file
 abbrev pub check_by : Request → Option (List ℕ) → Result Call CallFault
 check_by request (Some word) = Err (UnknownOption word)
 check_by request None = if request.awaits then Err MissingFile else files_asked request request.files
 
+-- what the words of check ask for
 abbrev pub check_asked : Request → Result Call CallFault
 check_asked request = check_by request request.unknown
 
 -- The reasons of a line, or with a first word --switches what becomes of its switches.
 
+-- whether the words of why ask what becomes of switches
 abbrev pub asks_switches : List (List ℕ) → Bool
 asks_switches [] = false
 asks_switches (word ∷ words) = pointwise nat_eq word (codes "--switches")
 
 -- each as text, or as JSON with a word --json at the beginning, before --switches or after it
 
+-- whether a first word asks for JSON
 abbrev pub asks_json : List (List ℕ) → Bool
 asks_json [] = false
 asks_json (word ∷ words) = pointwise nat_eq word (codes "--json")
 
+-- the form of a report that words ask for, or else another one
 abbrev pub report_of : Report → List (List ℕ) → Report
 report_of otherwise words = if asks_json words then report.Json else otherwise
 
+-- the words after that one
 abbrev pub after_json : List (List ℕ) → List (List ℕ)
 after_json words = if asks_json words then drop 1 words else words
 
+-- what why --switches asks for; a --json after it counts too
 abbrev pub switches_asked : Report → List (List ℕ) → Call
 switches_asked otherwise words = Switches (report_of otherwise words) (after_json words)
 
+-- what why asks for after a --json: the reasons of a line, or what becomes of its switches
 abbrev pub reasons_asked : Report → List (List ℕ) → Call
 reasons_asked form words = if asks_switches words then switches_asked form (drop 1 words) else Explain form words
 
+-- what the words of why ask for
 abbrev pub why_asked : List (List ℕ) → Call
 why_asked words = reasons_asked (report_of report.Lines words) (after_json words)
 
+-- what words ask for, by the command that the first one names
 abbrev pub asked_by : List ℕ → List (List ℕ) → Option Command → Result Call CallFault
 asked_by word words None = Err (UnknownCommand word)
 asked_by word words (Some (command.Ask question)) = Ok (Ask question)
@@ -165,6 +195,7 @@ asked_by word words (Some command.Differ) = difference_asked words
 asked_by word words (Some command.Check) = check_asked (requested_from no_request words)
 asked_by word words (Some command.Why) = Ok (why_asked words)
 
+-- what all words of a call ask for, or why they are misused
 abbrev pub call_of : List (List ℕ) → Result Call CallFault
 call_of [] = Err NoCommand
 call_of (word ∷ words) = asked_by word words (command_named word)

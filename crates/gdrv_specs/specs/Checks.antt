@@ -30,27 +30,33 @@ use Rattle.std.specs.Prelude.{slice_get, suc, true, zero, ℕ}
 
 -- What checking spec files is (GCC manual, "Spec Files"; the names of warnings and the exit statuses are this project's profile): what was
 -- found is written to standard output once, and nothing else is done.
+-- For clauses of src/checks.rt.
 
 -- what is said of a spot
 
+-- what a finding says: a fault in the driver's words, a warning in its own
 abbrev pub note_text : Note → List ℕ
 note_text (Fault fault) = refusal_text (Specs fault)
 note_text (Warned warning) = warning_text warning
 
+-- whether a finding is an error
 abbrev pub is_error : Note → Bool
 is_error (Fault fault) = true
 is_error (Warned warning) = false
 
 -- Where a source is included, and where that one is, and so on: at most so many.
 
+-- the place of a byte of a source
 abbrev pub place_of : Option Source → ℕ → List Place
 place_of None at = []
 place_of (Some source) at = place_in source at ∷ []
 
+-- where a source is included, if it is
 abbrev pub included_at : Option Source → Option Spot
 included_at None = None
 included_at (Some source) = source.from
 
+-- the places where a source is included, the innermost first
 abbrev pub places_from : List Source → ℕ → Option Spot → List Place
 places_from sources zero from = []
 places_from sources (suc more) None = []
@@ -59,6 +65,7 @@ places_from sources (suc more) (Some spot) =
 
 -- what a check prints of a finding
 
+-- a finding without a place, as it is printed
 abbrev pub told_nowhere : Note → Told
 told_nowhere note = record { place = None; is_error = is_error note; message = note_text note; before = []; after = []; from = [] }
 
@@ -71,44 +78,55 @@ filled sources source at told = record told {
   from = told.from ++ places_from sources most_levels source.from;
 }
 
+-- a finding in a source, as it is printed
 abbrev pub told_in : List Source → Option Source → ℕ → Note → Told
 told_in sources None at note = told_nowhere note
 told_in sources (Some source) at note = filled sources source at (told_nowhere note)
 
+-- a finding at a spot, as it is printed
 abbrev pub told_at : List Source → Option Spot → Note → Told
 told_at sources None note = told_nowhere note
 told_at sources (Some spot) note = told_in sources (slice_get sources spot.source) spot.at note
 
+-- a finding as it is printed
 abbrev pub told_of : List Source → Finding → Told
 told_of sources finding = told_at sources finding.spot finding.note
 
 -- a warning may be switched off
 
+-- whether a warning has this name
 abbrev pub is_named : Warning → List ℕ → Bool
 is_named warning name = is_name_of name warning
 
+-- whether a note is shown: a fault always is, and a warning unless -Wno- of it was given
 abbrev pub is_on : Request → Note → Bool
 is_on request (Fault fault) = true
 is_on request (Warned warning) = not (list_any (is_named warning) request.off)
 
+-- whether a finding is shown
 abbrev pub is_shown : Request → Finding → Bool
 is_shown request finding = is_on request finding.note
 
+-- all findings that are shown, as they are printed
 abbrev pub all_told : Request → List Source → List Finding → List Told
 all_told request sources findings = map (told_of sources) (filter (is_shown request) findings)
 
+-- the text of a check, in JSON or in lines
 abbrev pub report : Bool → List Told → List ℕ
 report json all = if json then report_json all else report_text all
 
 -- 2 for errors, and 1 for warnings that count as such
 
+-- whether a finding that is shown is an error
 abbrev pub told_error : Told → Bool
 told_error told = told.is_error
 
+-- whether anything is shown
 abbrev pub has_any : List Told → Bool
 has_any [] = false
 has_any (told ∷ all) = true
 
+-- the exit status of a check by what is shown; `strict` is -Werror
 abbrev pub verdict : Bool → List Told → ℕ
 verdict strict all = if list_any told_error all then 2 else if strict && has_any all then 1 else 0
 
@@ -122,6 +140,7 @@ Reports request c status told =
     (written : ℕ) × Puts (report request.json (all_told request c.sources c.findings)) written told
     × (status ≡ status_with written (verdict request.strict (all_told request c.sources c.findings)))
 
+-- the report was written, and nothing else was done, of two journals
 abbrev pub PutsReport : List Event → List Event → Request → Checking → ℕ → Type 0
 PutsReport journal journal' request c status = (told : List Event) × (journal' ≡ journal ++ told) × Reports request c status told
 
@@ -131,9 +150,11 @@ Finds request c (Ended (Done status)) told = Reports request c status told
 Finds request c (Ended OutOfMemory) told = told ≡ []
 Finds request c outcome told = ⊥
 
+-- what a check did after its questions, of two journals
 abbrev pub TellsFound : List Event → List Event → Request → Checking → Outcome → Type 0
 TellsFound journal journal' request c outcome = (told : List Event) × (journal' ≡ journal ++ told) × Finds request c outcome told
 
+-- how a check ends over facts: memory lacked and nothing was said, or its findings are written
 abbrev pub EndsCheck : Facts → Request → Outcome → List Event → Type 0
 EndsCheck F request outcome told =
     ((outcome ≡ Ended OutOfMemory) × (told ≡ [])) ⊎ ((c : Checking) × (checked F request.over request.files ≡ Is c)

@@ -15,7 +15,9 @@ use Rattle.std.specs.Prelude.{◌≡◌, Err, List, ◌++◌, Ok, Result, map, �
 
 -- How the compilation database of a line is printed (Clang, "JSON Compilation Database Format Specification"): its words are read first,
 -- for the names of its inputs, and then its plan is printed with them.
+-- For clauses of src/databases.rt.
 
+-- the name of an input as the line has it
 abbrev pub input_name : Input → List ℕ
 input_name (File name lang) = name
 input_name (Library name) = name
@@ -33,10 +35,12 @@ pub record AsksNames (journal journal' : List Event) (args : List (List ℕ)) (n
   pub journal_grows : journal' ≡ journal ++ asked
   pub names_are : NamesOf (learn no_facts asked) args names
 
+-- the plan was printed as a database with these names, or the call ends as the reading of the line did
 abbrev pub TellsNamed : List Event → List Event → List ℕ → List (List ℕ) → ℕ → Outcome → Result (List (List ℕ)) Ending → Type 0
 TellsNamed journal journal' directory args seed outcome (Ok names) = TellsPlan journal journal' (Database directory names) args seed outcome
 TellsNamed journal journal' directory args seed outcome (Err ending) = (journal' ≡ journal) × (outcome ≡ Ended ending)
 
+-- a call that prints a database, of two journals: names first, then the plan
 abbrev pub TellsDatabase : List Event → List Event → List ℕ → List (List ℕ) → ℕ → Outcome → Type 0
 TellsDatabase journal journal'' directory args seed outcome =
     (journal' : List Event) × (names : Result (List (List ℕ)) Ending) × AsksNames journal journal' args names

@@ -18,6 +18,7 @@ use Rattle.std.specs.Prelude.{◌≡◌, ◌⊎◌, Err, List, [], ◌∷◌, �
 
 -- What printing the difference of two plans of a line is, one with each of two spec files (GCC manual, "Overall Options", -specs=; that the
 -- file precedes those of the line is this project's profile).
+-- For clauses of src/differing.rt.
 
 -- a line with one more spec file, which precedes its own
 abbrev pub with_specs : List ℕ → List (List ℕ) → List (List ℕ)
@@ -32,25 +33,30 @@ ComesTwice F c seed (Err ending) =
 
 -- what differs between two works: between their plans, or between the texts of two dumps
 
+-- what differs between the plans of two works, as text; None where a work has no plan
 abbrev pub plans_difference : Option Plan → Option Plan → Option (List ℕ)
 plans_difference None other = None
 plans_difference (Some plan) None = None
 plans_difference (Some plan) (Some other) = Some (difference plan other)
 
+-- what differs between the plans of two works, as a list of changes
 abbrev pub plans_changes : Option Plan → Option Plan → Option (List LineChange)
 plans_changes None other = None
 plans_changes (Some plan) None = None
 plans_changes (Some plan) (Some other) = Some (changes plan other)
 
+-- what differs between the texts of two works that are dumps
 abbrev pub dumps_difference : Option (List ℕ) → Option (List ℕ) → Option (List ℕ)
 dumps_difference None other = None
 dumps_difference (Some text) None = None
 dumps_difference (Some text) (Some other) = Some (texts_difference text other)
 
+-- the first of two texts that is there
 abbrev pub first_of : Option (List ℕ) → Option (List ℕ) → Option (List ℕ)
 first_of (Some text) other = Some text
 first_of None other = other
 
+-- what differs between two works of one kind; None where they are of two kinds
 abbrev pub difference_in : Work → Work → Option (List ℕ)
 difference_in work other = first_of (dumps_difference (dump_in work) (dump_in other)) (plans_difference (plan_in work) (plan_in other))
 
@@ -62,6 +68,7 @@ TellsBoth work other (Ended OutOfMemory) told = told ≡ []
 TellsBoth work other NoPlan told = (difference_in work other ≡ None) × (told ≡ [])
 TellsBoth work other outcome told = ⊥
 
+-- the difference of two works was written so, of two journals
 abbrev pub TellsWorks : List Event → List Event → Work → Work → Outcome → Type 0
 TellsWorks journal journal' work other outcome = (told : List Event) × (journal' ≡ journal ++ told) × TellsBoth work other outcome told
 

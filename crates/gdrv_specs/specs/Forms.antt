@@ -13,7 +13,7 @@ use Rattle.json.specs.Tree.{json_tokens}
 use Rattle.std.specs.Prelude.{List, [], ◌∷◌, ◌++◌, ℕ}
 
 -- A plan in each of its forms: as -### prints it, as JSON with a newline at its end, as a script of the shell, as a picture, or as a
--- compilation database.
+-- compilation database. For clauses of src/forms.rt and src/planning.rt. A new form is also a word of Calls.antt.
 abbrev pub form_text : Form → Plan → List ℕ
 form_text Lines plan = lines_text (lines_of plan)
 form_text Json plan = pretty (json_tokens (plan_json plan)) ++ newline ∷ []

@@ -12,7 +12,9 @@ use Rattle.std.specs.List.{flat_map}
 use Rattle.std.specs.Prelude.{List, [], ◌++◌, codes, decimal, ℕ}
 
 -- How a call of the program ends: its exit status, and the text on standard error (this project's profile).
+-- For clauses of src/outcome.rt and src/main.rt. Rows of tests/tables/gdrv_specs have some of these texts too.
 
+-- the exit status of a call
 abbrev pub status_of : Outcome → ℕ
 status_of (Ended ending) = exit_status_of ending
 status_of NoPlan = 1
@@ -27,6 +29,7 @@ status_of (Misused fault) = 1
 abbrev pub told_line : List ℕ → List ℕ
 told_line words = codes "gdrv-specs: " ++ words ++ codes "\n"
 
+-- why a word of --fail gives no answer
 abbrev pub unanswered_text : List ℕ → GivenFault → List ℕ
 unanswered_text word NoForm = told_line (around (codes "'") word (codes "' is not PLACE=ANSWER"))
 unanswered_text word NoPlace = told_line (around (codes "'") word (codes "': the plan has no such place"))
@@ -36,6 +39,7 @@ unanswered_text word NoAnswer = told_line (around (codes "'") word (codes "': no
 abbrev pub refused_line : List ℕ → List ℕ
 refused_line name = told_line (around (codes "text '") name (codes "' cannot be translated, so lines that use it are refused"))
 
+-- the lines for all texts of a dump that can't be translated
 abbrev pub refused_text : List (List ℕ) → List ℕ
 refused_text names = flat_map refused_line names
 
@@ -43,9 +47,11 @@ refused_text names = flat_map refused_line names
 abbrev pub numbered : ℕ → List ℕ
 numbered number = codes ":" ++ decimal number
 
+-- the line for a file that is no dump, with the place where it ceases to be one
 abbrev pub no_dump_text : List ℕ → ℕ → ℕ → List ℕ
 no_dump_text path line column = told_line (((path ++ numbered line) ++ numbered column) ++ codes ": not a text as '-dumpspecs' prints it")
 
+-- the line for words that ask for no call
 abbrev pub misuse_text : CallFault → List ℕ
 misuse_text Memory = told_line (codes "out of memory")
 misuse_text MissingAnswer = told_line (codes "missing argument to '--fail'")

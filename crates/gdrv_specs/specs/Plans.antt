@@ -11,6 +11,7 @@ use Rattle.gdrv_specs.specs.declared.outcome.Outcome.{Outcome}
 use Rattle.std.specs.Prelude.{◌≡◌, List, [], None, Option, Some, ℕ}
 
 -- What telling the plan of a line is (GCC manual, "Overall Options", -###).
+-- For clauses of src/planning.rt and src/differing.rt.
 
 -- the plan of a work; a dump of the specs has none
 abbrev pub plan_in : Work → Option Plan

@@ -24,17 +24,21 @@ use Rattle.std.specs.Prelude.{◌≡◌, ◌⊎◌, Err, List, [], ◌∷◌, �
 
 -- What printing the reasons of a line is: for each of its parts, an option with its argument or a file, what the line without that part
 -- would be instead, with the same answers of the system (this project's profile).
+-- For clauses of src/explaining.rt.
 
 -- what the line without a part is: what differs between the two plans, or between the texts of two dumps
 
+-- what differs, by what the two lines have: texts of dumps, plans, or not the same
 abbrev pub rest_from : Option (List ℕ) → Option (List LineChange) → Rest
 rest_from (Some texts) changes = Texts texts
 rest_from None (Some changes) = Commands changes
 rest_from None None = Unlike
 
+-- what the line without a part is, by its work and that of the whole line
 abbrev pub rest_of : Work → Work → Rest
 rest_of work other = rest_from (dumps_difference (dump_in work) (dump_in other)) (plans_changes (plan_in work) (plan_in other))
 
+-- what is said of a part
 abbrev pub reason_with : List (List ℕ) → LinePart → Rest → Reason
 reason_with line part rest = record { part = part_words line part; rest = rest }
 
@@ -72,6 +76,7 @@ WritesText text (Ended (Done status)) told = Puts text status told
 WritesText text (Ended OutOfMemory) told = told ≡ []
 WritesText text outcome told = ⊥
 
+-- the reasons were written so, of two journals
 abbrev pub TellsText : List Event → List Event → List ℕ → Outcome → Type 0
 TellsText journal journal' text outcome = (told : List Event) × (journal' ≡ journal ++ told) × WritesText text outcome told
 

@@ -20,21 +20,26 @@ use Rattle.gdrv_specs.specs.declared.outcome.Outcome.{Outcome}
 use Rattle.std.specs.Prelude.{◌≡◌, Err, List, [], ◌∷◌, Ok, Result, ℕ}
 
 -- What telling a run of a line is, where some answers are given ahead (this project's profile).
+-- For clauses of src/running.rt and src/answers.rt.
 
 -- the answers that words give: those of each word, or the first word that gives none, and why
 
+-- the answer of a word, or that word with why it gives none
 abbrev pub answered : List ℕ → Result Given GivenFault → Result Given AnswerFault
 answered word (Ok given) = Ok given
 answered word (Err fault) = Err (BadAnswer word fault)
 
+-- the answer that a word gives of a plan's step
 abbrev pub answer_of : Plan → List ℕ → Result Given AnswerFault
 answer_of plan word = answered word (given_of plan word)
 
+-- one more answer before others, if all are there
 abbrev pub with_answer : Result Given AnswerFault → Result (List Given) AnswerFault → Result (List Given) AnswerFault
 with_answer (Err fault) others = Err fault
 with_answer (Ok given) (Err fault) = Err fault
 with_answer (Ok given) (Ok others) = Ok (given ∷ others)
 
+-- the answers that words give, or the first word that gives none
 abbrev pub answers_of : Plan → List (List ℕ) → Result (List Given) AnswerFault
 answers_of plan [] = Ok []
 answers_of plan (word ∷ words) = with_answer (answer_of plan word) (answers_of plan words)

@@ -18,7 +18,9 @@ use Rattle.gdrv_specs.specs.declared.outcome.Outcome.{Outcome}
 use Rattle.std.specs.Prelude.{◌≡◌, ◌⊎◌, Err, List, ◌++◌, Ok, Result, ℕ}
 
 -- What printing the switches of a line is: what becomes of each with the texts of the line's specs (this project's profile).
+-- For clauses of src/switches.rt.
 
+-- the text about the switches of a line: the parts of its specs that name them, with their places in the line's files
 abbrev pub fates_of : Facts → Report → Line → Set → Known (List ℕ)
 fates_of F report line set =
     sources_of F line.settings.prefixes line.settings.specs

@@ -12,11 +12,13 @@ use Rattle.gdrv_specs.specs.declared.outcome.Outcome.{Outcome}
 use Rattle.std.specs.Prelude.{◌≡◌, ◌⊎◌, List, [], ◌∷◌, ◌++◌, ℕ}
 
 -- What telling something of a line is: questions, and then one text at most (this project's profile).
+-- For clauses of src/planning.rt, src/translating.rt, src/running.rt and others.
 
 -- a text was written to standard output once, and nothing else was done
 abbrev pub Puts : List ℕ → ℕ → List Event → Type 0
 Puts text status told = (answer : TellAnswer) × (told ≡ Put text answer ∷ []) × (status ≡ status_of answer)
 
+-- a text was written once and nothing else was done, of two journals
 abbrev pub PutsText : List Event → List Event → List ℕ → ℕ → Type 0
 PutsText journal journal' text status = (told : List Event) × (journal' ≡ journal ++ told) × Puts text status told
 
@@ -24,10 +26,11 @@ PutsText journal journal' text status = (told : List Event) × (journal' ≡ jou
 abbrev pub Telling : Type 1
 Telling = Work → Outcome → List Event → Type 0
 
+-- a work was printed so, of two journals
 abbrev pub TellsWork : Telling → List Event → List Event → Work → Outcome → Type 0
 TellsWork T journal journal' work outcome = (told : List Event) × (journal' ≡ journal ++ told) × T work outcome told
 
--- a line that has no work: it is refused, or memory was wanted; nothing was done
+-- a line that has no work: it is refused, or memory lacked; nothing was done
 abbrev pub Stops : Facts → List (List ℕ) → ℕ → Outcome → List Event → Type 0
 Stops F line seed (Ended (Refused refusal)) told = Refuses F line seed refusal × (told ≡ [])
 Stops F line seed (Ended OutOfMemory) told = told ≡ []

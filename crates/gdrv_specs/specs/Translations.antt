@@ -14,6 +14,7 @@ use Rattle.gdrv_specs.specs.declared.outcome.Outcome.{Outcome}
 use Rattle.std.specs.Prelude.{◌≡◌, ◌⊎◌, ◌+◌, Err, List, [], ◌∷◌, ◌++◌, Ok, Result, length, ℕ}
 
 -- What translating the dump of a gcc is (GCC manual, "Spec Files", -dumpspecs): its file is read, and then one text is written at most.
+-- For clauses of src/translating.rt.
 
 -- a byte of a dump, by its line and its column, both from 1
 abbrev pub no_dump_at : List ℕ → List ℕ → ℕ → Outcome
@@ -31,10 +32,11 @@ abbrev pub Translates : List ℕ → List ℕ → Result OurDump DumpFault → O
 Translates path dump (Ok ours) outcome told = (status : ℕ) × (outcome ≡ Translated ours.refused status) × Puts ours.texts status told
 Translates path dump (Err fault) outcome told = (outcome ≡ misread path dump fault) × (told ≡ [])
 
--- memory was wanted, and nothing was written
+-- memory lacked, and nothing was written
 abbrev pub Lacks : Outcome → List Event → Type 0
 Lacks outcome told = (outcome ≡ Ended OutOfMemory) × (told ≡ [])
 
+-- a dump was translated, or memory lacked, of two journals
 abbrev pub TranslatesDump : List Event → List Event → List ℕ → List ℕ → Outcome → Type 0
 TranslatesDump journal journal' path dump outcome =
     (told : List Event) × (journal' ≡ journal ++ told) × (Lacks outcome told ⊎ Translates path dump (our_dump_of dump) outcome told)

@@ -5,7 +5,9 @@ use Rattle.std.specs.Cmp.Lexicographic.{pointwise}
 use Rattle.std.specs.Prelude.{◌||◌, ◌++◌, Bool, List, codes, nat_eq, ℕ}
 
 -- The names of the warnings of a check, and what they say (this project's profile).
+-- For clauses of src/warning_names.rt. A new warning is named in docs/SPEC_TOOLS.md, docs/gdrv-specs.1 and share/bash-completion too.
 
+-- the name of a warning, by which -Wno- switches it off
 abbrev pub warning_name : Warning → List ℕ
 warning_name AppendToNothing = codes "append-to-nothing"
 warning_name DirectiveInBody = codes "directive-in-body"
@@ -17,6 +19,7 @@ warning_name Unreachable = codes "unreachable"
 warning_name LostMark = codes "lost-mark"
 warning_name UnusedText = codes "unused-text"
 
+-- what a warning says
 abbrev pub warning_words : Warning → List ℕ
 warning_words AppendToNothing = codes "there is no text to append to"
 warning_words DirectiveInBody = codes "this line belongs to the text above it, as no line before it is empty"
@@ -32,9 +35,11 @@ warning_words UnusedText = codes "no text names this one, and it is none of thos
 abbrev pub warning_text : Warning → List ℕ
 warning_text warning = warning_words warning ++ codes " [-W" ++ warning_name warning ++ codes "]"
 
+-- whether a name is that of a warning
 abbrev pub is_name_of : List ℕ → Warning → Bool
 is_name_of name warning = pointwise nat_eq name (warning_name warning)
 
+-- whether a name is that of any warning
 abbrev pub is_warning : List ℕ → Bool
 is_warning name =
     is_name_of name AppendToNothing || is_name_of name DirectiveInBody || is_name_of name QuotedWord || is_name_of name NeverTrue

@@ -2,7 +2,7 @@ use Rattle.drv_after.specs.declared.answers.Given.{Given}
 use Rattle.gdrv_specs.specs.declared.answers.AnswerFault.{AnswerFault}
 use Rattle.std.specs.Prelude.{◌++◌, Err, List, Ok, Result}
 
--- The answers of words after those of the words before them.
+-- The answers of words after those of the words before them. Only the proofs of src/answers.rt cite it.
 abbrev pub after_answers : List Given → Result (List Given) AnswerFault → Result (List Given) AnswerFault
 after_answers front (Ok others) = Ok (front ++ others)
 after_answers front (Err fault) = Err fault

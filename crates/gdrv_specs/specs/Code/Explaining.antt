@@ -14,14 +14,16 @@ use Rattle.drv_why.specs.declared.reasons.Rest.{Rest}
 use Rattle.gdrv_specs.specs.Reasons.{reason_with, rest_of}
 use Rattle.std.specs.Prelude.{◌≡◌, Err, List, None, Ok, Option, Result, Some, option_map, ℕ}
 
--- What is said of a part, by what the line without it asks for: nothing where memory lacked.
+-- What is said of a part, by what the line without it asks for: nothing where memory lacked. For private clauses of src/explaining.rt.
 
+-- what the line without a part is, by what that line asks for; None where memory lacked
 abbrev pub rest_by : Work → Result Work Ending → Option Rest
 rest_by work (Ok other) = Some (rest_of work other)
 rest_by work (Err (Refused refusal)) = Some (rest.Refused (refusal_text refusal))
 rest_by work (Err OutOfMemory) = None
 rest_by work (Err (Done status)) = None
 
+-- the reason of a part, unless memory lacked
 abbrev pub reason_of : List (List ℕ) → Work → LinePart → Result Work Ending → Option Reason
 reason_of line work part found = option_map (reason_with line part) (rest_by work found)
 

@@ -10,7 +10,8 @@ use Rattle.drv_why.specs.declared.report.Report.{Report}
 use Rattle.gdrv_specs.specs.Switches.{fates_of}
 use Rattle.std.specs.Prelude.{◌≡◌, ◌⊎◌, Err, List, Ok, Result, ℕ}
 
--- What a line gives that was read: the text about its switches, or the refusal of a spec file.
+-- What a line gives that was read: the text about its switches, or the refusal of a spec file. Only private clauses of src/switches.rt cite
+-- it.
 abbrev pub GivesLine : Facts → Report → Line → Result (List ℕ) Ending → Type 0
 GivesLine F report line (Ok text) = (set : Set) × (specs_of F line.settings ≡ Is (Ok set)) × (fates_of F report line set ≡ Is text)
 GivesLine F report line (Err ending) =
