@@ -1,4 +1,7 @@
 //! Writes the spec file of a gcc, and what gdrv-cc reads beside it.
+//!
+//! What a call asks for has a contract. The texts that it writes have none: `checking` compares the
+//! plans that they give with those of the gcc, and tests/real compares more lines.
 #![tactic(auto)]
 
 mod adding;

@@ -9,12 +9,15 @@ use Rattle.std.specs.Str.{byte}
 -- What the words of a call request (this project's profile). The first word is the role, which is neither an option nor an input. Positions
 -- count, and words are not read in order: the word directly after an `-o` is an output, whatever it is.
 
+-- whether two words are the same
 abbrev pub same : List ℕ → List ℕ → Bool
 same = pointwise nat_eq
 
+-- the words after the role
 abbrev pub operands : List (List ℕ) → List (List ℕ)
 operands words = drop 1 words
 
+-- whether a word is `-o`
 abbrev pub is_output_option : List ℕ → Bool
 is_output_option word = same word (codes "-o")
 
@@ -29,6 +32,7 @@ file_named (Some (Some path)) = if same path (codes "-") then None else Some pat
 file_named (Some None) = None
 file_named None = None
 
+-- the file after the last `-o`
 abbrev pub output_file : List (List ℕ) → Option (List ℕ)
 output_file words = file_named (after_output (operands words))
 
@@ -36,6 +40,7 @@ output_file words = file_named (after_output (operands words))
 abbrev pub begins_as_option : List ℕ → Bool
 begins_as_option word = starts_with nat_eq word (codes "-")
 
+-- a word that is neither an option nor an output is an input
 abbrev pub input_of : Bool × List ℕ → Option (List ℕ)
 input_of (is_after, word) = if is_after || begins_as_option word then None else Some word
 
@@ -43,6 +48,7 @@ input_of (is_after, word) = if is_after || begins_as_option word then None else 
 abbrev pub with_option_before : Bool → List (List ℕ) → List (Bool × List ℕ)
 with_option_before first words = zip (first ∷ map is_output_option words) words
 
+-- the inputs of a call, in order
 abbrev pub inputs_of : List (List ℕ) → List (List ℕ)
 inputs_of words = filter_map input_of (with_option_before false (operands words))
 
@@ -50,6 +56,7 @@ inputs_of words = filter_map input_of (with_option_before false (operands words)
 abbrev pub number_after : ℕ → List ℕ → ℕ
 number_after n digits = fold (λ n digit. n * 10 + (digit - byte "0")) n digits
 
+-- the number of these digits after n, if it is a status
 abbrev pub code_after : ℕ → List ℕ → Option ℕ
 code_after n digits = if list_all is_ascii_digit digits && nat_le (number_after n digits) 255 then Some (number_after n digits) else None
 
@@ -58,6 +65,7 @@ abbrev pub code_of : List ℕ → Option ℕ
 code_of [] = None
 code_of (digit ∷ digits) = code_after 0 (digit ∷ digits)
 
+-- the option that gives the exit status
 abbrev pub code_option : List ℕ
 code_option = codes "-frec-exit="
 

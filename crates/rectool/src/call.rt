@@ -37,6 +37,7 @@ pub fn output_file(words: &[Word]) -> Option<&Word>
     let operands = operands(words);
     let mut following = None;
     for (index, word) in operands.iter().enumerate() {
+        // The last -o counts, so a later one replaces this.
         if is_output_option(word) {
             following = operands.get(index + 1);
         }
@@ -78,6 +79,7 @@ fn with_digit(number: u8, digit: u8) -> Option<u8>
 fn code_of(digits: &[u8]) -> Option<u8>
     ensures { result ≡ code_of digits.now }
 {
+    // No digits are no number.
     if digits.is_empty() {
         return None;
     }

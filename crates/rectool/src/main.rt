@@ -43,6 +43,7 @@ fn run(rt: &HostRuntime) -> Result<Option<u8>, AllocError> {
     }
 }
 
+/// Writes the record of this call, and exits with the status that the call requests.
 fn main(rt: HostRuntime) -> ExitCode {
     match run(&rt) {
         Ok(Some(status)) => ExitCode::from(status),

@@ -98,11 +98,13 @@ pub fn try_call(rt: &HostRuntime, call: &[Word], out: &mut Transcript) -> io::Re
     }
 }
 
+/// Makes a call that asks the machine.
 fn on_host(rt: &HostRuntime, call: &[Word], out: &mut Transcript) -> io::Result<()> {
     let mut sys = HostSystem::new(rt.clone()?, Reporter::Gdrv);
     Ok(answer(rt.alloc(), &mut sys, call, out)?)
 }
 
+/// Makes a call that asks the script on standard input.
 fn over_script(rt: &HostRuntime, call: &[Word], out: &mut Transcript) -> io::Result<()> {
     let mut sys = read_system(rt)?;
     Ok(answer(rt.alloc(), &mut sys, call, out)?)
@@ -137,6 +139,7 @@ fn try_named<S: System>(
     }
 }
 
+/// Makes a call with these words.
 fn make<S: System>(
     alloc: Global,
     sys: &mut S,

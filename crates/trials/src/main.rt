@@ -36,6 +36,7 @@ use std::io::{self, Write};
 use steps::try_file;
 use transcript::Transcript;
 
+/// What is printed where the words name nothing to be tried.
 const USAGE: &[u8] =
     b"usage: trials call [host] CALL ARG.. | steps FILE | plan WINDOW [pass] | choose WINDOW [pass] | drive WORD.. | compile NAME WORD.. | measure JOB COUNT [LENGTH]\n";
 
@@ -96,6 +97,7 @@ fn try_words(rt: &HostRuntime, words: &[Word], out: &mut Transcript) -> io::Resu
     }
 }
 
+/// Tries what the words name, and prints the transcript at the end.
 fn main(rt: HostRuntime) -> io::Result<()> {
     let words = arguments(&rt)?;
     let mut out = Transcript::new(rt.alloc());

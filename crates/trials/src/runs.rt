@@ -137,6 +137,7 @@ pub fn try_plan(
     )?)
 }
 
+/// Adds a refusal as the user reads it.
 fn add_refusal(alloc: Global, refusal: &Refusal, out: &mut Transcript) -> Result<(), AllocError> {
     let line = fault_line(alloc, refusal)?;
     out.add(line.as_bytes())

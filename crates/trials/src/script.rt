@@ -100,6 +100,7 @@ impl Script {
         }
     }
 
+    /// Adds a file by its path, and perhaps its text; without one it can't be read.
     fn add_file(&mut self, words: &[Word]) -> Result<(), AllocError> {
         match words {
             [path] => Ok(self.files.push((path.clone()?, None))?),
@@ -108,6 +109,7 @@ impl Script {
         }
     }
 
+    /// Adds a file by its path and its lines.
     fn add_lines(&mut self, alloc: Global, words: &[Word]) -> Result<(), AllocError> {
         let [path, lines @ ..] = words else {
             return Ok(());
@@ -116,6 +118,7 @@ impl Script {
         Ok(self.files.push((path.clone()?, Some(text)))?)
     }
 
+    /// Adds a folder by its path.
     fn add_folder(&mut self, words: &[Word]) -> Result<(), AllocError> {
         match words {
             [path] => Ok(self.folders.push(path.clone()?)?),
@@ -123,6 +126,7 @@ impl Script {
         }
     }
 
+    /// Adds a variable by its name and value.
     fn add_variable(&mut self, words: &[Word]) -> Result<(), AllocError> {
         match words {
             [name, value] => Ok(self.variables.push((name.clone()?, value.clone()?))?),
@@ -130,6 +134,7 @@ impl Script {
         }
     }
 
+    /// Adds the answers that these words name; others are passed over.
     fn add_answers(&mut self, words: &[Word]) -> Result<(), AllocError> {
         for word in words {
             if let Some(answer) = answer_of(word.as_bytes()) {

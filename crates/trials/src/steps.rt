@@ -64,6 +64,7 @@ fn try_text(
     out.add(b" events\n")
 }
 
+/// Makes the steps of the file at a path.
 fn try_steps(
     alloc: Global,
     sys: &mut HostSystem,

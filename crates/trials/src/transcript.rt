@@ -11,6 +11,7 @@ pub struct Transcript {
 }
 
 impl Transcript {
+    /// An empty text.
     pub fn new(alloc: Global) -> Transcript {
         Transcript {
             alloc,
@@ -18,10 +19,12 @@ impl Transcript {
         }
     }
 
+    /// The text so far.
     pub fn as_bytes(&self) -> &[u8] {
         self.text.as_bytes()
     }
 
+    /// Adds a text.
     pub fn add(&mut self, text: &[u8]) -> Result<(), AllocError> {
         self.text.extend_from_slice(text)
     }

@@ -12,6 +12,7 @@ fn add_named(name: &[u8], word: &Word, out: &mut Transcript) -> Result<(), Alloc
     out.add_quoted(word)
 }
 
+/// Adds a refusal, as its variant is named.
 fn add_refusal(fault: &C99Fault, out: &mut Transcript) -> Result<(), AllocError> {
     match fault {
         C99Fault::Memory => Err(AllocError),

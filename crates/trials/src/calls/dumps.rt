@@ -23,6 +23,7 @@ pub enum Reading {
     Kept,
 }
 
+/// The name of what doesn't fit.
 fn misfit_name(misfit: Misfit) -> &'static [u8] {
     match misfit {
         Misfit::BareBrace => b"BareBrace ",
@@ -35,6 +36,7 @@ fn misfit_name(misfit: Misfit) -> &'static [u8] {
     }
 }
 
+/// Adds what doesn't fit, and at which byte.
 fn add_misfit(misfit: Misfit, at: usize, out: &mut Transcript) -> Result<(), AllocError> {
     out.add(misfit_name(misfit))?;
     out.add_count(at)
@@ -68,6 +70,7 @@ fn try_ours(alloc: Global, text: &Word, out: &mut Transcript) -> Result<(), Allo
     }
 }
 
+/// Adds why a dump is refused.
 fn add_dump_refusal(fault: &DumpFault, out: &mut Transcript) -> Result<(), AllocError> {
     match fault {
         DumpFault::Memory => Err(AllocError),
@@ -113,6 +116,7 @@ fn add_kept(
     }
 }
 
+/// Reads a dump, and says whether its texts are written as the dump.
 fn try_kept(alloc: Global, dump: &[u8], out: &mut Transcript) -> Result<(), AllocError> {
     match read_dump(alloc, dump) {
         Ok(texts) => add_kept(alloc, dump, texts.as_slice(), out),
@@ -138,6 +142,7 @@ pub fn try_reading<S: System>(
     }
 }
 
+/// Reads the dump at a path.
 fn try_file<S: System>(
     alloc: Global,
     sys: &mut S,

@@ -55,6 +55,7 @@ fn add_named(name: &[u8], value: &[u8], out: &mut Transcript) -> Result<(), Allo
     out.add(b")")
 }
 
+/// Adds a refusal, as its variant is named.
 fn add_refusal(fault: &FuncsFault, out: &mut Transcript) -> Result<(), AllocError> {
     match fault {
         FuncsFault::Memory => Err(AllocError),

@@ -29,6 +29,7 @@ fn add_read(answer: &ReadAnswer, out: &mut Transcript) -> Result<(), AllocError>
     }
 }
 
+/// The word for a kind of path.
 fn kind_text(kind: PathKind) -> &'static [u8] {
     match kind {
         PathKind::Plain => b"plain",
@@ -46,6 +47,7 @@ fn add_value(value: Option<&Word>, out: &mut Transcript) -> Result<(), AllocErro
     }
 }
 
+/// Asks one question, and adds its answer.
 fn ask<S: System>(
     sys: &mut S,
     question: Question,

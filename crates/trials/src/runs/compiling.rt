@@ -103,6 +103,7 @@ fn path_copied(path: &Option<Word>) -> Result<Option<Word>, AllocError>
 impl Host<ScriptSystem> for ScriptHost {
     ghost notes = { λ host. host };
 
+    /// The path that the script lists for a name; the question is noted.
     fn resolved(&mut self, name: &Word) -> Result<Option<Word>, AllocError> {
         let asked = name.clone()?;
         let path = path_of(self.paths.as_slice(), name)?;
@@ -111,6 +112,7 @@ impl Host<ScriptSystem> for ScriptHost {
         Ok(path)
     }
 
+    /// Whether the script lists the folder; the question is noted.
     fn is_usable(&mut self, name: &Word) -> Result<bool, AllocError> {
         let asked = name.clone()?;
         let usable = self.folders.as_slice().contains(name);

@@ -71,6 +71,7 @@ fn commands(alloc: Global, lines: &[Listing<Word>]) -> Result<Vec<Command>, Allo
     Ok(commands)
 }
 
+/// The groups of a job: each begins with a line `run`.
 fn groups(alloc: Global, lines: &[Listing<Word>]) -> Result<Listing<Group>, AllocError> {
     let mut groups = Listing::new(alloc);
     for (number, line) in lines.iter().enumerate() {

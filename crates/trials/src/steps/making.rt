@@ -1,5 +1,6 @@
 //! Makes a step if its conditions hold.
 
+// In clauses: `HasSites` says that the plan has the places at which steps are tried.
 ghost use Rattle.trials.specs.Sites.{HasSites};
 ghost use Rattle.drv_words.specs.Places.{is_note};
 ghost use Rattle.drv_words.specs.declared.plan.Plan.{Plan};
@@ -25,6 +26,7 @@ pub enum Made {
     NoChild,
 }
 
+/// Claims the temporary of the plan.
 fn claim(sys: &mut HostSystem, plan: &Plan) -> Result<Made, AllocError>
     requires { HasSites plan.now }
 {
@@ -32,6 +34,7 @@ fn claim(sys: &mut HostSystem, plan: &Plan) -> Result<Made, AllocError>
     Ok(Made::Answered(Answer::Claim(sys.claim(plan, TEMP))))
 }
 
+/// Starts the command of the plan. It reads the pipe that is pending, if there is one.
 fn start(sys: &mut HostSystem, plan: &Plan, to_pipe: bool) -> Result<Made, AllocError>
     requires { HasSites plan.now }
 {
@@ -41,6 +44,7 @@ fn start(sys: &mut HostSystem, plan: &Plan, to_pipe: bool) -> Result<Made, Alloc
     Ok(Made::Answered(Answer::Start(answer)))
 }
 
+/// Closes the pipe that is pending.
 fn close(sys: &mut HostSystem) -> Result<Made, AllocError> {
     sys.reserve_events(1)?;
     if !is_pipe_pending(sys.journal()) {
@@ -55,6 +59,7 @@ fn number_of(word: &Word) -> Option<u64> {
     from_utf8(word.as_bytes()).ok()?.parse().ok()
 }
 
+/// Waits for the open child of this number.
 fn wait(sys: &mut HostSystem, number: &Word) -> Result<Made, AllocError> {
     let Some(id) = number_of(number) else {
         return Ok(Made::NoStep);
@@ -66,6 +71,7 @@ fn wait(sys: &mut HostSystem, number: &Word) -> Result<Made, AllocError> {
     Ok(Made::Answered(Answer::Wait(sys.wait(COMMAND, id))))
 }
 
+/// Removes the marked file of the plan.
 fn remove(sys: &mut HostSystem, plan: &Plan) -> Result<Made, AllocError>
     requires { HasSites plan.now }
 {
@@ -92,6 +98,7 @@ fn note_of(step: &[u8]) -> Option<Note>
     }
 }
 
+/// Reports that a step of this kind failed.
 fn report(sys: &mut HostSystem, plan: &Plan, words: &[Word]) -> Result<Made, AllocError>
     requires { HasSites plan.now }
 {

@@ -1,5 +1,6 @@
 //! Plans of one job with one command, one temporary file and one marked file.
 
+// In clauses: `HasSites` says that the plan has the places at which steps are tried.
 ghost use Rattle.trials.specs.Sites.{HasSites};
 ghost use Rattle.std.specs.Prelude.{◌≡◌, ◌∷◌, [], IfOk, None};
 
