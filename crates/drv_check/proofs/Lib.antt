@@ -11,8 +11,6 @@ mod JsonWords
 mod Judged
 mod LinesNumbered
 mod Lost
-mod MarkLaws
-mod MarkSteps
 mod Marks
 mod Namings
 mod OwnTrees

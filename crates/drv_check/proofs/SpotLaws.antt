@@ -7,7 +7,7 @@ use Rattle.std.proofs.Common.{length, refl, subst, suc, true, zero, ℕ}
 use Rattle.std.proofs.lemmas.Bool.Decides.{nat_tests}
 use Rattle.std.specs.Prelude.{nat_lt, slice_get}
 
--- Where a byte of a text has a spot, a file has the byte there. For `spots_have_bytes` (src/mark_laws.rt).
+-- Where a byte of a text has a spot, a file has the byte there. For `spots_have_bytes` (src/spot_laws.rt).
 
 -- A byte that is found and compares as equal is that byte.
 is_there : (found : Option ℕ) (b : ℕ) → is_byte found b ≡ true → found ≡ Some b

@@ -1,19 +1,9 @@
-//! Laws of marks.
+//! The law of places in files.
 
-ghost use Rattle.drv_check.specs.MarkWords.{Marked, marked_text};
 ghost use Rattle.drv_check.specs.Origins.{byte_at, files_from, spot_at, text_spots};
 ghost use Rattle.drv_check.specs.declared.findings.Source.{Source};
 ghost use Rattle.drv_check.specs.declared.findings.Spot.{Spot};
-ghost use Rattle.drv_check.specs.declared.marking.MarkedPart.{MarkedPart};
 ghost use Rattle.std.specs.Prelude.{◌≡◌, List, Some, length, slice_get, ℕ};
-
-/// The law that a dump with marks is that dump with marks between its bytes, as many as there are
-/// parts and numbered one after another. It takes and gives nothing.
-#[tactic(auto, using(crate::proofs::MarkLaws::marks_in_order))]
-pub fn marks_are_in_order()
-    ensures { (dump : List ℕ) (parts : List MarkedPart)
-        → Marked 0 (length parts) dump (marked_text dump parts) }
-{}
 
 /// The law that a file has each byte of a text that has a spot, at that spot. It takes and gives
 /// nothing.
