@@ -3,7 +3,7 @@ use Rattle.drv_syntax.proofs.PartsRead.{Reads, byte_next, function_reads, past_p
 use Rattle.drv_syntax.specs.Bytes.{is_function}
 use Rattle.drv_syntax.specs.Contexts.{ListContext, in_arguments, in_braces}
 use Rattle.drv_syntax.specs.Descent as d
-use Rattle.drv_syntax.specs.Descent.{Lists, Operand, Read, Took, past, then_read, within}
+use Rattle.drv_syntax.specs.Descent.{Lists, Read, Took, past, then_read, within}
 use Rattle.drv_syntax.specs.Spelling as s
 use Rattle.drv_syntax.specs.Spelling.{AreItems, At, IsCall}
 use Rattle.drv_syntax.specs.Tree.{Items}

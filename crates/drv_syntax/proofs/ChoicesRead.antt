@@ -9,12 +9,12 @@ use Rattle.drv_syntax.proofs.TestsRead.{form_of, tests_read}
 use Rattle.drv_syntax.specs.Bytes.{is_white}
 use Rattle.drv_syntax.specs.Contexts.{ListContext, in_arguments, in_braces, in_x}
 use Rattle.drv_syntax.specs.Descent as d
-use Rattle.drv_syntax.specs.Descent.{Ends, Form, Lists, Patterns, Read, Took, past, then_read}
+use Rattle.drv_syntax.specs.Descent.{Ends, Lists, Patterns, Read, Took, past, then_read}
 use Rattle.drv_syntax.specs.Fronts as cuts
 use Rattle.drv_syntax.specs.Fronts.{CutsBrace, CutsChoices, CutsLater, CutsTests}
 use Rattle.drv_syntax.specs.Refusals.{AtBar, AtFront, AtNext, Order}
 use Rattle.drv_syntax.specs.Spelling as s
-use Rattle.drv_syntax.specs.Spelling.{AreChoices, AreItems, AreLater, AreSpaces, AreTests, At, IsBrace, IsSign}
+use Rattle.drv_syntax.specs.Spelling.{AreChoices, AreLater, AreSpaces, AreTests, At, IsBrace, IsSign}
 use Rattle.drv_syntax.specs.Tree.{Brace, Choices, Choose, Emit, Items, Pattern, Span, Tests, alternative, no_choice, no_test}
 use Rattle.drv_syntax.specs.declared.fault.SyntaxFault.TheVariants.{EmptyTest}
 use Rattle.std.proofs.Common.{◌≡◌, ◌∙◌, ◌+◌, Bool, false, if◌then◌else◌, List, [], ◌∷◌, ap, arith, drop, drop-drop, length, refl}

@@ -4,7 +4,7 @@ use Rattle.drv_syntax.proofs.Names.{bracket_ends, front_front}
 use Rattle.drv_syntax.specs.Bytes.{is_function_front, is_name_byte, is_option, is_word}
 use Rattle.drv_syntax.specs.Contexts.{ListContext}
 use Rattle.drv_syntax.specs.Descent as d
-use Rattle.drv_syntax.specs.Descent.{Lists, Quoted, Read, Run, Stops, Took, past, quoted, then_read}
+use Rattle.drv_syntax.specs.Descent.{Lists, Quoted, Read, Run, Stops, Took, past, quoted}
 use Rattle.drv_syntax.specs.Refusals as r
 use Rattle.drv_syntax.specs.Refusals.{Breaks, Empty, IsNoFunction, nests}
 use Rattle.drv_syntax.specs.Spelling as s

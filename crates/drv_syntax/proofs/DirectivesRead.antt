@@ -7,11 +7,11 @@ use Rattle.drv_syntax.proofs.TestsEnd.{ListEnds, name_ends}
 use Rattle.drv_syntax.specs.Bytes.{is_name_byte, is_option, is_word}
 use Rattle.drv_syntax.specs.Contexts.{ListContext, in_arguments, in_braces, in_x, is_said}
 use Rattle.drv_syntax.specs.Descent as d
-use Rattle.drv_syntax.specs.Descent.{Ends, Hangs, Lists, Quoted, Read, Run, Took, past, quoted, then_read}
+use Rattle.drv_syntax.specs.Descent.{Ends, Lists, Quoted, Read, Took, past, then_read}
 use Rattle.drv_syntax.specs.Directives.{braced, said}
 use Rattle.drv_syntax.specs.Faults.{is_closed_by_end}
 use Rattle.drv_syntax.specs.Fronts as cuts
-use Rattle.drv_syntax.specs.Fronts.{CutsBrace, CutsDirective, RunsOut}
+use Rattle.drv_syntax.specs.Fronts.{CutsBrace, CutsDirective}
 use Rattle.drv_syntax.specs.Spelling as s
 use Rattle.drv_syntax.specs.Spelling.{At, IsBrace, IsCall, IsDirective, IsRun}
 use Rattle.drv_syntax.specs.Tree.{Brace, Function, Hide, Item, Items, Tests, pattern}

@@ -8,7 +8,7 @@ use Rattle.drv_syntax.proofs.TestsRead.{from_reads, mark_is, mark_reads, switch_
 use Rattle.drv_syntax.specs.Bytes.{is_mark, is_of, is_white, is_word}
 use Rattle.drv_syntax.specs.Contexts.{ListContext}
 use Rattle.drv_syntax.specs.Descent as d
-use Rattle.drv_syntax.specs.Descent.{Lists, Operand, Patterns, Quoted, Read, Took, past, quoted, then_read}
+use Rattle.drv_syntax.specs.Descent.{Lists, Operand, Patterns, Quoted, Read, Took, quoted, then_read}
 use Rattle.drv_syntax.specs.Refusals.{AtBar, AtFront, ends_pattern}
 use Rattle.drv_syntax.specs.Spelling as s
 use Rattle.drv_syntax.specs.Spelling.{ArePatterns, AreSpaces, At, IsPattern, IsQuoted, span}

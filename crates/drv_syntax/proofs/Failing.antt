@@ -1,5 +1,5 @@
 use Rattle.drv_syntax.specs.Descent as d
-use Rattle.drv_syntax.specs.Descent.{Ends, Quoted, Read, Run, Stops, Took, past, quoted, then_read, with_byte, within}
+use Rattle.drv_syntax.specs.Descent.{Ends, Quoted, Read, Run, Stops, past, quoted, then_read, with_byte, within}
 use Rattle.drv_syntax.specs.Fronts as cuts
 use Rattle.drv_syntax.specs.Fronts.{RunsOut}
 use Rattle.drv_syntax.specs.declared.fault.SyntaxFault.{SyntaxFault}
@@ -51,16 +51,6 @@ pub within_then : {X Y : Type 0} (r : Read X) (f : Failure) (at : ℕ) (goes : X
     → within at (then_read r goes) ≡ failed (around at f)
 within_then r (AtEnd inner) at goes e = ap (λ r. within at (then_read r goes)) e.1
 within_then r (AtByte n fault) at goes e = ap (λ r. within at (then_read r goes)) e
-
--- a result that equals one that fails does so too
-pub fails_as : {X : Type 0} (r o : Read X) (f : Failure) → r ≡ o → Fails o f → Fails r f
-fails_as r o (AtEnd at) e h = (h.0, e ∙ h.1)
-fails_as r o (AtByte n fault) e h = e ∙ h
-
--- a result that fails as a directive around a failure f does fails in the way f, up to which directive is named as open
-pub fails_so : {X : Type 0} (r : Read X) (at : ℕ) (f : Failure) → r ≡ failed (around at f) → Fails r f
-fails_so r at (AtEnd inner) e = (at, e)
-fails_so r at (AtByte n fault) e = e
 
 -- a run up to the end of the text
 abbrev pub HangsOut : (ℕ → Bool) → List ℕ → Type 0

@@ -5,7 +5,7 @@ use Rattle.drv_syntax.specs.Contexts.{ListContext}
 use Rattle.drv_syntax.specs.Fronts as cuts
 use Rattle.drv_syntax.specs.Fronts.{RunsOut}
 use Rattle.drv_syntax.specs.Spelling as s
-use Rattle.drv_syntax.specs.Spelling.{AreSpaces, IsAsked, IsPattern, IsQuoted, IsSign}
+use Rattle.drv_syntax.specs.Spelling.{AreSpaces, IsAsked, IsPattern, IsSign}
 use Rattle.drv_syntax.specs.Tree.{Asked, Pattern}
 use Rattle.std.proofs.Common.{◌≡◌, Bool, false, true, List, [], ◌∷◌, refl, ℕ}
 use Rattle.std.specs.Prelude.{◌==◌}

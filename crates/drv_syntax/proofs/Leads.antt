@@ -33,16 +33,6 @@ other f b x h g = by (b == x) refl
     by true e = differs (sym h ∙ ap f (same b x e) ∙ g)
     by false e = e
 
--- f allows no byte of the list
-abbrev pub NoneOf : (ℕ → Bool) → List ℕ → Type 0
-NoneOf f [] = Unit {0}
-NoneOf f (x ∷ xs) = (y : f x ≡ false) × NoneOf f xs
-
--- a byte that f allows is none of a list of bytes that f doesn't allow
-pub none_of : (f : ℕ → Bool) (xs : List ℕ) (b : ℕ) → f b ≡ true → NoneOf f xs → is_of xs b ≡ false
-none_of f [] b h g = refl
-none_of f (x ∷ xs) b h g = rw (other f b x h g.0) (none_of f xs b h g.1)
-
 -- P holds of each byte of the list
 abbrev pub AllOf : (ℕ → Type 0) → List ℕ → Type 0
 AllOf P [] = Unit {0}

@@ -128,11 +128,6 @@ module _ (q : List ℕ) where
   sign_longer (s.plain_sign e) h = s.plain_sign (stops_longer e h)
   sign_longer (s.not_sign i) h = s.not_sign (spaces_longer i)
 
-  -- a `!` or none, and a byte after it, are a text with a byte
-  pub sign_filled : {t u : List ℕ} {negated : Bool} → IsSign t negated u → Filled u → Filled t
-  sign_filled (s.plain_sign e) h = h
-  sign_filled (s.not_sign i) h = tt
-
   -- a rest of a text begins at the same place with more after it
   pub place_longer : {size : ℕ} (n : ℕ) (t : List ℕ) → At size n t → At (size + length q) n (t ++ q)
   place_longer n t a = omega (arith, a, length-append t q)

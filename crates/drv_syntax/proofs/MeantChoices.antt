@@ -1,8 +1,8 @@
 use Rattle.drv_words.specs.Bytes as ascii
 use Rattle.drv_syntax.proofs.Leads.{differs, same}
 use Rattle.drv_syntax.proofs.Meant as meant
-use Rattle.drv_syntax.proofs.Meant.{AtByte, Meant, PastPercent, Takes, breaks_after, breaks_here, choose, meant_after, meant_as, meant_ends}
-use Rattle.drv_syntax.proofs.Meant.{meant_past, meant_stops, meant_then, meant_took, meant_within}
+use Rattle.drv_syntax.proofs.Meant.{AtByte, Meant, Takes, breaks_after, choose, meant_after, meant_as, meant_ends}
+use Rattle.drv_syntax.proofs.Meant.{meant_stops, meant_then, meant_took, meant_within}
 use Rattle.drv_syntax.proofs.MeantCalls.{Ended, ListIs, ListMeant, list_ended, past_then}
 use Rattle.drv_syntax.proofs.MeantForms.{IsForm, form_patterns, form_tests, tests_meant}
 use Rattle.drv_syntax.proofs.MeantPatterns.{at_rest, at_start, from_start}
@@ -14,12 +14,12 @@ use Rattle.drv_syntax.specs.Contexts.{InX, ListContext, in_arguments, in_braces,
 use Rattle.drv_syntax.specs.Descent as d
 use Rattle.drv_syntax.specs.Descent.{Alternative, Form, Lists, Patterns, Read, Stops, Took, past, then_read}
 use Rattle.drv_syntax.specs.Fronts as cuts
-use Rattle.drv_syntax.specs.Fronts.{AreFrontItems, CutsBrace, CutsChoices, CutsLater, CutsPatterns}
+use Rattle.drv_syntax.specs.Fronts.{CutsBrace, CutsChoices, CutsLater, CutsPatterns}
 use Rattle.drv_syntax.specs.Refusals as r
-use Rattle.drv_syntax.specs.Refusals.{AtBar, AtFront, AtNext, Due, NoMore, Order, Reaches, ReachesBrace, ReachesChoices, ReachesEmits}
+use Rattle.drv_syntax.specs.Refusals.{AtBar, AtFront, AtNext, Due, Order, ReachesBrace, ReachesChoices, ReachesEmits}
 use Rattle.drv_syntax.specs.Refusals.{ReachesLater, Refuses, is_default}
 use Rattle.drv_syntax.specs.Spelling as s
-use Rattle.drv_syntax.specs.Spelling.{AreChoices, AreItems, AreLater, ArePatterns, AreSpaces, AreTests, At, IsBrace}
+use Rattle.drv_syntax.specs.Spelling.{AreChoices, AreItems, AreLater, ArePatterns, AreTests, At, IsBrace}
 use Rattle.drv_syntax.specs.Tree.{Asked, Brace, Choices, Choose, Emit, Items, Pattern, Span, Tests, alternative, no_choice, no_test, test}
 use Rattle.drv_syntax.specs.declared.fault.SyntaxFault.TheVariants.{EmptyTest}
 use Rattle.drv_syntax.specs.declared.fault.SyntaxFault.{SyntaxFault}

@@ -10,9 +10,9 @@ use Rattle.drv_syntax.proofs.Steps.{Near, near_self, same_byte}
 use Rattle.drv_syntax.specs.Bytes.{is_mark, is_of, is_white}
 use Rattle.drv_syntax.specs.Contexts.{ListContext, in_arguments, in_braces}
 use Rattle.drv_syntax.specs.Descent as d
-use Rattle.drv_syntax.specs.Descent.{After, Alternative, Asks, Bars, Emits, Fails, Form, Joins, Lists, Operand, Patterns, Read, Stops}
+use Rattle.drv_syntax.specs.Descent.{After, Alternative, Asks, Bars, Emits, Form, Joins, Lists, Operand, Patterns, Read, Stops}
 use Rattle.drv_syntax.specs.Descent.{Took, Tried}
-use Rattle.drv_syntax.specs.Descent.{past, then_read}
+use Rattle.drv_syntax.specs.Descent.{then_read}
 use Rattle.drv_syntax.specs.Fronts as cuts
 use Rattle.drv_syntax.specs.Fronts.{CutsPatterns, CutsTests}
 use Rattle.drv_syntax.specs.Refusals as r
@@ -97,11 +97,6 @@ operand_asked {total} {g} {a = a} (by_result {t} {q = q} i) e =
 tried_byte : {total : ℕ} {g : ListContext} {order : Order} {t q : List ℕ} {tr : Tried} → IsTried total g order t tr q
     → (rest : List ℕ) × (q ≡ tr.byte ∷ rest)
 tried_byte (is_tried sp a sign (tried_from {q = q} o b z w)) = (q, refl)
-
--- the byte that Descent names after a test is no white space
-tried_white : {total : ℕ} {g : ListContext} {order : Order} {t q : List ℕ} {tr : Tried} → IsTried total g order t tr q
-    → is_white tr.byte ≡ false
-tried_white (is_tried sp a sign (tried_from o b z w)) = w
 
 -- a test that may be a pattern is one by the grammar, with white space around it
 tried_pattern : {total : ℕ} {g : ListContext} {order : Order} {t q : List ℕ} {tr : Tried} {p : Pattern} → IsTried total g order t tr q

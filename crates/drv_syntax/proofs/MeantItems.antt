@@ -19,7 +19,7 @@ use Rattle.drv_syntax.specs.Descent as d
 use Rattle.drv_syntax.specs.Descent.{Lists, Read, Stops, Took, levels, past, then_read}
 use Rattle.drv_syntax.specs.Directives.{braced, directive_of, is_allowed, text_of}
 use Rattle.drv_syntax.specs.Fronts as cuts
-use Rattle.drv_syntax.specs.Fronts.{AreFrontItems, CutsDirective, CutsItem}
+use Rattle.drv_syntax.specs.Fronts.{CutsDirective, CutsItem}
 use Rattle.drv_syntax.specs.Outcome.{depth}
 use Rattle.drv_syntax.specs.Refusals as r
 use Rattle.drv_syntax.specs.Refusals.{AnItem, Breaks, Due, Reaches, ReachesIn, Refuses}

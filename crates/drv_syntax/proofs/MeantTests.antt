@@ -11,10 +11,10 @@ use Rattle.drv_syntax.specs.Contexts.{ListContext, in_arguments, in_braces}
 use Rattle.drv_syntax.specs.Descent as d
 use Rattle.drv_syntax.specs.Descent.{Ends, Hangs, Lists, Operand, Quoted, Read, Run, Stops, Took, Tried, past, quoted, then_read}
 use Rattle.drv_syntax.specs.Fronts as cuts
-use Rattle.drv_syntax.specs.Fronts.{CutsAsked, CutsCall, CutsPatterns, CutsTests}
+use Rattle.drv_syntax.specs.Fronts.{CutsAsked, CutsPatterns, CutsTests}
 use Rattle.drv_syntax.specs.Refusals as r
 use Rattle.drv_syntax.specs.Refusals.{AtBar, AtFront, AtNext, Due, Order, ReachesAsked, ReachesEmits, ReachesTests, Refuses, ends_pattern}
-use Rattle.drv_syntax.specs.Refusals.{ends_test, is_default, may_emit}
+use Rattle.drv_syntax.specs.Refusals.{is_default, may_emit}
 use Rattle.drv_syntax.specs.Spelling as s
 use Rattle.drv_syntax.specs.Spelling.{AreSpaces, At, IsAsked, IsCall, IsPattern, IsQuoted, IsSign, span}
 use Rattle.drv_syntax.specs.Tree.{Asked, HasLanguage, HasResult, HasSuffix, HasSwitch, Items, Pattern, pattern}

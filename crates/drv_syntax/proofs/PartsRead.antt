@@ -49,10 +49,6 @@ reads_then goes m k = record {
   fits = k.fits;
 }
 
--- a part is read whichever directive is named as open where the text ends in it
-pub reads_within : {X : Type 0} {r : Read X} {x : X} {text rest : List ℕ} (at : ℕ) → Reads r text x rest → Reads (d.within at r) text x rest
-reads_within at m = record { size = m.size; is = ap (λ r. d.within at r) m.is; left = m.left; fits = m.fits }
-
 -- where a part is read, and the next part from what it left, both in a row are read
 pub reads_after : {X Y : Type 0} {r : Read X} {text mid rest : List ℕ} {x : X} {y : Y} (goes : X → ℕ → List ℕ → Read Y)
     (m : Reads r text x mid) → Reads (goes x m.size mid) mid y rest

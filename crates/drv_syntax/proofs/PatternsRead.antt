@@ -3,7 +3,7 @@ use Rattle.drv_syntax.proofs.Heads.{no_white, out_head, pattern_head}
 use Rattle.drv_syntax.proofs.PartsRead.{Reads, byte_next, pattern_reads, reads_after, reads_as, reads_past, skipped, spaces_to}
 use Rattle.drv_syntax.specs.Bytes.{is_white, is_word}
 use Rattle.drv_syntax.specs.Descent as d
-use Rattle.drv_syntax.specs.Descent.{Ends, Hangs, Quoted, Read, Run, Took, past, quoted, then_read}
+use Rattle.drv_syntax.specs.Descent.{Ends, Read, Took, past, then_read}
 use Rattle.drv_syntax.specs.Fronts as cuts
 use Rattle.drv_syntax.specs.Fronts.{CutsPatterns, RunsOut}
 use Rattle.drv_syntax.specs.Spelling as s

@@ -1,6 +1,5 @@
 use Rattle.drv_words.specs.Bytes as ascii
 use Rattle.drv_syntax.specs.Spelling as s
-use Rattle.drv_syntax.specs.Spelling.{At}
 use Rattle.std.proofs.Common.{◌≡◌, ◌∙◌, ◌+◌, Bool, false, List, [], ◌∷◌, ap, arith, drop, drop-drop, length, refl, subst}
 use Rattle.std.proofs.Common.{suc, sym}
 use Rattle.std.proofs.Common.{take, ℕ}

@@ -12,12 +12,12 @@ use Rattle.drv_syntax.proofs.TestsRead.{asked_reads, asking, from_ends, mark_is,
 use Rattle.drv_syntax.specs.Bytes.{is_function_front, is_mark, is_white, is_word}
 use Rattle.drv_syntax.specs.Contexts.{ListContext, in_arguments, in_braces}
 use Rattle.drv_syntax.specs.Descent as d
-use Rattle.drv_syntax.specs.Descent.{Ends, Lists, Operand, Quoted, Read, Run, Took, Tried, past, quoted, then_read}
+use Rattle.drv_syntax.specs.Descent.{Ends, Lists, Operand, Quoted, Took, past, quoted, then_read}
 use Rattle.drv_syntax.specs.Fronts as cuts
-use Rattle.drv_syntax.specs.Fronts.{AreFrontItems, CutsAsked, CutsCall, CutsPatterns, CutsTests, RunsOut}
+use Rattle.drv_syntax.specs.Fronts.{AreFrontItems, CutsAsked, CutsPatterns, CutsTests, RunsOut}
 use Rattle.drv_syntax.specs.Refusals.{AtBar, AtFront, Order, may_emit}
 use Rattle.drv_syntax.specs.Spelling as s
-use Rattle.drv_syntax.specs.Spelling.{AreSpaces, At, IsAsked, IsPattern, IsQuoted, IsSign, span}
+use Rattle.drv_syntax.specs.Spelling.{AreSpaces, At, IsPattern, IsQuoted, IsSign, span}
 use Rattle.drv_syntax.specs.Tree.{Pattern, pattern}
 use Rattle.std.proofs.Common.{◌≡◌, ◌∙◌, ◌+◌, ◌++◌, ◌⊎◌, Bool, false, true, List, [], ◌∷◌, ap, append_assoc, arith, drop}
 use Rattle.std.proofs.Common.{inl, inr, length}

@@ -15,7 +15,7 @@ use Rattle.drv_syntax.proofs.TestsRead.{test_goes, tests_fail, tests_go}
 use Rattle.drv_syntax.specs.Bytes.{is_mark, is_of, is_white, is_word}
 use Rattle.drv_syntax.specs.Contexts.{ListContext, in_arguments, in_braces}
 use Rattle.drv_syntax.specs.Descent as d
-use Rattle.drv_syntax.specs.Descent.{Lists, Operand, Quoted, Read, Stops, Took, Tried, past, quoted, then_read}
+use Rattle.drv_syntax.specs.Descent.{Lists, Operand, Quoted, Stops, Took, Tried, past, then_read}
 use Rattle.drv_syntax.specs.Refusals as r
 use Rattle.drv_syntax.specs.Refusals.{AnEnd, AtBar, AtFront, Due, Empty, Order, Reaches, ReachesAsked, ReachesEmits, ReachesPatterns}
 use Rattle.drv_syntax.specs.Refusals.{ReachesTests}

@@ -8,7 +8,7 @@ use Rattle.drv_syntax.proofs.PartsRead.{skipped, spaces_to}
 use Rattle.drv_syntax.specs.Bytes.{is_mark, is_white, is_word}
 use Rattle.drv_syntax.specs.Contexts.{ListContext, in_arguments, in_braces}
 use Rattle.drv_syntax.specs.Descent as d
-use Rattle.drv_syntax.specs.Descent.{After, Alternative, Ends, Form, Lists, Operand, Patterns, Quoted, Read, Took, Tried, past, quoted}
+use Rattle.drv_syntax.specs.Descent.{Alternative, Ends, Form, Lists, Operand, Patterns, Quoted, Read, Took, Tried, past, quoted}
 use Rattle.drv_syntax.specs.Descent.{then_read}
 use Rattle.drv_syntax.specs.Refusals.{AtBar, Order, may_emit}
 use Rattle.drv_syntax.specs.Spelling as s

@@ -1,7 +1,7 @@
 use Rattle.drv_words.specs.Bytes as ascii
 use Rattle.drv_syntax.specs.Bytes.{is_function, is_function_front, is_mark, is_blank, is_name_byte, is_option, is_suffix, is_white, is_word}
 use Rattle.drv_syntax.specs.Contexts.{InArguments, InX, Kind, ListContext, Mixed, Nobody, Owner, Starred, Top, bar_in, in_arguments}
-use Rattle.drv_syntax.specs.Contexts.{in_braces, in_x, is_end, is_said, newline_in, top}
+use Rattle.drv_syntax.specs.Contexts.{in_braces, in_x, is_end, is_said, newline_in}
 use Rattle.drv_syntax.specs.Directives.{braced, directive_of, is_allowed, said, text_of}
 use Rattle.drv_syntax.specs.Refusals.{AtBar, AtFront, AtNext, Order, may_emit}
 use Rattle.drv_syntax.specs.Spelling.{span}

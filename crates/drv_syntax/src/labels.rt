@@ -68,16 +68,6 @@ fn push_marks(start: usize, run: &[u8], marks: &mut Vec<LabelMark>)
     }
 }
 
-/// The mark of a part that names nothing.
-const UNNAMED: LabelMark = LabelMark {
-    start: 0,
-    end: 0,
-    starred: false,
-    negated: false,
-    asks: TestKind::Switch,
-    holds_star: false,
-};
-
 impl Labels {
     /// None yet, without an allocation.
     pub fn new(alloc: Global) -> Labels

@@ -13,7 +13,6 @@ ghost use Rattle.std.specs.Prelude.{◌≡◌, ◌<◌, ◌≤◌, ◌-◌, ◌+
 
 use crate::descent::{TextParts, ending_in, read_more, read_nothing, read_text};
 use crate::fault::SyntaxFault;
-use crate::labels::Labels;
 use crate::lent::LentLabels;
 use crate::token::{TestKind, Token};
 use crate::written::WrittenTree;

@@ -18,7 +18,6 @@ use crate::descent::reader::{Reader, unclosed};
 use crate::descent::rest::white_length;
 use crate::descent::simple::{Tail, directive, ended, item, plains};
 use crate::descent::tests::{Begun, Next, Order, begin, plain_test, result_judged};
-use crate::descent::tokens::Open;
 use crate::descent::words::begins;
 use crate::directives::{BraceKind, Directive, allows, directive_of};
 use crate::fault::SyntaxFault;

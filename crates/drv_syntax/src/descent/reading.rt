@@ -1,7 +1,6 @@
 //! A whole text.
 
 ghost use Rattle.drv_syntax.specs.Code.Ending.{ending_by, ending_in};
-ghost use Rattle.drv_syntax.specs.Code.Writing.{seen};
 ghost use Rattle.drv_syntax.specs.Code.Whole.{rest_given, whole_given};
 ghost use Rattle.drv_words.specs.Gives.{Gives};
 ghost use Rattle.std.specs.Prelude.{◌≡◌, ◌≤◌, ◌+◌, [], length};

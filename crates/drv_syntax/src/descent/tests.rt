@@ -2,14 +2,14 @@
 
 ghost use Rattle.drv_syntax.specs.Bytes.{is_word};
 ghost use Rattle.drv_syntax.specs.Code.Tests.{after_given, asked_on, asks_seen, begun_given, emitted_label, mark_form, marked_as, operand_given, operand_seen, order_seen, pattern_ends, result_after, test_ends, test_of, tried_given, tried_seen};
-ghost use Rattle.drv_syntax.specs.Code.Writing.{is_empty, leaf_until, seen, spelled};
+ghost use Rattle.drv_syntax.specs.Code.Writing.{leaf_until, seen, spelled};
 ghost use Rattle.drv_syntax.specs.Code.Left.{first_of};
 ghost use Rattle.drv_syntax.specs.Contexts.{top};
 ghost use Rattle.drv_syntax.specs.Descent as descent;
 ghost use Rattle.drv_syntax.specs.Refusals.{may_emit};
 ghost use Rattle.drv_syntax.specs.Spelling.{span};
 ghost use Rattle.drv_words.specs.Gives.{Gives};
-ghost use Rattle.std.specs.Prelude.{◌≡◌, ◌==◌, ◌++◌, ◌∷◌, [], false, None, Ok, Some};
+ghost use Rattle.std.specs.Prelude.{◌≡◌, ◌==◌, ◌++◌, ◌∷◌, [], false, Ok, Some};
 
 use crate::descent::bytes::{is_mark, is_white};
 use crate::descent::parts::{Choice, opened};

@@ -2,7 +2,7 @@
 
 ghost use Rattle.drv_syntax.specs.Code.Tokens.{open_token, plain_tokens, whole_token};
 ghost use Rattle.drv_words.specs.Gives.{Gives};
-ghost use Rattle.std.specs.Prelude.{◌≡◌, ◌<◌, ◌≤◌, ◌^◌, ◌+◌, ◌-◌, ◌++◌, ◌∷◌, [], Ok, length};
+ghost use Rattle.std.specs.Prelude.{◌≡◌, ◌<◌, ◌≤◌, ◌^◌, ◌+◌, ◌++◌, ◌∷◌, [], Ok, length};
 ghost use Rattle.std.specs.Prelude.{slice_set, take, vec_capacity, vec_len};
 
 use crate::fault::SyntaxFault;
