@@ -1,5 +1,6 @@
 use Rattle.drv_words.specs.Bytes as ascii
 use Rattle.drv_syntax.proofs.GivenParts.{given_parts, given_stops, given_then, ok_same, some_left}
+use Rattle.drv_syntax.proofs.HoldersGiven.{given_within}
 use Rattle.drv_syntax.proofs.Writing.{after_after, given_past}
 use Rattle.drv_syntax.proofs.Wrote.{closed_is, list_wrote}
 use Rattle.drv_syntax.specs.Code.Left.{Left, after, first_of}
@@ -37,13 +38,6 @@ deeper_is (suc zero) h c n text = absurd (omega (arith, h))
 deeper_is (suc (suc level)) h c n text =
     let e : level ≡ suc (suc level) - 1 - 1 = omega arith in
     ap (λ (l : ℕ). (levels l).0 c n text) e
-
--- in a directive, a text that ends in a part leaves the outermost directive open
-within_given : {X Y : Type 0} (outer : Option ℕ) (at : ℕ) (rest : Left) (g : X → Left → Y) (r : Read X)
-    → given outer rest g (within at r) ≡ given (Some (open_at outer at)) rest g r
-within_given outer at rest g (Took x size) = refl
-within_given outer at rest g (Ends n) = refl
-within_given outer at rest g (Stops n fault) = refl
 
 -- a test of a function's result is no starred pattern
 never_starred : (b negated : Bool) (name : List ℕ) (list : Items) → (b && is_starred negated (HasResult name list)) ≡ false
@@ -94,7 +88,7 @@ module _ (outer : Option ℕ) (at : ℕ) (so_far : Option Choice) (start : ℕ) 
         ap (λ bs. given outer front on (result deep c at v.rest.at bs)) text_is
         ∙ given_past outer front on 1 (within at (then_read (function_from v.rest.at (v.rest.at + 2) [] (drop 1 front.bytes))
         (result_in deep c (v.rest.at + 2) (drop 1 front.bytes))))
-        ∙ within_given outer at (after 1 front) on (then_read (function_from v.rest.at (v.rest.at + 2) [] (drop 1 front.bytes))
+        ∙ given_within outer at (after 1 front) on (then_read (function_from v.rest.at (v.rest.at + 2) [] (drop 1 front.bytes))
         (result_in deep c (v.rest.at + 2) (drop 1 front.bytes)))
         ∙ ap (λ (i : ℕ). given inner (after 1 front) on (then_read (function_from v.rest.at i [] (drop 1 front.bytes))
         (result_in deep c i (drop 1 front.bytes)))) n

@@ -465,16 +465,6 @@ module _ (lists deep : Lists) (c : ListContext) (at : ℕ) where
         by (Ends i) e = absurd cc
         by (Stops i fault) e = absurd cc
 
-    -- whether a colon follows the white space at the front is the same for the code's own numbers and lists
-    pub colon_is : (v : Reading) (white : ℕ) (bs cs : List ℕ) (t : Bool) → white ≡ prefix_len is_white bs → bs ≡ v.rest.bytes → cs
-        ≡ v.rest.bytes
-        → begins_with ascii.colon (drop white cs) ≡ t
-        → begins_with ascii.colon (drop (prefix_len is_white v.rest.bytes) v.rest.bytes) ≡ t
-    colon_is v white bs cs t e f g h =
-        ap (λ (i : ℕ). begins_with ascii.colon (drop i v.rest.bytes)) (sym (e ∙ ap (λ xs. prefix_len is_white xs) f))
-        ∙ ap (λ xs. begins_with ascii.colon (drop white xs)) (sym g)
-        ∙ h
-
     -- v is what was read before the first test
     module _ (v : Reading) where
       -- the fault of the first tests is that of the braces
@@ -561,16 +551,15 @@ module _ (lists deep : Lists) (c : ListContext) (at : ℕ) where
                   omega (arith, first, second)
 
       -- an alternative without tests
-      module _ (some : begins_with ascii.colon (drop (prefix_len is_white v.rest.bytes) v.rest.bytes) ≡ true) (white : ℕ) (bs : List ℕ)
-          (rest : Left)
-          (run : white ≡ prefix_len is_white bs) (bytes : bs ≡ v.rest.bytes) (left : rest ≡ after white v.rest)
-          (choice : Choice) (u : Reading) (opens : default_here (at_rest rest v) ≡ (choice, u)) where
+      module _ (some : begins_with ascii.colon (drop (prefix_len is_white v.rest.bytes) v.rest.bytes) ≡ true) (rest : Left)
+          (left : rest ≡ after (prefix_len is_white v.rest.bytes) v.rest) (choice : Choice) (u : Reading)
+          (opens : default_here (at_rest rest v) ≡ (choice, u)) where
         -- a default gives what its X gives, and what follows it
         default_x : later_from v ≡ default_nexts (x_from choice u)
         default_x =
             later_default v some
             ∙ ap (λ (l : Left). default_nexts (x_from (default_here (at_rest l v)).0 (default_here (at_rest l v)).1))
-            (ap (λ (i : ℕ). after i v.rest) (sym (run ∙ ap (λ xs. prefix_len is_white xs) bytes)) ∙ sym left)
+            (sym left)
             ∙ ap (λ (x : Choice × Reading). default_nexts (x_from x.0 x.1)) opens
 
         -- the fault of the X of the default is that of the alternatives

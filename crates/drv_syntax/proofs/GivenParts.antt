@@ -248,6 +248,11 @@ module _ (outer : Option ℕ) (at : ℕ) (v : Reading) where
       ∙ ap (λ (z : Parts). Ok (record { rest = end; parts = item_written at (AddOption (x ∷ word)) end.at z })) k
       ∙ ap (λ (z : Parts). Ok (record { rest = end; parts = z })) (leaf_is kinds.AddOption (word_label (x ∷ word)) at end.at u.parts)
 
+-- a run of bytes and escapes writes no part, whether it ends or hangs
+pub quoted_parts : {x : Option (List ℕ)} (v u : Reading) (q : Quoted) → quoted_to [] v q ≡ (x, u) → v.parts ≡ u.parts
+quoted_parts v u (Run w size) e = ap (λ (z : Option (List ℕ) × Reading). z.1.parts) e
+quoted_parts v u (Hangs size) e = ap (λ (z : Option (List ℕ) × Reading). z.1.parts) e
+
 -- %e and %n
 
 -- the end of %e and %n gives the same, whether the bytes of their text are counted with it or already taken
@@ -290,15 +295,16 @@ module _ (outer : Option ℕ) (list : Kind) (kind : SayKind) (at : ℕ) (v : Rea
 
   -- %e and %n write one token, with their text as its label, up to the end of the text or past its newline
   pub saying_done : (u : Reading) (word : List ℕ) (end : Left) → quoted_to [] v (quoted (is_said list) v.rest.bytes) ≡ (Some word, u)
-      → end ≡ past_byte ascii.newline u.rest → v.parts ≡ u.parts
+      → end ≡ past_byte ascii.newline u.rest
       → item_given outer at v (saying list kind v.rest.at v.rest.bytes)
       ≡ Ok (leaf_here (said_kind kind) (word_label word) at (at_rest end u))
-  saying_done u word end e g h =
+  saying_done u word end e g =
       quoted_took outer v u said_at (quoted (is_said list) v.rest.bytes) word (λ q. saying_text kind v.rest.at q v.rest.bytes)
       (λ w size bs. saying_end kind w size bs) (λ w size. refl) (λ w size bs. saying_shift outer v.rest said_at kind w size bs) e
       ∙ saying_ends outer u.rest said_at kind word
       ∙ ap (λ (l : Left). Ok (said_at (said kind word) l)) (sym g)
-      ∙ ap (λ (z : Parts). Ok (record { rest = end; parts = item_written at (said kind word) end.at z })) h
+      ∙ ap (λ (z : Parts). Ok (record { rest = end; parts = item_written at (said kind word) end.at z }))
+      (quoted_parts v u (quoted (is_said list) v.rest.bytes) e)
       ∙ by kind
     where
       by : (k : SayKind)
@@ -395,13 +401,13 @@ module _ (outer : Option ℕ) (at : ℕ) (v : Reading) where
       → quoted_to [] v (quoted is_word v.rest.bytes) ≡ (Some word, u)
       → none ≡ is_empty word → first ≡ first_of u.rest.bytes → star_after outer at none first ≡ Ok star
       → end ≡ past_byte ascii.asterisk u.rest
-      → v.parts ≡ u.parts → pattern_given outer v (pattern_at at v.rest.at v.rest.bytes) ≡ Ok (pattern word star, at_rest end u)
-  pattern_done u word none first star end q g h k l p =
+      → pattern_given outer v (pattern_at at v.rest.at v.rest.bytes) ≡ Ok (pattern word star, at_rest end u)
+  pattern_done u word none first star end q g h k l =
       pattern_word u word q
       ∙ ap (λ x. star_then x (λ s. as_pattern (pattern word s) (past_byte ascii.asterisk u.rest)))
       (ap (λ x. star_after outer at x (first_of u.rest.bytes)) (sym g) ∙ ap (λ x. star_after outer at none x) (sym h) ∙ k)
       ∙ ap (λ (r : Left). Ok (as_pattern (pattern word star) r)) (sym l)
-      ∙ ap (λ (z : Parts). Ok (pattern word star, record { rest = end; parts = z })) p
+      ∙ ap (λ (z : Parts). Ok (pattern word star, record { rest = end; parts = z })) (quoted_parts v u (quoted is_word v.rest.bytes) q)
 
 -- %< and %>
 
@@ -429,11 +435,6 @@ seen_some w word copied u x e is = ok_same e ∙ ap (λ (z : Option Spelled). wo
 pub seen_none : {E : Type 0} (w : Option Spelled) (copied : List ℕ) (u : Reading) (x : Option (List ℕ) × Reading)
     → ◌≡◌ {A = Result (Option (List ℕ) × Reading) E} (Ok x) (Ok (words_seen w copied u)) → w ≡ None → x ≡ (None, u)
 seen_none w copied u x e is = ok_same e ∙ ap (λ (z : Option Spelled). words_seen z copied u) is
-
--- a run of bytes and escapes writes no part, whether it ends or hangs
-pub quoted_parts : {x : Option (List ℕ)} (v u : Reading) (q : Quoted) → quoted_to [] v q ≡ (x, u) → v.parts ≡ u.parts
-quoted_parts v u (Run w size) e = ap (λ (z : Option (List ℕ) × Reading). z.1.parts) e
-quoted_parts v u (Hangs size) e = ap (λ (z : Option (List ℕ) × Reading). z.1.parts) e
 
 -- names of functions
 

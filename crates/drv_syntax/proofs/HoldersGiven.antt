@@ -39,7 +39,7 @@ around_is (suc level) h c n text =
     ap (λ (l : ℕ). (levels l).0 c n text) e
 
 -- in a directive, a text that ends in a part leaves the outermost directive open
-given_within : {X Y : Type 0} (outer : Option ℕ) (at : ℕ) (rest : Left) (g : X → Left → Y) (r : Read X)
+pub given_within : {X Y : Type 0} (outer : Option ℕ) (at : ℕ) (rest : Left) (g : X → Left → Y) (r : Read X)
     → given outer rest g (within at r) ≡ given (Some (open_at outer at)) rest g r
 given_within outer at rest g (Took x size) = refl
 given_within outer at rest g (Ends n) = refl

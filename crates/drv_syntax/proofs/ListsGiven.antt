@@ -2,7 +2,7 @@ use Rattle.drv_words.specs.Bytes as ascii
 use Rattle.drv_syntax.proofs.GivenParts.{err_same, none_left, ok_same}
 use Rattle.drv_syntax.proofs.Leads.{same}
 use Rattle.drv_syntax.proofs.NotWhite.{NotWhite, directive_white}
-use Rattle.drv_syntax.proofs.Writing.{after_after, after_none, leaf_is}
+use Rattle.drv_syntax.proofs.Writing.{after_after, after_none, leaf_is, parts_of}
 use Rattle.drv_syntax.specs.Bytes.{is_blank, is_of}
 use Rattle.drv_syntax.specs.Code.Left.{Left, after, first_of}
 use Rattle.drv_syntax.specs.Code.Lists.{Opened, byte_given, byte_here, end_given}
@@ -95,10 +95,6 @@ plain_byte list_kinds.InArguments b e =
       other = a.1.0;
       given = λ outer t tail v. rw (a.0, a.1.1.0, a.1.1.1.0, a.1.1.1.1.0, a.1.1.1.1.1.0) refl;
     }
-
--- parts of these tokens and labels, with or without a %* of their X
-abbrev parts_of : List Token → List Label → Bool → Parts
-parts_of tokens names holds = record { tokens = tokens; labels = names; holds = holds }
 
 -- a run of no bytes writes nothing and leaves the same
 run_none : (v : Reading) → run_after 0 v ≡ v

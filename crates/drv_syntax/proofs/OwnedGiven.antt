@@ -1,5 +1,6 @@
 use Rattle.drv_syntax.proofs.TrimmedItems.{kept_is, kept_white, trim_star}
 use Rattle.drv_syntax.proofs.Wrote.{closed_is, list_wrote, wrote_both, wrote_none}
+use Rattle.drv_syntax.proofs.Writing.{parts_of}
 use Rattle.drv_syntax.specs.Code.Lists.{choice_written, is_white_item, list_written, owned_at, tail_after, tail_on, unheld}
 use Rattle.drv_syntax.specs.Code.Tests.{is_starred, opened, test_added, tests_on}
 use Rattle.drv_syntax.specs.Code.Tokens.{whole_token}
@@ -223,10 +224,6 @@ module _ (z : Parts) (start place : ℕ) (ts : Tests) (items : Items) where
   -- the place where the X ends without the white space at its end
   abbrev end : ℕ
   end = last_place (trimmed items) place
-
-  -- parts of these tokens and labels, with or without a %* of their X
-  abbrev parts_of : List Token → List Label → Bool → Parts
-  parts_of ts ls h = record { tokens = ts; labels = ls; holds = h }
 
   -- with the alternative closed, the tokens are those of the tree's alternative
   closed_tokens : set list.tokens (length z.tokens) (whole_token kinds.Alternative start end (length list.tokens))

@@ -37,7 +37,7 @@ pub deep_enough : (level : ℕ) → 1 ≤ level → (level ≡ 1 → ⊥) → (l
 deep_enough level h g = differs (level - 1) 0 (λ e. g (omega (arith, e, h)))
 
 -- what is left after the front of a test begins with the byte that the front names
-pub begun_first : (outer : Option ℕ) (at : ℕ) (v u : Reading) (begun : Begun) → begun_given outer at v ≡ Ok (begun, u)
+begun_first : (outer : Option ℕ) (at : ℕ) (v u : Reading) (begun : Begun) → begun_given outer at v ≡ Ok (begun, u)
     → first_of u.rest.bytes ≡ Some begun.byte
 begun_first outer at v u begun h = by (at_rest (spaced v.rest) v) (spaced v.rest).bytes refl h
   where
@@ -171,23 +171,24 @@ module _ (deep : Lists) (c : ListContext) (at : ℕ) where
       begun_here : tries v (one_test deep c at order v.rest.at v.rest.bytes) ≡ asked_here begun u
       begun_here = begun_by v ∙ ap (λ x. begun_then x) is
 
+      -- the rest begins with the byte that the front names
+      begins_so : u.rest.bytes ≡ begun.byte ∷ drop 1 u.rest.bytes
+      begins_so = some_left u.rest.bytes begun.byte (sym (begun_first outer at v u begun is))
+
       -- a test that doesn't begin with a percent sign holds no list, so what reads lists makes no difference to it
-      pub test_plain : first_of u.rest.bytes ≡ Some begun.byte → (begun.byte == ascii.percent) ≡ false
-          → tries v (one_test deep c at order v.rest.at v.rest.bytes)
+      pub test_plain : (begun.byte == ascii.percent) ≡ false → tries v (one_test deep c at order v.rest.at v.rest.bytes)
           ≡ tries u (asked_from no_lists top at order begun.start begun.negated u.rest.at u.rest.bytes)
-      test_plain e g =
+      test_plain g =
           begun_here
-          ∙ ap (λ bs. tries u (asked_from deep c at order begun.start begun.negated u.rest.at bs))
-          (some_left u.rest.bytes begun.byte (sym e))
+          ∙ ap (λ bs. tries u (asked_from deep c at order begun.start begun.negated u.rest.at bs)) begins_so
           ∙ rw g refl
-          ∙ ap (λ bs. tries u (asked_from no_lists top at order begun.start begun.negated u.rest.at bs))
-          (sym (some_left u.rest.bytes begun.byte (sym e)))
+          ∙ ap (λ bs. tries u (asked_from no_lists top at order begun.start begun.negated u.rest.at bs)) (sym begins_so)
 
       -- the test begins with a percent sign, so it is by a function
-      module _ (e : first_of u.rest.bytes ≡ Some begun.byte) (g : begun.byte ≡ ascii.percent) where
+      module _ (g : begun.byte ≡ ascii.percent) where
         -- the rest is a percent sign and what follows it
         text_is : u.rest.bytes ≡ ascii.percent ∷ drop 1 u.rest.bytes
-        text_is = some_left u.rest.bytes begun.byte (sym e) ∙ ap (λ b. b ∷ drop 1 u.rest.bytes) g
+        text_is = begins_so ∙ ap (λ b. b ∷ drop 1 u.rest.bytes) g
 
         -- a level is left for the arguments
         module _ (deeper : (c.levels - 1 == 0) ≡ false) where

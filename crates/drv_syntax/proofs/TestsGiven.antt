@@ -1,6 +1,6 @@
 use Rattle.drv_words.specs.Bytes as ascii
 use Rattle.drv_words.specs.Gives.{Gives}
-use Rattle.drv_syntax.proofs.GivenParts.{given_stops, ok_same, some_left}
+use Rattle.drv_syntax.proofs.GivenParts.{given_stops, ok_same, quoted_parts, some_left}
 use Rattle.drv_syntax.proofs.Writing.{after_after, after_none, given_past}
 use Rattle.drv_syntax.specs.Bytes.{is_mark, is_white, is_word}
 use Rattle.drv_syntax.specs.Code.Left.{Left, after, begins_with, first_of, past_byte}
@@ -193,13 +193,13 @@ module _ (outer : Option ℕ) (at : ℕ) (emits : Bool) (mark : ℕ) (v : Readin
   pub marked_done : (u : Reading) (word : List ℕ) (none : Bool) (first : Option ℕ) (form : MarkForm) (asked : Asked) (end : Left)
       → quoted_to [] v (quoted is_word v.rest.bytes) ≡ (Some word, u)
       → none ≡ is_empty word → first ≡ first_of u.rest.bytes → mark_form outer at emits none first ≡ Ok form → asked ≡ marked_as form mark
-      → end ≡ past_byte ascii.asterisk u.rest → v.parts ≡ u.parts → marked_reads ≡ Ok (operand_of asked word, at_rest end u)
-  marked_done u word none first form asked end q g h k l m p =
+      → end ≡ past_byte ascii.asterisk u.rest → marked_reads ≡ Ok (operand_of asked word, at_rest end u)
+  marked_done u word none first form asked end q g h k l m =
       marked_at u word none first q g h
       ∙ ap (λ x. form_then x (λ f. as_operand (operand_of (marked_as f mark) word) (past_byte ascii.asterisk u.rest))) k
       ∙ ap (λ (a : Asked). Ok (as_operand (operand_of a word) (past_byte ascii.asterisk u.rest))) (sym l)
       ∙ ap (λ (r : Left). Ok (as_operand (operand_of asked word) r)) (sym m)
-      ∙ ap (λ (z : Parts). Ok (operand_of asked word, record { rest = end; parts = z })) p
+      ∙ ap (λ (z : Parts). Ok (operand_of asked word, record { rest = end; parts = z })) (quoted_parts v u (quoted is_word v.rest.bytes) q)
 
 -- what a test asks that asks for no function's result
 

@@ -371,7 +371,7 @@ or_none true = refl
 or_none false = refl
 
 -- parts of these tokens and labels, with or without a %* of their X
-abbrev parts_of : List Token → List Label → Bool → Parts
+abbrev pub parts_of : List Token → List Label → Bool → Parts
 parts_of tokens labels holds = record { tokens = tokens; labels = labels; holds = holds }
 
 -- a part without parts inside it is written as one token and one label

@@ -1,5 +1,5 @@
 use Rattle.drv_syntax.proofs.FlatNodes.{flat_both}
-use Rattle.drv_syntax.proofs.Writing.{or_none}
+use Rattle.drv_syntax.proofs.Writing.{or_none, parts_of}
 use Rattle.drv_syntax.specs.Code.Lists.{closed_at, list_written, owned_here}
 use Rattle.drv_syntax.specs.Code.Tests.{opened}
 use Rattle.drv_syntax.specs.Code.Tokens.{open_token, whole_token}
@@ -22,10 +22,6 @@ use Rattle.std.proofs.Math.Seq.{set-append_seam}
 -- What is written of parts that follow one another, and of those that hold others. It serves the reader's `call`, `braces`, `result` and
 -- `close_choice`. `wrote nodes holds z` is z with the tokens and labels of these parts after its own (specs/Code/Writing). `holds` says
 -- that they have a %* of an X.
-
--- parts of these tokens and labels, with or without a %* of their X
-abbrev parts_of : List Token → List Label → Bool → Parts
-parts_of tokens names holds = record { tokens = tokens; labels = names; holds = holds }
 
 -- parts of equal fields are equal
 same_parts : {ts us : List Token} {xs ys : List Label} {a b : Bool} → ts ≡ us → xs ≡ ys → a ≡ b → parts_of ts xs a ≡ parts_of us ys b

@@ -29,6 +29,24 @@ pub struct LabelMark {
     pub holds_star: bool,
 }
 
+/// What is said of the word that a part names.
+#[derive(Clone, Copy)]
+pub struct Naming {
+    /// A star follows it.
+    pub starred: bool,
+    /// A `!` precedes it.
+    pub negated: bool,
+    /// What the test asks.
+    pub asks: TestKind,
+}
+
+/// Nothing is said of the word.
+pub const WORD_ALONE: Naming = Naming {
+    starred: false,
+    negated: false,
+    asks: TestKind::Switch,
+};
+
 /// The labels of the parts of a text, in the order of their tokens.
 #[derive(Drop)]
 pub struct Labels {
@@ -91,15 +109,9 @@ impl Labels {
 
     /// One more, which names this word.
     #[tactic(auto, using(crate::proofs::MarkedWords::within_more, crate::proofs::MarkedWords::within_push, crate::proofs::MarkedWords::labels_added))]
-    pub fn push(
-        &mut self,
-        word: &[u8],
-        starred: bool,
-        negated: bool,
-        asks: TestKind,
-    ) -> Result<(), SyntaxFault>
+    pub fn push(&mut self, word: &[u8], naming: Naming) -> Result<(), SyntaxFault>
         ensures { Gives SyntaxFault.Memory (λ _. self.new) result (Ok (self.old
-            ++ part_label word.now starred negated asks ∷ [])) }
+            ++ part_label word.now naming.starred naming.negated naming.asks ∷ [])) }
     {
         let start = self.words.len();
         self.words.extend_from_slice(word)?;
@@ -108,9 +120,9 @@ impl Labels {
         self.marks.push_reserved(LabelMark {
             start,
             end,
-            starred,
-            negated,
-            asks,
+            starred: naming.starred,
+            negated: naming.negated,
+            asks: naming.asks,
             holds_star: false,
         });
         Ok(())
@@ -118,9 +130,9 @@ impl Labels {
 
     /// One more, which names this byte and this word after it.
     #[tactic(auto, using(crate::proofs::MarkedWords::within_more, crate::proofs::MarkedWords::within_push, crate::proofs::MarkedWords::labels_marked))]
-    pub fn push_marked(&mut self, mark: u8, word: &[u8], starred: bool) -> Result<(), SyntaxFault>
+    pub fn push_marked(&mut self, mark: u8, word: &[u8], naming: Naming) -> Result<(), SyntaxFault>
         ensures { Gives SyntaxFault.Memory (λ _. self.new) result (Ok (self.old
-            ++ part_label (mark ∷ word.now) starred false TestKind.Switch ∷ [])) }
+            ++ part_label (mark ∷ word.now) naming.starred naming.negated naming.asks ∷ [])) }
     {
         let start = self.words.len();
         self.words.push(mark)?;
@@ -130,9 +142,9 @@ impl Labels {
         self.marks.push_reserved(LabelMark {
             start,
             end,
-            starred,
-            negated: false,
-            asks: TestKind::Switch,
+            starred: naming.starred,
+            negated: naming.negated,
+            asks: naming.asks,
             holds_star: false,
         });
         Ok(())

@@ -1,10 +1,13 @@
 use Rattle.drv_words.specs.Bytes as ascii
-use Rattle.drv_syntax.specs.Bytes.{is_of}
+use Rattle.drv_syntax.specs.Bytes.{is_name_byte, is_of, is_suffix, is_white}
+use Rattle.drv_syntax.specs.Code.Writing.{runs_in}
 use Rattle.drv_syntax.specs.declared.descent.contexts.ListKind.TheVariants as lists
 use Rattle.drv_syntax.specs.declared.descent.contexts.ListKind.{ListKind}
+use Rattle.drv_syntax.specs.declared.descent.runs.RunKind.TheVariants as kinds
+use Rattle.drv_syntax.specs.declared.descent.runs.RunKind.{RunKind}
 use Rattle.std.specs.Prelude.{Bool, List, [], ◌∷◌, not, ℕ}
 
--- Plain bytes, which are read in runs. For the clauses of src/descent/runs.rt alone.
+-- Bytes that are read in runs. For the clauses of src/descent/runs.rt alone.
 
 -- the bytes that are not plain in a list of this kind: they begin another item, or end the list
 abbrev pub stops : ListKind → List ℕ
@@ -17,3 +20,11 @@ stops lists.InArguments = ascii.backslash ∷ ascii.percent ∷ ascii.bar ∷ as
 -- the byte is plain in a list of this kind, so that `run_length` of src/descent/runs.rt may run over it
 abbrev pub runs : ListKind → ℕ → Bool
 runs kind b = not (is_of (stops kind) b)
+
+-- the byte is one of a run of this kind
+abbrev pub in_run : RunKind → ℕ → Bool
+in_run kinds.White = is_white
+in_run kinds.Name = is_name_byte
+in_run kinds.Suffix = is_suffix
+in_run (kinds.Plain list) = runs list
+in_run (kinds.Word class) = runs_in class

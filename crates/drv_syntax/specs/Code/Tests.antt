@@ -26,7 +26,7 @@ use Rattle.drv_syntax.specs.declared.descent.tests.Order.TheVariants as orders
 use Rattle.drv_syntax.specs.declared.fault.SyntaxFault.TheVariants.{BadDirective, EmptyTest, Unclosed}
 use Rattle.drv_syntax.specs.declared.fault.SyntaxFault.{SyntaxFault}
 use Rattle.drv_syntax.specs.declared.token.TestKind.TheVariants as kinds_of_tests
-use Rattle.drv_syntax.specs.declared.token.TestKind.{TestKind}
+use Rattle.drv_syntax.specs.declared.labels.Naming.{Naming}
 use Rattle.drv_syntax.specs.declared.token.TokenKind.TheVariants as kinds
 use Rattle.drv_syntax.specs.declared.token.TokenKind.{TokenKind}
 use Rattle.std.specs.List.{prefix_len}
@@ -103,16 +103,17 @@ emitted_label (asking.Marked mark) word = part_label (mark ∷ word) false false
 emitted_label (asking.StarredMark mark) word = part_label (mark ∷ word) true false kinds_of_tests.Switch
 emitted_label (asking.Bare mark) word = word_label (mark ∷ [])
 
--- what a test with this mark asks (never with a star): of a suffix, or of a language
-abbrev pub mark_asks : ℕ → Bool × TestKind
-mark_asks mark = if mark == ascii.period then (false, kinds_of_tests.Suffix) else (false, kinds_of_tests.Language)
+-- what is said of a test with this mark (never a star): it asks for a suffix, or for a language
+abbrev pub mark_naming : ℕ → Bool → Naming
+mark_naming mark negated =
+    record { starred = false; negated = negated; asks = if mark == ascii.period then kinds_of_tests.Suffix else kinds_of_tests.Language }
 
--- what the label of a test says of it: whether it has a star, and what it asks
-abbrev pub asks_seen : asked_code.Asked → Bool × TestKind
-asks_seen (asking.Switch starred) = (starred, kinds_of_tests.Switch)
-asks_seen (asking.Marked mark) = mark_asks mark
-asks_seen (asking.StarredMark mark) = mark_asks mark
-asks_seen (asking.Bare mark) = mark_asks mark
+-- what the label of a test says of its word
+abbrev pub naming_of : asked_code.Asked → Bool → Naming
+naming_of (asking.Switch starred) negated = record { starred = starred; negated = negated; asks = kinds_of_tests.Switch }
+naming_of (asking.Marked mark) negated = mark_naming mark negated
+naming_of (asking.StarredMark mark) negated = mark_naming mark negated
+naming_of (asking.Bare mark) negated = mark_naming mark negated
 
 -- what was read, where it counts as a test
 abbrev pub test_of : asked_code.Asked → List ℕ → Asked

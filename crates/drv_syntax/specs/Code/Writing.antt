@@ -129,11 +129,6 @@ abbrev pub quoted_to : List ℕ → Reading → Quoted → Option (List ℕ) × 
 quoted_to front v (Run word size) = (Some (front ++ word), at_rest (after size v.rest) v)
 quoted_to front v (Hangs size) = (None, at_rest (after size v.rest) v)
 
--- what `quoted` gives: its word, unless the text ends in an escape
-abbrev pub quoted_seen : Bool → List ℕ → Reading → Option (List ℕ) × Reading
-quoted_seen true word v = (Some word, v)
-quoted_seen false word v = (None, v)
-
 -- what `quoted` gives: its word of the text itself, or the copy without backslashes
 abbrev pub words_seen : Option Spelled → List ℕ → Reading → Option (List ℕ) × Reading
 words_seen (Some word) copied v = (Some (spelled word copied), v)

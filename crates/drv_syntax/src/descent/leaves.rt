@@ -7,12 +7,13 @@ ghost use Rattle.std.specs.Prelude.{◌≡◌, []};
 
 use crate::descent::contexts::ListKind;
 use crate::descent::patterns::pattern;
-use crate::descent::reader::{Reader, is_none, named, starred, unclosed};
-use crate::descent::runs::{name_length, suffix_length};
+use crate::descent::reader::{Reader, is_none, named, unclosed, written_here};
+use crate::descent::runs::{RunKind, run_length};
 use crate::descent::words::{Class, first, quoted};
 use crate::directives::SayKind;
 use crate::fault::SyntaxFault;
-use crate::token::{TempKind, TokenKind};
+use crate::labels::{Naming, WORD_ALONE};
+use crate::token::{TempKind, TestKind, TokenKind};
 
 /// `%g` and its like, after the letter.
 pub fn suffix(
@@ -26,7 +27,7 @@ pub fn suffix(
 {
     let kind = TokenKind::TempName(kind);
     let bytes = r.rest.bytes();
-    let size = suffix_length(bytes);
+    let size = run_length(RunKind::Suffix, bytes);
     if size != 0 {
         let word = r.rest.take(size);
         return named(kind, at, word, r);
@@ -64,7 +65,7 @@ pub fn option(outer: Option<u32>, at: u32, r: &mut Reader<'_>) -> Result<(), Syn
         return Err(SyntaxFault::BadDirective(at as usize));
     }
     r.rest.take(1);
-    starred(TokenKind::AddOption, at, word, false, r)?;
+    written_here(TokenKind::AddOption, at, word, WORD_ALONE, r)?;
     Ok(())
 }
 
@@ -73,7 +74,7 @@ pub fn name(outer: Option<u32>, at: u32, r: &mut Reader<'_>) -> Result<(), Synta
     ensures { Gives SyntaxFault.Memory (λ _. seen r.new) result (item_given outer at (seen r.old)
         (descent.name_from at r.old.rest.at [] r.old.rest.bytes)) }
 {
-    let size = name_length(r.rest.bytes());
+    let size = run_length(RunKind::Name, r.rest.bytes());
     if size > 255 {
         return Err(SyntaxFault::BadDirective(at as usize));
     }
@@ -98,7 +99,12 @@ pub fn hide(outer: Option<u32>, at: u32, r: &mut Reader<'_>) -> Result<(), Synta
         (hidden at r.old.rest.at r.old.rest.bytes)) }
 {
     let p = pattern(outer, at, r)?;
-    starred(TokenKind::Hide, at, p.word, p.star, r)?;
+    let naming = Naming {
+        starred: p.star,
+        negated: false,
+        asks: TestKind::Switch,
+    };
+    written_here(TokenKind::Hide, at, p.word, naming, r)?;
     Ok(())
 }
 
@@ -128,6 +134,6 @@ pub fn saying(
         return Err(unclosed(outer, r.rest.at()));
     };
     r.rest.take_if(b'\n');
-    starred(said(kind), at, word, false, r)?;
+    written_here(said(kind), at, word, WORD_ALONE, r)?;
     Ok(())
 }

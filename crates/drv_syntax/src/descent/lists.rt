@@ -3,24 +3,22 @@
 ghost use Rattle.drv_syntax.specs.Code.Lists.{EndsAt, Opened, around, begins, brace_given, brace_kind, context_seen, directive_given, end_given, is_simple, later_given, listed_given, default_here, owner_when, result_given, tail_at, with_end, x_given};
 ghost use Rattle.drv_syntax.specs.Code.Tests.{form_given, more_given, order_seen, tried_given};
 ghost use Rattle.drv_syntax.specs.Code.Writing.{item_given, kind_seen, seen};
-ghost use Rattle.drv_syntax.specs.Code.Left.{begins_with};
 ghost use Rattle.drv_syntax.specs.Contexts as contexts;
 ghost use Rattle.drv_syntax.specs.Descent as descent;
 ghost use Rattle.drv_syntax.specs.Refusals as refusals;
 ghost use Rattle.drv_words.specs.Gives.{Gives};
-ghost use Rattle.std.specs.Prelude.{◌≡◌, ◌≤◌, IfOk, Ok, drop, length, true};
+ghost use Rattle.std.specs.Prelude.{◌≡◌, ◌≤◌, IfOk, Ok, drop, true};
 
 use crate::descent::contexts::{ListContext, ListKind, in_arguments, in_braces, in_x, outermost};
 use crate::descent::functions::function;
 use crate::descent::parts::{Choice, close, close_choice, open, open_unnamed, opened};
 use crate::descent::patterns::patterns;
 use crate::descent::reader::{Reader, unclosed};
-use crate::descent::rest::white_length;
 use crate::descent::simple::{Tail, directive, ended, item, plains};
 use crate::descent::tests::{Begun, Next, Order, begin, plain_test, result_judged};
-use crate::descent::words::begins;
 use crate::directives::{BraceKind, Directive, allows, directive_of};
 use crate::fault::SyntaxFault;
+use crate::labels::{Naming, WORD_ALONE};
 use crate::token::{TestKind, TokenKind};
 
 /// What braces hold.
@@ -87,15 +85,6 @@ fn is_simple(d: Directive) -> bool
         d,
         Directive::WithCall | Directive::WithBraces | Directive::WithMarkedBraces(_),
     )
-}
-
-/// After so many bytes of a text is this one.
-#[inline(always)]
-fn begins_at(size: usize, b: u8, text: &[u8]) -> bool
-    requires { size ≤ length text.now }
-    ensures { result ≡ begins_with b (drop size text.now) }
-{
-    begins(b, &text[size..])
 }
 
 /// An alternative without tests opens at its colon, with the colon.
@@ -176,15 +165,14 @@ fn percent(outer: Option<u32>, c: ListContext, r: &mut Reader<'_>) -> Result<(),
     r.rest.take(1);
     let d = directive_of(b);
     if is_simple(d) {
-        directive(outer, c, at, d, r)?;
-        return Ok(());
+        return directive(outer, c, at, d, r);
     }
     if c.levels == 0 {
         return Err(SyntaxFault::TooNested(at as usize));
     }
     match d {
-        Directive::WithCall => call(outer, c, at, r)?,
-        Directive::WithBraces => braces(outer, c, at, BraceKind::InPlace, r)?,
+        Directive::WithCall => call(outer, c, at, r),
+        Directive::WithBraces => braces(outer, c, at, BraceKind::InPlace, r),
         Directive::WithMarkedBraces(kind) => {
             let Some(b) = r.rest.first() else {
                 return Err(unclosed(outer, at));
@@ -193,11 +181,10 @@ fn percent(outer: Option<u32>, c: ListContext, r: &mut Reader<'_>) -> Result<(),
                 return Err(SyntaxFault::BadDirective(at as usize));
             }
             r.rest.take(1);
-            braces(outer, c, at, kind, r)?
+            braces(outer, c, at, kind, r)
         }
-        _ => return Err(SyntaxFault::BadDirective(at as usize)),
+        _ => Err(SyntaxFault::BadDirective(at as usize)),
     }
-    Ok(())
 }
 
 /// A function's name and its arguments.
@@ -209,7 +196,7 @@ fn call(outer: Option<u32>, c: ListContext, at: u32, r: &mut Reader<'_>) -> Resu
 {
     let outer = outermost(outer, at);
     let name = function(outer, at, r)?;
-    let part = open(TokenKind::Function, at, name, false, TestKind::Switch, r)?;
+    let part = open(TokenKind::Function, at, name, WORD_ALONE, r)?;
     items(outer, in_arguments(c), r)?;
     r.rest.take(1);
     close(TokenKind::Function, part, r);
@@ -271,9 +258,8 @@ fn later(outer: Option<u32>, c: ListContext, at: u32, r: &mut Reader<'_>) -> Res
         refusals.AtNext r.old.rest.at 0 r.old.rest.bytes)) }
 {
     loop {
-        let white = white_length(r.rest.bytes());
-        if begins_at(white, b':', r.rest.bytes()) {
-            r.rest.take(white);
+        if r.rest.begins_after_white(b':') {
+            r.rest.skip_white();
             let choice = opened_default(r)?;
             if x(outer, c, at, choice, r)? != b'}' {
                 return Err(SyntaxFault::EmptyTest(at as usize));
@@ -381,8 +367,7 @@ fn test(
 {
     let begun = begin(outer, at, r)?;
     if begun.byte != b'%' {
-        let next = plain_test(outer, at, order, so_far, begun, r)?;
-        return Ok(next);
+        return plain_test(outer, at, order, so_far, begun, r);
     }
     if c.levels == 1 {
         return Err(SyntaxFault::TooNested(r.rest.at() as usize));
@@ -425,9 +410,13 @@ fn result(
     r.rest.take(1);
     let outer = outermost(outer, at);
     let name = function(outer, percent, r)?;
-    let Begun { start, negated, .. } = begun;
-    let choice = opened(so_far, start, r)?;
-    let part = open(TokenKind::Test, start, name, negated, TestKind::Result, r)?;
+    let choice = opened(so_far, begun.start, r)?;
+    let naming = Naming {
+        starred: false,
+        negated: begun.negated,
+        asks: TestKind::Result,
+    };
+    let part = open(TokenKind::Test, begun.start, name, naming, r)?;
     items(outer, in_arguments(in_braces(c)), r)?;
     r.rest.take(1);
     close(TokenKind::Test, part, r);

@@ -11,7 +11,8 @@ use crate::descent::reader::Reader;
 use crate::descent::simple::Tail;
 use crate::descent::tokens::Open;
 use crate::fault::SyntaxFault;
-use crate::token::{TestKind, TokenKind};
+use crate::labels::Naming;
+use crate::token::TokenKind;
 
 /// An alternative that is not yet closed.
 #[derive(Clone, Copy)]
@@ -24,22 +25,22 @@ pub struct Choice {
     pub starred: bool,
 }
 
-/// A part opens here that names a word.
+/// A part opens here that names a word, of which this is said.
 #[inline(always)]
 pub fn open(
     kind: TokenKind,
     start: u32,
     word: &[u8],
-    negated: bool,
-    asks: TestKind,
+    naming: Naming,
     r: &mut Reader<'_>,
 ) -> Result<Open, SyntaxFault>
     ensures { Gives SyntaxFault.Memory (λ part. (part, seen r.new)) result
-        (Ok (opened_here kind (part_label word.now false negated asks) start (seen r.old))) }
+        (Ok (opened_here kind
+        (part_label word.now naming.starred naming.negated naming.asks) start (seen r.old))) }
 {
     let token = r.tokens.len();
     r.tokens.open(kind, start)?;
-    r.labels.push(word, false, negated, asks)?;
+    r.labels.push(word, naming)?;
     Ok(Open { token, start })
 }
 

@@ -1,7 +1,7 @@
 //! Patterns of switches.
 
 ghost use Rattle.drv_syntax.specs.Code.Tests.{pattern_given, patterns_given};
-ghost use Rattle.drv_syntax.specs.Code.Writing.{leaf_until, seen, spelled, star_after};
+ghost use Rattle.drv_syntax.specs.Code.Writing.{is_empty, leaf_until, seen, spelled, star_after};
 ghost use Rattle.drv_syntax.specs.Descent as descent;
 ghost use Rattle.drv_syntax.specs.Labels.{part_label};
 ghost use Rattle.drv_syntax.specs.Tree.{pattern};
@@ -11,6 +11,7 @@ ghost use Rattle.std.specs.Prelude.{◌≡◌, false, Ok};
 use crate::descent::reader::{Reader, Spelled, is_none, unclosed, written};
 use crate::descent::words::{Class, quoted};
 use crate::fault::SyntaxFault;
+use crate::labels::Naming;
 use crate::token::{TestKind, TokenKind};
 
 /// A word, and whether a star follows it.
@@ -22,11 +23,18 @@ pub struct Starred<'a> {
     pub star: bool,
 }
 
-/// A star follows a word, which has no bytes or some, if they make a pattern.
+/// A star follows a word, if they make a pattern, where the last word with escapes is this one.
 #[inline(always)]
-fn star_after(outer: Option<u32>, at: u32, none: bool, b: Option<u8>) -> Result<bool, SyntaxFault>
-    ensures { result ≡ star_after outer at none b }
+fn star_after(
+    outer: Option<u32>,
+    at: u32,
+    word: Spelled<'_>,
+    copied: &[u8],
+    b: Option<u8>,
+) -> Result<bool, SyntaxFault>
+    ensures { result ≡ star_after outer at (is_empty (spelled word.entry copied.now)) b }
 {
+    let none = is_none(word, copied);
     let Some(b) = b else {
         if none {
             return Err(unclosed(outer, at));
@@ -57,7 +65,7 @@ pub fn pattern<'a>(
     let Some(word) = quoted(Class::Word, r)? else {
         return Err(unclosed(outer, at));
     };
-    let star = star_after(outer, at, is_none(word, &r.word), r.rest.first())?;
+    let star = star_after(outer, at, word, &r.word, r.rest.first())?;
     r.rest.take_if(b'*');
     Ok(Starred { word, star })
 }
@@ -70,8 +78,12 @@ fn emitted(start: u32, end: u32, p: Starred<'_>, r: &mut Reader<'_>) -> Result<(
         (part_label (spelled p.entry.word r.old.word.items) p.entry.star false TestKind.Switch)
         start end (seen r.old))) }
 {
-    let kind = TokenKind::Pattern;
-    written(kind, start, end, p.word, p.star, false, TestKind::Switch, r)
+    let naming = Naming {
+        starred: p.star,
+        negated: false,
+        asks: TestKind::Switch,
+    };
+    written(TokenKind::Pattern, start, end, p.word, naming, r)
 }
 
 /// Patterns after an ampersand, with the brace that closes them.

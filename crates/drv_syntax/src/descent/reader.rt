@@ -8,8 +8,8 @@ ghost use Rattle.std.specs.Prelude.{◌≡◌, false, Ok};
 use crate::descent::rest::Rest;
 use crate::descent::tokens::Tokens;
 use crate::fault::SyntaxFault;
-use crate::labels::Labels;
-use crate::token::{TestKind, TokenKind};
+use crate::labels::{Labels, Naming, WORD_ALONE};
+use crate::token::TokenKind;
 
 /// What has been read of a text.
 #[derive(Drop)]
@@ -68,48 +68,46 @@ pub fn named(
         (Ok (leaf_here kind (word_label word.now) start (seen r.old))) }
 {
     r.tokens.push(kind, start, r.rest.at())?;
-    r.labels.push(word, false, false, TestKind::Switch)
+    r.labels.push(word, WORD_ALONE)
 }
 
-/// A part from this place on that names a word that was read, with a star or without.
+/// A part from this place on that names a word that was read, of which this is said.
 #[inline(always)]
-pub fn starred(
+pub fn written_here(
     kind: TokenKind,
     start: u32,
     word: Spelled<'_>,
-    star: bool,
+    naming: Naming,
     r: &mut Reader<'_>,
 ) -> Result<(), SyntaxFault>
     ensures { Gives SyntaxFault.Memory (λ _. seen r.new) result (Ok (leaf_here kind
-        (part_label (spelled word.entry r.old.word.items) star false TestKind.Switch) start
-        (seen r.old))) }
+        (part_label (spelled word.entry r.old.word.items) naming.starred naming.negated
+        naming.asks) start (seen r.old))) }
 {
     r.tokens.push(kind, start, r.rest.at())?;
     match word {
-        Spelled::Lent(bytes) => r.labels.push(bytes, star, false, TestKind::Switch),
-        Spelled::Copied => r.labels.push(&r.word, star, false, TestKind::Switch),
+        Spelled::Lent(bytes) => r.labels.push(bytes, naming),
+        Spelled::Copied => r.labels.push(&r.word, naming),
     }
 }
 
-/// A part from one place to another that names a word, without parts inside it.
+/// A part from one place to another that names a word, of which this is said.
 #[inline(always)]
 pub fn written(
     kind: TokenKind,
     start: u32,
     end: u32,
     word: Spelled<'_>,
-    star: bool,
-    negated: bool,
-    asks: TestKind,
+    naming: Naming,
     r: &mut Reader<'_>,
 ) -> Result<(), SyntaxFault>
     ensures { Gives SyntaxFault.Memory (λ _. seen r.new) result (Ok (leaf_until kind
-        (part_label (spelled word.entry r.old.word.items) star negated asks) start end
-        (seen r.old))) }
+        (part_label (spelled word.entry r.old.word.items) naming.starred naming.negated
+        naming.asks) start end (seen r.old))) }
 {
     r.tokens.push(kind, start, end)?;
     match word {
-        Spelled::Lent(bytes) => r.labels.push(bytes, star, negated, asks),
-        Spelled::Copied => r.labels.push(&r.word, star, negated, asks),
+        Spelled::Lent(bytes) => r.labels.push(bytes, naming),
+        Spelled::Copied => r.labels.push(&r.word, naming),
     }
 }

@@ -1,24 +1,21 @@
 //! What is left of a text, and its place in it.
 
-ghost use Rattle.drv_syntax.specs.Code.Left.{after, first_of, past_byte, second_of};
+ghost use Rattle.drv_syntax.specs.Code.Left.{after, begins_with, first_of, past_byte, second_of};
 ghost use Rattle.drv_syntax.specs.Bytes.{is_white};
 ghost use Rattle.std.specs.List.{prefix_len};
-ghost use Rattle.std.specs.Prelude.{◌≡◌, ◌≤◌, ◌+◌, length, take};
+ghost use Rattle.std.specs.Prelude.{◌≡◌, ◌≤◌, ◌+◌, drop, length, take};
 
-use crate::descent::bytes;
+use crate::descent::runs::{RunKind, run_length};
+use crate::descent::words::begins;
 use std::marker::Model;
 
 /// How much white space a text begins with.
 #[inline(always)]
-pub fn white_length(text: &[u8]) -> usize
+fn white_length(text: &[u8]) -> usize
     ensures run { result ≡ prefix_len is_white text.now }
     ensures within { result ≤ length text.now }
 {
-    let mut length = 0;
-    while length < text.len() && bytes::is_white(text[length]) {
-        length += 1;
-    }
-    length
+    run_length(RunKind::White, text)
 }
 
 /// What is left of a text.
@@ -84,6 +81,15 @@ impl<'a> Rest<'a> {
         ensures { self.new ≡ after (prefix_len is_white self.old.bytes) self.old }
     {
         self.take(white_length(self.bytes));
+    }
+
+    /// This byte comes next, or white space and then this byte.
+    #[inline(always)]
+    pub fn begins_after_white(&self, b: u8) -> bool
+        ensures { result ≡ begins_with b
+            (drop (prefix_len is_white self.now.bytes) self.now.bytes) }
+    {
+        begins(b, &self.bytes[white_length(self.bytes)..])
     }
 
     /// The byte that comes next, if there is one.

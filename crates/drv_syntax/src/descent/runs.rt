@@ -1,12 +1,27 @@
 //! How many bytes of one kind a text begins with.
 
-ghost use Rattle.drv_syntax.specs.Bytes as bytes;
 ghost use Rattle.drv_syntax.specs.Code.Runs as plain;
 ghost use Rattle.std.specs.List.{prefix_len};
 ghost use Rattle.std.specs.Prelude.{◌≡◌, ◌≤◌, length};
 
-use crate::descent::bytes::{is_name_byte, is_suffix};
+use crate::descent::bytes::{is_name_byte, is_suffix, is_white};
 use crate::descent::contexts::ListKind;
+use crate::descent::words::{Class, belongs};
+
+/// What the bytes of a run are.
+#[derive(Clone, Copy)]
+pub enum RunKind {
+    /// White space.
+    White,
+    /// Bytes of a name.
+    Name,
+    /// Bytes of a suffix.
+    Suffix,
+    /// Plain bytes in a list of this kind.
+    Plain(ListKind),
+    /// Bytes of this class, and no backslash.
+    Word(Class),
+}
 
 /// The byte is plain in a list of this kind.
 #[inline(always)]
@@ -22,39 +37,28 @@ fn stands(kind: ListKind, b: u8) -> bool
         }
 }
 
-/// How many plain bytes a text in a list of this kind begins with. Most runs have few bytes, so each
-/// is tested.
+/// The byte is one of such a run.
 #[inline(always)]
-pub fn run_length(kind: ListKind, text: &[u8]) -> usize
-    ensures run { result ≡ prefix_len (plain.runs kind) text.now }
-    ensures within { result ≤ length text.now }
+fn is_in(kind: RunKind, b: u8) -> bool
+    ensures { result ≡ plain.in_run kind b }
 {
-    let mut length = 0;
-    while length < text.len() && stands(kind, text[length]) {
-        length += 1;
+    match kind {
+        RunKind::White => is_white(b),
+        RunKind::Name => is_name_byte(b),
+        RunKind::Suffix => is_suffix(b),
+        RunKind::Plain(list) => stands(list, b),
+        RunKind::Word(class) => belongs(class, b) && b != b'\\',
     }
-    length
 }
 
-/// How many bytes of a name a text begins with.
-pub fn name_length(text: &[u8]) -> usize
-    ensures run { result ≡ prefix_len bytes.is_name_byte text.now }
+/// How many bytes of such a run a text begins with. Most runs have few bytes, so each is tested.
+#[inline(always)]
+pub fn run_length(kind: RunKind, text: &[u8]) -> usize
+    ensures run { result ≡ prefix_len (plain.in_run kind) text.now }
     ensures within { result ≤ length text.now }
 {
     let mut length = 0;
-    while length < text.len() && is_name_byte(text[length]) {
-        length += 1;
-    }
-    length
-}
-
-/// How many bytes of a suffix a text begins with.
-pub fn suffix_length(text: &[u8]) -> usize
-    ensures run { result ≡ prefix_len bytes.is_suffix text.now }
-    ensures within { result ≤ length text.now }
-{
-    let mut length = 0;
-    while length < text.len() && is_suffix(text[length]) {
+    while length < text.len() && is_in(kind, text[length]) {
         length += 1;
     }
     length

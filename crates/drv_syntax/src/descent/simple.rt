@@ -14,7 +14,7 @@ use crate::descent::bytes::is_blank;
 use crate::descent::contexts::{ListContext, ListKind, StarOwner};
 use crate::descent::leaves::{hide, name, option, saying, suffix};
 use crate::descent::reader::{Reader, named, unclosed};
-use crate::descent::runs::run_length;
+use crate::descent::runs::{RunKind, run_length};
 use crate::directives::{BuiltinName, Directive};
 use crate::fault::SyntaxFault;
 use crate::token::TokenKind;
@@ -217,7 +217,7 @@ pub fn plains(kind: ListKind, tail: Tail, r: &mut Reader<'_>) -> Result<Tail, Sy
     ensures { Gives SyntaxFault.Memory (λ tail. (tail, seen r.new)) result
         (Ok (plains_on kind tail (seen r.old))) }
 {
-    let size = run_length(kind, r.rest.bytes());
+    let size = run_length(RunKind::Plain(kind), r.rest.bytes());
     if size == 0 {
         return Ok(tail);
     }

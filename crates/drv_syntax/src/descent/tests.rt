@@ -1,8 +1,8 @@
 //! The tests of alternatives, up to the byte after each.
 
 ghost use Rattle.drv_syntax.specs.Bytes.{is_word};
-ghost use Rattle.drv_syntax.specs.Code.Tests.{after_given, asked_on, asks_seen, begun_given, emitted_label, mark_form, marked_as, operand_given, operand_seen, order_seen, pattern_ends, result_after, test_ends, test_of, tried_given, tried_seen};
-ghost use Rattle.drv_syntax.specs.Code.Writing.{leaf_until, seen, spelled};
+ghost use Rattle.drv_syntax.specs.Code.Tests.{after_given, asked_on, begun_given, emitted_label, mark_form, marked_as, naming_of, operand_given, operand_seen, order_seen, pattern_ends, result_after, test_ends, test_of, tried_given, tried_seen};
+ghost use Rattle.drv_syntax.specs.Code.Writing.{is_empty, leaf_until, seen, spelled};
 ghost use Rattle.drv_syntax.specs.Code.Left.{first_of};
 ghost use Rattle.drv_syntax.specs.Contexts.{top};
 ghost use Rattle.drv_syntax.specs.Descent as descent;
@@ -17,7 +17,7 @@ use crate::descent::patterns::pattern;
 use crate::descent::reader::{Reader, Spelled, is_none, unclosed, written};
 use crate::descent::words::{Class, quoted};
 use crate::fault::SyntaxFault;
-use crate::labels::Labels;
+use crate::labels::{Labels, Naming, WORD_ALONE};
 use crate::token::{TestKind, TokenKind};
 
 /// Where a test is in its braces.
@@ -96,23 +96,29 @@ pub enum MarkForm {
     Bare,
 }
 
-/// What comes after the mark, by the byte after the word there, which has no bytes or some.
+/// What comes after the mark of a test there, with this front, by the word there and the byte after
+/// it, where the last word with escapes is this one.
 #[inline(always)]
 fn mark_form(
     outer: Option<u32>,
     at: u32,
-    emits: bool,
-    none: bool,
+    order: Order,
+    begun: Begun,
+    word: Spelled<'_>,
+    copied: &[u8],
     b: Option<u8>,
 ) -> Result<MarkForm, SyntaxFault>
-    ensures { result ≡ mark_form outer at emits none b }
+    ensures { result ≡ mark_form outer at (may_emit (order_seen order) begun.negated)
+        (is_empty (spelled word.entry copied.now)) b }
 {
+    let none = is_none(word, copied);
     let Some(b) = b else {
         if none {
             return Err(unclosed(outer, at));
         }
         return Ok(MarkForm::Word);
     };
+    let emits = emits(order, begun);
     if b == b'*' {
         if emits {
             return Ok(MarkForm::Star);
@@ -143,28 +149,29 @@ fn marked_as(form: MarkForm, mark: u8) -> Asked
     }
 }
 
-/// What a test asks that begins with this mark, after it.
+/// What a test asks that begins with a mark, after it.
 #[inline(always)]
 fn marked<'a>(
     outer: Option<u32>,
     at: u32,
-    emits: bool,
-    mark: u8,
+    order: Order,
+    begun: Begun,
     r: &mut Reader<'a>,
 ) -> Result<Operand<'a>, SyntaxFault>
     ensures { Gives SyntaxFault.Memory
         (λ o. (operand_seen o r.new.word.items, seen r.new)) result
-        (operand_given outer (seen r.old) (descent.mark_text at emits mark r.old.rest.at
+        (operand_given outer (seen r.old) (descent.mark_text at
+        (may_emit (order_seen order) begun.negated) begun.byte r.old.rest.at
         (descent.quoted is_word r.old.rest.bytes) r.old.rest.bytes)) }
 {
     let Some(word) = quoted(Class::Word, r)? else {
         return Err(unclosed(outer, at));
     };
-    let form = mark_form(outer, at, emits, is_none(word, &r.word), r.rest.first())?;
+    let form = mark_form(outer, at, order, begun, word, &r.word, r.rest.first())?;
     r.rest.take_if(b'*');
     Ok(Operand {
         word,
-        asked: marked_as(form, mark),
+        asked: marked_as(form, begun.byte),
     })
 }
 
@@ -173,21 +180,20 @@ fn marked<'a>(
 fn plain_operand<'a>(
     outer: Option<u32>,
     at: u32,
-    emits: bool,
-    b: u8,
+    order: Order,
+    begun: Begun,
     r: &mut Reader<'a>,
 ) -> Result<Operand<'a>, SyntaxFault>
-    requires byte { first_of r.old.rest.bytes ≡ Some b }
-    requires other { (b == 37) ≡ false }
+    requires byte { first_of r.old.rest.bytes ≡ Some begun.byte }
+    requires other { (begun.byte == 37) ≡ false }
     ensures { Gives SyntaxFault.Memory
         (λ o. (operand_seen o r.new.word.items, seen r.new)) result
-        (operand_given outer (seen r.old) (descent.asked descent.no_lists top at emits
-        r.old.rest.at r.old.rest.bytes)) }
+        (operand_given outer (seen r.old) (descent.asked descent.no_lists top at
+        (may_emit (order_seen order) begun.negated) r.old.rest.at r.old.rest.bytes)) }
 {
-    if is_mark(b) {
+    if is_mark(begun.byte) {
         r.rest.take(1);
-        let o = marked(outer, at, emits, b, r)?;
-        return Ok(o);
+        return marked(outer, at, order, begun, r);
     }
     let p = pattern(outer, at, r)?;
     Ok(Operand {
@@ -202,10 +208,16 @@ fn label_pattern(asked: Asked, word: &[u8], labels: &mut Labels) -> Result<(), S
     ensures { Gives SyntaxFault.Memory (λ _. labels.new) result
         (Ok (labels.old ++ emitted_label asked word.now ∷ [])) }
 {
+    let starred_word = Naming {
+        starred: true,
+        negated: false,
+        asks: TestKind::Switch,
+    };
     match asked {
-        Asked::Switch { starred } => labels.push(word, starred, false, TestKind::Switch),
-        Asked::Marked { mark } => labels.push_marked(mark, word, false),
-        Asked::StarredMark { mark } => labels.push_marked(mark, word, true),
+        Asked::Switch { starred: true } => labels.push(word, starred_word),
+        Asked::Switch { starred: false } => labels.push(word, WORD_ALONE),
+        Asked::Marked { mark } => labels.push_marked(mark, word, WORD_ALONE),
+        Asked::StarredMark { mark } => labels.push_marked(mark, word, starred_word),
         Asked::Bare { mark } => labels.push_byte(mark),
     }
 }
@@ -229,12 +241,12 @@ fn write_pattern(
     }
 }
 
-/// A star follows the word of a test, and what it asks.
+/// What is said of the word of a test with this front.
 #[inline(always)]
-fn asks(asked: Asked) -> (bool, TestKind)
-    ensures { result ≡ asks_seen asked }
+fn naming_of(asked: Asked, begun: Begun) -> Naming
+    ensures { result ≡ naming_of asked begun.negated }
 {
-    match asked {
+    let (starred, asks) = match asked {
         Asked::Switch { starred } => (starred, TestKind::Switch),
         Asked::Marked { mark } | Asked::StarredMark { mark } | Asked::Bare { mark } => if mark
             == b'.'
@@ -243,6 +255,12 @@ fn asks(asked: Asked) -> (bool, TestKind)
         } else {
             (false, TestKind::Language)
         },
+    };
+    let negated = begun.negated;
+    Naming {
+        starred,
+        negated,
+        asks,
     }
 }
 
@@ -260,21 +278,12 @@ fn write_test(
         (test_of o.entry.asked (spelled o.entry.word r.old.word.items)))) }
 {
     let choice = opened(so_far, begun.start, r)?;
-    let (star, kind) = asks(o.asked);
-    written(
-        TokenKind::Test,
-        begun.start,
-        end,
-        o.word,
-        star,
-        begun.negated,
-        kind,
-        r,
-    )?;
+    let naming = naming_of(o.asked, begun);
+    written(TokenKind::Test, begun.start, end, o.word, naming, r)?;
     Ok(Choice {
         part: choice.part,
         label: choice.label,
-        starred: choice.starred && star && !begun.negated,
+        starred: choice.starred && naming.starred && !naming.negated,
     })
 }
 
@@ -401,7 +410,7 @@ pub fn plain_test(
         (descent.asked_from descent.no_lists top at (order_seen order) begun.start begun.negated
         r.old.rest.at r.old.rest.bytes)) }
 {
-    let o = plain_operand(outer, at, emits(order, begun), begun.byte, r)?;
+    let o = plain_operand(outer, at, order, begun, r)?;
     let end = r.rest.at();
     r.rest.skip_white();
     let Some(b) = r.rest.first() else {

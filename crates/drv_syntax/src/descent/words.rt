@@ -1,16 +1,16 @@
 //! Runs of bytes of one class, and words with escapes.
 
 ghost use Rattle.drv_syntax.specs.Descent as descent;
-ghost use Rattle.drv_syntax.specs.Code.Writing.{in_class, quoted_seen, quoted_to, runs_in, seen, words_seen};
+ghost use Rattle.drv_syntax.specs.Code.Writing.{in_class, quoted_to, seen, words_seen};
 ghost use Rattle.drv_syntax.specs.Code.Left.{begins_with};
 ghost use Rattle.drv_syntax.specs.Code.Left.{first_of, second_of};
 ghost use Rattle.drv_words.specs.Gives.{Gives};
-ghost use Rattle.std.specs.List.{prefix_len};
-ghost use Rattle.std.specs.Prelude.{◌≡◌, ◌≤◌, [], Ok, length};
+ghost use Rattle.std.specs.Prelude.{◌≡◌, [], Ok};
 
 use crate::descent::bytes::is_word;
 use crate::descent::contexts::ListKind;
 use crate::descent::reader::{Reader, Spelled};
+use crate::descent::runs::{RunKind, run_length};
 use crate::fault::SyntaxFault;
 
 /// What the bytes of a word can be.
@@ -24,8 +24,9 @@ pub enum Class {
     Said(ListKind),
 }
 
+/// The byte belongs to the class.
 #[inline(always)]
-fn belongs(class: Class, b: u8) -> bool
+pub fn belongs(class: Class, b: u8) -> bool
     ensures { result ≡ in_class class b }
 {
     match class {
@@ -34,19 +35,6 @@ fn belongs(class: Class, b: u8) -> bool
         Class::Said(ListKind::Top | ListKind::InArguments) => b != b'\n',
         Class::Said(ListKind::InX) => b != b'\n' && b != b';' && b != b'}',
     }
-}
-
-/// How many bytes of the class a text begins with, up to a backslash.
-#[inline(always)]
-fn run_length(class: Class, text: &[u8]) -> usize
-    ensures run { result ≡ prefix_len (runs_in class) text.now }
-    ensures within { result ≤ length text.now }
-{
-    let mut length = 0;
-    while length < text.len() && belongs(class, text[length]) && text[length] != b'\\' {
-        length += 1;
-    }
-    length
 }
 
 /// The text begins with this byte.
@@ -84,8 +72,12 @@ pub fn second(text: &[u8]) -> Option<u8>
 
 /// More of a run of bytes of the class and of escapes, after this part of it; nothing where the text
 /// ends in an escape.
-fn escaped(class: Class, front: &[u8], r: &mut Reader<'_>) -> Result<bool, SyntaxFault>
-    ensures { Gives SyntaxFault.Memory (λ closed. quoted_seen closed r.new.word.items (seen r.new))
+fn escaped<'a>(
+    class: Class,
+    front: &[u8],
+    r: &mut Reader<'a>,
+) -> Result<Option<Spelled<'a>>, SyntaxFault>
+    ensures { Gives SyntaxFault.Memory (λ word. words_seen word r.new.word.items (seen r.new))
         result (Ok (quoted_to front.now (seen r.old)
         (descent.quoted (in_class class) r.old.rest.bytes))) }
 {
@@ -94,7 +86,7 @@ fn escaped(class: Class, front: &[u8], r: &mut Reader<'_>) -> Result<bool, Synta
     while let Some(b) = first(r.rest.bytes()) {
         if b == b'\\' {
             let Some(escaped) = second(r.rest.bytes()) else {
-                return Ok(false);
+                return Ok(None);
             };
             r.word.push(escaped)?;
             r.rest.take(2);
@@ -102,10 +94,10 @@ fn escaped(class: Class, front: &[u8], r: &mut Reader<'_>) -> Result<bool, Synta
             r.word.push(b)?;
             r.rest.take(1);
         } else {
-            return Ok(true);
+            return Ok(Some(Spelled::Copied));
         }
     }
-    Ok(true)
+    Ok(Some(Spelled::Copied))
 }
 
 /// The longest run of bytes of the class and of escapes; nothing where the text ends in an escape.
@@ -115,14 +107,10 @@ pub fn quoted<'a>(class: Class, r: &mut Reader<'a>) -> Result<Option<Spelled<'a>
         result (Ok (quoted_to [] (seen r.old)
         (descent.quoted (in_class class) r.old.rest.bytes))) }
 {
-    let size = run_length(class, r.rest.bytes());
+    let size = run_length(RunKind::Word(class), r.rest.bytes());
     let run = r.rest.take(size);
     if !begins(b'\\', r.rest.bytes()) {
         return Ok(Some(Spelled::Lent(run)));
     }
-    if escaped(class, run, r)? {
-        Ok(Some(Spelled::Copied))
-    } else {
-        Ok(None)
-    }
+    escaped(class, run, r)
 }

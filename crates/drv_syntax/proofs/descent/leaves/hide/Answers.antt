@@ -9,4 +9,4 @@ use Rattle.std.proofs.Common.{◌∙◌}
 pub returns : goal.returns
 returns c =
     hidden_done c.args.outer c.args.at (seen c.args.r.now) (seen c.pattern.new.r) (spelled c.in_ok-p.p.word c.pattern.new.r.word.items)
-    c.in_ok-p.p.star c.in_ok-p.ensures ∙ c.in_ok-starred.ensures
+    c.in_ok-p.p.star c.in_ok-p.ensures ∙ c.in_ok-written_here.ensures

@@ -12,32 +12,32 @@ use Rattle.std.specs.Prelude.{Err}
 -- the name has over 255 bytes
 pub returns-then-size-gt255 : goal.returns-then-size-gt255
 returns-then-size-gt255 c =
-    inr (name_long c.args.outer c.args.at c.args.at (seen c.args.r.now) c.name_length-size.result
-    (c.name_length-size.ensures.run ∙ ap (λ bs. prefix_len is_name_byte bs) c.bytes.ensures) (omega (arith, c.if-size-gt255.true)))
+    inr (name_long c.args.outer c.args.at c.args.at (seen c.args.r.now) c.run_length-size.result
+    (c.run_length-size.ensures.run ∙ ap (λ bs. prefix_len is_name_byte bs) c.bytes.ensures) (omega (arith, c.if-size-gt255.true)))
 
 -- the text ends in the name
 pub returns-in_default : goal.returns-in_default
 returns-in_default c =
-    inr (name_cut c.args.outer c.args.at c.args.at (seen c.args.r.now) c.name_length-size.result c.take-name.result.now c.take-name.new.self
-    (c.name_length-size.ensures.run ∙ ap (λ bs. prefix_len is_name_byte bs) c.bytes.ensures) (omega (arith, c.if-size-gt255.false))
+    inr (name_cut c.args.outer c.args.at c.args.at (seen c.args.r.now) c.run_length-size.result c.take-name.result.now c.take-name.new.self
+    (c.run_length-size.ensures.run ∙ ap (λ bs. prefix_len is_name_byte bs) c.bytes.ensures) (omega (arith, c.if-size-gt255.false))
     c.take-name.ensures.left c.take-name.ensures.taken (ap (λ bs. first_of bs) (sym c.bytes-2.ensures) ∙ sym c.in_default.ensures)
     ∙ ap (λ e. Err e) (sym c.unclosed.ensures))
 
 -- another byte than a closing parenthesis (41) follows the name
 pub returns-then-b-ne41 : goal.returns-then-b-ne41
 returns-then-b-ne41 c =
-    inr (name_bad c.args.outer c.args.at c.args.at (seen c.args.r.now) c.name_length-size.result c.take-name.result.now c.take-name.new.self
-    (c.name_length-size.ensures.run ∙ ap (λ bs. prefix_len is_name_byte bs) c.bytes.ensures) (omega (arith, c.if-size-gt255.false))
+    inr (name_bad c.args.outer c.args.at c.args.at (seen c.args.r.now) c.run_length-size.result c.take-name.result.now c.take-name.new.self
+    (c.run_length-size.ensures.run ∙ ap (λ bs. prefix_len is_name_byte bs) c.bytes.ensures) (omega (arith, c.if-size-gt255.false))
     c.take-name.ensures.left c.take-name.ensures.taken c.in-Some.b (ap (λ bs. first_of bs) (sym c.bytes-2.ensures) ∙ sym c.in-Some.ensures)
     c.if-b-ne41.true)
 
 -- the name is written, with its parenthesis
 pub returns : goal.returns
 returns c =
-    name_done c.args.outer c.args.at c.args.at (seen c.args.r.now) c.name_length-size.result c.take-name.result.now c.take-name.new.self
-    (c.name_length-size.ensures.run ∙ ap (λ bs. prefix_len is_name_byte bs) c.bytes.ensures) (omega (arith, c.if-size-gt255.false))
+    name_done c.args.outer c.args.at c.args.at (seen c.args.r.now) c.run_length-size.result c.take-name.result.now c.take-name.new.self
+    (c.run_length-size.ensures.run ∙ ap (λ bs. prefix_len is_name_byte bs) c.bytes.ensures) (omega (arith, c.if-size-gt255.false))
     c.take-name.ensures.left c.take-name.ensures.taken c.in-Some.b c.take.new.self c.take.ensures.left
     (ap (λ bs. first_of bs) (sym c.bytes-2.ensures) ∙ sym c.in-Some.ensures) c.if-b-ne41.false
-    (taken_some c.name_length-size.result c.take-name.result.now c.args.r.now.rest.bytes c.take-name.ensures.taken
-    (subst (λ bs. c.name_length-size.result ≤ length bs) c.bytes.ensures c.name_length-size.ensures.within) c.if-size-eq0.false)
+    (taken_some c.run_length-size.result c.take-name.result.now c.args.r.now.rest.bytes c.take-name.ensures.taken
+    (subst (λ bs. c.run_length-size.result ≤ length bs) c.bytes.ensures c.run_length-size.ensures.within) c.if-size-eq0.false)
     ∙ c.in_ok-named.ensures

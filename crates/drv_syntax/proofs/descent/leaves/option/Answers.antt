@@ -53,4 +53,4 @@ returns c =
     (c.if-none.ensures ∙ ap (λ x. is_empty (spelled c.in-Some-2.word x)) c.deref.ensures.value) c.take-2.ensures.left
     (quoted_parts (at_rest c.take.new.self (seen c.args.r.now)) (seen c.quoted.new.r) _
     (seen_some _ c.in-Some-2.word c.quoted.new.r.word.items (seen c.quoted.new.r) _ c.in_ok-word.ensures c.in-Some-2.is))
-    ∙ c.in_ok-starred.ensures
+    ∙ c.in_ok-written_here.ensures

@@ -1,4 +1,4 @@
-use Rattle.drv_syntax.proofs.GivenParts.{quoted_parts, saying_done, saying_hung, seen_none, seen_some}
+use Rattle.drv_syntax.proofs.GivenParts.{saying_done, saying_hung, seen_none, seen_some}
 use Rattle.drv_syntax.proofs.descent.leaves.saying.Goals as goal
 use Rattle.drv_syntax.specs.Code.Writing.{at_rest, kind_seen, leaf_here, open_at, seen, spelled}
 use Rattle.drv_syntax.specs.Labels.{word_label}
@@ -22,8 +22,6 @@ returns c =
     (spelled c.in-Some.word c.quoted.new.r.word.items) c.take_if.new.self
     (seen_some _ c.in-Some.word c.quoted.new.r.word.items (seen c.quoted.new.r) _ c.in_ok-word.ensures c.in-Some.is)
     c.take_if.ensures
-    (quoted_parts (seen c.args.r.now) (seen c.quoted.new.r) _
-    (seen_some _ c.in-Some.word c.quoted.new.r.word.items (seen c.quoted.new.r) _ c.in_ok-word.ensures c.in-Some.is))
     ∙ ap (λ k. Ok (leaf_here k (word_label (spelled c.in-Some.word c.quoted.new.r.word.items)) c.args.at
     (at_rest c.take_if.new.self (seen c.quoted.new.r)))) (sym c.said.ensures)
-    ∙ c.in_ok-starred.ensures
+    ∙ c.in_ok-written_here.ensures

@@ -1,6 +1,6 @@
 use Rattle.drv_syntax.proofs.AskedResults.{asked_done, asked_stop}
 use Rattle.drv_syntax.proofs.ChoicesGiven.{choices_later_done, choices_later_stop, choices_patterns, choices_stop, choices_x_last}
-use Rattle.drv_syntax.proofs.ChoicesGiven.{choices_x_stop, colon_is}
+use Rattle.drv_syntax.proofs.ChoicesGiven.{choices_x_stop}
 use Rattle.drv_syntax.proofs.ChoicesGiven.{default_bad, default_last, default_stop, later_less, later_patterns, later_stop, later_x_last}
 use Rattle.drv_syntax.proofs.ChoicesGiven.{later_x_more, later_x_stop}
 use Rattle.drv_syntax.proofs.FormsGiven.{bars_done, bars_stop, joins_done, joins_stop, more_at, more_never, more_stop, tests_at, tests_stop}
@@ -11,7 +11,8 @@ use Rattle.drv_syntax.proofs.ListsGiven.{byte_goes, byte_shorter, byte_stops, di
 use Rattle.drv_syntax.proofs.ListsGiven.{items_end, items_finish}
 use Rattle.drv_syntax.proofs.ListsGiven.{plains_go, plains_shorter}
 use Rattle.drv_syntax.proofs.PercentGiven.{braces_go, call_goes, marked_bad, marked_go, marked_opens, percent_opens, places, simple_goes}
-use Rattle.drv_syntax.proofs.ResultsGiven.{begun_first, deep_enough, result_bad, result_cut, result_done, result_stop, test_plain}
+use Rattle.drv_syntax.proofs.ResultsGiven.{deep_enough, result_bad, result_cut, result_done, result_stop, test_plain}
+use Rattle.drv_syntax.proofs.TestsGiven.{gives_same}
 use Rattle.drv_syntax.proofs.Writing.{differs}
 use Rattle.drv_syntax.proofs.descent.lists.+list.Goals as goal
 use Rattle.drv_syntax.specs.Code.Lists.{around, brace_given, closed_here, context_seen, listed_given, tail_at}
@@ -132,15 +133,16 @@ items-loop-tail-preserved t c =
 
 pub percent-returns-then-is_simple : goal.percent-returns-then-is_simple
 percent-returns-then-is_simple t c =
-    percent_opens (around c.args.c.levels) (context_seen c.args.c) c.args.outer (seen c.args.r.now) c.at-at.result c.in-Some.b
+    gives_same _ _ c.directive.result _ _
+    (percent_opens (around c.args.c.levels) (context_seen c.args.c) c.args.outer (seen c.args.r.now) c.at-at.result c.in-Some.b
     c.take.new.self c.take-2.new.self c.directive_of-d.result
     c.at-at.ensures.place c.take.ensures.left c.in-Some.ensures (sym c.allows.ensures ∙ c.if-not-allows.false) c.take-2.ensures.left
     c.directive_of-d.ensures
     ∙ simple_goes (around c.args.c.levels) (context_seen c.args.c) c.args.outer (seen c.args.r.now) c.at-at.result c.take-2.new.self
     c.directive_of-d.result (places (around c.args.c.levels) (context_seen c.args.c) c.args.outer (seen c.args.r.now) c.at-at.result
     c.take.new.self c.take-2.new.self c.at-at.ensures.place c.take.ensures.left c.take-2.ensures.left)
-    (sym c.is_simple.ensures ∙ c.if-is_simple.true)
-    ∙ c.in_ok-directive.ensures
+    (sym c.is_simple.ensures ∙ c.if-is_simple.true))
+    c.directive.ensures
 
 pub braces-returns : goal.braces-returns
 braces-returns t c =
@@ -171,48 +173,6 @@ call-returns t c =
     c.take.ensures.left
     ∙ ap (λ x. Ok x) (sym c.close.ensures)
 
-pub percent-returns-in_err-directive : goal.percent-returns-in_err-directive
-percent-returns-in_err-directive t c =
-    gives_err _ c.in_err-directive.field-0.0 _ c.from_residual.result _ _
-    (λ h. percent_opens (around c.args.c.levels) (context_seen c.args.c) c.args.outer (seen c.args.r.now) c.at-at.result c.in-Some.b
-    c.take.new.self c.take-2.new.self c.directive_of-d.result
-    c.at-at.ensures.place c.take.ensures.left c.in-Some.ensures (sym c.allows.ensures ∙ c.if-not-allows.false) c.take-2.ensures.left
-    c.directive_of-d.ensures
-    ∙ simple_goes (around c.args.c.levels) (context_seen c.args.c) c.args.outer (seen c.args.r.now) c.at-at.result c.take-2.new.self
-    c.directive_of-d.result (places (around c.args.c.levels) (context_seen c.args.c) c.args.outer (seen c.args.r.now) c.at-at.result
-    c.take.new.self c.take-2.new.self c.at-at.ensures.place c.take.ensures.left c.take-2.ensures.left)
-    (sym c.is_simple.ensures ∙ c.if-is_simple.true)
-    ∙ h)
-    c.in_err-directive.ensures c.from_residual.ensures.1
-
-pub percent-returns-in_err-call-in-WithCall : goal.percent-returns-in_err-call-in-WithCall
-percent-returns-in_err-call-in-WithCall t c =
-    gives_err _ c.in_err-call-in-WithCall.field-0.0 _ c.from_residual-in_err-call-in-WithCall.result _ _
-    (λ h. percent_opens (around c.args.c.levels) (context_seen c.args.c) c.args.outer (seen c.args.r.now) c.at-at.result c.in-Some.b
-    c.take.new.self c.take-2.new.self c.directive_of-d.result
-    c.at-at.ensures.place c.take.ensures.left c.in-Some.ensures (sym c.allows.ensures ∙ c.if-not-allows.false) c.take-2.ensures.left
-    c.directive_of-d.ensures
-    ∙ call_goes (around c.args.c.levels) (context_seen c.args.c) c.args.outer (seen c.args.r.now) c.at-at.result c.take-2.new.self
-    c.directive_of-d.result c.in-WithCall.is
-    (places (around c.args.c.levels) (context_seen c.args.c) c.args.outer (seen c.args.r.now) c.at-at.result c.take.new.self
-    c.take-2.new.self c.at-at.ensures.place c.take.ensures.left c.take-2.ensures.left) (differs c.args.c.levels 0 c.if-c-eq0.false)
-    ∙ h)
-    c.in_err-call-in-WithCall.ensures c.from_residual-in_err-call-in-WithCall.ensures.1
-
-pub percent-returns-in_err-braces-in-WithBraces : goal.percent-returns-in_err-braces-in-WithBraces
-percent-returns-in_err-braces-in-WithBraces t c =
-    gives_err _ c.in_err-braces-in-WithBraces.field-0.0 _ c.from_residual-in_err-braces-in-WithBraces.result _ _
-    (λ h. percent_opens (around c.args.c.levels) (context_seen c.args.c) c.args.outer (seen c.args.r.now) c.at-at.result c.in-Some.b
-    c.take.new.self c.take-2.new.self c.directive_of-d.result
-    c.at-at.ensures.place c.take.ensures.left c.in-Some.ensures (sym c.allows.ensures ∙ c.if-not-allows.false) c.take-2.ensures.left
-    c.directive_of-d.ensures
-    ∙ braces_go (around c.args.c.levels) (context_seen c.args.c) c.args.outer (seen c.args.r.now) c.at-at.result c.take-2.new.self
-    c.directive_of-d.result c.in-WithBraces.is
-    (places (around c.args.c.levels) (context_seen c.args.c) c.args.outer (seen c.args.r.now) c.at-at.result c.take.new.self
-    c.take-2.new.self c.at-at.ensures.place c.take.ensures.left c.take-2.ensures.left) (differs c.args.c.levels 0 c.if-c-eq0.false)
-    ∙ h)
-    c.in_err-braces-in-WithBraces.ensures c.from_residual-in_err-braces-in-WithBraces.ensures.1
-
 -- another byte than an opening brace (123) follows %W or %@
 pub percent-returns-then-b-ne123 : goal.percent-returns-then-b-ne123
 percent-returns-then-b-ne123 t c =
@@ -227,50 +187,36 @@ percent-returns-then-b-ne123 t c =
     ∙ marked_bad (around c.args.c.levels) (context_seen c.args.c) c.args.outer (seen c.args.r.now) c.at-at.result c.take-2.new.self
     c.in-WithMarkedBraces.kind c.in-Some-first.b c.in-Some-first.ensures (differs c.in-Some-first.b 123 c.if-b-ne123.true))
 
-pub percent-returns-in_err-braces-in-WithMarkedBraces : goal.percent-returns-in_err-braces-in-WithMarkedBraces
-percent-returns-in_err-braces-in-WithMarkedBraces t c =
-    gives_err _ c.in_err-braces-in-WithMarkedBraces.field-0.0 _ c.from_residual-in_err-braces-in-WithMarkedBraces.result _ _
-    (λ h. percent_opens (around c.args.c.levels) (context_seen c.args.c) c.args.outer (seen c.args.r.now) c.at-at.result c.in-Some.b
-    c.take.new.self c.take-2.new.self c.directive_of-d.result
-    c.at-at.ensures.place c.take.ensures.left c.in-Some.ensures (sym c.allows.ensures ∙ c.if-not-allows.false) c.take-2.ensures.left
-    c.directive_of-d.ensures
-    ∙ marked_go (around c.args.c.levels) (context_seen c.args.c) c.args.outer (seen c.args.r.now) c.at-at.result c.take-2.new.self
-    c.directive_of-d.result c.in-WithMarkedBraces.kind c.in-WithMarkedBraces.is
-    (places (around c.args.c.levels) (context_seen c.args.c) c.args.outer (seen c.args.r.now) c.at-at.result c.take.new.self
-    c.take-2.new.self c.at-at.ensures.place c.take.ensures.left c.take-2.ensures.left) (differs c.args.c.levels 0 c.if-c-eq0.false)
-    ∙ marked_opens (around c.args.c.levels) (context_seen c.args.c) c.args.outer (seen c.args.r.now) c.at-at.result c.take-2.new.self
-    c.take-in-WithMarkedBraces.new.self c.in-WithMarkedBraces.kind c.in-Some-first.b c.in-Some-first.ensures
-    c.if-b-ne123.false c.take-in-WithMarkedBraces.ensures.left
-    ∙ h)
-    c.in_err-braces-in-WithMarkedBraces.ensures c.from_residual-in_err-braces-in-WithMarkedBraces.ensures.1
-
-pub percent-returns-in_ok-call-in-WithCall : goal.percent-returns-in_ok-call-in-WithCall
-percent-returns-in_ok-call-in-WithCall t c =
-    percent_opens (around c.args.c.levels) (context_seen c.args.c) c.args.outer (seen c.args.r.now) c.at-at.result c.in-Some.b
+pub percent-returns-in-WithCall : goal.percent-returns-in-WithCall
+percent-returns-in-WithCall t c =
+    gives_same _ _ c.call.result _ _
+    (percent_opens (around c.args.c.levels) (context_seen c.args.c) c.args.outer (seen c.args.r.now) c.at-at.result c.in-Some.b
     c.take.new.self c.take-2.new.self c.directive_of-d.result
     c.at-at.ensures.place c.take.ensures.left c.in-Some.ensures (sym c.allows.ensures ∙ c.if-not-allows.false) c.take-2.ensures.left
     c.directive_of-d.ensures
     ∙ call_goes (around c.args.c.levels) (context_seen c.args.c) c.args.outer (seen c.args.r.now) c.at-at.result c.take-2.new.self
     c.directive_of-d.result c.in-WithCall.is
     (places (around c.args.c.levels) (context_seen c.args.c) c.args.outer (seen c.args.r.now) c.at-at.result c.take.new.self
-    c.take-2.new.self c.at-at.ensures.place c.take.ensures.left c.take-2.ensures.left) (differs c.args.c.levels 0 c.if-c-eq0.false)
-    ∙ c.in_ok-call-in-WithCall.ensures
+    c.take-2.new.self c.at-at.ensures.place c.take.ensures.left c.take-2.ensures.left) (differs c.args.c.levels 0 c.if-c-eq0.false))
+    c.call.ensures
 
-pub percent-returns-in_ok-braces-in-WithBraces : goal.percent-returns-in_ok-braces-in-WithBraces
-percent-returns-in_ok-braces-in-WithBraces t c =
-    percent_opens (around c.args.c.levels) (context_seen c.args.c) c.args.outer (seen c.args.r.now) c.at-at.result c.in-Some.b
+pub percent-returns-in-WithBraces : goal.percent-returns-in-WithBraces
+percent-returns-in-WithBraces t c =
+    gives_same _ _ c.braces.result _ _
+    (percent_opens (around c.args.c.levels) (context_seen c.args.c) c.args.outer (seen c.args.r.now) c.at-at.result c.in-Some.b
     c.take.new.self c.take-2.new.self c.directive_of-d.result
     c.at-at.ensures.place c.take.ensures.left c.in-Some.ensures (sym c.allows.ensures ∙ c.if-not-allows.false) c.take-2.ensures.left
     c.directive_of-d.ensures
     ∙ braces_go (around c.args.c.levels) (context_seen c.args.c) c.args.outer (seen c.args.r.now) c.at-at.result c.take-2.new.self
     c.directive_of-d.result c.in-WithBraces.is
     (places (around c.args.c.levels) (context_seen c.args.c) c.args.outer (seen c.args.r.now) c.at-at.result c.take.new.self
-    c.take-2.new.self c.at-at.ensures.place c.take.ensures.left c.take-2.ensures.left) (differs c.args.c.levels 0 c.if-c-eq0.false)
-    ∙ c.in_ok-braces-in-WithBraces.ensures
+    c.take-2.new.self c.at-at.ensures.place c.take.ensures.left c.take-2.ensures.left) (differs c.args.c.levels 0 c.if-c-eq0.false))
+    c.braces.ensures
 
-pub percent-returns-in_ok-braces-in-WithMarkedBraces : goal.percent-returns-in_ok-braces-in-WithMarkedBraces
-percent-returns-in_ok-braces-in-WithMarkedBraces t c =
-    percent_opens (around c.args.c.levels) (context_seen c.args.c) c.args.outer (seen c.args.r.now) c.at-at.result c.in-Some.b
+pub percent-returns-else-b-ne123 : goal.percent-returns-else-b-ne123
+percent-returns-else-b-ne123 t c =
+    gives_same _ _ c.braces-in-WithMarkedBraces.result _ _
+    (percent_opens (around c.args.c.levels) (context_seen c.args.c) c.args.outer (seen c.args.r.now) c.at-at.result c.in-Some.b
     c.take.new.self c.take-2.new.self c.directive_of-d.result
     c.at-at.ensures.place c.take.ensures.left c.in-Some.ensures (sym c.allows.ensures ∙ c.if-not-allows.false) c.take-2.ensures.left
     c.directive_of-d.ensures
@@ -280,8 +226,8 @@ percent-returns-in_ok-braces-in-WithMarkedBraces t c =
     c.take-2.new.self c.at-at.ensures.place c.take.ensures.left c.take-2.ensures.left) (differs c.args.c.levels 0 c.if-c-eq0.false)
     ∙ marked_opens (around c.args.c.levels) (context_seen c.args.c) c.args.outer (seen c.args.r.now) c.at-at.result c.take-2.new.self
     c.take-in-WithMarkedBraces.new.self c.in-WithMarkedBraces.kind c.in-Some-first.b c.in-Some-first.ensures
-    c.if-b-ne123.false c.take-in-WithMarkedBraces.ensures.left
-    ∙ c.in_ok-braces-in-WithMarkedBraces.ensures
+    c.if-b-ne123.false c.take-in-WithMarkedBraces.ensures.left)
+    c.braces-in-WithMarkedBraces.ensures
 
 pub tests-returns-in_err-test : goal.tests-returns-in_err-test
 tests-returns-in_err-test t c =
@@ -411,10 +357,8 @@ later-returns-in_err-x t c =
     gives_err _ c.in_err-x.field-0.0 _ c.from_residual-in_err-x.result _ _
     (λ h. sym c.loop-r.invariant ∙ default_stop (around c.args.c.levels).0 (around c.args.c.levels).1
     (context_seen c.args.c) c.args.at c.args.outer (seen c.loop-r.r)
-    (colon_is (around c.args.c.levels).0 (around c.args.c.levels).1 (context_seen c.args.c) c.args.at c.args.outer
-    (seen c.loop-r.r) c.white_length-white.result c.bytes.result.now c.bytes-in-loop-r.result.now true
-    c.white_length-white.ensures.run c.bytes.ensures c.bytes-in-loop-r.ensures (sym c.begins_at.ensures ∙ c.if-begins_at.true))
-    c.white_length-white.result c.bytes.result.now c.take.new.self c.white_length-white.ensures.run c.bytes.ensures c.take.ensures.left
+    (sym c.begins_after_white.ensures ∙ c.if-begins_after_white.true)
+    c.skip_white.new.self c.skip_white.ensures
     c.in_ok-choice.choice (seen c.opened_default.new.r) (ok_same c.in_ok-choice.ensures) c.in_err-x.field-0.0 h)
     c.in_err-x.ensures c.from_residual-in_err-x.ensures.1
 
@@ -423,22 +367,18 @@ pub later-returns-then-branch-ne125 : goal.later-returns-then-branch-ne125
 later-returns-then-branch-ne125 t c =
     inr (sym c.loop-r.invariant ∙ default_bad (around c.args.c.levels).0 (around c.args.c.levels).1
     (context_seen c.args.c) c.args.at c.args.outer (seen c.loop-r.r)
-    (colon_is (around c.args.c.levels).0 (around c.args.c.levels).1 (context_seen c.args.c) c.args.at c.args.outer
-    (seen c.loop-r.r) c.white_length-white.result c.bytes.result.now c.bytes-in-loop-r.result.now true
-    c.white_length-white.ensures.run c.bytes.ensures c.bytes-in-loop-r.ensures (sym c.begins_at.ensures ∙ c.if-begins_at.true))
-    c.white_length-white.result c.bytes.result.now c.take.new.self c.white_length-white.ensures.run c.bytes.ensures c.take.ensures.left
+    (sym c.begins_after_white.ensures ∙ c.if-begins_after_white.true)
+    c.skip_white.new.self c.skip_white.ensures
     c.in_ok-choice.choice (seen c.opened_default.new.r) (ok_same c.in_ok-choice.ensures)
     c.in_ok-x.field-0 (seen c.x.new.r) c.in_ok-x.ensures c.if-branch-ne125.true)
 
 -- the default is the last alternative
-pub later-returns-then-begins_at : goal.later-returns-then-begins_at
-later-returns-then-begins_at t c =
+pub later-returns-then-begins_after_white : goal.later-returns-then-begins_after_white
+later-returns-then-begins_after_white t c =
     sym c.loop-r.invariant ∙ default_last (around c.args.c.levels).0 (around c.args.c.levels).1
     (context_seen c.args.c) c.args.at c.args.outer (seen c.loop-r.r)
-    (colon_is (around c.args.c.levels).0 (around c.args.c.levels).1 (context_seen c.args.c) c.args.at c.args.outer
-    (seen c.loop-r.r) c.white_length-white.result c.bytes.result.now c.bytes-in-loop-r.result.now true
-    c.white_length-white.ensures.run c.bytes.ensures c.bytes-in-loop-r.ensures (sym c.begins_at.ensures ∙ c.if-begins_at.true))
-    c.white_length-white.result c.bytes.result.now c.take.new.self c.white_length-white.ensures.run c.bytes.ensures c.take.ensures.left
+    (sym c.begins_after_white.ensures ∙ c.if-begins_after_white.true)
+    c.skip_white.new.self c.skip_white.ensures
     c.in_ok-choice.choice (seen c.opened_default.new.r) (ok_same c.in_ok-choice.ensures)
     c.in_ok-x.field-0 (seen c.x.new.r) c.in_ok-x.ensures c.if-branch-ne125.false
 
@@ -447,9 +387,7 @@ later-returns-in_err-choice-2 t c =
     gives_err _ c.in_err-choice-2.field-0.0 _ c.from_residual-in_err-choice-2.result _ _
     (λ h. sym c.loop-r.invariant ∙ later_stop (around c.args.c.levels).0 (around c.args.c.levels).1
     (context_seen c.args.c) c.args.at c.args.outer (seen c.loop-r.r) c.in_err-choice-2.field-0.0
-    (colon_is (around c.args.c.levels).0 (around c.args.c.levels).1 (context_seen c.args.c) c.args.at c.args.outer
-    (seen c.loop-r.r) c.white_length-white.result c.bytes.result.now c.bytes-in-loop-r.result.now false
-    c.white_length-white.ensures.run c.bytes.ensures c.bytes-in-loop-r.ensures (sym c.begins_at.ensures ∙ c.if-begins_at.false)) h)
+    (sym c.begins_after_white.ensures ∙ c.if-begins_after_white.false) h)
     c.in_err-choice-2.ensures c.from_residual-in_err-choice-2.ensures.1
 
 -- patterns are in the place of a later alternative
@@ -457,9 +395,7 @@ pub later-returns-in_default : goal.later-returns-in_default
 later-returns-in_default t c =
     inr (sym c.loop-r.invariant ∙ later_patterns (around c.args.c.levels).0 (around c.args.c.levels).1
     (context_seen c.args.c) c.args.at c.args.outer (seen c.loop-r.r)
-    (colon_is (around c.args.c.levels).0 (around c.args.c.levels).1 (context_seen c.args.c) c.args.at c.args.outer
-    (seen c.loop-r.r) c.white_length-white.result c.bytes.result.now c.bytes-in-loop-r.result.now false
-    c.white_length-white.ensures.run c.bytes.ensures c.bytes-in-loop-r.ensures (sym c.begins_at.ensures ∙ c.if-begins_at.false))
+    (sym c.begins_after_white.ensures ∙ c.if-begins_after_white.false)
     (seen c.tests.new.r) c.in_ok-choice-2.field-0 c.in_ok-choice-2.ensures c.in_default.is)
 
 pub later-returns-in_err-x-2 : goal.later-returns-in_err-x-2
@@ -467,9 +403,7 @@ later-returns-in_err-x-2 t c =
     gives_err _ c.in_err-x-2.field-0.0 _ c.from_residual-in_err-x-2.result _ _
     (λ h. sym c.loop-r.invariant ∙ later_x_stop (around c.args.c.levels).0 (around c.args.c.levels).1
     (context_seen c.args.c) c.args.at c.args.outer (seen c.loop-r.r)
-    (colon_is (around c.args.c.levels).0 (around c.args.c.levels).1 (context_seen c.args.c) c.args.at c.args.outer
-    (seen c.loop-r.r) c.white_length-white.result c.bytes.result.now c.bytes-in-loop-r.result.now false
-    c.white_length-white.ensures.run c.bytes.ensures c.bytes-in-loop-r.ensures (sym c.begins_at.ensures ∙ c.if-begins_at.false))
+    (sym c.begins_after_white.ensures ∙ c.if-begins_after_white.false)
     (seen c.tests.new.r) c.in_ok-choice-2.field-0 c.in_ok-choice-2.ensures c.in-Tests.choice c.in-Tests.is c.in_err-x-2.field-0.0 h)
     c.in_err-x-2.ensures c.from_residual-in_err-x-2.ensures.1
 
@@ -478,27 +412,21 @@ pub later-returns-then-branch-eq125 : goal.later-returns-then-branch-eq125
 later-returns-then-branch-eq125 t c =
     sym c.loop-r.invariant ∙ later_x_last (around c.args.c.levels).0 (around c.args.c.levels).1
     (context_seen c.args.c) c.args.at c.args.outer (seen c.loop-r.r)
-    (colon_is (around c.args.c.levels).0 (around c.args.c.levels).1 (context_seen c.args.c) c.args.at c.args.outer
-    (seen c.loop-r.r) c.white_length-white.result c.bytes.result.now c.bytes-in-loop-r.result.now false
-    c.white_length-white.ensures.run c.bytes.ensures c.bytes-in-loop-r.ensures (sym c.begins_at.ensures ∙ c.if-begins_at.false))
+    (sym c.begins_after_white.ensures ∙ c.if-begins_after_white.false)
     (seen c.tests.new.r) c.in_ok-choice-2.field-0 c.in_ok-choice-2.ensures c.in-Tests.choice c.in-Tests.is
     c.in_ok-x-2.field-0 (seen c.x-in-loop-r.new.r) c.in_ok-x-2.ensures c.if-branch-eq125.true
 
 pub later-loop-r-smaller : goal.later-loop-r-smaller
 later-loop-r-smaller t c =
     later_less (around c.args.c.levels).0 (around c.args.c.levels).1 (context_seen c.args.c) c.args.at c.args.outer (seen c.loop-r.r)
-    (colon_is (around c.args.c.levels).0 (around c.args.c.levels).1 (context_seen c.args.c) c.args.at c.args.outer
-    (seen c.loop-r.r) c.white_length-white.result c.bytes.result.now c.bytes-in-loop-r.result.now false
-    c.white_length-white.ensures.run c.bytes.ensures c.bytes-in-loop-r.ensures (sym c.begins_at.ensures ∙ c.if-begins_at.false))
+    (sym c.begins_after_white.ensures ∙ c.if-begins_after_white.false)
     (seen c.tests.new.r) c.in_ok-choice-2.field-0 c.in_ok-choice-2.ensures c.in-Tests.choice c.in-Tests.is
     c.in_ok-x-2.field-0 (seen c.x-in-loop-r.new.r) c.in_ok-x-2.ensures
 
 pub later-loop-r-preserved : goal.later-loop-r-preserved
 later-loop-r-preserved t c =
     sym (later_x_more (around c.args.c.levels).0 (around c.args.c.levels).1 (context_seen c.args.c) c.args.at c.args.outer (seen c.loop-r.r)
-    (colon_is (around c.args.c.levels).0 (around c.args.c.levels).1 (context_seen c.args.c) c.args.at c.args.outer
-    (seen c.loop-r.r) c.white_length-white.result c.bytes.result.now c.bytes-in-loop-r.result.now false
-    c.white_length-white.ensures.run c.bytes.ensures c.bytes-in-loop-r.ensures (sym c.begins_at.ensures ∙ c.if-begins_at.false))
+    (sym c.begins_after_white.ensures ∙ c.if-begins_after_white.false)
     (seen c.tests.new.r) c.in_ok-choice-2.field-0 c.in_ok-choice-2.ensures c.in-Tests.choice c.in-Tests.is
     c.in_ok-x-2.field-0 (seen c.x-in-loop-r.new.r) c.in_ok-x-2.ensures c.if-branch-eq125.false)
     ∙ c.loop-r.invariant
@@ -506,23 +434,12 @@ later-loop-r-preserved t c =
 -- a test without a function (no % is there, 37)
 pub test-returns-then-begun-ne37 : goal.test-returns-then-begun-ne37
 test-returns-then-begun-ne37 t c =
-    test_plain (around c.args.c.levels).1 (context_seen c.args.c) c.args.at c.args.outer (order_seen c.args.order) c.args.so_far
+    gives_same _ _ c.plain_test.result _ _
+    (test_plain (around c.args.c.levels).1 (context_seen c.args.c) c.args.at c.args.outer (order_seen c.args.order) c.args.so_far
     (seen c.args.r.now)
     (seen c.begin.new.r) c.in_ok-begun.begun c.in_ok-begun.ensures
-    (begun_first c.args.outer c.args.at (seen c.args.r.now) (seen c.begin.new.r) c.in_ok-begun.begun c.in_ok-begun.ensures)
-    (differs c.in_ok-begun.begun.byte 37 c.if-begun-ne37.true)
-    ∙ c.in_ok-next.ensures
-
-pub test-returns-in_err-next : goal.test-returns-in_err-next
-test-returns-in_err-next t c =
-    gives_err _ c.in_err-next.field-0.0 _ c.from_residual-in_err-next.result _ _
-    (λ h. test_plain (around c.args.c.levels).1 (context_seen c.args.c) c.args.at c.args.outer (order_seen c.args.order) c.args.so_far
-    (seen c.args.r.now)
-    (seen c.begin.new.r) c.in_ok-begun.begun c.in_ok-begun.ensures
-    (begun_first c.args.outer c.args.at (seen c.args.r.now) (seen c.begin.new.r) c.in_ok-begun.begun c.in_ok-begun.ensures)
-    (differs c.in_ok-begun.begun.byte 37 c.if-begun-ne37.true)
-    ∙ h)
-    c.in_err-next.ensures c.from_residual-in_err-next.ensures.1
+    (differs c.in_ok-begun.begun.byte 37 c.if-begun-ne37.true))
+    c.plain_test.ensures
 
 pub test-returns-in_err-choice : goal.test-returns-in_err-choice
 test-returns-in_err-choice t c =
@@ -530,7 +447,6 @@ test-returns-in_err-choice t c =
     (λ h. result_stop (around c.args.c.levels).1 (context_seen c.args.c) c.args.at c.args.outer (order_seen c.args.order) c.args.so_far
     (seen c.args.r.now)
     (seen c.begin.new.r) c.in_ok-begun.begun c.in_ok-begun.ensures
-    (begun_first c.args.outer c.args.at (seen c.args.r.now) (seen c.begin.new.r) c.in_ok-begun.begun c.in_ok-begun.ensures)
     c.if-begun-ne37.false
     (deep_enough c.args.c.levels c.requires c.if-c-eq1.false) c.in_err-choice.field-0.0 h)
     c.in_err-choice.ensures c.from_residual-in_err-choice.ensures.1
@@ -540,7 +456,6 @@ test-returns-in_default t c =
     inr (result_cut (around c.args.c.levels).1 (context_seen c.args.c) c.args.at c.args.outer (order_seen c.args.order) c.args.so_far
     (seen c.args.r.now)
     (seen c.begin.new.r) c.in_ok-begun.begun c.in_ok-begun.ensures
-    (begun_first c.args.outer c.args.at (seen c.args.r.now) (seen c.begin.new.r) c.in_ok-begun.begun c.in_ok-begun.ensures)
     c.if-begun-ne37.false
     (deep_enough c.args.c.levels c.requires c.if-c-eq1.false) c.in_ok-choice.choice
     (seen c.result.new.r) c.in_ok-choice.ensures c.skip_white.new.self c.skip_white.ensures
@@ -552,7 +467,6 @@ test-returns-in_err-judged t c =
     (result_bad (around c.args.c.levels).1 (context_seen c.args.c) c.args.at c.args.outer (order_seen c.args.order) c.args.so_far
     (seen c.args.r.now)
     (seen c.begin.new.r) c.in_ok-begun.begun c.in_ok-begun.ensures
-    (begun_first c.args.outer c.args.at (seen c.args.r.now) (seen c.begin.new.r) c.in_ok-begun.begun c.in_ok-begun.ensures)
     c.if-begun-ne37.false
     (deep_enough c.args.c.levels c.requires c.if-c-eq1.false) c.in_ok-choice.choice
     (seen c.result.new.r) c.in_ok-choice.ensures c.skip_white.new.self c.skip_white.ensures
@@ -563,7 +477,6 @@ test-returns t c =
     result_done (around c.args.c.levels).1 (context_seen c.args.c) c.args.at c.args.outer (order_seen c.args.order) c.args.so_far
     (seen c.args.r.now)
     (seen c.begin.new.r) c.in_ok-begun.begun c.in_ok-begun.ensures
-    (begun_first c.args.outer c.args.at (seen c.args.r.now) (seen c.begin.new.r) c.in_ok-begun.begun c.in_ok-begun.ensures)
     c.if-begun-ne37.false
     (deep_enough c.args.c.levels c.requires c.if-c-eq1.false) c.in_ok-choice.choice
     (seen c.result.new.r) c.in_ok-choice.ensures c.skip_white.new.self c.skip_white.ensures

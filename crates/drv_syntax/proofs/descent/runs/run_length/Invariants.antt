@@ -1,15 +1,15 @@
 use Rattle.drv_syntax.proofs.descent.runs.run_length.Given as goal
-use Rattle.drv_syntax.specs.Code.Runs.{runs}
+use Rattle.drv_syntax.specs.Code.Runs.{in_run}
 use Rattle.std.proofs.Common.{◌≡◌, ◌≤◌, ◌+◌, ◌-◌, drop, length}
 use Rattle.std.specs.List.{prefix_len}
 
--- The loops of run_length (src/descent/runs.rt). How many plain bytes a text in a list of this kind begins with.
+-- The loops of run_length (src/descent/runs.rt). How many bytes of such a run a text begins with.
 
--- the plain bytes that are passed and those at the front of what is left are all
+-- the bytes of the run that are passed and those at the front of what is left are all
 abbrev pub invariant-loop-length : goal.invariant-loop-length
 invariant-loop-length l = record {
-  same : l.length + prefix_len (runs l.kind) (drop l.length l.text)
-      ≡ prefix_len (runs l.kind) l.text;
+  same : l.length + prefix_len (in_run l.kind) (drop l.length l.text)
+      ≡ prefix_len (in_run l.kind) l.text;
   within : l.length ≤ length l.text;
 }
 

@@ -1,16 +1,19 @@
-use Rattle.drv_syntax.proofs.GivenParts.{err_gives, quoted_parts, seen_none, seen_some}
+use Rattle.drv_syntax.proofs.GivenParts.{err_gives, seen_none, seen_some}
 use Rattle.drv_syntax.proofs.TestsGiven.{marked_done, marked_hung, marked_stops}
 use Rattle.drv_syntax.proofs.descent.tests.marked.Goals as goal
 use Rattle.drv_syntax.specs.Code.Writing.{is_empty, seen, spelled}
+use Rattle.drv_syntax.specs.Code.Tests.{order_seen}
+use Rattle.drv_syntax.specs.Refusals.{may_emit}
 use Rattle.std.proofs.Common.{◌∙◌, ap, inr, sym}
 use Rattle.std.specs.Prelude.{Err}
 
--- marked (src/descent/tests.rt). What a test asks that begins with this mark, after it.
+-- marked (src/descent/tests.rt). What a test asks that begins with a mark, after it.
 
 -- the text ends in an escape of the word after the mark
 pub returns-in_default : goal.returns-in_default
 returns-in_default c =
-    inr (marked_hung c.args.outer c.args.at c.args.emits c.args.mark (seen c.args.r.now) (seen c.quoted.new.r)
+    inr (marked_hung c.args.outer c.args.at (may_emit (order_seen c.args.order) c.args.begun.negated) c.args.begun.byte (seen c.args.r.now)
+    (seen c.quoted.new.r)
     (seen_none _ c.quoted.new.r.word.items (seen c.quoted.new.r) _ c.in_ok-word.ensures c.in_default.is)
     ∙ ap (λ e. Err e) (sym c.unclosed.ensures))
 
@@ -18,21 +21,21 @@ returns-in_default c =
 pub returns-in_err-form : goal.returns-in_err-form
 returns-in_err-form c =
     err_gives _ c.in_err-form.field-0.0 _ c.from_residual-in_err-form.result _ c.from_residual-in_err-form.ensures.1
-    (marked_stops c.args.outer c.args.at c.args.emits c.args.mark (seen c.args.r.now) (seen c.quoted.new.r)
-    (spelled c.in-Some.word c.quoted.new.r.word.items) c.is_none.result c.first.result c.in_err-form.field-0.0
+    (marked_stops c.args.outer c.args.at (may_emit (order_seen c.args.order) c.args.begun.negated) c.args.begun.byte (seen c.args.r.now)
+    (seen c.quoted.new.r)
+    (spelled c.in-Some.word c.quoted.new.r.word.items) _ c.first.result c.in_err-form.field-0.0
     (seen_some _ c.in-Some.word c.quoted.new.r.word.items (seen c.quoted.new.r) _ c.in_ok-word.ensures c.in-Some.is)
-    (c.is_none.ensures ∙ ap (λ x. is_empty (spelled c.in-Some.word x)) c.deref.ensures.value) c.first.ensures
+    (ap (λ x. is_empty (spelled c.in-Some.word x)) c.deref.ensures.value) c.first.ensures
     (sym c.mark_form.ensures ∙ c.in_err-form.was))
 
 -- the word and what follows it are taken
 pub returns : goal.returns
 returns c =
-    marked_done c.args.outer c.args.at c.args.emits c.args.mark (seen c.args.r.now) (seen c.quoted.new.r)
-    (spelled c.in-Some.word c.quoted.new.r.word.items) c.is_none.result c.first.result c.in_ok-form.form c.marked_as.result
+    marked_done c.args.outer c.args.at (may_emit (order_seen c.args.order) c.args.begun.negated) c.args.begun.byte (seen c.args.r.now)
+    (seen c.quoted.new.r)
+    (spelled c.in-Some.word c.quoted.new.r.word.items) _ c.first.result c.in_ok-form.form c.marked_as.result
     c.take_if.new.self
     (seen_some _ c.in-Some.word c.quoted.new.r.word.items (seen c.quoted.new.r) _ c.in_ok-word.ensures c.in-Some.is)
-    (c.is_none.ensures ∙ ap (λ x. is_empty (spelled c.in-Some.word x)) c.deref.ensures.value) c.first.ensures
+    (ap (λ x. is_empty (spelled c.in-Some.word x)) c.deref.ensures.value) c.first.ensures
     (sym c.mark_form.ensures ∙ c.in_ok-form.was)
     c.marked_as.ensures c.take_if.ensures
-    (quoted_parts (seen c.args.r.now) (seen c.quoted.new.r) _
-    (seen_some _ c.in-Some.word c.quoted.new.r.word.items (seen c.quoted.new.r) _ c.in_ok-word.ensures c.in-Some.is))

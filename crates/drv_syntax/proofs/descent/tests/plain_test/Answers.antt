@@ -4,6 +4,8 @@ use Rattle.drv_syntax.specs.Code.Tests.{operand_seen, order_seen}
 use Rattle.drv_syntax.specs.Code.Writing.{seen}
 use Rattle.drv_syntax.specs.Contexts.{top}
 use Rattle.drv_syntax.specs.Descent.{no_lists}
+use Rattle.drv_syntax.specs.Refusals.{may_emit}
+use Rattle.std.proofs.Common.{refl}
 
 -- plain_test (src/descent/tests.rt). A test that doesn't ask for a function's result, or a pattern, after its front.
 
@@ -12,7 +14,8 @@ pub returns : goal.returns
 returns c =
     gives_same _ _ c.judged.result _ _
     (tried_some no_lists top c.args.outer c.args.at (order_seen c.args.order) c.args.so_far c.args.begun.start c.args.begun.negated
-    (seen c.args.r.now) c.emits.result (operand_seen c.in_ok-o.o c.plain_operand.new.r.word.items) (seen c.plain_operand.new.r)
-    c.skip_white.new.self c.at-end.result c.in-Some.b c.emits.ensures c.in_ok-o.ensures c.skip_white.ensures c.at-end.ensures.place
+    (seen c.args.r.now) (may_emit (order_seen c.args.order) c.args.begun.negated)
+    (operand_seen c.in_ok-o.o c.plain_operand.new.r.word.items) (seen c.plain_operand.new.r)
+    c.skip_white.new.self c.at-end.result c.in-Some.b refl c.in_ok-o.ensures c.skip_white.ensures c.at-end.ensures.place
     c.in-Some.ensures)
     c.judged.ensures

@@ -1,7 +1,8 @@
 use Rattle.drv_words.specs.Bytes as ascii
+use Rattle.drv_syntax.proofs.TestsGiven.{gives_same}
 use Rattle.drv_syntax.proofs.Writing.{run_found, run_goes}
 use Rattle.drv_syntax.proofs.descent.words.quoted.Goals as goal
-use Rattle.drv_syntax.specs.Code.Writing.{quoted_seen, runs_in, seen}
+use Rattle.drv_syntax.specs.Code.Writing.{runs_in, seen}
 use Rattle.drv_syntax.specs.Code.Left.{begins_with}
 use Rattle.std.proofs.Common.{◌∙◌, ap, sym}
 use Rattle.std.specs.List.{prefix_len}
@@ -17,18 +18,10 @@ returns-then-not-begins c =
     c.take-run.ensures.taken (ap (λ bs. begins_with ascii.backslash bs) (sym c.bytes-2.ensures) ∙ sym c.begins.ensures
     ∙ c.if-not-begins.true))
 
--- after a backslash the run is copied, and it ends
-pub returns-then-branch : goal.returns-then-branch
-returns-then-branch c =
-    ap (λ x. Ok x) (run_goes c.args.class (seen c.args.r.now) c.run_length-size.result c.take-run.result.now c.take-run.new.self
+-- after a backslash the run is copied
+pub returns : goal.returns
+returns c =
+    gives_same _ _ c.escaped.result _ _ (ap (λ x. Ok x) (run_goes c.args.class (seen c.args.r.now) c.run_length-size.result
+    c.take-run.result.now c.take-run.new.self
     (c.run_length-size.ensures.run ∙ ap (λ bs. prefix_len (runs_in c.args.class) bs) c.bytes.ensures) c.take-run.ensures.left
-    c.take-run.ensures.taken) ∙ c.in_ok-escaped.ensures
-    ∙ ap (λ t. Ok (quoted_seen t c.escaped.new.r.word.items (seen c.escaped.new.r))) c.if-branch.true
-
--- after a backslash the run is copied, and the text ends in an escape
-pub returns-else-branch : goal.returns-else-branch
-returns-else-branch c =
-    ap (λ x. Ok x) (run_goes c.args.class (seen c.args.r.now) c.run_length-size.result c.take-run.result.now c.take-run.new.self
-    (c.run_length-size.ensures.run ∙ ap (λ bs. prefix_len (runs_in c.args.class) bs) c.bytes.ensures) c.take-run.ensures.left
-    c.take-run.ensures.taken) ∙ c.in_ok-escaped.ensures
-    ∙ ap (λ t. Ok (quoted_seen t c.escaped.new.r.word.items (seen c.escaped.new.r))) c.if-branch.false
+    c.take-run.ensures.taken)) c.escaped.ensures
