@@ -31,6 +31,17 @@ pub(crate) enum GroupState {
     Failed,
 }
 
+/// A wait for a child of a group.
+#[derive(Clone, Copy)]
+pub(crate) struct GroupWait {
+    /// The number of the group.
+    pub(crate) group: usize,
+    /// The number of the child in it.
+    pub(crate) index: usize,
+    /// Whether a command of the group has failed so far.
+    pub(crate) state: GroupState,
+}
+
 /// The stage of a source.
 #[derive(Clone, Copy)]
 pub(crate) enum Stage {
@@ -60,15 +71,11 @@ pub(crate) enum Stage {
     },
     /// A child of the group is waited for next.
     Waits {
-        group: usize,
-        index: usize,
-        state: GroupState,
+        wait: GroupWait,
     },
     /// A signal ended the child, or it was lost, which is reported next.
     WaitReport {
-        group: usize,
-        index: usize,
-        state: GroupState,
+        wait: GroupWait,
         answer: WaitAnswer,
     },
     /// This file is removed next, after a failure.
@@ -160,13 +167,10 @@ impl SourceState {
                 number, group,
             )))),
             Stage::Closing { .. } => Some(Step::ClosePipe),
-            Stage::Waits { group, index, .. } => Some(self.wait(number, group, index)),
-            Stage::WaitReport {
-                group,
-                index,
-                answer,
-                ..
-            } => Some(Step::Report(wait_note(number, group, index, answer))),
+            Stage::Waits { wait } => Some(self.wait(number, wait.group, wait.index)),
+            Stage::WaitReport { wait, answer } => Some(Step::Report(wait_note(
+                number, wait.group, wait.index, answer,
+            ))),
             Stage::Removals { index } => Some(Step::Remove(Place::OnFailure {
                 job: number,
                 index,
@@ -234,18 +238,9 @@ impl SourceState {
                 why,
                 told_of(answer),
             ),
-            Stage::Closing { group, .. } => self.enter_waits(job, group, 0, GroupState::Failed),
-            Stage::Waits {
-                group,
-                index,
-                state,
-            } => self.take_wait(job, group, index, state, wait_of(answer)),
-            Stage::WaitReport { group, index, .. } => self.pass_wait(
-                job,
-                group,
-                index,
-                GroupState::Failed,
-            ),
+            Stage::Closing { group, .. } => self.enter_waits(job, group, GroupState::Failed),
+            Stage::Waits { wait } => self.take_wait(job, wait, wait_of(answer)),
+            Stage::WaitReport { wait, .. } => self.pass_wait(job, wait, GroupState::Failed),
             Stage::Removals { index } => self.take_removal(job, index, remove_of(answer)),
             Stage::RemovalReport { index } => self.pass_removal(job, index),
             Stage::Ended => {}
@@ -290,7 +285,7 @@ impl SourceState {
                 if is_followed(count, group_len(job, group)) {
                     self.stage = Stage::Starts { group };
                 } else {
-                    self.enter_waits(job, group, 0, GroupState::Sound);
+                    self.enter_waits(job, group, GroupState::Sound);
                 }
             }
             StartAnswer::NotStarted(why) => self.stage = Stage::StartReport { group, why },
@@ -308,36 +303,25 @@ impl SourceState {
         if !self.children.as_slice().is_empty() {
             self.stage = Stage::Closing { group, why, told };
         } else {
-            self.enter_waits(job, group, 0, GroupState::Failed);
+            self.enter_waits(job, group, GroupState::Failed);
         }
     }
 
     /// Takes the answer to a wait.
-    fn take_wait(
-        &mut self,
-        job: &Job,
-        group: usize,
-        index: usize,
-        state: GroupState,
-        ended: WaitAnswer,
-    )
+    fn take_wait(&mut self, job: &Job, wait: GroupWait, ended: WaitAnswer)
         ensures stage { stage_at self.new
-            ≡ after_wait job.now group self.old.started_before self.old.children.items
-            index (has_failed state) ended }
+            ≡ after_wait job.now wait.group self.old.started_before self.old.children.items
+            wait.index (has_failed wait.state) ended }
         ensures capacity { vec_capacity self.new.children ≡ vec_capacity self.old.children }
     {
         match ended {
-            WaitAnswer::Exit(code) => self.pass_wait(job, group, index, state.after_exit(code)),
+            WaitAnswer::Exit(code) => self.pass_wait(job, wait, wait.state.after_exit(code)),
             WaitAnswer::Signal => self.stage = Stage::WaitReport {
-                group,
-                index,
-                state,
+                wait,
                 answer: ended,
             },
             WaitAnswer::Lost => self.stage = Stage::WaitReport {
-                group,
-                index,
-                state,
+                wait,
                 answer: ended,
             },
         }
@@ -356,21 +340,22 @@ impl SourceState {
         }
     }
 
-    /// Goes on after a child that was waited for.
-    fn pass_wait(&mut self, job: &Job, group: usize, index: usize, state: GroupState)
+    /// Goes on after a child that was waited for, with the group in this state.
+    fn pass_wait(&mut self, job: &Job, wait: GroupWait, state: GroupState)
         ensures stage { stage_at self.new
-            ≡ enter_waits job.now group self.old.started_before self.old.children.items
-            (index + 1) (has_failed state) }
+            ≡ enter_waits job.now wait.group self.old.started_before self.old.children.items
+            (wait.index + 1) (has_failed state) }
         ensures capacity { vec_capacity self.new.children ≡ vec_capacity self.old.children }
     {
-        if is_followed(index, self.children.as_slice().len()) {
-            self.stage = Stage::Waits {
-                group,
-                index: index + 1,
+        if is_followed(wait.index, self.children.as_slice().len()) {
+            let next = GroupWait {
+                group: wait.group,
+                index: wait.index + 1,
                 state,
             };
+            self.stage = Stage::Waits { wait: next };
         } else {
-            self.end_group(job, group, state);
+            self.end_group(job, wait.group, state);
         }
     }
 
@@ -386,19 +371,20 @@ impl SourceState {
         }
     }
 
-    /// Waits for the children of a group, from this one on.
-    fn enter_waits(&mut self, job: &Job, group: usize, index: usize, state: GroupState)
+    /// Waits for the children of a group, from the first on.
+    fn enter_waits(&mut self, job: &Job, group: usize, state: GroupState)
         ensures stage { stage_at self.new
             ≡ enter_waits job.now group self.old.started_before self.old.children.items
-            index (has_failed state) }
+            0 (has_failed state) }
         ensures capacity { vec_capacity self.new.children ≡ vec_capacity self.old.children }
     {
-        if index < self.children.as_slice().len() {
-            self.stage = Stage::Waits {
+        if self.has_child() {
+            let wait = GroupWait {
                 group,
-                index,
+                index: 0,
                 state,
             };
+            self.stage = Stage::Waits { wait };
         } else {
             self.end_group(job, group, state);
         }
@@ -512,7 +498,7 @@ impl SourceState {
             Stage::Starts { .. } => false,
             Stage::StartReport { .. } => false,
             Stage::Closing { .. } => false,
-            Stage::Waits { index, .. } => index < self.children.as_slice().len(),
+            Stage::Waits { wait } => wait.index < self.children.as_slice().len(),
             Stage::WaitReport { .. } => false,
             Stage::Removals { .. } => false,
             Stage::RemovalReport { .. } => false,
