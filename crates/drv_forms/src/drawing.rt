@@ -38,16 +38,32 @@ fn push_quoted(text: &mut Vec<u8>, bytes: &[u8]) -> Result<(), AllocError>
     Ok(())
 }
 
+/// The node of a command: the name of its job, its group there, and its number in the group.
+#[derive(Drop)]
+struct Node<'a> {
+    job: &'a [u8],
+    group: usize,
+    number: usize,
+}
+
+/// The output of a job of this name.
+#[derive(Drop)]
+struct JobOutput<'a> {
+    job: &'a [u8],
+    path: &'a Option<Word>,
+}
+
 /// Adds the node of a command.
-fn push_place(text: &mut Vec<u8>, job: &[u8], group: usize, number: usize) -> Result<(), AllocError>
-    ensures { OnOk result (text.new.items ≡ text.old.items ++ place_text job.now group number) }
+fn push_place(text: &mut Vec<u8>, node: &Node<'_>) -> Result<(), AllocError>
+    ensures { OnOk result (text.new.items
+        ≡ text.old.items ++ place_text node.now.job.now node.now.group node.now.number) }
 {
     text.push(b'"')?;
-    text.extend_from_slice(job)?;
+    text.extend_from_slice(node.job)?;
     text.push(b'.')?;
-    push_number(text, group)?;
+    push_number(text, node.group)?;
     text.push(b'.')?;
-    push_number(text, number)?;
+    push_number(text, node.number)?;
     text.push(b'"')?;
     Ok(())
 }
@@ -56,31 +72,35 @@ fn push_place(text: &mut Vec<u8>, job: &[u8], group: usize, number: usize) -> Re
 fn push_node(
     alloc: Global,
     text: &mut Vec<u8>,
-    job: &[u8],
-    group: usize,
-    number: usize,
+    node: &Node<'_>,
     command: &Command,
 ) -> Result<(), AllocError>
-    ensures { OnOk result (text.new.items
-        ≡ text.old.items ++ node_text job.now group number command.now) }
+    ensures { OnOk result (text.new.items ≡ text.old.items
+        ++ node_text node.now.job.now node.now.group node.now.number command.now) }
 {
     let mut words = Vec::new(alloc);
     push_spaced(&mut words, command.program.as_bytes())?;
     push_shell_words(&mut words, command.words.as_slice())?;
-    push_place(text, job, group, number)?;
+    push_place(text, node)?;
     text.extend_from_slice(b" [label=\"")?;
     push_quoted(text, words.as_slice())?;
     text.extend_from_slice(b"\"];\n")
 }
 
-/// Adds the pipe into the command after one.
-fn push_pipe(text: &mut Vec<u8>, job: &[u8], group: usize, number: usize) -> Result<(), AllocError>
-    requires { number + 1 < 2 ^ 64 }
-    ensures { OnOk result (text.new.items ≡ text.old.items ++ pipe_edge job.now group number) }
+/// Adds the pipe from a command into the one after it.
+fn push_pipe(text: &mut Vec<u8>, node: &Node<'_>) -> Result<(), AllocError>
+    requires { node.now.number + 1 < 2 ^ 64 }
+    ensures { OnOk result (text.new.items
+        ≡ text.old.items ++ pipe_edge node.now.job.now node.now.group node.now.number) }
 {
-    push_place(text, job, group, number)?;
+    let reader = Node {
+        job: node.job,
+        group: node.group,
+        number: node.number + 1,
+    };
+    push_place(text, node)?;
     text.extend_from_slice(b" -> ")?;
-    push_place(text, job, group, number + 1)?;
+    push_place(text, &reader)?;
     text.extend_from_slice(b" [label=\"|\"];\n")
 }
 
@@ -97,9 +117,9 @@ fn push_piped(
 {
     let mut number = 0;
     for command in commands {
-        push_pipe(text, job, group, number)?;
-        push_node(alloc, text, job, group, number + 1, command)?;
+        push_pipe(text, &Node { job, group, number })?;
         number += 1;
+        push_node(alloc, text, &Node { job, group, number }, command)?;
     }
     Ok(())
 }
@@ -117,20 +137,31 @@ fn push_group(
     match group.as_slice() {
         [] => Ok(()),
         [command, commands @ ..] => {
-            push_node(alloc, text, job, number, 0, command)?;
+            let first = Node {
+                job,
+                group: number,
+                number: 0,
+            };
+            push_node(alloc, text, &first, command)?;
             push_piped(alloc, text, job, number, commands)
         }
     }
 }
 
-/// Adds the edge to the next group.
-fn push_edge(text: &mut Vec<u8>, job: &[u8], group: usize, last: usize) -> Result<(), AllocError>
-    requires { group + 1 < 2 ^ 64 }
-    ensures { OnOk result (text.new.items ≡ text.old.items ++ group_edge job.now group last) }
+/// Adds the edge from the last command of a group to the next group.
+fn push_edge(text: &mut Vec<u8>, last: &Node<'_>) -> Result<(), AllocError>
+    requires { last.now.group + 1 < 2 ^ 64 }
+    ensures { OnOk result (text.new.items
+        ≡ text.old.items ++ group_edge last.now.job.now last.now.group last.now.number) }
 {
-    push_place(text, job, group, last)?;
+    let next = Node {
+        job: last.job,
+        group: last.group + 1,
+        number: 0,
+    };
+    push_place(text, last)?;
     text.extend_from_slice(b" -> ")?;
-    push_place(text, job, group + 1, 0)?;
+    push_place(text, &next)?;
     text.extend_from_slice(b";\n")
 }
 
@@ -146,22 +177,27 @@ fn push_output_place(text: &mut Vec<u8>, job: &[u8]) -> Result<(), AllocError>
 /// Adds the output of a job, after its last command.
 fn push_output(
     text: &mut Vec<u8>,
-    job: &[u8],
-    output: &Option<Word>,
+    output: &JobOutput<'_>,
     group: usize,
     last: usize,
 ) -> Result<(), AllocError>
-    ensures { OnOk result (text.new.items
-        ≡ text.old.items ++ output_text job.now output.now group last) }
+    ensures { OnOk result (text.new.items ≡ text.old.items
+        ++ output_text output.now.job.now output.now.path.now group last) }
 {
-    let Some(path) = output else {
+    let Some(path) = output.path else {
         return Ok(());
+    };
+    let job = output.job;
+    let last = Node {
+        job,
+        group,
+        number: last,
     };
     push_output_place(text, job)?;
     text.extend_from_slice(b" [shape=note, label=\"")?;
     push_quoted(text, path.as_bytes())?;
     text.extend_from_slice(b"\"];\n")?;
-    push_place(text, job, group, last)?;
+    push_place(text, &last)?;
     text.extend_from_slice(b" -> ")?;
     push_output_place(text, job)?;
     text.extend_from_slice(b";\n")
@@ -178,23 +214,30 @@ fn last_number(group: &Group) -> usize
 fn push_next_groups(
     alloc: Global,
     text: &mut Vec<u8>,
-    job: &[u8],
-    output: &Option<Word>,
+    output: &JobOutput<'_>,
     last: usize,
     groups: &[Group],
 ) -> Result<(), AllocError>
-    ensures { OnOk result (text.new.items
-        ≡ text.old.items ++ next_groups job.now output.now 0 last groups.now) }
+    ensures { OnOk result (text.new.items ≡ text.old.items
+        ++ next_groups output.now.job.now output.now.path.now 0 last groups.now) }
 {
-    let mut number = 0;
-    let mut last = last;
+    let job = output.job;
+    let mut place = 0;
+    let mut number = last;
     for group in groups {
-        push_edge(text, job, number, last)?;
-        push_group(alloc, text, job, number + 1, group)?;
-        number += 1;
-        last = last_number(group);
+        push_edge(
+            text,
+            &Node {
+                job,
+                group: place,
+                number,
+            },
+        )?;
+        place += 1;
+        push_group(alloc, text, job, place, group)?;
+        number = last_number(group);
     }
-    push_output(text, job, output, number, last)
+    push_output(text, output, place, number)
 }
 
 /// Adds the groups of a job, and its output.
@@ -205,8 +248,12 @@ fn push_groups(alloc: Global, text: &mut Vec<u8>, name: &[u8], job: &Job) -> Res
     match job.groups.as_slice() {
         [] => Ok(()),
         [group, groups @ ..] => {
+            let output = JobOutput {
+                job: name,
+                path: &job.output,
+            };
             push_group(alloc, text, name, 0, group)?;
-            push_next_groups(alloc, text, name, &job.output, last_number(group), groups)
+            push_next_groups(alloc, text, &output, last_number(group), groups)
         }
     }
 }

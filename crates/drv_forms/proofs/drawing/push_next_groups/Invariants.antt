@@ -6,7 +6,7 @@ use Rattle.std.proofs.Common.{◌≡◌, ◌++◌, drop}
 
 abbrev pub invariant-loop-group : goal.invariant-loop-group
 invariant-loop-group l = record {
-  text : l.text.items ++ next_groups l.job l.output l.number l.last (drop l.group-index l.groups)
-      ≡ l.fn.text.items ++ next_groups l.job l.output 0 l.fn.last l.groups;
-  number : l.number ≡ l.group-index;
+  text : l.text.items ++ next_groups l.output.job.now l.output.path.now l.place l.number (drop l.group-index l.groups)
+      ≡ l.fn.text.items ++ next_groups l.output.job.now l.output.path.now 0 l.last l.groups;
+  place : l.place ≡ l.group-index;
 }
