@@ -230,7 +230,7 @@ impl Fleet {
     }
 
     /// A source may wait once all sources that can have a child in flight have one.
-    fn allowed(&self) -> Allowed
+    fn allowance(&self) -> Allowed
         ensures { all_may result ≡ all_fly (fleet_of self.now) }
     {
         if self.flying() == self.window.min(self.unended) {
@@ -257,7 +257,7 @@ impl Fleet {
             (filter (may_go (all_fly (fleet_of self.now)) (fleet_of self.now)) self.now.begun.items)
             choice self.now.next }
     {
-        let allowed = self.allowed();
+        let allowed = self.allowance();
         let begun = self.begun.as_slice();
         let mut going = begun.iter().filter(|number| self.may_go(allowed, **number));
         going.nth(choice).copied().unwrap_or(self.next)
@@ -269,7 +269,7 @@ impl Fleet {
             (may_go (all_fly (fleet_of self.now)) (fleet_of self.now)) self.now.begun.items) }
         ensures few { result ≤ length self.now.begun.items }
     {
-        let allowed = self.allowed();
+        let allowed = self.allowance();
         let begun = self.begun.as_slice();
         begun
             .iter()

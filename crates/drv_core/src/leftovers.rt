@@ -7,7 +7,7 @@ ghost use Rattle.drv_core.specs.Code.Counting.{place_at};
 ghost use Rattle.drv_core.specs.Code.LeftoverView.{leftover_of, leftover_list, leftovers_of};
 ghost use Rattle.drv_core.specs.Code.LeftoverFiles.{all_files};
 ghost use Rattle.drv_core.specs.Code.Numbering.{numbered_files};
-ghost use Rattle.drv_core.specs.Code.Leftovers.{is_due, is_left, passing, seeking, sought};
+ghost use Rattle.drv_core.specs.Code.Leftovers.{due_index, is_due, is_left, passing, seeking};
 ghost use Rattle.std.specs.List.{position};
 ghost use Rattle.std.specs.Prelude.{◌≡◌, ◌-◌, ◌<◌, ◌≤◌, ◌^◌, [], IfOk, drop, false, get_or, length, ℕ};
 
@@ -145,15 +145,15 @@ impl Leftovers {
         requires { from ≤ length self.old.files.items }
         ensures { leftovers_of self.new ≡ seeking (leftovers_of self.old) from }
     {
-        self.at = self.sought(from);
+        self.at = self.due_index(from);
     }
 
     /// The number of the next file to be removed, from this one on.
     #[tactic(auto, using(crate::proofs::Stories::Places::place_within))]
-    fn sought(&self, from: usize) -> usize
+    fn due_index(&self, from: usize) -> usize
         requires { from ≤ length self.now.files.items }
         ensures { result
-            ≡ sought (leftovers_of self.now) from (leftover_list (drop from self.now.files.items)) }
+            ≡ due_index (leftovers_of self.now) from (leftover_list (drop from self.now.files.items)) }
     {
         let left = &self.files[from..];
         from + self.due_place(left).unwrap_or(left.len())

@@ -17,7 +17,7 @@ use Rattle.drv_core.specs.Code.Numbering.{numbered_files}
 use Rattle.drv_core.specs.Outcomes.{File, answer_code, none}
 use Rattle.drv_core.specs.Code.RunState.{RunState, asked_in, flown, kept, link_after, link_asks, linked, moved, moved_in, next_of}
 use Rattle.drv_core.specs.Code.RunState.{removal_of, removing_first, removing_next, report_of, shown, sources_left}
-use Rattle.drv_core.specs.Code.Leftovers.{Leftover, Leftovers, is_due, no_leftover, seeking, sought, to_remove}
+use Rattle.drv_core.specs.Code.Leftovers.{Leftover, Leftovers, due_index, is_due, no_leftover, seeking, to_remove}
 use Rattle.drv_core.specs.Code.Starting.{first_run, fresh_run}
 use Rattle.drv_core.specs.Story.{event, removal_failed}
 use Rattle.drv_words.specs.Places.{no_job}
@@ -44,8 +44,8 @@ use Rattle.std.specs.Prelude.{⊤, option_map, replicate, slice_set}
 -- and not ended. `p` is the run as the code keeps it. `c` is the same run without the code's types. `x` is the leftover files, with what
 -- the code counts and marks of them. `k` is the number of a job in the plan. `a` is the answer to the step. `t` is the value of a test, so
 -- that `by` can go by both cases. `u` is the value of a second test. `q` is a phase. `l` is the link of the plan, if it has one. `due` is
--- the files that are still to be removed. `room` is the room for events. `s` is the step of the answer. `sought` is the code's search for
--- the next file to be removed. `run_code` is the greatest code of events. `no_job` is a job without commands. `tally k E` is how many
+-- the files that are still to be removed. `room` is the room for events. `s` is the step of the answer. `due_index` is the code's search
+-- for the next file to be removed. `run_code` is the greatest code of events. `no_job` is a job without commands. `tally k E` is how many
 -- temporaries of job k were claimed. `link_by` is the link's job if all codes so far are 0. `after job s a` is the stage after the answer.
 -- `is_less` and `same` turn a true test of numbers into `<` and `≡`.
 
@@ -132,10 +132,10 @@ from_files p x from = shown (record p { leftovers = seeking x from })
 removing_matches : (plan : Plan) (room : ℕ) (p : RunState) (x : Leftovers) (from : ℕ) (c : Course) (due : List File)
     → Alike plan room (record p { leftovers = x }) c → map place_in due ≡ to_remove x x.gone (drop from x.files)
     → Matches plan room (from_files p x from) (removing c due)
-removing_matches plan room p x from c due a is = by (nat_lt (sought x from (drop from x.files)) (length x.files)) refl
+removing_matches plan room p x from c due a is = by (nat_lt (due_index x from (drop from x.files)) (length x.files)) refl
   where
     -- Plan: both searches find the same file or none (`Found`), so both go to the removals or to the end (`by`).
-    f : Found x (drop from x.files) (sought x from (drop from x.files))
+    f : Found x (drop from x.files) (due_index x from (drop from x.files))
     f = found x from (drop from x.files) refl
 
     alike : (q : Phase) → Alike plan room (record p { leftovers = seeking x from; phase = q }) (record c { phase = q; due = due })
@@ -149,15 +149,15 @@ removing_matches plan room p x from c due a is = by (nat_lt (sought x from (drop
       counted = record { sizes = a.counted.sizes; counts = a.counted.counts };
     }
 
-    some : sought x from (drop from x.files) < length x.files → InEnd (seeking x from) due
+    some : due_index x from (drop from x.files) < length x.files → InEnd (seeking x from) due
     some lt = record {
       within = lt;
-      due = is ∙ f.due lt ∙ ap (λ m. (get_or x.files (sought x from (drop from x.files)) no_leftover).place ∷ m)
-          (sym (to_remove_same x x.gone (slice_set x.gone (get_or x.files (sought x from (drop from x.files)) no_leftover).first true)
-          (sought x from (drop from x.files)) (drop (sought x from (drop from x.files) + 1) x.files)));
+      due = is ∙ f.due lt ∙ ap (λ m. (get_or x.files (due_index x from (drop from x.files)) no_leftover).place ∷ m)
+          (sym (to_remove_same x x.gone (slice_set x.gone (get_or x.files (due_index x from (drop from x.files)) no_leftover).first true)
+          (due_index x from (drop from x.files)) (drop (due_index x from (drop from x.files) + 1) x.files)));
     }
 
-    shows : (t u : Bool) → t ≡ u → (t ≡ true → sought x from (drop from x.files) < length x.files)
+    shows : (t u : Bool) → t ≡ u → (t ≡ true → due_index x from (drop from x.files) < length x.files)
         → Matches plan room (record p { leftovers = seeking x from; phase = if t then Removals else Done })
         (record c { phase = if not u then Done else Removals; due = due })
     shows true true e h = record { phase = refl; alike = alike Removals; here = some (h refl) }
@@ -169,33 +169,33 @@ removing_matches plan room p x from c due a is = by (nat_lt (sought x from (drop
     turned true = refl
     turned false = refl
 
-    by : (t : Bool) → nat_lt (sought x from (drop from x.files)) (length x.files) ≡ t
+    by : (t : Bool) → nat_lt (due_index x from (drop from x.files)) (length x.files) ≡ t
         → Matches plan room (record p {
           leftovers = seeking x from;
-          phase = if nat_lt (sought x from (drop from x.files)) (length x.files)
+          phase = if nat_lt (due_index x from (drop from x.files)) (length x.files)
               then Removals else Done;
         }) (record c { phase = if none due then Done else Removals; due = due })
     by true e = subst (λ (u : Bool). Matches plan room
         (record p {
           leftovers = seeking x from;
-          phase = if nat_lt (sought x from (drop from x.files)) (length x.files) then Removals
+          phase = if nat_lt (due_index x from (drop from x.files)) (length x.files) then Removals
               else Done;
         }) (record c { phase = if u then Done else Removals; due = due })) (turned (none due))
-        (shows (nat_lt (sought x from (drop from x.files)) (length x.files)) (not (none due))
-        (e ∙ sym (ap not (some_place due (get_or x.files (sought x from (drop from x.files)) no_leftover).place
-        (to_remove x (slice_set x.gone (get_or x.files (sought x from (drop from x.files)) no_leftover).first true)
-        (drop (sought x from (drop from x.files) + 1) x.files))
-        (is ∙ f.due (is_less (sought x from (drop from x.files)) (length x.files) e)))))
-        (λ h. is_less (sought x from (drop from x.files)) (length x.files) e))
+        (shows (nat_lt (due_index x from (drop from x.files)) (length x.files)) (not (none due))
+        (e ∙ sym (ap not (some_place due (get_or x.files (due_index x from (drop from x.files)) no_leftover).place
+        (to_remove x (slice_set x.gone (get_or x.files (due_index x from (drop from x.files)) no_leftover).first true)
+        (drop (due_index x from (drop from x.files) + 1) x.files))
+        (is ∙ f.due (is_less (due_index x from (drop from x.files)) (length x.files) e)))))
+        (λ h. is_less (due_index x from (drop from x.files)) (length x.files) e))
     by false e = subst (λ (u : Bool). Matches plan room
         (record p {
           leftovers = seeking x from;
-          phase = if nat_lt (sought x from (drop from x.files)) (length x.files) then Removals
+          phase = if nat_lt (due_index x from (drop from x.files)) (length x.files) then Removals
               else Done;
         }) (record c { phase = if u then Done else Removals; due = due })) (turned (none due))
-        (shows (nat_lt (sought x from (drop from x.files)) (length x.files)) (not (none due))
-        (e ∙ sym (ap not (no_place due (is ∙ f.none_due (is_not_less (sought x from (drop from x.files)) (length x.files) e)))))
-        (λ h. is_less (sought x from (drop from x.files)) (length x.files) h))
+        (shows (nat_lt (due_index x from (drop from x.files)) (length x.files)) (not (none due))
+        (e ∙ sym (ap not (no_place due (is ∙ f.none_due (is_not_less (due_index x from (drop from x.files)) (length x.files) e)))))
+        (λ h. is_less (due_index x from (drop from x.files)) (length x.files) h))
 
 -- after the link both seek the first file to be removed
 first_matches : (plan : Plan) (room : ℕ) (p : RunState) (c : Course) (job : Job) → Alike plan room p c

@@ -2,7 +2,7 @@ use Rattle.drv_core.proofs.Stories.Order.{clash, is_less, is_not_less, same}
 use Rattle.drv_core.specs.Code.Due.{due_of_job}
 use Rattle.drv_core.specs.Code.LeftoverFiles.{job_files, place_in, temp_files}
 use Rattle.drv_core.specs.Outcomes.{File, each_once, marked_files, none}
-use Rattle.drv_core.specs.Code.Leftovers.{Leftover, Leftovers, is_due, is_left, no_leftover, sought, to_remove}
+use Rattle.drv_core.specs.Code.Leftovers.{Leftover, Leftovers, due_index, is_due, is_left, no_leftover, to_remove}
 use Rattle.drv_words.specs.declared.plan.Job.{Job}
 use Rattle.drv_words.specs.declared.plan.Temp.{Temp}
 use Rattle.drv_words.specs.declared.steps.Place.TheVariants as place
@@ -21,8 +21,8 @@ use Rattle.std.specs.Prelude.{⊤, slice_set}
 -- Names: `x` is the leftover files, with what the code counts and marks of them. `k` is the number of a job in the plan. `t` is the value
 -- of a test, so that `by` can go by both cases. `i` is the index of a file. `ls` is the leftover files from that one on. `claimed` is the
 -- code's counts of claims, one for each job. `sources` is the number of sources. `linked` says whether the link runs. `f` is a file. `fs`
--- is files. `seen` is the paths that were seen. `each_once` keeps each path once, at its first place. `sought` is the code's search for the
--- next file to be removed.
+-- is files. `seen` is the paths that were seen. `each_once` keeps each path once, at its first place. `due_index` is the code's search for
+-- the next file to be removed.
 
 -- the code finds the next file
 
@@ -41,11 +41,12 @@ record FoundBy (x : Leftovers) (i : ℕ) (l : Leftover) (ls : List Leftover) (t 
 
 -- the search finds the file at its head, or goes on
 known : (x : Leftovers) (i : ℕ) (l : Leftover) (ls : List Leftover)
-    → FoundBy x i l ls (is_due x x.gone l) (if is_due x x.gone l then i else sought x (i + 1) ls) → Found x (l ∷ ls) (sought x i (l ∷ ls))
+    → FoundBy x i l ls (is_due x x.gone l) (if is_due x x.gone l then i else due_index x (i + 1) ls)
+    → Found x (l ∷ ls) (due_index x i (l ∷ ls))
 known x i l ls f = record { due = f.due; none_due = f.none_due }
 
 -- the code's search from the i-th file on finds the next file that is due
-pub found : (x : Leftovers) (i : ℕ) (ls : List Leftover) → drop i x.files ≡ ls → Found x ls (sought x i ls)
+pub found : (x : Leftovers) (i : ℕ) (ls : List Leftover) → drop i x.files ≡ ls → Found x ls (due_index x i ls)
 found x i [] is = record {
   due =
       λ lt. absurd (let len = length-drop i x.files in let none_left : length (drop i x.files) ≡ 0 = ap (λ (l : List Leftover). length l) is in omega (arith, len, none_left, lt));
@@ -69,7 +70,7 @@ found x i (l ∷ ls) is = known x i l ls (by (is_due x x.gone l) (found x (i + 1
     rest : drop (i + 1) x.files ≡ ls
     rest = ap (λ m. drop 1 m) parts
 
-    by : (t : Bool) → Found x ls (sought x (i + 1) ls) → FoundBy x i l ls t (if t then i else sought x (i + 1) ls)
+    by : (t : Bool) → Found x ls (due_index x (i + 1) ls) → FoundBy x i l ls t (if t then i else due_index x (i + 1) ls)
     by true f = record {
       due = λ lt. subst (λ m. l.place ∷ to_remove x (slice_set x.gone l.first true) m ≡ (get_or x.files i no_leftover).place ∷ to_remove x
           (slice_set x.gone (get_or x.files i no_leftover).first true) (drop (i + 1) x.files)) rest

@@ -1,6 +1,6 @@
 use Rattle.drv_core.specs.Code.Fleet.{busy, first_busy}
 use Rattle.drv_core.specs.Code.LeftoverView.{leftover_of, leftover_list}
-use Rattle.drv_core.specs.Code.Leftovers.{Leftovers, is_due, sought}
+use Rattle.drv_core.specs.Code.Leftovers.{Leftovers, due_index, is_due}
 use Rattle.drv_core.specs.Outcomes.{none}
 use Rattle.drv_core.specs.declared.leftovers.Leftover.{Leftover as CodeLeftover}
 use Rattle.drv_words.specs.declared.plan.Job.{Job}
@@ -13,8 +13,8 @@ use Rattle.std.specs.List.{position, position_or_len}
 use Rattle.std.specs.Prelude.{unwrap_or}
 
 -- For the sources and files of the code, which searches a list from an index on: what its search finds is what the definitions
--- (`first_busy`, `sought`) say.
--- Names: `k` is the index at which the search begins. `xs` is the list. `sought` is the code's search for the next file to be removed.
+-- (`first_busy`, `due_index`) say.
+-- Names: `k` is the index at which the search begins. `xs` is the list. `due_index` is the code's search for the next file to be removed.
 -- `first_busy` is the first job with something to do.
 
 -- the index of the first item that passes, or else the length, in two ways to compute it
@@ -59,16 +59,17 @@ abbrev is_due_in : Leftovers → CodeLeftover → Bool
 is_due_in x file = is_due x x.gone (leftover_of file)
 
 -- the first file from an index on that is due
-pub due_sought : (x : Leftovers) (k : ℕ) (files : List CodeLeftover)
-    → k + unwrap_or (position (λ file. is_due x x.gone (leftover_of file)) files) (length files) ≡ sought x k (leftover_list files)
-due_sought x k files = ap (λ n. k + n) (or_length (is_due_in x) files) ∙ from k files
+pub due_indexed : (x : Leftovers) (k : ℕ) (files : List CodeLeftover)
+    → k + unwrap_or (position (λ file. is_due x x.gone (leftover_of file)) files) (length files) ≡ due_index x k (leftover_list files)
+due_indexed x k files = ap (λ n. k + n) (or_length (is_due_in x) files) ∙ from k files
   where
     -- Plan: the code's index in the rest, and the index where the rest begins, make the index of the definition (`from`).
-    from : (k : ℕ) (files : List CodeLeftover) → k + position_or_len (is_due_in x) files ≡ sought x k (leftover_list files)
+    from : (k : ℕ) (files : List CodeLeftover) → k + position_or_len (is_due_in x) files ≡ due_index x k (leftover_list files)
     from k [] = omega arith
     from k (file ∷ files) = by (is_due_in x file) (from (k + 1) files)
       where
-        by : (due : Bool) → (k + 1) + position_or_len (is_due_in x) files ≡ sought x (k + 1) (leftover_list files)
-            → k + cond (not due) (1 + position_or_len (is_due_in x) files) 0 ≡ (if due then k else sought x (k + 1) (leftover_list files))
+        by : (due : Bool) → (k + 1) + position_or_len (is_due_in x) files ≡ due_index x (k + 1) (leftover_list files)
+            → k + cond (not due) (1 + position_or_len (is_due_in x) files) 0
+            ≡ (if due then k else due_index x (k + 1) (leftover_list files))
         by true rest = omega arith
         by false rest = one_more k (position_or_len (is_due_in x) files) ∙ rest

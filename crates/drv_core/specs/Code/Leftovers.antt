@@ -36,13 +36,13 @@ abbrev pub is_due : Leftovers → List Bool → Leftover → Bool
 is_due x gone l = is_left x.claimed x.sources x.linked l.place && not (get_or gone l.first false)
 
 -- the index of the first file that is due; the first file of the list has index i
-abbrev pub sought : Leftovers → ℕ → List Leftover → ℕ
-sought x i [] = i
-sought x i (l ∷ ls) = if is_due x x.gone l then i else sought x (i + 1) ls
+abbrev pub due_index : Leftovers → ℕ → List Leftover → ℕ
+due_index x i [] = i
+due_index x i (l ∷ ls) = if is_due x x.gone l then i else due_index x (i + 1) ls
 
 -- the next file to be removed is sought from this index on
 abbrev pub seeking : Leftovers → ℕ → Leftovers
-seeking x from = record x { at = sought x from (drop from x.files) }
+seeking x from = record x { at = due_index x from (drop from x.files) }
 
 -- after a removal: the path is gone, and the next file is sought
 abbrev pub passing : Leftovers → Leftovers

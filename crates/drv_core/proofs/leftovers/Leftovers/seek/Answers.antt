@@ -1,12 +1,12 @@
 use Rattle.drv_core.proofs.Paths.Notes.{drop_lefts}
 use Rattle.drv_core.proofs.leftovers.Leftovers.seek.Goals as goal
 use Rattle.drv_core.specs.Code.LeftoverView.{leftovers_of}
-use Rattle.drv_core.specs.Code.Leftovers.{sought}
+use Rattle.drv_core.specs.Code.Leftovers.{due_index}
 use Rattle.std.proofs.Common.{◌∙◌, ap}
 
 -- seek (src/leftovers.rt). Goes to the next file to be removed, from this number on, or past the last file.
 
 pub returns : goal.returns
 returns c = ap (λ n. record (leftovers_of c.args.self.now) { at = n })
-    (c.sought-self.ensures ∙ ap (λ l. sought (leftovers_of c.args.self.now) c.args.from l)
+    (c.due_index-self.ensures ∙ ap (λ l. due_index (leftovers_of c.args.self.now) c.args.from l)
     (drop_lefts c.args.from c.args.self.now.files.items))
