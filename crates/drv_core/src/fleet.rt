@@ -15,6 +15,7 @@ ghost use Rattle.std.specs.List.{filter, position};
 ghost use Rattle.std.specs.Vec.{vec_capacity};
 
 use crate::source::SourceState;
+use crate::window::Window;
 use drv_words::{Answer, Job, Step};
 use std::alloc::{AllocError, Global};
 
@@ -31,7 +32,7 @@ pub(crate) struct Fleet {
     /// The source in progress.
     pub(crate) current: usize,
     /// How many may be under way at once.
-    pub(crate) window: usize,
+    pub(crate) window: Window,
 }
 
 /// Which of the sources that have begun may go on.
@@ -89,14 +90,13 @@ fn sources_of(alloc: Global, jobs: &[Job]) -> Result<Vec<SourceState>, AllocErro
 
 impl Fleet {
     /// The sources before the run.
-    pub(crate) fn new(alloc: Global, jobs: &[Job], window: usize) -> Result<Fleet, AllocError>
-        requires { window ≤ 64 }
+    pub(crate) fn new(alloc: Global, jobs: &[Job], window: Window) -> Result<Fleet, AllocError>
         ensures fresh { IfOk result (λ made. fleet_of made ≡ fresh_fleet jobs.now window) }
         ensures filled { OnOk result (AllFilled jobs.now) }
     {
         let sources = sources_of(alloc, jobs)?;
         // One more than the window, so that there is always room for one more.
-        let begun = Vec::with_capacity(alloc, window + 1)?;
+        let begun = Vec::with_capacity(alloc, window.sources() + 1)?;
         let next = first_busy(jobs, 0);
         Ok(Fleet {
             sources,
@@ -233,7 +233,7 @@ impl Fleet {
     fn allowance(&self) -> Allowed
         ensures { all_may result ≡ all_fly (fleet_of self.now) }
     {
-        if self.flying() == self.window.min(self.unended) {
+        if self.flying() == self.window.sources().min(self.unended) {
             Allowed::All
         } else {
             Allowed::NotWaiting
@@ -283,7 +283,7 @@ impl Fleet {
     {
         let going = self.count_going();
         // The next source may begin too, if the window has room.
-        if self.next < jobs.len() && self.begun.as_slice().len() < self.window {
+        if self.next < jobs.len() && self.begun.as_slice().len() < self.window.sources() {
             going + 1
         } else {
             going

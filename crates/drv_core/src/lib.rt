@@ -11,6 +11,7 @@ mod needed;
 mod numbering;
 mod run;
 mod source;
+mod window;
 mod work;
 
 pub use action::Action;
@@ -20,3 +21,4 @@ pub use law::{
 };
 pub use needed::events_needed;
 pub use run::Run;
+pub use window::Window;

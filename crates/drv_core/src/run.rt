@@ -22,6 +22,7 @@ ghost use Rattle.std.specs.Prelude.{◌≡◌, ◌<◌, ◌≤◌, ◌++◌, ◌
 
 use crate::action::Action;
 use crate::failure_status::FailureStatus;
+use crate::window::Window;
 use crate::work::RunState;
 use drv_words::{Answer, Plan, RunEvent};
 use std::alloc::{AllocError, Global};
@@ -123,7 +124,8 @@ impl<'a> Run<'a> {
         ensures first { IfOk result
             (λ run. IsOfFirst run.plan run.window run.events (step_in run.action)) }
     {
-        let work = RunState::new(alloc, plan, window)?;
+        let sources = Window::new(window);
+        let work = RunState::new(alloc, plan, sources)?;
         Ok(Run {
             plan,
             pass_codes,

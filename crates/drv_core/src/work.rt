@@ -32,6 +32,7 @@ use crate::fleet::Fleet;
 use crate::leftovers::Leftovers;
 use crate::needed::events_needed;
 use crate::source::SourceState;
+use crate::window::Window;
 use drv_words::{
     Answer, ClaimAnswer, Note, Plan, RemoveAnswer, RunEvent, StartAnswer, Step, WaitAnswer,
 };
@@ -135,8 +136,7 @@ fn room_for(alloc: Global, plan: &Plan) -> Result<Vec<RunEvent>, AllocError>
 impl RunState {
     /// A run before its first step, even if there is no source. It has room for all events, and no
     /// group is empty.
-    fn prepare(alloc: Global, plan: &Plan, window: usize) -> Result<RunState, AllocError>
-        requires { window ≤ 64 }
+    fn prepare(alloc: Global, plan: &Plan, window: Window) -> Result<RunState, AllocError>
         ensures fresh { IfOk result (λ made. run_state_of made
             ≡ first_run plan.now window (vec_capacity made.events)) }
         ensures room { IfOk result (λ made. needed plan.now ≤ vec_capacity made.events) }
@@ -153,8 +153,7 @@ impl RunState {
     }
 
     /// A run before its first step. It has room for all events, and no group is empty.
-    pub(crate) fn new(alloc: Global, plan: &Plan, window: usize) -> Result<RunState, AllocError>
-        requires { window ≤ 64 }
+    pub(crate) fn new(alloc: Global, plan: &Plan, window: Window) -> Result<RunState, AllocError>
         ensures fresh { IfOk result (λ made. run_state_of made
             ≡ fresh_run plan.now window (vec_capacity made.events)) }
         ensures room { IfOk result (λ made. needed plan.now ≤ vec_capacity made.events) }
