@@ -13,25 +13,25 @@ use Rattle.std.specs.Prelude.{Bool, List, [], ◌∷◌, ◌++◌, None, Option,
 -- For clauses of src/comparing.rt. drv_why and gdrv_specs cite it too.
 
 -- a line that only the second plan has
-abbrev pub added : PlanLine → LineChange
-added line = record { line = None; other = Some line }
+abbrev pub addition : PlanLine → LineChange
+addition line = record { line = None; other = Some line }
 
 -- a line that only the first plan has
-abbrev pub removed : PlanLine → LineChange
-removed line = record { line = Some line; other = None }
+abbrev pub removal : PlanLine → LineChange
+removal line = record { line = Some line; other = None }
 
 -- a line of the first plan, and the one that the second has in its place
-abbrev pub replaced : PlanLine → PlanLine → LineChange
-replaced line other = record { line = Some line; other = Some other }
+abbrev pub replacement : PlanLine → PlanLine → LineChange
+replacement line other = record { line = Some line; other = Some other }
 
 -- what differs between two lines at one place, if their texts do
 abbrev pub pair_changes : PlanLine → PlanLine → List LineChange
-pair_changes line other = if pointwise nat_eq (line_text line) (line_text other) then [] else replaced line other ∷ []
+pair_changes line other = if pointwise nat_eq (line_text line) (line_text other) then [] else replacement line other ∷ []
 
 -- what differs between lines, place by place; the longer list has the rest
 abbrev pub lines_changes : List PlanLine → List PlanLine → List LineChange
-lines_changes [] others = map added others
-lines_changes (line ∷ lines) [] = removed line ∷ lines_changes lines []
+lines_changes [] others = map addition others
+lines_changes (line ∷ lines) [] = removal line ∷ lines_changes lines []
 lines_changes (line ∷ lines) (other ∷ others) = pair_changes line other ++ lines_changes lines others
 
 -- what differs between two plans, as gdrv-specs diff and why report it

@@ -1,8 +1,8 @@
 //! What differs between two plans.
 
-ghost use Rattle.drv_forms.specs.Difference.{added, change_text, changed_text, changes, changes_text};
+ghost use Rattle.drv_forms.specs.Difference.{addition, change_text, changed_text, changes, changes_text};
 ghost use Rattle.drv_forms.specs.Difference.{difference as difference_text, is_among, lines_changes};
-ghost use Rattle.drv_forms.specs.Difference.{marked_line, only_text, pair_changes, removed, replaced};
+ghost use Rattle.drv_forms.specs.Difference.{marked_line, only_text, pair_changes, removal, replacement};
 ghost use Rattle.drv_forms.specs.Difference.{word_line, word_text, words_of};
 ghost use Rattle.drv_words.specs.Bytes.{space};
 ghost use Rattle.drv_words.specs.Printed.{line_text as printed_line, quoted, words_text};
@@ -194,8 +194,8 @@ fn copy_of(line: &PlanLine) -> Result<PlanLine, AllocError>
 }
 
 /// A line that only the other plan has.
-fn added(line: &PlanLine) -> Result<LineChange, AllocError>
-    ensures { IfOk result (λ change. change ≡ added line.now) }
+fn addition(line: &PlanLine) -> Result<LineChange, AllocError>
+    ensures { IfOk result (λ change. change ≡ addition line.now) }
 {
     Ok(LineChange {
         line: None,
@@ -204,8 +204,8 @@ fn added(line: &PlanLine) -> Result<LineChange, AllocError>
 }
 
 /// A line that only the one plan has.
-fn removed(line: &PlanLine) -> Result<LineChange, AllocError>
-    ensures { IfOk result (λ change. change ≡ removed line.now) }
+fn removal(line: &PlanLine) -> Result<LineChange, AllocError>
+    ensures { IfOk result (λ change. change ≡ removal line.now) }
 {
     Ok(LineChange {
         line: Some(copy_of(line)?),
@@ -214,8 +214,8 @@ fn removed(line: &PlanLine) -> Result<LineChange, AllocError>
 }
 
 /// Two lines that differ.
-fn replaced(line: &PlanLine, other: &PlanLine) -> Result<LineChange, AllocError>
-    ensures { IfOk result (λ change. change ≡ replaced line.now other.now) }
+fn replacement(line: &PlanLine, other: &PlanLine) -> Result<LineChange, AllocError>
+    ensures { IfOk result (λ change. change ≡ replacement line.now other.now) }
 {
     Ok(LineChange {
         line: Some(copy_of(line)?),
@@ -235,16 +235,16 @@ fn push_pair(
     if line_text(alloc, line)?.as_slice() == line_text(alloc, other)?.as_slice() {
         return Ok(());
     }
-    changes.push(replaced(line, other)?)?;
+    changes.push(replacement(line, other)?)?;
     Ok(())
 }
 
 /// Adds lines that only the other plan has.
 fn push_added(changes: &mut Listing<LineChange>, lines: &[PlanLine]) -> Result<(), AllocError>
-    ensures { OnOk result (changes.new ≡ changes.old ++ map added lines.now) }
+    ensures { OnOk result (changes.new ≡ changes.old ++ map addition lines.now) }
 {
     for line in lines {
-        changes.push(added(line)?)?;
+        changes.push(addition(line)?)?;
     }
     Ok(())
 }
@@ -261,7 +261,7 @@ fn push_changes(
     let mut left = others;
     for line in lines {
         match left {
-            [] => changes.push(removed(line)?)?,
+            [] => changes.push(removal(line)?)?,
             [other, rest @ ..] => {
                 push_pair(alloc, changes, line, other)?;
                 left = rest;
