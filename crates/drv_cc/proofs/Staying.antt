@@ -1,7 +1,7 @@
 use Rattle.drv_cc.specs.Code.Staying.{Keeping, KeepingAll, Notes, kept_before, stays_before}
 use Rattle.drv_cc.specs.Front.{run_of}
 use Rattle.drv_cc.specs.Items.{same}
-use Rattle.drv_cc.specs.Kept.{goes, kept}
+use Rattle.drv_cc.specs.Kept.{all_stay, goes, kept}
 use Rattle.drv_cc.specs.declared.answer.Answer.{Answer}
 use Rattle.drv_cc.specs.declared.answer.Surroundings.{Surroundings}
 use Rattle.drv_cc.specs.declared.item.Item.{Item}
@@ -108,18 +108,46 @@ pub all_more : (items left before : List Item) (i : Item) (seen new : List ℕ �
 all_more items left before i seen new h parts is notes = record {
   following = i ∷ h.following;
   parts = sym (append_assoc before (i ∷ []) h.following) ∙ ap (λ l. l ++ h.following) (sym parts) ∙ h.parts;
-  stays = kept_on i h.following true (is ∙ ap not (sym (goes_by i h.following seen h.seen_are))) ∙ ap (λ l. i ∷ l) h.stays;
+  stays = ap (λ (stays : Bool). stays && all_stay h.following) (ap not (goes_by i h.following seen h.seen_are) ∙ sym is) ∙ h.stays;
   seen_are = λ p some. notes p some ∙ ap (λ b. same p i.class || b) (h.seen_are p some);
 }
 
 -- `do_all_stay` ends where no item is left: all stay
-pub all_end : (items left : List Item) (seen : List ℕ → Bool) → KeepingAll items left seen → left ≡ [] → kept items ≡ items
-all_end items left seen h none = let all : h.following ≡ items = ap (λ l. l ++ h.following) (sym none) ∙ h.parts in
-    ap kept (sym all) ∙ h.stays ∙ all
+pub all_end : (items left : List Item) (seen : List ℕ → Bool) → KeepingAll items left seen → left ≡ [] → true ≡ all_stay items
+all_end items left seen h none =
+    sym (ap all_stay (sym (ap (λ l. l ++ h.following) (sym none) ∙ h.parts)) ∙ h.stays)
+
+-- where the items that end a list do not all stay, not all of the list do
+not_all_behind : (before rest : List Item) → all_stay rest ≡ false → all_stay (before ++ rest) ≡ false
+not_all_behind [] rest e = e
+not_all_behind (i ∷ before) rest e =
+    ap (λ (b : Bool). not (goes i (before ++ rest)) && b) (not_all_behind before rest e) ∙ by (not (goes i (before ++ rest)))
+  where
+    by : (t : Bool) → (t && false) ≡ false
+    by true = refl
+    by false = refl
+
+-- or at an item that goes: not all stay
+pub all_break : (items left before : List Item) (i : Item) (seen : List ℕ → Bool) → KeepingAll items left seen → left ≡ before ++ i ∷ []
+    → false ≡ stays_before i.class seen → false ≡ all_stay items
+all_break items left before i seen h parts is =
+    sym (ap all_stay (sym h.parts ∙ ap (λ l. l ++ h.following) parts ∙ append_assoc before (i ∷ []) h.following)
+    ∙ not_all_behind before (i ∷ h.following) (ap (λ (stays : Bool). stays && all_stay h.following)
+    (ap not (goes_by i h.following seen h.seen_are) ∙ sym is)))
+
+-- of items that all stay, none is left out
+kept_all : (items : List Item) → all_stay items ≡ true → kept items ≡ items
+kept_all [] e = refl
+kept_all (i ∷ items) e = by (goes i items) e (kept_all items)
+  where
+    by : (t : Bool) → (not t && all_stay items) ≡ true → (all_stay items ≡ true → kept items ≡ items)
+        → (if t then kept items else i ∷ kept items) ≡ i ∷ items
+    by true e all = absurd cc
+    by false e all = ap (λ l. i ∷ l) (all e)
 
 -- For `call_of_kept` (src/fronting.rt), where all items stay: the call is made of the items themselves.
 pub all_called : {E : Type 0} (around : Surroundings) (items : List Item) (all : Bool) (result : Result Answer E)
-    → (all ≡ true → kept items ≡ items) → all ≡ true → IfOk result (λ answer. answer ≡ run_of around items)
+    → all ≡ all_stay items → all ≡ true → IfOk result (λ answer. answer ≡ run_of around items)
     → IfOk result (λ answer. answer ≡ run_of around (kept items))
-all_called around items all (Ok answer) stay so is = is ∙ ap (run_of around) (sym (stay so))
+all_called around items all (Ok answer) stay so is = is ∙ ap (run_of around) (sym (kept_all items (sym stay ∙ so)))
 all_called around items all (Err e) stay so is = tt

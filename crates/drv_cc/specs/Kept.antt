@@ -117,3 +117,8 @@ goes i following = nat_lt 0 (length i.class) && list_any (λ j. same i.class j.c
 abbrev pub kept : List Item → List Item
 kept [] = []
 kept (i ∷ items) = if goes i items then kept items else i ∷ kept items
+
+-- whether all items stay
+abbrev pub all_stay : List Item → Bool
+all_stay [] = true
+all_stay (i ∷ items) = not (goes i items) && all_stay items

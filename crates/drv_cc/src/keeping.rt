@@ -1,9 +1,9 @@
 //! What a line has, and which of its items stay.
 
 ghost use Rattle.drv_cc.specs.Code.Staying.{Notes, is_seen, kept_before, stays_before};
-ghost use Rattle.drv_cc.specs.Kept.{has, has_input, is_input, kept, last_argument};
+ghost use Rattle.drv_cc.specs.Kept.{all_stay, has, has_input, is_input, kept, last_argument};
 ghost use Rattle.std.specs.Option.{option_map};
-ghost use Rattle.std.specs.Prelude.{◌≡◌, IfOk, OnOk, reverse, true};
+ghost use Rattle.std.specs.Prelude.{◌≡◌, IfOk, OnOk, reverse};
 
 use crate::classes::is;
 use crate::item::Item;
@@ -83,7 +83,7 @@ fn keep_item<'i>(
 /// end of the line on.
 #[tactic(auto, using(crate::proofs::Staying::all_start, crate::proofs::Staying::all_end))]
 pub(crate) fn do_all_stay(alloc: Global, items: &[Item]) -> Result<bool, AllocError>
-    ensures { IfOk result (λ all. all ≡ true → kept items.now ≡ items.now) }
+    ensures { IfOk result (λ all. all ≡ all_stay items.now) }
 {
     let mut seen = HashSet::new(alloc);
     let mut left = items;

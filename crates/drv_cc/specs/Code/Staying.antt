@@ -1,8 +1,8 @@
 use Rattle.drv_cc.specs.Items.{same}
-use Rattle.drv_cc.specs.Kept.{kept}
+use Rattle.drv_cc.specs.Kept.{all_stay, kept}
 use Rattle.drv_cc.specs.declared.item.Item.{Item}
 use Rattle.std.specs.List.{list_any}
-use Rattle.std.specs.Prelude.{◌≡◌, ◌<◌, ◌&&◌, ◌||◌, Bool, List, [], ◌∷◌, ◌++◌, if◌then◌else◌, length, nat_lt, not, reverse, ℕ}
+use Rattle.std.specs.Prelude.{◌≡◌, ◌<◌, ◌&&◌, ◌||◌, Bool, List, [], ◌∷◌, ◌++◌, if◌then◌else◌, length, nat_lt, not, reverse, true, ℕ}
 
 -- How the code goes over items from the last one on, with the classes of those that it has seen. Only private clauses of src/keeping.rt
 -- cite it.
@@ -27,7 +27,7 @@ Notes class old new = (p : List ℕ) → 0 < length p → new p ≡ (same p clas
 pub record KeepingAll (items left : List Item) (seen : List ℕ → Bool) : Type 0 where
   pub following : List Item
   pub parts : left ++ following ≡ items
-  pub stays : kept following ≡ following
+  pub stays : all_stay following ≡ true
   pub seen_are : (p : List ℕ) → 0 < length p → seen p ≡ list_any (λ j. same p j.class) following
 
 -- what was seen are the classes of the items after those that are left, and these items stay, the last one first
