@@ -11,6 +11,7 @@ pub mod Cutter
 pub mod Directives
 pub mod Draws
 pub mod EmitSteps
+pub mod Enclosing
 pub mod Ends
 pub mod FailureFiles
 pub mod FileParts
