@@ -1,5 +1,5 @@
 use Rattle.drv_after.specs.Answered.{ChangesOnePlace, answer_to, claim_at, claim_or, is_at, is_same, removal_at, removal_or, start_at}
-use Rattle.drv_after.specs.Answered.{start_or, started, wait_at, wait_or}
+use Rattle.drv_after.specs.Answered.{start_answer, start_or, wait_at, wait_or}
 use Rattle.drv_after.specs.declared.answers.Given.{Given}
 use Rattle.drv_words.specs.declared.answers.Answer.TheVariants as answer
 use Rattle.drv_words.specs.declared.steps.Place.{Place}
@@ -13,7 +13,7 @@ use Rattle.std.proofs.Common.{◌≡◌, List, ◌∷◌, ap, false, refl, ℕ}
 changes : (g : Given) (given : List Given) (n : ℕ) (s : Step) → is_at g.place s ≡ false → answer_to (g ∷ given) n s ≡ answer_to given n s
 changes g given n (step.Claim p) other = ap (λ here. answer.Claim (claim_or here g.answer (claim_at given p))) other
 changes g given n (step.Start p from_pipe to_pipe) other =
-    ap (λ here. answer.Start (started n (start_or here g.answer (start_at given p)))) other
+    ap (λ here. answer.Start (start_answer n (start_or here g.answer (start_at given p)))) other
 changes g given n step.ClosePipe other = refl
 changes g given n (step.Wait p id) other = ap (λ here. answer.Wait (wait_or here g.answer (wait_at given p))) other
 changes g given n (step.Remove p) other = ap (λ here. answer.Remove (removal_or here g.answer (removal_at given p))) other

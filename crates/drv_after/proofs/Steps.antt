@@ -1,5 +1,5 @@
 use Rattle.drv_after.specs.After.{AllAnswered, AllOfFirst}
-use Rattle.drv_after.specs.Answered.{answer_to, start_at, started}
+use Rattle.drv_after.specs.Answered.{answer_to, start_answer, start_at}
 use Rattle.drv_after.specs.declared.answers.Given.{Given}
 use Rattle.drv_core.specs.Choices.{IsOfFirst}
 use Rattle.drv_words.specs.Stepping.{fits, fits_start, is_child, is_new}
@@ -23,7 +23,7 @@ use Rattle.std.specs.List.{list_any}
 -- no child has this number, where each has the number of the events before it
 
 -- a start gives its own number, not a later one
-other_child : (n id : ℕ) (refused : Option NotStarted) → n < id → is_child id (answer.Start (started n refused)) ≡ false
+other_child : (n id : ℕ) (refused : Option NotStarted) → n < id → is_child id (answer.Start (start_answer n refused)) ≡ false
 other_child n id None less = grind arith
 other_child n id (Some why) less = refl
 
@@ -52,7 +52,7 @@ new_number given events all = ap (λ b. not b) (none_so_far given 0 (length even
 
 -- a start with a new number fits
 fits_started : (events : List RunEvent) (n : ℕ) (refused : Option NotStarted) → is_new n events ≡ true
-    → fits_start events (started n refused) ≡ true
+    → fits_start events (start_answer n refused) ≡ true
 fits_started events n None new = new
 fits_started events n (Some why) new = refl
 

@@ -68,14 +68,14 @@ removal_at [] p = Removed
 removal_at (g ∷ given) p = removal_or (is_same p g.place) g.answer (removal_at given p)
 
 -- a child that is started gets this number
-abbrev pub started : ℕ → Option NotStarted → StartAnswer
-started n None = start.Started n
-started n (Some why) = start.NotStarted why
+abbrev pub start_answer : ℕ → Option NotStarted → StartAnswer
+start_answer n None = start.Started n
+start_answer n (Some why) = start.NotStarted why
 
 -- the answer to a step, which is event n of the run
 abbrev pub answer_to : List Given → ℕ → Step → Answer
 answer_to given n (step.Claim p) = answer.Claim (claim_at given p)
-answer_to given n (step.Start p from_pipe to_pipe) = answer.Start (started n (start_at given p))
+answer_to given n (step.Start p from_pipe to_pipe) = answer.Start (start_answer n (start_at given p))
 answer_to given n step.ClosePipe = answer.Closed
 answer_to given n (step.Wait p id) = answer.Wait (wait_at given p)
 answer_to given n (step.Remove p) = answer.Remove (removal_at given p)

@@ -54,8 +54,8 @@ command_placed job None index = None
 command_placed job (Some group) index = Some (place.Command job group index)
 
 -- the place of a temporary, a marked file, a failure file, or a command by its group's number
-abbrev pub placed : List ℕ → ℕ → ℕ → Option Place
-placed word job index =
+abbrev pub listed_place : List ℕ → ℕ → ℕ → Option Place
+listed_place word job index =
     if pointwise nat_eq word (codes "temps") then Some (place.Temp job index)
     else if pointwise nat_eq word (codes "marked") then Some (place.Marked job index)
     else if pointwise nat_eq word (codes "on_failure") then Some (place.OnFailure job index)
@@ -65,7 +65,7 @@ placed word job index =
 abbrev pub placed_in : List ℕ → Option ℕ → Option ℕ → Option Place
 placed_in word None index = None
 placed_in word (Some job) None = None
-placed_in word (Some job) (Some index) = placed word job index
+placed_in word (Some job) (Some index) = listed_place word job index
 
 -- the place, by the part before the last period and the index after it
 abbrev pub by_front : Plan → Option (List ℕ × List ℕ) → List ℕ → Option Place

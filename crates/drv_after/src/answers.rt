@@ -1,6 +1,6 @@
 //! Answers that are given ahead, and what the steps of a run are answered by them.
 
-ghost use Rattle.drv_after.specs.Answered.{answer_to, claim_at, is_same, removal_at, start_at, started};
+ghost use Rattle.drv_after.specs.Answered.{answer_to, claim_at, is_same, removal_at, start_answer, start_at};
 ghost use Rattle.drv_after.specs.Answered.{wait_at};
 ghost use Rattle.std.specs.Prelude.{◌≡◌};
 
@@ -98,8 +98,8 @@ fn removal_at(given: &[Given], place: Place) -> RemoveAnswer
 }
 
 /// What a start is answered: the child's number is this one.
-fn started(number: u64, refused: Option<NotStarted>) -> StartAnswer
-    ensures { result ≡ started number refused }
+fn start_answer(number: u64, refused: Option<NotStarted>) -> StartAnswer
+    ensures { result ≡ start_answer number refused }
 {
     match refused {
         Some(why) => StartAnswer::NotStarted(why),
@@ -114,7 +114,7 @@ pub(crate) fn answer_to(given: &[Given], number: u64, step: Step) -> Answer
 {
     match step {
         Step::Claim(place) => Answer::Claim(claim_at(given, place)),
-        Step::Start { place, .. } => Answer::Start(started(number, start_at(given, place))),
+        Step::Start { place, .. } => Answer::Start(start_answer(number, start_at(given, place))),
         Step::ClosePipe => Answer::Closed,
         Step::Wait { place, .. } => Answer::Wait(wait_at(given, place)),
         Step::Remove(place) => Answer::Remove(removal_at(given, place)),

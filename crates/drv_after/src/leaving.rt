@@ -125,7 +125,11 @@ fn follow(left: &mut Vec<Word>, plan: &Plan, event: RunEvent) -> Result<(), Allo
 
 /// The files of a plan that a run of these events leaves: temporaries that it made, and what its
 /// commands may have written, without those that it removed. Each path is there once.
-pub fn left(alloc: Global, plan: &Plan, events: &[RunEvent]) -> Result<Listing<Word>, AllocError>
+pub fn left_files(
+    alloc: Global,
+    plan: &Plan,
+    events: &[RunEvent],
+) -> Result<Listing<Word>, AllocError>
     ensures { IfOk result (λ left. left ≡ left_from plan.now [] events.now) }
 {
     let mut left = Vec::new(alloc);

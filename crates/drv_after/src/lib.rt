@@ -11,7 +11,7 @@ mod worded;
 
 pub use answers::Given;
 pub use law::one_place_law;
-pub use leaving::left;
+pub use leaving::left_files;
 pub use places::{command_at, name_at};
 pub use running::after;
 pub use telling::story;

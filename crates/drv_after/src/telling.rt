@@ -9,7 +9,7 @@ ghost use Rattle.drv_words.specs.Printed.{words_text};
 ghost use Rattle.std.specs.Option.{option_copied};
 ghost use Rattle.std.specs.Prelude.{◌≡◌, ◌∷◌, ◌++◌, IfOk, OnOk};
 
-use crate::leaving::left;
+use crate::leaving::left_files;
 use crate::places::{command_at, name_at};
 use drv_words::{
     Answer, ClaimAnswer, Command, NotStarted, Place, Plan, RemoveAnswer, RunEvent, StartAnswer,
@@ -276,7 +276,7 @@ pub fn story(
     let mut text = Word::empty(alloc);
     push_events(alloc, &mut text, plan, events)?;
     push_status(&mut text, status)?;
-    let paths = left(alloc, plan, events)?;
+    let paths = left_files(alloc, plan, events)?;
     push_left(alloc, &mut text, paths.as_slice())?;
     Ok(text)
 }

@@ -2,7 +2,7 @@
 
 ghost use Rattle.drv_after.specs.Worded.{answer_named, command_answer, digit_of, file_answer};
 ghost use Rattle.drv_after.specs.Worded.{given_of, job_named, number_from, number_of, place_named};
-ghost use Rattle.drv_after.specs.Worded.{placed, temp_answer, with_digit};
+ghost use Rattle.drv_after.specs.Worded.{listed_place, temp_answer, with_digit};
 ghost use Rattle.std.specs.Prelude.{◌≡◌, ◌≤◌, IfSome, Some};
 
 use crate::answers::Given;
@@ -82,8 +82,8 @@ fn job_named(plan: &Plan, word: &[u8]) -> Option<usize>
 }
 
 /// The place of this number in the list of this name.
-fn placed(word: &[u8], job: usize, index: usize) -> Option<Place>
-    ensures { result ≡ placed word.now job index }
+fn listed_place(word: &[u8], job: usize, index: usize) -> Option<Place>
+    ensures { result ≡ listed_place word.now job index }
 {
     if word == b"temps".as_slice() {
         return Some(Place::Temp { job, index });
@@ -106,7 +106,7 @@ fn place_named(plan: &Plan, word: &[u8]) -> Option<Place>
     let (job, list) = parted(b'.', front)?;
     let job = job_named(plan, job)?;
     let index = number_of(index)?;
-    let place = placed(list, job, index)?;
+    let place = listed_place(list, job, index)?;
     let _name = name_at(plan, place)?;
     Some(place)
 }
