@@ -67,7 +67,7 @@ fn ends_of(alloc: Global, changes: &[Change]) -> Result<BTreeMap<Word, Option<Wo
 }
 
 /// The words with their ends in place of them.
-fn ended(
+fn with_ends(
     alloc: Global,
     words: &[Word],
     ends: &BTreeMap<Word, Option<Word>>,
@@ -84,7 +84,7 @@ fn ended(
 }
 
 /// The words after these changes, one after another.
-pub(crate) fn changed(
+pub(crate) fn apply_changes(
     alloc: Global,
     words: &[Word],
     changes: &[Change],
@@ -92,5 +92,5 @@ pub(crate) fn changed(
     ensures { IfOk result (λ left. left ≡ after_changes changes.now words.now) }
 {
     let ends = ends_of(alloc, changes)?;
-    ended(alloc, words, &ends)
+    with_ends(alloc, words, &ends)
 }

@@ -8,7 +8,7 @@ ghost use Rattle.drv_funcs.specs.declared.function.Function.TheVariants.{Replace
 ghost use Rattle.drv_words.specs.Gives.{Gives};
 ghost use Rattle.std.specs.Prelude.{◌≡◌, [], IfOk, OnErr, OnOk};
 
-use crate::changes::{Change, changed};
+use crate::changes::{Change, apply_changes};
 use crate::{FuncsFault, Function, Site};
 use drv_words::{Listing, Word};
 use std::alloc::{AllocError, Global};
@@ -57,7 +57,7 @@ impl Outputs {
         if self.changes.is_empty() {
             return Ok(mem::replace(&mut self.words, none));
         }
-        let words = changed(self.alloc, self.words.as_slice(), self.changes.as_slice())?;
+        let words = apply_changes(self.alloc, self.words.as_slice(), self.changes.as_slice())?;
         *self = Outputs::new(self.alloc, none);
         Ok(words)
     }

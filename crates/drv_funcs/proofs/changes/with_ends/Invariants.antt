@@ -1,9 +1,9 @@
-use Rattle.drv_funcs.proofs.changes.ended.Given as goal
+use Rattle.drv_funcs.proofs.changes.with_ends.Given as goal
 use Rattle.drv_funcs.specs.Code.Changes.{end_in}
 use Rattle.std.proofs.Common.{◌≡◌, ◌++◌, drop}
 use Rattle.std.specs.List.{filter_map}
 
--- The loops of ended (src/changes.rt). The words with their ends in place of them.
+-- The loops of with_ends (src/changes.rt). The words with their ends in place of them.
 
 -- the words so far, with what becomes of those that are left, are all
 abbrev pub invariant-loop-word : goal.invariant-loop-word

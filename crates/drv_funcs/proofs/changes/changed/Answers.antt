@@ -1,7 +1,0 @@
-use Rattle.drv_funcs.proofs.Ends.{all_changed}
-use Rattle.drv_funcs.proofs.changes.changed.Goals as goal
-
--- changed (src/changes.rt). The words after these changes, one after another.
-
-pub returns : goal.returns
-returns c = all_changed c.args.changes.now c.args.words.now c.in_ok-ends.ends c.ended.result c.in_ok-ends.ensures c.ended.ensures
