@@ -77,21 +77,21 @@ before None word = word
 before (Some at) word = take at word
 
 -- the part of a word that is compared with an option
-abbrev pub compared : List ℕ → List ℕ → List ℕ
-compared word option =
+abbrev pub compared_part : List ℕ → List ℕ → List ℕ
+compared_part word option =
     if takes_equals option then through (position (λ b. b == equals) word) word else before (position (λ b. b == equals) word) word
 
 -- whether a word was perhaps meant to be this option
 abbrev pub is_meant : List ℕ → List ℕ → Bool
-is_meant word option = is_near (compared word option) option
+is_meant word option = is_near (compared_part word option) option
 
 -- the first such option; a word that names a spec file is that option
 abbrev pub names_file : List ℕ → Bool
 names_file word = starts_with nat_eq word (codes "-specs=") || starts_with nat_eq word (codes "--specs=")
 
 -- the first option that a word was perhaps meant to be
-abbrev pub meant : List ℕ → Option (List ℕ)
-meant word = if names_file word then None else find (is_meant word) long_options
+abbrev pub meant_option : List ℕ → Option (List ℕ)
+meant_option word = if names_file word then None else find (is_meant word) long_options
 
 -- the word of a switch, with its hyphen
 abbrev pub word_of : Switch → List ℕ
@@ -99,7 +99,7 @@ word_of switch = hyphen ∷ switch.name
 
 -- whether a switch was perhaps meant to be an option
 abbrev pub is_doubtful : Switch → Bool
-is_doubtful switch = is_some (meant (word_of switch))
+is_doubtful switch = is_some (meant_option (word_of switch))
 
 -- the line of a hint
 abbrev pub hint_text : List ℕ → List ℕ → List ℕ
@@ -112,7 +112,7 @@ hint_on word (Some option) named = if named then [] else hint_text word option
 
 -- the hint on a switch
 abbrev pub hint_of : Set → Switch → List ℕ
-hint_of set switch = hint_on (word_of switch) (meant (word_of switch)) (names_switch set switch.name)
+hint_of set switch = hint_on (word_of switch) (meant_option (word_of switch)) (names_switch set switch.name)
 
 -- the hints on all switches
 abbrev pub hints_of : Set → List Switch → List ℕ

@@ -8,9 +8,9 @@ ghost use Rattle.drv_system.specs.Code.Asked.{Asked};
 ghost use Rattle.drv_system.specs.Facts.{Facts};
 ghost use Rattle.drv_system.specs.Known.{Is};
 ghost use Rattle.drv_words.specs.Bytes.{equals};
-ghost use Rattle.gdrv.specs.Meant.{Hints, HintsOf, IsEdit, before, compared, hint_of, hint_text, hints_of};
+ghost use Rattle.gdrv.specs.Meant.{Hints, HintsOf, IsEdit, before, compared_part, hint_of, hint_text, hints_of};
 ghost use Rattle.gdrv.specs.Meant.{is_doubtful, is_front_edited, is_meant, is_near, is_single};
-ghost use Rattle.gdrv.specs.Meant.{is_swapped, long_options, meant, names_file, takes_equals, through};
+ghost use Rattle.gdrv.specs.Meant.{is_swapped, long_options, meant_option, names_file, takes_equals, through};
 ghost use Rattle.gdrv.specs.Meant.{word_of};
 ghost use Rattle.std.specs.List.{list_any, position};
 ghost use Rattle.std.specs.Option.{option_map};
@@ -158,8 +158,8 @@ fn before(at: Option<usize>, word: &[u8]) -> &[u8]
 }
 
 /// What of a word is compared with an option.
-fn compared<'w>(word: &'w [u8], option: &[u8]) -> &'w [u8]
-    ensures { result.now ≡ compared word.now option.now }
+fn compared_part<'w>(word: &'w [u8], option: &[u8]) -> &'w [u8]
+    ensures { result.now ≡ compared_part word.now option.now }
 {
     let at = equals_in(word);
     if takes_equals(option) {
@@ -173,7 +173,7 @@ fn compared<'w>(word: &'w [u8], option: &[u8]) -> &'w [u8]
 fn is_meant(word: &[u8], option: &[u8]) -> bool
     ensures { result ≡ is_meant word.now option.now }
 {
-    is_near(compared(word, option), option)
+    is_near(compared_part(word, option), option)
 }
 
 /// The first of these options that a word was meant to be.
@@ -197,8 +197,8 @@ fn names_file(word: &[u8]) -> bool
 }
 
 /// The option that a word was meant to be.
-fn meant(word: &[u8]) -> Option<&'static [u8]>
-    ensures { option_map (λ option. option.now) result ≡ meant word.now }
+fn meant_option(word: &[u8]) -> Option<&'static [u8]>
+    ensures { option_map (λ option. option.now) result ≡ meant_option word.now }
 {
     // Such a word is that option, with its file.
     if names_file(word) {
@@ -222,7 +222,7 @@ fn are_doubtful(alloc: Global, switches: &[Switch]) -> Result<bool, AllocError>
 {
     for switch in switches {
         let word = word_of(alloc, switch)?;
-        if meant(word.as_bytes()).is_some() {
+        if meant_option(word.as_bytes()).is_some() {
             return Ok(true);
         }
     }
@@ -250,7 +250,7 @@ fn push_hint(
     ensures { OnOk result (text.new ≡ text.old ++ hint_of set.now switch.now) }
 {
     let word = word_of(alloc, switch)?;
-    let Some(option) = meant(word.as_bytes()) else {
+    let Some(option) = meant_option(word.as_bytes()) else {
         return Ok(());
     };
     if names_switch(alloc, set, switch.name.as_bytes())? {
