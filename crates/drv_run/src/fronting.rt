@@ -51,7 +51,7 @@ fn cut_front(args: Listing<Word>) -> (Front, Listing<Word>)
 }
 
 /// The words of a front as words of the driver.
-fn fronted(alloc: Global, selected: Front, expanded: Expanded) -> Result<Expanded, C99Fault>
+fn front_words(alloc: Global, selected: Front, expanded: Expanded) -> Result<Expanded, C99Fault>
     ensures { Gives c99_fault.Memory (λ words. words) result
         (fronted (is_of_c99 selected) expanded) }
 {
@@ -81,6 +81,6 @@ pub(crate) fn words_of<S: System>(
 {
     let (selected, following) = cut_front(args);
     let expanded = expand(alloc, following, outside.sys, outside.facts)?;
-    let words = fronted(alloc, selected, expanded)?;
+    let words = front_words(alloc, selected, expanded)?;
     Ok(words)
 }
