@@ -2,10 +2,10 @@
 
 ghost use Rattle.drv_after.specs.After.{After};
 ghost use Rattle.drv_core.specs.Run.{IfMake};
-ghost use Rattle.std.specs.Prelude.{◌≡◌, ◌≤◌, IfOk};
+ghost use Rattle.std.specs.Prelude.{◌≡◌, IfOk};
 
 use crate::answers::{Given, answer_to};
-use drv_core::{Action, FailureStatus, Run};
+use drv_core::{Action, FailureStatus, Run, Window};
 use drv_words::Plan;
 use std::alloc::{AllocError, Global};
 
@@ -20,18 +20,16 @@ pub fn after<'a>(
     alloc: Global,
     plan: &'a Plan,
     pass_codes: FailureStatus,
-    window: usize,
+    window: Window,
     given: &[Given],
 ) -> Result<Run<'a>, AllocError>
-    requires some { 1 ≤ window }
-    requires most { window ≤ 64 }
     ensures plan { IfOk result (λ run. run.plan ≡ plan.now) }
     ensures pass_codes { IfOk result (λ run. run.pass_codes ≡ pass_codes) }
     ensures window { IfOk result (λ run. run.window ≡ window) }
     ensures after { IfOk result (λ run. After plan.now window given.now run.events) }
     ensures whole { IfOk result (λ run. IfMake run.action (λ step. ⊥)) }
 {
-    let mut run = Run::new(alloc, plan, pass_codes, window)?;
+    let mut run = Run::new(alloc, plan, pass_codes, window.sources())?;
     loop {
         match run.next() {
             Action::Done(_) => return Ok(run),

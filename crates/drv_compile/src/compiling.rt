@@ -6,7 +6,6 @@ ghost use Rattle.drv_compile.specs.Compiles.{Compiled, is_absent, is_missing, is
 ghost use Rattle.drv_compile.specs.Compiles.{jobs_before_link, lacks_program, program_of, settings};
 ghost use Rattle.drv_compile.specs.Code.Settling.{Going};
 ghost use Rattle.drv_compile.specs.Inputs.{Noted};
-ghost use Rattle.drv_run.specs.Calls.{HasWindow};
 ghost use Rattle.drv_compile.specs.declared.host.HostEvent.{HostEvent};
 ghost use Rattle.drv_system.specs.Running.{run_of};
 ghost use Rattle.drv_system.specs.declared.event.Event.{Event};
@@ -157,7 +156,6 @@ fn noted<S: System>(sys: &mut S, before: usize, prepared: &Prepared, status: u8)
 /// or else the remark.
 fn done<S: System>(alloc: Global, name: &[u8], prepared: &Prepared, sys: &mut S) -> Outcome
     requires pipe { pipe_pending (run_of (S.events sys.old)) ≡ false }
-    requires window { HasWindow prepared.now.work }
     ensures does { Worked name.now (S.events sys.old) (S.events sys.new) prepared.now result }
     ensures pipe { pipe_pending (run_of (S.events sys.new)) ≡ false }
 {
@@ -184,7 +182,6 @@ fn opened<S: System>(sys: &mut S, said: &Word) -> Result<(), AllocError>
 /// Says what is said before the work of what is prepared, and does that.
 fn spoken<S: System>(alloc: Global, name: &[u8], prepared: &Prepared, sys: &mut S) -> Outcome
     requires pipe { pipe_pending (run_of (S.events sys.old)) ≡ false }
-    requires window { HasWindow prepared.now.work }
     ensures does { Spoken name.now (S.events sys.old) (S.events sys.new) prepared.now result }
     ensures pipe { pipe_pending (run_of (S.events sys.new)) ≡ false }
 {
@@ -203,7 +200,6 @@ fn carried_out<S: System, H: Host<S>>(
     host: &mut H,
 ) -> Outcome
     requires pipe { pipe_pending (run_of (S.events sys.old)) ≡ false }
-    requires window { HasWindow prepared.now.work }
     ensures carries { Noted (H.notes host.old) (H.notes host.new)
         (λ events. Carried name.now (S.events sys.old) (S.events sys.new) prepared.now events
         result) }

@@ -8,7 +8,6 @@ ghost use Rattle.drv_compile.specs.Code.Preparing.{IsQuestion, IsTaskDone, IsTas
 ghost use Rattle.drv_compile.specs.Code.Preparing.{IsUnplanned};
 ghost use Rattle.drv_compile.specs.Runs.{Works};
 ghost use Rattle.drv_compile.specs.Tasks.{IfTold};
-ghost use Rattle.drv_run.specs.Calls.{HasWindow};
 ghost use Rattle.drv_system.specs.Asking.{Extends};
 ghost use Rattle.drv_system.specs.Code.Asked.{Asked};
 ghost use Rattle.drv_system.specs.Facts.{Facts};
@@ -29,7 +28,7 @@ use crate::wording::{gone, handed_text, help_text, overwritten, version_text};
 use crate::wrapping::wrapper_of;
 use drv_args::Expanded;
 use drv_cc::{Call, Variable};
-use drv_core::FailureStatus;
+use drv_core::{FailureStatus, Window};
 use drv_run::{Manner, Telling, Work};
 use drv_system::{Outside, System};
 use drv_words::{Command, Group, Job, Listing, Plan, Word};
@@ -82,7 +81,6 @@ fn one_command(alloc: Global, command: Command) -> Result<Plan, AllocError>
 /// The question to a compiler: it is started with these words, and its status is the answer.
 fn question(alloc: Global, compiler: Word, args: &Listing<Word>) -> Result<Work, AllocError>
     ensures question { IfOk result (λ work. work ≡ question compiler args.now) }
-    ensures window { IfOk result (λ work. HasWindow work) }
 {
     let command = Command {
         program: compiler,
@@ -92,7 +90,7 @@ fn question(alloc: Global, compiler: Word, args: &Listing<Word>) -> Result<Work,
     let manner = Manner {
         telling: Telling::Notices,
         pass_codes: FailureStatus::GreatestCode,
-        window: 1,
+        window: Window::new(1),
     };
     Ok(Work::CarryOut { plan, manner })
 }
@@ -113,7 +111,6 @@ fn work_or_stop<S: System>(
     ensures works { (F : Facts) → Extends outside.new.facts.now F
         → MatchResult result (λ work. Works F line.now seed work)
         (λ stop. IfTold stop (IsFailure F name.now line.now seed)) }
-    ensures window { IfOk result (λ work. HasWindow work) }
 {
     match work_of_items(alloc, line, seed, outside) {
         Ok(work) => Ok(work),
@@ -165,7 +162,6 @@ fn planned<S: System>(
         → MatchResult result
         (λ prepared. IsPlanned F calling.now chain.now driven seed prepared)
         (λ stop. IfTold stop (IsFailure F calling.now.name driven.line seed)) }
-    ensures window { IfOk result (λ prepared. HasWindow prepared.work) }
 {
     let name = calling.name.as_bytes();
     let specs = chain.specs.as_bytes();
@@ -206,7 +202,6 @@ fn handed_on(
 ) -> Result<Prepared, AllocError>
     ensures hands { IfOk result (λ prepared. prepared
         ≡ handed_on calling.now chain.now options.now args.now given.now) }
-    ensures window { IfOk result (λ prepared. HasWindow prepared.work) }
 {
     let name = calling.name.as_bytes();
     let specs = chain.specs.as_bytes();
@@ -244,7 +239,6 @@ fn prepared_plan<S: System>(
         → MatchResult result
         (λ prepared. IsPrepared F calling.now chain.now call args.now given.now seed prepared)
         (λ stop. IfTold stop (IsUnplanned F calling.now chain.now call given.now seed)) }
-    ensures window { IfOk result (λ prepared. HasWindow prepared.work) }
 {
     match worker_of(alloc, calling, chain, call, given, outside)? {
         Worker::Driver(driven) => planned(alloc, calling, chain, driven, seed, outside),
@@ -277,7 +271,6 @@ fn compilation<S: System, H: Host<S>>(
         → MatchResult result
         (λ prepared. Performs F calling.now chain.now call args.now given.now seed events prepared)
         (λ stop. IfTold stop (Fails F calling.now chain.now call given.now seed events))) }
-    ensures window { IfOk result (λ prepared. HasWindow prepared.work) }
 {
     let name = calling.name.as_bytes();
     let text = objection(alloc, name, call.inputs.as_slice(), outside)?;
@@ -298,7 +291,6 @@ fn asked(
 ) -> Result<Prepared, AllocError>
     ensures asks { IfOk result (λ prepared. IsQuestion calling.now specs.now compiler args.now
         prepared) }
-    ensures window { IfOk result (λ prepared. HasWindow prepared.work) }
 {
     let name = calling.name.as_bytes();
     let hint = gone(alloc, name, specs, calling.machine.as_bytes())?;
@@ -335,7 +327,6 @@ fn task_prepared<S: System, H: Host<S>>(
         → MatchResult result
         (λ prepared. IsTaskDone F calling.now args.now given.now seed task events prepared)
         (λ stop. IfTold stop (IsTaskRefused F calling.now given.now seed task events))) }
-    ensures window { IfOk result (λ prepared. HasWindow prepared.work) }
 {
     match task {
         Task::Question(specs, compiler) => {
@@ -370,7 +361,6 @@ pub(crate) fn prepare<S: System, H: Host<S>>(
         → MatchResult result
         (λ prepared. Comes F calling.now own.now args.now seed events prepared)
         (λ stop. IfTold stop (Refuses F calling.now own.now args.now seed events))) }
-    ensures window { IfOk result (λ prepared. HasWindow prepared.work) }
 {
     let words = line_words(alloc, calling, args, outside)?;
     let decision = decided(alloc, own, words.words.as_slice(), outside)?;

@@ -3,7 +3,7 @@
 ghost use Rattle.drv_args.specs.declared.fault.ArgsFault.TheVariants as args_fault;
 ghost use Rattle.drv_compile.specs.Code.Working.{IsUnworked, IsWorked};
 ghost use Rattle.drv_compile.specs.Runs.{Stops, Works, line_given, specs_of};
-ghost use Rattle.drv_run.specs.Calls.{HasWindow, IsWindow};
+ghost use Rattle.drv_run.specs.Calls.{IsWindow};
 ghost use Rattle.drv_specs.specs.declared.fault.SpecsFault.TheVariants as specs_fault;
 ghost use Rattle.drv_system.specs.Asking.{Extends};
 ghost use Rattle.drv_system.specs.Code.Asked.{Asked};
@@ -71,7 +71,6 @@ fn line_work<S: System>(
     ensures works { (F : Facts) → Extends outside.new.facts.now F
         → MatchResult result (λ work. IsWorked F line.now set.now seed work)
         (λ ending. IsUnworked F line.now set.now seed ending) }
-    ensures window { IfOk result (λ work. HasWindow work) }
 {
     refuse_several(alloc, set, line)?;
     let work = work_of(alloc, line, set, seed, outside.sys, outside.facts)?;
@@ -94,7 +93,6 @@ pub(crate) fn work_of_items<S: System>(
     ensures comes { (F : Facts) → Extends outside.new.facts.now F
         → MatchResult result (λ work. Works F given.now seed work)
         (λ ending. Stops F given.now seed ending) }
-    ensures window { IfOk result (λ work. HasWindow work) }
 {
     let line = line_given(alloc, given)?;
     let set = specs_of(alloc, &line.settings, outside)?;

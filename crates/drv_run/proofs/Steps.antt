@@ -3,20 +3,18 @@ use Rattle.drv_args.specs.declared.fault.ArgsFault.TheVariants as args_fault
 use Rattle.drv_args.specs.declared.fault.ArgsFault.{ArgsFault}
 use Rattle.drv_args.specs.declared.line.Expanded.{Expanded}
 use Rattle.drv_args.specs.declared.line.Line.{Line}
-use Rattle.drv_args.specs.declared.line.Settings.{Settings}
 use Rattle.drv_funcs.specs.declared.fault.FuncsFault.TheVariants as funcs_fault
 use Rattle.drv_machine.specs.declared.fault.MachineFault.TheVariants as machine_fault
 use Rattle.drv_plan.specs.declared.fault.PlanFault.TheVariants as plan_fault
 use Rattle.drv_plan.specs.declared.fault.PlanFault.{PlanFault}
-use Rattle.drv_run.specs.Calls.{HasWindow}
-use Rattle.drv_run.specs.Drives.{Comes, Refuses, Words, manner_of, not_expanded, not_fronted, not_loaded, not_planned, not_read, planned}
+use Rattle.drv_run.specs.Drives.{Comes, Refuses, Words, not_expanded, not_fronted, not_loaded, not_planned, not_read, planned}
 use Rattle.drv_run.specs.Drives.{specs_of, stopped_by_args, stopped_by_plan, stopped_by_specs, work_of, work_with, worked}
 use Rattle.drv_run.specs.Code.Deciding.{ComesOfSpecs}
 use Rattle.drv_run.specs.Code.Wording.{GivesWords}
 use Rattle.drv_run.specs.declared.ending.Ending.TheVariants.{Done, OutOfMemory, Refused}
 use Rattle.drv_run.specs.declared.ending.Ending.{Ending}
 use Rattle.drv_run.specs.declared.ending.Refusal.TheVariants.{Args, C99 as NoFront, Plan as NoPlan, Specs as NoSpecs}
-use Rattle.drv_run.specs.declared.work.Work.TheVariants.{CarryOut, Dump, Show}
+use Rattle.drv_run.specs.declared.work.Work.TheVariants.{Dump}
 use Rattle.drv_run.specs.declared.work.Work.{Work}
 use Rattle.drv_search.specs.declared.fault.SearchFault.TheVariants as search_fault
 use Rattle.drv_specs.specs.Dumping.{dumped}
@@ -27,8 +25,7 @@ use Rattle.drv_syntax.specs.declared.fault.SyntaxFault.TheVariants as syntax_fau
 use Rattle.drv_system.specs.Facts.{Facts}
 use Rattle.drv_system.specs.Known.{Is, Known}
 use Rattle.drv_words.specs.declared.plan.Plan.{Plan}
-use Rattle.std.proofs.Common.{◌≡◌, ◌≤◌, ◌⊎◌, ◌∙◌, Bool, Err, IsErrAnd, List, Ok, Result, ap, false, inl, inr, subst, sym, true, ℕ}
-use Rattle.std.specs.Prelude.{if◌then◌else◌}
+use Rattle.std.proofs.Common.{◌≡◌, ◌⊎◌, ◌∙◌, Err, IsErrAnd, List, Ok, Result, ap, false, inl, inr, subst, sym, true, ℕ}
 
 -- For `work_of`: the fault of each step (words, line, specs, plan) is the refusal of the call, and lack of memory in any of them ends it
 -- out of memory.
@@ -194,12 +191,3 @@ pub work_refused : (F : Facts) (line : Line) (set : Set) (seed : ℕ) (fault : P
     → (fault ≡ plan_fault.Memory) ⊎ (work_of F line set seed ≡ Is (Err fault))
 work_refused F line set seed fault dumps (inl memory) = inl memory
 work_refused F line set seed fault dumps (inr refused) = inr (rw dumps (ap (worked line.settings) refused))
-
--- a work has as many sources under way as the line says, at least 1 and at most 64
-pub few_window : (settings : Settings) (plan : Plan) (work : Work) → (1 ≤ settings.jobs) × (settings.jobs ≤ 64)
-    → work ≡ work_with settings plan → HasWindow work
-few_window settings plan work few is = subst (λ w. HasWindow w) (sym is) (by settings.dry)
-  where
-    by : (dry : Bool) → HasWindow (if dry then Show plan else CarryOut plan (manner_of settings))
-    by true = tt
-    by false = few

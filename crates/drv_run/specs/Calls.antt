@@ -90,12 +90,6 @@ OnlySays journal journal' = (said : List Event) × (journal' ≡ journal ++ said
 abbrev pub IsWindow : ℕ → Type 0
 IsWindow n = (1 ≤ n) × (n ≤ 64)
 
--- work that is carried out has a window from 1 to 64
-abbrev pub HasWindow : Work → Type 0
-HasWindow (Dump text) = ⊤
-HasWindow (Show plan) = ⊤
-HasWindow (CarryOut plan manner) = IsWindow manner.window
-
 -- what follows the questions of a call, by how it ended: its work after `Done`; nothing after a refusal; and nothing was made or started
 -- where memory lacked
 abbrev pub Ends : Facts → List (List ℕ) → ℕ → Ending → List Event → Type 0

@@ -2,12 +2,12 @@
 
 // In clauses: `Extends F G` says that G has every answer of F. `Asked` says that a call only asked,
 // and that the table has the answers. `GivesKnown` says that a result is the one defined over the
-// facts, or lack of memory. `HasWindow` says that work which is carried out has a window from 1 to
-// 64. `IsApart` says that lack of memory is no refusal. `Asks` says that a call only asked: it
-// added new questions to the journal, and their answers to the table.
+// facts, or lack of memory. `IsWindow` says that a number is from 1 to 64. `IsApart` says that lack
+// of memory is no refusal. `Asks` says that a call only asked: it added new questions to the
+// journal, and their answers to the table.
 ghost use Rattle.drv_machine.specs.declared.fault.MachineFault.TheVariants as machine_fault;
 ghost use Rattle.drv_plan.specs.declared.fault.PlanFault.TheVariants as plan_fault;
-ghost use Rattle.drv_run.specs.Calls.{HasWindow, IsWindow};
+ghost use Rattle.drv_run.specs.Calls.{IsWindow};
 ghost use Rattle.drv_run.specs.Drives.{Comes, IsApart, files_loaded, specs_of, specs_over, work_of};
 ghost use Rattle.drv_run.specs.Code.Deciding.{ComesOfLine};
 ghost use Rattle.drv_specs.specs.declared.fault.SpecsFault.TheVariants as specs_fault;
@@ -15,7 +15,7 @@ ghost use Rattle.drv_system.specs.Asking.{Asks, Extends};
 ghost use Rattle.drv_system.specs.Code.Asked.{Asked};
 ghost use Rattle.drv_system.specs.Facts.{Facts};
 ghost use Rattle.drv_system.specs.Gives.{GivesKnown};
-ghost use Rattle.std.specs.Prelude.{◌≢◌, IfErr, IfOk};
+ghost use Rattle.std.specs.Prelude.{◌≢◌, IfErr};
 
 use crate::ending::Ending;
 use crate::fronting::words_of;
@@ -109,7 +109,6 @@ pub fn work_of<S: System>(
         → GivesKnown plan_fault.Memory (λ work. work) result
         (work_of F line.now set.now seed) }
     ensures apart { IfErr result (λ fault. fault ≢ PlanFault.Machine machine_fault.Memory) }
-    ensures window { IfOk result (λ work. HasWindow work) }
 {
     if line.settings.dump {
         return Ok(Work::Dump(set.dump()?));
@@ -134,7 +133,6 @@ fn work_of_line<S: System>(
     ensures asks { Asked S.events outside.old outside.new }
     ensures comes { (F : Facts) → Extends outside.new.facts.now F → ComesOfLine F line.now seed result }
     ensures apart { IfErr result (λ ending. IsApart ending) }
-    ensures window { IfOk result (λ work. HasWindow work) }
 {
     let set = specs_of(alloc, &line.settings, outside)?;
     let work = work_of(alloc, line, &set, seed, outside.sys, outside.facts)?;
@@ -157,7 +155,6 @@ pub(crate) fn work_of_args<S: System>(
     ensures asks { Asked S.events outside.old outside.new }
     ensures comes { (F : Facts) → Extends outside.new.facts.now F → Comes F args seed result }
     ensures apart { IfErr result (λ ending. IsApart ending) }
-    ensures window { IfOk result (λ work. HasWindow work) }
 {
     let words = words_of(alloc, args, outside)?;
     let line = read(alloc, &words)?;
@@ -179,7 +176,6 @@ pub fn work_of_call<S: System>(
     ensures asks { Asks (S.events sys.old) (S.events sys.new) facts.old facts.new }
     ensures comes { (F : Facts) → Extends facts.new F → Comes F args seed result }
     ensures apart { IfErr result (λ ending. IsApart ending) }
-    ensures window { IfOk result (λ work. HasWindow work) }
 {
     work_of_args(alloc, args, seed, &mut Outside { sys, facts })
 }

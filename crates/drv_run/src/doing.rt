@@ -2,11 +2,11 @@
 
 // In clauses: `run_of` is the events of a run among those of a journal. `pipe_pending` says that a
 // pipe is pending after events. `OnlySays` says that only texts were said.
-ghost use Rattle.drv_run.specs.Calls.{DoesWork, HasWindow, OnlySays};
+ghost use Rattle.drv_run.specs.Calls.{DoesWork, OnlySays};
 ghost use Rattle.drv_run.specs.declared.work.Work.TheVariants.{CarryOut, Dump};
 ghost use Rattle.drv_system.specs.Running.{run_of};
 ghost use Rattle.drv_words.specs.Stepping.{pipe_pending};
-ghost use Rattle.std.specs.Prelude.{◌≡◌, ◌≤◌, IfOk, List, OnErr, false, ℕ};
+ghost use Rattle.std.specs.Prelude.{◌≡◌, IfOk, List, OnErr, false, ℕ};
 
 use crate::executing::execute;
 use crate::telling::{announce, say_plan, status_of};
@@ -35,8 +35,6 @@ fn run_plan<S: System>(
     manner: Manner,
 ) -> Result<u8, AllocError>
     requires pipe { pipe_pending (run_of (S.events sys.old)) ≡ false }
-    requires some { 1 ≤ manner.window }
-    requires most { manner.window ≤ 64 }
     ensures runs { IfOk result
         (λ status. DoesWork name.now (S.events sys.old) (S.events sys.new)
         (CarryOut plan.now manner) status) }
@@ -44,7 +42,8 @@ fn run_plan<S: System>(
     ensures pipe { pipe_pending (run_of (S.events sys.new)) ≡ false }
 {
     announce(alloc, sys, name, plan, manner.telling)?;
-    let status = execute(alloc, sys, plan, manner.pass_codes, manner.window)?;
+    let window = manner.window.sources();
+    let status = execute(alloc, sys, plan, manner.pass_codes, window)?;
     Ok(status)
 }
 
@@ -61,7 +60,6 @@ pub fn do_work<S: System>(
     work: &Work,
 ) -> Result<u8, AllocError>
     requires pipe { pipe_pending (run_of (S.events sys.old)) ≡ false }
-    requires window { HasWindow work.now }
     ensures does { IfOk result
         (λ status. DoesWork name.now (S.events sys.old) (S.events sys.new) work.now status) }
     ensures memory { OnErr result (OnlySays (S.events sys.old) (S.events sys.new)) }

@@ -2,7 +2,7 @@
 
 // In clauses: `run_of` is the events of a run among those of a journal. `pipe_pending` says that a
 // pipe is pending after events. `IsApart` says that lack of memory is no refusal.
-ghost use Rattle.drv_run.specs.Calls.{Drove, HasWindow, Keeps};
+ghost use Rattle.drv_run.specs.Calls.{Drove, Keeps};
 ghost use Rattle.drv_run.specs.Drives.{IsApart};
 ghost use Rattle.drv_run.specs.Code.Telling.{EndsWork};
 ghost use Rattle.drv_system.specs.Facts.{no_facts};
@@ -21,7 +21,6 @@ use std::alloc::Global;
 /// Does a work, and gives how that ends the call.
 fn ending_of<S: System>(alloc: Global, sys: &mut S, work: &Work) -> Ending
     requires pipe { pipe_pending (run_of (S.events sys.old)) ≡ false }
-    requires window { HasWindow work.now }
     ensures ends { EndsWork (S.events sys.old) (S.events sys.new) work.now result }
     ensures pipe { pipe_pending (run_of (S.events sys.new)) ≡ false }
 {

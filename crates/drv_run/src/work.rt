@@ -1,10 +1,12 @@
 //! What a call does.
 
+// In clauses: `IsWindow` says that a number is from 1 to 64.
+ghost use Rattle.drv_run.specs.Calls.{IsWindow};
 ghost use Rattle.drv_run.specs.Drives.{failure_of, telling_of, work_with};
 ghost use Rattle.std.specs.Prelude.{◌≡◌};
 
 use drv_args::Settings;
-use drv_core::FailureStatus;
+use drv_core::{FailureStatus, Window};
 use drv_words::{Plan, Word};
 
 /// What is said of a plan before it is carried out.
@@ -24,7 +26,7 @@ pub struct Manner {
     /// The exit status where a command failed.
     pub pass_codes: FailureStatus,
     /// How many sources are under way at once, at most.
-    pub window: usize,
+    pub window: Window,
 }
 
 /// What a call does once it is not refused.
@@ -62,6 +64,7 @@ fn failure_of(settings: &Settings) -> FailureStatus
 
 /// What is done with the plan of a line: with `-###` it is shown, and otherwise it is carried out.
 pub(crate) fn work_with(settings: &Settings, plan: Plan) -> Work
+    requires { IsWindow settings.now.jobs }
     ensures { result ≡ work_with settings.now plan }
 {
     if settings.dry {
@@ -70,7 +73,7 @@ pub(crate) fn work_with(settings: &Settings, plan: Plan) -> Work
     let manner = Manner {
         telling: telling_of(settings),
         pass_codes: failure_of(settings),
-        window: settings.jobs,
+        window: Window::new(settings.jobs),
     };
     Work::CarryOut { plan, manner }
 }

@@ -1,3 +1,9 @@
+use Rattle.drv_after.specs.After.{After}
+use Rattle.drv_after.specs.Story.{story}
+use Rattle.drv_core.specs.Outcomes.{Answers, status_of}
+use Rattle.drv_core.specs.Windowed.{Windowed}
+use Rattle.drv_core.specs.declared.failure_status.FailureStatus.{FailureStatus}
+use Rattle.drv_words.specs.declared.steps.RunEvent.{RunEvent}
 use Rattle.drv_after.specs.declared.answers.Given.{Given}
 use Rattle.drv_after.specs.declared.worded.GivenFault.{GivenFault}
 use Rattle.drv_run.specs.declared.ending.Ending.TheVariants.{Done, OutOfMemory}
@@ -6,12 +12,12 @@ use Rattle.drv_run.specs.declared.work.Work.TheVariants.{CarryOut, Dump, Show}
 use Rattle.drv_system.specs.declared.event.Event.{Event}
 use Rattle.drv_words.specs.declared.plan.Plan.{Plan}
 use Rattle.gdrv_specs.specs.Code.Answering.{after_answers}
-use Rattle.gdrv_specs.specs.Runs.{AfterOf, PutsRun, answers_of, with_answer}
+use Rattle.gdrv_specs.specs.Runs.{AfterOf, IsStory, PutsRun, answers_of, with_answer}
 use Rattle.gdrv_specs.specs.Told.{TellsWork}
 use Rattle.gdrv_specs.specs.declared.answers.AnswerFault.TheVariants.{BadAnswer, Memory}
 use Rattle.gdrv_specs.specs.declared.answers.AnswerFault.{AnswerFault}
 use Rattle.gdrv_specs.specs.declared.outcome.Outcome.TheVariants.{Ended, NoPlan, NoRun, Unanswered}
-use Rattle.std.proofs.Common.{◌≡◌, ◌∙◌, ◌++◌, ◌∷◌, ◌⊎◌, Err, List, Ok, Result, [], ap, append_assoc, inl, inr, refl, sym, ℕ}
+use Rattle.std.proofs.Common.{◌≡◌, ◌∙◌, ◌++◌, ◌∷◌, ◌⊎◌, Err, IfOk, List, Ok, Result, [], ap, append_assoc, inl, inr, refl, subst, sym, ℕ}
 use Rattle.std.proofs.lemmas.List.{append-nil}
 
 -- For `tell_after` (src/running.rt): the call prints the run over the answers that the words give.
@@ -21,6 +27,22 @@ pub answers_more : (front : List Given) (g : Given) (rest : Result (List Given) 
     → after_answers (front ++ g ∷ []) rest ≡ after_answers front (with_answer (Ok g) rest)
 answers_more front g (Ok others) = ap Ok (append_assoc front (g ∷ []) others)
 answers_more front g (Err fault) = refl
+
+-- the text of a whole run over given answers, with its status, is its story
+pub is_story : {E : Type 0} (r : Result (List ℕ) E) (plan own : Plan) (manner : Manner) (given : List Given) (codes : FailureStatus)
+    (window : ℕ) (events shown : List RunEvent) (status : ℕ) → own ≡ plan → codes ≡ manner.pass_codes → window ≡ manner.window
+    → After plan manner.window given events → shown ≡ events
+    → ((o : Answers) → Windowed own window o events → status ≡ status_of codes o)
+    → IfOk r (λ text. text ≡ story plan shown status) → IfOk r (λ text. IsStory plan manner given text)
+is_story (Ok text) plan own manner given codes window events shown status own_is codes_are window_is after same code_is text_is = record {
+  events = events;
+  code = status;
+  after = after;
+  code_is = λ o within. subst (λ x. status ≡ status_of x o) codes_are
+      (code_is o (subst (λ w. Windowed own w o events) (sym window_is) (subst (λ p. Windowed p manner.window o events) (sym own_is) within)));
+  text_is = text_is ∙ ap (λ es. story plan es status) same;
+}
+is_story (Err fault) plan own manner given codes window events shown status own_is codes_are window_is after same code_is text_is = tt
 
 -- the run over the words' answers was printed
 pub tells_run : (journal journal' : List Event) (plan : Plan) (manner : Manner) (given : List Given) (status : ℕ) (words : List (List ℕ))

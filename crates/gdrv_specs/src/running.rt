@@ -1,6 +1,5 @@
 //! Prints a run of a line, over answers that are given ahead.
 
-ghost use Rattle.drv_run.specs.Calls.{HasWindow, IsWindow};
 ghost use Rattle.drv_run.specs.declared.work.Work.TheVariants.{CarryOut};
 ghost use Rattle.gdrv_specs.specs.Runs.{AfterOf, IsStory, PutsRun, TellsAfter, answers_of};
 ghost use Rattle.gdrv_specs.specs.Told.{TellsWork};
@@ -16,7 +15,6 @@ use std::alloc::{AllocError, Global};
 
 /// The text of the run of a plan over these answers.
 fn run_text(alloc: Global, plan: &Plan, manner: Manner, given: &[Given]) -> Result<Word, AllocError>
-    requires { IsWindow manner.window }
     ensures { IfOk result (λ text. IsStory plan.now manner given.now text) }
 {
     let run = after(alloc, plan, manner.pass_codes, manner.window, given)?;
@@ -31,7 +29,6 @@ fn put_run<S: System>(
     manner: Manner,
     given: &[Given],
 ) -> Result<u8, AllocError>
-    requires { IsWindow manner.window }
     ensures puts { IfOk result
         (λ status. PutsRun (S.events sys.old) (S.events sys.new)
         plan.now manner given.now status) }
@@ -50,7 +47,6 @@ fn tell_answered<S: System>(
     manner: Manner,
     given: &[Given],
 ) -> Outcome
-    requires { IsWindow manner.window }
     ensures { (words : List (List ℕ)) → answers_of plan.now words ≡ Ok given.now
         → TellsWork (AfterOf words) (S.events sys.old) (S.events sys.new)
         (CarryOut plan.now manner) result }
@@ -70,7 +66,6 @@ fn tell_run<S: System>(
     plan: &Plan,
     manner: Manner,
 ) -> Outcome
-    requires { IsWindow manner.window }
     ensures { TellsWork (AfterOf words.now) (S.events sys.old) (S.events sys.new)
         (CarryOut plan.now manner) result }
 {
@@ -84,7 +79,6 @@ fn tell_run<S: System>(
 /// Tells the run of a work, which a dump of the specs and a plan that is only shown have not.
 #[tactic(auto, using(crate::proofs::Runs::tells_no_plan, crate::proofs::Runs::tells_no_run))]
 fn tell_work<S: System>(alloc: Global, sys: &mut S, words: &[Word], work: &Work) -> Outcome
-    requires { HasWindow work.now }
     ensures { TellsWork (AfterOf words.now) (S.events sys.old) (S.events sys.new)
         work.now result }
 {

@@ -2,7 +2,7 @@
 //! steps with their answers, and the status; for a plan also the most events that it needs; for a
 //! call also the messages and the ending.
 
-ghost use Rattle.std.specs.Prelude.{◌≡◌, ◌≤◌, [], IfSome};
+ghost use Rattle.std.specs.Prelude.{◌≡◌, []};
 
 mod choosing;
 mod compiling;
@@ -14,7 +14,7 @@ use crate::script::{read_lines, system};
 use crate::transcript::Transcript;
 use choosing::choose_blocks;
 pub use compiling::try_compile;
-use drv_core::{FailureStatus, events_needed};
+use drv_core::{FailureStatus, Window, events_needed};
 use drv_run::{Ending, Refusal, drive, execute, fault_line};
 use drv_system::{Event, ScriptSystem, System};
 use drv_words::{Listing, Plan, Word};
@@ -28,13 +28,10 @@ use std::str::from_utf8;
 const SEED: u32 = 42;
 
 /// How many sources may be under way at once, as a word.
-fn window_of(word: &Word) -> Option<usize>
-    ensures some { IfSome result (λ window. 1 ≤ window) }
-    ensures most { IfSome result (λ window. window ≤ 64) }
-{
+fn window_of(word: &Word) -> Option<Window> {
     let window: usize = from_utf8(word.as_bytes()).ok()?.parse().ok()?;
     if 1 <= window && window <= 64 {
-        return Some(window);
+        return Some(Window::new(window));
     }
     None
 }
@@ -57,15 +54,13 @@ fn carry_out_on(
     alloc: Global,
     sys: &mut ScriptSystem,
     plan: &Plan,
-    window: usize,
+    window: Window,
     pass_codes: FailureStatus,
     out: &mut Transcript,
 ) -> Result<(), AllocError>
     requires new { sys.old.journal ≡ [] }
-    requires some { 1 ≤ window }
-    requires most { window ≤ 64 }
 {
-    let status = execute(alloc, sys, plan, pass_codes, window)?;
+    let status = execute(alloc, sys, plan, pass_codes, window.sources())?;
     add_events(sys.journal(), Some(plan), out)?;
     add_line(b"status ", usize::from(status), out)?;
     add_line(b"needed ", events_needed(plan).unwrap_or(0), out)
@@ -76,13 +71,10 @@ fn carry_out(
     alloc: Global,
     plan: &Plan,
     lines: &[Listing<Word>],
-    window: usize,
+    window: Window,
     pass_codes: FailureStatus,
     out: &mut Transcript,
-) -> Result<(), AllocError>
-    requires some { 1 ≤ window }
-    requires most { window ≤ 64 }
-{
+) -> Result<(), AllocError> {
     let mut sys = system(alloc, lines)?;
     carry_out_on(alloc, &mut sys, plan, window, pass_codes, out)
 }
@@ -101,13 +93,10 @@ fn run_lines(
     alloc: Global,
     lines: &[Listing<Word>],
     manner: Manner,
-    window: usize,
+    window: Window,
     pass_codes: FailureStatus,
     out: &mut Transcript,
-) -> Result<(), AllocError>
-    requires some { 1 ≤ window }
-    requires most { window ≤ 64 }
-{
+) -> Result<(), AllocError> {
     let plan = plan(alloc, lines)?;
     match manner {
         Manner::CarriedOut => carry_out(alloc, &plan, lines, window, pass_codes, out),

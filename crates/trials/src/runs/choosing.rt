@@ -9,12 +9,12 @@
 //! end the status.
 
 ghost use Rattle.drv_words.specs.Stepping.{fits, fits_start, is_child, is_new};
-ghost use Rattle.std.specs.Prelude.{◌≡◌, ◌≤◌};
+ghost use Rattle.std.specs.Prelude.{◌≡◌};
 
 use super::showing::{add_line, add_made};
 use crate::answers::answer_of;
 use crate::transcript::Transcript;
-use drv_core::{Action, FailureStatus, Run};
+use drv_core::{Action, FailureStatus, Run, Window};
 use drv_words::{Answer, Listing, Plan, RunEvent, StartAnswer, Step, Word};
 use std::alloc::{AllocError, Global};
 use std::str::from_utf8;
@@ -141,14 +141,11 @@ pub fn choose_blocks(
     alloc: Global,
     plan: &Plan,
     lines: &[Listing<Word>],
-    window: usize,
+    window: Window,
     pass_codes: FailureStatus,
     out: &mut Transcript,
-) -> Result<(), AllocError>
-    requires some { 1 ≤ window }
-    requires most { window ≤ 64 }
-{
-    let mut run = Run::new(alloc, plan, pass_codes, window)?;
+) -> Result<(), AllocError> {
+    let mut run = Run::new(alloc, plan, pass_codes, window.sources())?;
     for line in lines {
         go(&mut run, plan, line.as_slice(), out)?;
     }

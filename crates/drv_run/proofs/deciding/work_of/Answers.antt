@@ -1,6 +1,6 @@
 use Rattle.drv_plan.specs.declared.fault.PlanFault.TheVariants as plan_fault
 use Rattle.drv_run.proofs.Files.{refusal_given}
-use Rattle.drv_run.proofs.Steps.{few_window, work_dumped, work_planned, work_refused}
+use Rattle.drv_run.proofs.Steps.{work_dumped, work_planned, work_refused}
 use Rattle.drv_run.proofs.deciding.work_of.Goals as goal
 use Rattle.drv_run.specs.Drives.{work_of}
 
@@ -20,6 +20,3 @@ returns-in_err-plan-clause-works g c F e =
 pub returns-clause-works : goal.returns-clause-works
 returns-clause-works g c F e = work_planned F c.args.line.now c.args.set.now c.args.seed c.in_ok-plan.plan c.work_with.result
     c.if-line.false (c.in_ok-plan.ensures.plans F e) c.work_with.ensures
-
-pub returns-clause-window : goal.returns-clause-window
-returns-clause-window g c = few_window c.args.line.now.settings c.in_ok-plan.plan c.work_with.result c.requires c.work_with.ensures

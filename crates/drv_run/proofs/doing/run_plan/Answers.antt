@@ -1,5 +1,7 @@
 use Rattle.drv_run.proofs.Tellings.{no_pipe_after_announced, no_pipe_after_texts, plan_carried_out}
 use Rattle.drv_run.proofs.doing.run_plan.Goals as goal
+use Rattle.drv_run.specs.Executed.{Executed}
+use Rattle.std.proofs.Common.{subst}
 
 -- run_plan (src/doing.rt). Says the notices of a plan, and its commands if they are asked for, carries it out, and answers the exit status.
 
@@ -12,7 +14,9 @@ pub returns-clause-runs : goal.returns-clause-runs
 returns-clause-runs g c =
     plan_carried_out c.args.name.now (g.S.System.events c.args.sys.now) (g.S.System.events c.announce.new.sys)
     (g.S.System.events c.execute.new.sys) c.args.plan.now c.args.manner c.in_ok-status.status
-    c.in_ok-announce.ensures.announces c.in_ok-status.ensures.executed
+    c.in_ok-announce.ensures.announces (subst (λ window. Executed c.args.plan.now c.args.manner.pass_codes window
+    (g.S.System.events c.announce.new.sys) (g.S.System.events c.execute.new.sys) c.in_ok-status.status) c.sources-window.ensures.sources
+    c.in_ok-status.ensures.executed)
 
 pub returns-in_err-announce-clause-pipe : goal.returns-in_err-announce-clause-pipe
 returns-in_err-announce-clause-pipe g c = no_pipe_after_texts (g.S.System.events c.args.sys.now)
