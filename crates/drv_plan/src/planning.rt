@@ -139,7 +139,7 @@ fn plan_inputs<'a, S: System>(
 }
 
 /// The plan of inputs, in this context.
-fn planned<'a, S: System>(
+fn plan_in<'a, S: System>(
     alloc: Global,
     set: &'a SpecSet,
     inputs: &'a [Input],
@@ -179,7 +179,7 @@ pub fn plan<S: System>(
 {
     let prefixes = Prefixes::new(alloc, line.settings.prefixes.as_slice(), sys, facts)?;
     let context = Context::new(alloc, line, set, &prefixes, seed)?;
-    planned(
+    plan_in(
         alloc,
         set,
         line.inputs.as_slice(),

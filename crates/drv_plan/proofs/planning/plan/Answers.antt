@@ -11,11 +11,11 @@ use Rattle.std.proofs.Common.{rules}
 -- the prefixes are known, so the plan is that of the inputs in this context
 pub returns-clause-plans : goal.returns-clause-plans
 returns-clause-plans g c F e =
-    let known : Extends c.planned.new.outside.facts.now F = search rules in
-    given_alike _ c.planned.result (planned F c.args.set.now c.as_slice-2.result.now c.in_ok-context.context)
+    let known : Extends c.plan_in.new.outside.facts.now F = search rules in
+    given_alike _ c.plan_in.result (planned F c.args.set.now c.as_slice-2.result.now c.in_ok-context.context)
     (denoted F c.args.line.now c.args.set.now c.args.seed)
     (prefixes_first F c.args.line.now c.args.set.now c.args.seed c.as_slice.result.now c.as_slice-2.result.now c.in_ok-prefixes.prefixes
     c.in_ok-context.context
-    c.as_slice.ensures c.as_slice-2.ensures (c.in_ok-prefixes.ensures.prefixes F (extends_before c.planned.ensures.asks known))
+    c.as_slice.ensures c.as_slice-2.ensures (c.in_ok-prefixes.ensures.prefixes F (extends_before c.plan_in.ensures.asks known))
     c.in_ok-context.ensures)
-    (c.planned.ensures.works F known)
+    (c.plan_in.ensures.works F known)

@@ -1,8 +1,8 @@
 use Rattle.drv_plan.proofs.Steps.{given_alike, plan_begun}
-use Rattle.drv_plan.proofs.planning.planned.Goals as goal
+use Rattle.drv_plan.proofs.planning.plan_in.Goals as goal
 use Rattle.drv_plan.specs.Denoted.{finished, planned, then_by, with_inputs}
 
--- planned (src/planning.rt). The plan of inputs, in this context.
+-- plan_in (src/planning.rt). The plan of inputs, in this context.
 
 pub returns-clause-works : goal.returns-clause-works
 returns-clause-works g c F e =
