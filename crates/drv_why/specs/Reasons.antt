@@ -22,15 +22,15 @@ abbrev pub heading : List (List ℕ) → List ℕ
 heading words = codes "without" ++ words_text words
 
 -- what differs, or that nothing does: then the part has no effect
-abbrev pub changed : List ℕ → List ℕ
-changed [] = codes ": no difference\n"
-changed (b ∷ text) = codes ":\n" ++ b ∷ text
+abbrev pub difference_text : List ℕ → List ℕ
+difference_text [] = codes ": no difference\n"
+difference_text (b ∷ text) = codes ":\n" ++ b ∷ text
 
 -- what the line without the part is, as text
 abbrev pub rest_text : Rest → List ℕ
 rest_text (Refused text) = codes ": " ++ text ++ codes "\n"
-rest_text (Commands changes) = changed (changes_text changes)
-rest_text (Texts text) = changed text
+rest_text (Commands changes) = difference_text (changes_text changes)
+rest_text (Texts text) = difference_text text
 rest_text Unlike = codes ": only one of the two lines has commands\n"
 
 -- a part of the line, and what the line without it is

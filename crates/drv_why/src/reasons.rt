@@ -1,7 +1,7 @@
 //! What is said of each part of a line.
 
 ghost use Rattle.drv_forms.specs.Difference.{changes_text};
-ghost use Rattle.drv_why.specs.Reasons.{changed, heading, reason_text, reasons_report};
+ghost use Rattle.drv_why.specs.Reasons.{difference_text, heading, reason_text, reasons_report};
 ghost use Rattle.drv_why.specs.Reasons.{reasons_text, rest_text};
 ghost use Rattle.drv_why.specs.declared.reasons.Rest.TheVariants.{Refused};
 ghost use Rattle.std.specs.Prelude.{◌≡◌, ◌++◌, IfOk, OnOk};
@@ -45,8 +45,8 @@ fn heading(alloc: Global, part: &[Word]) -> Result<Word, AllocError>
 }
 
 /// A difference, or that there is none.
-fn changed(alloc: Global, difference: &[u8]) -> Result<Word, AllocError>
-    ensures { IfOk result (λ text. text ≡ changed difference.now) }
+fn difference_text(alloc: Global, difference: &[u8]) -> Result<Word, AllocError>
+    ensures { IfOk result (λ text. text ≡ difference_text difference.now) }
 {
     if difference.is_empty() {
         return Word::from_bytes(alloc, b": no difference\n");
@@ -58,10 +58,10 @@ fn changed(alloc: Global, difference: &[u8]) -> Result<Word, AllocError>
 
 /// What is said of commands that differ so.
 fn commands_text(alloc: Global, changes: &[LineChange]) -> Result<Word, AllocError>
-    ensures { IfOk result (λ text. text ≡ changed (changes_text changes.now)) }
+    ensures { IfOk result (λ text. text ≡ difference_text (changes_text changes.now)) }
 {
     let text = changes_text(alloc, changes)?;
-    changed(alloc, text.as_bytes())
+    difference_text(alloc, text.as_bytes())
 }
 
 /// What is said of a line that is refused in these words.
@@ -81,7 +81,7 @@ fn rest_text(alloc: Global, rest: &Rest) -> Result<Word, AllocError>
     match rest {
         Rest::Refused(refusal) => refused_text(alloc, refusal),
         Rest::Commands(changes) => commands_text(alloc, changes.as_slice()),
-        Rest::Texts(difference) => changed(alloc, difference.as_bytes()),
+        Rest::Texts(difference) => difference_text(alloc, difference.as_bytes()),
         Rest::Unlike => Word::from_bytes(alloc, b": only one of the two lines has commands\n"),
     }
 }
