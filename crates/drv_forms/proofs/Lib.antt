@@ -1,4 +1,4 @@
-mod Databases
+pub mod Databases
 mod Documents
 mod Reading
 mod Shells

@@ -6,7 +6,7 @@ use Rattle.drv_why.specs.Fates.{concerns}
 use Rattle.drv_why.specs.FatesJson.{fate_json, fates_items, namings_items}
 use Rattle.json.specs.Token.{Token}
 use Rattle.json.specs.Tree.{items_tokens, json_tokens}
-use Rattle.std.proofs.Common.{◌≡◌, ◌∙◌, ◌<◌, ◌+◌, ◌++◌, ◌∷◌, Bool, Err, List, Ok, OnOk, Result, [], ap, append_assoc, drop, false, length, refl, sym, true, ℕ}
+use Rattle.std.proofs.Common.{◌≡◌, ◌∙◌, ◌<◌, ◌+◌, ◌++◌, ◌∷◌, Bool, List, [], ap, append_assoc, drop, false, length, refl, sym, true, ℕ}
 use Rattle.std.proofs.lemmas.List.{drop_more}
 use Rattle.std.specs.Prelude.{get_or}
 
@@ -46,11 +46,3 @@ fate_next sources namings switch later left before after whole cut grows is =
     ap (λ t. t ++ items_tokens (fates_items sources namings later)) grows
     ∙ append_assoc before (json_tokens (fate_json sources namings switch later)) (items_tokens (fates_items sources namings later))
     ∙ ap (λ ss. before ++ items_tokens (fates_items sources namings ss)) (sym cut) ∙ is
-
--- a member and the rest of an object
-pub member_then : {X E : Type 0} (t : Token) (xs ys before a b c : List Token) (result : Result X E) → a ≡ before ++ t ∷ [] → b ≡ a ++ xs
-    → OnOk result (c ≡ b ++ ys) → OnOk result (c ≡ before ++ t ∷ (xs ++ ys))
-member_then t xs ys before a b c (Err e) one two three = three
-member_then t xs ys before a b c (Ok x) one two three =
-    three ∙ ap (λ l. l ++ ys) (two ∙ ap (λ l. l ++ xs) one) ∙ append_assoc (before ++ t ∷ []) xs ys
-    ∙ append_assoc before (t ∷ []) (xs ++ ys)

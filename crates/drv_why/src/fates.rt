@@ -19,6 +19,13 @@ use drv_words::{Word, quote};
 use itoa::Buffer;
 use std::alloc::{AllocError, Global};
 
+/// The parts of texts that name switches, and the sources that their places are in.
+#[derive(Drop)]
+pub(crate) struct Parts<'a> {
+    pub(crate) sources: &'a [Source],
+    pub(crate) namings: &'a [Naming],
+}
+
 /// Whether this is an optimization level, such as `O2`.
 fn is_level(name: &[u8]) -> bool
     ensures { result ≡ is_level name.now }
@@ -265,17 +272,17 @@ pub(crate) fn is_live(by: Option<&Word>) -> bool
 /// The lines of a switch of this name, which another one may cancel.
 fn lines_text(
     alloc: Global,
-    sources: &[Source],
-    namings: &[Naming],
+    parts: &Parts<'_>,
     name: &[u8],
     by: Option<&Word>,
 ) -> Result<Word, AllocError>
     ensures { IfOk result
         (λ text. text
-        ≡ lines_text sources.now namings.now name.now (option_map (λ word. word.now) by.entry)) }
+        ≡ lines_text parts.now.sources.now parts.now.namings.now name.now
+        (option_map (λ word. word.now) by.entry)) }
 {
     let mut text = cancelled_text(alloc, by)?;
-    push_namings(&mut text, sources, name, is_live(by), namings)?;
+    push_namings(&mut text, parts.sources, name, is_live(by), parts.namings)?;
     Ok(text)
 }
 
@@ -315,36 +322,31 @@ fn push_switch(alloc: Global, text: &mut Word, switch: &Switch) -> Result<(), Al
 fn push_fate(
     alloc: Global,
     text: &mut Word,
-    sources: &[Source],
-    namings: &[Naming],
+    parts: &Parts<'_>,
     switch: &Switch,
     later: &[Switch],
 ) -> Result<(), AllocError>
     ensures { OnOk result
-        (text.new ≡ text.old ++ fate_text sources.now namings.now switch.now later.now) }
+        (text.new ≡ text.old
+        ++ fate_text parts.now.sources.now parts.now.namings.now switch.now later.now) }
 {
     let name = switch.name.as_bytes();
     let by = canceller(alloc, later, name)?;
-    let lines = lines_text(alloc, sources, namings, name, by)?;
+    let lines = lines_text(alloc, parts, name, by)?;
     push_switch(alloc, text, switch)?;
     push_lines(text, &lines)
 }
 
 /// What becomes of the switches of a line, as text.
 #[tactic(auto, using(crate::proofs::SwitchFates::switch_next))]
-fn fates_text(
-    alloc: Global,
-    sources: &[Source],
-    namings: &[Naming],
-    switches: &[Switch],
-) -> Result<Word, AllocError>
+fn fates_text(alloc: Global, parts: &Parts<'_>, switches: &[Switch]) -> Result<Word, AllocError>
     ensures { IfOk result
-        (λ text. text ≡ fates_text sources.now namings.now switches.now) }
+        (λ text. text ≡ fates_text parts.now.sources.now parts.now.namings.now switches.now) }
 {
     let mut text = Word::empty(alloc);
     let mut left = switches;
     while let [switch, later @ ..] = left {
-        push_fate(alloc, &mut text, sources, namings, switch, later)?;
+        push_fate(alloc, &mut text, parts, switch, later)?;
         left = later;
     }
     Ok(text)
@@ -364,8 +366,9 @@ pub fn fates_report(
     ensures { IfOk result
         (λ text. text ≡ fates_report report sources.now namings.now switches.now) }
 {
+    let parts = Parts { sources, namings };
     match report {
-        Report::Lines => fates_text(alloc, sources, namings, switches),
-        Report::Json => fates_json(alloc, sources, namings, switches),
+        Report::Lines => fates_text(alloc, &parts, switches),
+        Report::Json => fates_json(alloc, &parts, switches),
     }
 }

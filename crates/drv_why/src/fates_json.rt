@@ -9,9 +9,9 @@ ghost use Rattle.drv_words.specs.Bytes.{hyphen};
 ghost use Rattle.json.specs.Json.{array, member, no_members};
 ghost use Rattle.json.specs.Tree.{json_tokens, members_tokens};
 ghost use Rattle.std.specs.Option.{option_map};
-ghost use Rattle.std.specs.Prelude.{◌≡◌, ◌∷◌, ◌++◌, IfOk, OnOk, Some, codes};
+ghost use Rattle.std.specs.Prelude.{◌≡◌, ◌∷◌, ◌++◌, IfOk, OnOk, Some, codes, is_none};
 
-use crate::fates::{canceller, concerns, is_live};
+use crate::fates::{Parts, canceller, concerns, is_live};
 use drv_args::Switch;
 use drv_check::{Deed, Naming, Source, Spot};
 use drv_forms::{put_number, put_word, put_words};
@@ -166,18 +166,18 @@ fn put_cancelled(alloc: Global, out: &mut Pretty, by: Option<&Word>) -> Result<(
 /// Writes the parts that have to do with a switch as a member, and ends the object.
 fn put_parts(
     out: &mut Pretty,
-    sources: &[Source],
+    parts: &Parts<'_>,
     name: &[u8],
-    live: bool,
-    namings: &[Naming],
+    by: Option<&Word>,
 ) -> Result<(), AllocError>
     ensures { OnOk result
         (out.new ≡ out.old
         ++ members_tokens (member (codes "parts")
-        (array (namings_items sources.now name.now live namings.now)) no_members)) }
+        (array (namings_items parts.now.sources.now name.now
+        (is_none (option_map (λ word. word.now) by.entry)) parts.now.namings.now)) no_members)) }
 {
     out.token(Token::Key("parts"))?;
-    put_namings(out, sources, name, live, namings)?;
+    put_namings(out, parts.sources, name, is_live(by), parts.namings)?;
     out.token(Token::EndObject)
 }
 
@@ -186,61 +186,56 @@ fn put_parts(
 fn put_fate_members(
     alloc: Global,
     out: &mut Pretty,
-    sources: &[Source],
-    namings: &[Naming],
+    parts: &Parts<'_>,
     name: &[u8],
     by: Option<&Word>,
-    live: bool,
 ) -> Result<(), AllocError>
     ensures { OnOk result
         (out.new ≡ out.old
-        ++ members_tokens (fate_members sources.now namings.now name.now
-        (option_map (λ word. word.now) by.entry) live)) }
+        ++ members_tokens (fate_members parts.now.sources.now parts.now.namings.now name.now
+        (option_map (λ word. word.now) by.entry)
+        (is_none (option_map (λ word. word.now) by.entry)))) }
 {
     out.token(Token::Key("cancelled_by"))?;
     put_cancelled(alloc, out, by)?;
-    put_parts(out, sources, name, live, namings)
+    put_parts(out, parts, name, by)
 }
 
-/// Writes what becomes of a switch with these words and this name as an object.
+/// Writes what becomes of a switch, which another one may cancel, as an object.
 fn put_fate_by(
     alloc: Global,
     out: &mut Pretty,
-    sources: &[Source],
-    namings: &[Naming],
-    words: &[Word],
-    name: &[u8],
+    parts: &Parts<'_>,
+    switch: &Switch,
     by: Option<&Word>,
 ) -> Result<(), AllocError>
     ensures { OnOk result
         (out.new ≡ out.old
-        ++ json_tokens (fate_by sources.now namings.now words.now name.now
-        (option_map (λ word. word.now) by.entry))) }
+        ++ json_tokens (fate_by parts.now.sources.now parts.now.namings.now
+        (switch_words switch.now) switch.now.name (option_map (λ word. word.now) by.entry))) }
 {
-    let live = is_live(by);
+    let words = switch_words(alloc, switch)?;
     out.token(Token::BeginObject)?;
     out.token(Token::Key("switch"))?;
-    put_words(out, words)?;
-    put_fate_members(alloc, out, sources, namings, name, by, live)
+    put_words(out, words.as_slice())?;
+    put_fate_members(alloc, out, parts, switch.name.as_bytes(), by)
 }
 
 /// Writes what becomes of a switch before these as an object.
 fn put_fate(
     alloc: Global,
     out: &mut Pretty,
-    sources: &[Source],
-    namings: &[Naming],
+    parts: &Parts<'_>,
     switch: &Switch,
     later: &[Switch],
 ) -> Result<(), AllocError>
     ensures { OnOk result
         (out.new ≡ out.old
-        ++ json_tokens (fate_json sources.now namings.now switch.now later.now)) }
+        ++ json_tokens (fate_json parts.now.sources.now parts.now.namings.now
+        switch.now later.now)) }
 {
-    let words = switch_words(alloc, switch)?;
-    let name = switch.name.as_bytes();
-    let by = canceller(alloc, later, name)?;
-    put_fate_by(alloc, out, sources, namings, words.as_slice(), name, by)
+    let by = canceller(alloc, later, switch.name.as_bytes())?;
+    put_fate_by(alloc, out, parts, switch, by)
 }
 
 /// Writes what becomes of switches as an array.
@@ -248,18 +243,17 @@ fn put_fate(
 fn put_fates(
     alloc: Global,
     out: &mut Pretty,
-    sources: &[Source],
-    namings: &[Naming],
+    parts: &Parts<'_>,
     switches: &[Switch],
 ) -> Result<(), AllocError>
     ensures { OnOk result
-        (out.new ≡ out.old
-        ++ json_tokens (array (fates_items sources.now namings.now switches.now))) }
+        (out.new ≡ out.old ++ json_tokens (array
+        (fates_items parts.now.sources.now parts.now.namings.now switches.now))) }
 {
     out.token(Token::BeginArray)?;
     let mut left = switches;
     while let [switch, later @ ..] = left {
-        put_fate(alloc, out, sources, namings, switch, later)?;
+        put_fate(alloc, out, parts, switch, later)?;
         left = later;
     }
     out.token(Token::EndArray)
@@ -269,15 +263,14 @@ fn put_fates(
 /// at its end.
 pub(crate) fn fates_json(
     alloc: Global,
-    sources: &[Source],
-    namings: &[Naming],
+    parts: &Parts<'_>,
     switches: &[Switch],
 ) -> Result<Word, AllocError>
     ensures { IfOk result
-        (λ text. text ≡ fates_json sources.now namings.now switches.now) }
+        (λ text. text ≡ fates_json parts.now.sources.now parts.now.namings.now switches.now) }
 {
     let mut out = Pretty::new(alloc);
-    put_fates(alloc, &mut out, sources, namings, switches)?;
+    put_fates(alloc, &mut out, parts, switches)?;
     let mut text = Word::from_vec(out.into_inner());
     text.push(b'\n')?;
     Ok(text)

@@ -5,7 +5,8 @@ use Rattle.std.proofs.Common.{◌≡◌, ◌++◌, length}
 -- The loops of fates_text (src/fates.rt). What becomes of the switches of a line, as text.
 
 abbrev pub invariant-loop-left : goal.invariant-loop-left
-invariant-loop-left l = l.text ++ fates_text l.sources l.namings l.left ≡ fates_text l.sources l.namings l.switches
+invariant-loop-left l = l.text ++ fates_text l.parts.sources.now l.parts.namings.now l.left
+    ≡ fates_text l.parts.sources.now l.parts.namings.now l.switches
 
 abbrev pub decreases-loop-left : goal.decreases-loop-left
 decreases-loop-left l = length l.left

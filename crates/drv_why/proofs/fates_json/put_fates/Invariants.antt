@@ -8,8 +8,8 @@ use Rattle.std.proofs.Common.{◌≡◌, ◌∷◌, ◌++◌, length}
 
 abbrev pub invariant-loop-left : goal.invariant-loop-left
 invariant-loop-left l =
-    l.out ++ items_tokens (fates_items l.sources l.namings l.left)
-    ≡ l.fn.out ++ begin_array ∷ items_tokens (fates_items l.sources l.namings l.switches)
+    l.out ++ items_tokens (fates_items l.parts.sources.now l.parts.namings.now l.left)
+    ≡ l.fn.out ++ begin_array ∷ items_tokens (fates_items l.parts.sources.now l.parts.namings.now l.switches)
 
 abbrev pub decreases-loop-left : goal.decreases-loop-left
 decreases-loop-left l = length l.left
