@@ -31,6 +31,7 @@ pub mod NamedTexts
 pub mod Onward
 pub mod Opened
 pub mod Outputs
+pub mod PlainTexts
 pub mod Rows
 pub mod RunTurns
 pub mod Runs

@@ -26,7 +26,7 @@ use Rattle.std.proofs.Common.{slice_get, subst, sym, true, ℕ}
 use Rattle.std.proofs.lemmas.Bool.{lt-ltb, ltb-true}
 use Rattle.std.specs.Prelude.{if◌then◌else◌, nat_lt}
 
--- For `work_run` (turns.rt): plain bytes that follow one another, worked as one slice, are so many turns, each of which works one byte.
+-- For `work_run` (turns.rt) and `open_text` (named.rt): plain bytes that follow one another, worked as one slice, are so many turns, each of which works one byte.
 
 -- one more item is counted
 abbrev one_more : Machine → Machine
@@ -37,12 +37,12 @@ abbrev after_byte : Machine → ℕ → Machine
 after_byte s b = record { cut = in_word s.cut (b ∷ []); world = record s.world { items = s.world.items + 1 } }
 
 -- the state after a turn for each of these plain bytes
-abbrev after_run : Machine → List ℕ → Machine
+abbrev pub after_run : Machine → List ℕ → Machine
 after_run s [] = s
 after_run s (b ∷ bytes) = after_run (after_byte s b) bytes
 
 -- the state after a turn for each of these bytes is that after all were put at once and counted
-after_run_is : (s : Machine) (b : ℕ) (bytes : List ℕ) → after_run s (b ∷ bytes)
+pub after_run_is : (s : Machine) (b : ℕ) (bytes : List ℕ) → after_run s (b ∷ bytes)
     ≡ record { cut = in_word s.cut (b ∷ bytes); world = record s.world { items = s.world.items + length (b ∷ bytes) } }
 after_run_is s b [] = refl
 after_run_is s b (d ∷ ds) =
@@ -127,7 +127,7 @@ module _ (F : Facts) (C : Context) where
 
   module _ (text : List ℕ) (given : Answer (Unit {0} × Machine)) where
     -- after plain bytes, one turn for each, what is left gives the same
-    run_left : (w : Walk) (s : Machine) (bytes : List ℕ) → AreBytes (tokens_of (tree_of text)) (labels_of (tree_of text)) w.at bytes
+    pub run_left : (w : Walk) (s : Machine) (bytes : List ℕ) → AreBytes (tokens_of (tree_of text)) (labels_of (tree_of text)) w.at bytes
         → w.at + length bytes ≤ w.end → s.world.items + length bytes ≤ 1000000 → Left F C text w s given
         → Left F C text (record w { at = w.at + length bytes }) (after_run s bytes) given
     run_left w s [] are fits few left = subst (λ (k : ℕ). Left F C text (record w { at = k }) s given) same left

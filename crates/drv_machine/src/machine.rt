@@ -13,7 +13,7 @@ ghost use Rattle.drv_system.specs.Asking.{Extends};
 ghost use Rattle.drv_system.specs.Facts.{Facts};
 ghost use Rattle.drv_system.specs.Gives.{GivesKnown};
 ghost use Rattle.drv_system.specs.Known.{Is};
-ghost use Rattle.std.specs.Prelude.{◌≡◌, ◌∷◌, ◌++◌, ◌+◌, ◌-◌, ◌<◌, ◌≤◌, [], IfOk, Ok, OnOk};
+ghost use Rattle.std.specs.Prelude.{◌≡◌, ◌∷◌, ◌++◌, ◌+◌, ◌-◌, ◌<◌, ◌≤◌, [], IfOk, Ok, OnErr, OnOk};
 ghost use Rattle.std.specs.Prelude.{length, map};
 
 mod cutter;
@@ -96,6 +96,20 @@ impl NamedLine {
             words: Listing::from_vec(words),
             piped,
         })
+    }
+}
+
+/// Adds bytes to a word: mostly one byte, which has a shorter path.
+fn add_bytes(word: &mut SmallVec<u8, 256>, bytes: &[u8]) -> Result<(), AllocError>
+    ensures ok { OnOk result (word.new.items ≡ word.old.items ++ bytes.now) }
+    ensures err { OnErr result (word.new.items ≡ word.old.items) }
+{
+    match bytes {
+        [byte] => {
+            word.push(*byte)?;
+            Ok(())
+        }
+        _ => word.extend_from_slice(bytes),
     }
 }
 
@@ -276,6 +290,24 @@ impl Machine {
         self.is_open = true;
         self.is_stray |= self.is_piped;
         self.items += run.len() - 1;
+        Ok(())
+    }
+
+    /// The bytes of plain items go into the open word, or open one. Each counts. Lack of memory is
+    /// the only error.
+    pub(crate) fn put_counted(&mut self, run: &[u8]) -> Result<(), AllocError>
+        requires some { 0 < length run.now }
+        requires room { self.old.world.items + length run.now ≤ step.most_items }
+        ensures does { OnOk result (self.new ≡ record {
+          cut = in_word self.old.cut run.now;
+          world = record self.old.world { items = self.old.world.items + length run.now };
+        }) }
+        ensures sized { length self.new.world.hidden ≡ length self.old.world.hidden }
+    {
+        add_bytes(&mut self.word, run)?;
+        self.is_open = true;
+        self.is_stray |= self.is_piped;
+        self.items += run.len();
         Ok(())
     }
 

@@ -1,31 +1,30 @@
 //! Named texts, each of which is run as an open part.
 
 ghost use Rattle.drv_machine.specs.Atoms.{named, tree_named};
+ghost use Rattle.drv_machine.specs.Context as specs;
 ghost use Rattle.drv_machine.specs.Code.Running as running;
 ghost use Rattle.drv_machine.specs.Code.Walking.{Following, Went};
-ghost use Rattle.drv_machine.specs.Working.{Answer};
+ghost use Rattle.drv_machine.specs.Working.{Answer, most_items};
+ghost use Rattle.drv_syntax.specs.Parsed.{tree_of};
 ghost use Rattle.drv_system.specs.Facts.{Facts};
+ghost use Rattle.std.specs.Prelude.{◌≡◌, ◌≤◌, OnOk, Some, length};
 
+use crate::machine::Machine;
 use crate::walk::{Frame, Opened, Walk};
 use crate::{Context, MachineFault};
+use drv_syntax::SpecTree;
 
-/// The text of a name is opened; one that isn't there gives nothing.
+/// A text is opened.
 ///
 /// # Errors
 /// `SpecTooDeep` where 64 parts are open.
-pub(crate) fn open_text<'w>(
-    context: &'w Context<'_>,
-    name: &[u8],
-    walk: &mut Walk<'w>,
-) -> Result<(), MachineFault>
-    ensures { (F : Facts) (s : running.Machine) (given : Answer (Unit {0} × running.Machine))
-        → Following F context.now walk.old.text.now walk.old walk.old.at
-        (λ levels star. named F context.now (tree_named F context.now name.now) levels) s given
-        → Went F context.now walk.new.text.now walk.new s given result }
+fn enter_text<'w>(text: &'w SpecTree, walk: &mut Walk<'w>) -> Result<(), MachineFault>
+    ensures { (F : Facts) (C : specs.Context) (s : running.Machine)
+        (given : Answer (Unit {0} × running.Machine))
+        → Following F C walk.old.text.now walk.old walk.old.at
+        (λ levels star. named F C (Some (tree_of text.now)) levels) s given
+        → Went F C walk.new.text.now walk.new s given result }
 {
-    let Some(text) = context.named(name) else {
-        return Ok(());
-    };
     let end = text.tokens().len();
     walk.frames.push(Frame {
         opened: Opened::Text {
@@ -39,5 +38,39 @@ pub(crate) fn open_text<'w>(
     walk.at = 0;
     walk.end = end;
     walk.star = None;
+    Ok(())
+}
+
+/// The text of a name is opened; one that isn't there gives nothing. A text of plain bytes alone is
+/// put at once, where one more part may be opened and so many items reached.
+///
+/// # Errors
+/// `SpecTooDeep` where 64 parts are open.
+pub(crate) fn open_text<'w>(
+    context: &'w Context<'_>,
+    name: &[u8],
+    walk: &mut Walk<'w>,
+    machine: &mut Machine,
+) -> Result<(), MachineFault>
+    requires few { machine.old.world.items ≤ most_items }
+    ensures does { (F : Facts) (given : Answer (Unit {0} × running.Machine))
+        → Following F context.now walk.old.text.now walk.old walk.old.at
+        (λ levels star. named F context.now (tree_named F context.now name.now) levels)
+        machine.old given
+        → Went F context.now walk.new.text.now walk.new machine.new given result }
+    ensures sized { length machine.new.world.hidden ≡ length machine.old.world.hidden }
+    ensures counts { OnOk result (machine.old.world.items ≤ machine.new.world.items) }
+{
+    let Some(text) = context.named(name) else {
+        return Ok(());
+    };
+    let bytes = text.plain_bytes(0, machine.left());
+    if bytes.len() < text.tokens().len() || walk.frames.is_full() {
+        return enter_text(text, walk);
+    }
+    if bytes.is_empty() {
+        return Ok(());
+    }
+    machine.put_counted(bytes)?;
     Ok(())
 }

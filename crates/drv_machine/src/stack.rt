@@ -80,7 +80,7 @@ impl<'a> Stack<'a> {
     }
 
     /// Whether no more part can be opened.
-    fn is_full(&self) -> bool
+    pub(crate) fn is_full(&self) -> bool
         ensures full { IsTrue result → length self.now ≡ most_open }
         ensures room { IsFalse result → length self.now < most_open }
     {

@@ -238,11 +238,11 @@ fn turn<'w, S: System>(
         TokenKind::Choose => choose(text, context, at + 1, next, walk, machine),
         TokenKind::NamedText => {
             walk.at = next;
-            open_text(context, text.word(at), walk)
+            open_text(context, text.word(at), walk, machine)
         }
         TokenKind::BuiltinText => {
             walk.at = next;
-            open_text(context, text.word(at), walk)
+            open_text(context, text.word(at), walk, machine)
         }
         TokenKind::Function => open_call(at, next, walk, machine),
         TokenKind::FailureFile => {
