@@ -1,2 +1,3 @@
+mod Doubts
 mod Nearness
 mod Noted

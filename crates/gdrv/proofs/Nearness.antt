@@ -1,10 +1,14 @@
-use Rattle.gdrv.specs.Meant.{IsEdit, is_front_edited, is_near, is_same, is_swapped, one_later, one_less, one_more, one_other, two_swapped}
-use Rattle.std.proofs.Common.{◌≡◌, ◌∙◌, ◌&&◌, ◌||◌, ◌==◌, ◌⊎◌, Bool, List, [], ◌∷◌, ap, arith, false, if◌then◌else◌, inl, inr, refl, subst}
+use Rattle.drv_words.specs.Bytes.{equals}
+use Rattle.gdrv.specs.Meant.{IsEdit, before, compared_part, is_front_edited, is_meant, is_near, is_same, is_swapped, one_later, one_less, one_more}
+use Rattle.gdrv.specs.Meant.{one_other, takes_equals, through, two_swapped}
+use Rattle.std.proofs.Common.{◌≡◌, ◌∙◌, ◌&&◌, ◌||◌, ◌==◌, ◌⊎◌, ◌<◌, ◌≤◌, ◌+◌, Bool, List, [], ◌∷◌, ap, arith, false, if◌then◌else◌, inl, inr, length, refl, subst, take}
 use Rattle.std.proofs.Common.{sym, true, ℕ}
 use Rattle.std.proofs.lemmas.Bool.Decides.{Decides-eqb, nat_tests}
+use Rattle.std.proofs.lemmas.List.{length-take}
 use Rattle.std.proofs.lemmas.Slice.Eq.{slice_eq-Decides}
 use Rattle.std.specs.Cmp.Lexicographic.{pointwise}
-use Rattle.std.specs.Prelude.{nat_eq}
+use Rattle.std.specs.List.{position}
+use Rattle.std.specs.Prelude.{None, Option, Some, nat_eq}
 
 -- Words are near exactly where one edit makes the one the other.
 -- Names: `b` is a byte. `c` is the byte at the same place of the other word. `word` is a word. `edited` is another one, perhaps the first
@@ -34,12 +38,12 @@ either true t is = inl refl
 either false t is = inr is
 
 -- the first of two tests that hold together
-first_of : (s t : Bool) → (s && t) ≡ true → s ≡ true
+pub first_of : (s t : Bool) → (s && t) ≡ true → s ≡ true
 first_of true t is = refl
 first_of false t is = absurd cc
 
 -- the second
-second_of : (s t : Bool) → (s && t) ≡ true → t ≡ true
+pub second_of : (s t : Bool) → (s && t) ≡ true → t ≡ true
 second_of true t is = is
 second_of false t is = absurd cc
 
@@ -152,3 +156,65 @@ edit_is_near (b ∷ word) rest one_more = more_near b rest
 edit_is_near (b ∷ word) (c ∷ rest) (one_other apart) = other_near b c word apart
 edit_is_near (b ∷ c ∷ word) (d ∷ e ∷ rest) (two_swapped apart) = swapped_near b c word apart
 edit_is_near (b ∷ word) (c ∷ edited) (one_later edit) = stays_near b word edited (edit_is_near word edited edit)
+
+-- one edit adds or takes a byte at most
+edit_sized : (word edited : List ℕ) → IsEdit word edited → (length word ≤ length edited + 1) × (length edited ≤ length word + 1)
+edit_sized word (b ∷ rest) one_less = (omega arith, omega arith)
+edit_sized (b ∷ word) rest one_more = (omega arith, omega arith)
+edit_sized (b ∷ word) (c ∷ rest) (one_other apart) = (omega arith, omega arith)
+edit_sized (b ∷ c ∷ word) (d ∷ e ∷ rest) (two_swapped apart) = (omega arith, omega arith)
+edit_sized (b ∷ word) (c ∷ edited) (one_later edit) = let r = edit_sized word edited edit in (omega (arith, r.0), omega (arith, r.1))
+
+-- a test that can't be true is false
+pub never : (t : Bool) → (t ≡ true → ⊥) → t ≡ false
+never true fails = absurd (fails refl)
+never false fails = refl
+
+-- near words differ by a byte at most in size
+pub near_sized : (word edited : List ℕ) → is_near word edited ≡ true → (length word ≤ length edited + 1) × (length edited ≤ length word + 1)
+near_sized word edited is = edit_sized word edited (near_is_edit word edited is)
+
+-- so words whose sizes differ by two or more aren't near
+sized_apart : (word edited : List ℕ) → (length word ≤ length edited + 1 → length edited ≤ length word + 1 → ⊥) → is_near word edited ≡ false
+sized_apart word edited apart = never (is_near word edited)
+    (λ is. let r = edit_sized word edited (near_is_edit word edited is) in apart r.0 r.1)
+
+-- what is compared of a word has its bytes before the first = at least
+compared_most : (word option : List ℕ) (at : Option ℕ) → at ≡ position (λ b. b == equals) word
+    → length (before at word) ≤ length (compared_part word option)
+compared_most word option None is = rw (← is) (by (takes_equals option))
+  where
+    by : (t : Bool) → length word ≤ length (if t then word else word)
+    by true = omega arith
+    by false = omega arith
+compared_most word option (Some n) is = rw (← is) (by (takes_equals option))
+  where
+    by : (t : Bool) → length (take n word) ≤ length (if t then take (n + 1) word else take n word)
+    by true = omega (arith, length-take n word, length-take (n + 1) word)
+    by false = omega arith
+
+-- and that = at most
+compared_least : (word option : List ℕ) (at : Option ℕ) → at ≡ position (λ b. b == equals) word
+    → length (compared_part word option) ≤ length (through at word)
+compared_least word option None is = rw (← is) (by (takes_equals option))
+  where
+    by : (t : Bool) → length (if t then word else word) ≤ length word
+    by true = omega arith
+    by false = omega arith
+compared_least word option (Some n) is = rw (← is) (by (takes_equals option))
+  where
+    by : (t : Bool) → length (if t then take (n + 1) word else take n word) ≤ length (take (n + 1) word)
+    by true = omega arith
+    by false = omega (arith, length-take n word, length-take (n + 1) word)
+
+-- a word that has two bytes or more than an option before its first = isn't meant to be that
+pub too_long : (word option : List ℕ) (at : Option ℕ) → at ≡ position (λ b. b == equals) word → length option + 1 < length (before at word)
+    → is_meant word option ≡ false
+too_long word option at is h = sized_apart (compared_part word option) option
+    (λ most least. omega (arith, h, most, compared_most word option at is))
+
+-- nor is one that has two bytes or more less, its = included
+pub too_short : (word option : List ℕ) (at : Option ℕ) → at ≡ position (λ b. b == equals) word
+    → length (through at word) + 1 < length option → is_meant word option ≡ false
+too_short word option at is h = sized_apart (compared_part word option) option
+    (λ most least. omega (arith, h, least, compared_least word option at is))

@@ -1,3 +1,4 @@
+pub mod Code
 pub mod Meant
 pub mod Notes
 pub mod Questions

@@ -7,14 +7,15 @@ ghost use Rattle.drv_system.specs.Asking.{Asks, Extends};
 ghost use Rattle.drv_system.specs.Code.Asked.{Asked};
 ghost use Rattle.drv_system.specs.Facts.{Facts};
 ghost use Rattle.drv_system.specs.Known.{Is};
-ghost use Rattle.drv_words.specs.Bytes.{equals};
+ghost use Rattle.drv_words.specs.Bytes.{equals, hyphen};
+ghost use Rattle.gdrv.specs.Code.Doubts.{is_last, is_second};
 ghost use Rattle.gdrv.specs.Meant.{Hints, HintsOf, IsEdit, before, compared_part, hint_of, hint_text, hints_of};
 ghost use Rattle.gdrv.specs.Meant.{is_doubtful, is_front_edited, is_meant, is_near, is_single};
 ghost use Rattle.gdrv.specs.Meant.{is_swapped, long_options, meant_option, names_file, takes_equals, through};
 ghost use Rattle.gdrv.specs.Meant.{word_of};
 ghost use Rattle.std.specs.List.{list_any, position};
 ghost use Rattle.std.specs.Option.{option_map};
-ghost use Rattle.std.specs.Prelude.{◌≡◌, ◌<◌, ◌==◌, ◌++◌, IfOk, IfSome, Ok, OnOk, drop, find, length, map, true};
+ghost use Rattle.std.specs.Prelude.{◌≡◌, ◌<◌, ◌==◌, ◌∷◌, ◌++◌, IfOk, IfSome, IsFalse, IsTrue, None, Ok, OnOk, drop, false, find, length, map, true};
 
 use crate::noting::line_asked;
 use drv_args::{Line, Settings, Switch};
@@ -157,11 +158,12 @@ fn before(at: Option<usize>, word: &[u8]) -> &[u8]
     }
 }
 
-/// What of a word is compared with an option.
-fn compared_part<'w>(word: &'w [u8], option: &[u8]) -> &'w [u8]
+/// What of a word is compared with an option, by the place of its first `=`.
+fn compared_part<'w>(word: &'w [u8], at: Option<usize>, option: &[u8]) -> &'w [u8]
+    requires is { at ≡ position (λ b. b == equals) word.now }
+    requires within { IfSome at (λ place. place < length word.now) }
     ensures { result.now ≡ compared_part word.now option.now }
 {
-    let at = equals_in(word);
     if takes_equals(option) {
         through(at, word)
     } else {
@@ -169,11 +171,29 @@ fn compared_part<'w>(word: &'w [u8], option: &[u8]) -> &'w [u8]
     }
 }
 
-/// Whether a word was meant to be an option.
-fn is_meant(word: &[u8], option: &[u8]) -> bool
+/// Whether a word can't be meant to be an option, since their sizes differ by more than one edit
+/// makes.
+#[inline(always)]
+#[tactic(auto, using(crate::proofs::Nearness::too_long, crate::proofs::Nearness::too_short))]
+fn is_apart(word: &[u8], at: Option<usize>, option: &[u8]) -> bool
+    requires is { at ≡ position (λ b. b == equals) word.now }
+    requires within { IfSome at (λ place. place < length word.now) }
+    ensures { IsTrue result → is_meant word.now option.now ≡ false }
+{
+    if before(at, word).len() > option.len() + 1 {
+        return true;
+    }
+    option.len() > through(at, word).len() + 1
+}
+
+/// Whether a word was meant to be an option, by the place of the word's first `=`.
+fn is_meant(word: &[u8], at: Option<usize>, option: &[u8]) -> bool
+    requires is { at ≡ position (λ b. b == equals) word.now }
+    requires within { IfSome at (λ place. place < length word.now) }
     ensures { result ≡ is_meant word.now option.now }
 {
-    is_near(compared_part(word, option), option)
+    // Most options are too short or too long.
+    !is_apart(word, at, option) && is_near(compared_part(word, at, option), option)
 }
 
 /// The first of these options that a word was meant to be.
@@ -181,8 +201,9 @@ fn first_meant(word: &[u8], options: &'static [&'static [u8]]) -> Option<&'stati
     ensures { option_map (λ option. option.now) result
         ≡ find (is_meant word.now) (map (λ option. option.now) options.now) }
 {
+    let at = equals_in(word);
     for option in options {
-        if is_meant(word, option) {
+        if is_meant(word, at, option) {
             return Some(*option);
         }
     }
@@ -216,13 +237,72 @@ fn word_of(alloc: Global, switch: &Switch) -> Result<Word, AllocError>
     Ok(word)
 }
 
+/// Whether a byte is the second one of a long option.
+fn is_second(byte: u8) -> bool
+    ensures { result ≡ is_second byte }
+{
+    byte == b'-'
+        || byte == b'T'
+        || byte == b'X'
+        || byte == b'a'
+        || byte == b'd'
+        || byte == b'i'
+        || byte == b'p'
+        || byte == b's'
+}
+
+/// Whether a byte is the last one of a long option.
+fn is_last(byte: u8) -> bool
+    ensures { result ≡ is_last byte }
+{
+    byte == b'='
+        || byte == b'a'
+        || byte == b'e'
+        || byte == b'm'
+        || byte == b'o'
+        || byte == b'r'
+        || byte == b's'
+        || byte == b't'
+        || byte == b'x'
+}
+
+/// Whether the word of a switch may be meant to be an option. Most are not, which the ends of the
+/// switch's name tell.
+#[tactic(auto, using(crate::proofs::Doubts::short_unmeant, crate::proofs::Doubts::ends_unmeant))]
+fn may_be_meant(name: &[u8]) -> bool
+    ensures { IsFalse result → meant_option (hyphen ∷ name.now) ≡ None }
+{
+    if name.len() < 2 {
+        return false;
+    }
+    if is_second(name[0]) {
+        return true;
+    }
+    if is_last(name[name.len() - 1]) {
+        return true;
+    }
+    equals_in(name).is_some()
+}
+
+/// Whether a switch may be meant to be an option.
+#[tactic(auto, using(crate::proofs::Doubts::none_doubtful))]
+fn is_doubtful(alloc: Global, switch: &Switch) -> Result<bool, AllocError>
+    ensures { IfOk result (λ is. is ≡ is_doubtful switch.now) }
+{
+    let name = switch.name.as_bytes();
+    if !may_be_meant(name) {
+        return Ok(false);
+    }
+    let word = word_of(alloc, switch)?;
+    Ok(meant_option(word.as_bytes()).is_some())
+}
+
 /// Whether a switch of these may be meant to be an option.
 fn are_doubtful(alloc: Global, switches: &[Switch]) -> Result<bool, AllocError>
     ensures { IfOk result (λ are. are ≡ list_any is_doubtful switches.now) }
 {
     for switch in switches {
-        let word = word_of(alloc, switch)?;
-        if meant_option(word.as_bytes()).is_some() {
+        if is_doubtful(alloc, switch)? {
             return Ok(true);
         }
     }

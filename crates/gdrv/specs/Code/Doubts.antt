@@ -1,0 +1,20 @@
+use Rattle.std.specs.Prelude.{◌-◌, ◌==◌, ◌&&◌, ◌||◌, Bool, List, get_or, length, nat_lt, ℕ}
+
+-- The ends of the long options (`long_options` of specs/Meant): a word with other ends was not meant to be one of them. For `may_be_meant`
+-- (src/meant.rt) alone.
+
+-- whether a byte is the second one of a long option: -, T, X, a, d, i, p or s
+abbrev pub is_second : ℕ → Bool
+is_second b = b == 45 || b == 84 || b == 88 || b == 97 || b == 100 || b == 105 || b == 112 || b == 115
+
+-- whether a byte is the last one of a long option: =, a, e, m, o, r, s, t or x
+abbrev pub is_last : ℕ → Bool
+is_last b = b == 61 || b == 97 || b == 101 || b == 109 || b == 111 || b == 114 || b == 115 || b == 116 || b == 120
+
+-- the last byte of a word
+abbrev pub last_of : List ℕ → ℕ
+last_of word = get_or word (length word - 1) 0
+
+-- whether a word is long and has such ends, as each long option has
+abbrev pub has_ends : List ℕ → Bool
+has_ends word = nat_lt 4 (length word) && (is_second (get_or word 1 0) && is_last (last_of word))
