@@ -7,7 +7,6 @@ mod FaultsAlone
 mod FilesOpened
 mod IncludesRead
 mod Inclusions
-mod JsonWords
 mod Judged
 mod LinesNumbered
 mod Lost

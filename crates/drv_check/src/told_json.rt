@@ -1,45 +1,15 @@
 //! What a check prints of findings, as JSON.
 
 ghost use Rattle.drv_check.specs.Told.{kind_json, place_json, report_json, told_json, told_members};
-ghost use Rattle.drv_forms.specs.PlanJson.{list_json, number_json, option_json, word_json};
+ghost use Rattle.drv_forms.specs.PlanJson.{list_json, option_json};
 ghost use Rattle.json.specs.Tree.{json_tokens, members_tokens};
 ghost use Rattle.std.specs.Prelude.{◌≡◌, ◌++◌, IfOk, OnOk};
 
 use crate::told::{Place, Told, kind_text};
+use drv_forms::{put_number, put_word};
 use drv_words::Word;
-use itoa::Buffer;
 use json::{Pretty, Token};
 use std::alloc::{AllocError, Global};
-use std::str::from_utf8;
-
-/// Writes a number.
-fn put_number(out: &mut Pretty, number: usize) -> Result<(), AllocError>
-    ensures { OnOk result (out.new ≡ out.old ++ json_tokens (number_json number)) }
-{
-    let mut buffer = Buffer::new();
-    out.token(Token::Number(buffer.format(number)))
-}
-
-/// Writes bytes as an array.
-fn put_bytes(out: &mut Pretty, bytes: &[u8]) -> Result<(), AllocError>
-    ensures { OnOk result (out.new ≡ out.old ++ json_tokens (list_json number_json bytes.now)) }
-{
-    out.token(Token::BeginArray)?;
-    for &byte in bytes {
-        put_number(out, usize::from(byte))?;
-    }
-    out.token(Token::EndArray)
-}
-
-/// Writes a word.
-fn put_word(out: &mut Pretty, word: &Word) -> Result<(), AllocError>
-    ensures { OnOk result (out.new ≡ out.old ++ json_tokens (word_json word.now)) }
-{
-    match from_utf8(word.as_bytes()) {
-        Ok(text) => out.token(Token::String(text)),
-        Err(_) => put_bytes(out, word.as_bytes()),
-    }
-}
 
 /// Writes a place as an object.
 fn put_place(out: &mut Pretty, place: &Place) -> Result<(), AllocError>
