@@ -120,12 +120,17 @@ fn take_file(spots: &mut Vec<Spot>, head: &[u8], file: &OpenFile) -> Result<(), 
     Ok(())
 }
 
-/// The spots of what files put as the text of a head.
+/// The spots of what files put as the text of a head, which has mostly this size.
 #[tactic(auto, using(crate::proofs::TextOrigins::file_next))]
-fn files_spots(alloc: Global, head: &[u8], files: &[OpenFile]) -> Result<Vec<Spot>, AllocError>
+fn files_spots(
+    alloc: Global,
+    head: &[u8],
+    files: &[OpenFile],
+    size: usize,
+) -> Result<Vec<Spot>, AllocError>
     ensures { IfOk result (λ spots. spots.items ≡ files_spots head.now [] files.now) }
 {
-    let mut spots = Vec::new(alloc);
+    let mut spots = Vec::with_capacity(alloc, size)?;
     for file in files {
         take_file(&mut spots, head, file)?;
     }
@@ -202,7 +207,7 @@ pub(crate) fn text_spots(
     ensures { IfOk result
         (λ spots. spots.items ≡ text_spots sources.now files.now head.now text.now) }
 {
-    let all = files_spots(alloc, head, files)?;
+    let all = files_spots(alloc, head, files, text.len())?;
     let spots = if_agreed(sources, text, last_spots(all.as_slice(), text));
     Vec::from_slice(alloc, spots)
 }
