@@ -159,12 +159,12 @@ module _ (F : Facts) (prefixes : Prefixes) where
   -- a piece loaded as a text by itself
 
   -- a set that is loaded from one directive is the set that this makes
-  change_alone : (result : Result Set SpecsFault) → then_by (then_by (load.changed most_files result) (λ d. Is (Ok d))) set_in ≡ Is result
+  pub change_alone : (result : Result Set SpecsFault) → then_by (then_by (load.changed most_files result) (λ d. Is (Ok d))) set_in ≡ Is result
   change_alone (Ok set) = refl
   change_alone (Err fault) = refl
 
   -- The driver loads a piece by itself as the one directive that the piece is.
-  loaded_alone : (set : Set) (text : List ℕ) (directive : Directive) → directives_of text ≡ directive ∷ []
+  pub loaded_alone : (set : Set) (text : List ℕ) (directive : Directive) → directives_of text ≡ directive ∷ []
       → loaded F prefixes set text ≡ worked F prefixes set most_files (directive ∷ [])
   unfolding loaded
   loaded_alone set text directive is = ap (worked F prefixes set most_files) is

@@ -5,6 +5,7 @@ mod DumpsDiffer
 mod FaultNotes
 mod FaultsAlone
 mod FilesOpened
+mod FilesSought
 mod IncludesRead
 mod Inclusions
 mod Judged

@@ -13,7 +13,7 @@ use Rattle.std.proofs.Common.{true, ℕ}
 use Rattle.std.proofs.lemmas.List.{drop_more}
 use Rattle.std.specs.Prelude.{get_or}
 
--- For sources_of (src/checking.rt): the prefixes are found first.
+-- For sources_of (src/seeking.rt): the prefixes are found first.
 
 -- The prefixes that the call finds are those of the definition.
 pub opens_sources : {E : Type 0} (F : Facts) (found : Prefixes) (prefixes names : List (List ℕ)) (result : Result (List Source) E)

@@ -18,7 +18,7 @@ use Rattle.std.specs.Prelude.{nat_lt, slice_get, take, true, ℕ}
 
 -- Where in files the bytes of a set's texts are (GCC manual, "Spec Files"; that files count in the order in which they were opened is this
 -- project's profile). A text has a head, as *cc1 or .c: what precedes its colon where a file puts it.
--- For clauses of src/origins.rt and src/checking.rt, and the law of src/spot_laws.rt. gdrv_specs cites it too.
+-- For clauses of src/origins.rt and src/seeking.rt, and the law of src/spot_laws.rt. gdrv_specs cites it too.
 
 -- the files of a line, along these prefixes
 

@@ -2,14 +2,13 @@
 
 ghost use Rattle.drv_check.specs.Checked.{based, checked, checked_over, faults_alone, is_fault};
 ghost use Rattle.drv_check.specs.Checks.{all_called, called, file_checked};
-ghost use Rattle.drv_check.specs.Origins.{sources_found, sources_of};
 ghost use Rattle.drv_system.specs.Asking.{Asks, Extends};
 ghost use Rattle.drv_system.specs.Code.Asked.{Asked};
 ghost use Rattle.drv_system.specs.Facts.{Facts};
 ghost use Rattle.drv_system.specs.Known.{Is};
 ghost use Rattle.std.specs.Prelude.{◌≡◌, IfOk};
 
-use crate::findings::{Checking, MOST_FILES, Note, Source, unchecked};
+use crate::findings::{Checking, MOST_FILES, Note, unchecked};
 use crate::including::Inclusion;
 use crate::judging::judge;
 use crate::opening::{OpenFile, open};
@@ -182,42 +181,4 @@ pub fn check_files<S: System>(
 {
     let prefixes = Prefixes::new(alloc, &[], sys, facts)?;
     check_over(alloc, over, names, &prefixes, &mut Outside { sys, facts })
-}
-
-/// The files that a line loads into the built-in set, along prefixes that were found.
-#[tactic(auto, using(drv_system::proofs::AskedCalls::asked_further))]
-fn sources_found<S: System>(
-    alloc: Global,
-    names: &[Word],
-    prefixes: &Prefixes,
-    outside: &mut Outside<'_, S>,
-) -> Result<Listing<Source>, AllocError>
-    ensures asks { Asked S.events outside.old outside.new }
-    ensures opens { (F : Facts) → Extends outside.new.facts.now F
-        → IfOk result (λ sources. sources_found F prefixes.now names.now ≡ Is sources) }
-{
-    let mut checking = unchecked(alloc)?;
-    check_all(alloc, &mut checking, names, prefixes, outside)?;
-    Ok(checking.sources)
-}
-
-/// The files that a line loads into the built-in set, in the order in which they are opened: each of
-/// these names, found along these prefixes, and those that it includes. It asks the system only where
-/// the table has no answer.
-///
-/// # Errors
-/// Lack of memory; nothing is refused.
-pub fn sources_of<S: System>(
-    alloc: Global,
-    prefixes: &[Word],
-    names: &[Word],
-    sys: &mut S,
-    facts: &mut FactTable,
-) -> Result<Listing<Source>, AllocError>
-    ensures asks { Asks (S.events sys.old) (S.events sys.new) facts.old facts.new }
-    ensures opens { (F : Facts) → Extends facts.new F
-        → IfOk result (λ sources. sources_of F prefixes.now names.now ≡ Is sources) }
-{
-    let found = Prefixes::new(alloc, prefixes, sys, facts)?;
-    sources_found(alloc, names, &found, &mut Outside { sys, facts })
 }

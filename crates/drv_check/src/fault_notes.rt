@@ -21,7 +21,7 @@ use drv_words::{Listing, Word};
 use std::alloc::{AllocError, Global};
 
 /// A check of nothing yet, over a set. The call allocates nothing.
-fn unchecked_over(alloc: Global, set: SpecSet) -> Checking
+pub(crate) fn unchecked_over(alloc: Global, set: SpecSet) -> Checking
     ensures { result ≡ unchecked_over set }
 {
     Checking {

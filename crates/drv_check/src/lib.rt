@@ -17,6 +17,7 @@ mod origins;
 mod own_text;
 mod pieces;
 mod pointing;
+mod seeking;
 mod spot_laws;
 mod spots;
 mod stepping;
@@ -28,7 +29,7 @@ mod told_json;
 mod unused_text;
 mod warning;
 
-pub use checking::{check_files, sources_of};
+pub use checking::check_files;
 pub use differing::texts_difference;
 pub use fault_notes::fault_note;
 pub use findings::{Checking, Finding, Note, Source, Spot, Warning};
@@ -37,6 +38,7 @@ pub use laws::{
 };
 pub use naming::{Deed, Naming, namings_of};
 pub use pieces::{Piece, pieces_of};
+pub use seeking::sources_of;
 pub use spot_laws::spots_have_bytes;
 pub use spots::place_in;
 pub use switch_names::names_switch;

@@ -32,7 +32,7 @@ fn numbered(number: usize, fault: SpecsFault) -> SpecsFault
 }
 
 /// Where a byte of a piece is.
-fn spot_in(file: &OpenFile, piece: &Piece, at: usize) -> Spot
+pub(crate) fn spot_in(file: &OpenFile, piece: &Piece, at: usize) -> Spot
     ensures { Some result ≡ spot_in file.now piece.now at }
 {
     let places = following(file.places.as_slice(), piece.start);

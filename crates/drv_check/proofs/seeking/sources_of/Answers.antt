@@ -1,11 +1,11 @@
 use Rattle.drv_check.proofs.TextOrigins.{opens_sources}
-use Rattle.drv_check.proofs.checking.sources_of.Goals as goal
+use Rattle.drv_check.proofs.seeking.sources_of.Goals as goal
 use Rattle.drv_system.proofs.AskedCalls.{extends_before}
 use Rattle.drv_system.proofs.Asking.{asks_then}
 use Rattle.drv_system.specs.Asking.{Extends}
 use Rattle.std.proofs.Common.{rules}
 
--- sources_of (src/checking.rt). The files that a line loads into the built-in set, in the order in which they are opened: each of these
+-- sources_of (src/seeking.rt). The files that a line loads into the built-in set, in the order in which they are opened: each of these
 -- names, found along these prefixes, and those that it includes.
 
 pub returns-clause-asks : goal.returns-clause-asks

@@ -1,0 +1,25 @@
+use Rattle.drv_check.proofs.FilesSought.{name_sought, names_sought}
+use Rattle.drv_check.proofs.seeking.seek_all.Goals as goal
+use Rattle.drv_check.specs.Checks.{all_called}
+use Rattle.drv_system.proofs.AskedCalls.{asked_further, asked_none, extends_before}
+use Rattle.std.proofs.Common.{refl}
+
+-- seek_all (src/seeking.rt). Opens the files of the line, and what they include.
+
+pub loop-name-init : goal.loop-name-init
+loop-name-init g c = record { asks = asked_none c.args.outside.now; rest = λ F e set findings. (set, findings, refl) }
+
+pub loop-name-preserved : goal.loop-name-preserved
+loop-name-preserved g c = record {
+  asks = asked_further c.loop-name.invariant.asks c.seek_called.ensures.asks;
+  rest = λ F e.
+      name_sought F c.args.prefixes.now c.args.checking.now c.loop-name.checking c.seek_called.new.checking c.args.names.now
+      c.loop-name.name-index c.name-item.result (λ x. all_called F c.args.prefixes.now x c.args.names.now)
+      c.loop-name-test.true c.name-item.is (c.in_ok-seek_called.ensures.seeks F e)
+      (c.loop-name.invariant.rest F (extends_before c.seek_called.ensures.asks e));
+}
+
+pub returns-clause-seeks : goal.returns-clause-seeks
+returns-clause-seeks g c F e =
+    names_sought F c.args.prefixes.now c.args.checking.now c.loop-name.checking c.args.names.now c.loop-name.name-index
+    (λ x. all_called F c.args.prefixes.now x c.args.names.now) c.loop-name-test.false (c.loop-name.invariant.rest F e)

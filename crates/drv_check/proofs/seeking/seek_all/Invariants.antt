@@ -1,0 +1,16 @@
+use Rattle.drv_check.proofs.seeking.seek_all.Given as goal
+use Rattle.drv_check.specs.Checks.{all_called}
+use Rattle.drv_check.specs.Code.Seeking.{Goes}
+use Rattle.drv_system.specs.Asking.{Extends}
+use Rattle.drv_system.specs.Code.Asked.{Asked}
+use Rattle.drv_system.specs.Facts.{Facts}
+use Rattle.std.proofs.Common.{drop}
+
+-- The loops of seek_all (src/seeking.rt). Opens the files of the line, and what they include.
+
+abbrev pub invariant-loop-name : goal.invariant-loop-name
+invariant-loop-name g l = record {
+  asks : Asked g.S.System.events l.fn.outside l.outside;
+  rest : (F : Facts) → Extends l.outside.facts.now F
+      → Goes l.fn.checking l.checking (λ c. all_called F l.prefixes c l.names) (λ c. all_called F l.prefixes c (drop l.name-index l.names));
+}

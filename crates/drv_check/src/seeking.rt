@@ -1,0 +1,174 @@
+//! The files that a line loads, found by what their directives include.
+
+ghost use Rattle.drv_check.specs.Checks.{all_called, called, file_checked};
+ghost use Rattle.drv_check.specs.Code.Seeking.{IsFile, Seeks, sought};
+ghost use Rattle.drv_check.specs.Origins.{sources_found, sources_of};
+ghost use Rattle.drv_system.specs.Asking.{Asks, Extends};
+ghost use Rattle.drv_system.specs.Code.Asked.{Asked};
+ghost use Rattle.drv_system.specs.Facts.{Facts};
+ghost use Rattle.drv_system.specs.Known.{Is};
+ghost use Rattle.std.specs.Prelude.{◌≡◌, ◌<◌, IfOk, IfSome};
+
+use crate::bytes::blanks_before;
+use crate::checking::MOST_LEVELS;
+use crate::fault_notes::unchecked_over;
+use crate::findings::{Checking, MOST_FILES, Source};
+use crate::including::{Inclusion, inclusion_in};
+use crate::opening::{OpenFile, open};
+use crate::pieces::Piece;
+use crate::stepping::spot_in;
+use drv_search::Prefixes;
+use drv_specs::SpecSet;
+use drv_system::{FactTable, Outside, System};
+use drv_words::{Listing, Word};
+use std::alloc::{AllocError, Global};
+
+/// Opens the file that a piece includes, if it includes one. `levels` more files may be nested.
+#[tactic(auto, using(crate::proofs::FilesSought::sought_in, crate::proofs::FilesSought::sought_on))]
+fn open_next<S: System>(
+    alloc: Global,
+    checking: &mut Checking,
+    levels: usize,
+    file: &OpenFile,
+    piece: &Piece,
+    prefixes: &Prefixes,
+    outside: &mut Outside<'_, S>,
+) -> Result<Option<OpenFile>, AllocError>
+    ensures asks { Asked S.events outside.old outside.new }
+    ensures opens { (F : Facts) → Extends outside.new.facts.now F
+        → IfOk result (λ next. sought F prefixes.now levels checking.old file.now piece.now
+        ≡ Is (checking.new, next)) }
+    ensures within { IfOk result (λ next. IfSome next (λ _. 0 < levels)) }
+{
+    match inclusion_in(alloc, piece.text.as_bytes())? {
+        Some(inclusion) => {
+            let spot = spot_in(file, piece, blanks_before(piece.text.as_bytes()));
+            open(
+                alloc,
+                checking,
+                levels,
+                Some(spot),
+                &inclusion,
+                prefixes,
+                outside,
+            )
+        }
+        None => Ok(None),
+    }
+}
+
+/// Opens what an open file includes, and what is included there. `levels` more files may be nested.
+fn seek_file<S: System>(
+    alloc: Global,
+    checking: &mut Checking,
+    levels: usize,
+    file: &OpenFile,
+    prefixes: &Prefixes,
+    outside: &mut Outside<'_, S>,
+) -> Result<(), AllocError>
+    ensures asks { Asked S.events outside.old outside.new }
+    ensures seeks { (F : Facts) → Extends outside.new.facts.now F → IsFile file.now
+        → IfOk result (λ _. Seeks checking.old checking.new
+        (λ c. file_checked F prefixes.now levels c file.now)) }
+{
+    for piece in file.pieces.as_slice() {
+        let next = open_next(alloc, checking, levels, file, piece, prefixes, outside)?;
+        let Some(inner) = next else {
+            continue;
+        };
+        seek_file(alloc, checking, levels - 1, &inner, prefixes, outside)?;
+    }
+    Ok(())
+}
+
+/// Opens a file of the line, and what it includes.
+#[tactic(auto, using(drv_system::proofs::AskedCalls::asked_further))]
+fn seek_called<S: System>(
+    alloc: Global,
+    checking: &mut Checking,
+    name: &Word,
+    prefixes: &Prefixes,
+    outside: &mut Outside<'_, S>,
+) -> Result<(), AllocError>
+    ensures asks { Asked S.events outside.old outside.new }
+    ensures seeks { (F : Facts) → Extends outside.new.facts.now F
+        → IfOk result (λ _. Seeks checking.old checking.new
+        (λ c. called F prefixes.now c name.now)) }
+{
+    checking.files = MOST_FILES;
+    let inclusion = Inclusion {
+        may_miss: false,
+        file: name.clone()?,
+    };
+    match open(
+        alloc,
+        checking,
+        MOST_LEVELS,
+        None,
+        &inclusion,
+        prefixes,
+        outside,
+    )? {
+        Some(file) => seek_file(alloc, checking, MOST_LEVELS - 1, &file, prefixes, outside),
+        None => Ok(()),
+    }
+}
+
+/// Opens the files of the line, and what they include.
+#[tactic(auto, using(drv_system::proofs::AskedCalls::asked_further))]
+fn seek_all<S: System>(
+    alloc: Global,
+    checking: &mut Checking,
+    names: &[Word],
+    prefixes: &Prefixes,
+    outside: &mut Outside<'_, S>,
+) -> Result<(), AllocError>
+    ensures asks { Asked S.events outside.old outside.new }
+    ensures seeks { (F : Facts) → Extends outside.new.facts.now F
+        → IfOk result (λ _. Seeks checking.old checking.new
+        (λ c. all_called F prefixes.now c names.now)) }
+{
+    for name in names {
+        seek_called(alloc, checking, name, prefixes, outside)?;
+    }
+    Ok(())
+}
+
+/// The files that a line loads into the built-in set, along prefixes that were found. No text of
+/// theirs is read as a spec text: what a file changes opens no other one.
+#[tactic(auto, using(drv_system::proofs::AskedCalls::asked_further))]
+fn sources_found<S: System>(
+    alloc: Global,
+    names: &[Word],
+    prefixes: &Prefixes,
+    outside: &mut Outside<'_, S>,
+) -> Result<Listing<Source>, AllocError>
+    ensures asks { Asked S.events outside.old outside.new }
+    ensures opens { (F : Facts) → Extends outside.new.facts.now F
+        → IfOk result (λ sources. sources_found F prefixes.now names.now ≡ Is sources) }
+{
+    let mut checking = unchecked_over(alloc, SpecSet::empty(alloc));
+    seek_all(alloc, &mut checking, names, prefixes, outside)?;
+    Ok(checking.sources)
+}
+
+/// The files that a line loads into the built-in set, in the order in which they are opened: each of
+/// these names, found along these prefixes, and those that it includes. It asks the system only where
+/// the table has no answer.
+///
+/// # Errors
+/// Lack of memory; nothing is refused.
+pub fn sources_of<S: System>(
+    alloc: Global,
+    prefixes: &[Word],
+    names: &[Word],
+    sys: &mut S,
+    facts: &mut FactTable,
+) -> Result<Listing<Source>, AllocError>
+    ensures asks { Asks (S.events sys.old) (S.events sys.new) facts.old facts.new }
+    ensures opens { (F : Facts) → Extends facts.new F
+        → IfOk result (λ sources. sources_of F prefixes.now names.now ≡ Is sources) }
+{
+    let found = Prefixes::new(alloc, prefixes, sys, facts)?;
+    sources_found(alloc, names, &found, &mut Outside { sys, facts })
+}
