@@ -13,18 +13,10 @@ use Rattle.gdrv_specs.specs.Plans.{TellsPlan}
 use Rattle.gdrv_specs.specs.declared.forms.Form.TheVariants.{Database}
 use Rattle.gdrv_specs.specs.declared.outcome.Outcome.TheVariants.{Ended}
 use Rattle.gdrv_specs.specs.declared.outcome.Outcome.{Outcome}
-use Rattle.std.proofs.Common.{◌≡◌, ◌∙◌, ◌∷◌, Err, IsErrAnd, List, Ok, Result, [], ap, refl, subst, sym, ℕ}
-use Rattle.std.specs.List.{AllZip}
+use Rattle.std.proofs.Common.{◌≡◌, Err, IsErrAnd, List, Ok, Result, refl, subst, sym, ℕ}
 use Rattle.std.specs.Prelude.{map}
 
 -- For `tell_database` (src/databases.rt): the names of a line's inputs are asked for, and then its plan is printed.
-
--- copies that are the same word by word are the same list
-pub same_words : (words copies : List (List ℕ)) → AllZip (λ word copy. copy ≡ word) words copies → copies ≡ words
-same_words [] [] are = refl
-same_words [] (copy ∷ copies) are = absurd are
-same_words (word ∷ words) [] are = absurd are
-same_words (word ∷ words) (copy ∷ copies) are = ap (λ c. c ∷ copies) are.0 ∙ ap (λ cs. word ∷ cs) (same_words words copies are.1)
 
 -- words that have an ending in place of a line have no names
 pub stopped : (F : Facts) (args : List (List ℕ)) (ending : Ending) (result : Result (List (List ℕ)) Ending)

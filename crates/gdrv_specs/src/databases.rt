@@ -11,7 +11,7 @@ use crate::planning::tell_plan;
 use drv_args::Input;
 use drv_run::{Ending, line_of_call};
 use drv_system::{FactTable, System};
-use drv_words::{Listing, Word};
+use drv_words::{Listing, Word, copy_words};
 use std::alloc::{AllocError, Global};
 
 /// The name of an input.
@@ -47,7 +47,7 @@ fn names_read<S: System>(
     ensures asks { Asks (S.events sys.old) (S.events sys.new) facts.old facts.new }
     ensures names { (F : Facts) → Extends facts.new F → NamesOf F args.now result }
 {
-    let copy = args.clone()?;
+    let copy = copy_words(alloc, args.as_slice())?;
     let line = line_of_call(alloc, copy, sys, facts)?;
     let names = names_of(alloc, line.inputs.as_slice())?;
     Ok(names)
