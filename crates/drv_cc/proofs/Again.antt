@@ -318,13 +318,6 @@ pub renamed_named : {E : Type 0} (known word name : List ℕ) (result : Result I
 renamed_named known word name (Ok found) same is = is ∙ ap (by_names known word) same
 renamed_named known word name (Err e) same is = tt
 
--- For `again` (src/items.rt), where the item is an unknown word.
-pub asked_again : {E : Type 0} (known : List ℕ) (i : Item) (word : List ℕ) (result : Result Item E) → is_unknown i.role ≡ true
-    → word ≡ i.name
-    → IfOk result (λ found. found ≡ by_names known word (renamed word)) → IfOk result (λ found. found ≡ again known i)
-asked_again known i word (Ok found) unknown word_is is = is ∙ ap (λ w. by_names known w (renamed w)) word_is ∙ sym (rw unknown refl)
-asked_again known i word (Err e) unknown word_is is = tt
-
 -- For `is_own_switch` (src/reading.rt): a word that is no long name and names no machine is a switch of its name, once names have it.
 pub own_switch : (known word : List ℕ) (machine off taken : Bool) → renamed word ≡ word → machine ≡ begins (codes "-mcpu=") word
     → machine ≡ false → off ≡ turns_off known word → taken ≡ accepts known word → (off || taken) ≡ true
@@ -341,7 +334,7 @@ own_switch known word machine off taken same machine_is other off_is taken_is ei
     by true e = refl
     by false e = absurd cc
 
--- For `again` (src/items.rt), where the unknown word is such a switch.
+-- For `ask_again` (src/items.rt), where the unknown word is such a switch.
 pub switched_again : {E : Type 0} (known : List ℕ) (i : Item) (word : List ℕ) (unknown own : Bool) (result : Result Item E)
     → unknown ≡ is_unknown i.role → unknown ≡ true → word ≡ i.name
     → (own ≡ true → by_names known word (renamed word) ≡ item word [] Alone Switch) → own ≡ true

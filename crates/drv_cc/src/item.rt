@@ -70,18 +70,15 @@ impl Item {
         })
     }
 
-    /// The switch of this name, which is not copied.
-    pub(crate) fn own_switch(alloc: Global, name: Word) -> Result<Item, AllocError>
-        ensures { IfOk result (λ made. made ≡ item name [] Alone Switch) }
+    /// Makes it the switch of its name.
+    pub(crate) fn turn_to_switch(&mut self, alloc: Global) -> Result<(), AllocError>
+        ensures { OnOk result (self.new ≡ item self.old.name [] Alone Switch) }
     {
-        let class = class_of(alloc, Spelling::Alone, name.as_bytes())?;
-        Ok(Item {
-            name,
-            argument: Word::empty(alloc),
-            spelling: Spelling::Alone,
-            role: Role::Switch,
-            class,
-        })
+        self.class = class_of(alloc, Spelling::Alone, self.name.as_bytes())?;
+        self.argument = Word::empty(alloc);
+        self.spelling = Spelling::Alone;
+        self.role = Role::Switch;
+        Ok(())
     }
 
     /// A word that is no option.

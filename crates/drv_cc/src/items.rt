@@ -5,7 +5,7 @@ ghost use Rattle.drv_cc.specs.Front.{answer_of};
 ghost use Rattle.drv_cc.specs.Items.{items_of};
 ghost use Rattle.drv_cc.specs.UnknownWords.{has_unknown, is_unknown};
 ghost use Rattle.std.specs.List.{list_any};
-ghost use Rattle.std.specs.Prelude.{◌≡◌, ◌∷◌, ◌++◌, [], IfOk, List, None, OnOk, ℕ};
+ghost use Rattle.std.specs.Prelude.{◌≡◌, [], IfOk, List, None, OnOk, map, ℕ};
 
 use crate::asking::is_asked;
 use crate::fronting::answer_of;
@@ -31,31 +31,39 @@ fn are_unknown(items: &[Item]) -> bool
     items.iter().any(|item| is_unknown(item.role))
 }
 
-/// An item, by names of options. One that is unknown is none that is passed over.
+/// Asks an item again by names of options, in its place. One that is unknown is none that is passed
+/// over.
 #[tactic(auto, using(crate::proofs::Again::switched_again))]
-fn again(alloc: Global, known: &[u8], item: Item) -> Result<Item, AllocError>
-    ensures { IfOk result (λ found. found ≡ again known.now item) }
+fn ask_again(alloc: Global, known: &[u8], item: &mut Item) -> Result<(), AllocError>
+    ensures { OnOk result (item.new ≡ again known.now item.old) }
 {
     if !is_unknown(item.role) {
-        return Ok(item);
+        return Ok(());
     }
     if is_own_switch(alloc, known, item.name.as_bytes())? {
-        return Item::own_switch(alloc, item.name);
+        return item.turn_to_switch(alloc);
     }
-    by_own_name(alloc, known, item.name.as_bytes())
+    *item = by_own_name(alloc, known, item.name.as_bytes())?;
+    Ok(())
 }
 
-/// Adds an item, by names of options.
-fn add_again(
-    alloc: Global,
-    known: &[u8],
-    item: Item,
-    items: &mut Listing<Item>,
-) -> Result<(), AllocError>
-    ensures { OnOk result (items.new ≡ items.old ++ again known.now item ∷ []) }
+/// Asks items again by names of options.
+fn ask_all(alloc: Global, known: &[u8], items: &mut [Item]) -> Result<(), AllocError>
+    ensures { OnOk result (items.new ≡ map (again known.now) items.old) }
 {
-    items.push(again(alloc, known, item)?)?;
+    for item in items.iter_mut() {
+        ask_again(alloc, known, item)?;
+    }
     Ok(())
+}
+
+/// Items that were asked again by names of options.
+fn all_asked(alloc: Global, known: &[u8], items: Vec<Item>) -> Result<Listing<Item>, AllocError>
+    ensures { IfOk result (λ found. found ≡ map (again known.now) items.items) }
+{
+    let mut found = items;
+    ask_all(alloc, known, found.as_mut_slice())?;
+    Ok(Listing::from_vec(found))
 }
 
 /// The items of a line of `gcc`: options with their arguments, files, and words that are neither.
@@ -92,10 +100,7 @@ impl Items {
         ensures { (args : List (List ℕ)) → self ≡ items_of [] None args
             → IfOk result (λ items. items ≡ items_of known.now None args) }
     {
-        let mut items = Listing::new(alloc);
-        for item in self.items.into_vec() {
-            add_again(alloc, known, item, &mut items)?;
-        }
+        let items = all_asked(alloc, known, self.items.into_vec())?;
         Ok(Items { items })
     }
 

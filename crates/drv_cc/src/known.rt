@@ -82,6 +82,14 @@ fn is_before_by_all(rest: &[u8], line: &[u8]) -> bool {
     order(&rest[..line.len().min(rest.len())], line).is_lt()
 }
 
+/// The same, where their first eight bytes don't tell it: the next eight do mostly.
+fn is_before_further(rest: &[u8], line: &[u8]) -> bool {
+    match is_before_by_eight(rest_from(rest, 8), rest_from(line, 8)) {
+        Some(is) => is,
+        None => is_before_by_all(rest, line),
+    }
+}
+
 /// Whether the line at a place of a text comes before another one. It is inlined for speed: the
 /// search asks it some fifteen times a name.
 #[inline(always)]
@@ -89,7 +97,7 @@ fn is_before(text: &[u8], at: usize, line: &[u8]) -> bool {
     let rest = rest_from(text, at);
     match is_before_by_eight(rest, line) {
         Some(is) => is,
-        None => is_before_by_all(rest, line),
+        None => is_before_further(rest, line),
     }
 }
 
