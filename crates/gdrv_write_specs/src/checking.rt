@@ -2,6 +2,7 @@
 
 use crate::asking::{Said, ask, commands};
 use crate::fault::Fault;
+use crate::listing::option_list;
 use crate::refusing::{Answer, answer_to};
 use crate::work_folder::WorkFolder;
 use drv_gcc::{options, same_commands};
@@ -245,9 +246,9 @@ impl<'a> Pair<'a> {
     /// The options for a machine that a gcc lists, each with a value if it takes one.
     pub fn machines(self) -> Result<Listing<Word>, Fault> {
         let alloc = self.rt.alloc();
-        let listed = ask(self.rt, &self.work.lines, self.gcc, b"--completion=-m")?;
+        let said = option_list(self.rt, self.work, self.gcc, b"-m")?;
         let mut machines = Listing::new(alloc);
-        for option in options(alloc, listed.out.as_bytes())?.as_slice() {
+        for option in options(alloc, said.as_bytes())?.as_slice() {
             let name = option.as_bytes();
             if name.starts_with(b"-m") && !name.ends_with(b"=") {
                 machines.push(option.clone()?)?;

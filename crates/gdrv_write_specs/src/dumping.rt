@@ -2,6 +2,7 @@
 
 use crate::asked::{Asked, Places};
 use crate::asking::{ask, named, text};
+use crate::devices::is_of_device;
 use crate::fault::Fault;
 use crate::parts::dump_of;
 use drv_gcc::{named_texts, replace, values};
@@ -48,17 +49,20 @@ impl<'a> Asked<'a> {
     }
 
     /// The spec files that it reads for each line, as `musl-gcc` does, which calls another gcc.
-    fn files_read(self) -> Result<Listing<Word>, Fault> {
-        let Ok(said) = ask(self.rt, &self.work.lines, self.gcc, b"-v") else {
-            return Err(Fault::NoGcc(self.gcc.clone()?));
-        };
-        Ok(values(self.alloc(), b"Reading specs from ", said.err.as_bytes())?)
+    fn own_files(self) -> Result<Listing<Word>, Fault> {
+        let mut files = Listing::new(self.alloc());
+        for path in self.files_read()?.into_vec() {
+            if !is_of_device(path.as_bytes()) {
+                files.push(path)?;
+            }
+        }
+        Ok(files)
     }
 
     /// Where its texts look for its files: where it has them if such a file names some, since its
     /// names may be those of folders.
     pub fn places_of(self) -> Result<Places, Fault> {
-        Ok(if self.files_read()?.is_empty() {
+        Ok(if self.own_files()?.is_empty() {
             Places::Searched
         } else {
             Places::Fixed
@@ -116,7 +120,7 @@ impl<'a> Asked<'a> {
     /// The texts of the gcc.
     pub fn own_texts(self) -> Result<Word, Fault> {
         let dump = self.with_refusals()?;
-        let files = self.files_read()?;
+        let files = self.own_files()?;
         if files.is_empty() {
             return Ok(dump);
         }

@@ -88,7 +88,7 @@ impl Fault {
                 )
             }
             Fault::BadDump(gcc) => gcc_line(alloc, gcc, b"' prints spec texts that can't be read"),
-            Fault::NoOptions(gcc) => gcc_line(alloc, gcc, b"' lists no options (--completion=-)"),
+            Fault::NoOptions(gcc) => gcc_line(alloc, gcc, b"' lists no options"),
             Fault::NoPlan(gcc) => gcc_line(alloc, gcc, b"' plans no compilation and link of C"),
             Fault::NoDriver => line(
                 alloc,

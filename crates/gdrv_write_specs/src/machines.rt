@@ -5,6 +5,7 @@ use crate::asked::{Asked, Places};
 use crate::asking::named;
 use crate::fault::Fault;
 use crate::finding::{command_named, has_word, words_between};
+use crate::listing::option_list;
 use crate::work_folder::make_all;
 use drv_gcc::{
     Choice, ForMachine, MachineWord, file_text, libraries, machine_words, options, placed_text,
@@ -388,8 +389,8 @@ fn try_option(
 
 /// Compares the plans of all options for the machine.
 fn try_options(asked: Asked<'_>, machine: &mut [MachineWord]) -> Result<(), Fault> {
-    let listed = asked.ask(b"--completion=-m")?;
-    let options = options(asked.alloc(), listed.out.as_bytes())?;
+    let said = option_list(asked.rt, asked.work, asked.gcc, b"-m")?;
+    let options = options(asked.alloc(), said.as_bytes())?;
     let mut tried = Listing::new(asked.alloc());
     for option in options.as_slice() {
         try_option(asked, option, &mut tried, machine)?;

@@ -3,6 +3,7 @@
 use crate::asking::{ask, ask_words, commands, named};
 use crate::fault::Fault;
 use crate::finding::has_word;
+use crate::listing::option_list;
 use crate::refusing::{Answer, answer_to, refused_of};
 use crate::work_folder::WorkFolder;
 use drv_gcc::{option_lines, options, values};
@@ -456,6 +457,6 @@ fn lines_in(rt: &HostRuntime, work: &WorkFolder, gcc: &Word, said: &[u8]) -> Res
 
 /// All options that a gcc knows, by their names, a line each.
 pub fn names_of(rt: &HostRuntime, work: &WorkFolder, gcc: &Word) -> Result<Word, Fault> {
-    let said = ask(rt, &work.lines, gcc, b"--completion=-")?;
-    lines_in(rt, work, gcc, said.out.as_bytes())
+    let said = option_list(rt, work, gcc, b"-")?;
+    lines_in(rt, work, gcc, said.as_bytes())
 }

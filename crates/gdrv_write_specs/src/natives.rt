@@ -65,6 +65,14 @@ fn with_native(alloc: Global, dump: &Word, name: &Word, call: &Word) -> Result<W
     Ok(replace(alloc, dump.as_bytes(), call.as_bytes(), other.as_bytes())?)
 }
 
+/// Adds a spec file that shows what a call gives, and gives the name of the text for that.
+pub fn add_probe(asked: Asked<'_>, call: &Word, probes: &mut Listing<Word>) -> Result<Word, Fault> {
+    let name = native_name(asked.alloc(), probes.len())?;
+    write_probe(asked, &name, call)?;
+    probes.push(name.clone()?)?;
+    Ok(name)
+}
+
 /// A dump with named texts in the places of the calls of this function, and a spec file for each
 /// that shows what it gives.
 pub fn with_natives(
@@ -82,11 +90,13 @@ pub fn with_natives(
     for function in functions {
         for arguments in named_texts(alloc, function, texts.as_bytes())?.as_slice() {
             let call = native_call(alloc, function, arguments)?;
-            let name = native_name(alloc, probes.len())?;
-            write_probe(asked, &name, &guard_call(alloc, arguments, &call)?)?;
+            let guarded = guard_call(alloc, arguments, &call)?;
+            let name = add_probe(asked, &guarded, &mut probes)?;
             texts = with_native(alloc, &texts, &name, &call)?;
-            probes.push(name)?;
         }
+    }
+    if let Ways::Rows = ways {
+        texts = asked.with_devices(texts, &mut probes)?;
     }
     Ok((texts, probes))
 }

@@ -3,9 +3,11 @@
 use crate::asking::{ask, named, text};
 use crate::calling::Manner;
 use crate::checking::Pair;
+use crate::devices::has_devices;
 use crate::fault::Fault;
 use crate::gathering::{Gathered, gather};
 use crate::names::{names_of, sorted};
+use crate::older::with_own_names;
 use crate::parts::{PARTS, part_of, whole_of};
 use crate::programs::{is_file, program_at};
 use crate::row_texts::Ways;
@@ -161,6 +163,7 @@ fn differ(rt: &HostRuntime, gcc: &Word, lines: &[Word]) -> Result<Fault, Fault> 
 /// Writes the spec file in the folder of work.
 fn put_specs(pair: Pair<'_>, gathered: &Gathered) -> Result<(), Fault> {
     let specs = spec_file(pair.rt.alloc(), &gathered.toolchain)?;
+    let specs = with_own_names(pair.rt.alloc(), specs)?;
     for part in PARTS {
         pair.work.put_part(
             pair.rt,
@@ -294,8 +297,12 @@ fn put_with_rows(pair: Pair<'_>, manner: Manner) -> Result<(), Fault> {
     put_gathered(pair, manner, &mut gathered)
 }
 
-/// Makes the files of a gcc, and tries them. If the texts alone give other plans, rows do the work.
+/// Makes the files of a gcc, and tries them. If the texts alone give other plans, or devices have
+/// spec files, rows do the work.
 fn put_all(pair: Pair<'_>, manner: Manner) -> Result<(), Fault> {
+    if has_devices(pair.rt, pair.work, pair.gcc)? {
+        return put_with_rows(pair, manner);
+    }
     let mut gathered = gather(pair.rt, pair.work, pair.gcc, Ways::Texts)?;
     match put_gathered(pair, manner, &mut gathered) {
         Err(Fault::Differs(_)) => put_with_rows(pair, manner),

@@ -4,8 +4,10 @@
 use crate::alike::FolderName;
 use crate::asked::{Asked, Places};
 use crate::asking::named;
+use crate::devices::is_of_device;
 use crate::fault::Fault;
 use crate::finding::{command_named, has_word, word_after, words_between};
+use crate::listing::option_list;
 use crate::programs::is_folder;
 use crate::work_folder::WorkFolder;
 use drv_gcc::{options, replace, values};
@@ -31,7 +33,7 @@ fn collected(asked: Asked<'_>) -> Result<Option<Listing<Word>>, Fault> {
     };
     let mut words = Listing::new(asked.alloc());
     for word in split(asked.alloc(), line.as_bytes())?.into_vec() {
-        if word.as_bytes() != b"-c".as_slice() {
+        if word.as_bytes() != b"-c".as_slice() && !is_of_device(word.as_bytes()) {
             words.push(word)?;
         }
     }
@@ -117,6 +119,18 @@ fn add_values(
     Ok(())
 }
 
+/// Adds a word if gcc has others in the place of an option that names a device: links of objects with
+/// `-flto` get that option too, and refuse the second.
+fn add_device_word(asked: Asked<'_>, words: &mut Listing<Word>) -> Result<(), Fault> {
+    let is_renamed = asked.option.as_bytes().split(|byte| *byte == b' ').any(
+        |option| option.starts_with(b"-mmcu=") && !has_word(words.as_slice(), option),
+    );
+    if is_renamed {
+        words.push(Word::from_bytes(asked.alloc(), b"--gdrv-device")?)?;
+    }
+    Ok(())
+}
+
 /// The row of these options, for a gcc with these folders; none where it refuses them.
 pub fn row_of(
     asked: Asked<'_>,
@@ -127,6 +141,7 @@ pub fn row_of(
     let Some(mut words) = collected(asked)? else {
         return Ok(None);
     };
+    add_device_word(asked, &mut words)?;
     add_folder(asked, folders, naming, &mut words)?;
     for (number, probe) in probes.iter().enumerate() {
         add_values(asked, number, probe, &mut words)?;
@@ -179,9 +194,8 @@ fn add_key(keys: &mut Listing<Word>, key: Word) -> Result<(), Fault> {
 
 /// Adds the options that gcc lists for this beginning.
 fn add_listed(asked: Asked<'_>, beginning: &[u8], keys: &mut Listing<Word>) -> Result<(), Fault> {
-    let question = named(asked.alloc(), b"--completion=", beginning)?;
-    let said = asked.ask(question.as_bytes())?;
-    for option in options(asked.alloc(), said.out.as_bytes())?.into_vec() {
+    let said = option_list(asked.rt, asked.work, asked.gcc, beginning)?;
+    for option in options(asked.alloc(), said.as_bytes())?.into_vec() {
         add_key(keys, option)?;
     }
     Ok(())
@@ -232,6 +246,15 @@ fn add_named(asked: Asked<'_>, name: &[u8], keys: &mut Listing<Word>) -> Result<
     Ok(())
 }
 
+/// Adds the option of each device that has a spec file.
+fn add_devices(asked: Asked<'_>, keys: &mut Listing<Word>) -> Result<(), Fault> {
+    let folder = asked.device_folder()?;
+    for device in asked.devices_in(&folder)?.as_slice() {
+        add_key(keys, named(asked.alloc(), b"-mmcu=", device.as_bytes())?)?;
+    }
+    Ok(())
+}
+
 /// The options of which rows are written.
 fn keys_of(asked: Asked<'_>) -> Result<Listing<Word>, Fault> {
     let alloc = asked.alloc();
@@ -244,6 +267,7 @@ fn keys_of(asked: Asked<'_>) -> Result<Listing<Word>, Fault> {
         add_key(&mut keys, Word::from_bytes(alloc, order)?)?;
     }
     add_listed(asked, b"-m", &mut keys)?;
+    add_devices(asked, &mut keys)?;
     for name in MACHINES {
         add_listed(asked, name, &mut keys)?;
         add_named(asked, name, &mut keys)?;
