@@ -49,7 +49,7 @@ const PASSED: &[u8] = b"*pass_avrlibc_devicelib:\n%{!nodevicelib:%{-gdrv-fn";
 
 const PASSED_REST: &[u8] = b"=-l*:-plugin-opt=-pass-through=-l%*}}\n\n";
 
-/// Adds the text of this name that has what rows tell of it under another.
+/// Adds the text of this name, for which rows have words under another.
 fn push_text(texts: &mut Word, name: &[u8], own: &Word) -> Result<(), Fault> {
     let is_library = name == LIBRARY;
     texts.push(b'*')?;
@@ -160,8 +160,8 @@ impl<'a> Asked<'a> {
         push_text(texts, name.as_bytes(), &own)
     }
 
-    /// A dump with the texts that devices' spec files put. Rows tell what they are for a line's
-    /// device, and a probe for each shows it.
+    /// A dump with the texts that devices' spec files put. Rows have what they are for a line's device,
+    /// and a probe for each shows it.
     pub fn with_devices(self, dump: Word, probes: &mut Listing<Word>) -> Result<Word, Fault> {
         let folder = self.device_folder()?;
         if folder.is_empty() {
