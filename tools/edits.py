@@ -31,14 +31,14 @@ def text_of(path):
 
 @dataclass(frozen=True)
 class Function:
-    """A function of a file, with the trait and the type of the impl that it is in, whether that trait has arguments, whether the function is
-    `pub`, its lines (from 1), and its module. In the layout of rt fmt the lines of its body begin after the contract and end with the first
-    closing brace below the `fn`."""
+    """A function of a file, with the type and the trait of the impl that it is in, that trait's argument, whether the function is `pub`, its
+    lines (from 1), and its module. In the layout of rt fmt the lines of its body begin after the contract and end with the first closing
+    brace below the `fn`."""
 
     file: str
-    trait: str
     type: str
-    has_arguments: bool
+    trait: str
+    argument: str
     name: str
     is_pub: bool
     head: int
@@ -48,8 +48,8 @@ class Function:
 
     @property
     def owner(self):
-        """What proofs/ calls the impl: `Type`, or `TypeTrait`."""
-        return self.type + self.trait
+        """What proofs/ calls the impl: `Type`, `TypeTrait` or `TypeTraitArgument`."""
+        return self.type + self.trait + self.argument
 
     def has(self, line):
         return self.head <= line <= self.closes
@@ -59,18 +59,23 @@ class Function:
         return "/".join(it for it in (self.module, self.owner, self.name) if it)
 
     def path(self):
-        """What the prover knows it by: its path, or its module's or type's if its trait has arguments, which the prover's name has too."""
-        return (self.module or self.type if self.has_arguments else self.proof()).replace("/", "::")
+        """What the prover knows it by."""
+        return self.proof().replace("/", "::")
 
 
 def impl_of(block):
-    """The trait, if there is one, and the type of an impl, without their paths and parameters; and whether the trait has arguments."""
-    words = re.sub(r"\bwhere\b.*|\{.*", "", block)
-    has_arguments = bool(re.search(r"\w<.*> for ", words))
+    """The type of an impl, the trait and its argument, each if there is one, without their paths and parameters."""
+    head = re.sub(r"\bwhere\b.*|\{.*", "", block)
+    trait, _, type_ = head.rpartition(" for ")
+    argument = re.search(r"\w<([^<>]*)(<.*)?>$", trait)
+    return last_name(type_), last_name(trait), last_name(argument[1]) if argument else ""
+
+
+def last_name(words):
+    """The last name of a path, without the parameters before and after it; none if there is no path."""
     while re.search(r"<[^<>]*>", words):
         words = re.sub(r"<[^<>]*>", "", words)
-    names = [it.split("::")[-1].lstrip("&") for it in words.split() if it != "for"]
-    return (*names, has_arguments) if len(names) == 2 else ("", names[0], False)
+    return re.split(r"::|\s|&", words.strip())[-1]
 
 
 def closing_line(lines, at, indent):
@@ -92,12 +97,12 @@ def module_of(file):
 
 
 def functions_of(file, text):
-    lines, found, block = text.split("\n"), [], ("", "", False)
+    lines, found, block = text.split("\n"), [], ("", "", "")
     for at, line in enumerate(lines):
         if line.startswith("impl"):
             block = impl_of(line[4:])
         elif line == "}":
-            block = "", "", False
+            block = "", "", ""
         head = HEAD.match(line)
         closes = closing_line(lines, at, head[1]) if head else None
         if closes is not None:

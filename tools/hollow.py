@@ -1,7 +1,7 @@
 """Hollow rooms: folders in which the prover judges some functions of a crate, and takes every other function by its contract.
 
-A proof of a function cites the contracts of what it calls, and nothing of their bodies and proofs. So all other functions have an empty
-body here, and a hole in place of a proof; a check takes seconds, however large the crate. The prover says of a function that its proof is
+A proof of a function cites the contracts of what it calls, and nothing of their bodies and proofs. So in each check all other functions have
+an empty body, and a hole in place of a proof; a check takes seconds, however large the crate. The prover says of a function that its proof is
 accepted but for the holes that it rests on, or that a goal of its own is not proved.
 
 Why a refusal is due to the edit alone: the crate as it is was proved just before, whole, from the same texts and over the same libraries
@@ -54,47 +54,55 @@ def cycle_of(function, text):
     return marked and marked[1]
 
 
-def worth_as_witness(function):
-    """What the witness has the least of: it is the shortest public function with a contract and a body, if there is one. (A law has no body.)"""
+def worth_as_witness(function, text):
+    """What the witness has the least of: it is the shortest public function with a contract and a body, if there is one, and of these the one
+    with the fewest calls, since a check judges the holes of what it calls too. (A law has no body.)"""
     has_contract, has_body = function.head + 1 < function.opens, function.opens + 1 < function.closes
-    return not (has_contract and has_body), not function.is_pub, function.closes - function.head, at_place(function)
+    calls = sum(line.count("(") for line in text.split("\n")[function.opens - 1 : function.closes])
+    return not (has_contract and has_body), not function.is_pub, calls, function.closes - function.head, at_place(function)
 
 
 class HollowRoom:
-    """A room with a crate's texts, holes for the proofs of all functions but those at some places, and what checks keep there. The libraries
-    below the crate are those in its repository, as they were last built. The room is gone when it is left."""
+    """A room for the checks of some functions of a crate, and what these keep there. Each check finds the crate's texts, with holes for the
+    proofs of all functions but those that it judges. The libraries below the crate are those in its repository, as they were last built. The
+    witness is at none of these places. The room is gone when it is left."""
 
     def __init__(self, crates, name, places):
-        self.crates, self.name, self.of, self.seconds = crates, name, crates.folder(name), 0
-        self.places, self.changed, self.holes, self.witness = places, set(), {}, None
+        self.crates, self.name, self.of, self.seconds, self.holes = crates, name, crates.folder(name), 0, {}
+        found = functions_in(self.of, {})
+        texts = {it: text_of(f"{self.of}/{it}") for it in {it.file for it in found}}
+        named = [it for it in found if it.name != "drop" and not cycle_of(it, texts[it.file])]
+        # Those that can have a hole: no function that shares a proof with others, and no `drop`, whose name in proofs/ this file doesn't know.
+        self.hollow = {at_place(it): it for it in named}
+        free = [it for it in named if not it.trait and at_place(it) not in places]
+        self.witness = min(free, key=lambda it: worth_as_witness(it, texts[it.file]), default=None)
 
     def __enter__(self):
         os.makedirs(self.crates.rooms, exist_ok=True)
         self.room = tempfile.mkdtemp(prefix=f"{self.name}-", dir=self.crates.rooms)
-        for part in TEXTS:
-            if os.path.isdir(f"{self.of}/{part}"):
-                shutil.copytree(f"{self.of}/{part}", f"{self.room}/{part}", copy_function=link_or_copy)
         os.mkdir(f"{self.room}/kept")
-        others = self.others()
-        self.witness = min((it for it in others if not it.trait), key=worth_as_witness, default=None)
-        others = [it for it in others if it != self.witness]
-        self.holes = {at_place(it): it for it in others}
-        self.put_hole_of_all()
-        for it in others:
-            self.put_hole(it)
-        for file in {it.file for it in others}:
-            self.put(file, text_of(f"{self.of}/{file}"))
         return self
 
     def __exit__(self, *_):
         shutil.rmtree(self.room)
 
-    def others(self):
-        """The functions of the crate at no place that is judged, but for those that share a proof with others, and those whose names in proofs/
-        this file doesn't know: each `drop`, and the methods of a trait with arguments."""
-        known = {it.proof() for it in at_places(self.of, {}, self.places)}
-        known_here = [it for it in functions_in(self.of, {}) if it.name != "drop" and not it.has_arguments]
-        return [it for it in known_here if it.proof() not in known and not cycle_of(it, text_of(f"{self.of}/{it.file}"))]
+    def fill(self, places):
+        """Puts the crate's texts into the room, with holes for all functions but the witness and those at these places."""
+        for part in TEXTS:
+            shutil.rmtree(f"{self.room}/{part}", ignore_errors=True)
+            if os.path.isdir(f"{self.of}/{part}"):
+                shutil.copytree(f"{self.of}/{part}", f"{self.room}/{part}", copy_function=link_or_copy)
+        judged = [*at_places(self.of, {}, places), *([self.witness] if self.witness else [])]
+        proofs = {it.proof() for it in judged}
+        self.holes = {place: it for place, it in self.hollow.items() if it.proof() not in proofs}
+        self.put_hole_of_all()
+        for it in self.holes.values():
+            self.put_hole(it)
+        for file in {it.file for it in self.holes.values()}:
+            self.put(file, text_of(f"{self.of}/{file}"))
+        why = self.unlike(judged)
+        if why:
+            raise ValueError(why)
 
     def put_hole(self, function):
         """Puts a hole in the place of a function's proof, which has a + before its name if the function calls itself."""
@@ -121,9 +129,9 @@ class HollowRoom:
                 lines[first : it.closes - 1] = ["loop {}"] + [""] * (it.closes - first - 2)
         self.write(file, "\n".join(lines))
 
-    def unlike(self):
+    def unlike(self, judged):
         """What a proof of a judged function could see here that is not as it is in the crate; nothing if there is no such thing."""
-        for it in at_places(self.of, {}, self.places):
+        for it in judged:
             here, there = (text_of(f"{folder}/{it.file}").split("\n")[it.head - 1 : it.closes] for folder in (self.room, self.of))
             if here != there:
                 return f"the room has other lines of {it.proof()}"
@@ -146,10 +154,9 @@ class HollowRoom:
 
     def check(self, texts, places):
         """What the prover says of the witness and of the functions at these places, with these texts in place of the crate's."""
-        before = {path: text_of(f"{self.of}/{path}") for path in self.changed}
-        for path, text in (before | texts).items():
+        self.fill(places)
+        for path, text in texts.items():
             self.put(path, text)
-        self.changed = set(texts)
         paths = {it.path() for it in at_places(self.of, {}, places)} | ({self.witness.path()} if self.witness else set())
         _, said, seconds = run_in(self.room, [*self.words(), *(word for path in sorted(paths) for word in ("--only", path))])
         self.seconds += seconds
