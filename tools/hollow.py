@@ -55,8 +55,8 @@ def cycle_of(function, text):
 
 
 def worth_as_witness(function, text):
-    """What the witness has the least of: it is the shortest public function with a contract and a body, if there is one, and of these the one
-    with the fewest calls, since a check judges the holes of what it calls too. (A law has no body.)"""
+    """What the witness has the least of: it is a public function with a contract and a body, if there is one, and of these the shortest of
+    those with the fewest calls. A check judges the holes of what it calls too. (A law has no body.)"""
     has_contract, has_body = function.head + 1 < function.opens, function.opens + 1 < function.closes
     calls = sum(line.count("(") for line in text.split("\n")[function.opens - 1 : function.closes])
     return not (has_contract and has_body), not function.is_pub, calls, function.closes - function.head, at_place(function)
@@ -68,11 +68,11 @@ class HollowRoom:
     witness is at none of these places. The room is gone when it is left."""
 
     def __init__(self, crates, name, places):
-        self.crates, self.name, self.of, self.seconds, self.holes = crates, name, crates.folder(name), 0, {}
+        self.crates, self.name, self.of, self.seconds, self.holes, self.was_accepted = crates, name, crates.folder(name), 0, {}, False
         found = functions_in(self.of, {})
         texts = {it: text_of(f"{self.of}/{it}") for it in {it.file for it in found}}
         named = [it for it in found if it.name != "drop" and not cycle_of(it, texts[it.file])]
-        # Those that can have a hole: no function that shares a proof with others, and no `drop`, whose name in proofs/ this file doesn't know.
+        # Those that can have a hole: no function that shares a proof, and no `drop`, whose name in proofs/ this file doesn't know.
         self.hollow = {at_place(it): it for it in named}
         free = [it for it in named if not it.trait and at_place(it) not in places]
         self.witness = min(free, key=lambda it: worth_as_witness(it, texts[it.file]), default=None)
@@ -163,11 +163,13 @@ class HollowRoom:
         return said
 
     def is_witnessed(self, said):
-        """Whether a check accepted the witness, if there is one, or all but what it calls."""
+        """Whether a check of bodies accepted the witness, if there is one, or all but what it calls."""
         if not self.witness:
             return True
         verdicts = re.findall(rf"^fn {self.name}::{re.escape(self.witness.path())}: (.*)", said, re.M)
-        return bool(verdicts) and all(ACCEPTED.match(it) or CALLS.match(it) for it in verdicts)
+        is_accepted = bool(verdicts) and all(ACCEPTED.match(it) or CALLS.match(it) for it in verdicts)
+        self.was_accepted |= is_accepted
+        return is_accepted
 
     def unaccepted(self, places):
         """Why the prover doesn't accept the functions at these places and the witness as they are, each whole but for the holes; nothing where
@@ -175,7 +177,9 @@ class HollowRoom:
         said = self.check({}, places).strip()
         verdicts = [(line, it[1]) for line, it in zip(said.split("\n"), map(SAID.match, said.split("\n"))) if it]
         refused = next((line for line, verdict in verdicts if not ACCEPTED.match(verdict)), "")
-        return refused or ("" if re.search(r"^only=\d+ holes=\d+$", said, re.M) else said[-400:] or "the check broke off")
+        why = refused or ("" if re.search(r"^only=\d+ holes=\d+$", said, re.M) else said[-400:] or "the check broke off")
+        self.was_accepted |= not why
+        return why
 
     def words(self):
         """The words that check the crate over the libraries below it."""

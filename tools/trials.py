@@ -66,17 +66,18 @@ class Trial:
 
     def attempt(self, control):
         """Tries the edits. A batch is one check, and what it doesn't refuse is tried alone. An edit of anything but bodies can change what the
-        witness rests on, so such a crate's witness is judged without any edit first. In a crate with no witness all functions are."""
+        witness rests on, so such an edit is tried once a check of bodies alone accepted the witness. In a crate with no witness all functions
+        are judged first."""
         batches = self.batches()
         places = set().union(*(it.places for it in batches))
         with HollowRoom(self.crates, self.name, places) as room:
             is_of_all = control == Control.ALL or not room.witness
-            is_first = is_of_all or any(not it.is_inside for it in batches)
-            why = is_first and room.unaccepted(places if is_of_all else set())
-            if why:
-                self.told.update({it: Verdict(False, f"NOT TRIED, since without it {why}") for batch in batches for it in batch.edits})
-                return Proof("", room.seconds)
             for batch in batches:
+                is_due = not room.was_accepted and (is_of_all or not batch.is_inside)
+                why = is_due and room.unaccepted(places if is_of_all else set())
+                if why:
+                    self.told.update({it: Verdict(False, f"NOT TRIED, since without it {why}") for it in self.edits if it not in self.told})
+                    break
                 if len(batch.edits) > 1:
                     self.told.update(beside(room, batch))
                 self.told.update({it: alone(room, it) for it in batch.edits if it not in self.told})
