@@ -37,6 +37,8 @@ pub {name}_spec : {{M : Type 1}} → statement M
 """
 
 
+# How often a check is begun that a signal ends.
+TURNS = 2
 # What the prover says of a function, or of what goes with a type, that it accepts; and how it begins what it says of one.
 ACCEPTED = re.compile(r"(no holes|depends on a hole in|assumed)\b")
 # And what it says of one whose own goals it accepts, but not what that calls, as the function that an edit changes.
@@ -158,8 +160,13 @@ class HollowRoom:
         for path, text in texts.items():
             self.put(path, text)
         paths = {it.path() for it in at_places(self.of, {}, places)} | ({self.witness.path()} if self.witness else set())
-        _, said, seconds = run_in(self.room, [*self.words(), *(word for path in sorted(paths) for word in ("--only", path))])
-        self.seconds += seconds
+        words = [*self.words(), *(word for path in sorted(paths) for word in ("--only", path))]
+        # A check that was killed, as where memory is short, goes on from what it kept.
+        for _ in range(TURNS):
+            status, said, seconds = run_in(self.room, words)
+            self.seconds += seconds
+            if status >= 0:
+                break
         return said
 
     def is_witnessed(self, said):

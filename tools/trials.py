@@ -10,8 +10,8 @@ from crates import Clock, Crates, Proof, Stamps, Task, costs, in_lanes, prove
 from edits import Edit, at_place, at_places, is_read, lost_in, outdated_proof, text_of
 from hollow import HollowRoom, cycle_of
 
-# The most edits that are tried in one check, for which it needs some 4 GB of memory.
-MOST = 120
+# The most edits that are tried in one check. (It takes some 3 GB for these.)
+MOST = 60
 # The processor seconds that the edits of a crate take, and each of them, about.
 SECONDS_OF_CRATE, SECONDS_OF_ONE = 30, 4
 
