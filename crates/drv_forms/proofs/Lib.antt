@@ -3,3 +3,4 @@ mod Documents
 mod Reading
 mod Shells
 mod Words
+mod WordsFound

@@ -4,13 +4,14 @@ ghost use Rattle.drv_forms.specs.Difference.{addition, change_text, changed_text
 ghost use Rattle.drv_forms.specs.Difference.{difference as difference_text, is_among, lines_changes};
 ghost use Rattle.drv_forms.specs.Difference.{marked_line, only_text, pair_changes, removal, replacement};
 ghost use Rattle.drv_forms.specs.Difference.{word_line, word_text, words_of};
-ghost use Rattle.drv_words.specs.Bytes.{space};
-ghost use Rattle.drv_words.specs.Printed.{line_text as printed_line, quoted, words_text};
-ghost use Rattle.std.specs.List.{flat_map};
-ghost use Rattle.std.specs.Prelude.{◌≡◌, ◌∷◌, ◌++◌, IfOk, OnOk, map};
+ghost use Rattle.drv_words.specs.Printed.{line_text as printed_line};
+ghost use Rattle.std.specs.Cmp.Lexicographic.{pointwise};
+ghost use Rattle.std.specs.List.{flat_map, position};
+ghost use Rattle.std.specs.Prelude.{◌≡◌, ◌<◌, ◌++◌, IfOk, IfSome, OnOk, length, map, nat_eq, true};
 
-use drv_words::{Command, Listing, Plan, PlanLine, Word, plan_lines, quote};
+use drv_words::{Command, Listing, Plan, PlanLine, Word, plan_lines, quote, render};
 use std::alloc::{AllocError, Global};
+use std::slice::from_ref;
 
 /// A line of one plan and the line of another in its place, which differ.
 #[derive(Debug, Drop)]
@@ -21,21 +22,53 @@ pub struct LineChange {
     pub other: Option<PlanLine>,
 }
 
-/// Whether a word is one of these.
-fn is_one_of(words: &[Word], word: &Word) -> bool
-    ensures { result ≡ is_among words.now word.now }
+/// Whether these words have a word at this place.
+#[tactic(auto, using(crate::proofs::WordsFound::at_place))]
+fn is_at(words: &[Word], place: usize, word: &Word) -> bool
+    ensures among { result ≡ true → is_among words.now word.now ≡ true }
+    ensures within { result ≡ true → place < length words.now }
 {
-    words.iter().any(|other| word == other)
+    match words.get(place) {
+        Some(other) => word == other,
+        None => false,
+    }
 }
 
-/// Whether a command has this word.
-fn has_word(command: &Command, word: &Word) -> bool
+/// The first place of a word among these.
+fn place_of(words: &[Word], word: &Word) -> Option<usize>
+    ensures is { result ≡ position (pointwise nat_eq word.now) words.now }
+    ensures within { IfSome result (λ place. place < length words.now) }
+{
+    words.iter().position(|other| word == other)
+}
+
+/// Whether a word is one of these. The next place is tried first: there it is where two commands go
+/// on alike. It is the one behind the word that was found last.
+#[tactic(auto, using(crate::proofs::WordsFound::found_so, crate::proofs::WordsFound::lost_so))]
+fn is_one_of(words: &[Word], word: &Word, next: &mut usize) -> bool
+    ensures { result ≡ is_among words.now word.now }
+{
+    if is_at(words, *next, word) {
+        *next += 1;
+        return true;
+    }
+    match place_of(words, word) {
+        Some(place) => {
+            *next = place + 1;
+            true
+        }
+        None => false,
+    }
+}
+
+/// Whether a command has this word, whose next place among the command's is tried first.
+fn has_word(command: &Command, word: &Word, next: &mut usize) -> bool
     ensures { result ≡ is_among (words_of command.now) word.now }
 {
     if word == &command.program {
         return true;
     }
-    is_one_of(command.words.as_slice(), word)
+    is_one_of(command.words.as_slice(), word, next)
 }
 
 /// Adds a word after a mark.
@@ -56,11 +89,12 @@ fn push_missing(
     mark: u8,
     other: &Command,
     word: &Word,
+    next: &mut usize,
 ) -> Result<(), AllocError>
     ensures { OnOk result (text.new.items
         ≡ text.old.items ++ word_text mark (words_of other.now) word.now) }
 {
-    if has_word(other, word) {
+    if has_word(other, word, next) {
         return Ok(());
     }
     push_word(alloc, text, mark, word)
@@ -77,8 +111,9 @@ fn push_all_missing(
     ensures { OnOk result (text.new.items
         ≡ text.old.items ++ flat_map (word_text mark (words_of other.now)) words.now) }
 {
+    let mut next = 0;
     for word in words {
-        push_missing(alloc, text, mark, other, word)?;
+        push_missing(alloc, text, mark, other, word, &mut next)?;
     }
     Ok(())
 }
@@ -94,41 +129,15 @@ fn push_only(
     ensures { OnOk result (text.new.items
         ≡ text.old.items ++ only_text mark command.now other.now) }
 {
-    push_missing(alloc, text, mark, other, &command.program)?;
+    push_missing(alloc, text, mark, other, &command.program, &mut 0)?;
     push_all_missing(alloc, text, mark, other, command.words.as_slice())
 }
 
-/// Adds a word after a space, as it is printed.
-fn push_shown(alloc: Global, text: &mut Vec<u8>, word: &Word) -> Result<(), AllocError>
-    ensures { OnOk result (text.new.items ≡ text.old.items ++ space ∷ quoted word.now) }
-{
-    text.push(b' ')?;
-    text.extend_from_slice(quote(alloc, word)?.as_bytes())
-}
-
-/// Adds words, each after a space, as they are printed.
-fn push_all_shown(alloc: Global, text: &mut Vec<u8>, words: &[Word]) -> Result<(), AllocError>
-    ensures { OnOk result (text.new.items ≡ text.old.items ++ words_text words.now) }
-{
-    for word in words {
-        push_shown(alloc, text, word)?;
-    }
-    Ok(())
-}
-
 /// The text of one line.
-fn line_text(alloc: Global, line: &PlanLine) -> Result<Vec<u8>, AllocError>
-    ensures { IfOk result (λ text. text.items ≡ printed_line line.now) }
+fn line_text(alloc: Global, line: &PlanLine) -> Result<Word, AllocError>
+    ensures { IfOk result (λ text. text ≡ printed_line line.now) }
 {
-    let mut text = Vec::new(alloc);
-    push_shown(alloc, &mut text, &line.command.program)?;
-    push_all_shown(alloc, &mut text, line.command.words.as_slice())?;
-    if line.piped {
-        text.extend_from_slice(b" |\n")?;
-    } else {
-        text.push(b'\n')?;
-    }
-    Ok(text)
+    render(alloc, from_ref(line))
 }
 
 /// Adds a line after a mark.
@@ -141,7 +150,7 @@ fn push_marked(
     ensures { OnOk result (text.new.items ≡ text.old.items ++ marked_line mark line.now) }
 {
     text.push(mark)?;
-    text.extend_from_slice(line_text(alloc, line)?.as_slice())
+    text.extend_from_slice(line_text(alloc, line)?.as_bytes())
 }
 
 /// Adds two lines that differ, and the words that only one of them has.
@@ -232,7 +241,7 @@ fn push_pair(
 ) -> Result<(), AllocError>
     ensures { OnOk result (changes.new ≡ changes.old ++ pair_changes line.now other.now) }
 {
-    if line_text(alloc, line)?.as_slice() == line_text(alloc, other)?.as_slice() {
+    if line_text(alloc, line)?.as_bytes() == line_text(alloc, other)?.as_bytes() {
         return Ok(());
     }
     changes.push(replacement(line, other)?)?;
