@@ -1,1 +1,2 @@
 mod Marking
+mod Newlines

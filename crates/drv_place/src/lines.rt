@@ -3,8 +3,9 @@
 ghost use Rattle.drv_place.specs.LinePlaces.{line_after, line_before, line_number};
 ghost use Rattle.drv_specs.specs.Lines.{ends_line};
 ghost use Rattle.std.specs.List.{position};
-ghost use Rattle.std.specs.Prelude.{◌≡◌, ◌<◌, ◌≤◌, IfSome, drop, filter, length, take};
+ghost use Rattle.std.specs.Prelude.{◌≡◌, ◌<◌, ◌≤◌, IfNone, IfSome, drop, filter, length, suc, take};
 
+use bstr::ByteSlice;
 use drv_words::parted;
 
 /// Whether a byte ends a line.
@@ -37,12 +38,32 @@ fn back(text: &[u8], count: usize) -> &[u8]
     }
 }
 
-/// How many newlines there are.
+/// What follows the first newline.
+#[tactic(auto, using(crate::proofs::Newlines::one_more, crate::proofs::Newlines::none_left))]
+fn behind_newline(bytes: &[u8]) -> Option<&[u8]>
+    ensures none { IfNone result (length (filter ends_line bytes.now) ≡ 0) }
+    ensures some { IfSome result (λ rest. length (filter ends_line bytes.now)
+        ≡ suc (length (filter ends_line rest.now))) }
+    ensures shorter { IfSome result (λ rest. length rest.now < length bytes.now) }
+{
+    match bytes.find_byte(b'\n') {
+        Some(at) => Some(back(bytes, at + 1)),
+        None => None,
+    }
+}
+
+/// How many newlines there are: it goes from one to the next, and doesn't look at each byte.
 fn count_newlines(bytes: &[u8]) -> usize
     ensures is { result ≡ length (filter ends_line bytes.now) }
     ensures few { result ≤ length bytes.now }
 {
-    bytes.iter().filter(|byte| ends_line(**byte)).count()
+    let mut count = 0;
+    let mut left = bytes;
+    while let Some(rest) = behind_newline(left) {
+        count += 1;
+        left = rest;
+    }
+    count
 }
 
 /// The place of the first newline.
