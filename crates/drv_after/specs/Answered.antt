@@ -19,7 +19,7 @@ use Rattle.std.specs.Prelude.{◌≡◌, ◌&&◌, Bool, List, [], ◌∷◌, No
 -- What the steps of a run are answered, where some answers are given ahead: the first that is given for the step's place and is of the
 -- step's kind, or else that all is well (this project's profile).
 
--- whether two places are the same
+-- whether two places are the same: those of one kind, with the same numbers of job, group and index
 abbrev pub is_same : Place → Place → Bool
 is_same (place.Command k g i) (place.Command l h j) = nat_eq k l && (nat_eq g h && nat_eq i j)
 is_same (place.Temp k i) (place.Temp l j) = nat_eq k l && nat_eq i j

@@ -12,7 +12,7 @@ use Rattle.std.specs.Cmp.Lexicographic.{same_text}
 use Rattle.std.specs.List.{list_any, onto_first, slice_split, starts_with}
 use Rattle.std.specs.Prelude.{slice_index_or}
 
--- For the look-up of a word among the known names (src/known.rt): a line of a text begins with it, or doesn't.
+-- For the look-up of a word among the names of options beyond the table (src/known.rt): a line of a text begins with it, or doesn't.
 
 -- The test of a byte by which std's `slice_split` cuts lines.
 abbrev ends : ℕ → Bool
@@ -79,7 +79,7 @@ begun_before : (line more : List ℕ) → list_any ends line ≡ false → is_kn
 begun_before line more whole =
     ap (list_any (same line)) (cut line more ∙ ap (λ l. l ++ lines more) (alone line whole)) ∙ is_first line (lines more)
 
--- Both cases, by the byte that follows the line (`is_ended`, specs/Code/Known.antt).
+-- A text that begins with this line, and where the line ends there (`is_ended`, specs/Code/Known.antt), has it: both cases above.
 begun_ended : (line rest : List ℕ) → is_ended rest ≡ true → list_any ends line ≡ false → is_known (line ++ rest) line ≡ true
 begun_ended line [] ended whole = begun_alone line whole
 begun_ended line (b ∷ rest) ended whole = ap (λ c. is_known (line ++ c ∷ rest) line) (eqb-true b newline ended)

@@ -149,7 +149,7 @@ module _ (name : List ℕ) where
           by false is none later = ap (λ l. t ∷ l) (later none)
               ∙ sym (ap (λ b. cond b texts (t ∷ remove_entry (pointwise nat_eq name) texts)) is)
 
--- an optional value that is not there is None
+-- for text_at: an optional value of which is_some is false is None
 pub none_of : {X : Type 0} (o : Option X) → is_some o ≡ false → o ≡ None
 none_of None is = refl
 none_of (Some x) is = absurd cc

@@ -1,4 +1,6 @@
 //! The built-in texts with their trees. Written by tools/builtin_trees out of specs/Builtin.antt.
+//! A tree that is not that of its text is refused: `named_rows` and `pair_rows` (builtin_specs.rt)
+//! ensure `IsWritten` of each.
 
 use crate::builtin_specs::{Named, Pair, PairText};
 use drv_syntax::{LabelMark, Leaf, TempKind, TestKind, Token, TokenKind, WrittenTree};
@@ -16,8 +18,8 @@ macro_rules! tokens {
     };
 }
 
-/// The marks of a tree: where each word begins and ends, whether a star follows it, and whether a
-/// `!` precedes it.
+/// The marks of a tree, one for each token in order: where the word that the token names begins and
+/// ends in `words` (0 0 if it names none), whether a star follows it, and whether a `!` precedes it.
 macro_rules! marks {
     ($($start:literal $end:literal $starred:literal $negated:literal),*) => {
         &[$(LabelMark {

@@ -76,6 +76,6 @@ none_front : (name : List ℕ) (fs : List (List ℕ)) → Free fs → any_of (is
 none_front name [] h = refl
 none_front name (f ∷ fs) h = rw (no_front name f h.0) (none_front name fs h.1)
 
--- no front of a function's name ends in a (
+-- no front of a function's name ends in a (: one refl for each name of `functions`
 pub bracket_ends : (name : List ℕ) → is_function_front (name ++ 40 ∷ []) ≡ false
 bracket_ends name = none_front name functions (refl, (refl, (refl, (refl, (refl, (refl, (refl, tt)))))))

@@ -7,7 +7,8 @@ use Rattle.drv_words.specs.Response.{SplitsOnto}
 use Rattle.std.specs.List.{list_any}
 use Rattle.std.specs.Prelude.{◌≡◌, ◌⊎◌, ◌++◌, Err, List, None, Ok, Option, Result, Some, false, is_some, length, reverse, ℕ}
 
--- The replacement of one word, and the words that are done. Only private clauses cite it: `Expands` defines what `expand` returns.
+-- The replacement of one word by the words of its response file, and the words that are done (src/expansion.rt). Only private clauses cite
+-- it: `Expands` defines what `expand` returns.
 
 -- a word stays, or the words of its file's text are put behind those that are done, from `start` on, or it is refused
 abbrev pub IsReplaced : Facts → List ℕ → List (List ℕ) → List (List ℕ) → Result (Option ℕ) ArgsFault → Type 0

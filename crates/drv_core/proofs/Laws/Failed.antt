@@ -172,7 +172,7 @@ other_codes j k (e ∷ E) other a = nothing (ap (λ (t : Bool). if t then answer
 pub fails_where : (plan : Plan) (N : ℕ) (o : Answers) (E : List RunEvent) → Windowed plan N o E → FailsWhere plan o E
 fails_where plan N o E w k lt = job_is (get_or o.jobs k no_answers) ∙ ap (λ n. not (nat_eq n 0)) (sym codes_are)
   where
-    -- Plan: the codes of source k are those of its own story (`told`, `after`), so the greatest of them is that of its answers
+    -- The way: the codes of source k are those of its own story (`told`, `after`), so the greatest of them is that of its answers
     -- (`codes_are`).
     told : of k w.blocks ≡ story k (get_or plan.jobs k no_job) (get_or o.jobs k no_answers)
     told = subst (λ i. of i w.blocks ≡ story i (get_or plan.jobs k no_job) (get_or o.jobs k no_answers))

@@ -26,10 +26,11 @@ use Rattle.std.proofs.Common.{nat_eq, nat_lt, refl, subst, sym, ℕ}
 -- Names: `bs` is blocks of one source, in order. `b` is one block. `k` is the number of a job in the plan. `g` is the number of a group of
 -- a job's commands. `t` is the value of a test, so that `by` can go by both cases. `s` is how many children were started before, and `w`
 -- how many were waited for. `i` is the next member of a group. `told` says whether a report was written. `n` is how many members a group
--- has. `p` is a place. `rest` is the blocks that follow. `cs` is groups of commands. `events_of` lists the events of blocks. `group_blocks`
--- is the blocks of groups: of each its starts, then its waits. `whole_groups` says that answers are complete up to the first group with a
--- fault. `own_removals` is the blocks in which a failed job removes its failure files. `claims_failed` says whether a claim of the job
--- failed. `wait_blocks` is the blocks of a group's waits. `starts_block` is the events of a group's starts.
+-- has. `p` is a place. `rest` is the blocks that follow. `cs` is groups of commands, or the commands of one group. `events_of` lists the
+-- events of blocks. `group_blocks` is the blocks of groups: of each its starts, then its waits. `whole_groups` says that answers are
+-- complete up to the first group with a fault, and `whole_group` that those of one group are. `own_removals` is the blocks in which a
+-- failed job removes its failure files. `claims_failed` says whether a claim of the job failed. `wait_blocks` is the blocks of a group's
+-- waits. `starts_block` is the events of a group's starts.
 
 -- of blocks before which s children were started and w were waited for: each wait has a child to wait for, and at the end none is left
 abbrev pub Fair : ℕ → ℕ → List Block → Type 0

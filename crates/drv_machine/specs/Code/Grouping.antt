@@ -6,7 +6,8 @@ use Rattle.std.specs.Prelude.{◌++◌, List, [], ◌∷◌, Ok, true}
 
 -- Commands that go into groups, line by line. For the loop of `groups_of` (src/machine/finishing.rt) alone.
 
--- commands of a group that is begun, and the groups after them
+-- commands of a group that is begun, and the groups of the lines after them. Piped on (`true`), the begun ones go to the front of the
+-- first of these, or are a group of their own where there is none.
 abbrev pub ahead : List Command → List (List Command) → List (List Command)
 ahead [] gs = gs
 ahead (c ∷ begun) gs = add_command true c (ahead begun gs)

@@ -6,8 +6,9 @@ use Rattle.drv_system.specs.Facts.{Facts}
 use Rattle.drv_system.specs.Known.{Is, Unasked}
 use Rattle.std.specs.Prelude.{Err, Ok}
 
--- A part of a text with its atoms cut as they come: what a call that works it does to what it holds (this project's
--- profile). The clauses of the whole walk (src/turns.rt and what it calls) say what a call does by `run`.
+-- What a call of the code that walks a part of a text does to its machine: it cuts the part's atoms into words and commands as they come
+-- (this project's profile). An atom is a byte, the end of a word or command, or a mark (Working). The clauses of the whole walk
+-- (src/turns.rt and what it calls) say what a call does by `run`.
 
 -- what has been cut, and the world
 pub record Machine : Type 0 where

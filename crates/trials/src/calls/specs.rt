@@ -141,7 +141,8 @@ fn add_loaded(
     }
 }
 
-/// Adds the pairs: of each its key, a blank, its text, and a bar.
+/// Adds the suffix pairs: of each its key (a suffix, or `@` and a language), a blank, its text, and
+/// a bar.
 fn add_pairs(set: &SpecSet, out: &mut Transcript) -> Result<(), AllocError> {
     for (key, value) in set.pairs() {
         out.add(key.as_bytes())?;

@@ -9,7 +9,7 @@ use Rattle.drv_syntax.specs.Parsed.{tree_of}
 use Rattle.std.proofs.Common.{Ok, ap, arith, length, refl}
 use Rattle.std.specs.Prelude.{Some, option_map}
 
--- open_text (src/named.rt). The text of a name is opened, or put at once; one that isn't there gives nothing.
+-- open_text (src/named.rt). The text of a name is opened; one that isn't there gives nothing.
 
 -- the name has no text, and gives nothing
 pub returns-in_default-clause-does : goal.returns-in_default-clause-does

@@ -18,7 +18,9 @@ use Rattle.std.specs.Prelude.{option_to_list}
 pub skip-requires : goal.skip-requires
 skip-requires g c = c.requires.lain
 
--- before the first round nothing is closed
+-- before the first round nothing is closed: only `skip` has passed over alternatives that have no effect, and the walk still has the same
+-- left. Where items and parts lie depends on no answer of the system, so `start` says it for none (`no_facts`). `given_of` is what the
+-- rest of a walk gives.
 pub loop-walk-init : goal.loop-walk-init
 loop-walk-init g c =
     let same = ap (λ (v : Walk). v.text.now) c.skip.ensures.same in
