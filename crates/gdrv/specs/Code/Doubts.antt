@@ -1,15 +1,16 @@
-use Rattle.std.specs.Prelude.{◌-◌, ◌==◌, ◌&&◌, ◌||◌, Bool, List, get_or, length, nat_lt, ℕ}
+use Rattle.std.specs.List.{list_any}
+use Rattle.std.specs.Prelude.{◌-◌, ◌==◌, ◌&&◌, Bool, List, codes, get_or, length, nat_lt, ℕ}
 
 -- The ends of the long options (`long_options` of specs/Meant): a word with other ends was not meant to be one of them. For `may_be_meant`
 -- (src/meant.rt) alone.
 
--- whether a byte is the second one of a long option: -, T, X, a, d, i, p or s
+-- whether a byte is the second one of a long option
 abbrev pub is_second : ℕ → Bool
-is_second b = b == 45 || b == 84 || b == 88 || b == 97 || b == 100 || b == 105 || b == 112 || b == 115
+is_second b = list_any (λ c. b == c) (codes "-TXadips")
 
--- whether a byte is the last one of a long option: =, a, e, m, o, r, s, t or x
+-- whether a byte is the last one of a long option
 abbrev pub is_last : ℕ → Bool
-is_last b = b == 61 || b == 97 || b == 101 || b == 109 || b == 111 || b == 114 || b == 115 || b == 116 || b == 120
+is_last b = list_any (λ c. b == c) (codes "=aemorstx")
 
 -- the last byte of a word
 abbrev pub last_of : List ℕ → ℕ
