@@ -3,7 +3,7 @@ use Rattle.drv_after.specs.declared.answers.Given.{Given}
 use Rattle.drv_after.specs.declared.worded.GivenFault.TheVariants.{NoAnswer, NoForm, NoPlace}
 use Rattle.drv_after.specs.declared.worded.GivenFault.{GivenFault}
 use Rattle.drv_words.specs.Bytes.{equals, period}
-use Rattle.drv_words.specs.FileNames.{parted}
+use Rattle.drv_words.specs.FileNames.{split_at_last}
 use Rattle.drv_words.specs.declared.answers.Answer.{Answer}
 use Rattle.drv_words.specs.declared.answers.Answer.TheVariants as answer
 use Rattle.drv_words.specs.declared.answers.ClaimAnswer.TheVariants as claim
@@ -75,7 +75,7 @@ by_front plan (Some parts) index = placed_in parts.1 (job_named plan parts.0) (n
 -- the place, by a word split at its last period
 abbrev pub by_parts : Plan → Option (List ℕ × List ℕ) → Option Place
 by_parts plan None = None
-by_parts plan (Some parts) = by_front plan (parted period parts.0) parts.1
+by_parts plan (Some parts) = by_front plan (split_at_last period parts.0) parts.1
 
 -- a place that the plan has
 abbrev pub if_there : Plan → Option Place → Option Place
@@ -84,7 +84,7 @@ if_there plan (Some p) = if is_some (name_at plan p) then Some p else None
 
 -- the place that a word names, if the plan has it
 abbrev pub place_named : Plan → List ℕ → Option Place
-place_named plan word = if_there plan (by_parts plan (parted period word))
+place_named plan word = if_there plan (by_parts plan (split_at_last period word))
 
 -- ANSWER is of the place's kind.
 
@@ -145,4 +145,4 @@ given_by plan (Some parts) = given_there (place_named plan parts.0) parts.1
 
 -- the answer that a word gives ahead, or the refusal
 abbrev pub given_of : Plan → List ℕ → Result Given GivenFault
-given_of plan word = given_by plan (parted equals word)
+given_of plan word = given_by plan (split_at_last equals word)

@@ -8,7 +8,8 @@ ghost use Rattle.std.specs.Prelude.{◌≡◌, ◌≤◌, IfSome, Some};
 use crate::answers::Given;
 use crate::places::name_at;
 use drv_words::{
-    Answer, ClaimAnswer, NotStarted, Place, Plan, RemoveAnswer, StartAnswer, WaitAnswer, parted,
+    Answer, ClaimAnswer, NotStarted, Place, Plan, RemoveAnswer, StartAnswer, WaitAnswer,
+    split_at_last,
 };
 
 /// Why a word gives no answer.
@@ -102,8 +103,8 @@ fn listed_place(word: &[u8], job: usize, index: usize) -> Option<Place>
 fn place_named(plan: &Plan, word: &[u8]) -> Option<Place>
     ensures { result ≡ place_named plan.now word.now }
 {
-    let (front, index) = parted(b'.', word)?;
-    let (job, list) = parted(b'.', front)?;
+    let (front, index) = split_at_last(b'.', word)?;
+    let (job, list) = split_at_last(b'.', front)?;
     let job = job_named(plan, job)?;
     let index = number_of(index)?;
     let place = listed_place(list, job, index)?;
@@ -189,7 +190,7 @@ fn answer_named(place: Place, word: &[u8]) -> Option<Answer>
 pub fn given_of(plan: &Plan, word: &[u8]) -> Result<Given, GivenFault>
     ensures { result ≡ given_of plan.now word.now }
 {
-    let Some((place, answer)) = parted(b'=', word) else {
+    let Some((place, answer)) = split_at_last(b'=', word) else {
         return Err(GivenFault::NoForm);
     };
     let Some(place) = place_named(plan, place) else {

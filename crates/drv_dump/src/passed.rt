@@ -157,7 +157,7 @@ fn push_text(texts: &mut Word, name: &[u8], words: &[u8]) -> Result<(), AllocErr
 }
 
 /// Two texts as one.
-fn joined(alloc: Global, first: &[u8], second: &[u8]) -> Result<Word, AllocError>
+fn join(alloc: Global, first: &[u8], second: &[u8]) -> Result<Word, AllocError>
     ensures { IfOk result (λ word. word ≡ first.now ++ second.now) }
 {
     let mut word = Word::from_bytes(alloc, first)?;
@@ -170,8 +170,8 @@ fn push_copy(alloc: Global, entry: &Entry, texts: &mut Word) -> Result<(), DumpF
     ensures { Gives dump_fault.Memory (λ u. texts.new) result (Ok (texts.old ++ copy_of entry.now)) }
 {
     let words = copy_or_refusal(alloc, entry)?;
-    let name = joined(alloc, b"pass_", entry.name.as_bytes())?;
-    let body = joined(alloc, b"%{-gdrv-none:}", words.as_bytes())?;
+    let name = join(alloc, b"pass_", entry.name.as_bytes())?;
+    let body = join(alloc, b"%{-gdrv-none:}", words.as_bytes())?;
     push_text(texts, name.as_bytes(), body.as_bytes())?;
     Ok(())
 }

@@ -36,7 +36,6 @@ pub fn call<S: System>(
     sys: &mut S,
     facts: &mut FactTable,
 ) -> Result<Option<Word>, FuncsFault>
-    requires { length hidden.now ≡ length switches.now }
     ensures asks { Asks (S.events sys.old) (S.events sys.new) facts.old facts.new }
     ensures gives { (F : Facts) → Extends facts.new F → GivesKnown FuncsFault.Memory
         (λ word. record { given = word; outputs = outputs.new }) result

@@ -21,7 +21,6 @@ fn value_of(
     switches: &Switches<'_>,
     hidden: &Hidden,
 ) -> Result<Option<Word>, AllocError>
-    requires { length hidden.now ≡ length switches.now }
     ensures { IfOk result (λ value. value ≡ value_of switches.now hidden.now prefix.now) }
 {
     let pattern = Pattern {
@@ -88,14 +87,13 @@ pub fn version_compare(
     switches: &Switches<'_>,
     hidden: &Hidden,
 ) -> Result<Option<Word>, FuncsFault>
-    requires { length hidden.now ≡ length switches.now }
     ensures { Gives FuncsFault.Memory (λ given. given) result
         (version_compare switches.now hidden.now args.now) }
 {
     let [name, args @ ..] = args else {
         return Err(FuncsFault::WrongCount(Function::VersionCompare));
     };
-    let Some(operator) = Operator::named(name.as_bytes()) else {
+    let Some(operator) = Operator::by_name(name.as_bytes()) else {
         return Err(FuncsFault::BadOperator(name.clone()?));
     };
     with_versions(alloc, operator, args, switches, hidden)
@@ -110,7 +108,6 @@ fn with_versions(
     switches: &Switches<'_>,
     hidden: &Hidden,
 ) -> Result<Option<Word>, FuncsFault>
-    requires { length hidden.now ≡ length switches.now }
     ensures { Gives FuncsFault.Memory (λ given. given) result
         (with_versions switches.now hidden.now operator (takes_two operator) args.now) }
 {

@@ -24,7 +24,7 @@ pub enum Function {
 
 impl Function {
     /// The function with this name.
-    pub fn named(name: &[u8]) -> Option<Function>
+    pub fn by_name(name: &[u8]) -> Option<Function>
         ensures { result ≡ function_of name.now }
     {
         if name == b"getenv".as_slice() {

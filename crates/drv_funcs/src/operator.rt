@@ -23,7 +23,7 @@ pub enum Operator {
 
 impl Operator {
     /// The comparison with this name.
-    pub fn named(word: &[u8]) -> Option<Operator>
+    pub fn by_name(word: &[u8]) -> Option<Operator>
         ensures { result ≡ operator_of word.now }
     {
         match word {

@@ -8,11 +8,11 @@ use Rattle.std.proofs.Common.{◌≡◌, ◌<◌, ◌≤◌, ◌+◌, ◌-◌, �
 use Rattle.std.proofs.Common.{append-nil, arith, drop, filter, get_or, if◌then◌else◌, length, nat_eq, nat_lt, not, refl, set, suc, sym}
 use Rattle.std.proofs.Common.{take, zero, ℕ}
 use Rattle.std.proofs.Math.Bool.{or-false, or-true}
-use Rattle.std.proofs.lemmas.Bool.{eqb-true, lt-ltb}
+use Rattle.std.proofs.lemmas.Bool.{eqb-true, lt-ltb, ltb-false, ltb-true, ne_eqb}
 use Rattle.std.proofs.lemmas.Cmp.{nat_eq_equiv}
 use Rattle.std.proofs.lemmas.List.{drop_all, drop_more, get_or_default, get_or-set_other, get_or-set_same, length-set}
 use Rattle.std.proofs.lemmas.List.Elements.{All-drop, All-get_or, All-take}
-use Rattle.std.proofs.lemmas.List.Folds.{list_any_at}
+use Rattle.std.proofs.lemmas.List.Folds.{list_any_at, list_any_none}
 use Rattle.std.proofs.lemmas.List.FromFn.{get_or-range_with_len, length-range_with_len}
 use Rattle.std.proofs.lemmas.List.Kept.{IsNonDecreasingBy-filter}
 use Rattle.std.proofs.lemmas.List.Sorted.{list_any-IsPermutation}
@@ -227,20 +227,28 @@ block_has names order pattern start end i o b within =
     all_of false = refl
 
 -- hiding what a pattern names leaves as many flags
-hidden_by-length : (pattern : Pattern) (names : List (List ℕ)) (hidden : List Bool) → length hidden ≡ length names
-    → length (hidden_by pattern names hidden) ≡ length names
-hidden_by-length pattern [] hidden same = refl
-hidden_by-length pattern (name ∷ names) [] same = absurd (omega (arith, same))
-hidden_by-length pattern (name ∷ names) (h ∷ hidden) same = ap suc (hidden_by-length pattern names hidden (omega (arith, same)))
+pub hidden_by-length : (pattern : Pattern) (names : List (List ℕ)) (hidden : List Bool) → length (hidden_by pattern names hidden)
+    ≡ length hidden
+hidden_by-length pattern [] hidden = refl
+hidden_by-length pattern (name ∷ names) [] = refl
+hidden_by-length pattern (name ∷ names) (h ∷ hidden) = ap suc (hidden_by-length pattern names hidden)
 
 -- after what a pattern names is hidden a flag is set if it was before, or the pattern names the switch
-hidden_by-at : (pattern : Pattern) (names : List (List ℕ)) (hidden : List Bool) (i : ℕ) → length hidden ≡ length names → i < length names
+hidden_by-at : (pattern : Pattern) (names : List (List ℕ)) (hidden : List Bool) (i : ℕ) → i < length hidden → i < length names
     → get_or (hidden_by pattern names hidden) i false ≡ (get_or hidden i false || is_named pattern (name_at names i))
-hidden_by-at pattern [] hidden i same within = absurd (omega (arith, within))
-hidden_by-at pattern (name ∷ names) [] i same within = absurd (omega (arith, same))
-hidden_by-at pattern (name ∷ names) (h ∷ hidden) zero same within = refl
-hidden_by-at pattern (name ∷ names) (h ∷ hidden) (suc i) same within = hidden_by-at pattern names hidden i (omega (arith, same))
+hidden_by-at pattern [] hidden i here within = absurd (omega (arith, within))
+hidden_by-at pattern (name ∷ names) [] i here within = absurd (omega (arith, here))
+hidden_by-at pattern (name ∷ names) (h ∷ hidden) zero here within = refl
+hidden_by-at pattern (name ∷ names) (h ∷ hidden) (suc i) here within = hidden_by-at pattern names hidden i (omega (arith, here))
     (omega (arith, within))
+
+-- a flag of no switch stays as it is
+hidden_by-past : (pattern : Pattern) (names : List (List ℕ)) (hidden : List Bool) (i : ℕ) → length names ≤ i
+    → get_or (hidden_by pattern names hidden) i false ≡ get_or hidden i false
+hidden_by-past pattern [] hidden i past = refl
+hidden_by-past pattern (name ∷ names) [] i past = refl
+hidden_by-past pattern (name ∷ names) (h ∷ hidden) zero past = absurd (omega (arith, past))
+hidden_by-past pattern (name ∷ names) (h ∷ hidden) (suc i) past = hidden_by-past pattern names hidden i (omega (arith, past))
 
 -- two lists of flags that agree at each place are the same
 same_flags : (xs ys : List Bool) → length xs ≡ length ys → ((i : ℕ) → i < length xs → get_or xs i false ≡ get_or ys i false) → xs ≡ ys
@@ -251,21 +259,6 @@ same_flags (x ∷ xs) (y ∷ ys) same at =
     let rest : xs ≡ ys = same_flags xs ys (omega (arith, same)) (λ i within. at (suc i) (omega (arith, within))) in
     ap (λ z. z ∷ xs) (at 0 (omega arith)) ∙ ap (λ zs. y ∷ zs) rest
 
--- hiding the places of the block hides what the pattern names
-pub hidden_block : (names : List (List ℕ)) (order : List ℕ) (hidden : List Bool) (pattern : Pattern) (start end : ℕ) → IsOrder names order
-    → IsBlock names order pattern start end → length hidden ≡ length names → all_hidden (take (end - start) (drop start order)) hidden
-    ≡ hidden_by pattern names hidden
-hidden_block names order hidden pattern start end o b same =
-    same_flags (all_hidden places hidden) (hidden_by pattern names hidden) (hidden_length places hidden ∙ same
-    ∙ sym (hidden_by-length pattern names hidden same)) (λ i within.
-    let in' : i < length hidden = omega (arith, hidden_length places hidden, within) in
-    let in'' : i < length names = omega (arith, in', same) in
-    hidden_at places hidden i in' ∙ ap (λ t. get_or hidden i false || t) (block_has names order pattern start end i o b in'')
-    ∙ sym (hidden_by-at pattern names hidden i same in''))
-  where
-    places : List ℕ
-    places = take (end - start) (drop start order)
-
 -- the places of the block are places of the line
 pub block_within : (names : List (List ℕ)) (order : List ℕ) (pattern : Pattern) (start end : ℕ) → IsOrder names order
     → IsBlock names order pattern start end → (k : ℕ) → k < length (take (end - start) (drop start order))
@@ -273,6 +266,41 @@ pub block_within : (names : List (List ℕ)) (order : List ℕ) (pattern : Patte
 block_within names order pattern start end o b k within = All-get_or (λ i. i < length names) (take (end - start) (drop start order)) k 0
     within (All-take (λ i. i < length names) (end - start) (drop start order) (All-drop (λ i. i < length names) start order
     (λ j d inside. in_range names order o j d inside)))
+
+-- a place past the line is none of the block's
+block_lacks : (names : List (List ℕ)) (order : List ℕ) (pattern : Pattern) (start end i : ℕ) → IsOrder names order
+    → IsBlock names order pattern start end → length names ≤ i → list_any (nat_eq i) (take (end - start) (drop start order)) ≡ false
+block_lacks names order pattern start end i o b past = list_any_none (nat_eq i) places (λ k d within.
+    let in' : get_or places k 0 < length names = block_within names order pattern start end o b k within in
+    let other : i ≡ get_or places k d → ⊥ = λ same. omega (arith, in', past, same, get_or_default places k d 0 within) in
+    ne_eqb i (get_or places k d) other)
+  where
+    places : List ℕ
+    places = take (end - start) (drop start order)
+
+-- hiding the places of the block hides what the pattern names
+pub hidden_block : (names : List (List ℕ)) (order : List ℕ) (hidden : List Bool) (pattern : Pattern) (start end : ℕ) → IsOrder names order
+    → IsBlock names order pattern start end → all_hidden (take (end - start) (drop start order)) hidden ≡ hidden_by pattern names hidden
+hidden_block names order hidden pattern start end o b =
+    same_flags (all_hidden places hidden) (hidden_by pattern names hidden) (hidden_length places hidden
+    ∙ sym (hidden_by-length pattern names hidden)) (λ i within.
+    let here : i < length hidden = omega (arith, hidden_length places hidden, within) in
+    hidden_at places hidden i here ∙ by i here (nat_lt i (length names)) refl)
+  where
+    places : List ℕ
+    places = take (end - start) (drop start order)
+
+    -- Plan: a place of the line, or one past it.
+    by : (i : ℕ) → i < length hidden → (t : Bool) → nat_lt i (length names) ≡ t
+        → (get_or hidden i false || list_any (nat_eq i) places) ≡ get_or (hidden_by pattern names hidden) i false
+    by i here true e =
+        let within : i < length names = ltb-true i (length names) e in
+        ap (λ t. get_or hidden i false || t) (block_has names order pattern start end i o b within)
+        ∙ sym (hidden_by-at pattern names hidden i here within)
+    by i here false e =
+        let past : length names ≤ i = ltb-false i (length names) e in
+        ap (λ t. get_or hidden i false || t) (block_lacks names order pattern start end i o b past)
+        ∙ or-false (get_or hidden i false) ∙ sym (hidden_by-past pattern names hidden i past)
 
 -- The same for the places that a pattern names.
 
@@ -304,9 +332,9 @@ named_any names named hidden pattern n = ap (list_any (counts names hidden (is_b
 
 -- hiding the named places hides what the pattern names
 pub named_hidden : (names : List (List ℕ)) (named : List ℕ) (hidden : List Bool) (pattern : Pattern) → AreNamed names pattern named
-    → length hidden ≡ length names → all_hidden named hidden ≡ hidden_by pattern names hidden
-named_hidden names named hidden pattern n same = ap (λ places. all_hidden places hidden) n.part ∙ hidden_block names n.order hidden pattern
-    n.start n.end n.in_order n.block same
+    → all_hidden named hidden ≡ hidden_by pattern names hidden
+named_hidden names named hidden pattern n = ap (λ places. all_hidden places hidden) n.part ∙ hidden_block names n.order hidden pattern
+    n.start n.end n.in_order n.block
 
 -- One step of a loop over places.
 

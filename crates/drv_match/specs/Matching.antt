@@ -74,4 +74,4 @@ IsNextHit names hidden pattern from (Some next) =
 -- the hidden switches after a pattern is hidden too (GCC manual, "Spec Files", `%<S`)
 abbrev pub hidden_by : Pattern → List (List ℕ) → List Bool → List Bool
 hidden_by pattern (name ∷ names) (hidden ∷ others) = (hidden || is_named pattern name) ∷ hidden_by pattern names others
-hidden_by pattern _ _ = []
+hidden_by pattern _ hidden = hidden

@@ -1,7 +1,6 @@
 //! The hidden switches of a line.
 
-ghost use Rattle.std.specs.Prelude.{◌≡◌, ◌<◌, Bool, IfOk, List, Some, false, length, replicate};
-ghost use Rattle.std.specs.Prelude.{set, slice_get, true};
+ghost use Rattle.std.specs.Prelude.{◌≡◌, Bool, IfOk, List, false, get_or, length, replicate, set, true};
 
 use crate::switches::Switches;
 use std::alloc::{AllocError, Global};
@@ -29,19 +28,19 @@ impl Hidden {
         })
     }
 
-    /// Whether the switch at this place is hidden.
+    /// Whether the switch at this place is hidden. None is after the last one.
     pub(crate) fn contains(&self, i: usize) -> bool
-        requires { i < length self.now }
-        ensures { slice_get self.now i ≡ Some result }
+        ensures { result ≡ get_or self.now i false }
     {
-        self.flags[i]
+        i < self.flags.len() && self.flags[i]
     }
 
-    /// Hides the switch at this place.
+    /// Hides the switch at this place, if there is one.
     pub(crate) fn add(&mut self, i: usize)
-        requires { i < length self.old }
         ensures { self.new ≡ set self.old i true }
     {
-        self.flags[i] = true;
+        if i < self.flags.len() {
+            self.flags[i] = true;
+        }
     }
 }

@@ -110,7 +110,6 @@ impl<'a> Switches<'a> {
         pattern: &Pattern<'_>,
         hidden: &Hidden,
     ) -> Result<Listing<usize>, AllocError>
-        requires { length hidden.now ≡ length self.now }
         ensures { IfOk result (λ places. places ≡ hits self.now hidden.now pattern.now) }
     {
         let named = self.named_places(pattern);
@@ -131,7 +130,6 @@ impl<'a> Switches<'a> {
         patterns: &[Pattern<'_>],
         hidden: &Hidden,
     ) -> Result<Listing<usize>, AllocError>
-        requires { length hidden.now ≡ length self.now }
         ensures places { IfOk result
             (λ places. places ≡ any_hits self.now hidden.now patterns.now) }
         ensures within { IfOk result (λ places. All (λ place. place < length self.now) places) }
@@ -150,7 +148,6 @@ impl<'a> Switches<'a> {
     /// The first switch from a place on that a pattern hits, if there is one.
     #[tactic(auto, using(crate::proofs::Merging::next_itself))]
     pub fn next_hit(&self, pattern: &Pattern<'_>, hidden: &Hidden, from: usize) -> Option<usize>
-        requires { length hidden.now ≡ length self.now }
         ensures { IsNextHit self.now hidden.now pattern.now from result }
     {
         // Hits often follow one another, and then nothing is looked up by name.
@@ -169,7 +166,6 @@ impl<'a> Switches<'a> {
 
     /// Whether a pattern hits any switch.
     pub fn has_hit(&self, pattern: &Pattern<'_>, hidden: &Hidden) -> bool
-        requires { length hidden.now ≡ length self.now }
         ensures { result ≡ nat_lt 0 (length (hits self.now hidden.now pattern.now)) }
     {
         let named = self.named_places(pattern);
@@ -181,8 +177,7 @@ impl<'a> Switches<'a> {
     /// Whether a pattern hits the switch at this place: the pattern names it, it isn't hidden, and
     /// it is live unless the pattern is broad.
     pub fn is_hit(&self, pattern: &Pattern<'_>, hidden: &Hidden, i: usize) -> bool
-        requires in_range { i < length self.now }
-        requires of_these { length hidden.now ≡ length self.now }
+        requires { i < length self.now }
         ensures { result ≡ is_hit self.now hidden.now pattern.now i }
     {
         !hidden.contains(i)
@@ -192,9 +187,7 @@ impl<'a> Switches<'a> {
 
     /// Hides every switch that a pattern names, live or not.
     pub fn hide(&self, pattern: &Pattern<'_>, hidden: &mut Hidden)
-        requires { length hidden.old ≡ length self.now }
-        ensures named { hidden.new ≡ hidden_by pattern.now self.now hidden.old }
-        ensures as_many { length hidden.new ≡ length self.now }
+        ensures { hidden.new ≡ hidden_by pattern.now self.now hidden.old }
     {
         let named = self.named_places(pattern);
         for place in named {
@@ -209,7 +202,6 @@ impl<'a> Switches<'a> {
         patterns: &'p [Pattern<'n>],
         hidden: &Hidden,
     ) -> &'p [Pattern<'n>]
-        requires { length hidden.now ≡ length self.now }
         ensures { SameHits self.now hidden.now result.now patterns.now }
     {
         let at = self.hit_place(patterns, hidden);
@@ -218,7 +210,6 @@ impl<'a> Switches<'a> {
 
     /// The index of the first of these patterns that hits a switch.
     fn hit_place(&self, patterns: &[Pattern<'_>], hidden: &Hidden) -> Option<usize>
-        requires { length hidden.now ≡ length self.now }
         ensures { result ≡ position
             (λ pattern. nat_lt 0 (length (hits self.now hidden.now pattern))) patterns.now }
     {
@@ -246,7 +237,6 @@ impl<'a> Switches<'a> {
         others: &[Pattern<'_>],
         hidden: &Hidden,
     ) -> Result<Listing<usize>, AllocError>
-        requires { length hidden.now ≡ length self.now }
         ensures { IfOk result
             (λ places. places ≡ any_hits self.now hidden.now (first.now ∷ others.now)) }
     {
@@ -267,7 +257,6 @@ impl<'a> Switches<'a> {
 
     /// Sets the flags of the places that a pattern hits.
     fn mark_hits(&self, pattern: &Pattern<'_>, hidden: &Hidden, flags: &mut Vec<bool>)
-        requires of_these { length hidden.now ≡ length self.now }
         requires as_many { length flags.old.items ≡ length self.now }
         ensures marked { (i : ℕ) → i < length self.now → get_or flags.new.items i false
             ≡ (get_or flags.old.items i false || is_hit self.now hidden.now pattern.now i) }
@@ -290,7 +279,6 @@ impl<'a> Switches<'a> {
         from: usize,
     ) -> Option<usize>
         requires named { AreNamed self.now pattern.now named.now }
-        requires of_these { length hidden.now ≡ length self.now }
         ensures { IsNextHit self.now hidden.now pattern.now from result }
     {
         let mut next = self.len();
@@ -304,7 +292,6 @@ impl<'a> Switches<'a> {
 
     /// The first place of a hit from one place on, in the order of the line.
     fn next_on_line(&self, pattern: &Pattern<'_>, hidden: &Hidden, from: usize) -> Option<usize>
-        requires { length hidden.now ≡ length self.now }
         ensures { IsNextHit self.now hidden.now pattern.now from result }
     {
         (from..self.len()).find(|i| self.is_hit(pattern, hidden, *i))
@@ -322,8 +309,7 @@ impl<'a> Switches<'a> {
     /// pattern is broad.
     #[inline(always)]
     fn counts(&self, pattern: &Pattern<'_>, hidden: &Hidden, i: usize) -> bool
-        requires in_range { i < length self.now }
-        requires of_these { length hidden.now ≡ length self.now }
+        requires { i < length self.now }
         ensures { result ≡ (not (get_or hidden.now i false)
             && (is_broad pattern.now || is_live self.now i)) }
     {

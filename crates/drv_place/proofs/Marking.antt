@@ -1,5 +1,5 @@
 use Rattle.drv_place.specs.Settling.{Marked, marked_from, marked_onto, nothing, shorter}
-use Rattle.drv_specs.specs.Lines.{is_kept, joined_onto, settled}
+use Rattle.drv_specs.specs.Lines.{is_kept, joined_onto, settle}
 use Rattle.std.proofs.Common.{◌≡◌, ◌∙◌, ◌&&◌, ◌+◌, ◌-◌, ◌==◌, ◌++◌, ◌∷◌, Bool, List, [], Option, Some, ap, append_assoc, arith, false}
 use Rattle.std.proofs.Common.{filter, fold, if◌then◌else◌, length, map, nat_eq, refl, slice_get, subst, sym, take, true, ℕ}
 use Rattle.std.proofs.lemmas.List.{length-append, length-map, map-append, take-map}
@@ -94,7 +94,7 @@ stand_from m front (b ∷ rest) all =
 -- of a whole text
 
 -- so the bytes are those of the settled text
-pub text_left : (bytes text : List ℕ) → bytes ≡ (marked_from nothing 0 text).bytes → bytes ≡ settled text
+pub text_left : (bytes text : List ℕ) → bytes ≡ (marked_from nothing 0 text).bytes → bytes ≡ settle text
 text_left bytes text is = is ∙ bytes_from nothing 0 text
 
 -- and the text has them at their places

@@ -1,6 +1,6 @@
 use Rattle.drv_specs.specs.Lines.{ends_line}
 use Rattle.drv_words.specs.Bytes.{newline}
-use Rattle.drv_words.specs.FileNames.{parted}
+use Rattle.drv_words.specs.FileNames.{split_at_last}
 use Rattle.std.specs.List.{position}
 use Rattle.std.specs.Prelude.{◌+◌, List, None, Option, Some, drop, filter, length, take, ℕ}
 
@@ -19,7 +19,7 @@ after_newline front (Some parts) = parts.1
 
 -- the part of the line before a byte
 abbrev pub line_before : List ℕ → ℕ → List ℕ
-line_before text at = after_newline (take at text) (parted newline (take at text))
+line_before text at = after_newline (take at text) (split_at_last newline (take at text))
 
 -- its rest from the byte on
 

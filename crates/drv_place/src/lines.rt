@@ -6,7 +6,7 @@ ghost use Rattle.std.specs.List.{position};
 ghost use Rattle.std.specs.Prelude.{◌≡◌, ◌<◌, ◌≤◌, IfNone, IfSome, drop, filter, length, suc, take};
 
 use bstr::ByteSlice;
-use drv_words::parted;
+use drv_words::split_at_last;
 
 /// Whether a byte ends a line.
 fn ends_line(byte: u8) -> bool
@@ -86,7 +86,7 @@ pub fn line_before(text: &[u8], at: usize) -> &[u8]
     ensures { result.now ≡ line_before text.now at }
 {
     let bytes = first_bytes(text, at);
-    match parted(b'\n', bytes) {
+    match split_at_last(b'\n', bytes) {
         Some((_, line)) => line,
         None => bytes,
     }

@@ -1,7 +1,7 @@
 //! What is left of a spec file's text, and where its bytes are in the file.
 
 ghost use Rattle.drv_place.specs.Settling.{marked_from, marked_onto, nothing, places_of};
-ghost use Rattle.drv_specs.specs.Lines.{settled};
+ghost use Rattle.drv_specs.specs.Lines.{settle};
 ghost use Rattle.std.specs.Prelude.{◌≡◌, IfOk, OnOk, Some, map, slice_get};
 
 use drv_words::{Listing, Word};
@@ -60,7 +60,7 @@ fn settle_all(alloc: Global, text: &[u8]) -> Result<(Vec<u8>, Vec<usize>), Alloc
 /// backslash and a newline (GCC manual, "Spec Files"), and where each of its bytes is in the file.
 #[tactic(auto, using(crate::proofs::Marking::text_left))]
 pub fn settle(alloc: Global, text: &[u8]) -> Result<Settled, AllocError>
-    ensures text { IfOk result (λ left. left.text ≡ settled text.now) }
+    ensures text { IfOk result (λ left. left.text ≡ settle text.now) }
     ensures places { IfOk result (λ left. left.places ≡ places_of text.now) }
     ensures bytes { IfOk result (λ left. map (slice_get text.now) left.places
         ≡ map Some left.text) }

@@ -1,6 +1,6 @@
 use Rattle.drv_search.specs.declared.prefixes.Prefixes.{Prefixes}
 use Rattle.drv_specs.specs.Directives.{Bad, Directive, Include, Pair, Rename, Text, directives_of, read_settled}
-use Rattle.drv_specs.specs.Lines.{settled}
+use Rattle.drv_specs.specs.Lines.{settle}
 use Rattle.drv_specs.specs.Code.Slices.{found, read_left, settled_file, shown}
 use Rattle.drv_specs.specs.declared.directive.IfMissing.TheVariants.{Refuse}
 use Rattle.drv_specs.specs.declared.directive.IfMissing.{IfMissing}
@@ -114,9 +114,9 @@ unread_file (Is (Err fault')) fault is = is
 
 -- the file's text, as the code keeps it, is the settled one
 pub read_file : (given : Known (Result (List ℕ) SpecsFault)) (left : List ℕ) → (given >>= λ g. Is (read_left g)) ≡ Is (Ok left)
-    → (text : List ℕ) × ((given ≡ Is (Ok text)) × (left ≡ settled text))
+    → (text : List ℕ) × ((given ≡ Is (Ok text)) × (left ≡ settle text))
 read_file Unasked left is = absurd cc
-read_file (Is (Ok text)) left is = (text, (refl, let same : left ≡ settled text = cc in same))
+read_file (Is (Ok text)) left is = (text, (refl, let same : left ≡ settle text = cc in same))
 read_file (Is (Err fault)) left is = absurd cc
 
 -- the text of a file that was found and asked for, settled, or the refusal to read it

@@ -4,10 +4,10 @@ use Rattle.drv_specs.proofs.SettledLines.{Clean, last_back, last_is, settled_cle
 use Rattle.drv_specs.proofs.SettledTexts.{ends_more, is_line_byte}
 use Rattle.drv_specs.specs.Blanks.{has_byte, is_blank}
 use Rattle.drv_specs.specs.Directives.{Alone, Bad, Directive, Include, Pair, Passed, Rename, Text, WithBody, body_lines, body_of, by_colon}
-use Rattle.drv_specs.specs.Directives.{by_key, by_keyword, directive_in, directives_of, first_line, included, is_colon, is_inside}
-use Rattle.drv_specs.specs.Directives.{read_lines, renamed, start_at, start_of}
+use Rattle.drv_specs.specs.Directives.{by_key, by_keyword, directive_in, directives_of, first_line, include_directive, is_colon, is_inside}
+use Rattle.drv_specs.specs.Directives.{read_lines, rename_directive, start_at, start_of}
 use Rattle.drv_specs.specs.Kept.{Each, begins_line, is_body, is_text, sees}
-use Rattle.drv_specs.specs.Lines.{is_empty_line, is_kept, lines_of, settled, trimmed, without_front, words_of}
+use Rattle.drv_specs.specs.Lines.{is_empty_line, is_kept, lines_of, settle, trim, without_front, words_of}
 use Rattle.drv_specs.specs.Sets.{ends_with_backslash}
 use Rattle.drv_words.specs.Bytes.{asterisk, greater_than, less_than, newline, number_sign, percent}
 use Rattle.drv_specs.specs.declared.directive.IfMissing.TheVariants.{PassOver, Refuse}
@@ -230,14 +230,14 @@ body_good rest lines bytes last clean = joined_good (first_line rest ++ body_lin
 -- Directives.
 
 -- %rename has no body
-renamed_good : (n : ℕ) (words : List (List ℕ)) → IsGood (renamed n words)
+renamed_good : (n : ℕ) (words : List (List ℕ)) → IsGood (rename_directive n words)
 renamed_good n [] = tt
 renamed_good n (old ∷ []) = tt
 renamed_good n (old ∷ new ∷ []) = tt
 renamed_good n (old ∷ new ∷ word ∷ words) = tt
 
 -- %include has no body
-included_good : (n : ℕ) (missing : IfMissing) (text : List ℕ) → IsGood (included n missing text)
+included_good : (n : ℕ) (missing : IfMissing) (text : List ℕ) → IsGood (include_directive n missing text)
 included_good n missing [] = tt
 included_good n missing (b ∷ text) = by (b == less_than && ends_with nat_eq text (greater_than ∷ []))
   where
@@ -252,13 +252,13 @@ keyword_good n line (word ∷ words) = by (pointwise nat_eq word (codes "%rename
     (pointwise nat_eq word (codes "%include_noerr"))
   where
     -- Plan: by the keyword: %rename, %include, %include_noerr, or none of them.
-    by : (rename include noerr : Bool) → IsGood (if rename then renamed n words
-        else if include then included n Refuse (trimmed (drop (length word) line))
-        else if noerr then included n PassOver (trimmed (drop (length word) line))
+    by : (rename include noerr : Bool) → IsGood (if rename then rename_directive n words
+        else if include then include_directive n Refuse (trim (drop (length word) line))
+        else if noerr then include_directive n PassOver (trim (drop (length word) line))
         else Bad n)
     by true include noerr = renamed_good n words
-    by false true noerr = included_good n Refuse (trimmed (drop (length word) line))
-    by false false true = included_good n PassOver (trimmed (drop (length word) line))
+    by false true noerr = included_good n Refuse (trim (drop (length word) line))
+    by false false true = included_good n PassOver (trim (drop (length word) line))
     by false false false = tt
 
 -- a line that begins with none of the marks of other forms
@@ -334,4 +334,4 @@ read_good (line ∷ lines) inside n clean =
 
 -- all directives of a text are good
 pub directives_good : (text : List ℕ) → Each IsGood (directives_of text)
-directives_good text = read_good (lines_of (settled text)) false 1 (settled_clean text)
+directives_good text = read_good (lines_of (settle text)) false 1 (settled_clean text)

@@ -4,7 +4,7 @@ use Rattle.drv_specs.proofs.Sliced.{line_begins}
 use Rattle.drv_specs.specs.Blanks.{is_blank}
 use Rattle.drv_specs.specs.Directives.{Directive, WithBody, body_lines, by_colon, by_key, by_keyword, directive_in, directives_of}
 use Rattle.drv_specs.specs.Directives.{first_line, is_colon, opens_body, read_lines, start_of}
-use Rattle.drv_specs.specs.Lines.{is_empty_line, is_kept, lines_of, settled, without_front, words_of}
+use Rattle.drv_specs.specs.Lines.{is_empty_line, is_kept, lines_of, settle, without_front, words_of}
 use Rattle.drv_specs.specs.Reading.{EndsBody, IsRead, Reads, at_empty, at_end, comment, empty, entry, is_full_line, keyword, no_lines}
 use Rattle.drv_words.specs.Bytes.{newline, number_sign, percent}
 use Rattle.std.proofs.Common.{◌≡◌, ◌↔◌, ◌+◌, ◌∙◌, ◌==◌, ◌&&◌, Bool, List, [], ◌∷◌, ◌++◌, None, Option, Some, ap, arith, drop, eqb-true}
@@ -151,8 +151,8 @@ pub is_read_law : (text : List ℕ) (directives : List Directive) → (IsRead te
 is_read_law text directives = (
   λ r. ap (λ t. read_lines false 1 (lines_of t)) (joins_gives r.joins) ∙ reads_gives r.reads,
   λ is. subst (λ ds. IsRead text ds) is (record {
-    settled = settled text;
+    settled = settle text;
     joins = joined_joins (filter is_kept text);
-    reads = reads_all 1 (lines_of (settled text));
+    reads = reads_all 1 (lines_of (settle text));
   }),
 )

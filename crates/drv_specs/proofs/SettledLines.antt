@@ -1,6 +1,6 @@
 use Rattle.drv_specs.proofs.Booleans.{and_first, and_second, not_true}
 use Rattle.drv_specs.proofs.SettledTexts.{ends_last, ends_more, is_line_byte, is_settled}
-use Rattle.drv_specs.specs.Lines.{ends_line, is_kept, joined_onto, lines_of, pieces_from, settled}
+use Rattle.drv_specs.specs.Lines.{ends_line, is_kept, joined_onto, lines_of, pieces_from, settle}
 use Rattle.drv_specs.specs.Sets.{ends_with_backslash}
 use Rattle.drv_words.specs.Bytes.{newline}
 use Rattle.std.proofs.Common.{◌≡◌, ◌⊎◌, ◌-◌, ◌∙◌, ◌==◌, ◌&&◌, Bool, List, [], ◌∷◌, ◌++◌, ap, eqb-true, false, filter, fold, if◌then◌else◌}
@@ -75,7 +75,7 @@ all_kept (b ∷ text) = by (is_kept b) refl (all_kept text)
     by false kept later = later
 
 -- a settled text stays as it is
-settles : (text : List ℕ) → is_settled false (settled text) ≡ true
+settles : (text : List ℕ) → is_settled false (settle text) ≡ true
 settles text = fold_settled (filter is_kept text) [] (all_kept text) refl
 
 -- lines of which only the last may end with a backslash
@@ -116,5 +116,5 @@ clean_pieces (b ∷ text) front back is bytes same =
         (sym (ends_last front b))
 
 -- the lines of a settled text are clean
-pub settled_clean : (text : List ℕ) → Clean (lines_of (settled text))
-settled_clean text = clean_pieces (settled text) [] false (settles text) refl refl
+pub settled_clean : (text : List ℕ) → Clean (lines_of (settle text))
+settled_clean text = clean_pieces (settle text) [] false (settles text) refl refl

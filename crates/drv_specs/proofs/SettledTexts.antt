@@ -1,6 +1,6 @@
 use Rattle.drv_specs.proofs.Booleans.{and_first, and_second, not_true}
 use Rattle.drv_specs.specs.Kept.{fits, is_body, sees}
-use Rattle.drv_specs.specs.Lines.{is_kept, joined_onto, settled}
+use Rattle.drv_specs.specs.Lines.{is_kept, joined_onto, settle}
 use Rattle.drv_specs.specs.Sets.{ends_with_backslash}
 use Rattle.drv_words.specs.Bytes.{backslash, colon, newline}
 use Rattle.std.proofs.Common.{◌≡◌, ◌-◌, ◌∙◌, ◌==◌, ◌&&◌, ◌||◌, Bool, List, [], ◌∷◌, ◌++◌, ap, append_assoc, arith, drop, false, filter}
@@ -60,7 +60,7 @@ settles_same (b ∷ text) done is =
     )
 
 -- a text that is settled stays as it is
-pub settled_same : (text : List ℕ) → is_settled false text ≡ true → settled text ≡ text
+pub settled_same : (text : List ℕ) → is_settled false text ≡ true → settle text ≡ text
 settled_same text is = settles_same text [] is
 
 -- bytes that a line may have

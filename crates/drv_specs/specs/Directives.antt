@@ -1,6 +1,6 @@
 use Rattle.drv_specs.specs.Blanks.{has_byte, is_blank}
 use Rattle.drv_words.specs.Bytes.{colon, greater_than, number_sign, less_than, newline, percent, asterisk}
-use Rattle.drv_specs.specs.Lines.{is_empty_line, lines_of, settled, trimmed, without_front, words_of}
+use Rattle.drv_specs.specs.Lines.{is_empty_line, lines_of, settle, trim, without_front, words_of}
 use Rattle.drv_specs.specs.declared.directive.IfMissing.{IfMissing}
 use Rattle.drv_specs.specs.declared.directive.IfMissing.TheVariants.{PassOver, Refuse}
 use Rattle.std.specs.Cmp.Lexicographic.{pointwise}
@@ -26,25 +26,25 @@ pub data Start : Type 0 where
   WithBody : Directive → Start
 
 -- %include: the file is between a < and the last >, and nothing else is there
-abbrev pub included : ℕ → IfMissing → List ℕ → Directive
-included n missing [] = Bad n
-included n missing (b ∷ text) = if b == less_than && ends_with nat_eq text (greater_than ∷ [])
+abbrev pub include_directive : ℕ → IfMissing → List ℕ → Directive
+include_directive n missing [] = Bad n
+include_directive n missing (b ∷ text) = if b == less_than && ends_with nat_eq text (greater_than ∷ [])
     then Include missing (take (length text - 1) text) else Bad n
 
 -- the directive %rename has two names
-abbrev pub renamed : ℕ → List (List ℕ) → Directive
-renamed n [] = Bad n
-renamed n (old ∷ []) = Bad n
-renamed n (old ∷ new ∷ []) = Rename old new
-renamed n (old ∷ new ∷ word ∷ words) = Bad n
+abbrev pub rename_directive : ℕ → List (List ℕ) → Directive
+rename_directive n [] = Bad n
+rename_directive n (old ∷ []) = Bad n
+rename_directive n (old ∷ new ∷ []) = Rename old new
+rename_directive n (old ∷ new ∷ word ∷ words) = Bad n
 
 -- a line that begins with %, by its first word
 abbrev pub by_keyword : ℕ → List ℕ → List (List ℕ) → Directive
 by_keyword n line [] = Bad n
 by_keyword n line (word ∷ words) =
-    if pointwise nat_eq word (codes "%rename") then renamed n words
-    else if pointwise nat_eq word (codes "%include") then included n Refuse (trimmed (drop (length word) line))
-    else if pointwise nat_eq word (codes "%include_noerr") then included n PassOver (trimmed (drop (length word) line))
+    if pointwise nat_eq word (codes "%rename") then rename_directive n words
+    else if pointwise nat_eq word (codes "%include") then include_directive n Refuse (trim (drop (length word) line))
+    else if pointwise nat_eq word (codes "%include_noerr") then include_directive n PassOver (trim (drop (length word) line))
     else Bad n
 
 -- a body: what follows the colon, if anything does, and the lines up to the next one that is empty
@@ -119,4 +119,4 @@ read_settled text = read_lines false 1 (lines_of text)
 
 -- the directives of a text
 abbrev pub directives_of : List ℕ → List Directive
-directives_of text = read_settled (settled text)
+directives_of text = read_settled (settle text)

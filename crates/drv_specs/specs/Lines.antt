@@ -19,8 +19,8 @@ abbrev pub is_kept : ℕ → Bool
 is_kept b = not (b == carriage_return)
 
 -- what is left of a file's text: carriage returns are dropped before that
-abbrev pub settled : List ℕ → List ℕ
-settled text = joined (filter is_kept text)
+abbrev pub settle : List ℕ → List ℕ
+settle text = joined (filter is_kept text)
 
 -- the pieces of a text between the bytes that pass the test, the first of which begins with a front
 abbrev pub pieces_from : (ℕ → Bool) → List ℕ → List ℕ → List (List ℕ)
@@ -53,5 +53,5 @@ abbrev pub without_end : (ℕ → Bool) → List ℕ → List ℕ
 without_end test text = reverse (without_front test (reverse text))
 
 -- a text without the blanks at its front and end
-abbrev pub trimmed : List ℕ → List ℕ
-trimmed text = without_end is_blank (without_front is_blank text)
+abbrev pub trim : List ℕ → List ℕ
+trim text = without_end is_blank (without_front is_blank text)

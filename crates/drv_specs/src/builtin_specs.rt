@@ -65,11 +65,11 @@ fn pair_rows() -> &'static [Pair]
 impl Entries {
     /// A text with its tree.
     #[tactic(auto, using(crate::proofs::WrittenTrees::is_tree))]
-    fn written(&self, tree: WrittenTree) -> Result<Text, AllocError>
+    fn text_with_tree(&self, tree: WrittenTree) -> Result<Text, AllocError>
         requires { IsWritten tree }
         ensures { IfOk result (λ text. text ≡ tree.text.now) }
     {
-        let tree = SpecTree::written(self.alloc(), tree)?;
+        let tree = SpecTree::from_written(self.alloc(), tree)?;
         Text::new(self.alloc(), tree)
     }
 
@@ -78,7 +78,7 @@ impl Entries {
         requires { IsNamedRow row }
         ensures { OnOk result (self.new ≡ with_named self.old row.name.now row.tree.text.now) }
     {
-        let text = self.written(row.tree)?;
+        let text = self.text_with_tree(row.tree)?;
         self.insert(row.name, text)
     }
 
@@ -90,7 +90,7 @@ impl Entries {
         match row.text {
             PairText::Alone(text) => self.push_pair(row.key, text, None),
             PairText::Worked(tree) => {
-                let text = self.written(tree)?;
+                let text = self.text_with_tree(tree)?;
                 self.push_pair(row.key, tree.text, Some(text))
             }
         }

@@ -1,7 +1,7 @@
 //! Bytes of spec files, and what is around a text.
 
 ghost use Rattle.drv_specs.specs.Blanks.{has_byte, is_blank, is_white};
-ghost use Rattle.drv_specs.specs.Lines.{is_empty_line, trimmed, without_end, without_front};
+ghost use Rattle.drv_specs.specs.Lines.{is_empty_line, trim, without_end, without_front};
 ghost use Rattle.std.specs.List.{position};
 ghost use Rattle.std.specs.Prelude.{◌≡◌, ◌≤◌, ◌-◌, drop, length, not, take};
 
@@ -126,8 +126,8 @@ pub(crate) fn without_end_white(text: &[u8]) -> &[u8]
 }
 
 /// A text without the blanks around it.
-pub(crate) fn trimmed(text: &[u8]) -> &[u8]
-    ensures { result.now ≡ trimmed text.now }
+pub(crate) fn trim(text: &[u8]) -> &[u8]
+    ensures { result.now ≡ trim text.now }
 {
     without_end_blanks(without_blanks(text))
 }

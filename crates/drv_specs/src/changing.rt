@@ -21,7 +21,7 @@ use crate::bytes::{has_byte, is_blank, is_white, without_end_white, without_firs
 use crate::directive::Directive;
 use crate::entries::Entries;
 use crate::settling::ends_with_backslash;
-use crate::text::{Text, joined};
+use crate::text::{Text, join};
 use drv_syntax::{SyntaxFault, parse};
 use drv_words::Word;
 use std::alloc::Global;
@@ -155,7 +155,7 @@ fn extended_text(alloc: Global, name: &[u8], text: Text, more: &[u8]) -> Result<
         (by_tree name.now set (parsed (text ++ more.now))) }
     ensures text { IfOk result (λ whole. whole ≡ text ++ more.now) }
 {
-    match text.extended(alloc, more) {
+    match text.extend(alloc, more) {
         Ok(text) => Ok(text),
         Err(SyntaxFault::Memory) => Err(SpecsFault::Memory),
         Err(fault) => Err(SpecsFault::Syntax {
@@ -179,7 +179,7 @@ fn appended_text(
     match text {
         Some(text) => extended_text(alloc, name, text, addition),
         None => {
-            let text = joined(alloc, b" ", without_white(addition))?;
+            let text = join(alloc, b" ", without_white(addition))?;
             parsed_text(alloc, name, text.as_bytes())
         }
     }

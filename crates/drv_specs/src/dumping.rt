@@ -63,7 +63,7 @@ fn dump_of(entries: &Entries) -> Result<Word, AllocError>
     ensures { IfOk result (λ text. text ≡ dumped entries.now) }
 {
     let mut dump = Word::empty(entries.alloc());
-    push_texts(&mut dump, entries.named())?;
+    push_texts(&mut dump, entries.named_texts())?;
     push_pairs(&mut dump, entries.pairs())?;
     Ok(dump)
 }

@@ -112,7 +112,7 @@ impl Entries {
     }
 
     /// The named texts.
-    pub(crate) fn named(&self) -> &IndexMap<Vec<u8>, Option<Text>>
+    pub(crate) fn named_texts(&self) -> &IndexMap<Vec<u8>, Option<Text>>
         ensures { texts_left result.now.entries ≡ self.now.named }
     {
         self.named.entries()

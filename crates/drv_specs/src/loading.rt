@@ -19,7 +19,7 @@ ghost use Rattle.std.specs.Prelude.{◌≡◌, OnErr};
 use crate::directive::{Directive, IfMissing};
 use crate::entries::Entries;
 use crate::reading::Reader;
-use crate::settling::settled;
+use crate::settling::settle;
 use crate::{SpecSet, SpecsFault};
 use drv_search::{Prefixes, find_file};
 use drv_system::{FactTable, Outside, ReadAnswer, System};
@@ -43,7 +43,7 @@ fn text_read(
         (read_left (text_read if_missing path answer.now)) }
 {
     match answer {
-        ReadAnswer::Read(text) => Ok(settled(alloc, text.as_bytes())?),
+        ReadAnswer::Read(text) => Ok(settle(alloc, text.as_bytes())?),
         ReadAnswer::Missing => match if_missing {
             IfMissing::PassOver => Ok(Vec::new(alloc)),
             IfMissing::Refuse => Err(SpecsFault::NoSuchFile(path)),
@@ -219,7 +219,7 @@ impl SpecSet {
             (loaded F prefixes.now self.old text.now) }
         ensures kept { OnErr result (self.new ≡ self.old) }
     {
-        let text = settled(self.entries.alloc(), text)?;
+        let text = settle(self.entries.alloc(), text)?;
         let outside = &mut Outside { sys, facts };
         self.work(MOST_FILES, text.as_slice(), prefixes, outside)
     }

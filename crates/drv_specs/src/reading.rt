@@ -5,7 +5,8 @@
 // the directives of lines, the first of which has number n. `bytes_from` is what follows a line,
 // with its newline. `words_of` is the words of a text from here on.
 ghost use Rattle.drv_specs.specs.Directives.{body_lines, by_colon, by_key, by_keyword, first_line};
-ghost use Rattle.drv_specs.specs.Directives.{included, is_colon, read_lines, read_settled, renamed};
+ghost use Rattle.drv_specs.specs.Directives.{include_directive, is_colon, read_lines, read_settled};
+ghost use Rattle.drv_specs.specs.Directives.{rename_directive};
 ghost use Rattle.drv_specs.specs.Lines.{ends_line, lines_of, words_of};
 ghost use Rattle.drv_specs.specs.Code.Slices.{Ends, bytes_from, directives_left, found, is_keyword};
 ghost use Rattle.drv_specs.specs.Code.Slices.{is_passed, lines_left, shown, size_left, text_left};
@@ -13,7 +14,7 @@ ghost use Rattle.std.specs.List.{list_all, position};
 ghost use Rattle.std.specs.Prelude.{◌≡◌, ◌<◌, ◌≤◌, ◌^◌, ◌+◌, ◌-◌, ◌∷◌, ◌++◌, [], IfNone, false};
 ghost use Rattle.std.specs.Prelude.{length, not, true};
 
-use crate::bytes::{following, has_byte, trimmed, without_blanks, without_last};
+use crate::bytes::{following, has_byte, trim, without_blanks, without_last};
 use crate::directive::{Directive, IfMissing};
 use crate::lines::{Lines, cut_body, cut_line, next_word};
 use bstr::ByteSlice;
@@ -37,8 +38,8 @@ fn by_key<'a>(key: &'a [u8], body: &'a [u8]) -> Directive<'a>
 }
 
 /// The directive of a line `%rename`, by what follows that.
-fn renamed<'a>(number: usize, text: &'a [u8]) -> Directive<'a>
-    ensures { shown result ≡ renamed number (words_of text.now) }
+fn rename_directive<'a>(number: usize, text: &'a [u8]) -> Directive<'a>
+    ensures { shown result ≡ rename_directive number (words_of text.now) }
 {
     let Some((old, text)) = next_word(text) else {
         return Directive::Bad(number);
@@ -53,8 +54,8 @@ fn renamed<'a>(number: usize, text: &'a [u8]) -> Directive<'a>
 }
 
 /// The directive of a line `%include`, by what follows that.
-fn included<'a>(number: usize, if_missing: IfMissing, text: &'a [u8]) -> Directive<'a>
-    ensures { shown result ≡ included number if_missing text.now }
+fn include_directive<'a>(number: usize, if_missing: IfMissing, text: &'a [u8]) -> Directive<'a>
+    ensures { shown result ≡ include_directive number if_missing text.now }
 {
     match text {
         [b'<', file @ ..] if file.ends_with(b">") => Directive::Include {
@@ -73,14 +74,14 @@ fn by_keyword<'a>(number: usize, line: &'a [u8]) -> Directive<'a>
         return Directive::Bad(number);
     };
     if word == b"%rename".as_slice() {
-        return renamed(number, words);
+        return rename_directive(number, words);
     }
-    let rest = trimmed(following(line, word.len()));
+    let rest = trim(following(line, word.len()));
     if word == b"%include".as_slice() {
-        return included(number, IfMissing::Refuse, rest);
+        return include_directive(number, IfMissing::Refuse, rest);
     }
     if word == b"%include_noerr".as_slice() {
-        return included(number, IfMissing::PassOver, rest);
+        return include_directive(number, IfMissing::PassOver, rest);
     }
     Directive::Bad(number)
 }

@@ -1,7 +1,7 @@
 //! A spec file's text without carriage returns and continued lines.
 
 ghost use Rattle.drv_words.specs.Bytes.{backslash};
-ghost use Rattle.drv_specs.specs.Lines.{settled};
+ghost use Rattle.drv_specs.specs.Lines.{settle};
 ghost use Rattle.drv_specs.specs.Code.Slices.{settled_onto};
 ghost use Rattle.std.specs.List.{ends_with};
 ghost use Rattle.std.specs.Prelude.{◌≡◌, ◌∷◌, [], IfOk, OnOk, nat_eq};
@@ -35,8 +35,8 @@ fn settle_onto(text: &mut Vec<u8>, byte: u8) -> Result<(), AllocError>
 }
 
 /// What is left of a spec file's text.
-pub(crate) fn settled(alloc: Global, text: &[u8]) -> Result<Vec<u8>, AllocError>
-    ensures { IfOk result (λ left. left.items ≡ settled text.now) }
+pub(crate) fn settle(alloc: Global, text: &[u8]) -> Result<Vec<u8>, AllocError>
+    ensures { IfOk result (λ left. left.items ≡ settle text.now) }
 {
     let mut left = Vec::new(alloc);
     left.reserve(text.len())?;

@@ -15,7 +15,7 @@ use std::marker::Model;
 use std::rc::Rc;
 
 /// A text and another after it.
-pub(crate) fn joined(alloc: Global, front: &[u8], back: &[u8]) -> Result<Word, AllocError>
+pub(crate) fn join(alloc: Global, front: &[u8], back: &[u8]) -> Result<Word, AllocError>
     ensures { IfOk result (λ text. text ≡ front.now ++ back.now) }
 {
     let mut text = Word::from_bytes(alloc, front)?;
@@ -30,9 +30,9 @@ fn extended_tree(alloc: Global, shared: Rc<SpecTree>, more: &[u8]) -> Result<Spe
     ensures text { IfOk result (λ tree. tree ≡ shared.value ++ more.now) }
 {
     match Rc::try_unwrap(shared) {
-        Ok(tree) => tree.extended(alloc, more),
+        Ok(tree) => tree.extend(alloc, more),
         Err(shared) => {
-            let text = joined(alloc, shared.as_ref().text(), more)?;
+            let text = join(alloc, shared.as_ref().text(), more)?;
             parse(alloc, text.as_bytes())
         }
     }
@@ -73,7 +73,7 @@ impl Text {
     }
 
     /// The text with more after it, if that has a tree.
-    pub(crate) fn extended(self, alloc: Global, more: &[u8]) -> Result<Text, SyntaxFault>
+    pub(crate) fn extend(self, alloc: Global, more: &[u8]) -> Result<Text, SyntaxFault>
         ensures tree { Gives syntax.Memory tree_of result (parsed (self ++ more.now)) }
         ensures text { IfOk result (λ text. text ≡ self ++ more.now) }
     {

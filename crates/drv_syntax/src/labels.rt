@@ -8,6 +8,7 @@ ghost use Rattle.drv_words.specs.Gives.{Gives};
 
 use crate::fault::SyntaxFault;
 use crate::lent::LentLabels;
+use crate::room::reserve_one;
 use crate::token::TestKind;
 use std::alloc::Global;
 use std::marker::Model;
@@ -16,9 +17,9 @@ use std::marker::Model;
 #[derive(Clone, Copy)]
 pub struct LabelMark {
     /// Where it begins.
-    pub start: usize,
+    pub start: u32,
     /// Where it ends.
-    pub end: usize,
+    pub end: u32,
     /// A star follows it.
     pub starred: bool,
     /// A `!` precedes it.
@@ -66,9 +67,20 @@ impl Model for Labels {
     ghost invariant = { λ l. Within (length l.words.items) l.marks.items };
 }
 
+/// A place among the words of a text. The words of a text have its bytes at most, so it is small.
+#[inline(always)]
+fn place_of(size: usize) -> Result<u32, SyntaxFault>
+    ensures { Gives SyntaxFault.Memory (λ place. place) result (Ok size) }
+{
+    if size > u32::MAX as usize {
+        return Err(SyntaxFault::Memory);
+    }
+    Ok(size as u32)
+}
+
 /// The marks of bytes that follow one another from this place on.
-fn push_marks(start: usize, run: &[u8], marks: &mut Vec<LabelMark>)
-    requires place { start + length run.now < 2 ^ 64 }
+fn push_marks(start: u32, run: &[u8], marks: &mut Vec<LabelMark>)
+    requires place { start + length run.now < 2 ^ 32 }
     requires reserved { vec_len marks.old + length run.now ≤ vec_capacity marks.old }
     ensures { marks.new.items ≡ marks.old.items ++ byte_marks start run.now }
 {
@@ -113,10 +125,10 @@ impl Labels {
         ensures { Gives SyntaxFault.Memory (λ _. self.new) result (Ok (self.old
             ++ part_label word.now naming.starred naming.negated naming.asks ∷ [])) }
     {
-        let start = self.words.len();
+        let start = place_of(self.words.len())?;
         self.words.extend_from_slice(word)?;
-        let end = self.words.len();
-        self.marks.reserve(1)?;
+        let end = place_of(self.words.len())?;
+        reserve_one(&mut self.marks)?;
         self.marks.push_reserved(LabelMark {
             start,
             end,
@@ -134,11 +146,11 @@ impl Labels {
         ensures { Gives SyntaxFault.Memory (λ _. self.new) result (Ok (self.old
             ++ part_label (mark ∷ word.now) naming.starred naming.negated naming.asks ∷ [])) }
     {
-        let start = self.words.len();
+        let start = place_of(self.words.len())?;
         self.words.push(mark)?;
         self.words.extend_from_slice(word)?;
-        let end = self.words.len();
-        self.marks.reserve(1)?;
+        let end = place_of(self.words.len())?;
+        reserve_one(&mut self.marks)?;
         self.marks.push_reserved(LabelMark {
             start,
             end,
@@ -156,10 +168,10 @@ impl Labels {
         ensures { Gives SyntaxFault.Memory (λ _. self.new) result
             (Ok (self.old ++ word_label (b ∷ []) ∷ [])) }
     {
-        let start = self.words.len();
+        let start = place_of(self.words.len())?;
         self.words.push(b)?;
-        let end = self.words.len();
-        self.marks.reserve(1)?;
+        let end = place_of(self.words.len())?;
+        reserve_one(&mut self.marks)?;
         self.marks.push_reserved(LabelMark {
             start,
             end,
@@ -179,9 +191,9 @@ impl Labels {
             (Ok (self.old ++ byte_labels run.now)) }
     {
         self.marks.reserve(run.len())?;
-        let start = self.words.len();
+        let start = place_of(self.words.len())?;
         self.words.extend_from_slice(run)?;
-        let end = self.words.len();
+        let end = place_of(self.words.len())?;
         push_marks(start, run, &mut self.marks);
         Ok(())
     }
@@ -192,7 +204,7 @@ impl Labels {
     pub fn push_none(&mut self) -> Result<(), SyntaxFault>
         ensures { Gives SyntaxFault.Memory (λ _. self.new) result (Ok (self.old ++ no_label ∷ [])) }
     {
-        self.marks.reserve(1)?;
+        reserve_one(&mut self.marks)?;
         self.marks.push_reserved(LabelMark {
             start: 0,
             end: 0,
@@ -222,6 +234,14 @@ impl Labels {
         }
     }
 
+    /// Gives back the room that none of them takes.
+    pub fn shrink(&mut self)
+        ensures { self.new ≡ self.old }
+    {
+        self.words.shrink_to_fit();
+        self.marks.shrink_to_fit();
+    }
+
     /// Only the first ones, so many.
     #[tactic(auto, using(crate::proofs::MarkedWords::within_take, crate::proofs::MarkedWords::labels_take))]
     pub fn truncate(&mut self, count: usize)
@@ -238,7 +258,7 @@ impl Labels {
     }
 
     /// The labels, lent.
-    pub fn lent(&self) -> LentLabels<'_>
+    pub fn lend(&self) -> LentLabels<'_>
         ensures { result ≡ self.now }
     {
         LentLabels::new(self.words.as_slice(), self.marks.as_slice())

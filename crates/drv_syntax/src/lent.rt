@@ -19,7 +19,9 @@ fn is_byte_at(token: &Token, mark: &LabelMark, place: usize) -> bool
     ensures other { result ≡ false → token.now.kind ≡ kinds.Plain → mark.now.start ≡ place
         → mark.now.end ≡ place + 1 → ⊥ }
 {
-    matches!(token.kind, TokenKind::Plain) && mark.start == place && mark.end == place + 1
+    matches!(token.kind, TokenKind::Plain)
+        && mark.start as usize == place
+        && mark.end as usize == place + 1
 }
 
 /// The labels of the parts of a text, in the order of their tokens, by the words that they name and
@@ -58,11 +60,11 @@ impl<'a> LentLabels<'a> {
     {
         let (words, marks) = (self.words, self.marks);
         let mark = marks[place];
-        &words[mark.start..mark.end]
+        &words[mark.start as usize..mark.end as usize]
     }
 
     /// Whether a star follows its word.
-    pub fn starred(&self, place: usize) -> bool
+    pub fn is_starred(&self, place: usize) -> bool
         requires { place < length self.now }
         ensures { result ≡ (get_or self.now place no_label).starred }
     {
@@ -71,7 +73,7 @@ impl<'a> LentLabels<'a> {
     }
 
     /// Whether a `!` precedes its word.
-    pub fn negated(&self, place: usize) -> bool
+    pub fn is_negated(&self, place: usize) -> bool
         requires { place < length self.now }
         ensures { result ≡ (get_or self.now place no_label).negated }
     {
@@ -111,7 +113,7 @@ impl<'a> LentLabels<'a> {
         if place >= last {
             return &[];
         }
-        let start = marks[place].start;
+        let start = marks[place].start as usize;
         let mut at = place;
         let mut stop = start;
         while at < last && is_byte_at(&tokens[at], &marks[at], stop) {

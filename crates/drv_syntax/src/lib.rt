@@ -7,6 +7,7 @@ mod fault;
 mod labels;
 mod laws;
 mod lent;
+mod room;
 mod token;
 mod tree;
 mod written;

@@ -52,7 +52,7 @@ impl Model for SpecTree {
 
 impl SpecTree {
     /// The tree of a text that is in the code with it.
-    pub fn written(alloc: Global, tree: WrittenTree) -> Result<SpecTree, AllocError>
+    pub fn from_written(alloc: Global, tree: WrittenTree) -> Result<SpecTree, AllocError>
         requires { IsTree tree }
         ensures { IfOk result (λ t. t ≡ tree.text.now) }
     {
@@ -95,7 +95,7 @@ impl SpecTree {
         ensures { result ≡ labels_of (tree_of self.now) }
     {
         let tree = match &self.parts {
-            Parts::Read(read) => return read.labels.lent(),
+            Parts::Read(read) => return read.labels.lend(),
             Parts::Written(tree) => tree,
         };
         LentLabels::new(tree.words, tree.marks)
@@ -124,19 +124,19 @@ impl SpecTree {
     }
 
     /// Whether a star follows the word of the part at this place.
-    pub fn starred(&self, place: usize) -> bool
+    pub fn is_starred(&self, place: usize) -> bool
         requires { place < length (tokens_of (tree_of self.now)) }
         ensures { result ≡ (label_at (tree_of self.now) place).starred }
     {
-        self.labels().starred(place)
+        self.labels().is_starred(place)
     }
 
     /// Whether a `!` precedes the test at this place.
-    pub fn negated(&self, place: usize) -> bool
+    pub fn is_negated(&self, place: usize) -> bool
         requires { place < length (tokens_of (tree_of self.now)) }
         ensures { result ≡ (label_at (tree_of self.now) place).negated }
     {
-        self.labels().negated(place)
+        self.labels().is_negated(place)
     }
 
     /// What the test at this place asks.
@@ -160,7 +160,7 @@ impl SpecTree {
     /// read again, unless its last bytes are a suffix, a hidden pattern or a text for the user. After
     /// the first two a blank suffices.
     #[tactic(auto, using(crate::proofs::Kept::parsed_long, crate::proofs::Kept::tree_more, crate::proofs::Kept::fault_more, crate::proofs::Kept::more_kept, crate::proofs::Kept::short_kept))]
-    pub fn extended(self, alloc: Global, more: &[u8]) -> Result<SpecTree, SyntaxFault>
+    pub fn extend(self, alloc: Global, more: &[u8]) -> Result<SpecTree, SyntaxFault>
         ensures tree { Gives SyntaxFault.Memory tree_of result (parsed (self ++ more.now)) }
         ensures text { IfOk result (λ t. t ≡ self ++ more.now) }
         ensures spelled { IfOk result (λ t. Spells t (tree_of t)) }

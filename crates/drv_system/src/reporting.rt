@@ -84,13 +84,13 @@ impl Reports {
         if self.reporter == Reporter::GdrvCc && is_without_reader(status) {
             self.writer = Some(place);
         }
-        if let Some(line) = self.released(place, answer_of(status)) {
+        if let Some(line) = self.release(place, answer_of(status)) {
             tell_error(rt, &line);
         }
     }
 
     /// The line that was held for this command, if the command did not fail.
-    fn released(&mut self, place: Place, answer: WaitAnswer) -> Option<Word> {
+    fn release(&mut self, place: Place, answer: WaitAnswer) -> Option<Word> {
         let held = self.held.take()?;
         if held.reader != place {
             self.held = Some(held);

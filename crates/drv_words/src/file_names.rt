@@ -1,12 +1,12 @@
 //! The parts of a file's name.
 
-ghost use Rattle.drv_words.specs.FileNames.{base, parted, stem, suffixed};
+ghost use Rattle.drv_words.specs.FileNames.{base, split_at_last, split_suffix, stem};
 ghost use Rattle.std.specs.Option.{option_map};
 ghost use Rattle.std.specs.Prelude.{◌≡◌};
 
 /// The bytes before the last byte of a kind, and those after it, if there is one.
-pub fn parted(mark: u8, name: &[u8]) -> Option<(&[u8], &[u8])>
-    ensures { option_map (λ parts. (parts.0.now, parts.1.now)) result ≡ parted mark name.now }
+pub fn split_at_last(mark: u8, name: &[u8]) -> Option<(&[u8], &[u8])>
+    ensures { option_map (λ parts. (parts.0.now, parts.1.now)) result ≡ split_at_last mark name.now }
 {
     match name.iter().rposition(|byte| *byte == mark) {
         Some(at) => Some((&name[..at], &name[at + 1..])),
@@ -18,7 +18,7 @@ pub fn parted(mark: u8, name: &[u8]) -> Option<(&[u8], &[u8])>
 pub fn base(name: &[u8]) -> &[u8]
     ensures { result.now ≡ base name.now }
 {
-    match parted(b'/', name) {
+    match split_at_last(b'/', name) {
         Some((_, file)) => file,
         None => name,
     }
@@ -26,10 +26,10 @@ pub fn base(name: &[u8]) -> &[u8]
 
 /// The parts before and after the last period of a name without its folder. A leading period
 /// doesn't count.
-pub fn suffixed(name: &[u8]) -> Option<(&[u8], &[u8])>
-    ensures { option_map (λ parts. (parts.0.now, parts.1.now)) result ≡ suffixed name.now }
+pub fn split_suffix(name: &[u8]) -> Option<(&[u8], &[u8])>
+    ensures { option_map (λ parts. (parts.0.now, parts.1.now)) result ≡ split_suffix name.now }
 {
-    let (stem, suffix) = parted(b'.', base(name))?;
+    let (stem, suffix) = split_at_last(b'.', base(name))?;
     // A name such as `.profile` has no suffix.
     if stem.is_empty() {
         return None;
@@ -41,7 +41,7 @@ pub fn suffixed(name: &[u8]) -> Option<(&[u8], &[u8])>
 pub fn stem(name: &[u8]) -> &[u8]
     ensures { result.now ≡ stem name.now }
 {
-    match suffixed(name) {
+    match split_suffix(name) {
         Some((stem, _)) => stem,
         None => base(name),
     }

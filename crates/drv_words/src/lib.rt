@@ -17,7 +17,7 @@ mod word;
 
 pub use answers::{Answer, ClaimAnswer, NotStarted, RemoveAnswer, StartAnswer, WaitAnswer};
 pub use copies::{copy_word, copy_words};
-pub use file_names::{base, parted, stem, suffixed};
+pub use file_names::{base, split_at_last, split_suffix, stem};
 pub use listing::Listing;
 pub use ordering::order;
 pub use plan::{Command, Group, Job, Plan, PlanLine, Temp};

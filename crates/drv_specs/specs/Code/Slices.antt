@@ -1,7 +1,7 @@
 use Rattle.drv_search.specs.declared.prefixes.Prefixes.{Prefixes}
 use Rattle.drv_specs.specs.Directives as specs
 use Rattle.drv_specs.specs.Directives.{read_lines}
-use Rattle.drv_specs.specs.Lines.{is_kept, joined_onto, lines_of, settled}
+use Rattle.drv_specs.specs.Lines.{is_kept, joined_onto, lines_of, settle}
 use Rattle.drv_specs.specs.Loading.{file_text}
 use Rattle.drv_specs.specs.declared.directive.IfMissing.{IfMissing}
 use Rattle.drv_specs.specs.declared.directive.Directive.TheVariants.{Bad, Include, Pair, Rename, Text}
@@ -76,11 +76,11 @@ found (Some directive) = shown directive ∷ []
 
 -- what is left of some text
 abbrev pub IsSettled : List ℕ → Type 0
-IsSettled left = (text : List ℕ) × (left ≡ settled text)
+IsSettled left = (text : List ℕ) × (left ≡ settle text)
 
 -- what is left of a file's text
 abbrev pub read_left : Result (List ℕ) SpecsFault → Result (List ℕ) SpecsFault
-read_left (Ok text) = Ok (settled text)
+read_left (Ok text) = Ok (settle text)
 read_left (Err fault) = Err fault
 
 -- the settled text of a file, as the code keeps it

@@ -6,7 +6,7 @@ ghost use Rattle.drv_words.specs.Gives.{Gives};
 ghost use Rattle.std.specs.Prelude.{◌≡◌, ◌≤◌, [], length};
 
 use crate::descent::bytes::{is_function, is_function_front};
-use crate::descent::reader::{Reader, unclosed};
+use crate::descent::reader::{Reader, unclosed_fault};
 use crate::fault::SyntaxFault;
 
 /// How many bytes of a function's name a text begins with.
@@ -34,7 +34,7 @@ pub fn function<'a>(
     let size = front_length(r.rest.bytes());
     let name = r.rest.take(size);
     let Some(b) = r.rest.first() else {
-        return Err(unclosed(outer, at));
+        return Err(unclosed_fault(outer, at));
     };
     if b != b'(' {
         return Err(SyntaxFault::UnknownFunction(at as usize));

@@ -7,7 +7,7 @@ ghost use Rattle.std.specs.Prelude.{◌≡◌, []};
 
 use crate::descent::contexts::ListKind;
 use crate::descent::patterns::pattern;
-use crate::descent::reader::{Reader, is_none, named, unclosed, written_here};
+use crate::descent::reader::{Reader, is_none, part_with_word, unclosed_fault, written_here};
 use crate::descent::runs::{RunKind, run_length};
 use crate::descent::words::{Class, first, quoted};
 use crate::directives::SayKind;
@@ -30,15 +30,15 @@ pub fn suffix(
     let size = run_length(RunKind::Suffix, bytes);
     if size != 0 {
         let word = r.rest.take(size);
-        return named(kind, at, word, r);
+        return part_with_word(kind, at, word, r);
     }
     match bytes {
-        [b'%'] => Err(unclosed(outer, r.rest.at())),
+        [b'%'] => Err(unclosed_fault(outer, r.rest.at())),
         [b'%', b'O', ..] => {
             r.rest.take(2);
-            named(kind, at, b".o", r)
+            part_with_word(kind, at, b".o", r)
         }
-        _ => named(kind, at, b"", r),
+        _ => part_with_word(kind, at, b"", r),
     }
 }
 
@@ -48,18 +48,18 @@ pub fn option(outer: Option<u32>, at: u32, r: &mut Reader<'_>) -> Result<(), Syn
         (descent.option at r.old.rest.at r.old.rest.bytes)) }
 {
     let Some(b) = r.rest.first() else {
-        return Err(unclosed(outer, at));
+        return Err(unclosed_fault(outer, at));
     };
     if b != b'{' {
         return Err(SyntaxFault::BadDirective(at as usize));
     }
     r.rest.take(1);
     let Some(word) = quoted(Class::Option, r)? else {
-        return Err(unclosed(outer, at));
+        return Err(unclosed_fault(outer, at));
     };
     let none = is_none(word, &r.word);
     let Some(_) = r.rest.first() else {
-        return Err(unclosed(outer, at));
+        return Err(unclosed_fault(outer, at));
     };
     if none {
         return Err(SyntaxFault::BadDirective(at as usize));
@@ -80,7 +80,7 @@ pub fn name(outer: Option<u32>, at: u32, r: &mut Reader<'_>) -> Result<(), Synta
     }
     let name = r.rest.take(size);
     let Some(b) = first(r.rest.bytes()) else {
-        return Err(unclosed(outer, at));
+        return Err(unclosed_fault(outer, at));
     };
     if size == 0 {
         return Err(SyntaxFault::BadDirective(at as usize));
@@ -89,7 +89,7 @@ pub fn name(outer: Option<u32>, at: u32, r: &mut Reader<'_>) -> Result<(), Synta
         return Err(SyntaxFault::BadDirective(at as usize));
     }
     r.rest.take(1);
-    named(TokenKind::NamedText, at, name, r)?;
+    part_with_word(TokenKind::NamedText, at, name, r)?;
     Ok(())
 }
 
@@ -110,7 +110,7 @@ pub fn hide(outer: Option<u32>, at: u32, r: &mut Reader<'_>) -> Result<(), Synta
 
 /// A text for the user.
 #[inline(always)]
-fn said(kind: SayKind) -> TokenKind
+fn say_kind(kind: SayKind) -> TokenKind
     ensures { result ≡ said_kind kind }
 {
     match kind {
@@ -131,9 +131,9 @@ pub fn saying(
         (descent.saying (kind_seen list) kind r.old.rest.at r.old.rest.bytes)) }
 {
     let Some(word) = quoted(Class::Said(list), r)? else {
-        return Err(unclosed(outer, r.rest.at()));
+        return Err(unclosed_fault(outer, r.rest.at()));
     };
     r.rest.take_if(b'\n');
-    written_here(said(kind), at, word, WORD_ALONE, r)?;
+    written_here(say_kind(kind), at, word, WORD_ALONE, r)?;
     Ok(())
 }

@@ -11,9 +11,9 @@ ghost use Rattle.std.specs.Prelude.{◌≡◌, ◌≤◌, IfOk, Ok, drop, true};
 
 use crate::descent::contexts::{ListContext, ListKind, in_arguments, in_braces, in_x, outermost};
 use crate::descent::functions::function;
-use crate::descent::parts::{Choice, close, close_choice, open, open_unnamed, opened};
+use crate::descent::parts::{Choice, close, close_choice, open, open_alternative, open_unnamed};
 use crate::descent::patterns::patterns;
-use crate::descent::reader::{Reader, unclosed};
+use crate::descent::reader::{Reader, unclosed_fault};
 use crate::descent::simple::{Tail, directive, ended, item, plains};
 use crate::descent::tests::{Begun, Next, Order, begin, plain_test, result_judged};
 use crate::directives::{BraceKind, Directive, allows, directive_of};
@@ -72,7 +72,7 @@ fn at_end(outer: Option<u32>, kind: ListKind, tail: Tail, n: u32) -> Result<Tail
 {
     match kind {
         ListKind::Top => Ok(with_end(tail, 0)),
-        ListKind::InX | ListKind::InArguments => Err(unclosed(outer, n)),
+        ListKind::InX | ListKind::InArguments => Err(unclosed_fault(outer, n)),
     }
 }
 
@@ -157,7 +157,7 @@ fn percent(outer: Option<u32>, c: ListContext, r: &mut Reader<'_>) -> Result<(),
     let at = r.rest.at();
     r.rest.take(1);
     let Some(b) = r.rest.first() else {
-        return Err(unclosed(outer, at));
+        return Err(unclosed_fault(outer, at));
     };
     if !allows(c, b) {
         return Err(SyntaxFault::BadDirective(at as usize));
@@ -175,7 +175,7 @@ fn percent(outer: Option<u32>, c: ListContext, r: &mut Reader<'_>) -> Result<(),
         Directive::WithBraces => braces(outer, c, at, BraceKind::InPlace, r),
         Directive::WithMarkedBraces(kind) => {
             let Some(b) = r.rest.first() else {
-                return Err(unclosed(outer, at));
+                return Err(unclosed_fault(outer, at));
             };
             if b != b'{' {
                 return Err(SyntaxFault::BadDirective(at as usize));
@@ -375,7 +375,7 @@ fn test(
     let choice = result(outer, c, at, so_far, begun, r)?;
     r.rest.skip_white();
     let Some(b) = r.rest.first() else {
-        return Err(unclosed(outer, at));
+        return Err(unclosed_fault(outer, at));
     };
     r.rest.take(1);
     let judged = result_judged(at, choice, b)?;
@@ -402,7 +402,7 @@ fn result(
     let percent = r.rest.at();
     r.rest.take(1);
     let Some(b) = r.rest.first() else {
-        return Err(unclosed(outer, at));
+        return Err(unclosed_fault(outer, at));
     };
     if b != b':' {
         return Err(SyntaxFault::BadDirective(percent as usize));
@@ -410,7 +410,7 @@ fn result(
     r.rest.take(1);
     let outer = outermost(outer, at);
     let name = function(outer, percent, r)?;
-    let choice = opened(so_far, begun.start, r)?;
+    let choice = open_alternative(so_far, begun.start, r)?;
     let naming = Naming {
         starred: false,
         negated: begun.negated,

@@ -68,7 +68,11 @@ pub fn close(kind: TokenKind, part: Open, r: &mut Reader<'_>)
 
 /// The alternative that is open, or one that opens here.
 #[inline(always)]
-pub fn opened(so_far: Option<Choice>, start: u32, r: &mut Reader<'_>) -> Result<Choice, SyntaxFault>
+pub fn open_alternative(
+    so_far: Option<Choice>,
+    start: u32,
+    r: &mut Reader<'_>,
+) -> Result<Choice, SyntaxFault>
     ensures choice { Gives SyntaxFault.Memory (λ choice. (choice, (seen r.new).parts)) result
         (Ok (choice_open so_far start (seen r.old).parts)) }
     ensures rest { r.new.rest ≡ r.old.rest }

@@ -8,7 +8,7 @@ ghost use Rattle.drv_syntax.specs.Tree.{pattern};
 ghost use Rattle.drv_words.specs.Gives.{Gives};
 ghost use Rattle.std.specs.Prelude.{◌≡◌, false, Ok};
 
-use crate::descent::reader::{Reader, Spelled, is_none, unclosed, written};
+use crate::descent::reader::{Reader, Spelled, is_none, part_of_word, unclosed_fault};
 use crate::descent::words::{Class, quoted};
 use crate::fault::SyntaxFault;
 use crate::labels::Naming;
@@ -37,7 +37,7 @@ fn star_after(
     let none = is_none(word, copied);
     let Some(b) = b else {
         if none {
-            return Err(unclosed(outer, at));
+            return Err(unclosed_fault(outer, at));
         }
         return Ok(false);
     };
@@ -63,7 +63,7 @@ pub fn pattern<'a>(
         (descent.pattern_at at r.old.rest.at r.old.rest.bytes)) }
 {
     let Some(word) = quoted(Class::Word, r)? else {
-        return Err(unclosed(outer, at));
+        return Err(unclosed_fault(outer, at));
     };
     let star = star_after(outer, at, word, &r.word, r.rest.first())?;
     r.rest.take_if(b'*');
@@ -72,7 +72,7 @@ pub fn pattern<'a>(
 
 /// The braces hold this pattern, from one place to another.
 #[inline(always)]
-fn emitted(start: u32, end: u32, p: Starred<'_>, r: &mut Reader<'_>) -> Result<(), SyntaxFault>
+fn emit_pattern(start: u32, end: u32, p: Starred<'_>, r: &mut Reader<'_>) -> Result<(), SyntaxFault>
     ensures { Gives SyntaxFault.Memory (λ _. seen r.new) result (Ok (leaf_until
         TokenKind.Pattern
         (part_label (spelled p.entry.word r.old.word.items) p.entry.star false TestKind.Switch)
@@ -83,7 +83,7 @@ fn emitted(start: u32, end: u32, p: Starred<'_>, r: &mut Reader<'_>) -> Result<(
         negated: false,
         asks: TestKind::Switch,
     };
-    written(TokenKind::Pattern, start, end, p.word, naming, r)
+    part_of_word(TokenKind::Pattern, start, end, p.word, naming, r)
 }
 
 /// Patterns after an ampersand, with the brace that closes them.
@@ -99,17 +99,17 @@ pub fn patterns(outer: Option<u32>, at: u32, r: &mut Reader<'_>) -> Result<(), S
         let end = r.rest.at();
         r.rest.skip_white();
         let Some(b) = r.rest.first() else {
-            return Err(unclosed(outer, at));
+            return Err(unclosed_fault(outer, at));
         };
         if b == b'}' {
             r.rest.take(1);
-            emitted(start, end, p, r)?;
+            emit_pattern(start, end, p, r)?;
             return Ok(());
         }
         if b != b'&' {
             return Err(SyntaxFault::BadDirective(at as usize));
         }
         r.rest.take(1);
-        emitted(start, end, p, r)?;
+        emit_pattern(start, end, p, r)?;
     }
 }

@@ -36,7 +36,7 @@ pub enum Spelled<'a> {
 }
 
 /// The text ends in this directive, where the outermost that is open is this one.
-pub fn unclosed(outer: Option<u32>, at: u32) -> SyntaxFault
+pub fn unclosed_fault(outer: Option<u32>, at: u32) -> SyntaxFault
     ensures { result ≡ SyntaxFault.Unclosed (open_at outer at) }
 {
     match outer {
@@ -58,7 +58,7 @@ pub fn is_none(word: Spelled<'_>, copied: &[u8]) -> bool
 
 /// A part from this place on that names a word, without parts inside it.
 #[inline(always)]
-pub fn named(
+pub fn part_with_word(
     kind: TokenKind,
     start: u32,
     word: &[u8],
@@ -93,7 +93,7 @@ pub fn written_here(
 
 /// A part from one place to another that names a word, of which this is said.
 #[inline(always)]
-pub fn written(
+pub fn part_of_word(
     kind: TokenKind,
     start: u32,
     end: u32,

@@ -96,7 +96,14 @@ pub fn read_text(alloc: Global, text: &[u8]) -> Result<TextParts, SyntaxFault>
     let bytes = if text.len() > 4096 { 4096 } else { text.len() };
     let labels = Labels::with_capacity(alloc, count, bytes)?;
     let r = read(alloc, 0, text, tokens, labels)?;
-    let Reader { tokens, labels, .. } = r;
+    let Reader {
+        mut tokens,
+        mut labels,
+        ..
+    } = r;
+    // Many texts are kept, and few grow.
+    tokens.shrink();
+    labels.shrink();
     Ok(TextParts { tokens, labels })
 }
 

@@ -13,7 +13,7 @@ ghost use Rattle.std.specs.Prelude.{◌≡◌, ◌∷◌, [], true, Ok, Some};
 use crate::descent::bytes::is_blank;
 use crate::descent::contexts::{ListContext, ListKind, StarOwner};
 use crate::descent::leaves::{hide, name, option, saying, suffix};
-use crate::descent::reader::{Reader, named, unclosed};
+use crate::descent::reader::{Reader, part_with_word, unclosed_fault};
 use crate::descent::runs::{RunKind, run_length};
 use crate::directives::{BuiltinName, Directive};
 use crate::fault::SyntaxFault;
@@ -34,7 +34,7 @@ pub struct Tail {
 
 /// A part from this place on that names nothing, without parts inside it.
 #[inline(always)]
-fn unnamed(kind: TokenKind, start: u32, r: &mut Reader<'_>) -> Result<(), SyntaxFault>
+fn part_without_word(kind: TokenKind, start: u32, r: &mut Reader<'_>) -> Result<(), SyntaxFault>
     ensures { Gives SyntaxFault.Memory (λ _. seen r.new) result
         (Ok (leaf_here kind no_label start (seen r.old))) }
 {
@@ -70,7 +70,7 @@ fn star(owner: StarOwner, at: u32, r: &mut Reader<'_>) -> Result<(), SyntaxFault
         StarOwner::Mixed => return Err(SyntaxFault::MixedStar(at as usize)),
         StarOwner::Starred => {}
     }
-    unnamed(TokenKind::Star, at, r)?;
+    part_without_word(TokenKind::Star, at, r)?;
     r.holds_star = true;
     Ok(())
 }
@@ -89,8 +89,8 @@ pub fn directive(
         (simple_given outer (context_seen c) at d (seen r.old)) }
 {
     match d {
-        Directive::Whole(leaf) => unnamed(TokenKind::Leaf(leaf), at, r),
-        Directive::Named(name) => named(TokenKind::BuiltinText, at, builtin_word(name), r),
+        Directive::Whole(leaf) => part_without_word(TokenKind::Leaf(leaf), at, r),
+        Directive::Named(name) => part_with_word(TokenKind::BuiltinText, at, builtin_word(name), r),
         Directive::WithSuffix(kind) => suffix(outer, kind, at, r),
         Directive::WithOption => option(outer, at, r),
         Directive::WithSaying(kind) => saying(outer, c.kind, kind, at, r),
@@ -125,7 +125,7 @@ fn white(kind: TokenKind, r: &mut Reader<'_>) -> Result<(), SyntaxFault>
 {
     let start = r.rest.at();
     r.rest.take(1);
-    unnamed(kind, start, r)
+    part_without_word(kind, start, r)
 }
 
 /// After an item that is no white space.
@@ -161,7 +161,7 @@ fn escape(outer: Option<u32>, r: &mut Reader<'_>) -> Result<(), SyntaxFault>
 {
     let start = r.rest.at();
     let Some(b) = r.rest.second() else {
-        return Err(unclosed(outer, start));
+        return Err(unclosed_fault(outer, start));
     };
     r.rest.take(2);
     r.tokens.push(TokenKind::Escape, start, r.rest.at())?;
@@ -181,7 +181,7 @@ fn single(outer: Option<u32>, c: ListContext, b: u8, r: &mut Reader<'_>) -> Resu
     if b == b'|' && !c.in_arguments {
         let start = r.rest.at();
         r.rest.take(1);
-        return unnamed(TokenKind::Pipe, start, r);
+        return part_without_word(TokenKind::Pipe, start, r);
     }
     plain(b, r)
 }

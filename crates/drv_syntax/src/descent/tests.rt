@@ -12,9 +12,9 @@ ghost use Rattle.drv_words.specs.Gives.{Gives};
 ghost use Rattle.std.specs.Prelude.{◌≡◌, ◌==◌, ◌++◌, ◌∷◌, [], false, Ok, Some};
 
 use crate::descent::bytes::{is_mark, is_white};
-use crate::descent::parts::{Choice, opened};
+use crate::descent::parts::{Choice, open_alternative};
 use crate::descent::patterns::pattern;
-use crate::descent::reader::{Reader, Spelled, is_none, unclosed, written};
+use crate::descent::reader::{Reader, Spelled, is_none, part_of_word, unclosed_fault};
 use crate::descent::words::{Class, quoted};
 use crate::fault::SyntaxFault;
 use crate::labels::{Labels, Naming, WORD_ALONE};
@@ -114,7 +114,7 @@ fn mark_form(
     let none = is_none(word, copied);
     let Some(b) = b else {
         if none {
-            return Err(unclosed(outer, at));
+            return Err(unclosed_fault(outer, at));
         }
         return Ok(MarkForm::Word);
     };
@@ -165,7 +165,7 @@ fn marked<'a>(
         (descent.quoted is_word r.old.rest.bytes) r.old.rest.bytes)) }
 {
     let Some(word) = quoted(Class::Word, r)? else {
-        return Err(unclosed(outer, at));
+        return Err(unclosed_fault(outer, at));
     };
     let form = mark_form(outer, at, order, begun, word, &r.word, r.rest.first())?;
     r.rest.take_if(b'*');
@@ -277,9 +277,9 @@ fn write_test(
         (Ok (asked_on so_far (seen r.old) (span begun.start end) begun.negated
         (test_of o.entry.asked (spelled o.entry.word r.old.word.items)))) }
 {
-    let choice = opened(so_far, begun.start, r)?;
+    let choice = open_alternative(so_far, begun.start, r)?;
     let naming = naming_of(o.asked, begun);
-    written(TokenKind::Test, begun.start, end, o.word, naming, r)?;
+    part_of_word(TokenKind::Test, begun.start, end, o.word, naming, r)?;
     Ok(Choice {
         part: choice.part,
         label: choice.label,
@@ -289,7 +289,7 @@ fn write_test(
 
 /// The braces hold this pattern.
 #[inline(always)]
-fn emitted(
+fn emit_pattern(
     at: u32,
     order: Order,
     begun: Begun,
@@ -310,7 +310,7 @@ fn emitted(
 
 /// The alternative has this test.
 #[inline(always)]
-fn tested(
+fn alternative_with_test(
     at: u32,
     so_far: Option<Choice>,
     begun: Begun,
@@ -350,15 +350,15 @@ fn judged(
     r.rest.take(1);
     match b {
         b'}' => {
-            emitted(at, order, begun, end, o, r)?;
+            emit_pattern(at, order, begun, end, o, r)?;
             Ok(Next::Emits)
         }
         b'&' => {
-            emitted(at, order, begun, end, o, r)?;
+            emit_pattern(at, order, begun, end, o, r)?;
             Ok(Next::Joins)
         }
-        b':' => Ok(Next::Asks(tested(at, so_far, begun, end, o, r)?)),
-        b'|' => Ok(Next::Bars(tested(at, so_far, begun, end, o, r)?)),
+        b':' => Ok(Next::Asks(alternative_with_test(at, so_far, begun, end, o, r)?)),
+        b'|' => Ok(Next::Bars(alternative_with_test(at, so_far, begun, end, o, r)?)),
         _ => Err(SyntaxFault::BadDirective(at as usize)),
     }
 }
@@ -372,7 +372,7 @@ pub fn begin(outer: Option<u32>, at: u32, r: &mut Reader<'_>) -> Result<Begun, S
     r.rest.skip_white();
     let start = r.rest.at();
     let Some(byte) = r.rest.first() else {
-        return Err(unclosed(outer, at));
+        return Err(unclosed_fault(outer, at));
     };
     if byte != b'!' {
         return Ok(Begun {
@@ -384,7 +384,7 @@ pub fn begin(outer: Option<u32>, at: u32, r: &mut Reader<'_>) -> Result<Begun, S
     r.rest.take(1);
     r.rest.skip_white();
     let Some(byte) = r.rest.first() else {
-        return Err(unclosed(outer, at));
+        return Err(unclosed_fault(outer, at));
     };
     Ok(Begun {
         start,
@@ -414,7 +414,7 @@ pub fn plain_test(
     let end = r.rest.at();
     r.rest.skip_white();
     let Some(b) = r.rest.first() else {
-        return Err(unclosed(outer, at));
+        return Err(unclosed_fault(outer, at));
     };
     judged(at, order, so_far, begun, end, o, b, r)
 }

@@ -6,6 +6,7 @@ ghost use Rattle.std.specs.Prelude.{◌≡◌, ◌<◌, ◌≤◌, ◌^◌, ◌+
 ghost use Rattle.std.specs.Prelude.{slice_set, take, vec_capacity, vec_len};
 
 use crate::fault::SyntaxFault;
+use crate::room::reserve_one;
 use crate::token::{Token, TokenKind};
 use std::alloc::Global;
 use std::marker::Model;
@@ -57,7 +58,7 @@ fn push_plains(n: u32, run: &[u8], list: &mut Vec<Token>)
 }
 
 /// A part that opens here.
-fn opened(kind: TokenKind, start: u32) -> Token
+fn opening_token(kind: TokenKind, start: u32) -> Token
     ensures { result ≡ open_token kind start }
 {
     Token {
@@ -107,8 +108,8 @@ impl Tokens {
         ensures { Gives SyntaxFault.Memory (λ _. self.new) result
             (Ok (self.old ++ open_token kind start ∷ [])) }
     {
-        self.list.reserve(1)?;
-        self.list.push_reserved(opened(kind, start));
+        reserve_one(&mut self.list)?;
+        self.list.push_reserved(opening_token(kind, start));
         Ok(())
     }
 
@@ -119,7 +120,7 @@ impl Tokens {
             (Ok (self.old ++ whole_token kind start end (length self.old + 1) ∷ [])) }
     {
         let next = self.list.len() + 1;
-        self.list.reserve(1)?;
+        reserve_one(&mut self.list)?;
         self.list.push_reserved(Token {
             kind,
             start,
@@ -155,6 +156,13 @@ impl Tokens {
                 next,
             };
         }
+    }
+
+    /// Gives back the room that none of them takes.
+    pub fn shrink(&mut self)
+        ensures { self.new ≡ self.old }
+    {
+        self.list.shrink_to_fit();
     }
 
     /// Only the first ones, so many.

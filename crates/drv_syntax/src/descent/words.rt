@@ -72,7 +72,7 @@ pub fn second(text: &[u8]) -> Option<u8>
 
 /// More of a run of bytes of the class and of escapes, after this part of it; nothing where the text
 /// ends in an escape.
-fn escaped<'a>(
+fn escaped_run<'a>(
     class: Class,
     front: &[u8],
     r: &mut Reader<'a>,
@@ -112,5 +112,5 @@ pub fn quoted<'a>(class: Class, r: &mut Reader<'a>) -> Result<Option<Spelled<'a>
     if !begins(b'\\', r.rest.bytes()) {
         return Ok(Some(Spelled::Lent(run)));
     }
-    escaped(class, run, r)
+    escaped_run(class, run, r)
 }

@@ -6,8 +6,8 @@ use Rattle.std.proofs.lemmas.List.Sorted.{IsNonDecreasingBy-from_sort}
 
 -- hits (src/switches.rt). The places of the switches that a pattern hits, in order.
 
-pub counts-requires-clause-in_range : goal.counts-requires-clause-in_range
-counts-requires-clause-in_range c = named_within c.args.self.now c.args.pattern.now c.named_places-named.result.now
+pub counts-requires : goal.counts-requires
+counts-requires c = named_within c.args.self.now c.args.pattern.now c.named_places-named.result.now
     c.named_places-named.ensures
     c.loop-place.place-index (omega arith)
 

@@ -5,8 +5,8 @@ use Rattle.std.proofs.Common.{arith}
 
 -- mark_hits (src/switches.rt). Sets the flags of the places that a pattern hits.
 
-pub counts-requires-clause-in_range : goal.counts-requires-clause-in_range
-counts-requires-clause-in_range c = named_within c.args.self.now c.args.pattern.now c.named_places-named.result.now
+pub counts-requires : goal.counts-requires
+counts-requires c = named_within c.args.self.now c.args.pattern.now c.named_places-named.result.now
     c.named_places-named.ensures
     c.loop-place.place-index (omega arith)
 

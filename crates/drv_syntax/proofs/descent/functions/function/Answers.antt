@@ -12,7 +12,7 @@ returns-in_default c =
     inr (function_cut c.args.outer c.args.at (seen c.args.r.now) c.front_length-size.result c.take-name.result.now c.take-name.new.self
     (c.front_length-size.ensures.size ∙ ap (λ bs. front_size [] bs) c.bytes.ensures) c.take-name.ensures.left c.take-name.ensures.taken
     c.in_default.ensures
-    ∙ ap (λ e. Err e) (sym c.unclosed.ensures))
+    ∙ ap (λ e. Err e) (sym c.unclosed_fault.ensures))
 
 -- no parenthesis (40) follows the front of a name
 pub returns-then-b-ne40 : goal.returns-then-b-ne40

@@ -21,7 +21,7 @@ returns-in_default c =
     inr (name_cut c.args.outer c.args.at c.args.at (seen c.args.r.now) c.run_length-size.result c.take-name.result.now c.take-name.new.self
     (c.run_length-size.ensures.run ∙ ap (λ bs. prefix_len is_name_byte bs) c.bytes.ensures) (omega (arith, c.if-size-gt255.false))
     c.take-name.ensures.left c.take-name.ensures.taken (ap (λ bs. first_of bs) (sym c.bytes-2.ensures) ∙ sym c.in_default.ensures)
-    ∙ ap (λ e. Err e) (sym c.unclosed.ensures))
+    ∙ ap (λ e. Err e) (sym c.unclosed_fault.ensures))
 
 -- another byte than a closing parenthesis (41) follows the name
 pub returns-then-b-ne41 : goal.returns-then-b-ne41
@@ -40,4 +40,4 @@ returns c =
     (ap (λ bs. first_of bs) (sym c.bytes-2.ensures) ∙ sym c.in-Some.ensures) c.if-b-ne41.false
     (taken_some c.run_length-size.result c.take-name.result.now c.args.r.now.rest.bytes c.take-name.ensures.taken
     (subst (λ bs. c.run_length-size.result ≤ length bs) c.bytes.ensures c.run_length-size.ensures.within) c.if-size-eq0.false)
-    ∙ c.in_ok-named.ensures
+    ∙ c.in_ok-part_with_word.ensures

@@ -14,7 +14,7 @@ returns-in_default-2 c =
     c.take.ensures.left
     ∙ option_hung c.args.outer c.args.at (seen c.args.r.now) c.take.new.self (seen c.quoted.new.r)
     (seen_none _ c.quoted.new.r.word.items (seen c.quoted.new.r) _ c.in_ok-word.ensures c.in_default-2.is)
-    ∙ ap (λ e. Err e) (sym c.unclosed-in_default-2.ensures))
+    ∙ ap (λ e. Err e) (sym c.unclosed_fault-in_default-2.ensures))
 
 -- the text ends in an escape of the option
 pub returns-in_default-first : goal.returns-in_default-first
@@ -26,7 +26,7 @@ returns-in_default-first c =
     (seen_some _ c.in-Some-2.word c.quoted.new.r.word.items (seen c.quoted.new.r) _ c.in_ok-word.ensures c.in-Some-2.is)
     ∙ option_end_cut c.args.outer c.args.at (seen c.args.r.now) (seen c.quoted.new.r) (spelled c.in-Some-2.word c.quoted.new.r.word.items)
     c.in_default-first.ensures
-    ∙ ap (λ e. Err e) (sym c.unclosed-in_default-first.ensures))
+    ∙ ap (λ e. Err e) (sym c.unclosed_fault-in_default-first.ensures))
 
 -- the option has no bytes
 pub returns-then-none : goal.returns-then-none

@@ -22,7 +22,7 @@ use Rattle.drv_syntax.specs.Contexts.{in_arguments}
 use Rattle.drv_syntax.specs.Refusals.{AtBar, AtFront}
 use Rattle.drv_syntax.specs.Descent as descent
 use Rattle.drv_syntax.specs.declared.descent.tests.Next.TheVariants as nexts
-use Rattle.std.proofs.Common.{◌∙◌, [], ◌∷◌, false, true, ap, arith, drop, inr, refl, sym}
+use Rattle.std.proofs.Common.{◌∙◌, [], ◌∷◌, false, ap, arith, drop, inr, refl, sym}
 use Rattle.std.specs.Prelude.{Err, Ok, Some}
 
 -- The functions of the reader that call one another (src/descent/): each gives what the descent gives for its list, choice, test or call.
@@ -459,7 +459,7 @@ test-returns-in_default t c =
     c.if-begun-ne37.false
     (deep_enough c.args.c.levels c.requires c.if-c-eq1.false) c.in_ok-choice.choice
     (seen c.result.new.r) c.in_ok-choice.ensures c.skip_white.new.self c.skip_white.ensures
-    c.in_default.ensures ∙ ap (λ x. Err x) (sym c.unclosed.ensures))
+    c.in_default.ensures ∙ ap (λ x. Err x) (sym c.unclosed_fault.ensures))
 
 pub test-returns-in_err-judged : goal.test-returns-in_err-judged
 test-returns-in_err-judged t c =
@@ -491,9 +491,9 @@ result-returns-in_err-items t c =
     c.in-Some.b c.take.new.self c.take-2.new.self c.take.ensures.left c.in-Some.ensures c.if-b-ne58.false c.take-2.ensures.left
     c.outermost-outer.result c.outermost-outer.ensures c.at-percent.result c.at-percent.ensures.place c.in_ok-name.name.now
     (seen c.function.new.r)
-    c.in_ok-name.ensures c.in_ok-choice.choice (seen c.opened.new.r) (seen c.open.new.r) c.in_ok-part.part
+    c.in_ok-name.ensures c.in_ok-choice.choice (seen c.open_alternative.new.r) (seen c.open.new.r) c.in_ok-part.part
     (ok_same c.in_ok-choice.ensures.choice)
-    c.opened.ensures.rest (ok_same c.in_ok-part.ensures) (context_seen c.in_arguments.result)
+    c.open_alternative.ensures.rest (ok_same c.in_ok-part.ensures) (context_seen c.in_arguments.result)
     (c.in_arguments.ensures ∙ ap (λ x. in_arguments x) c.in_braces.ensures) c.requires.levels c.in_err-items.field-0.0 h)
     c.in_err-items.ensures.list c.from_residual-in_err-items.ensures.1
 
@@ -503,9 +503,9 @@ result-returns t c =
     c.in-Some.b c.take.new.self c.take-2.new.self c.take.ensures.left c.in-Some.ensures c.if-b-ne58.false c.take-2.ensures.left
     c.outermost-outer.result c.outermost-outer.ensures c.at-percent.result c.at-percent.ensures.place c.in_ok-name.name.now
     (seen c.function.new.r)
-    c.in_ok-name.ensures c.in_ok-choice.choice (seen c.opened.new.r) (seen c.open.new.r) c.in_ok-part.part
+    c.in_ok-name.ensures c.in_ok-choice.choice (seen c.open_alternative.new.r) (seen c.open.new.r) c.in_ok-part.part
     (ok_same c.in_ok-choice.ensures.choice)
-    c.opened.ensures.rest (ok_same c.in_ok-part.ensures) (context_seen c.in_arguments.result)
+    c.open_alternative.ensures.rest (ok_same c.in_ok-part.ensures) (context_seen c.in_arguments.result)
     (c.in_arguments.ensures ∙ ap (λ x. in_arguments x) c.in_braces.ensures) c.requires.levels
     c.in_ok-items.field-0 (seen c.items.new.r) c.take-3.new.self c.in_ok-items.ensures.list c.take-3.ensures.left
     ∙ ap (λ x. Ok (record { part = c.in_ok-choice.choice.part; label = c.in_ok-choice.choice.label; starred = false }, x))

@@ -11,7 +11,7 @@ pub returns-in_default : goal.returns-in_default
 returns-in_default c =
     inr (pattern_hung c.args.outer c.args.at (seen c.args.r.now) (seen c.quoted.new.r)
     (seen_none _ c.quoted.new.r.word.items (seen c.quoted.new.r) _ c.in_ok-word.ensures c.in_default.is)
-    ∙ ap (λ e. Err e) (sym c.unclosed.ensures))
+    ∙ ap (λ e. Err e) (sym c.unclosed_fault.ensures))
 
 -- what follows the word makes no pattern
 pub returns-in_err-star : goal.returns-in_err-star

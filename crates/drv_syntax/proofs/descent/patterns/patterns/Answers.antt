@@ -26,7 +26,7 @@ returns-in_default c =
     (pattern (spelled c.in_ok-p.p.word c.pattern.new.r.word.items) c.in_ok-p.p.star) c.at-start.result c.at-end.result
     c.skip_white.ensures c.in_ok-p.ensures c.skip_white-in-loop-p.ensures c.at-start.ensures.place c.at-end.ensures.place
     c.in_default.ensures
-    ∙ ap (λ e. Err e) (sym c.unclosed.ensures))
+    ∙ ap (λ e. Err e) (sym c.unclosed_fault.ensures))
 
 -- another byte than } and & (38) follows a pattern
 pub returns-then-b-ne38 : goal.returns-then-b-ne38
@@ -46,12 +46,12 @@ returns-then-b-eq125 c =
     (pattern (spelled c.in_ok-p.p.word c.pattern.new.r.word.items) c.in_ok-p.p.star) c.at-start.result c.at-end.result
     c.skip_white.ensures c.in_ok-p.ensures c.skip_white-in-loop-p.ensures c.at-start.ensures.place c.at-end.ensures.place c.in-Some.b
     c.take.new.self c.in-Some.ensures
-    c.if-b-eq125.true c.take.ensures.left ∙ c.in_ok-emitted.ensures
+    c.if-b-eq125.true c.take.ensures.left ∙ c.in_ok-emit_pattern.ensures
 
 -- after an ampersand less of the text is left
 pub loop-p-smaller : goal.loop-p-smaller
 loop-p-smaller c =
-    subst (λ (v : Reading). length v.rest.bytes < length c.loop-p.r.rest.bytes) (ok_same c.in_ok-emitted-2.ensures)
+    subst (λ (v : Reading). length v.rest.bytes < length c.loop-p.r.rest.bytes) (ok_same c.in_ok-emit_pattern-2.ensures)
     (joined_shorter c.args.outer c.args.at (seen c.loop-p.r) (seen c.pattern.new.r) c.skip_white.new.self c.skip_white-in-loop-p.new.self
     (pattern (spelled c.in_ok-p.p.word c.pattern.new.r.word.items) c.in_ok-p.p.star) c.at-start.result c.at-end.result
     c.skip_white.ensures c.in_ok-p.ensures c.skip_white-in-loop-p.ensures c.at-start.ensures.place c.at-end.ensures.place c.in-Some.b
@@ -67,4 +67,4 @@ loop-p-preserved c =
     c.take-in-loop-p.new.self c.in-Some.ensures
     c.if-b-ne38.false c.take-in-loop-p.ensures.left
     ∙ ap (λ (v : Reading). patterns_given c.args.outer v (descent.patterns c.args.at v.rest.at 0 v.rest.bytes))
-    (ok_same c.in_ok-emitted-2.ensures))
+    (ok_same c.in_ok-emit_pattern-2.ensures))

@@ -24,9 +24,11 @@ returns-in_err-r c =
     (ok_same c.in_ok-labels.ensures)) ∙ h)
     c.in_err-r.ensures c.from_residual-in_err-r.ensures.1
 
--- the text is read
+-- the text is read, and what is kept of it takes no more room than it fills
 pub returns : goal.returns
 returns c =
-    sym (from_start c.args.text.now c.in_ok-tokens.tokens c.in_ok-labels.labels (ok_same c.in_ok-tokens.ensures)
-    (ok_same c.in_ok-labels.ensures))
-    ∙ c.in_ok-r.ensures
+    let read = sym (from_start c.args.text.now c.in_ok-tokens.tokens c.in_ok-labels.labels (ok_same c.in_ok-tokens.ensures)
+    (ok_same c.in_ok-labels.ensures)) ∙ c.in_ok-r.ensures in
+    let tokens = c.shrink.ensures in
+    let labels = c.shrink-2.ensures in
+    rw tokens (rw labels read)

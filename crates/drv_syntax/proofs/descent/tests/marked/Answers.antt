@@ -15,7 +15,7 @@ returns-in_default c =
     inr (marked_hung c.args.outer c.args.at (may_emit (order_seen c.args.order) c.args.begun.negated) c.args.begun.byte (seen c.args.r.now)
     (seen c.quoted.new.r)
     (seen_none _ c.quoted.new.r.word.items (seen c.quoted.new.r) _ c.in_ok-word.ensures c.in_default.is)
-    ∙ ap (λ e. Err e) (sym c.unclosed.ensures))
+    ∙ ap (λ e. Err e) (sym c.unclosed_fault.ensures))
 
 -- what follows the word makes neither a test nor a pattern
 pub returns-in_err-form : goal.returns-in_err-form

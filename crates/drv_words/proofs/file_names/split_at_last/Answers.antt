@@ -1,8 +1,8 @@
 use Rattle.drv_words.proofs.LastOfAKind.{nowhere_after, parted_at, parted_nowhere}
-use Rattle.drv_words.proofs.file_names.parted.Goals as goal
+use Rattle.drv_words.proofs.file_names.split_at_last.Goals as goal
 use Rattle.std.proofs.Common.{rules, sym}
 
--- parted (src/file_names.rt). The bytes before the last byte of a kind, and those after it, if there is one.
+-- split_at_last (src/file_names.rt). The bytes before the last byte of a kind, and those after it, if there is one.
 
 pub returns-in-Some : goal.returns-in-Some
 returns-in-Some c =

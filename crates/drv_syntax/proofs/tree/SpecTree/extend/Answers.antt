@@ -1,10 +1,10 @@
 use Rattle.drv_syntax.proofs.Kept.{kept_there, read_of, read_spelled, refused_more, tree_there}
 use Rattle.drv_syntax.proofs.ParsedGrammar.{given_refused, long_refused}
-use Rattle.drv_syntax.proofs.tree.SpecTree.extended.Goals as goal
+use Rattle.drv_syntax.proofs.tree.SpecTree.extend.Goals as goal
 use Rattle.drv_syntax.specs.Code.Ending.{ending_in, goes_on}
 use Rattle.std.proofs.Common.{◌∙◌, ◌++◌, ap, arith, inr, length, length-append, sym}
 
--- extended (src/tree.rt). The tree of the text with more after it, or its first fault.
+-- extend (src/tree.rt). The tree of the text with more after it, or its first fault.
 
 -- what follows the kept parts has a fault: it is that of the whole text
 pub returns-in_err-read-clause-tree : goal.returns-in_err-read-clause-tree

@@ -1,11 +1,11 @@
 use Rattle.drv_syntax.proofs.Writing.{escape_kept, plain_kept}
-use Rattle.drv_syntax.proofs.descent.words.escaped.Goals as goal
+use Rattle.drv_syntax.proofs.descent.words.escaped_run.Goals as goal
 use Rattle.drv_syntax.specs.Code.Writing.{seen}
 use Rattle.drv_syntax.specs.Code.Left.{first_of, second_of}
 use Rattle.std.proofs.Common.{◌∙◌, ap, sym}
 
--- escaped (src/descent/words.rt). More of a run of bytes of the class and of escapes, after this part of it; nothing where the text ends in
--- an escape.
+-- escaped_run (src/descent/words.rt). More of a run of bytes of the class and of escapes, after this part of it; nothing where the text
+-- ends in an escape.
 
 -- after a backslash (92) and the byte that it makes plain, which is copied
 pub loop-b-preserved-then-b-eq92 : goal.loop-b-preserved-then-b-eq92
