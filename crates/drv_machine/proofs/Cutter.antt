@@ -10,7 +10,7 @@ use Rattle.drv_machine.specs.declared.fault.MachineFault.TheVariants.{Memory}
 use Rattle.drv_system.specs.Facts.{Facts}
 use Rattle.drv_system.specs.Gives.{GivesKnown}
 use Rattle.drv_system.specs.Known.{Is, Unasked}
-use Rattle.std.proofs.Common.{◌≡◌, ◌∙◌, ◌⊎◌, ◌+◌, ◌-◌, ◌++◌, ◌||◌, List, [], ◌∷◌, Bool, Option, Result, Ok, Err, ap, arith}
+use Rattle.std.proofs.Common.{◌≡◌, ◌∙◌, ◌⊎◌, ◌++◌, ◌||◌, List, [], ◌∷◌, Bool, Option, Result, Ok, Err, ap, arith}
 use Rattle.std.proofs.Common.{append_assoc, append-nil, false, inl, inr, length, map, refl, subst, sym, true, ℕ}
 use Rattle.std.specs.Option.{unwrap_or}
 use Rattle.std.specs.Prelude.{◌==◌, None, Some, get_or, replicate}
@@ -36,13 +36,6 @@ pub in_word_twice : (c : Cut) (xs ys : List ℕ) → in_word (in_word c xs) ys �
 in_word_twice c xs ys =
     ap (λ word. record (in_word (in_word c xs) ys) { word = Some word }) (append_assoc (unwrap_or c.word []) xs ys)
     ∙ ap (λ stray. record (in_word c (xs ++ ys)) { stray = stray }) (or_again c.stray c.line.piped)
-
--- a word that has grown by a run of plain bytes, as `put_run` grows it, is the cut with these bytes in its word
-pub run_put : (s : Machine) (bs word : List ℕ) (items : ℕ) → word ≡ unwrap_or s.cut.word [] ++ bs
-    → items ≡ s.world.items + (length bs - 1)
-    → record s { cut = record (touched s.cut) { word = Some word }; world = record s.world { items = items } }
-    ≡ record s { cut = in_word s.cut bs; world = record s.world { items = s.world.items + (length bs - 1) } }
-run_put s bs word items is count = rw (is, count) refl
 
 -- for any answers F of the system, and any C that a text is run for
 module _ (F : Facts) (C : Context) where

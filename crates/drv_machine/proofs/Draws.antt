@@ -1,9 +1,10 @@
-use Rattle.drv_machine.specs.Atoms.{temp_step}
+use Rattle.drv_machine.proofs.Steps.{then_ok}
+use Rattle.drv_machine.specs.Atoms.{draw, drawn_or_new, temp_step}
 use Rattle.drv_machine.specs.Context.{Context}
 use Rattle.drv_machine.specs.Code.Held.{Lasts, NotesPath}
 use Rattle.drv_machine.specs.Code.Running.{Machine, run}
 use Rattle.drv_machine.specs.Temps.{folder, hex, is_drawn, is_same, last_drawn, temp_name}
-use Rattle.drv_machine.specs.Working.{bytes}
+use Rattle.drv_machine.specs.Working.{Step, bytes, give, look}
 use Rattle.drv_machine.specs.declared.machine.drawn_names.LastPaths.{LastPaths}
 use Rattle.drv_machine.specs.declared.machine.naming.Drawing.TheVariants.{Anew, Once}
 use Rattle.drv_machine.specs.declared.machine.naming.Drawing.{Drawing}
@@ -14,7 +15,7 @@ use Rattle.drv_system.specs.Facts.{Facts, variable_of}
 use Rattle.drv_system.specs.Known.{◌>>=◌, Is, asked}
 use Rattle.drv_words.specs.Bytes.{hyphen}
 use Rattle.std.proofs.Common.{◌≡◌, ◌∙◌, ◌++◌, ◌<◌, ◌+◌, Bool, List, [], ◌∷◌, None, Option, Some, ap, append_assoc, codes, drop, false}
-use Rattle.std.proofs.Common.{get_or, length, refl, sym, take, true, ℕ}
+use Rattle.std.proofs.Common.{Ok, get_or, length, refl, sym, take, true, ℕ}
 use Rattle.std.proofs.lemmas.List.{drop_more, take-append-drop}
 use Rattle.std.specs.BTreeMap.{BTreeMap, get, is_at}
 use Rattle.std.specs.Cmp.Lexicographic.{pointwise, slice_cmp, texts_ties}
@@ -131,6 +132,16 @@ path_noted paths after name suffix path suffix_is path_is grows other =
         ≡ (if b then Some name.path else get (slice_cmp nat_cmp) paths other)
     turned true = refl
     turned false = refl
+
+-- where no name was drawn so, a new one is
+pub none_drawn : (F : Facts) (C : Context) (s : Machine) (names : List Drawn) (drawing : Drawing) (suffix : List ℕ) → names ≡ s.world.drawn
+    → last_drawn drawing suffix s.world.drawn ≡ None
+    → run F C (record s { world = record s.world { drawn = names } }) (draw F C drawing suffix) ≡ run F C s
+    (drawn_or_new F C drawing suffix)
+none_drawn F C s names drawing suffix same none =
+    rw same (sym (then_ok F C s (look (λ w. last_drawn drawing suffix w.drawn))
+    (λ found. elim found as (λ x. Step (List ℕ)) [ None ↦ draw F C drawing suffix | Some path ↦ give path ]) None s
+    (ap (λ (found : Option (List ℕ)). Is (Ok (found, s))) none)))
 
 -- where commands are piped, %| is a hyphen
 pub piped_out : (F : Facts) (C : Context) (s : Machine) (kind : TempKind) (suffix : List ℕ) → kind ≡ PipedOut → C.is_piping ≡ true

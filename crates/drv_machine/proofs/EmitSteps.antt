@@ -5,10 +5,9 @@ use Rattle.drv_machine.proofs.Steps.{fails_as}
 use Rattle.drv_machine.specs.Atoms.{emitted, matching, places, switch_atoms}
 use Rattle.drv_machine.specs.Code.ByKind.{labelled, put_at}
 use Rattle.drv_machine.specs.Context.{Context, argument, names}
-use Rattle.drv_machine.specs.Cutting.{Cut, all_taken}
 use Rattle.drv_machine.specs.Code.Running.{Machine, run}
 use Rattle.drv_machine.specs.Code.Standing.{Stands}
-use Rattle.drv_machine.specs.Working.{◌>>-◌, Answer, Atom, Break, Put, World, puts, word_of}
+use Rattle.drv_machine.specs.Working.{Break, Put, puts, word_of}
 use Rattle.drv_machine.specs.declared.fault.MachineFault.TheVariants.{Memory}
 use Rattle.drv_machine.specs.declared.fault.MachineFault.{MachineFault}
 use Rattle.drv_match.specs.Matching.{any_hits, is_any_hit, is_hit, name_at}
@@ -20,7 +19,7 @@ use Rattle.drv_syntax.specs.Tree.{Pattern, Span}
 use Rattle.drv_syntax.specs.declared.token.Token.{Token}
 use Rattle.drv_syntax.specs.declared.token.TokenKind.TheVariants as kinds
 use Rattle.drv_system.specs.Facts.{Facts}
-use Rattle.drv_system.specs.Known.{Is, Unasked}
+use Rattle.drv_system.specs.Known.{Is}
 use Rattle.drv_words.specs.Bytes.{hyphen}
 use Rattle.std.proofs.Common.{◌≡◌, ◌⊎◌, ◌<◌, ◌≤◌, ◌+◌, ◌∙◌, ◌++◌, ◌||◌, All, Bool, Err, List, [], ◌∷◌, Ok, Option, Some, ap, append-nil}
 use Rattle.std.proofs.Common.{append_assoc, arith, drop, get_or, if◌then◌else◌, length, map, refl, slice_get, subst, sym, ℕ}
@@ -135,21 +134,6 @@ module _ (F : Facts) (C : Context) (s t : Machine) (places : List ℕ) (k : ℕ)
       (run F C s (puts (put_at F C (drop k places))))
       (put_failed F C s (switch_atoms F C (get_or places k 0)) (put_at F C (drop (k + 1) places)) fault stopped)
       (λ x. ap (λ list. run F C s (puts list)) put_more ∙ x)
-
--- atoms change the cut alone, not the world
-pub put_world : (F : Facts) (C : Context) (s t : Machine) (atoms : List Atom) → run F C s (puts atoms) ≡ Is (Ok (tt, t)) → t.world ≡ s.world
-put_world F C s t atoms e = by (all_taken F C s.cut atoms) e
-  where
-    by : (a : Answer Cut) → ◌>>-◌ {Y = Unit {0} × Machine} a (λ d. Is (Ok (tt, record { cut = d; world = s.world }))) ≡ Is (Ok (tt, t))
-        → t.world ≡ s.world
-    by (Is (Ok d)) e = ap world_in (sym e)
-      where
-        world_in : Answer (Unit {0} × Machine) → World
-        world_in (Is (Ok r)) = r.1.world
-        world_in (Is (Err fault)) = s.world
-        world_in Unasked = s.world
-    by (Is (Err fault)) e = absurd cc
-    by Unasked e = absurd cc
 
 -- an index of the code's list of names is a place of the line
 pub in_line : (C : Context) (all : List (List ℕ)) (i n : ℕ) → i < n → n ≡ length all → all ≡ names C → i < length C.switches

@@ -11,7 +11,7 @@ use Rattle.drv_machine.specs.Cutting.{in_word}
 use Rattle.drv_machine.specs.Working.{Answer, Goes, Refuses, counted, most_items}
 use Rattle.drv_machine.specs.declared.fault.MachineFault.TheVariants.{TooManySteps}
 use Rattle.drv_machine.specs.declared.walk.Walk.{Walk}
-use Rattle.drv_syntax.specs.Labels.{Label, inner_nodes, label_of, labels_of, no_node}
+use Rattle.drv_syntax.specs.Labels.{Label, inner_nodes, label_of, labels_of}
 use Rattle.drv_syntax.specs.Parsed.{tree_of}
 use Rattle.drv_syntax.specs.PlainRuns.{AreBytes, IsByte}
 use Rattle.drv_syntax.specs.Tokens.{kind_of, tokens_of}

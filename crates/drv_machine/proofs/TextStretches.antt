@@ -16,7 +16,7 @@ use Rattle.drv_machine.specs.Temps.{last_drawn, temp_name}
 use Rattle.drv_funcs.specs.Outcome as outcomes
 use Rattle.drv_machine.specs.Cuts.{Balanced, Enclosed, Failure, File, Filed, Stretched, open_following}
 use Rattle.drv_machine.specs.Working.{◌>>-◌, ◌>>=◌, ◌>>◌, Atom, Break, End, FileFrom, FileTo, From, Goes, Levels, Marked, Piped, Put}
-use Rattle.drv_machine.specs.Working.{Refuses, Step, To, Waits, Without, Worked, World, following, called, known, look, most_open, needs}
+use Rattle.drv_machine.specs.Working.{Refuses, Step, To, Waits, Without, Worked, World, called, known, look, most_open, needs}
 use Rattle.drv_machine.specs.Working.{puts, word_of, words}
 use Rattle.drv_machine.specs.declared.fault.MachineFault.TheVariants as fault
 use Rattle.drv_machine.specs.declared.machine.marking.Mark.TheVariants.{AsFile, AsOutput, AsRemoved, AsScript}

@@ -1,5 +1,5 @@
 use Rattle.drv_machine.specs.Context.{Source}
-use Rattle.drv_words.specs.FileNames.{suffixed}
+use Rattle.drv_words.specs.FileNames.{split_suffix}
 use Rattle.std.specs.Cmp.Lexicographic.{pointwise}
 use Rattle.std.specs.Prelude.{Bool, List, Option, None, Some, false, nat_eq, ℕ}
 
@@ -8,7 +8,7 @@ use Rattle.std.specs.Prelude.{Bool, List, Option, None, Some, false, nat_eq, ℕ
 -- the suffix of an input, without its period
 abbrev pub suffix_of : Option Source → Option (List ℕ)
 suffix_of None = None
-suffix_of (Some source) = by (suffixed source.name)
+suffix_of (Some source) = by (split_suffix source.name)
   where
     by : Option (List ℕ × List ℕ) → Option (List ℕ)
     by None = None

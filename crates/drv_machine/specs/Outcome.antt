@@ -53,8 +53,8 @@ once [] = []
 once (file ∷ files) = file ∷ filter (λ other. not (pointwise nat_eq file other)) (once files)
 
 -- each once, and not the job's own temporaries
-abbrev pub lasting : List (List ℕ) → List (List ℕ) → List (List ℕ)
-lasting temps files = filter (λ file. not (is_among temps file)) (once files)
+abbrev pub lasting_files : List (List ℕ) → List (List ℕ) → List (List ℕ)
+lasting_files temps files = filter (λ file. not (is_among temps file)) (once files)
 
 -- whose job it is says the plan
 abbrev pub job : World → Cut → List (List Command) → Job
@@ -62,8 +62,8 @@ job w c commands = record {
   source = None;
   groups = commands;
   temps = map (λ name. record { path = name.path; contents = name.contents }) w.drawn;
-  marked = lasting (map (λ name. name.path) w.drawn) c.removed;
-  on_failure = lasting (map (λ name. name.path) w.drawn) c.on_failure;
+  marked = lasting_files (map (λ name. name.path) w.drawn) c.removed;
+  on_failure = lasting_files (map (λ name. name.path) w.drawn) c.on_failure;
   output = c.output;
 }
 

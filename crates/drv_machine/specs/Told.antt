@@ -2,7 +2,7 @@ use Rattle.drv_machine.specs.Atoms.{atoms}
 use Rattle.drv_machine.specs.Context.{Context}
 use Rattle.drv_machine.specs.Cuts.{Stretched, each, failure_files, has_stray_pipe, if_any, lines, output, path, path_of, removed}
 use Rattle.drv_machine.specs.Cuts.{without_file}
-use Rattle.drv_machine.specs.Outcome.{groups, lasting}
+use Rattle.drv_machine.specs.Outcome.{groups, lasting_files}
 use Rattle.drv_machine.specs.Working.{◌>>-◌, Answer, Atom, Goes, World}
 use Rattle.drv_machine.specs.declared.outcome.Outcome.{Outcome}
 use Rattle.drv_syntax.specs.Tree.{Items}
@@ -15,7 +15,7 @@ use Rattle.std.specs.Prelude.{◌≡◌, List, Ok, false, map, ℕ}
 
 -- of these files those that are no temporaries of the job, each once
 abbrev pub lasting_of : World → Answer (List (List ℕ)) → Answer (List (List ℕ))
-lasting_of w found = found >>- λ files. Is (Ok (lasting (map (λ name. name.path) w.drawn) files))
+lasting_of w found = found >>- λ files. Is (Ok (lasting_files (map (λ name. name.path) w.drawn) files))
 
 -- the job of a text that goes to its end: its output, files and commands are those that Cuts finds in its list of atoms
 pub record Told (F : Facts) (C : Context) (items : Items) (o : Outcome) : Type 0 where

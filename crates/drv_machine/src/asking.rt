@@ -1,7 +1,7 @@
 //! Tests of an alternative: the first that is true, or that is by a function.
 
 ghost use Rattle.drv_machine.specs.Code.ByKind.{Found, Within, asked_step, is_call};
-ghost use Rattle.drv_machine.specs.Code.Running.{run};
+ghost use Rattle.drv_machine.specs.Code.Running.{reached, run};
 ghost use Rattle.drv_machine.specs.Code.Standing.{Spans, Stands};
 ghost use Rattle.drv_machine.specs.Working.{Levels};
 ghost use Rattle.drv_syntax.specs.Labels.{label_at, test_nodes};
@@ -22,9 +22,8 @@ use drv_syntax::{SpecTree, TestKind};
 fn truth(text: &SpecTree, context: &Context<'_>, at: usize, machine: &Machine) -> bool
     requires in_list { at < length (tokens_of (tree_of text.now)) }
     requires no_result { is_call (label_at (tree_of text.now) at) ≡ false }
-    requires sized { length machine.now.world.hidden ≡ length context.now.switches }
-    ensures { (F : Facts) → run F context.now machine.now
-        (asked_step context.now (label_at (tree_of text.now) at)) ≡ Is (Ok (result, machine.now)) }
+    ensures { (n : ℕ) (F : Facts) → run F context.now (reached n machine.now)
+        (asked_step context.now (label_at (tree_of text.now) at)) ≡ Is (Ok (result, reached n machine.now)) }
 {
     match text.asks(at) {
         TestKind::Switch => {
@@ -67,19 +66,19 @@ pub(crate) fn first_true(
     end: usize,
     machine: &Machine,
 ) -> Judged
-    requires spans { Spans text.now start end }
-    requires sized { length machine.now.world.hidden ≡ length context.now.switches }
+    requires { Spans text.now start end }
     ensures within { Within start end (length (tokens_of (tree_of text.now))) result }
-    ensures does { (F : Facts) (tests : Tests) (levels : Levels) (star : List ℕ)
+    ensures does { (n : ℕ) (F : Facts) (tests : Tests) (levels : Levels) (star : List ℕ)
         → Stands text.now start (test_nodes tests) end
-        → Found F context.now text.now end machine.now machine.now (Ok result) tests levels star }
+        → Found F context.now text.now end (reached n machine.now) (reached n machine.now)
+        (Ok result) tests levels star }
 {
     let mut at = start;
     while at < end {
         if is_call(text, at) {
             return Judged::Asks(at);
         }
-        if truth(text, context, at, machine) != text.negated(at) {
+        if truth(text, context, at, machine) != text.is_negated(at) {
             return Judged::True(at);
         }
         at = token_at(text, at).next;

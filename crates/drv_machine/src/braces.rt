@@ -3,6 +3,7 @@
 ghost use Rattle.drv_machine.specs.Atoms.{choices_step, items_step, worked};
 ghost use Rattle.drv_machine.specs.Code.ByKind.{asks_switch};
 ghost use Rattle.drv_machine.specs.Code.Running as running;
+ghost use Rattle.drv_machine.specs.Code.Running.{reached};
 ghost use Rattle.drv_machine.specs.Code.Standing.{Spans, Stands};
 ghost use Rattle.drv_machine.specs.Code.Walking.{AskFits, Following, Kept, Went, decided_on};
 ghost use Rattle.drv_machine.specs.Code.Walking.{weight};
@@ -13,7 +14,7 @@ ghost use Rattle.drv_syntax.specs.Stars.{has_star};
 ghost use Rattle.drv_syntax.specs.Tokens.{tokens_of};
 ghost use Rattle.drv_syntax.specs.Tree as tree;
 ghost use Rattle.drv_system.specs.Facts.{Facts};
-ghost use Rattle.std.specs.Prelude.{◌≡◌, ◌&&◌, ◌+◌, ◌-◌, ◌<◌, ◌≤◌, Bool, OnOk, Some, length};
+ghost use Rattle.std.specs.Prelude.{◌≡◌, ◌&&◌, ◌+◌, ◌-◌, ◌<◌, ◌≤◌, Bool, OnOk, Some, length, ℕ};
 
 use crate::asking::{Judged, first_true};
 use crate::calling::open_test;
@@ -39,29 +40,28 @@ fn is_for_each(text: &SpecTree, test: usize, own: bool) -> bool
 /// An X by the test at a place, which is true: it is opened for each hit where X has a `%*` of its
 /// own, as is said, else reached.
 fn enter_alternative(
-    text: &SpecTree,
     context: &Context<'_>,
     each: Each,
     own: bool,
     walk: &mut Walk<'_>,
     machine: &Machine,
 ) -> Result<(), MachineFault>
-    requires in_list { each.test < length (tokens_of (tree_of text.now)) }
-    requires sized { length machine.now.world.hidden ≡ length context.now.switches }
-    ensures does { (F : Facts) (negated : Bool) (asked : tree.Asked) (items : tree.Items)
+    requires { each.test < length (tokens_of (tree_of walk.old.text.now)) }
+    ensures does { (n : ℕ) (F : Facts) (negated : Bool) (asked : tree.Asked) (items : tree.Items)
         (others : Step (Unit {0})) (given : Answer (Unit {0} × running.Machine))
-        → own ≡ has_star items → label_at (tree_of text.now) each.test ≡ test_label negated asked
-        → Stands text.now each.start (nodes_of items) each.end
-        → Following F context.now text.now walk.old each.end
+        → own ≡ has_star items → label_at (tree_of walk.old.text.now) each.test ≡ test_label negated asked
+        → Stands walk.old.text.now each.start (nodes_of items) each.end
+        → Following F context.now walk.old.text.now walk.old each.end
         (λ levels star. worked F context.now (Some asked) (has_star items)
         (λ rest inside. items_step F context.now items inside rest) levels star others)
-        machine.now given → Went F context.now text.now walk.new machine.now given result }
+        (reached n machine.now) given
+        → Went F context.now walk.new.text.now walk.new (reached n machine.now) given result }
     ensures lighter { OnOk result (weight (length context.now.switches) walk.new.frames
         ≤ weight (length context.now.switches) walk.old.frames + length context.now.switches) }
-    ensures same_text { walk.new.text.now ≡ walk.old.text.now }
 {
+    let text = walk.text;
     if is_for_each(text, each.test, own) {
-        return enter_next(text, context, each, 0, walk, machine);
+        return enter_next(context, each, 0, walk, machine);
     }
     walk.at = each.start;
     Ok(())
@@ -71,39 +71,35 @@ fn enter_alternative(
 /// and then the alternatives after them.
 #[inline(never)]
 pub(crate) fn answer(
-    text: &SpecTree,
     context: &Context<'_>,
     asking: Asking,
     holds: bool,
     walk: &mut Walk<'_>,
     machine: &mut Machine,
 ) -> Result<(), MachineFault>
-    requires fits { (items : tree.Items) × (kept : Kept) × AskFits text.now asking items kept }
-    requires sized { length machine.old.world.hidden ≡ length context.now.switches }
-    ensures does { (F : Facts) (items : tree.Items) (kept : Kept)
-        (given : Answer (Unit {0} × running.Machine)) → AskFits text.now asking items kept
-        → Following F context.now text.now walk.old asking.end
-        (λ levels star. decided_on F context.now items kept levels star holds) machine.old given
-        → Went F context.now text.now walk.new machine.new given result }
+    requires { (items : tree.Items) × (kept : Kept) × AskFits walk.old.text.now asking items kept }
+    ensures does { (n : ℕ) (F : Facts) (items : tree.Items) (kept : Kept)
+        (given : Answer (Unit {0} × running.Machine)) → AskFits walk.old.text.now asking items kept
+        → Following F context.now walk.old.text.now walk.old asking.end
+        (λ levels star. decided_on F context.now items kept levels star holds) (reached n machine.old) given
+        → Went F context.now walk.new.text.now walk.new (reached n machine.new) given result }
     ensures lighter { OnOk result (weight (length context.now.switches) walk.new.frames
         ≤ weight (length context.now.switches) walk.old.frames +
         (length context.now.switches + (asking.end - asking.test))) }
-    ensures sized { length machine.new.world.hidden ≡ length machine.old.world.hidden }
-    ensures uncounted { OnOk result (machine.new.world.items ≡ machine.old.world.items) }
-    ensures same_text { walk.new.text.now ≡ walk.old.text.now }
 {
+    let text = walk.text;
     let mut each = Each {
         test: asking.test,
         start: asking.start,
         end: asking.next,
     };
-    if holds != text.negated(asking.test) {
-        return enter_alternative(text, context, each, asking.own, walk, machine);
+    if holds != text.is_negated(asking.test) {
+        return enter_alternative(context, each, asking.own, walk, machine);
     }
     match first_true(text, context, asking.from, asking.start, machine) {
         Judged::True(test) => {
             each.test = test;
-            enter_alternative(text, context, each, asking.own, walk, machine)
+            enter_alternative(context, each, asking.own, walk, machine)
         }
         Judged::Asks(test) => {
             let later = Asking {
@@ -113,7 +109,7 @@ pub(crate) fn answer(
             };
             open_test(later, walk, machine)
         }
-        Judged::Neither => choose(text, context, asking.next, asking.end, walk, machine),
+        Judged::Neither => choose(context, asking.next, asking.end, walk, machine),
     }
 }
 
@@ -121,28 +117,24 @@ pub(crate) fn answer(
 /// opened; or the default is; or the place after them is reached.
 #[inline(never)]
 pub(crate) fn choose(
-    text: &SpecTree,
     context: &Context<'_>,
     start: usize,
     end: usize,
     walk: &mut Walk<'_>,
     machine: &mut Machine,
 ) -> Result<(), MachineFault>
-    requires spans { Spans text.now start end }
-    requires sized { length machine.old.world.hidden ≡ length context.now.switches }
-    ensures does { (F : Facts) (choices : tree.Choices)
+    requires { Spans walk.old.text.now start end }
+    ensures does { (n : ℕ) (F : Facts) (choices : tree.Choices)
         (given : Answer (Unit {0} × running.Machine))
-        → Stands text.now start (choice_nodes choices) end
-        → Following F context.now text.now walk.old end
-        (λ levels star. choices_step F context.now choices levels star) machine.old given
-        → Went F context.now text.now walk.new machine.new given result }
-    ensures sized { length machine.new.world.hidden ≡ length machine.old.world.hidden }
-    ensures uncounted { OnOk result (machine.new.world.items ≡ machine.old.world.items) }
+        → Stands walk.old.text.now start (choice_nodes choices) end
+        → Following F context.now walk.old.text.now walk.old end
+        (λ levels star. choices_step F context.now choices levels star) (reached n machine.old) given
+        → Went F context.now walk.new.text.now walk.new (reached n machine.new) given result }
     ensures lighter { OnOk result (weight (length context.now.switches) walk.new.frames
         ≤ weight (length context.now.switches) walk.old.frames +
         (length context.now.switches + (end - start))) }
-    ensures same_text { walk.new.text.now ≡ walk.old.text.now }
 {
+    let text = walk.text;
     let mut at = start;
     while at < end {
         let next = token_at(text, at).next;
@@ -159,7 +151,7 @@ pub(crate) fn choose(
                     start: items,
                     end: next,
                 };
-                return enter_alternative(text, context, each, own, walk, machine);
+                return enter_alternative(context, each, own, walk, machine);
             }
             Judged::Asks(test) => {
                 let asking = Asking {

@@ -3,6 +3,7 @@
 ghost use Rattle.drv_machine.specs.Atoms.{item_step};
 ghost use Rattle.drv_machine.specs.Context as specs;
 ghost use Rattle.drv_machine.specs.Code.Running as running;
+ghost use Rattle.drv_machine.specs.Code.Running.{reached};
 ghost use Rattle.drv_machine.specs.Code.Standing.{Stands};
 ghost use Rattle.drv_machine.specs.Code.Walking.{AskFits, Following, Kept, Went, tested_on, weight};
 ghost use Rattle.drv_machine.specs.Working.{Answer};
@@ -30,15 +31,14 @@ pub(crate) fn open_call(
     machine: &mut Machine,
 ) -> Result<(), MachineFault>
     requires { at < next }
-    ensures does { (F : Facts) (C : specs.Context) (text : List ℕ) (name : List ℕ)
+    ensures does { (n : ℕ) (F : Facts) (C : specs.Context) (name : List ℕ)
         (items : tree.Items) (given : Answer (Unit {0} × running.Machine))
-        → at < length (tokens_of (tree_of text)) → (label_at (tree_of text) at).word ≡ name
-        → Stands text (at + 1) (nodes_of items) next
-        → Following F C text walk.old next (λ levels star. item_step F C
-        (tree.Function name items) levels star) machine.old given
-        → Went F C text walk.new machine.new given result }
+        → at < length (tokens_of (tree_of walk.old.text.now)) → (label_at (tree_of walk.old.text.now) at).word ≡ name
+        → Stands walk.old.text.now (at + 1) (nodes_of items) next
+        → Following F C walk.old.text.now walk.old next (λ levels star. item_step F C
+        (tree.Function name items) levels star) (reached n machine.old) given
+        → Went F C walk.new.text.now walk.new (reached n machine.new) given result }
     ensures same { machine.new.world ≡ machine.old.world }
-    ensures same_text { walk.new.text.now ≡ walk.old.text.now }
 {
     let outer = Box::new(machine.alloc(), machine.put_aside())?;
     walk.frames.push(Frame {
@@ -66,17 +66,16 @@ pub(crate) fn open_test(
     machine: &mut Machine,
 ) -> Result<(), MachineFault>
     requires { asking.test < asking.start }
-    ensures does { (F : Facts) (C : specs.Context) (text : List ℕ) (items arguments : tree.Items)
-        (kept : Kept) (given : Answer (Unit {0} × running.Machine)) → AskFits text asking items kept
-        → Stands text (asking.test + 1) (nodes_of arguments) asking.from
-        → Following F C text walk.old asking.end
-        (λ levels star. tested_on F C arguments items kept levels star) machine.old given
-        → Went F C text walk.new machine.new given result }
+    ensures does { (n : ℕ) (F : Facts) (C : specs.Context) (items arguments : tree.Items)
+        (kept : Kept) (given : Answer (Unit {0} × running.Machine)) → AskFits walk.old.text.now asking items kept
+        → Stands walk.old.text.now (asking.test + 1) (nodes_of arguments) asking.from
+        → Following F C walk.old.text.now walk.old asking.end
+        (λ levels star. tested_on F C arguments items kept levels star) (reached n machine.old) given
+        → Went F C walk.new.text.now walk.new (reached n machine.new) given result }
     ensures lighter { (n : ℕ) → OnOk result
         (weight n walk.new.frames ≤ weight n walk.old.frames +
         (n + 1 + (asking.end - asking.test))) }
     ensures same { machine.new.world ≡ machine.old.world }
-    ensures same_text { walk.new.text.now ≡ walk.old.text.now }
 {
     let places = Box::new(machine.alloc(), asking)?;
     let outer = Box::new(machine.alloc(), machine.put_aside())?;

@@ -179,7 +179,7 @@ impl<'a> Context<'a> {
     }
 
     /// The tree of the text of a name, if the set has one.
-    pub(crate) fn named(&self, name: &[u8]) -> Option<&'a SpecTree>
+    pub(crate) fn text_named(&self, name: &[u8]) -> Option<&'a SpecTree>
         ensures { option_map (λ tree. tree.now) result ≡ text_named self.now name.now }
     {
         self.texts.tree(name)

@@ -3,18 +3,18 @@
 ghost use Rattle.drv_system.specs.Code.Asked.{Asked};
 ghost use Rattle.drv_machine.specs.Atoms.{emitted, matching};
 ghost use Rattle.drv_machine.specs.Code.ByKind.{put_at};
-ghost use Rattle.drv_machine.specs.Code.Running.{run};
+ghost use Rattle.drv_machine.specs.Code.Running.{Does};
 ghost use Rattle.drv_machine.specs.Code.Standing.{Spans, Stands};
 ghost use Rattle.drv_machine.specs.Working.{puts};
 ghost use Rattle.drv_syntax.specs.Labels.{pattern_nodes};
 ghost use Rattle.drv_syntax.specs.Tree as tree;
 ghost use Rattle.drv_system.specs.Asking.{Extends};
 ghost use Rattle.drv_system.specs.Facts.{Facts};
-ghost use Rattle.drv_system.specs.Gives.{GivesKnown};
-ghost use Rattle.std.specs.Prelude.{◌≡◌, ◌<◌, All, IfOk, List, OnOk, length, map};
+ghost use Rattle.std.specs.Prelude.{◌≡◌, ◌<◌, All, IfOk, List, length, map, ℕ};
 
 use crate::machine::Machine;
 use crate::tokens_at::{pattern_at, token_at};
+use crate::walk::Parts;
 use crate::{Context, MachineFault};
 use drv_match::Pattern;
 use drv_syntax::SpecTree;
@@ -52,11 +52,8 @@ fn put_switches<S: System>(
 ) -> Result<(), MachineFault>
     requires { All (λ place. place < length context.now.switches) places.now }
     ensures asks { Asked S.events outside.old outside.new }
-    ensures does { (F : Facts) → Extends outside.new.facts.now F
-        → GivesKnown MachineFault.Memory (λ u. (tt, machine.new)) result
-        (run F context.now machine.old (puts (put_at F context.now places.now))) }
-    ensures sized { length machine.new.world.hidden ≡ length machine.old.world.hidden }
-    ensures uncounted { OnOk result (machine.new.world.items ≡ machine.old.world.items) }
+    ensures does { (n : ℕ) (F : Facts) → Extends outside.new.facts.now F
+        → Does F context.now n machine.old machine.new result (puts (put_at F context.now places.now)) }
 {
     for place in places {
         machine.put_switch(context, *place, outside)?;
@@ -87,11 +84,8 @@ fn put_all<S: System>(
 ) -> Result<(), MachineFault>
     requires { All (λ place. place < length context.now.switches) places.now }
     ensures asks { Asked S.events outside.old outside.new }
-    ensures does { (F : Facts) → Extends outside.new.facts.now F
-        → GivesKnown MachineFault.Memory (λ u. (tt, machine.new)) result
-        (run F context.now machine.old (puts (put_at F context.now places.now))) }
-    ensures sized { length machine.new.world.hidden ≡ length machine.old.world.hidden }
-    ensures uncounted { OnOk result (machine.new.world.items ≡ machine.old.world.items) }
+    ensures does { (n : ℕ) (F : Facts) → Extends outside.new.facts.now F
+        → Does F context.now n machine.old machine.new result (puts (put_at F context.now places.now)) }
 {
     machine.make_room(words_at(context, places))?;
     put_switches(context, places, machine, outside)
@@ -102,25 +96,20 @@ fn put_all<S: System>(
 pub(crate) fn emit<S: System>(
     text: &SpecTree,
     context: &Context<'_>,
-    start: usize,
-    end: usize,
+    parts: Parts,
     machine: &mut Machine,
     outside: &mut Outside<'_, S>,
 ) -> Result<(), MachineFault>
-    requires spans { Spans text.now start end }
-    requires sized { length machine.old.world.hidden ≡ length context.now.switches }
+    requires { Spans text.now parts.start parts.end }
     ensures asks { Asked S.events outside.old outside.new }
-    ensures does { (F : Facts) → Extends outside.new.facts.now F
+    ensures does { (n : ℕ) (F : Facts) → Extends outside.new.facts.now F
         → (patterns : List (tree.Span × tree.Pattern))
-        → Stands text.now start (pattern_nodes patterns) end
-        → GivesKnown MachineFault.Memory (λ u. (tt, machine.new)) result
-        (run F context.now machine.old (puts
-        (emitted F context.now patterns machine.old.world.hidden))) }
-    ensures sized { length machine.new.world.hidden ≡ length machine.old.world.hidden }
-    ensures uncounted { OnOk result (machine.new.world.items ≡ machine.old.world.items) }
+        → Stands text.now parts.start (pattern_nodes patterns) parts.end
+        → Does F context.now n machine.old machine.new result
+        (puts (emitted F context.now patterns machine.old.world.hidden)) }
 {
     let alloc = machine.alloc();
-    let patterns = patterns_in(alloc, text, start, end)?;
+    let patterns = patterns_in(alloc, text, parts.start, parts.end)?;
     let hidden = machine.hidden();
     let places = context
         .switches()

@@ -3,6 +3,7 @@
 ghost use Rattle.drv_system.specs.Code.Asked.{Asked};
 ghost use Rattle.drv_machine.specs.Atoms.{brace_step, item_step, starts_file};
 ghost use Rattle.drv_machine.specs.Code.Running as running;
+ghost use Rattle.drv_machine.specs.Code.Running.{reached};
 ghost use Rattle.drv_machine.specs.Code.Standing.{Spans, Stands};
 ghost use Rattle.drv_machine.specs.Code.Walking.{Following, Reaches, Went};
 ghost use Rattle.drv_machine.specs.Working.{Answer, most_open};
@@ -10,11 +11,11 @@ ghost use Rattle.drv_syntax.specs.Labels.{brace_nodes};
 ghost use Rattle.drv_syntax.specs.Tree as tree;
 ghost use Rattle.drv_system.specs.Asking.{Extends};
 ghost use Rattle.drv_system.specs.Facts.{Facts};
-ghost use Rattle.std.specs.Prelude.{◌≡◌, ◌⊎◌, ◌<◌, ◌∷◌, ◌++◌, [], IfErr, List, OnOk, length, ℕ};
+ghost use Rattle.std.specs.Prelude.{◌≡◌, ◌⊎◌, ◌<◌, ◌∷◌, ◌++◌, [], IfErr, OnOk, length, ℕ};
 
 use crate::failing::work_brace;
 use crate::machine::Machine;
-use crate::walk::{Frame, Opened, Walk};
+use crate::walk::{Frame, Opened, Parts, Walk};
 use crate::{Context, MachineFault};
 use drv_syntax::SpecTree;
 use drv_system::{Outside, System};
@@ -68,14 +69,12 @@ fn open_filed<S: System>(
     outside: &mut Outside<'_, S>,
 ) -> Result<(), MachineFault>
     ensures asks { Asked S.events outside.old outside.new }
-    ensures does { (F : Facts) → Extends outside.new.facts.now F
-        → (text : List ℕ) (brace : tree.Brace) (given : Answer (Unit {0} × running.Machine))
-        → Following F context.now text walk.old end
-        (λ levels star. item_step F context.now (tree.ArgumentsFile brace) levels star) machine.old
-        given → Reaches F context.now text walk.new end
-        (λ levels star. brace_step F context.now brace levels star) machine.new given result }
-    ensures sized { length machine.new.world.hidden ≡ length machine.old.world.hidden }
-    ensures uncounted { OnOk result (machine.new.world.items ≡ machine.old.world.items) }
+    ensures does { (n : ℕ) (F : Facts) → Extends outside.new.facts.now F
+        → (brace : tree.Brace) (given : Answer (Unit {0} × running.Machine))
+        → Following F context.now walk.old.text.now walk.old end
+        (λ levels star. item_step F context.now (tree.ArgumentsFile brace) levels star) (reached n machine.old)
+        given → Reaches F context.now walk.new.text.now walk.new end
+        (λ levels star. brace_step F context.now brace levels star) (reached n machine.new) given result }
     ensures same_text { walk.new.text.now ≡ walk.old.text.now }
 {
     if !starts_file(context, machine) {
@@ -88,27 +87,21 @@ fn open_filed<S: System>(
 /// A `%@` is opened, and its part from one place up to another is run, or reached.
 #[inline(never)]
 pub(crate) fn work_filed<S: System>(
-    text: &SpecTree,
     context: &Context<'_>,
-    start: usize,
-    end: usize,
+    parts: Parts,
     walk: &mut Walk<'_>,
     machine: &mut Machine,
     outside: &mut Outside<'_, S>,
 ) -> Result<(), MachineFault>
-    requires spans { Spans text.now start end }
-    requires sized { length machine.old.world.hidden ≡ length context.now.switches }
+    requires { Spans walk.old.text.now parts.start parts.end }
     ensures asks { Asked S.events outside.old outside.new }
-    ensures does { (F : Facts) → Extends outside.new.facts.now F
+    ensures does { (n : ℕ) (F : Facts) → Extends outside.new.facts.now F
         → (brace : tree.Brace) (given : Answer (Unit {0} × running.Machine))
-        → Stands text.now start (brace_nodes brace) end
-        → Following F context.now text.now walk.old end
-        (λ levels star. item_step F context.now (tree.ArgumentsFile brace) levels star) machine.old
-        given → Went F context.now text.now walk.new machine.new given result }
-    ensures sized { length machine.new.world.hidden ≡ length machine.old.world.hidden }
-    ensures uncounted { OnOk result (machine.new.world.items ≡ machine.old.world.items) }
-    ensures same_text { walk.new.text.now ≡ walk.old.text.now }
+        → Stands walk.old.text.now parts.start (brace_nodes brace) parts.end
+        → Following F context.now walk.old.text.now walk.old parts.end
+        (λ levels star. item_step F context.now (tree.ArgumentsFile brace) levels star) (reached n machine.old)
+        given → Went F context.now walk.new.text.now walk.new (reached n machine.new) given result }
 {
-    open_filed(end, context, walk, machine, outside)?;
-    work_brace(text, context, start, end, walk, machine, outside)
+    open_filed(parts.end, context, walk, machine, outside)?;
+    work_brace(context, parts, walk, machine, outside)
 }

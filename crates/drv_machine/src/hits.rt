@@ -5,6 +5,7 @@ ghost use Rattle.drv_machine.specs.Atoms.{matching};
 ghost use Rattle.drv_machine.specs.Context as specs;
 ghost use Rattle.drv_machine.specs.Code.ByKind.{labelled};
 ghost use Rattle.drv_machine.specs.Code.Running as running;
+ghost use Rattle.drv_machine.specs.Code.Running.{reached};
 ghost use Rattle.drv_machine.specs.Code.Standing.{Stands};
 ghost use Rattle.drv_machine.specs.Code.Walking.{Following, HitFits, NextHit, Went, each_from};
 ghost use Rattle.drv_machine.specs.Code.Walking.{from_hit, hit_end, weight};
@@ -15,11 +16,11 @@ ghost use Rattle.drv_syntax.specs.Tokens.{tokens_of};
 ghost use Rattle.drv_syntax.specs.Tree as tree;
 ghost use Rattle.drv_system.specs.Asking.{Extends};
 ghost use Rattle.drv_system.specs.Facts.{Facts};
-ghost use Rattle.std.specs.Prelude.{◌≡◌, ◌+◌, ◌-◌, ◌<◌, ◌≤◌, IfSome, List, OnOk, length, ℕ};
+ghost use Rattle.std.specs.Prelude.{◌≡◌, ◌+◌, ◌-◌, ◌<◌, ◌≤◌, IfSome, OnOk, length, ℕ};
 
 use crate::machine::Machine;
 use crate::tokens_at::pattern_at;
-use crate::walk::{Each, Frame, Opened, Rest, Walk};
+use crate::walk::{Each, Frame, Hit, Opened, Rest, Walk};
 use crate::{Context, MachineFault};
 use drv_match::Pattern;
 use drv_syntax::SpecTree;
@@ -32,25 +33,23 @@ fn next_hit(
     from: usize,
     machine: &Machine,
 ) -> Option<usize>
-    requires sized { length machine.now.world.hidden ≡ length context.now.switches }
     ensures within { IfSome result (λ i. (from ≤ i) × (i < length context.now.switches)) }
-    ensures finds { (F : Facts) (p : tree.Pattern) (items : tree.Items) (levels : Levels)
-        → pattern.now ≡ matching p → NextHit F context.now machine.now p items levels from result }
+    ensures finds { (n : ℕ) (F : Facts) (p : tree.Pattern) (items : tree.Items) (levels : Levels)
+        → pattern.now ≡ matching p → NextHit F context.now (reached n machine.now) p items levels from result }
 {
     context.switches().next_hit(pattern, machine.hidden(), from)
 }
 
 /// An X is opened for the hit at a place of the line.
 fn open_hit(each: Each, switch: usize, size: usize, walk: &mut Walk<'_>) -> Result<(), MachineFault>
-    ensures does { (F : Facts) (C : specs.Context) (text : List ℕ) (p : tree.Pattern)
+    ensures does { (F : Facts) (C : specs.Context) (p : tree.Pattern)
         (items : tree.Items) (s : running.Machine) (given : Answer (Unit {0} × running.Machine))
-        → HitFits text C each switch p items → size ≡ length (matching p).name
-        → Following F C text walk.old each.end
+        → HitFits walk.old.text.now C each switch p items → size ≡ length (matching p).name
+        → Following F C walk.old.text.now walk.old each.end
         (λ levels star. from_hit F C p items levels switch) s given
-        → Went F C text walk.new s given result }
+        → Went F C walk.new.text.now walk.new s given result }
     ensures lighter { (n : ℕ) → OnOk result
         (weight n walk.new.frames ≤ weight n walk.old.frames + (n - switch)) }
-    ensures same_text { walk.new.text.now ≡ walk.old.text.now }
 {
     walk.frames.push(Frame {
         opened: Opened::Hit { each, switch },
@@ -65,27 +64,25 @@ fn open_hit(each: Each, switch: usize, size: usize, walk: &mut Walk<'_>) -> Resu
 
 /// An X for each hit from a switch on: it is opened for the next one, or the walk goes on after it.
 pub(crate) fn enter_next(
-    text: &SpecTree,
     context: &Context<'_>,
     each: Each,
     from: usize,
     walk: &mut Walk<'_>,
     machine: &Machine,
 ) -> Result<(), MachineFault>
-    requires in_list { each.test < length (tokens_of (tree_of text.now)) }
-    requires sized { length machine.now.world.hidden ≡ length context.now.switches }
-    ensures does { (F : Facts) (p : tree.Pattern) (items : tree.Items)
+    requires { each.test < length (tokens_of (tree_of walk.old.text.now)) }
+    ensures does { (n : ℕ) (F : Facts) (p : tree.Pattern) (items : tree.Items)
         (given : Answer (Unit {0} × running.Machine))
-        → labelled (label_at (tree_of text.now) each.test) ≡ matching p
-        → Stands text.now each.start (nodes_of items) each.end
-        → Following F context.now text.now walk.old each.end
-        (λ levels star. each_from F context.now p items levels from) machine.now given
-        → Went F context.now text.now walk.new machine.now given result }
+        → labelled (label_at (tree_of walk.old.text.now) each.test) ≡ matching p
+        → Stands walk.old.text.now each.start (nodes_of items) each.end
+        → Following F context.now walk.old.text.now walk.old each.end
+        (λ levels star. each_from F context.now p items levels from) (reached n machine.now) given
+        → Went F context.now walk.new.text.now walk.new (reached n machine.now) given result }
     ensures lighter { OnOk result (weight (length context.now.switches) walk.new.frames
         ≤ weight (length context.now.switches) walk.old.frames +
         (length context.now.switches - from)) }
-    ensures same_text { walk.new.text.now ≡ walk.old.text.now }
 {
+    let text = walk.text;
     let pattern = pattern_at(text, each.test);
     match next_hit(context, &pattern, from, machine) {
         Some(switch) => open_hit(each, switch, pattern.name.len(), walk),
@@ -101,33 +98,27 @@ pub(crate) fn enter_next(
 #[inline(never)]
 #[tactic(auto, using(drv_system::proofs::AskedCalls::asked_further))]
 pub(crate) fn close_hit<S: System>(
-    text: &SpecTree,
     context: &Context<'_>,
-    each: Each,
-    switch: usize,
+    hit: Hit,
     walk: &mut Walk<'_>,
     machine: &mut Machine,
     outside: &mut Outside<'_, S>,
 ) -> Result<(), MachineFault>
-    requires in_list { each.test < length (tokens_of (tree_of text.now)) }
-    requires in_line { switch < length context.now.switches }
-    requires sized { length machine.old.world.hidden ≡ length context.now.switches }
+    requires in_list { hit.each.test < length (tokens_of (tree_of walk.old.text.now)) }
+    requires in_line { hit.switch < length context.now.switches }
     ensures asks { Asked S.events outside.old outside.new }
-    ensures does { (F : Facts) → Extends outside.new.facts.now F
+    ensures does { (n : ℕ) (F : Facts) → Extends outside.new.facts.now F
         → (p : tree.Pattern) (items : tree.Items) (given : Answer (Unit {0} × running.Machine))
-        → HitFits text.now context.now each switch p items
-        → Following F context.now text.now walk.old each.end
-        (λ levels star. hit_end F context.now p items levels switch) machine.old given
-        → Went F context.now text.now walk.new machine.new given result }
+        → HitFits walk.old.text.now context.now hit.each hit.switch p items
+        → Following F context.now walk.old.text.now walk.old hit.each.end
+        (λ levels star. hit_end F context.now p items levels hit.switch) (reached n machine.old) given
+        → Went F context.now walk.new.text.now walk.new (reached n machine.new) given result }
     ensures lighter { OnOk result (weight (length context.now.switches) walk.new.frames
         < weight (length context.now.switches) walk.old.frames +
-        (length context.now.switches - switch)) }
-    ensures same_text { walk.new.text.now ≡ walk.old.text.now }
-    ensures sized { length machine.new.world.hidden ≡ length machine.old.world.hidden }
-    ensures uncounted { OnOk result (machine.new.world.items ≡ machine.old.world.items) }
+        (length context.now.switches - hit.switch)) }
 {
     let count = context.switches().len();
-    prove!(switch < count);
-    machine.put_argument(context, switch, outside)?;
-    enter_next(text, context, each, switch + 1, walk, machine)
+    prove!(hit.switch < count);
+    machine.put_argument(context, hit.switch, outside)?;
+    enter_next(context, hit.each, hit.switch + 1, walk, machine)
 }

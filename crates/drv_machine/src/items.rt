@@ -5,7 +5,7 @@ ghost use Rattle.drv_machine.specs.Atoms.{input_name, leaf_step};
 ghost use Rattle.drv_machine.specs.Code.ByKind.{Means, hide_step, kind_step};
 ghost use Rattle.drv_machine.specs.Context as specs;
 ghost use Rattle.drv_machine.specs.Code.Running as running;
-ghost use Rattle.drv_machine.specs.Code.Running.{run};
+ghost use Rattle.drv_machine.specs.Code.Running.{Does, reached, run};
 ghost use Rattle.drv_machine.specs.Code.Standing.{Spans};
 ghost use Rattle.drv_machine.specs.Code.Walking.{star_of};
 ghost use Rattle.drv_machine.specs.Working.{Levels, Step, refuse};
@@ -17,12 +17,12 @@ ghost use Rattle.drv_system.specs.Asking.{Extends};
 ghost use Rattle.drv_system.specs.Facts.{Facts};
 ghost use Rattle.drv_system.specs.Gives.{GivesKnown};
 ghost use Rattle.drv_system.specs.Known.{Is};
-ghost use Rattle.std.specs.Prelude.{◌≡◌, ◌+◌, ◌<◌, Ok, OnOk, length};
+ghost use Rattle.std.specs.Prelude.{◌≡◌, ◌+◌, ◌<◌, Ok, length, ℕ};
 
 use crate::emitting::emit;
 use crate::machine::{Machine, Mark};
 use crate::tokens_at::pattern_at;
-use crate::walk::{Rest, star_of};
+use crate::walk::{Parts, Walk, star_of};
 use crate::{Context, MachineFault};
 use drv_syntax::{Leaf, SpecTree, Token, TokenKind};
 use drv_system::{Outside, System};
@@ -43,12 +43,9 @@ fn input_name<'a>(context: &'a Context<'_>) -> Result<&'a [u8], MachineFault>
 
 /// Hides the switches that the pattern at a place names.
 fn hide(text: &SpecTree, context: &Context<'_>, at: usize, machine: &mut Machine)
-    requires in_list { at < length (tokens_of (tree_of text.now)) }
-    requires sized { length machine.old.world.hidden ≡ length context.now.switches }
-    ensures does { (F : Facts) → run F context.now machine.old
-        (hide_step context.now (label_at (tree_of text.now) at)) ≡ Is (Ok (tt, machine.new)) }
-    ensures sized { length machine.new.world.hidden ≡ length machine.old.world.hidden }
-    ensures uncounted { machine.new.world.items ≡ machine.old.world.items }
+    requires { at < length (tokens_of (tree_of text.now)) }
+    ensures { (n : ℕ) (F : Facts) → run F context.now (reached n machine.old)
+        (hide_step context.now (label_at (tree_of text.now) at)) ≡ Is (Ok (tt, reached n machine.new)) }
 {
     machine.hide(context.switches(), &pattern_at(text, at));
 }
@@ -70,13 +67,9 @@ fn work_leaf<S: System>(
     machine: &mut Machine,
     outside: &mut Outside<'_, S>,
 ) -> Result<(), MachineFault>
-    requires sized { length machine.old.world.hidden ≡ length context.now.switches }
     ensures asks { Asked S.events outside.old outside.new }
-    ensures does { (F : Facts) → Extends outside.new.facts.now F
-        → GivesKnown MachineFault.Memory (λ u. (tt, machine.new)) result
-        (run F context.now machine.old (leaf_step F context.now leaf)) }
-    ensures sized { length machine.new.world.hidden ≡ length machine.old.world.hidden }
-    ensures uncounted { OnOk result (machine.new.world.items ≡ machine.old.world.items) }
+    ensures does { (n : ℕ) (F : Facts) → Extends outside.new.facts.now F
+        → Does F context.now n machine.old machine.new result (leaf_step F context.now leaf) }
 {
     match leaf {
         Leaf::Percent => machine.put(b"%"),
@@ -112,22 +105,20 @@ fn work_leaf<S: System>(
     }
 }
 
-/// Runs the item at a place, which is this token, and opens no part and has no alternatives; `star`
-/// is the value of `%*`.
+/// Runs the item at a place of the text that is walked, which is this token, and opens no part and
+/// has no alternatives.
 #[inline(never)]
 #[tactic(auto, using(drv_system::proofs::AskedCalls::asked_none))]
 pub(crate) fn work_item<S: System>(
-    text: &SpecTree,
     context: &Context<'_>,
     at: usize,
     token: Token,
-    star: Option<Rest>,
+    walk: &Walk<'_>,
     machine: &mut Machine,
     outside: &mut Outside<'_, S>,
 ) -> Result<(), MachineFault>
-    requires in_list { at < length (tokens_of (tree_of text.now)) }
-    requires spans { Spans text.now (at + 1) token.next }
-    requires sized { length machine.old.world.hidden ≡ length context.now.switches }
+    requires in_list { at < length (tokens_of (tree_of walk.now.text.now)) }
+    requires spans { Spans walk.now.text.now (at + 1) token.next }
     requires no_choice { token.kind ≡ kinds.Choose → ⊥ }
     requires no_text { token.kind ≡ kinds.NamedText → ⊥ }
     requires no_builtin { token.kind ≡ kinds.BuiltinText → ⊥ }
@@ -135,17 +126,14 @@ pub(crate) fn work_item<S: System>(
     requires no_call { token.kind ≡ kinds.Function → ⊥ }
     requires no_file { token.kind ≡ kinds.ArgumentsFile → ⊥ }
     ensures asks { Asked S.events outside.old outside.new }
-    ensures does { (F : Facts) → Extends outside.new.facts.now F
+    ensures does { (n : ℕ) (F : Facts) → Extends outside.new.facts.now F
         → (levels : Levels) (inner : Step (Unit {0}))
-        → Means F context.now text.now token.kind (at + 1) token.next levels
-        (star_of context.now star) inner
-        → GivesKnown MachineFault.Memory (λ u. (tt, machine.new)) result
-        (run F context.now machine.old (kind_step F context.now token.kind
-        (label_at (tree_of text.now) at) (star_of context.now star) inner)) }
-    ensures sized { length machine.new.world.hidden ≡ length machine.old.world.hidden }
-    ensures uncounted { OnOk result (machine.new.world.items ≡ machine.old.world.items) }
+        → Means F context.now walk.now.text.now token.kind (at + 1) token.next levels
+        (star_of context.now walk.now.star) inner
+        → Does F context.now n machine.old machine.new result (kind_step F context.now token.kind
+        (label_at (tree_of walk.now.text.now) at) (star_of context.now walk.now.star) inner) }
 {
-    let next = token.next;
+    let text = walk.text;
     match token.kind {
         TokenKind::Plain | TokenKind::Escape => machine.put(text.word(at)),
         TokenKind::Blank => machine.end_word(context, outside),
@@ -156,8 +144,14 @@ pub(crate) fn work_item<S: System>(
             hide(text, context, at, machine);
             Ok(())
         }
-        TokenKind::Emit => emit(text, context, at + 1, next, machine, outside),
-        TokenKind::Star => machine.put(star_of(context, star)),
+        TokenKind::Emit => {
+            let parts = Parts {
+                start: at + 1,
+                end: token.next,
+            };
+            emit(text, context, parts, machine, outside)
+        }
+        TokenKind::Star => machine.put(star_of(context, walk.star)),
         TokenKind::TempName(kind) => machine.put_temp(kind, text.word(at), context, outside),
         TokenKind::AddOption => machine.add_option(text.word(at)),
         TokenKind::UserError => user_error(machine.alloc(), text.word(at)),

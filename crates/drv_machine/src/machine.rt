@@ -1,20 +1,19 @@
-//! The state of running a text: what is cut so far, the hidden switches, and the count of items.
+//! The state of running a text: what is cut so far, and what the text changes as it goes.
 
 ghost use Rattle.drv_system.specs.Code.Asked.{Asked};
 ghost use Rattle.drv_machine.specs.Atoms.{switch_atoms};
 ghost use Rattle.drv_machine.specs.Context as specs;
 ghost use Rattle.drv_machine.specs.Context.{argument, names};
 ghost use Rattle.drv_machine.specs.Cutting.{in_word, named_line, pipe_ended};
-ghost use Rattle.drv_machine.specs.Code.Running.{begun, run};
+ghost use Rattle.drv_machine.specs.Code.Running.{Does, begun, reached, run};
 ghost use Rattle.drv_machine.specs.Working as step;
-ghost use Rattle.drv_machine.specs.Working.{Break, End, Open, Piped, Put, counted, puts, word_of};
+ghost use Rattle.drv_machine.specs.Working.{Break, End, Open, Piped, Put, puts, word_of};
 ghost use Rattle.drv_match.specs.Matching.{hidden_by};
 ghost use Rattle.drv_system.specs.Asking.{Extends};
 ghost use Rattle.drv_system.specs.Facts.{Facts};
-ghost use Rattle.drv_system.specs.Gives.{GivesKnown};
 ghost use Rattle.drv_system.specs.Known.{Is};
-ghost use Rattle.std.specs.Prelude.{◌≡◌, ◌∷◌, ◌++◌, ◌+◌, ◌-◌, ◌<◌, ◌≤◌, [], IfOk, Ok, OnErr, OnOk};
-ghost use Rattle.std.specs.Prelude.{length, map};
+ghost use Rattle.std.specs.Prelude.{◌≡◌, ◌∷◌, ◌++◌, ◌+◌, ◌-◌, ◌<◌, [], IfOk, Ok, OnErr, OnOk};
+ghost use Rattle.std.specs.Prelude.{length, map, ℕ};
 
 mod cutter;
 mod drawn_names;
@@ -26,6 +25,7 @@ mod inside;
 mod lists;
 mod marking;
 mod naming;
+mod tally;
 mod whole_words;
 
 use crate::{Context, MachineFault};
@@ -44,9 +44,7 @@ use smallvec::SmallVec;
 use std::alloc::{AllocError, Global};
 use std::marker::Model;
 use std::mem;
-
-/// The most items of a text.
-const MOST_ITEMS: usize = 1_000_000;
+pub(crate) use tally::Tally;
 
 /// A command as it was cut so far: its words, and whether it ends with a pipe.
 #[derive(Drop)]
@@ -113,7 +111,8 @@ fn add_bytes(word: &mut SmallVec<u8, 256>, bytes: &[u8]) -> Result<(), AllocErro
     }
 }
 
-/// The state of running a text: what is cut so far, and what the run changes as it goes.
+/// The state of running a text: what is cut so far, and what the run changes as it goes. The number
+/// of items that were reached is apart (`Tally`), and 0 in the view.
 #[derive(Drop)]
 pub(crate) struct Machine {
     alloc: Global,
@@ -154,8 +153,6 @@ pub(crate) struct Machine {
     notices: Listing<Word>,
     /// Whether words go to the file of a `%@`.
     is_in_file: bool,
-    /// The number of items that were reached.
-    items: usize,
 }
 
 impl Model for Machine {
@@ -182,7 +179,7 @@ impl Model for Machine {
         outer = m.outer;
         inside = m.inside;
       };
-      world = record { hidden = m.hidden; options = m.options; drawn = m.drawn; number = m.number; outputs = m.outputs; notices = m.notices; is_in_file = m.is_in_file; items = m.items };
+      world = record { hidden = m.hidden; options = m.options; drawn = m.drawn; number = m.number; outputs = m.outputs; notices = m.notices; is_in_file = m.is_in_file; items = 0 };
     } };
 }
 
@@ -214,17 +211,14 @@ impl Machine {
             outputs: Outputs::new(alloc, copy_words(alloc, context.outputs())?),
             notices: Listing::new(alloc),
             is_in_file: false,
-            items: 0,
         })
     }
 
     /// Bytes go into the open word, or open one; no bytes change nothing. Lack of memory is the
     /// only error.
     fn put_bytes(&mut self, bytes: &[u8]) -> Result<(), AllocError>
-        ensures does { (F : Facts) (C : specs.Context) → OnOk result
-            (run F C self.old (step.bytes bytes.now) ≡ Is (Ok (tt, self.new))) }
-        ensures sized { length self.new.world.hidden ≡ length self.old.world.hidden }
-        ensures uncounted { OnOk result (self.new.world.items ≡ self.old.world.items) }
+        ensures { (n : ℕ) (F : Facts) (C : specs.Context) → OnOk result
+            (run F C (reached n self.old) (step.bytes bytes.now) ≡ Is (Ok (tt, reached n self.new))) }
     {
         if bytes.is_empty() {
             return Ok(());
@@ -237,11 +231,8 @@ impl Machine {
 
     /// Bytes go into the open word, or open one; no bytes change nothing.
     pub(crate) fn put(&mut self, bytes: &[u8]) -> Result<(), MachineFault>
-        ensures does { (F : Facts) (C : specs.Context)
-            → GivesKnown MachineFault.Memory (λ u. (tt, self.new)) result
-            (run F C self.old (step.bytes bytes.now)) }
-        ensures sized { length self.new.world.hidden ≡ length self.old.world.hidden }
-        ensures uncounted { OnOk result (self.new.world.items ≡ self.old.world.items) }
+        ensures { (n : ℕ) (F : Facts) (C : specs.Context)
+            → Does F C n self.old self.new result (step.bytes bytes.now) }
     {
         self.put_bytes(bytes)?;
         Ok(())
@@ -249,10 +240,8 @@ impl Machine {
 
     /// A byte goes into the open word, or opens one. Lack of memory is the only error.
     fn put_byte(&mut self, byte: u8) -> Result<(), AllocError>
-        ensures does { (F : Facts) (C : specs.Context) → OnOk result
-            (run F C self.old (step.bytes (byte ∷ [])) ≡ Is (Ok (tt, self.new))) }
-        ensures sized { length self.new.world.hidden ≡ length self.old.world.hidden }
-        ensures uncounted { OnOk result (self.new.world.items ≡ self.old.world.items) }
+        ensures { (n : ℕ) (F : Facts) (C : specs.Context) → OnOk result
+            (run F C (reached n self.old) (step.bytes (byte ∷ [])) ≡ Is (Ok (tt, reached n self.new))) }
     {
         self.word.push(byte)?;
         self.is_open = true;
@@ -263,10 +252,8 @@ impl Machine {
     /// The bytes of an item go into the open word, or open one: mostly one byte, which has a
     /// shorter path. Lack of memory is the only error.
     pub(crate) fn put_item(&mut self, bytes: &[u8]) -> Result<(), AllocError>
-        ensures does { (F : Facts) (C : specs.Context) → OnOk result
-            (run F C self.old (step.bytes bytes.now) ≡ Is (Ok (tt, self.new))) }
-        ensures sized { length self.new.world.hidden ≡ length self.old.world.hidden }
-        ensures uncounted { OnOk result (self.new.world.items ≡ self.old.world.items) }
+        ensures { (n : ℕ) (F : Facts) (C : specs.Context) → OnOk result
+            (run F C (reached n self.old) (step.bytes bytes.now) ≡ Is (Ok (tt, reached n self.new))) }
     {
         if bytes.len() == 1 {
             return self.put_byte(bytes[0]);
@@ -274,47 +261,21 @@ impl Machine {
         self.put_bytes(bytes)
     }
 
-    /// The bytes of plain items go into the open word, or open one. Each counts, but for the first,
-    /// which was counted. Lack of memory is the only error.
-    pub(crate) fn put_run(&mut self, run: &[u8]) -> Result<(), AllocError>
-        requires some { 0 < length run.now }
-        requires room { self.old.world.items + length run.now ≤ step.most_items + 1 }
-        ensures does { OnOk result (self.new ≡ record {
-          cut = in_word self.old.cut run.now;
-          world = record self.old.world
-              { items = self.old.world.items + (length run.now - 1) };
-        }) }
-        ensures sized { length self.new.world.hidden ≡ length self.old.world.hidden }
-    {
-        self.word.extend_from_slice(run)?;
-        self.is_open = true;
-        self.is_stray |= self.is_piped;
-        self.items += run.len() - 1;
-        Ok(())
-    }
-
-    /// The bytes of plain items go into the open word, or open one. Each counts. Lack of memory is
-    /// the only error.
-    pub(crate) fn put_counted(&mut self, run: &[u8]) -> Result<(), AllocError>
-        requires some { 0 < length run.now }
-        requires room { self.old.world.items + length run.now ≤ step.most_items }
-        ensures does { OnOk result (self.new ≡ record {
-          cut = in_word self.old.cut run.now;
-          world = record self.old.world { items = self.old.world.items + length run.now };
-        }) }
-        ensures sized { length self.new.world.hidden ≡ length self.old.world.hidden }
+    /// The bytes of plain items go into the open word, or open one. Lack of memory is the only error.
+    fn put_plain(&mut self, run: &[u8]) -> Result<(), AllocError>
+        requires { 0 < length run.now }
+        ensures { OnOk result (self.new ≡ record self.old { cut = in_word self.old.cut run.now }) }
     {
         add_bytes(&mut self.word, run)?;
         self.is_open = true;
         self.is_stray |= self.is_piped;
-        self.items += run.len();
         Ok(())
     }
 
     /// A word is open, which may stay empty.
     fn open(&mut self)
-        ensures does { (F : Facts) (C : specs.Context)
-            → run F C self.old (puts (Open ∷ [])) ≡ Is (Ok (tt, self.new)) }
+        ensures does { (n : ℕ) (F : Facts) (C : specs.Context)
+            → run F C (reached n self.old) (puts (Open ∷ [])) ≡ Is (Ok (tt, reached n self.new)) }
         ensures same { self.new.world ≡ self.old.world }
     {
         self.is_open = true;
@@ -323,9 +284,8 @@ impl Machine {
 
     /// The open command ends; one without a word is dropped. In a file none ends.
     fn close_line(&mut self) -> Result<(), MachineFault>
-        ensures does { (F : Facts) (C : specs.Context)
-            → GivesKnown MachineFault.Memory (λ u. (tt, self.new)) result
-            (run F C self.old (puts (End ∷ []))) }
+        ensures does { (n : ℕ) (F : Facts) (C : specs.Context)
+            → Does F C n self.old self.new result (puts (End ∷ [])) }
         ensures same { self.new.world ≡ self.old.world }
     {
         if self.outer.is_some() {
@@ -359,11 +319,8 @@ impl Machine {
         outside: &mut Outside<'_, S>,
     ) -> Result<(), MachineFault>
         ensures asks { Asked S.events outside.old outside.new }
-        ensures does { (F : Facts) → Extends outside.new.facts.now F
-            → GivesKnown MachineFault.Memory (λ u. (tt, self.new)) result
-            (run F context.now self.old (puts (Break ∷ End ∷ []))) }
-        ensures sized { length self.new.world.hidden ≡ length self.old.world.hidden }
-        ensures uncounted { OnOk result (self.new.world.items ≡ self.old.world.items) }
+        ensures does { (n : ℕ) (F : Facts) → Extends outside.new.facts.now F
+            → Does F context.now n self.old self.new result (puts (Break ∷ End ∷ [])) }
     {
         self.end_word(context, outside)?;
         self.close_line()
@@ -378,11 +335,8 @@ impl Machine {
         outside: &mut Outside<'_, S>,
     ) -> Result<(), MachineFault>
         ensures asks { Asked S.events outside.old outside.new }
-        ensures does { (F : Facts) → Extends outside.new.facts.now F
-            → GivesKnown MachineFault.Memory (λ u. (tt, self.new)) result
-            (run F context.now self.old (puts (Piped ∷ []))) }
-        ensures sized { length self.new.world.hidden ≡ length self.old.world.hidden }
-        ensures uncounted { OnOk result (self.new.world.items ≡ self.old.world.items) }
+        ensures does { (n : ℕ) (F : Facts) → Extends outside.new.facts.now F
+            → Does F context.now n self.old self.new result (puts (Piped ∷ [])) }
     {
         self.end_word(context, outside)?;
         self.close_with_pipe();
@@ -399,11 +353,8 @@ impl Machine {
     ) -> Result<(), MachineFault>
         requires { i < length context.now.switches }
         ensures asks { Asked S.events outside.old outside.new }
-        ensures does { (F : Facts) → Extends outside.new.facts.now F
-            → GivesKnown MachineFault.Memory (λ u. (tt, self.new)) result
-            (run F context.now self.old (puts (Break ∷ word_of (argument context.now i)))) }
-        ensures sized { length self.new.world.hidden ≡ length self.old.world.hidden }
-        ensures uncounted { OnOk result (self.new.world.items ≡ self.old.world.items) }
+        ensures does { (n : ℕ) (F : Facts) → Extends outside.new.facts.now F
+            → Does F context.now n self.old self.new result (puts (Break ∷ word_of (argument context.now i))) }
     {
         self.end_word(context, outside)?;
         let Some(word) = context.argument(i) else {
@@ -425,11 +376,8 @@ impl Machine {
     ) -> Result<(), MachineFault>
         requires { i < length context.now.switches }
         ensures asks { Asked S.events outside.old outside.new }
-        ensures does { (F : Facts) → Extends outside.new.facts.now F
-            → GivesKnown MachineFault.Memory (λ u. (tt, self.new)) result
-            (run F context.now self.old (puts (switch_atoms F context.now i))) }
-        ensures sized { length self.new.world.hidden ≡ length self.old.world.hidden }
-        ensures uncounted { OnOk result (self.new.world.items ≡ self.old.world.items) }
+        ensures does { (n : ℕ) (F : Facts) → Extends outside.new.facts.now F
+            → Does F context.now n self.old self.new result (puts (switch_atoms F context.now i)) }
     {
         if !self.is_open && !self.marks.script && !self.marks.file {
             self.add_switch(context, i)?;
@@ -440,41 +388,12 @@ impl Machine {
         self.put_argument(context, i, outside)
     }
 
-    /// One more item is reached.
-    ///
-    /// # Errors
-    /// `TooManySteps` where 1,000,000 were reached before.
-    pub(crate) fn count(&mut self) -> Result<(), MachineFault>
-        ensures does { (F : Facts) (C : specs.Context)
-            → GivesKnown MachineFault.Memory (λ u. (tt, self.new)) result
-            (run F C self.old counted) }
-        ensures sized { length self.new.world.hidden ≡ length self.old.world.hidden }
-        ensures counts { OnOk result (self.new.world.items ≡ self.old.world.items + 1) }
-        ensures below { OnOk result (self.old.world.items < 1000000) }
-    {
-        if self.items >= MOST_ITEMS {
-            return Err(MachineFault::TooManySteps);
-        }
-        self.items += 1;
-        Ok(())
-    }
-
-    /// How many items more may be reached.
-    pub(crate) fn left(&self) -> usize
-        ensures { result ≡ step.most_items - self.now.world.items }
-    {
-        MOST_ITEMS.saturating_sub(self.items)
-    }
-
     /// Hides every switch that a pattern names. The call allocates nothing.
     pub(crate) fn hide(&mut self, switches: &Switches<'_>, pattern: &Pattern<'_>)
-        requires { length self.old.world.hidden ≡ length switches.now }
-        ensures does { self.new ≡ record self.old {
+        ensures { self.new ≡ record self.old {
           world = record self.old.world
               { hidden = hidden_by pattern.now switches.now self.old.world.hidden };
         } }
-        ensures sized { length self.new.world.hidden ≡ length self.old.world.hidden }
-        ensures uncounted { self.new.world.items ≡ self.old.world.items }
     {
         switches.hide(pattern, &mut self.hidden);
     }

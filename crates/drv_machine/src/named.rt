@@ -2,6 +2,7 @@
 
 ghost use Rattle.drv_machine.specs.Atoms.{named, tree_named};
 ghost use Rattle.drv_machine.specs.Context as specs;
+ghost use Rattle.drv_machine.specs.Code.Counting.{state};
 ghost use Rattle.drv_machine.specs.Code.Running as running;
 ghost use Rattle.drv_machine.specs.Code.Walking.{Following, Went};
 ghost use Rattle.drv_machine.specs.Working.{Answer, most_items};
@@ -9,10 +10,10 @@ ghost use Rattle.drv_syntax.specs.Parsed.{tree_of};
 ghost use Rattle.drv_system.specs.Facts.{Facts};
 ghost use Rattle.std.specs.Prelude.{◌≡◌, ◌≤◌, OnOk, Some, length};
 
-use crate::machine::Machine;
+use crate::machine::Tally;
 use crate::walk::{Frame, Opened, Walk};
 use crate::{Context, MachineFault};
-use drv_syntax::SpecTree;
+use drv_syntax::{SpecTree, TokenKind};
 
 /// A text is opened.
 ///
@@ -50,27 +51,32 @@ pub(crate) fn open_text<'w>(
     context: &'w Context<'_>,
     name: &[u8],
     walk: &mut Walk<'w>,
-    machine: &mut Machine,
+    tally: &mut Tally,
 ) -> Result<(), MachineFault>
-    requires few { machine.old.world.items ≤ most_items }
+    requires few { tally.old.items ≤ most_items }
     ensures does { (F : Facts) (given : Answer (Unit {0} × running.Machine))
         → Following F context.now walk.old.text.now walk.old walk.old.at
         (λ levels star. named F context.now (tree_named F context.now name.now) levels)
-        machine.old given
-        → Went F context.now walk.new.text.now walk.new machine.new given result }
-    ensures sized { length machine.new.world.hidden ≡ length machine.old.world.hidden }
-    ensures counts { OnOk result (machine.old.world.items ≤ machine.new.world.items) }
+        (state tally.old) given
+        → Went F context.now walk.new.text.now walk.new (state tally.new) given result }
+    ensures counts { OnOk result (tally.old.items ≤ tally.new.items) }
 {
-    let Some(text) = context.named(name) else {
+    let Some(text) = context.text_named(name) else {
         return Ok(());
     };
-    let bytes = text.plain_bytes(0, machine.left());
-    if bytes.len() < text.tokens().len() || walk.frames.is_full() {
+    let tokens = text.tokens();
+    if let [first, ..] = tokens {
+        if !matches!(first.kind, TokenKind::Plain) {
+            return enter_text(text, walk);
+        }
+    }
+    let bytes = text.plain_bytes(0, tally.left());
+    if bytes.len() < tokens.len() || walk.frames.is_full() {
         return enter_text(text, walk);
     }
     if bytes.is_empty() {
         return Ok(());
     }
-    machine.put_counted(bytes)?;
+    tally.put_counted(bytes)?;
     Ok(())
 }

@@ -4,7 +4,7 @@ ghost use Rattle.drv_machine.specs.Names.{is_word, language_of, suffix_of};
 ghost use Rattle.std.specs.Prelude.{◌≡◌};
 
 use crate::Source;
-use drv_words::suffixed;
+use drv_words::split_suffix;
 
 /// Whether an input's suffix is this word. The link has no suffix.
 pub(crate) fn has_suffix(input: &Option<Source<'_>>, word: &[u8]) -> bool
@@ -13,7 +13,7 @@ pub(crate) fn has_suffix(input: &Option<Source<'_>>, word: &[u8]) -> bool
     let Some(source) = input else {
         return false;
     };
-    match suffixed(source.name) {
+    match split_suffix(source.name) {
         Some((_, suffix)) => word == suffix,
         None => false,
     }

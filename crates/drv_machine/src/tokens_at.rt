@@ -25,7 +25,7 @@ pub fn pattern_at(tree: &SpecTree, at: usize) -> Pattern<'_>
 {
     Pattern {
         name: tree.word(at),
-        star: tree.starred(at),
+        star: tree.is_starred(at),
     }
 }
 

@@ -3,8 +3,9 @@
 ghost use Rattle.drv_system.specs.Code.Asked.{Asked};
 ghost use Rattle.drv_machine.specs.Atoms.{items_step, levels_left};
 ghost use Rattle.drv_machine.specs.Context as specs;
+ghost use Rattle.drv_machine.specs.Code.Counting.{state};
 ghost use Rattle.drv_machine.specs.Code.Running as running;
-ghost use Rattle.drv_machine.specs.Code.Running.{run};
+ghost use Rattle.drv_machine.specs.Code.Running.{reached, run};
 ghost use Rattle.drv_machine.specs.Code.Walking.{After, AskFits, AtItem, HasFrames, Kept, Lain};
 ghost use Rattle.drv_machine.specs.Code.Walking.{Left, after_arguments, asked_on};
 ghost use Rattle.drv_machine.specs.Code.Walking.{OpenedFits, Settled, Went, back_of, closing};
@@ -21,7 +22,7 @@ ghost use Rattle.drv_system.specs.Facts.{Facts};
 ghost use Rattle.drv_system.specs.Gives.{GivesKnown};
 ghost use Rattle.drv_system.specs.Known.{Is};
 ghost use Rattle.std.specs.Prelude.{◌≡◌, ◌+◌, ◌-◌, ◌<◌, ◌≤◌, [], IfOk, IsTrue, Ok, OnOk, Some};
-ghost use Rattle.std.specs.Prelude.{length, slice_get};
+ghost use Rattle.std.specs.Prelude.{length, slice_get, ℕ};
 
 use crate::braces::{answer, choose};
 use crate::calling::open_call;
@@ -29,10 +30,10 @@ use crate::failing::work_failure;
 use crate::filing::work_filed;
 use crate::hits::close_hit;
 use crate::items::work_item;
-use crate::machine::{Cutter, Machine};
+use crate::machine::{Cutter, Machine, Tally};
 use crate::named::open_text;
 use crate::tokens_at::token_at;
-use crate::walk::{Asking, Frame, Opened, Walk};
+use crate::walk::{Asking, Frame, Hit, Opened, Parts, Walk};
 use crate::{Context, MachineFault};
 use drv_syntax::{SpecTree, TokenKind};
 use drv_system::{Outside, System};
@@ -48,27 +49,24 @@ fn close_test<S: System>(
     machine: &mut Machine,
     outside: &mut Outside<'_, S>,
 ) -> Result<(), MachineFault>
-    requires fits { (items : tree.Items) × (kept : Kept)
+    requires { (items : tree.Items) × (kept : Kept)
         × AskFits walk.old.text.now asking items kept }
-    requires sized { length machine.old.world.hidden ≡ length context.now.switches }
     ensures asks { Asked S.events outside.old outside.new }
-    ensures does { (F : Facts) → Extends outside.new.facts.now F
+    ensures does { (n : ℕ) (F : Facts) → Extends outside.new.facts.now F
         → (items : tree.Items) (kept : Kept) (given : Answer (Unit {0} × running.Machine))
         → AskFits walk.old.text.now asking items kept
         → After F context.now walk.old.text.now walk.old asking.end (λ levels star s.
         after_arguments F context.now outer.value (asked_on F context.now items kept levels star)
-        s) machine.old given
-        → Went F context.now walk.new.text.now walk.new machine.new given result }
+        s) (reached n machine.old) given
+        → Went F context.now walk.new.text.now walk.new (reached n machine.new) given result }
     ensures lighter { OnOk result (weight (length context.now.switches) walk.new.frames
         < weight (length context.now.switches) walk.old.frames +
         (length context.now.switches + 1 + (asking.end - asking.test))) }
-    ensures sized { length machine.new.world.hidden ≡ length machine.old.world.hidden }
-    ensures uncounted { OnOk result (machine.new.world.items ≡ machine.old.world.items) }
 {
     let text = walk.text;
     let name = text.word(asking.test);
     let holds = machine.has_value(name, outer, context, outside)?;
-    answer(text, context, asking, holds, walk, machine)
+    answer(context, asking, holds, walk, machine)
 }
 
 /// The innermost open part ends: what it was opened for is done, or done once more, in the part
@@ -81,31 +79,28 @@ fn close<'w, S: System>(
     machine: &mut Machine,
     outside: &mut Outside<'_, S>,
 ) -> Result<(), MachineFault>
-    requires fits { (p : tree.Pattern) × (items : tree.Items) × (kept : Kept)
+    requires { (p : tree.Pattern) × (items : tree.Items) × (kept : Kept)
         × OpenedFits walk.old.text.now context.now frame.opened p items kept }
-    requires sized { length machine.old.world.hidden ≡ length context.now.switches }
     ensures asks { Asked S.events outside.old outside.new }
-    ensures does { (F : Facts) → Extends outside.new.facts.now F
+    ensures does { (n : ℕ) (F : Facts) → Extends outside.new.facts.now F
         → (p : tree.Pattern) (items : tree.Items) (kept : Kept)
         (given : Answer (Unit {0} × running.Machine))
         → OpenedFits walk.old.text.now context.now frame.entry.opened p items kept
         → After F context.now (text_around walk.old.text.now frame.entry.opened)
         (record walk.old { end = frame.entry.end; star = frame.entry.star })
         (back_of frame.entry.opened) (λ levels star s. closing F context.now levels star
-        frame.entry.opened p items kept s) machine.old given
-        → Went F context.now walk.new.text.now walk.new machine.new given result }
+        frame.entry.opened p items kept s) (reached n machine.old) given
+        → Went F context.now walk.new.text.now walk.new (reached n machine.new) given result }
     ensures lighter { OnOk result (weight (length context.now.switches) walk.new.frames
         < weight (length context.now.switches) walk.old.frames + hits_left
         (length context.now.switches) frame.entry.opened) }
-    ensures sized { length machine.new.world.hidden ≡ length machine.old.world.hidden }
-    ensures uncounted { OnOk result (machine.new.world.items ≡ machine.old.world.items) }
 {
     let text = walk.text;
     walk.end = frame.end;
     walk.star = frame.star;
     match frame.opened {
         Opened::Hit { each, switch } => {
-            close_hit(text, context, each, switch, walk, machine, outside)
+            close_hit(context, Hit { each, switch }, walk, machine, outside)
         }
         Opened::Text { around, back } => {
             walk.text = around;
@@ -152,15 +147,12 @@ fn settle<S: System>(
 ) -> Result<bool, MachineFault>
     requires lain { Lain walk.old.text.now walk.old }
     requires framed { HasFrames context.now walk.old.text.now walk.old }
-    requires sized { length machine.old.world.hidden ≡ length context.now.switches }
     ensures asks { Asked S.events outside.old outside.new }
-    ensures does { (F : Facts) → Extends outside.new.facts.now F
+    ensures does { (n : ℕ) (F : Facts) → Extends outside.new.facts.now F
         → (given : Answer (Unit {0} × running.Machine))
-        → Left F context.now walk.old.text.now walk.old machine.old given
-        → Settled F context.now walk.new.text.now walk.new machine.new given result }
+        → Left F context.now walk.old.text.now walk.old (reached n machine.old) given
+        → Settled F context.now walk.new.text.now walk.new (reached n machine.new) given result }
     ensures reached { IfOk result (λ more. IsTrue more → AtItem walk.new.text.now walk.new) }
-    ensures sized { length machine.new.world.hidden ≡ length machine.old.world.hidden }
-    ensures uncounted { OnOk result (machine.new.world.items ≡ machine.old.world.items) }
 {
     let text = walk.text;
     walk.skip(text);
@@ -189,23 +181,22 @@ fn has_byte(text: &SpecTree, at: usize, end: usize) -> bool
 /// Works the plain bytes from the place that is reached, up to another item or the end of the
 /// innermost part, as many as may be reached. The first was counted.
 #[inline(never)]
-fn work_run(text: &SpecTree, walk: &mut Walk<'_>, machine: &mut Machine) -> Result<(), MachineFault>
+fn work_run(text: &SpecTree, walk: &mut Walk<'_>, tally: &mut Tally) -> Result<(), MachineFault>
     requires lain { Lain text.now walk.old }
     requires at_byte { AtByte text.now walk.old }
-    requires few { machine.old.world.items ≤ most_items }
+    requires few { tally.old.items ≤ most_items }
     ensures does { (F : Facts) (C : specs.Context) (s : running.Machine)
         (given : Answer (Unit {0} × running.Machine))
-        → run F C s counted ≡ Is (Ok (tt, machine.old)) → Left F C text.now walk.old s given
-        → Went F C text.now walk.new machine.new given result }
+        → run F C s counted ≡ Is (Ok (tt, state tally.old)) → Left F C text.now walk.old s given
+        → Went F C text.now walk.new (state tally.new) given result }
     ensures same { walk.new ≡ record walk.old { at = walk.new.at } }
-    ensures sized { length machine.new.world.hidden ≡ length machine.old.world.hidden }
-    ensures counts { OnOk result (machine.old.world.items ≤ machine.new.world.items) }
+    ensures counts { OnOk result (tally.old.items ≤ tally.new.items) }
 {
     let at = walk.at;
-    let end = walk.end.min(at.saturating_add(machine.left() + 1));
+    let end = walk.end.min(at.saturating_add(tally.left() + 1));
     let run = text.plain_bytes(at, end);
     walk.at = at + run.len();
-    machine.put_run(run)?;
+    tally.put_run(run)?;
     Ok(())
 }
 
@@ -214,54 +205,56 @@ fn work_run(text: &SpecTree, walk: &mut Walk<'_>, machine: &mut Machine) -> Resu
 fn turn<'w, S: System>(
     context: &'w Context<'_>,
     walk: &mut Walk<'w>,
-    machine: &mut Machine,
+    tally: &mut Tally,
     outside: &mut Outside<'_, S>,
 ) -> Result<(), MachineFault>
     requires lain { Lain walk.old.text.now walk.old }
     requires at_item { AtItem walk.old.text.now walk.old }
-    requires sized { length machine.old.world.hidden ≡ length context.now.switches }
     ensures asks { Asked S.events outside.old outside.new }
     ensures does { (F : Facts) → Extends outside.new.facts.now F
         → (given : Answer (Unit {0} × running.Machine))
-        → Left F context.now walk.old.text.now walk.old machine.old given
-        → Went F context.now walk.new.text.now walk.new machine.new given result }
-    ensures sized { length machine.new.world.hidden ≡ length machine.old.world.hidden }
-    ensures counts { OnOk result (machine.old.world.items < machine.new.world.items) }
-    ensures below { OnOk result (machine.old.world.items < 1000000) }
+        → Left F context.now walk.old.text.now walk.old (state tally.old) given
+        → Went F context.now walk.new.text.now walk.new (state tally.new) given result }
+    ensures counts { OnOk result (tally.old.items < tally.new.items) }
+    ensures below { OnOk result (tally.old.items < 1000000) }
 {
     let text = walk.text;
     let at = walk.at;
     let token = token_at(text, at);
-    machine.count()?;
+    tally.count()?;
     let next = token.next;
+    let inside = Parts {
+        start: at + 1,
+        end: next,
+    };
     match token.kind {
-        TokenKind::Choose => choose(text, context, at + 1, next, walk, machine),
+        TokenKind::Choose => choose(context, inside.start, next, walk, &mut tally.machine),
         TokenKind::NamedText => {
             walk.at = next;
-            open_text(context, text.word(at), walk, machine)
+            open_text(context, text.word(at), walk, tally)
         }
         TokenKind::BuiltinText => {
             walk.at = next;
-            open_text(context, text.word(at), walk, machine)
+            open_text(context, text.word(at), walk, tally)
         }
-        TokenKind::Function => open_call(at, next, walk, machine),
+        TokenKind::Function => open_call(at, next, walk, &mut tally.machine),
         TokenKind::FailureFile => {
-            work_failure(text, context, at + 1, next, walk, machine, outside)
+            work_failure(context, inside, walk, &mut tally.machine, outside)
         }
         TokenKind::ArgumentsFile => {
-            work_filed(text, context, at + 1, next, walk, machine, outside)
+            work_filed(context, inside, walk, &mut tally.machine, outside)
         }
         TokenKind::Plain => {
             if has_byte(text, next, walk.end) {
-                return work_run(text, walk, machine);
+                return work_run(text, walk, tally);
             }
             walk.at = next;
-            machine.put_item(text.word(at))?;
+            tally.machine.put_item(text.word(at))?;
             Ok(())
         }
         _ => {
             walk.at = next;
-            work_item(text, context, at, token, walk.star, machine, outside)
+            work_item(context, at, token, walk, &mut tally.machine, outside)
         }
     }
 }
@@ -270,20 +263,19 @@ fn turn<'w, S: System>(
 fn work_items<'w, S: System>(
     context: &'w Context<'_>,
     walk: &mut Walk<'w>,
-    machine: &mut Machine,
+    tally: &mut Tally,
     outside: &mut Outside<'_, S>,
 ) -> Result<(), MachineFault>
     requires lain { Lain walk.old.text.now walk.old }
     requires framed { HasFrames context.now walk.old.text.now walk.old }
-    requires sized { length machine.old.world.hidden ≡ length context.now.switches }
     ensures asks { Asked S.events outside.old outside.new }
     ensures does { (F : Facts) → Extends outside.new.facts.now F
         → (given : Answer (Unit {0} × running.Machine))
-        → Left F context.now walk.old.text.now walk.old machine.old given
-        → GivesKnown MachineFault.Memory (λ u. (tt, machine.new)) result given }
+        → Left F context.now walk.old.text.now walk.old (state tally.old) given
+        → GivesKnown MachineFault.Memory (λ u. (tt, state tally.new)) result given }
 {
-    while settle(context, walk, machine, outside)? {
-        turn(context, walk, machine, outside)?;
+    while settle(context, walk, &mut tally.machine, outside)? {
+        turn(context, walk, tally, outside)?;
     }
     Ok(())
 }
@@ -292,16 +284,15 @@ fn work_items<'w, S: System>(
 pub(crate) fn work_text<'w, S: System>(
     text: &'w SpecTree,
     context: &'w Context<'_>,
-    machine: &mut Machine,
+    tally: &mut Tally,
     outside: &mut Outside<'_, S>,
 ) -> Result<(), MachineFault>
-    requires { length machine.old.world.hidden ≡ length context.now.switches }
     ensures asks { Asked S.events outside.old outside.new }
     ensures does { (F : Facts) → Extends outside.new.facts.now F
-        → GivesKnown MachineFault.Memory (λ u. (tt, machine.new)) result
-        (run F context.now machine.old (items_step F context.now (tree_of text.now)
+        → GivesKnown MachineFault.Memory (λ u. (tt, state tally.new)) result
+        (run F context.now (state tally.old) (items_step F context.now (tree_of text.now)
         (levels_left F context.now most_open) [])) }
 {
-    let mut walk = Walk::new(machine.alloc(), text, text.tokens().len());
-    work_items(context, &mut walk, machine, outside)
+    let mut walk = Walk::new(tally.machine.alloc(), text, text.tokens().len());
+    work_items(context, &mut walk, tally, outside)
 }

@@ -23,6 +23,13 @@ pub(crate) struct Rest {
     pub(crate) size: usize,
 }
 
+/// The parts of a text from one place up to another.
+#[derive(Clone, Copy, Debug)]
+pub(crate) struct Parts {
+    pub(crate) start: usize,
+    pub(crate) end: usize,
+}
+
 /// An X that is run for each hit: the place of the test that asks for the switch, and where X
 /// begins and ends.
 #[derive(Clone, Copy, Debug, Default)]
@@ -30,6 +37,13 @@ pub(crate) struct Each {
     pub(crate) test: usize,
     pub(crate) start: usize,
     pub(crate) end: usize,
+}
+
+/// A working of an X for the hit of a switch.
+#[derive(Clone, Copy, Debug)]
+pub(crate) struct Hit {
+    pub(crate) each: Each,
+    pub(crate) switch: usize,
 }
 
 /// A test by a function, kept while the function's arguments are processed: its answer is known at

@@ -3,6 +3,7 @@
 ghost use Rattle.drv_system.specs.Code.Asked.{Asked};
 ghost use Rattle.drv_machine.specs.Atoms.{whole_text};
 ghost use Rattle.drv_machine.specs.Outcome.{finished, outcome};
+ghost use Rattle.drv_machine.specs.Code.Counting.{state};
 ghost use Rattle.drv_machine.specs.Code.Running.{run};
 ghost use Rattle.drv_machine.specs.Working.{◌>>-◌};
 ghost use Rattle.drv_syntax.specs.Parsed.{tree_of};
@@ -11,7 +12,7 @@ ghost use Rattle.drv_system.specs.Facts.{Facts};
 ghost use Rattle.drv_system.specs.Gives.{GivesKnown};
 ghost use Rattle.std.specs.Prelude.{◌≡◌, length};
 
-use crate::machine::{Machine, outcome_of};
+use crate::machine::{Machine, Tally, outcome_of};
 use crate::turns::work_text;
 use crate::{Context, MachineFault, Outcome};
 use drv_syntax::SpecTree;
@@ -22,39 +23,37 @@ use std::alloc::Global;
 fn work_whole<S: System>(
     text: &SpecTree,
     context: &Context<'_>,
-    machine: &mut Machine,
+    tally: &mut Tally,
     outside: &mut Outside<'_, S>,
 ) -> Result<(), MachineFault>
-    requires { length machine.old.world.hidden ≡ length context.now.switches }
     ensures asks { Asked S.events outside.old outside.new }
     ensures does { (F : Facts) → Extends outside.new.facts.now F
-        → GivesKnown MachineFault.Memory (λ u. (tt, machine.new)) result
-        (run F context.now machine.old (whole_text F context.now (tree_of text.now))) }
+        → GivesKnown MachineFault.Memory (λ u. (tt, state tally.new)) result
+        (run F context.now (state tally.old) (whole_text F context.now (tree_of text.now))) }
 {
-    work_text(text, context, machine, outside)?;
-    machine.end_line(context, outside)
+    work_text(text, context, tally, outside)?;
+    tally.machine.end_line(context, outside)
 }
 
 /// Works the whole text, and judges what was cut.
 fn finish<S: System>(
     text: &SpecTree,
     context: &Context<'_>,
-    machine: &mut Machine,
+    tally: &mut Tally,
     outside: &mut Outside<'_, S>,
 ) -> Result<Outcome, MachineFault>
-    requires { length machine.old.world.hidden ≡ length context.now.switches }
     ensures asks { Asked S.events outside.old outside.new }
     ensures does { (F : Facts) → Extends outside.new.facts.now F
         → GivesKnown MachineFault.Memory (λ o. o) result
-        (run F context.now machine.old (whole_text F context.now (tree_of text.now)) >>- λ r.
+        (run F context.now (state tally.old) (whole_text F context.now (tree_of text.now)) >>- λ r.
         finished F context.now r.1.world r.1.cut) }
 {
-    work_whole(text, context, machine, outside)?;
-    outcome_of(machine, context, outside)
+    work_whole(text, context, tally, outside)?;
+    outcome_of(&mut tally.machine, tally.items, context, outside)
 }
 
 /// A spec text worked to its end.
-fn worked<S: System>(
+fn work_to_end<S: System>(
     alloc: Global,
     text: &SpecTree,
     context: &Context<'_>,
@@ -65,8 +64,9 @@ fn worked<S: System>(
         → GivesKnown MachineFault.Memory (λ o. o) result
         (outcome F context.now (tree_of text.now)) }
 {
-    let mut machine = Machine::new(alloc, context)?;
-    finish(text, context, &mut machine, outside)
+    let machine = Machine::new(alloc, context)?;
+    let mut tally = Tally { machine, items: 0 };
+    finish(text, context, &mut tally, outside)
 }
 
 /// Works a spec text: its job, and what it cost. It asks the system only where the table has no
@@ -86,5 +86,5 @@ pub fn run<S: System>(
         → GivesKnown MachineFault.Memory (λ o. o) result
         (outcome F context.now (tree_of tree.now)) }
 {
-    worked(alloc, tree, context, &mut Outside { sys, facts })
+    work_to_end(alloc, tree, context, &mut Outside { sys, facts })
 }

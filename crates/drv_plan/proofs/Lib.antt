@@ -1,3 +1,4 @@
+mod Apart
 mod BuiltinPlans
 pub mod Ends
 mod LanguageRows

@@ -1,15 +1,13 @@
 use Rattle.drv_args.specs.declared.line.Input.TheVariants.{File, Library, LinkWord}
 use Rattle.drv_args.specs.declared.line.Input.{Input}
-use Rattle.drv_machine.specs.declared.fault.MachineFault.TheVariants as machine
 use Rattle.drv_machine.specs.declared.fault.MachineFault.{MachineFault}
 use Rattle.drv_plan.specs.Languages.{Alias, Chosen, Missing, PairText, Worked, by_language, by_suffix, chosen, chosen_for, in_language}
 use Rattle.drv_plan.specs.Languages.{is_of_language, is_standard_input, is_suffix_of, last_pair, with_suffix}
-use Rattle.drv_plan.specs.declared.fault.PlanFault.TheVariants.{Machine, Memory}
+use Rattle.drv_plan.specs.declared.fault.PlanFault.TheVariants.{Machine}
 use Rattle.drv_plan.specs.declared.fault.PlanFault.{PlanFault}
 use Rattle.drv_specs.specs.Sets.{Set}
-use Rattle.drv_words.specs.Gives.{Gives}
-use Rattle.std.proofs.Common.{◌≡◌, ◌⊎◌, ◌∙◌, Bool, Err, List, None, Ok, Option, Result, Some, ap, false, inl, inr, sym, true, ℕ}
-use Rattle.std.specs.Prelude.{◌≢◌, IfErr, codes, if◌then◌else◌}
+use Rattle.std.proofs.Common.{◌≡◌, Bool, Err, List, None, Ok, Option, Result, Some, ap, false, true, ℕ}
+use Rattle.std.specs.Prelude.{◌≢◌, codes, if◌then◌else◌}
 
 -- For `plan`: finding the language of an input runs no text, so no refusal is that of a text.
 -- Names: `set` is the specs: named texts, and pairs of suffixes and languages. `input` is one input. `chosen_for set input` is the text for
@@ -54,16 +52,3 @@ no_text set (File name (Some language)) fault e = no_text_by set language fault 
 no_text set (File name None) fault e = no_text_for set name (is_standard_input name) fault e
 no_text set (Library word) fault e = absurd cc
 no_text set (LinkWord word) fault e = absurd cc
-
--- the refusal of a language is not the machine's lack of memory
-pub no_want : (set : Set) (input : Input) (refusal : PlanFault) → (refusal ≡ Memory) ⊎ (chosen_for set input ≡ Err refusal)
-    → refusal ≢ Machine machine.Memory
-no_want set input refusal (inl memory) e = absurd (let no : Memory ≡ Machine machine.Memory = sym memory ∙ e in cc)
-no_want set input refusal (inr refuses) e = no_text set input machine.Memory (refuses ∙ ap (λ f. Err f) e)
-
--- a refusal of the code's look-up of a language is not the machine's lack of memory
-pub language_apart : {X : Type 0} (view : X → Option Chosen) (result : Result X PlanFault) (set : Set) (input : Input)
-    → Gives Memory view result (chosen_for set input)
-    → IfErr result (λ refusal. refusal ≢ Machine machine.Memory)
-language_apart view (Ok c) set input given = tt
-language_apart view (Err refusal) set input given = no_want set input refusal given

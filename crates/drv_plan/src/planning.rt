@@ -59,7 +59,6 @@ fn link_with<S: System>(
     ensures works { (F : Facts) → Extends outside.new.facts.now F
         → GivesKnown PlanFault.Memory (λ link. (link, progress.new)) result
         (with_text F (Some text.now) progress.old) }
-    ensures apart { IfErr result (λ fault. fault ≢ PlanFault.Machine machine.Memory) }
 {
     let job = progress.work_link(alloc, text, outside)?;
     Ok(with_command(job))
@@ -76,7 +75,6 @@ fn link_of<S: System>(
     ensures works { (F : Facts) → Extends outside.new.facts.now F
         → GivesKnown PlanFault.Memory (λ link. (link, progress.new)) result
         (with_link F set.now progress.old) }
-    ensures apart { IfErr result (λ fault. fault ≢ PlanFault.Machine machine.Memory) }
 {
     if is_empty_link(progress.outputs.as_slice()) {
         return Ok(None);
@@ -113,7 +111,6 @@ fn finish<S: System>(
     ensures asks { Asked S.events outside.old outside.new }
     ensures works { (F : Facts) → Extends outside.new.facts.now F
         → GivesKnown PlanFault.Memory (λ plan. plan) result (finished F set.now progress.old) }
-    ensures apart { IfErr result (λ fault. fault ≢ PlanFault.Machine machine.Memory) }
 {
     let link = link_of(alloc, set, progress, outside)?;
     Ok(plan_of(alloc, link, progress)?)
@@ -132,7 +129,6 @@ fn plan_inputs<'a, S: System>(
     ensures works { (F : Facts) → Extends outside.new.facts.now F
         → GivesKnown PlanFault.Memory (λ plan. plan) result
         (then_by (with_inputs F set.now 0 inputs.now progress.old) (λ g. finished F set.now g)) }
-    ensures apart { IfErr result (λ fault. fault ≢ PlanFault.Machine machine.Memory) }
 {
     add_inputs(alloc, set, inputs, progress, outside)?;
     finish(alloc, set, progress, outside)
@@ -150,7 +146,6 @@ fn plan_in<'a, S: System>(
     ensures works { (F : Facts) → Extends outside.new.facts.now F
         → GivesKnown PlanFault.Memory (λ plan. plan) result
         (planned F set.now inputs.now context.entry) }
-    ensures apart { IfErr result (λ fault. fault ≢ PlanFault.Machine machine.Memory) }
 {
     let mut progress = Progress::new(alloc, context, inputs.len())?;
     plan_inputs(alloc, set, inputs, &mut progress, outside)

@@ -3,14 +3,13 @@
 // In clauses: `GivesKnown` says that a result is the one defined over the facts, or lack of memory.
 // `Extends F G` says that G has every answer of F. `Asked` says that a call only asked, and that
 // the table has the answers.
-ghost use Rattle.drv_machine.specs.declared.fault.MachineFault.TheVariants as machine;
 ghost use Rattle.drv_plan.specs.Denoted.{begun, after_job, after_object, after_text, after_word};
 ghost use Rattle.drv_plan.specs.Denoted.{for_link, of_source, output_list, with_source, worked};
 ghost use Rattle.drv_system.specs.Asking.{Extends};
 ghost use Rattle.drv_system.specs.Code.Asked.{Asked};
 ghost use Rattle.drv_system.specs.Facts.{Facts};
 ghost use Rattle.drv_system.specs.Gives.{GivesKnown};
-ghost use Rattle.std.specs.Prelude.{◌≡◌, ◌≢◌, ◌++◌, IfErr, IfOk, OnOk};
+ghost use Rattle.std.specs.Prelude.{◌≡◌, ◌++◌, IfOk, OnOk};
 
 use crate::PlanFault;
 use drv_machine::{Context, Outcome, Source, run};
@@ -145,7 +144,6 @@ impl<'a> Progress<'a> {
         ensures works { (F : Facts) → Extends outside.new.facts.now F
             → GivesKnown PlanFault.Memory (λ job. (job, self.new)) result
             (worked F text.now self.old) }
-        ensures apart { IfErr result (λ fault. fault ≢ PlanFault.Machine machine.Memory) }
     {
         let mut done = run(alloc, text, &self.context, outside.sys, outside.facts)?;
         self.go_on(alloc, &mut done)?;
@@ -168,7 +166,6 @@ impl<'a> Progress<'a> {
         ensures works { (F : Facts) → Extends outside.new.facts.now F
             → GivesKnown PlanFault.Memory (λ _. self.new) result
             (with_source F place source.entry text.now self.old) }
-        ensures apart { IfErr result (λ fault. fault ≢ PlanFault.Machine machine.Memory) }
     {
         self.context.set_input(Some(source));
         let job = self.work(alloc, text, outside)?;
@@ -190,7 +187,6 @@ impl<'a> Progress<'a> {
         ensures works { (F : Facts) → Extends outside.new.facts.now F
             → GivesKnown PlanFault.Memory (λ job. (job, self.new)) result
             (worked F text.now (for_link self.old)) }
-        ensures apart { IfErr result (λ fault. fault ≢ PlanFault.Machine machine.Memory) }
     {
         let outputs = mem::replace(&mut self.outputs, Listing::new(alloc));
         self.context.set_input(None);

@@ -3,13 +3,12 @@
 // In clauses: `GivesKnown` says that a result is the one defined over the facts, or lack of memory.
 // `Extends F G` says that G has every answer of F. `Asked` says that a call only asked, and that
 // the table has the answers.
-ghost use Rattle.drv_machine.specs.declared.fault.MachineFault.TheVariants as machine;
 ghost use Rattle.drv_plan.specs.Denoted.{with_file, with_input, with_inputs};
 ghost use Rattle.drv_system.specs.Asking.{Extends};
 ghost use Rattle.drv_system.specs.Code.Asked.{Asked};
 ghost use Rattle.drv_system.specs.Facts.{Facts};
 ghost use Rattle.drv_system.specs.Gives.{GivesKnown};
-ghost use Rattle.std.specs.Prelude.{◌≡◌, ◌≢◌, IfErr, Ok};
+ghost use Rattle.std.specs.Prelude.{◌≡◌, Ok};
 
 use crate::PlanFault;
 use crate::languages::{Chosen, language};
@@ -44,7 +43,6 @@ fn add_file<'a, S: System>(
     ensures works { (F : Facts) → Extends outside.new.facts.now F
         → GivesKnown PlanFault.Memory (λ _. progress.new) result
         (with_file F place name.now (Ok chosen.entry) progress.old) }
-    ensures apart { IfErr result (λ fault. fault ≢ PlanFault.Machine machine.Memory) }
 {
     let Some(chosen) = chosen else {
         progress.add_object(name)?;
@@ -67,7 +65,6 @@ fn add_input<'a, S: System>(
     ensures works { (F : Facts) → Extends outside.new.facts.now F
         → GivesKnown PlanFault.Memory (λ _. progress.new) result
         (with_input F set.now place input.now progress.old) }
-    ensures apart { IfErr result (λ fault. fault ≢ PlanFault.Machine machine.Memory) }
 {
     match input {
         Input::File { name, .. } => {
@@ -102,7 +99,6 @@ pub(crate) fn add_inputs<'a, S: System>(
     ensures works { (F : Facts) → Extends outside.new.facts.now F
         → GivesKnown PlanFault.Memory (λ _. progress.new) result
         (with_inputs F set.now 0 inputs.now progress.old) }
-    ensures apart { IfErr result (λ fault. fault ≢ PlanFault.Machine machine.Memory) }
 {
     for (place, input) in inputs.iter().enumerate() {
         add_input(alloc, set, place, input, progress, outside)?;

@@ -3,12 +3,12 @@
 ghost use Rattle.drv_system.specs.Code.Asked.{Asked};
 ghost use Rattle.drv_machine.specs.Atoms.{named_file};
 ghost use Rattle.drv_machine.specs.Cutting.{words_in_file};
-ghost use Rattle.drv_machine.specs.Code.Running.{run};
+ghost use Rattle.drv_machine.specs.Code.Running.{Does, reached};
 ghost use Rattle.drv_machine.specs.Code.Walking.{file_end, file_from, into_file, out_of_file};
 ghost use Rattle.drv_system.specs.Asking.{Extends};
 ghost use Rattle.drv_system.specs.Facts.{Facts};
 ghost use Rattle.drv_system.specs.Gives.{GivesKnown};
-ghost use Rattle.std.specs.Prelude.{◌≡◌, OnOk, length};
+ghost use Rattle.std.specs.Prelude.{◌≡◌, length, ℕ};
 
 use super::{CutLine, Drawing, Machine};
 use crate::{Context, MachineFault};
@@ -42,11 +42,9 @@ impl Machine {
         outside: &mut Outside<'_, S>,
     ) -> Result<(), MachineFault>
         ensures asks { Asked S.events outside.old outside.new }
-        ensures does { (F : Facts) → Extends outside.new.facts.now F
-            → GivesKnown MachineFault.Memory (λ u. (tt, self.new)) result
-            (file_from F context.now self.old) }
-        ensures sized { length self.new.world.hidden ≡ length self.old.world.hidden }
-        ensures uncounted { OnOk result (self.new.world.items ≡ self.old.world.items) }
+        ensures does { (n : ℕ) (F : Facts) → Extends outside.new.facts.now F
+            → GivesKnown MachineFault.Memory (λ u. (tt, reached n self.new)) result
+            (file_from F context.now (reached n self.old)) }
     {
         self.end_word(context, outside)?;
         self.enter_file();
@@ -76,11 +74,8 @@ impl Machine {
         outside: &mut Outside<'_, S>,
     ) -> Result<(), MachineFault>
         ensures asks { Asked S.events outside.old outside.new }
-        ensures does { (F : Facts) → Extends outside.new.facts.now F
-            → GivesKnown MachineFault.Memory (λ u. (tt, self.new)) result
-            (run F context.now self.old (named_file F context.now words.now)) }
-        ensures sized { length self.new.world.hidden ≡ length self.old.world.hidden }
-        ensures uncounted { OnOk result (self.new.world.items ≡ self.old.world.items) }
+        ensures does { (n : ℕ) (F : Facts) → Extends outside.new.facts.now F
+            → Does F context.now n self.old self.new result (named_file F context.now words.now) }
     {
         if words.is_empty() {
             return Ok(());
@@ -99,11 +94,9 @@ impl Machine {
         outside: &mut Outside<'_, S>,
     ) -> Result<(), MachineFault>
         ensures asks { Asked S.events outside.old outside.new }
-        ensures does { (F : Facts) → Extends outside.new.facts.now F
-            → GivesKnown MachineFault.Memory (λ u. (tt, self.new)) result
-            (file_end F context.now self.old) }
-        ensures sized { length self.new.world.hidden ≡ length self.old.world.hidden }
-        ensures uncounted { OnOk result (self.new.world.items ≡ self.old.world.items) }
+        ensures does { (n : ℕ) (F : Facts) → Extends outside.new.facts.now F
+            → GivesKnown MachineFault.Memory (λ u. (tt, reached n self.new)) result
+            (file_end F context.now (reached n self.old)) }
     {
         self.end_word(context, outside)?;
         let words = self.leave_file();

@@ -4,7 +4,9 @@ ghost use Rattle.drv_system.specs.Code.Asked.{Asked};
 ghost use Rattle.drv_machine.specs.Cutting as cutting;
 ghost use Rattle.drv_machine.specs.Code.Grouping.{grouped};
 ghost use Rattle.drv_machine.specs.Code.Held.{made};
-ghost use Rattle.drv_machine.specs.Outcome.{command, ends_piped, finished, groups, job, lasting};
+ghost use Rattle.drv_machine.specs.Code.Running.{reached};
+ghost use Rattle.drv_machine.specs.Outcome.{command, ends_piped, finished, groups, job};
+ghost use Rattle.drv_machine.specs.Outcome.{lasting_files};
 ghost use Rattle.drv_machine.specs.Outcome.{most_piped, once};
 ghost use Rattle.drv_system.specs.Asking.{Extends};
 ghost use Rattle.drv_system.specs.Facts.{Facts};
@@ -12,7 +14,7 @@ ghost use Rattle.drv_system.specs.Gives.{GivesKnown};
 ghost use Rattle.drv_system.specs.Known.{Is};
 ghost use Rattle.std.specs.List.{list_any};
 ghost use Rattle.std.specs.Prelude.{◌≡◌, ◌&&◌, ◌||◌, ◌∷◌, ◌++◌, [], IfOk, List, Ok, OnOk, length};
-ghost use Rattle.std.specs.Prelude.{map, nat_lt};
+ghost use Rattle.std.specs.Prelude.{map, nat_lt, ℕ};
 
 use super::{Drawn, DrawnNames, IndexedWords, Machine, NamedLine};
 use crate::{Context, MachineFault, Outcome};
@@ -25,7 +27,8 @@ use std::mem;
 /// The most commands of a group.
 const MOST_PIPED: usize = 16;
 
-/// The job of a text that was run to its end, and what goes on to the next text. Words are moved.
+/// The job of a text that was run to its end with this many items, and what goes on to the next
+/// text. Words are moved.
 ///
 /// # Errors
 /// `StrayPipe` where a pipe is not at the end of a command with a word, or no further command
@@ -33,13 +36,14 @@ const MOST_PIPED: usize = 16;
 #[tactic(auto, using(drv_system::proofs::AskedCalls::asked_none))]
 pub(crate) fn outcome_of<S: System>(
     machine: &mut Machine,
+    cost: usize,
     context: &Context<'_>,
     outside: &mut Outside<'_, S>,
 ) -> Result<Outcome, MachineFault>
     ensures asks { Asked S.events outside.old outside.new }
     ensures does { (F : Facts) → Extends outside.new.facts.now F
         → GivesKnown MachineFault.Memory (λ o. o) result
-        (finished F context.now machine.old.world machine.old.cut) }
+        (finished F context.now (reached cost machine.old).world machine.old.cut) }
 {
     let job = job_of(machine, context, outside)?;
     let outs = machine.outputs.take()?;
@@ -49,7 +53,7 @@ pub(crate) fn outcome_of<S: System>(
         outs,
         accumulated: options_of(machine),
         next_number: machine.number,
-        cost: machine.items,
+        cost,
     })
 }
 
@@ -71,7 +75,7 @@ fn job_of<S: System>(
     outside: &mut Outside<'_, S>,
 ) -> Result<Job, MachineFault>
     ensures asks { Asked S.events outside.old outside.new }
-    ensures does { (F : Facts) → Extends outside.new.facts.now F
+    ensures does { (n : ℕ) (F : Facts) → Extends outside.new.facts.now F
         → GivesKnown MachineFault.Memory
         (λ j. record {
           job = j;
@@ -81,14 +85,13 @@ fn job_of<S: System>(
           accumulated = machine.old.world.options;
           next_number =
               machine.old.world.number;
-          cost = machine.old.world.items;
+          cost = n;
         }) result
-        (finished F context.now machine.old.world machine.old.cut) }
+        (finished F context.now (reached n machine.old).world machine.old.cut) }
     ensures notices { machine.new.world.notices ≡ machine.old.world.notices }
     ensures outputs { machine.new.world.outputs ≡ machine.old.world.outputs }
     ensures options { machine.new.world.options ≡ machine.old.world.options }
     ensures number { machine.new.world.number ≡ machine.old.world.number }
-    ensures items { machine.new.world.items ≡ machine.old.world.items }
 {
     if has_stray_pipe(machine) {
         return Err(MachineFault::StrayPipe);
@@ -109,13 +112,12 @@ fn job_around(machine: &mut Machine, groups: Listing<Group>) -> Result<Job, Allo
     ensures outputs { machine.new.world.outputs ≡ machine.old.world.outputs }
     ensures options { machine.new.world.options ≡ machine.old.world.options }
     ensures number { machine.new.world.number ≡ machine.old.world.number }
-    ensures items { machine.new.world.items ≡ machine.old.world.items }
 {
     let alloc = machine.alloc;
     let removed = mem::replace(&mut machine.removed, Listing::new(alloc));
-    let marked = lasting(alloc, machine.drawn.as_slice(), removed)?;
+    let marked = lasting_files(alloc, machine.drawn.as_slice(), removed)?;
     let failing = mem::replace(&mut machine.on_failure, Listing::new(alloc));
-    let on_failure = lasting(alloc, machine.drawn.as_slice(), failing)?;
+    let on_failure = lasting_files(alloc, machine.drawn.as_slice(), failing)?;
     let drawn = mem::replace(&mut machine.drawn, DrawnNames::new(alloc));
     let temps = temps_of(alloc, drawn.into_listing())?;
     Ok(Job {
@@ -285,12 +287,12 @@ fn once(alloc: Global, files: Listing<Word>) -> Result<Listing<Word>, AllocError
 }
 
 /// Files, each once, and without the job's own temporaries. Words are moved.
-fn lasting(
+fn lasting_files(
     alloc: Global,
     drawn: &[Drawn],
     files: Listing<Word>,
 ) -> Result<Listing<Word>, AllocError>
-    ensures { IfOk result (λ kept. kept ≡ lasting (map (λ name. name.path) drawn.now) files) }
+    ensures { IfOk result (λ kept. kept ≡ lasting_files (map (λ name. name.path) drawn.now) files) }
 {
     let mut kept = Listing::new(alloc);
     if files.is_empty() {

@@ -2,12 +2,12 @@
 
 ghost use Rattle.drv_system.specs.Code.Asked.{Asked};
 ghost use Rattle.drv_machine.specs.Atoms.{call_step, has_value, value_step};
-ghost use Rattle.drv_machine.specs.Code.Running.{run};
+ghost use Rattle.drv_machine.specs.Code.Running.{reached, run};
 ghost use Rattle.drv_machine.specs.Code.Walking.{after_arguments};
 ghost use Rattle.drv_system.specs.Asking.{Extends};
 ghost use Rattle.drv_system.specs.Facts.{Facts};
 ghost use Rattle.drv_system.specs.Gives.{GivesKnown};
-ghost use Rattle.std.specs.Prelude.{◌≡◌, OnOk, length};
+ghost use Rattle.std.specs.Prelude.{length, ℕ};
 
 use super::{Cutter, Machine};
 use crate::{Context, MachineFault};
@@ -29,15 +29,12 @@ impl Machine {
         context: &Context<'_>,
         outside: &mut Outside<'_, S>,
     ) -> Result<Option<Word>, MachineFault>
-        requires { length self.old.world.hidden ≡ length context.now.switches }
         ensures asks { Asked S.events outside.old outside.new }
-        ensures does { (F : Facts) → Extends outside.new.facts.now F
-            → GivesKnown MachineFault.Memory (λ given. (given, self.new)) result
-            (run F context.now self.old (call_step F context.now name.now args.now)) }
-        ensures sized { length self.new.world.hidden ≡ length self.old.world.hidden }
-        ensures uncounted { OnOk result (self.new.world.items ≡ self.old.world.items) }
+        ensures does { (n : ℕ) (F : Facts) → Extends outside.new.facts.now F
+            → GivesKnown MachineFault.Memory (λ given. (given, reached n self.new)) result
+            (run F context.now (reached n self.old) (call_step F context.now name.now args.now)) }
     {
-        let Some(function) = Function::named(name) else {
+        let Some(function) = Function::by_name(name) else {
             return Ok(None);
         };
         let given = call(
@@ -63,14 +60,11 @@ impl Machine {
         context: &Context<'_>,
         outside: &mut Outside<'_, S>,
     ) -> Result<Option<Word>, MachineFault>
-        requires { length self.old.world.hidden ≡ length context.now.switches }
         ensures asks { Asked S.events outside.old outside.new }
-        ensures does { (F : Facts) → Extends outside.new.facts.now F
-            → GivesKnown MachineFault.Memory (λ given. (given, self.new)) result
+        ensures does { (n : ℕ) (F : Facts) → Extends outside.new.facts.now F
+            → GivesKnown MachineFault.Memory (λ given. (given, reached n self.new)) result
             (after_arguments F context.now outer.value
-            (call_step F context.now name.now) self.old) }
-        ensures sized { length self.new.world.hidden ≡ length self.old.world.hidden }
-        ensures uncounted { OnOk result (self.new.world.items ≡ self.old.world.items) }
+            (call_step F context.now name.now) (reached n self.old)) }
     {
         self.end_word(context, outside)?;
         let args = self.take_back(Box::into_inner(outer));
@@ -88,14 +82,11 @@ impl Machine {
         context: &Context<'_>,
         outside: &mut Outside<'_, S>,
     ) -> Result<(), MachineFault>
-        requires { length self.old.world.hidden ≡ length context.now.switches }
         ensures asks { Asked S.events outside.old outside.new }
-        ensures does { (F : Facts) → Extends outside.new.facts.now F
-            → GivesKnown MachineFault.Memory (λ u. (tt, self.new)) result
+        ensures does { (n : ℕ) (F : Facts) → Extends outside.new.facts.now F
+            → GivesKnown MachineFault.Memory (λ u. (tt, reached n self.new)) result
             (after_arguments F context.now outer.value
-            (value_step F context.now name.now) self.old) }
-        ensures sized { length self.new.world.hidden ≡ length self.old.world.hidden }
-        ensures uncounted { OnOk result (self.new.world.items ≡ self.old.world.items) }
+            (value_step F context.now name.now) (reached n self.old)) }
     {
         let Some(word) = self.call_after(name, outer, context, outside)? else {
             return Ok(());
@@ -114,14 +105,11 @@ impl Machine {
         context: &Context<'_>,
         outside: &mut Outside<'_, S>,
     ) -> Result<bool, MachineFault>
-        requires { length self.old.world.hidden ≡ length context.now.switches }
         ensures asks { Asked S.events outside.old outside.new }
-        ensures does { (F : Facts) → Extends outside.new.facts.now F
-            → GivesKnown MachineFault.Memory (λ holds. (holds, self.new)) result
+        ensures does { (n : ℕ) (F : Facts) → Extends outside.new.facts.now F
+            → GivesKnown MachineFault.Memory (λ holds. (holds, reached n self.new)) result
             (after_arguments F context.now outer.value
-            (has_value F context.now name.now) self.old) }
-        ensures sized { length self.new.world.hidden ≡ length self.old.world.hidden }
-        ensures uncounted { OnOk result (self.new.world.items ≡ self.old.world.items) }
+            (has_value F context.now name.now) (reached n self.old)) }
     {
         let given = self.call_after(name, outer, context, outside)?;
         Ok(given.is_some())

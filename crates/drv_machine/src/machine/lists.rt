@@ -4,14 +4,13 @@ ghost use Rattle.drv_system.specs.Code.Asked.{Asked};
 ghost use Rattle.drv_machine.specs.Atoms.{added, broken_word, folders_step, noted, options_step};
 ghost use Rattle.drv_machine.specs.Atoms.{outputs_step};
 ghost use Rattle.drv_machine.specs.Context as specs;
-ghost use Rattle.drv_machine.specs.Code.Running.{run};
+ghost use Rattle.drv_machine.specs.Code.Running.{Does};
 ghost use Rattle.drv_machine.specs.Working.{Break, change, is_among, puts, whole_word, words};
 ghost use Rattle.drv_search.specs.Search.{folder_options};
 ghost use Rattle.drv_system.specs.Asking.{Extends};
 ghost use Rattle.drv_system.specs.Facts.{Facts};
-ghost use Rattle.drv_system.specs.Gives.{GivesKnown};
 ghost use Rattle.drv_system.specs.Known.{Is};
-ghost use Rattle.std.specs.Prelude.{◌≡◌, ◌∷◌, ◌++◌, [], IfOk, OnErr, OnOk, flat_map, length};
+ghost use Rattle.std.specs.Prelude.{◌≡◌, ◌∷◌, ◌++◌, [], IfOk, OnErr, OnOk, flat_map, length, ℕ};
 
 use super::Machine;
 use crate::{Context, MachineFault};
@@ -43,11 +42,8 @@ impl Machine {
         outside: &mut Outside<'_, S>,
     ) -> Result<(), MachineFault>
         ensures asks { Asked S.events outside.old outside.new }
-        ensures does { (F : Facts) → Extends outside.new.facts.now F
-            → GivesKnown MachineFault.Memory (λ u. (tt, self.new)) result
-            (run F context.now self.old (puts (whole_word word.now))) }
-        ensures sized { length self.new.world.hidden ≡ length self.old.world.hidden }
-        ensures uncounted { OnOk result (self.new.world.items ≡ self.old.world.items) }
+        ensures does { (n : ℕ) (F : Facts) → Extends outside.new.facts.now F
+            → Does F context.now n self.old self.new result (puts (whole_word word.now)) }
     {
         self.open();
         self.put_broken(word, context, outside)
@@ -62,11 +58,8 @@ impl Machine {
         outside: &mut Outside<'_, S>,
     ) -> Result<(), MachineFault>
         ensures asks { Asked S.events outside.old outside.new }
-        ensures does { (F : Facts) → Extends outside.new.facts.now F
-            → GivesKnown MachineFault.Memory (λ u. (tt, self.new)) result
-            (run F context.now self.old (puts (broken_word word.now))) }
-        ensures sized { length self.new.world.hidden ≡ length self.old.world.hidden }
-        ensures uncounted { OnOk result (self.new.world.items ≡ self.old.world.items) }
+        ensures does { (n : ℕ) (F : Facts) → Extends outside.new.facts.now F
+            → Does F context.now n self.old self.new result (puts (broken_word word.now)) }
     {
         self.put(word)?;
         self.end_word(context, outside)
@@ -81,11 +74,8 @@ impl Machine {
         outside: &mut Outside<'_, S>,
     ) -> Result<(), MachineFault>
         ensures asks { Asked S.events outside.old outside.new }
-        ensures does { (F : Facts) → Extends outside.new.facts.now F
-            → GivesKnown MachineFault.Memory (λ u. (tt, self.new)) result
-            (run F context.now self.old (puts (words list.now))) }
-        ensures sized { length self.new.world.hidden ≡ length self.old.world.hidden }
-        ensures uncounted { OnOk result (self.new.world.items ≡ self.old.world.items) }
+        ensures does { (n : ℕ) (F : Facts) → Extends outside.new.facts.now F
+            → Does F context.now n self.old self.new result (puts (words list.now)) }
     {
         for word in list {
             self.put_word(word.as_bytes(), context, outside)?;
@@ -100,11 +90,8 @@ impl Machine {
         outside: &mut Outside<'_, S>,
     ) -> Result<(), MachineFault>
         ensures asks { Asked S.events outside.old outside.new }
-        ensures does { (F : Facts) → Extends outside.new.facts.now F
-            → GivesKnown MachineFault.Memory (λ u. (tt, self.new)) result
-            (run F context.now self.old options_step) }
-        ensures sized { length self.new.world.hidden ≡ length self.old.world.hidden }
-        ensures uncounted { OnOk result (self.new.world.items ≡ self.old.world.items) }
+        ensures does { (n : ℕ) (F : Facts) → Extends outside.new.facts.now F
+            → Does F context.now n self.old self.new result options_step }
     {
         let options = copy_words(self.alloc, self.options.as_slice())?;
         self.put_words(options.as_slice(), context, outside)
@@ -119,11 +106,8 @@ impl Machine {
         outside: &mut Outside<'_, S>,
     ) -> Result<(), MachineFault>
         ensures asks { Asked S.events outside.old outside.new }
-        ensures does { (F : Facts) → Extends outside.new.facts.now F
-            → GivesKnown MachineFault.Memory (λ u. (tt, self.new)) result
-            (run F context.now self.old (puts (Break ∷ words list.now))) }
-        ensures sized { length self.new.world.hidden ≡ length self.old.world.hidden }
-        ensures uncounted { OnOk result (self.new.world.items ≡ self.old.world.items) }
+        ensures does { (n : ℕ) (F : Facts) → Extends outside.new.facts.now F
+            → Does F context.now n self.old self.new result (puts (Break ∷ words list.now)) }
     {
         self.end_word(context, outside)?;
         self.put_words(list, context, outside)
@@ -159,11 +143,8 @@ impl Machine {
         outside: &mut Outside<'_, S>,
     ) -> Result<(), MachineFault>
         ensures asks { Asked S.events outside.old outside.new }
-        ensures does { (F : Facts) → Extends outside.new.facts.now F
-            → GivesKnown MachineFault.Memory (λ u. (tt, self.new)) result
-            (run F context.now self.old (outputs_step F context.now)) }
-        ensures sized { length self.new.world.hidden ≡ length self.old.world.hidden }
-        ensures uncounted { OnOk result (self.new.world.items ≡ self.old.world.items) }
+        ensures does { (n : ℕ) (F : Facts) → Extends outside.new.facts.now F
+            → Does F context.now n self.old self.new result (outputs_step F context.now) }
     {
         if context.input().is_some() {
             return Err(MachineFault::NotInLink);
@@ -183,11 +164,8 @@ impl Machine {
         outside: &mut Outside<'_, S>,
     ) -> Result<(), MachineFault>
         ensures asks { Asked S.events outside.old outside.new }
-        ensures does { (F : Facts) → Extends outside.new.facts.now F
-            → GivesKnown MachineFault.Memory (λ u. (tt, self.new)) result
-            (run F context.now self.old (puts (flat_map broken_word list.now))) }
-        ensures sized { length self.new.world.hidden ≡ length self.old.world.hidden }
-        ensures uncounted { OnOk result (self.new.world.items ≡ self.old.world.items) }
+        ensures does { (n : ℕ) (F : Facts) → Extends outside.new.facts.now F
+            → Does F context.now n self.old self.new result (puts (flat_map broken_word list.now)) }
     {
         for word in list {
             self.put_broken(word.as_bytes(), context, outside)?;
@@ -203,11 +181,8 @@ impl Machine {
         outside: &mut Outside<'_, S>,
     ) -> Result<(), MachineFault>
         ensures asks { Asked S.events outside.old outside.new }
-        ensures does { (F : Facts) → Extends outside.new.facts.now F
-            → GivesKnown MachineFault.Memory (λ u. (tt, self.new)) result
-            (run F context.now self.old (folders_step F context.now)) }
-        ensures sized { length self.new.world.hidden ≡ length self.old.world.hidden }
-        ensures uncounted { OnOk result (self.new.world.items ≡ self.old.world.items) }
+        ensures does { (n : ℕ) (F : Facts) → Extends outside.new.facts.now F
+            → Does F context.now n self.old self.new result (folders_step F context.now) }
     {
         let options = folders(self.alloc, context, outside)?;
         self.put_all_broken(options.as_slice(), context, outside)
@@ -215,11 +190,8 @@ impl Machine {
 
     /// An option goes to the end of the list, unless it is in it.
     pub(crate) fn add_option(&mut self, option: &[u8]) -> Result<(), MachineFault>
-        ensures does { (F : Facts) (C : specs.Context)
-            → GivesKnown MachineFault.Memory (λ u. (tt, self.new)) result
-            (run F C self.old (change (λ w. record w { options = added option.now w.options }))) }
-        ensures sized { length self.new.world.hidden ≡ length self.old.world.hidden }
-        ensures uncounted { OnOk result (self.new.world.items ≡ self.old.world.items) }
+        ensures { (n : ℕ) (F : Facts) (C : specs.Context)
+            → Does F C n self.old self.new result (change (λ w. record w { options = added option.now w.options })) }
     {
         self.options.add(Word::from_bytes(self.alloc, option)?)?;
         Ok(())
@@ -227,12 +199,9 @@ impl Machine {
 
     /// The user reads a text, as a note.
     pub(crate) fn add_notice(&mut self, text: &[u8]) -> Result<(), MachineFault>
-        ensures does { (F : Facts) (C : specs.Context)
-            → GivesKnown MachineFault.Memory (λ u. (tt, self.new)) result
-            (run F C self.old (change (λ w. record w
-            { notices = w.notices ++ noted text.now ∷ [] }))) }
-        ensures sized { length self.new.world.hidden ≡ length self.old.world.hidden }
-        ensures uncounted { OnOk result (self.new.world.items ≡ self.old.world.items) }
+        ensures { (n : ℕ) (F : Facts) (C : specs.Context)
+            → Does F C n self.old self.new result
+            (change (λ w. record w { notices = w.notices ++ noted text.now ∷ [] })) }
     {
         let mut note = Word::from_bytes(self.alloc, b"note: ")?;
         note.extend_from_slice(text)?;

@@ -5,14 +5,14 @@ ghost use Rattle.drv_machine.specs.Context as specs;
 ghost use Rattle.drv_machine.specs.Cutting.{found_file, found_script, marked, no_marks};
 ghost use Rattle.drv_machine.specs.Cutting.{script_option, word_done};
 ghost use Rattle.drv_machine.specs.Code.Held.{word_found};
-ghost use Rattle.drv_machine.specs.Code.Running.{run};
+ghost use Rattle.drv_machine.specs.Code.Running.{Does, reached, run};
 ghost use Rattle.drv_machine.specs.Working.{Break, From, Marked, To, Without, puts};
 ghost use Rattle.drv_system.specs.Asking.{Extends};
 ghost use Rattle.drv_system.specs.Facts.{Facts};
 ghost use Rattle.drv_system.specs.Gives.{GivesKnown};
 ghost use Rattle.drv_system.specs.Known.{Is};
 ghost use Rattle.std.specs.Prelude.{◌≡◌, ◌∷◌, ◌++◌, ◌&&◌, [], IfErr, None, Ok, OnOk, Some, false};
-ghost use Rattle.std.specs.Prelude.{if◌then◌else◌, length, map, not};
+ghost use Rattle.std.specs.Prelude.{if◌then◌else◌, length, map, not, ℕ};
 
 use super::Machine;
 use crate::{Context, MachineFault};
@@ -81,8 +81,8 @@ impl Marking {
 impl Machine {
     /// The word that is open is marked, or else the next one.
     pub(crate) fn mark(&mut self, mark: Mark)
-        ensures does { (F : Facts) (C : specs.Context)
-            → run F C self.old (puts (Marked mark ∷ [])) ≡ Is (Ok (tt, self.new)) }
+        ensures does { (n : ℕ) (F : Facts) (C : specs.Context)
+            → run F C (reached n self.old) (puts (Marked mark ∷ [])) ≡ Is (Ok (tt, reached n self.new)) }
         ensures same { self.new.world ≡ self.old.world }
     {
         self.marks = self.marks.with(mark);
@@ -91,8 +91,8 @@ impl Machine {
 
     /// From here on the job has no output, unless a later word is marked as one.
     pub(crate) fn bar_output(&mut self)
-        ensures does { (F : Facts) (C : specs.Context)
-            → run F C self.old (puts (Without ∷ [])) ≡ Is (Ok (tt, self.new)) }
+        ensures does { (n : ℕ) (F : Facts) (C : specs.Context)
+            → run F C (reached n self.old) (puts (Without ∷ [])) ≡ Is (Ok (tt, reached n self.new)) }
         ensures same { self.new.world ≡ self.old.world }
     {
         self.output = None;
@@ -218,9 +218,9 @@ impl Machine {
         outside: &mut Outside<'_, S>,
     ) -> Result<(), MachineFault>
         ensures asks { Asked S.events outside.old outside.new }
-        ensures does { (F : Facts) → Extends outside.new.facts.now F
-            → GivesKnown MachineFault.Memory (λ u. (tt, self.new)) result
-            (word_found self.old (λ path. path ∷ []) (found_file F context.now word.now)) }
+        ensures does { (n : ℕ) (F : Facts) → Extends outside.new.facts.now F
+            → GivesKnown MachineFault.Memory (λ u. (tt, reached n self.new)) result
+            (word_found (reached n self.old) (λ path. path ∷ []) (found_file F context.now word.now)) }
         ensures same { self.new.world ≡ self.old.world }
     {
         let path = find_file(
@@ -242,9 +242,9 @@ impl Machine {
         outside: &mut Outside<'_, S>,
     ) -> Result<(), MachineFault>
         ensures asks { Asked S.events outside.old outside.new }
-        ensures does { (F : Facts) → Extends outside.new.facts.now F
-            → GivesKnown MachineFault.Memory (λ u. (tt, self.new)) result
-            (word_found self.old (λ path. script_option ∷ path ∷ [])
+        ensures does { (n : ℕ) (F : Facts) → Extends outside.new.facts.now F
+            → GivesKnown MachineFault.Memory (λ u. (tt, reached n self.new)) result
+            (word_found (reached n self.old) (λ path. script_option ∷ path ∷ [])
             (found_script F context.now word.now)) }
         ensures same { self.new.world ≡ self.old.world }
     {
@@ -272,11 +272,8 @@ impl Machine {
         outside: &mut Outside<'_, S>,
     ) -> Result<(), MachineFault>
         ensures asks { Asked S.events outside.old outside.new }
-        ensures does { (F : Facts) → Extends outside.new.facts.now F
-            → GivesKnown MachineFault.Memory (λ u. (tt, self.new)) result
-            (run F context.now self.old (puts (Break ∷ []))) }
-        ensures sized { length self.new.world.hidden ≡ length self.old.world.hidden }
-        ensures uncounted { OnOk result (self.new.world.items ≡ self.old.world.items) }
+        ensures does { (n : ℕ) (F : Facts) → Extends outside.new.facts.now F
+            → Does F context.now n self.old self.new result (puts (Break ∷ [])) }
     {
         if !self.is_open {
             self.close_word();
@@ -295,9 +292,8 @@ impl Machine {
 
     /// A `%W` begins.
     pub(crate) fn begin_failure(&mut self) -> Result<(), MachineFault>
-        ensures does { (F : Facts) (C : specs.Context)
-            → GivesKnown MachineFault.Memory (λ u. (tt, self.new)) result
-            (run F C self.old (puts (From ∷ []))) }
+        ensures does { (n : ℕ) (F : Facts) (C : specs.Context)
+            → Does F C n self.old self.new result (puts (From ∷ [])) }
         ensures same { self.new.world ≡ self.old.world }
     {
         self.inside.open()?;
@@ -306,9 +302,8 @@ impl Machine {
 
     /// The innermost `%W` ends, and the last word that ended in it is a failure file.
     fn close_inside(&mut self) -> Result<(), MachineFault>
-        ensures does { (F : Facts) (C : specs.Context)
-            → GivesKnown MachineFault.Memory (λ u. (tt, self.new)) result
-            (run F C self.old (puts (To ∷ []))) }
+        ensures does { (n : ℕ) (F : Facts) (C : specs.Context)
+            → Does F C n self.old self.new result (puts (To ∷ [])) }
         ensures same { self.new.world ≡ self.old.world }
     {
         let Some(word) = self.inside.close()? else {
@@ -327,11 +322,8 @@ impl Machine {
         outside: &mut Outside<'_, S>,
     ) -> Result<(), MachineFault>
         ensures asks { Asked S.events outside.old outside.new }
-        ensures does { (F : Facts) → Extends outside.new.facts.now F
-            → GivesKnown MachineFault.Memory (λ u. (tt, self.new)) result
-            (run F context.now self.old (puts (Break ∷ To ∷ []))) }
-        ensures sized { length self.new.world.hidden ≡ length self.old.world.hidden }
-        ensures uncounted { OnOk result (self.new.world.items ≡ self.old.world.items) }
+        ensures does { (n : ℕ) (F : Facts) → Extends outside.new.facts.now F
+            → Does F context.now n self.old self.new result (puts (Break ∷ To ∷ [])) }
     {
         self.end_word(context, outside)?;
         self.close_inside()

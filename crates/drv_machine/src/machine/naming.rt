@@ -3,7 +3,7 @@
 ghost use Rattle.drv_system.specs.Code.Asked.{Asked};
 ghost use Rattle.drv_machine.specs.Atoms.{draw, draw_with, drawn_or_new, name_step, new_name_step};
 ghost use Rattle.drv_machine.specs.Atoms.{temp_step};
-ghost use Rattle.drv_machine.specs.Code.Running.{run};
+ghost use Rattle.drv_machine.specs.Code.Running.{Does, reached, run};
 ghost use Rattle.drv_machine.specs.Temps.{folder, hex, hex_digit, is_drawn, is_same, last_drawn};
 ghost use Rattle.drv_machine.specs.Temps.{temp_name};
 ghost use Rattle.drv_system.specs.Asking.{Extends};
@@ -11,7 +11,7 @@ ghost use Rattle.drv_system.specs.Facts.{Facts};
 ghost use Rattle.drv_system.specs.Gives.{GivesKnown};
 ghost use Rattle.drv_system.specs.Known.{Is};
 ghost use Rattle.std.specs.Option.{option_copied, option_map};
-ghost use Rattle.std.specs.Prelude.{◌≡◌, ◌<◌, ◌++◌, IfOk, OnOk, length};
+ghost use Rattle.std.specs.Prelude.{◌≡◌, ◌<◌, ◌++◌, IfOk, OnOk, length, ℕ};
 
 use super::Machine;
 use crate::{Context, MachineFault};
@@ -156,11 +156,9 @@ impl Machine {
         outside: &mut Outside<'_, S>,
     ) -> Result<Word, MachineFault>
         ensures asks { Asked S.events outside.old outside.new }
-        ensures does { (F : Facts) → Extends outside.new.facts.now F
-            → GivesKnown MachineFault.Memory (λ path. (path, self.new)) result
-            (run F context.now self.old (draw_with F context.now contents drawing suffix.now)) }
-        ensures sized { length self.new.world.hidden ≡ length self.old.world.hidden }
-        ensures uncounted { OnOk result (self.new.world.items ≡ self.old.world.items) }
+        ensures does { (n : ℕ) (F : Facts) → Extends outside.new.facts.now F
+            → GivesKnown MachineFault.Memory (λ path. (path, reached n self.new)) result
+            (run F context.now (reached n self.old) (draw_with F context.now contents drawing suffix.now)) }
     {
         let path = temp_name(self.alloc, context.seed(), self.number, suffix, outside)?;
         let Some(next) = self.number.checked_add(1) else {
@@ -185,11 +183,9 @@ impl Machine {
         outside: &mut Outside<'_, S>,
     ) -> Result<Word, MachineFault>
         ensures asks { Asked S.events outside.old outside.new }
-        ensures does { (F : Facts) → Extends outside.new.facts.now F
-            → GivesKnown MachineFault.Memory (λ path. (path, self.new)) result
-            (run F context.now self.old (draw F context.now drawing suffix.now)) }
-        ensures sized { length self.new.world.hidden ≡ length self.old.world.hidden }
-        ensures uncounted { OnOk result (self.new.world.items ≡ self.old.world.items) }
+        ensures does { (n : ℕ) (F : Facts) → Extends outside.new.facts.now F
+            → GivesKnown MachineFault.Memory (λ path. (path, reached n self.new)) result
+            (run F context.now (reached n self.old) (draw F context.now drawing suffix.now)) }
     {
         self.draw_with(Word::empty(self.alloc), drawing, suffix, context, outside)
     }
@@ -204,11 +200,9 @@ impl Machine {
         outside: &mut Outside<'_, S>,
     ) -> Result<Word, MachineFault>
         ensures asks { Asked S.events outside.old outside.new }
-        ensures does { (F : Facts) → Extends outside.new.facts.now F
-            → GivesKnown MachineFault.Memory (λ path. (path, self.new)) result
-            (run F context.now self.old (drawn_or_new F context.now drawing suffix.now)) }
-        ensures sized { length self.new.world.hidden ≡ length self.old.world.hidden }
-        ensures uncounted { OnOk result (self.new.world.items ≡ self.old.world.items) }
+        ensures does { (n : ℕ) (F : Facts) → Extends outside.new.facts.now F
+            → GivesKnown MachineFault.Memory (λ path. (path, reached n self.new)) result
+            (run F context.now (reached n self.old) (drawn_or_new F context.now drawing suffix.now)) }
     {
         if let Some(path) = self.drawn.last(drawing, suffix)? {
             return Ok(path);
@@ -225,11 +219,8 @@ impl Machine {
         outside: &mut Outside<'_, S>,
     ) -> Result<(), MachineFault>
         ensures asks { Asked S.events outside.old outside.new }
-        ensures does { (F : Facts) → Extends outside.new.facts.now F
-            → GivesKnown MachineFault.Memory (λ u. (tt, self.new)) result
-            (run F context.now self.old (name_step F context.now drawing suffix.now)) }
-        ensures sized { length self.new.world.hidden ≡ length self.old.world.hidden }
-        ensures uncounted { OnOk result (self.new.world.items ≡ self.old.world.items) }
+        ensures does { (n : ℕ) (F : Facts) → Extends outside.new.facts.now F
+            → Does F context.now n self.old self.new result (name_step F context.now drawing suffix.now) }
     {
         let path = self.drawn_or_new(drawing, suffix, context, outside)?;
         self.put(path.as_bytes())
@@ -243,11 +234,8 @@ impl Machine {
         outside: &mut Outside<'_, S>,
     ) -> Result<(), MachineFault>
         ensures asks { Asked S.events outside.old outside.new }
-        ensures does { (F : Facts) → Extends outside.new.facts.now F
-            → GivesKnown MachineFault.Memory (λ u. (tt, self.new)) result
-            (run F context.now self.old (new_name_step F context.now suffix.now)) }
-        ensures sized { length self.new.world.hidden ≡ length self.old.world.hidden }
-        ensures uncounted { OnOk result (self.new.world.items ≡ self.old.world.items) }
+        ensures does { (n : ℕ) (F : Facts) → Extends outside.new.facts.now F
+            → Does F context.now n self.old self.new result (new_name_step F context.now suffix.now) }
     {
         let path = self.draw(Drawing::Anew, suffix, context, outside)?;
         self.put(path.as_bytes())
@@ -264,11 +252,8 @@ impl Machine {
         outside: &mut Outside<'_, S>,
     ) -> Result<(), MachineFault>
         ensures asks { Asked S.events outside.old outside.new }
-        ensures does { (F : Facts) → Extends outside.new.facts.now F
-            → GivesKnown MachineFault.Memory (λ u. (tt, self.new)) result
-            (run F context.now self.old (temp_step F context.now kind suffix.now)) }
-        ensures sized { length self.new.world.hidden ≡ length self.old.world.hidden }
-        ensures uncounted { OnOk result (self.new.world.items ≡ self.old.world.items) }
+        ensures does { (n : ℕ) (F : Facts) → Extends outside.new.facts.now F
+            → Does F context.now n self.old self.new result (temp_step F context.now kind suffix.now) }
     {
         match kind {
             TempKind::Shared => self.put_name(Drawing::Once, suffix, context, outside),

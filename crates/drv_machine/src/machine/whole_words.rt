@@ -2,12 +2,11 @@
 
 ghost use Rattle.drv_machine.specs.Atoms.{switch_atoms};
 ghost use Rattle.drv_machine.specs.Code.Held.{IsBetweenWords, word_added};
-ghost use Rattle.drv_machine.specs.Code.Running.{run};
-ghost use Rattle.drv_machine.specs.Context as specs;
+ghost use Rattle.drv_machine.specs.Code.Running.{reached, run};
 ghost use Rattle.drv_machine.specs.Working.{puts};
 ghost use Rattle.drv_system.specs.Facts.{Facts};
 ghost use Rattle.drv_system.specs.Known.{Is};
-ghost use Rattle.std.specs.Prelude.{◌≡◌, ◌<◌, Ok, OnOk, length};
+ghost use Rattle.std.specs.Prelude.{◌≡◌, ◌<◌, Ok, OnOk, length, ℕ};
 
 use super::Machine;
 use crate::Context;
@@ -55,11 +54,9 @@ impl Machine {
     pub(crate) fn add_switch(&mut self, context: &Context<'_>, i: usize) -> Result<(), AllocError>
         requires at { i < length context.now.switches }
         requires between { IsBetweenWords self.old.cut }
-        ensures does { (F : Facts) → OnOk result
-            (run F context.now self.old (puts (switch_atoms F context.now i))
-            ≡ Is (Ok (tt, self.new))) }
-        ensures sized { length self.new.world.hidden ≡ length self.old.world.hidden }
-        ensures uncounted { OnOk result (self.new.world.items ≡ self.old.world.items) }
+        ensures { (n : ℕ) (F : Facts) → OnOk result
+            (run F context.now (reached n self.old) (puts (switch_atoms F context.now i))
+            ≡ Is (Ok (tt, reached n self.new))) }
     {
         let mut word = Word::empty(self.alloc);
         word.push(b'-')?;

@@ -1,5 +1,6 @@
 use Rattle.drv_machine.proofs.TrueTests.{TestsLeft}
 use Rattle.drv_machine.proofs.asking.first_true.Given as goal
+use Rattle.drv_machine.specs.Code.Running.{reached}
 use Rattle.drv_machine.specs.Code.Standing.{Spans, Stands}
 use Rattle.drv_machine.specs.Working.{Levels}
 use Rattle.drv_syntax.specs.Labels.{test_nodes}
@@ -14,8 +15,8 @@ abbrev pub invariant-loop-at : goal.invariant-loop-at
 invariant-loop-at l = record {
   low : l.start ≤ l.at;
   spans : Spans l.text l.at l.end;
-  left : (F : Facts) (tests : Tests) (levels : Levels) (star : List ℕ) → Stands l.text l.start (test_nodes tests) l.end
-      → TestsLeft F l.context l.text l.machine l.machine l.at l.end tests levels star;
+  left : (n : ℕ) (F : Facts) (tests : Tests) (levels : Levels) (star : List ℕ) → Stands l.text l.start (test_nodes tests) l.end
+      → TestsLeft F l.context l.text (reached n l.machine) (reached n l.machine) l.at l.end tests levels star;
 }
 
 -- each round passes a test

@@ -3,146 +3,128 @@ use Rattle.drv_machine.proofs.ChoiceTurns.{asked_chosen, default_chosen, none_ch
 use Rattle.drv_machine.proofs.Standing.{front_in, here, nearer}
 use Rattle.drv_machine.proofs.Steps.{ok_as}
 use Rattle.drv_machine.proofs.braces.choose.Goals as goal
-use Rattle.drv_machine.specs.Atoms.{found_step, items_step, judged, worked}
 use Rattle.drv_machine.specs.Code.ByKind.{Found, Within}
+use Rattle.drv_machine.specs.Code.Running.{reached}
 use Rattle.drv_machine.specs.Code.Standing.{tests_in}
-use Rattle.drv_machine.specs.Code.Walking.{Following, Left, Went, arguments_of, weight}
-use Rattle.drv_machine.specs.Working.{◌>>=◌}
+use Rattle.drv_machine.specs.Code.Walking.{Went, weight}
 use Rattle.drv_machine.specs.declared.asking.Judged.{Judged}
 use Rattle.drv_machine.specs.declared.walk.Walk.{Walk}
 use Rattle.drv_syntax.specs.Parsed.{tree_of}
-use Rattle.drv_syntax.specs.Stars.{has_star}
 use Rattle.drv_syntax.specs.Tokens.{tokens_of}
-use Rattle.std.proofs.Common.{Ok, Some, ap, arith, length, subst, sym, ◌+◌, ◌∙◌}
+use Rattle.std.proofs.Common.{◌+◌, ◌∙◌, Ok, ap, arith, length, subst}
 
 -- choose (src/braces.rt). The first alternative with a true test, among those from one place up to another, is reached or opened; or the
 -- default is; or the place after them is reached.
 
 -- the alternative is a token of the text
 pub token_at-next-requires : goal.token_at-next-requires
-token_at-next-requires c = front_in c.args.text.now c.loop-at.at c.args.end c.loop-at-test.true c.loop-at.invariant.spans
+token_at-next-requires c = front_in c.args.walk.now.text.now c.loop-at.at c.args.end c.loop-at-test.true c.loop-at.invariant.spans
 
 -- the parts inside the alternative lie there
 pub tests_end-items-requires : goal.tests_end-items-requires
 tests_end-items-requires c =
-    (here c.args.text.now c.loop-at.at c.args.end c.loop-at-test.true c.token_at-next.result c.token_at-next.ensures
+    (here c.args.walk.now.text.now c.loop-at.at c.args.end c.loop-at-test.true c.token_at-next.result c.token_at-next.ensures
     c.loop-at.invariant.spans).within
 
 -- an alternative without tests: its X is reached
 pub returns-then-items-at-clause-does : goal.returns-then-items-at-clause-does
-returns-then-items-at-clause-does c F choices given s b =
-    subst (λ (v : Walk). Left F c.args.context.now c.args.text.now (record v { at = c.tests_end-items.result }) c.loop-at.machine given)
-    (sym c.loop-at.invariant.walk)
-    (default_chosen F c.args.context.now c.args.text.now c.args.walk.now c.args.machine.now c.loop-at.machine c.loop-at.at c.args.end
-    choices given b (λ levels star. c.loop-at.invariant.left F choices levels star s)
-    c.loop-at-test.true c.token_at-next.result c.token_at-next.ensures c.tests_end-items.result c.tests_end-items.ensures.tests
-    c.tests_end-items.ensures.rest c.if-items-at.true)
+returns-then-items-at-clause-does c n F choices given s b =
+    rw c.loop-at.invariant.walk (default_chosen F c.args.context.now c.args.walk.now.text.now c.args.walk.now (reached n c.args.machine.now)
+    (reached n c.loop-at.machine) c.loop-at.at c.args.end choices given b
+    (λ levels star. c.loop-at.invariant.left n F choices levels star s) c.loop-at-test.true c.token_at-next.result c.token_at-next.ensures
+    c.tests_end-items.result c.tests_end-items.ensures.tests c.tests_end-items.ensures.rest c.if-items-at.true)
 
 -- the tests lie from the first place in the alternative to its X
-pub first_true-requires-clause-spans : goal.first_true-requires-clause-spans
-first_true-requires-clause-spans c =
-    let h = here c.args.text.now c.loop-at.at c.args.end c.loop-at-test.true c.token_at-next.result c.token_at-next.ensures
+pub first_true-requires : goal.first_true-requires
+first_true-requires c =
+    let h = here c.args.walk.now.text.now c.loop-at.at c.args.end c.loop-at-test.true c.token_at-next.result c.token_at-next.ensures
     c.loop-at.invariant.spans in
     record { nodes = tests_in h.within.nodes; stands = c.tests_end-items.ensures.tests h.within.nodes h.within.stands }
 
 -- the alternative is a token of the text, for its %*
 pub holds_star-own-requires : goal.holds_star-own-requires
-holds_star-own-requires c = front_in c.args.text.now c.loop-at.at c.args.end c.loop-at-test.true c.loop-at.invariant.spans
+holds_star-own-requires c = front_in c.args.walk.now.text.now c.loop-at.at c.args.end c.loop-at-test.true c.loop-at.invariant.spans
+
+-- the test that is true is a token of the text
+pub enter_alternative-requires : goal.enter_alternative-requires
+enter_alternative-requires c =
+    rw c.loop-at.invariant.walk (subst (λ (f : Judged). Within (c.loop-at.at + 1) c.tests_end-items.result
+    (length (tokens_of (tree_of c.args.walk.now.text.now))) f) c.in-True.is c.first_true.ensures.within).2
 
 -- a test is true: the X is opened for each hit, or reached
 pub returns-in-True-clause-does : goal.returns-in-True-clause-does
-returns-in-True-clause-does c F choices given s b =
-    one_chosen F c.args.context.now c.args.text.now c.args.walk.now c.args.machine.now c.loop-at.machine c.loop-at.at c.args.end choices
-    given b
-    (λ levels star. c.loop-at.invariant.left F choices levels star s)
+returns-in-True-clause-does c n F choices given s b =
+    one_chosen F c.args.context.now c.args.walk.now.text.now c.args.walk.now (reached n c.args.machine.now) (reached n c.loop-at.machine)
+    c.loop-at.at c.args.end choices given b (λ levels star. c.loop-at.invariant.left n F choices levels star s)
     c.loop-at-test.true c.token_at-next.result c.token_at-next.ensures c.tests_end-items.result c.tests_end-items.ensures.tests
-    c.tests_end-items.ensures.rest
-    c.if-items-at.false c.loop-at.machine c.in-True.test
-    (Went F c.args.context.now c.args.text.now c.enter_alternative.new.walk c.loop-at.machine given c.enter_alternative.result)
-    (λ tests levels star stands.
-    subst (λ (found : Judged). Found F c.args.context.now c.args.text.now c.tests_end-items.result c.loop-at.machine c.loop-at.machine
-    (Ok found) tests levels star) c.in-True.is
-    (c.first_true.ensures.does F tests levels star stands))
+    c.tests_end-items.ensures.rest c.if-items-at.false (reached n c.loop-at.machine) c.in-True.test
+    (Went F c.args.context.now c.enter_alternative.new.walk.text.now c.enter_alternative.new.walk (reached n c.loop-at.machine) given
+    c.enter_alternative.result) (λ tests levels star stands.
+    subst (λ (found : Judged). Found F c.args.context.now c.args.walk.now.text.now c.tests_end-items.result (reached n c.loop-at.machine)
+    (reached n c.loop-at.machine) (Ok found) tests levels star) c.in-True.is (c.first_true.ensures.does n F tests levels star stands))
     (λ negated asked items others owns label stands following.
-    c.enter_alternative.ensures.does F negated asked items others given (c.holds_star-own.ensures ∙ owns) label stands
-    (subst (λ (v : Walk). Following F c.args.context.now c.args.text.now v c.token_at-next.result.next
-    (λ levels star. worked F c.args.context.now (Some asked) (has_star items)
-    (λ rest inside. items_step F c.args.context.now items inside rest) levels star others) c.loop-at.machine given)
-    (sym c.loop-at.invariant.walk) following))
+    c.enter_alternative.ensures.does n F negated asked items others given (c.holds_star-own.ensures ∙ owns)
+    (rw c.loop-at.invariant.walk label) (rw c.loop-at.invariant.walk stands) (rw c.loop-at.invariant.walk following))
 
 -- the test by a function is a token of the text
 pub token_at-requires : goal.token_at-requires
 token_at-requires c =
-    let found = subst (λ (f : Judged). Within (c.loop-at.at + 1) c.tests_end-items.result (length (tokens_of (tree_of c.args.text.now))) f)
-    c.in-Asks.is c.first_true.ensures.within in
-    found.2
+    (subst (λ (f : Judged). Within (c.loop-at.at + 1) c.tests_end-items.result
+    (length (tokens_of (tree_of c.args.walk.now.text.now))) f) c.in-Asks.is c.first_true.ensures.within).2
 
 -- the test by a function is before its X
 pub open_test-requires : goal.open_test-requires
 open_test-requires c =
-    let found = subst (λ (f : Judged). Within (c.loop-at.at + 1) c.tests_end-items.result (length (tokens_of (tree_of c.args.text.now))) f)
-    c.in-Asks.is c.first_true.ensures.within in
-    found.1
+    (subst (λ (f : Judged). Within (c.loop-at.at + 1) c.tests_end-items.result
+    (length (tokens_of (tree_of c.args.walk.now.text.now))) f) c.in-Asks.is c.first_true.ensures.within).1
 
 -- a test by a function must be asked first: its arguments are opened
 pub returns-in-Asks-clause-does : goal.returns-in-Asks-clause-does
-returns-in-Asks-clause-does c F choices given s b =
-    asked_chosen F c.args.context.now c.args.text.now c.args.walk.now c.args.machine.now c.loop-at.machine c.loop-at.at c.args.end choices
-    given b
-    (λ levels star. c.loop-at.invariant.left F choices levels star s)
+returns-in-Asks-clause-does c n F choices given s b =
+    asked_chosen F c.args.context.now c.args.walk.now.text.now c.args.walk.now (reached n c.args.machine.now) (reached n c.loop-at.machine)
+    c.loop-at.at c.args.end choices given b (λ levels star. c.loop-at.invariant.left n F choices levels star s)
     c.loop-at-test.true c.token_at-next.result c.token_at-next.ensures c.tests_end-items.result c.tests_end-items.ensures.tests
     c.tests_end-items.ensures.rest
-    c.if-items-at.false c.loop-at.machine c.in-Asks.test c.token_at.result c.token_at.ensures c.holds_star-own.result
+    c.if-items-at.false (reached n c.loop-at.machine) c.in-Asks.test c.token_at.result c.token_at.ensures c.holds_star-own.result
     c.holds_star-own.ensures
-    (Went F c.args.context.now c.args.text.now c.open_test.new.walk c.open_test.new.machine given c.open_test.result)
-    (λ tests levels star stands.
-    subst (λ (found : Judged). Found F c.args.context.now c.args.text.now c.tests_end-items.result c.loop-at.machine c.loop-at.machine
-    (Ok found) tests levels star) c.in-Asks.is
-    (c.first_true.ensures.does F tests levels star stands))
+    (Went F c.args.context.now c.open_test.new.walk.text.now c.open_test.new.walk (reached n c.open_test.new.machine) given
+    c.open_test.result) (λ tests levels star stands.
+    subst (λ (found : Judged). Found F c.args.context.now c.args.walk.now.text.now c.tests_end-items.result (reached n c.loop-at.machine)
+    (reached n c.loop-at.machine) (Ok found) tests levels star) c.in-Asks.is (c.first_true.ensures.does n F tests levels star stands))
     (λ items arguments kept fits stands following.
-    c.open_test.ensures.does F c.args.context.now c.args.text.now items arguments kept given fits stands
-    (subst (λ (v : Walk). Following F c.args.context.now c.args.text.now v c.args.end
-    (λ levels star. arguments_of F c.args.context.now arguments kept.name levels star
-    >>= judged F c.args.context.now kept.negated kept.asked kept.tests levels star
-    >>= found_step F c.args.context.now items kept.choices levels star)
-    c.loop-at.machine given) (sym c.loop-at.invariant.walk) following))
+    c.open_test.ensures.does n F c.args.context.now items arguments kept given
+    (rw c.loop-at.invariant.walk fits) (rw c.loop-at.invariant.walk stands) (rw c.loop-at.invariant.walk following))
 
 -- an alternative takes a token at least
 pub loop-at-smaller : goal.loop-at-smaller
-loop-at-smaller c = nearer c.args.text.now c.loop-at.at c.args.end c.loop-at-test.true c.token_at-next.result c.token_at-next.ensures
-    c.loop-at.invariant.spans
+loop-at-smaller c = nearer c.args.walk.now.text.now c.loop-at.at c.args.end c.loop-at-test.true c.token_at-next.result
+    c.token_at-next.ensures c.loop-at.invariant.spans
 
 -- no test of the alternative is true, and those after it are left
 pub loop-at-preserved : goal.loop-at-preserved
 loop-at-preserved c =
-    let h = here c.args.text.now c.loop-at.at c.args.end c.loop-at-test.true c.token_at-next.result c.token_at-next.ensures
+    let h = here c.args.walk.now.text.now c.loop-at.at c.args.end c.loop-at-test.true c.token_at-next.result c.token_at-next.ensures
     c.loop-at.invariant.spans in record {
       low = omega (arith, c.loop-at.invariant.low, h.later);
       walk = c.loop-at.invariant.walk;
-      spans = (here c.args.text.now c.loop-at.at c.args.end c.loop-at-test.true c.token_at-next.result c.token_at-next.ensures
-          c.loop-at.invariant.spans).following;
-      sized = c.loop-at.invariant.sized;
-      uncounted = c.loop-at.invariant.uncounted;
-      same_text = c.loop-at.invariant.same_text;
-      left = λ F choices levels star s.
-          none_true F c.args.context.now c.args.text.now c.args.machine.now c.loop-at.machine c.loop-at.at c.args.end c.loop-at-test.true
-          choices levels star
-          (c.loop-at.invariant.left F choices levels star s) c.token_at-next.result c.token_at-next.ensures c.tests_end-items.result
-          c.tests_end-items.ensures.tests c.tests_end-items.ensures.rest
-          c.if-items-at.false c.loop-at.machine
-          (λ tests stands.
-          subst (λ (found : Judged). Found F c.args.context.now c.args.text.now c.tests_end-items.result c.loop-at.machine c.loop-at.machine
-          (Ok found) tests levels star) c.in-Neither.is
-          (c.first_true.ensures.does F tests levels star stands));
+      spans = (here c.args.walk.now.text.now c.loop-at.at c.args.end c.loop-at-test.true c.token_at-next.result
+          c.token_at-next.ensures c.loop-at.invariant.spans).following;
+      left = λ n F choices levels star s.
+          none_true F c.args.context.now c.args.walk.now.text.now (reached n c.args.machine.now) (reached n c.loop-at.machine) c.loop-at.at
+          c.args.end c.loop-at-test.true choices levels star
+          (c.loop-at.invariant.left n F choices levels star s) c.token_at-next.result c.token_at-next.ensures c.tests_end-items.result
+          c.tests_end-items.ensures.tests c.tests_end-items.ensures.rest c.if-items-at.false (reached n c.loop-at.machine) (λ tests stands.
+          subst (λ (found : Judged). Found F c.args.context.now c.args.walk.now.text.now c.tests_end-items.result
+          (reached n c.loop-at.machine) (reached n c.loop-at.machine) (Ok found) tests levels star) c.in-Neither.is
+          (c.first_true.ensures.does n F tests levels star stands));
     }
 
 -- no alternative is true: the place after the braces is reached
 pub returns-clause-does : goal.returns-clause-does
-returns-clause-does c F choices given s b =
-    subst (λ (v : Walk). Left F c.args.context.now c.args.text.now (record v { at = c.args.end }) c.loop-at.machine given)
-    (sym c.loop-at.invariant.walk)
-    (none_chosen F c.args.context.now c.args.text.now c.args.walk.now c.args.machine.now c.loop-at.machine c.loop-at.at c.args.end choices
-    given b (λ levels star. c.loop-at.invariant.left F choices levels star s)
+returns-clause-does c n F choices given s b =
+    rw c.loop-at.invariant.walk
+    (none_chosen F c.args.context.now c.args.walk.now.text.now c.args.walk.now (reached n c.args.machine.now) (reached n c.loop-at.machine)
+    c.loop-at.at c.args.end choices given b (λ levels star. c.loop-at.invariant.left n F choices levels star s)
     (omega (arith, c.loop-at-test.false)))
 
 -- to reach the X of a default opens nothing
@@ -161,8 +143,8 @@ returns-in-True-clause-lighter c =
 pub returns-in-Asks-clause-lighter : goal.returns-in-Asks-clause-lighter
 returns-in-Asks-clause-lighter c =
     let same = ap (λ (v : Walk). weight (length c.args.context.now.switches) v.frames) c.loop-at.invariant.walk in
-    let found = subst (λ (f : Judged). Within (c.loop-at.at + 1) c.tests_end-items.result (length (tokens_of (tree_of c.args.text.now))) f)
-    c.in-Asks.is c.first_true.ensures.within in
+    let found = subst (λ (f : Judged). Within (c.loop-at.at + 1) c.tests_end-items.result
+    (length (tokens_of (tree_of c.args.walk.now.text.now))) f) c.in-Asks.is c.first_true.ensures.within in
     ok_as c.open_test.result (λ l. omega (arith, same, found.0, c.loop-at.invariant.low, c.loop-at-test.true, l))
     (c.open_test.ensures.lighter (length c.args.context.now.switches))
 

@@ -1,11 +1,12 @@
 use Rattle.drv_machine.proofs.ChoiceSteps.{ChoicesLeft}
 use Rattle.drv_machine.proofs.braces.choose.Given as goal
+use Rattle.drv_machine.specs.Code.Running.{reached}
 use Rattle.drv_machine.specs.Code.Standing.{Spans, Stands}
 use Rattle.drv_machine.specs.Working.{Levels}
 use Rattle.drv_syntax.specs.Labels.{choice_nodes}
 use Rattle.drv_syntax.specs.Tree.{Choices}
 use Rattle.drv_system.specs.Facts.{Facts}
-use Rattle.std.proofs.Common.{List, length, ◌-◌, ◌≡◌, ◌≤◌, ℕ}
+use Rattle.std.proofs.Common.{List, ◌-◌, ◌≡◌, ◌≤◌, ℕ}
 
 -- The loops of choose (src/braces.rt). The first alternative with a true test, among those from one place up to another, is reached or
 -- opened; or the default is; or the place after them is reached.
@@ -15,12 +16,10 @@ abbrev pub invariant-loop-at : goal.invariant-loop-at
 invariant-loop-at l = record {
   walk : l.walk ≡ l.fn.walk;
   low : l.start ≤ l.at;
-  spans : Spans l.text l.at l.end;
-  sized : length l.machine.world.hidden ≡ length l.context.switches;
-  uncounted : l.machine.world.items ≡ l.fn.machine.world.items;
-  same_text : l.walk.text.now ≡ l.fn.walk.text.now;
-  left : (F : Facts) (choices : Choices) (levels : Levels) (star : List ℕ) → Stands l.text l.start (choice_nodes choices) l.end
-      → ChoicesLeft F l.context l.text l.fn.machine l.machine l.at l.end choices levels star;
+  spans : Spans l.fn.walk.text.now l.at l.end;
+  left : (n : ℕ) (F : Facts) (choices : Choices) (levels : Levels) (star : List ℕ) → Stands l.fn.walk.text.now l.start
+      (choice_nodes choices) l.end → ChoicesLeft F l.context l.fn.walk.text.now (reached n l.fn.machine) (reached n l.machine) l.at
+      l.end choices levels star;
 }
 
 -- each round passes an alternative

@@ -1,5 +1,6 @@
 use Rattle.drv_machine.proofs.ChoiceTurns.{each_entered, once_entered}
 use Rattle.drv_machine.proofs.braces.enter_alternative.Goals as goal
+use Rattle.drv_machine.specs.Code.Running.{reached}
 use Rattle.drv_machine.specs.Code.Walking.{Went}
 
 -- enter_alternative (src/braces.rt). An X by the test at a place, which is true: it is opened for each hit where X has a `%*` of its own,
@@ -7,14 +8,16 @@ use Rattle.drv_machine.specs.Code.Walking.{Went}
 
 -- the X is opened for the first hit
 pub returns-then-is_for_each-clause-does : goal.returns-then-is_for_each-clause-does
-returns-then-is_for_each-clause-does c F negated asked items others given owns label stands b =
-    each_entered F c.args.context.now c.args.text.now c.args.walk.now c.args.machine.now c.args.each.test c.args.each.start c.args.each.end
-    negated asked items others given label stands b c.args.own owns c.is_for_each.result c.is_for_each.ensures c.if-is_for_each.true
-    (Went F c.args.context.now c.args.text.now c.enter_next.new.walk c.args.machine.now given c.enter_next.result)
-    (λ p is following. c.enter_next.ensures.does F p items given is stands following)
+returns-then-is_for_each-clause-does c n F negated asked items others given owns label stands b =
+    each_entered F c.args.context.now c.args.walk.now.text.now c.args.walk.now (reached n c.args.machine.now) c.args.each.test
+    c.args.each.start c.args.each.end negated asked items others given label stands b c.args.own owns c.is_for_each.result
+    c.is_for_each.ensures c.if-is_for_each.true (Went F c.args.context.now c.enter_next.new.walk.text.now c.enter_next.new.walk
+    (reached n c.args.machine.now) given c.enter_next.result) (λ p is following. c.enter_next.ensures.does n F p items given is stands
+    following)
 
 -- the X is reached, once
 pub returns-clause-does : goal.returns-clause-does
-returns-clause-does c F negated asked items others given owns label stands b =
-    once_entered F c.args.context.now c.args.text.now c.args.walk.now c.args.machine.now c.args.each.test c.args.each.start c.args.each.end
-    negated asked items others given label stands b c.args.own owns c.is_for_each.result c.is_for_each.ensures c.if-is_for_each.false
+returns-clause-does c n F negated asked items others given owns label stands b =
+    once_entered F c.args.context.now c.args.walk.now.text.now c.args.walk.now (reached n c.args.machine.now) c.args.each.test
+    c.args.each.start c.args.each.end negated asked items others given label stands b c.args.own owns c.is_for_each.result
+    c.is_for_each.ensures c.if-is_for_each.false

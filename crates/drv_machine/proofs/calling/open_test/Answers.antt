@@ -3,7 +3,7 @@ use Rattle.drv_machine.proofs.Onward.{too_deep, weight_one}
 use Rattle.drv_machine.proofs.calling.open_test.Goals as goal
 use Rattle.drv_machine.specs.Code.Opening.{opening_lifted}
 use Rattle.drv_machine.specs.Cutting.{Cut}
-use Rattle.drv_machine.specs.Code.Running.{Machine}
+use Rattle.drv_machine.specs.Code.Running.{Machine, reached}
 use Rattle.drv_machine.specs.Code.Walking.{AskFits, Left, asked_on, after_arguments, levels_in, star_of, weight}
 use Rattle.drv_machine.specs.declared.walk.Asking.{Asking}
 use Rattle.drv_machine.specs.declared.walk.Opened.TheVariants.{Asks}
@@ -13,23 +13,23 @@ use Rattle.std.proofs.Common.{ap, arith, refl, rules, subst, sym, ◌+◌, ◌-�
 
 -- too many parts are open
 pub returns-in_err-push-clause-does : goal.returns-in_err-push-clause-does
-returns-in_err-push-clause-does c F C text items arguments kept given fits stands b =
-    let failed = too_deep F C text c.args.walk.now c.args.machine.now given c.args.asking.end _ b refl
+returns-in_err-push-clause-does c n F C items arguments kept given fits stands b =
+    let failed = too_deep F C c.args.walk.now.text.now c.args.walk.now (reached n c.args.machine.now) given c.args.asking.end _ b refl
     (opening_lifted c.in_err-push.field-0.0) c.in_err-push.ensures.err in
     let f = c.from_residual-in_err-push.ensures in
     search rules
 
 -- the arguments are open, and their end judges the test
 pub returns-clause-does : goal.returns-clause-does
-returns-clause-does c F C text items arguments kept given fits stands b =
+returns-clause-does c n F C items arguments kept given fits stands b =
     let outer = c.in_ok-outer.ensures.ok ∙ c.put_aside.ensures.aside in
-    subst (λ (m : Machine). Left F C text (record c.args.walk.now
-    { at = c.args.asking.test + 1; end = c.args.asking.from; frames = c.push.new.self }) m given) (sym c.put_aside.ensures.begun)
-    (ask_opened F C text c.args.walk.now c.args.machine.now c.args.asking.end items arguments kept given b
-    (Asks c.in_ok-places.places c.in_ok-outer.outer) (subst (λ (a : Asking). AskFits text a items kept)
-    (sym c.in_ok-places.ensures.ok) fits) refl (ap (λ (a : Asking). a.end) c.in_ok-places.ensures.ok)
-    (λ r. ap (λ (cut : Cut). after_arguments F C cut (asked_on F C items kept (levels_in F C b.arounds) (star_of C c.args.walk.now.star)) r)
-    outer)
+    subst (λ (m : Machine). Left F C c.args.walk.now.text.now (record c.args.walk.now
+    { at = c.args.asking.test + 1; end = c.args.asking.from; frames = c.push.new.self }) (reached n m) given)
+    (sym c.put_aside.ensures.begun) (ask_opened F C c.args.walk.now.text.now c.args.walk.now (reached n c.args.machine.now)
+    c.args.asking.end items arguments kept given b (Asks c.in_ok-places.places c.in_ok-outer.outer)
+    (subst (λ (a : Asking). AskFits c.args.walk.now.text.now a items kept) (sym c.in_ok-places.ensures.ok) fits) refl
+    (ap (λ (a : Asking). a.end) c.in_ok-places.ensures.ok) (λ r. ap (λ (cut : Cut). after_arguments F C cut
+    (asked_on F C items kept (levels_in F C b.arounds) (star_of C c.args.walk.now.star)) r) outer)
     c.in_ok-push.ensures.room (c.args.asking.test + 1) c.args.asking.from stands
     (record c.args.walk.now { at = c.args.asking.test + 1; end = c.args.asking.from; frames = c.push.new.self }) refl refl refl
     c.in_ok-push.ensures.ok)

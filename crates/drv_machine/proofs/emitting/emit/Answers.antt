@@ -1,6 +1,6 @@
 use Rattle.drv_machine.proofs.EmitSteps.{all_in_line, emitted_found}
 use Rattle.drv_machine.proofs.emitting.emit.Goals as goal
-use Rattle.drv_machine.specs.Code.Running.{run}
+use Rattle.drv_machine.specs.Code.Running.{reached, run}
 use Rattle.drv_machine.specs.Working.{puts}
 use Rattle.drv_machine.specs.declared.fault.MachineFault.TheVariants.{Memory}
 use Rattle.drv_system.specs.Gives.{GivesKnown}
@@ -15,11 +15,11 @@ put_all-requires g c = all_in_line c.args.context.now c.switches.result.now c.in
 
 -- the switches that the patterns hit are put, in the order of the line
 pub returns-clause-does : goal.returns-clause-does
-returns-clause-does g c F e patterns s =
+returns-clause-does g c n F e patterns s =
     let same =
     emitted_found F c.args.context.now patterns c.args.machine.now.world.hidden c.hidden-hidden.result.now c.switches.result.now
     c.as_slice.result.now c.in_ok-places.places c.as_slice-2.result.now
     c.as_slice-2.ensures c.in_ok-places.ensures.places c.switches.ensures c.hidden-hidden.ensures
     (c.as_slice.ensures ∙ c.in_ok-patterns.ensures patterns s) in
-    subst (λ given. GivesKnown Memory (λ u. (tt, c.put_all.new.machine)) c.put_all.result given)
-    (ap (λ list. run F c.args.context.now c.args.machine.now (puts list)) same) (c.put_all.ensures.does F e)
+    subst (λ given. GivesKnown Memory (λ u. (tt, (reached n c.put_all.new.machine))) c.put_all.result given)
+    (ap (λ list. run F c.args.context.now (reached n c.args.machine.now) (puts list)) same) (c.put_all.ensures.does n F e)

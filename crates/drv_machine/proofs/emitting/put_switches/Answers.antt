@@ -1,13 +1,11 @@
-use Rattle.drv_machine.proofs.EmitSteps.{put_fails, put_one, put_world}
+use Rattle.drv_machine.proofs.EmitSteps.{put_fails, put_one}
 use Rattle.drv_machine.proofs.Steps.{fails_as}
 use Rattle.drv_machine.proofs.emitting.put_switches.Goals as goal
-use Rattle.drv_machine.specs.Atoms.{switch_atoms}
 use Rattle.drv_machine.specs.Code.ByKind.{put_at}
-use Rattle.drv_machine.specs.Code.Running.{run}
+use Rattle.drv_machine.specs.Code.Running.{reached, run}
 use Rattle.drv_machine.specs.Working.{puts}
 use Rattle.drv_system.proofs.AskedCalls.{asked_further, extends_before}
-use Rattle.drv_system.proofs.Asking.{extends_refl}
-use Rattle.std.proofs.Common.{arith, get_or, length, rules, sym, ◌<◌, ◌∙◌}
+use Rattle.std.proofs.Common.{arith, length, rules, sym, ◌<◌, ◌∙◌}
 use Rattle.std.proofs.lemmas.List.Elements.{All-get_or}
 
 -- put_switches (src/emitting.rt). Puts the switches at these places.
@@ -21,25 +19,20 @@ put_switch-requires g c = All-get_or (λ place. place < length c.args.context.no
 pub loop-place-preserved : goal.loop-place-preserved
 loop-place-preserved g c = record {
   asks = asked_further c.loop-place.invariant.asks c.put_switch.ensures.asks;
-  world =
-      put_world c.put_switch.new.outside.facts.now c.args.context.now c.loop-place.machine c.put_switch.new.self
-      (switch_atoms c.put_switch.new.outside.facts.now c.args.context.now (get_or c.args.places.now c.loop-place.place-index 0))
-      (c.in_ok-put_switch.ensures.does c.put_switch.new.outside.facts.now (extends_refl c.put_switch.new.outside.facts.now))
-      ∙ c.loop-place.invariant.world;
-  left = λ F e.
-      sym (put_one F c.args.context.now c.loop-place.machine c.put_switch.new.self c.args.places.now c.loop-place.place-index (omega arith)
-      (c.in_ok-put_switch.ensures.does F e))
-      ∙ c.loop-place.invariant.left F (extends_before c.put_switch.ensures.asks e);
+  left = λ n F e.
+      sym (put_one F c.args.context.now (reached n c.loop-place.machine) (reached n c.put_switch.new.self) c.args.places.now
+      c.loop-place.place-index (omega arith) (c.in_ok-put_switch.ensures.does n F e))
+      ∙ c.loop-place.invariant.left n F (extends_before c.put_switch.ensures.asks e);
 }
 
 -- a switch can't be put
 pub returns-in_err-put_switch-clause-does : goal.returns-in_err-put_switch-clause-does
-returns-in_err-put_switch-clause-does g c F e =
+returns-in_err-put_switch-clause-does g c n F e =
     let failed =
-    put_fails F c.args.context.now c.loop-place.machine c.loop-place.machine c.args.places.now c.loop-place.place-index
-    (omega arith) c.in_err-put_switch.field-0.0 (c.in_err-put_switch.ensures.does F e) in
-    let whole = fails_as _ (run F c.args.context.now c.args.machine.now (puts (put_at F c.args.context.now c.args.places.now))) failed
-    (λ x. sym (c.loop-place.invariant.left F (extends_before c.put_switch.ensures.asks e)) ∙ x) in
+    put_fails F c.args.context.now (reached n c.loop-place.machine) (reached n c.loop-place.machine) c.args.places.now
+    c.loop-place.place-index (omega arith) c.in_err-put_switch.field-0.0 (c.in_err-put_switch.ensures.does n F e) in
+    let whole = fails_as _ (run F c.args.context.now (reached n c.args.machine.now) (puts (put_at F c.args.context.now c.args.places.now)))
+    failed (λ x. sym (c.loop-place.invariant.left n F (extends_before c.put_switch.ensures.asks e)) ∙ x) in
     let f = c.from_residual.ensures in
     search rules
 

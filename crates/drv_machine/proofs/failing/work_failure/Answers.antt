@@ -5,12 +5,17 @@ use Rattle.std.proofs.Common.{rules}
 
 -- the %W can't be opened
 pub returns-in_err-open_failure-clause-does : goal.returns-in_err-open_failure-clause-does
-returns-in_err-open_failure-clause-does g c F e brace given s b =
-    let failed = c.in_err-open_failure.ensures.does F c.args.context.now c.args.text.now brace given b in
+returns-in_err-open_failure-clause-does g c n F e brace given s b =
+    let failed = c.in_err-open_failure.ensures.does n F c.args.context.now brace given b in
     let f = c.from_residual.ensures in
     search rules
 
+-- the parts of the braces lie in the text, which is the same
+pub work_brace-requires : goal.work_brace-requires
+work_brace-requires g c = rw c.open_failure.ensures.same_text c.requires
+
 -- the %W is open, and its braces are run in it
 pub returns-clause-does : goal.returns-clause-does
-returns-clause-does g c F e brace given s b =
-    c.work_brace.ensures.does F e brace given s (c.in_ok-open_failure.ensures.does F c.args.context.now c.args.text.now brace given b)
+returns-clause-does g c n F e brace given s b =
+    c.work_brace.ensures.does n F e brace given (rw c.open_failure.ensures.same_text s)
+    (c.in_ok-open_failure.ensures.does n F c.args.context.now brace given b)

@@ -6,16 +6,20 @@ use Rattle.std.proofs.Common.{rules}
 
 -- the %@ can't be opened
 pub returns-in_err-open_filed-clause-does : goal.returns-in_err-open_filed-clause-does
-returns-in_err-open_filed-clause-does g c F e brace given s b =
-    let failed = c.in_err-open_filed.ensures.does F e c.args.text.now brace given b in
+returns-in_err-open_filed-clause-does g c n F e brace given s b =
+    let failed = c.in_err-open_filed.ensures.does n F e brace given b in
     let f = c.from_residual.ensures in
     search rules
 
+-- the parts of the braces lie in the text, which is the same
+pub work_brace-requires : goal.work_brace-requires
+work_brace-requires g c = rw c.open_filed.ensures.same_text c.requires
+
 -- the %@ is open, and its braces are run in it
 pub returns-clause-does : goal.returns-clause-does
-returns-clause-does g c F e brace given s b =
-    c.work_brace.ensures.does F e brace given s (c.in_ok-open_filed.ensures.does F
-    (extends_before c.work_brace.ensures.asks e) c.args.text.now brace given b)
+returns-clause-does g c n F e brace given s b =
+    c.work_brace.ensures.does n F e brace given (rw c.open_filed.ensures.same_text s)
+    (c.in_ok-open_filed.ensures.does n F (extends_before c.work_brace.ensures.asks e) brace given b)
 
 -- what was asked, where the %@ can't be opened
 pub returns-in_err-open_filed-clause-asks : goal.returns-in_err-open_filed-clause-asks

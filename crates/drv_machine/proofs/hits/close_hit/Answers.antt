@@ -1,6 +1,7 @@
 use Rattle.drv_machine.proofs.Onward.{leaf, same_step}
 use Rattle.drv_machine.proofs.Steps.{then_fails, then_ok}
 use Rattle.drv_machine.proofs.hits.close_hit.Goals as goal
+use Rattle.drv_machine.specs.Code.Running.{reached}
 use Rattle.drv_machine.specs.Context.{argument}
 use Rattle.drv_machine.specs.Code.Walking.{each_from, hit_end, levels_in}
 use Rattle.drv_machine.specs.Working.{Break, puts, word_of}
@@ -10,24 +11,24 @@ use Rattle.std.proofs.Common.{Err, rules, ◌+◌, ◌∷◌}
 
 -- the switch's argument can't be put
 pub returns-in_err-put_argument-clause-does : goal.returns-in_err-put_argument-clause-does
-returns-in_err-put_argument-clause-does g c F e p items given fits b =
+returns-in_err-put_argument-clause-does g c n F e p items given fits b =
     let failed =
-    leaf F c.args.context.now c.args.text.now c.args.walk.now c.args.machine.now given c.args.each.end
-    (λ levels star. hit_end F c.args.context.now p items levels c.args.switch) b
-    (Err c.in_err-put_argument.field-0.0) c.put_argument.new.self
-    (then_fails F c.args.context.now c.args.machine.now (puts (Break ∷ word_of (argument c.args.context.now c.args.switch)))
-    (λ u. each_from F c.args.context.now p items (levels_in F c.args.context.now b.arounds) (c.args.switch + 1))
-    c.in_err-put_argument.field-0.0 (c.in_err-put_argument.ensures.does F e)) in
+    leaf F c.args.context.now c.args.walk.now.text.now c.args.walk.now (reached n c.args.machine.now) given c.args.hit.each.end
+    (λ levels star. hit_end F c.args.context.now p items levels c.args.hit.switch) b
+    (Err c.in_err-put_argument.field-0.0) (reached n c.put_argument.new.self)
+    (then_fails F c.args.context.now (reached n c.args.machine.now) (puts (Break ∷ word_of (argument c.args.context.now c.args.hit.switch)))
+    (λ u. each_from F c.args.context.now p items (levels_in F c.args.context.now b.arounds) (c.args.hit.switch + 1))
+    c.in_err-put_argument.field-0.0 (c.in_err-put_argument.ensures.does n F e)) in
     let f = c.from_residual.ensures in
     search rules
 
 -- the switch's argument is put, and the next hit is opened
 pub returns-clause-does : goal.returns-clause-does
-returns-clause-does g c F e p items given fits b =
-    c.enter_next.ensures.does F p items given fits.label_is fits.stands
-    (same_step F c.args.context.now c.args.text.now c.args.walk.now c.args.machine.now given c.args.each.end
-    (λ levels star. hit_end F c.args.context.now p items levels c.args.switch) b
-    (λ levels star. each_from F c.args.context.now p items levels (c.args.switch + 1)) c.put_argument.new.self
-    (then_ok F c.args.context.now c.args.machine.now (puts (Break ∷ word_of (argument c.args.context.now c.args.switch)))
-    (λ u. each_from F c.args.context.now p items (levels_in F c.args.context.now b.arounds) (c.args.switch + 1)) tt
-    c.put_argument.new.self (c.in_ok-put_argument.ensures.does F e)))
+returns-clause-does g c n F e p items given fits b =
+    c.enter_next.ensures.does n F p items given fits.label_is fits.stands
+    (same_step F c.args.context.now c.args.walk.now.text.now c.args.walk.now (reached n c.args.machine.now) given c.args.hit.each.end
+    (λ levels star. hit_end F c.args.context.now p items levels c.args.hit.switch) b
+    (λ levels star. each_from F c.args.context.now p items levels (c.args.hit.switch + 1)) (reached n c.put_argument.new.self)
+    (then_ok F c.args.context.now (reached n c.args.machine.now) (puts (Break ∷ word_of (argument c.args.context.now c.args.hit.switch)))
+    (λ u. each_from F c.args.context.now p items (levels_in F c.args.context.now b.arounds) (c.args.hit.switch + 1)) tt
+    (reached n c.put_argument.new.self) (c.in_ok-put_argument.ensures.does n F e)))

@@ -1,5 +1,6 @@
 use Rattle.drv_machine.proofs.Onward.{leaf, same_step}
 use Rattle.drv_machine.proofs.hits.enter_next.Goals as goal
+use Rattle.drv_machine.specs.Code.Running.{reached}
 use Rattle.drv_machine.specs.Code.Walking.{each_from, from_hit, levels_in, NextHit}
 use Rattle.drv_match.specs.Pattern.{Pattern}
 use Rattle.std.specs.Option.{IfSome}
@@ -9,26 +10,26 @@ use Rattle.std.proofs.Common.{Ok, Option, ap, length, subst, ◌<◌, ◌∙◌,
 
 -- another switch is hit: the X is opened for it
 pub returns-in-Some-clause-does : goal.returns-in-Some-clause-does
-returns-in-Some-clause-does c F p items given label stands b =
+returns-in-Some-clause-does c n F p items given label stands b =
     let is = c.pattern_at-pattern.ensures ∙ label in
     let within = subst (λ (found : Option ℕ). IfSome found (λ i. (c.args.from ≤ i) × (i < length c.args.context.now.switches))) c.in-Some.is
     c.next_hit.ensures.within in
-    c.open_hit.ensures.does F c.args.context.now c.args.text.now p items c.args.machine.now given
-    (record { in_list = c.requires.in_list; label_is = label; stands = stands; in_line = within.1 })
+    c.open_hit.ensures.does F c.args.context.now p items (reached n c.args.machine.now) given
+    (record { in_list = c.requires; label_is = label; stands = stands; in_line = within.1 })
     (ap (λ (x : Pattern). length x.name) (c.pattern.view_is ∙ is))
-    (same_step F c.args.context.now c.args.text.now c.args.walk.now c.args.machine.now given c.args.each.end
+    (same_step F c.args.context.now c.args.walk.now.text.now c.args.walk.now (reached n c.args.machine.now) given c.args.each.end
     (λ levels star. each_from F c.args.context.now p items levels c.args.from) b
-    (λ levels star. from_hit F c.args.context.now p items levels c.in-Some.switch) c.args.machine.now
-    (subst (λ (found : Option ℕ). NextHit F c.args.context.now c.args.machine.now p items
+    (λ levels star. from_hit F c.args.context.now p items levels c.in-Some.switch) (reached n c.args.machine.now)
+    (subst (λ (found : Option ℕ). NextHit F c.args.context.now (reached n c.args.machine.now) p items
     (levels_in F c.args.context.now b.arounds) c.args.from found) c.in-Some.is
-    (c.next_hit.ensures.finds F p items (levels_in F c.args.context.now b.arounds) is)))
+    (c.next_hit.ensures.finds n F p items (levels_in F c.args.context.now b.arounds) is)))
 
 -- no other switch is hit: the walk goes on after the X
 pub returns-in-None-clause-does : goal.returns-in-None-clause-does
-returns-in-None-clause-does c F p items given label stands b =
+returns-in-None-clause-does c n F p items given label stands b =
     let is = c.pattern_at-pattern.ensures ∙ label in
-    leaf F c.args.context.now c.args.text.now c.args.walk.now c.args.machine.now given c.args.each.end
-    (λ levels star. each_from F c.args.context.now p items levels c.args.from) b (Ok tt) c.args.machine.now
-    (subst (λ (found : Option ℕ). NextHit F c.args.context.now c.args.machine.now p items
+    leaf F c.args.context.now c.args.walk.now.text.now c.args.walk.now (reached n c.args.machine.now) given c.args.each.end
+    (λ levels star. each_from F c.args.context.now p items levels c.args.from) b (Ok tt) (reached n c.args.machine.now)
+    (subst (λ (found : Option ℕ). NextHit F c.args.context.now (reached n c.args.machine.now) p items
     (levels_in F c.args.context.now b.arounds) c.args.from found) c.in-None.is
-    (c.next_hit.ensures.finds F p items (levels_in F c.args.context.now b.arounds) is))
+    (c.next_hit.ensures.finds n F p items (levels_in F c.args.context.now b.arounds) is))

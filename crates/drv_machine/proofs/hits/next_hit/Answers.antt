@@ -1,5 +1,6 @@
 use Rattle.drv_machine.proofs.ChoiceSteps.{next_finds, next_within}
 use Rattle.drv_machine.proofs.hits.next_hit.Goals as goal
+use Rattle.drv_machine.specs.Code.Running.{reached}
 
 -- next_hit (src/hits.rt). The next switch from a place on that a pattern hits, if one does.
 
@@ -10,6 +11,6 @@ returns-clause-within c = next_within c.args.context.now c.switches.result.now c
 
 -- no switch before the one that is found is hit, so they give nothing
 pub returns-clause-finds : goal.returns-clause-finds
-returns-clause-finds c F p items levels is =
-    next_finds F c.args.context.now p items levels c.args.machine.now c.switches.result.now c.hidden.result.now c.args.pattern.now
-    c.args.from c.next_hit.result c.switches.ensures c.hidden.ensures is c.next_hit.ensures
+returns-clause-finds c n F p items levels is =
+    next_finds F c.args.context.now p items levels (reached n c.args.machine.now) c.switches.result.now c.hidden.result.now
+    c.args.pattern.now c.args.from c.next_hit.result c.switches.ensures c.hidden.ensures is c.next_hit.ensures

@@ -9,16 +9,16 @@ use Rattle.std.proofs.Common.{ap, arith, refl, rules}
 
 -- too many parts are open
 pub returns-in_err-push-clause-does : goal.returns-in_err-push-clause-does
-returns-in_err-push-clause-does c F C text p items s given fits long b =
-    let failed = too_deep F C text c.args.walk.now s given c.args.each.end _ b refl
+returns-in_err-push-clause-does c F C p items s given fits long b =
+    let failed = too_deep F C c.args.walk.now.text.now c.args.walk.now s given c.args.each.end _ b refl
     (opening_lifted c.in_err-push.field-0.0) c.in_err-push.ensures.err in
     let f = c.from_residual.ensures in
     search rules
 
 -- the X is open, and its end gives the argument and the other hits
 pub returns-clause-does : goal.returns-clause-does
-returns-clause-does c F C text p items s given fits long b =
-    opened_left F C text c.args.walk.now s given c.args.each c.args.switch c.args.size p items fits long b
+returns-clause-does c F C p items s given fits long b =
+    opened_left F C c.args.walk.now.text.now c.args.walk.now s given c.args.each c.args.switch c.args.size p items fits long b
     c.in_ok-push.ensures.room _ refl refl refl c.in_ok-push.ensures.ok
 
 -- the end of the X may open one for each switch after this

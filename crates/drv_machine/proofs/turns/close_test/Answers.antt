@@ -1,7 +1,7 @@
 use Rattle.drv_machine.proofs.Judging.{answer_refused, answered}
-use Rattle.drv_machine.proofs.Onward.{went_in}
 use Rattle.drv_machine.proofs.turns.close_test.Goals as goal
 use Rattle.drv_machine.specs.Atoms.{has_value}
+use Rattle.drv_machine.specs.Code.Running.{reached}
 use Rattle.drv_machine.specs.Code.Walking.{after_arguments}
 use Rattle.drv_machine.specs.declared.fault.MachineFault.TheVariants.{Memory}
 use Rattle.drv_system.specs.Known.{Is}
@@ -11,30 +11,27 @@ use Rattle.std.proofs.Common.{◌≡◌, ◌⊎◌, ◌∙◌, Err, List, Ok, ru
 
 -- the test is a token of the text
 pub word-name-requires : goal.word-name-requires
-word-name-requires g c = c.requires.fits.2.in_list
+word-name-requires g c = c.requires.2.in_list
 
 -- the function has a fault, or its arguments do
 pub returns-in_err-holds-clause-does : goal.returns-in_err-holds-clause-does
-returns-in_err-holds-clause-does g c F e items kept given fits a =
+returns-in_err-holds-clause-does g c n F e items kept given fits a =
     let fault = c.in_err-holds.field-0.0 in
     let failed =
     answer_refused F c.args.context.now c.args.walk.now.text.now c.args.walk.now items kept given c.args.asking.end c.args.outer.value
-    c.args.machine.now a fault
+    (reached n c.args.machine.now) a fault
     (subst (λ (name : List ℕ). (fault ≡ Memory) ⊎ (after_arguments F c.args.context.now c.args.outer.value
-    (has_value F c.args.context.now name) c.args.machine.now ≡ Is (Err fault))) (c.word-name.ensures ∙ fits.name_is)
-    (c.in_err-holds.ensures.does F e)) in
+    (has_value F c.args.context.now name) (reached n c.args.machine.now) ≡ Is (Err fault))) (c.word-name.ensures ∙ fits.name_is)
+    (c.in_err-holds.ensures.does n F e)) in
     let f = c.from_residual.ensures in
     search rules
 
 -- the test is answered, and decides what follows
 pub returns-clause-does : goal.returns-clause-does
-returns-clause-does g c F e items kept given fits a =
-    went_in F c.args.context.now c.args.walk.now.text.now c.answer.new.walk.text.now c.answer.new.walk c.answer.new.machine given
-    c.answer.result c.answer.ensures.same_text
-    (c.answer.ensures.does F items kept given fits
+returns-clause-does g c n F e items kept given fits a =
+    c.answer.ensures.does n F items kept given fits
     (answered F c.args.context.now c.args.walk.now.text.now c.args.walk.now items kept given c.args.asking.end c.args.outer.value
-    c.args.machine.now a c.in_ok-holds.holds c.has_value.new.self
+    (reached n c.args.machine.now) a c.in_ok-holds.holds (reached n c.has_value.new.self)
     (subst (λ (name : List ℕ). after_arguments F c.args.context.now c.args.outer.value
-    (has_value F c.args.context.now name) c.args.machine.now ≡ Is (Ok (c.in_ok-holds.holds, c.has_value.new.self)))
-    (c.word-name.ensures ∙ fits.name_is)
-    (c.in_ok-holds.ensures.does F e))))
+    (has_value F c.args.context.now name) (reached n c.args.machine.now) ≡ Is (Ok (c.in_ok-holds.holds, (reached n c.has_value.new.self))))
+    (c.word-name.ensures ∙ fits.name_is) (c.in_ok-holds.ensures.does n F e)))

@@ -1,6 +1,7 @@
 use Rattle.drv_machine.proofs.Onward.{left_in, weight_one}
 use Rattle.drv_machine.proofs.TurnSteps.{as_left, can_close, closed, given_of, item_in, none_popped, walk_ended}
 use Rattle.drv_machine.proofs.turns.settle.Goals as goal
+use Rattle.drv_machine.specs.Code.Running.{reached}
 use Rattle.drv_machine.specs.Code.Walking.{Left, weight}
 use Rattle.drv_machine.specs.declared.fault.MachineFault.TheVariants.{Memory}
 use Rattle.drv_machine.specs.declared.walk.Frame.{Frame}
@@ -24,73 +25,66 @@ skip-requires g c = c.requires.lain
 pub loop-walk-init : goal.loop-walk-init
 loop-walk-init g c =
     let same = ap (λ (v : Walk). v.text.now) c.skip.ensures.same in
+    let given = given_of no_facts c.args.context.now c.args.walk.now.text.now c.args.walk.now (reached 0 c.args.machine.now) c.requires.lain
+    c.requires.framed in
     let start =
-    left_in no_facts c.args.context.now c.args.walk.now.text.now c.skip.new.self.text.now c.skip.new.self c.args.machine.now
-    (given_of no_facts c.args.context.now c.args.walk.now.text.now c.args.walk.now c.args.machine.now c.requires.lain c.requires.framed)
-    same
-    (c.skip.ensures.does no_facts c.args.context.now c.args.machine.now
-    (given_of no_facts c.args.context.now c.args.walk.now.text.now c.args.walk.now c.args.machine.now c.requires.lain c.requires.framed)
-    (as_left no_facts c.args.context.now c.args.walk.now.text.now c.args.walk.now c.args.machine.now c.requires.lain c.requires.framed)) in
+    left_in no_facts c.args.context.now c.args.walk.now.text.now c.skip.new.self.text.now c.skip.new.self (reached 0 c.args.machine.now)
+    given same (c.skip.ensures.does no_facts c.args.context.now (reached 0 c.args.machine.now)
+    given (as_left no_facts c.args.context.now c.args.walk.now.text.now c.args.walk.now (reached 0 c.args.machine.now)
+    c.requires.lain c.requires.framed)) in
     record {
       asks = asked_none c.args.outside.now;
       lain = record { rest = start.rest; lies = start.lies };
       framed = record { arounds = start.arounds; framed = start.framed };
-      sized = c.requires.sized;
-      uncounted = refl;
-      reached = λ h. item_in c.args.walk.now.text.now c.skip.new.self.text.now c.skip.new.self same (c.skip.ensures.reached h);
-      left = λ F e given left. left_in F c.args.context.now c.args.walk.now.text.now c.skip.new.self.text.now c.skip.new.self
-          c.args.machine.now given same (c.skip.ensures.does F c.args.context.now c.args.machine.now given left);
+      at_item = λ h. item_in c.args.walk.now.text.now c.skip.new.self.text.now c.skip.new.self same (c.skip.ensures.reached h);
+      left = λ n F e given left. left_in F c.args.context.now c.args.walk.now.text.now c.skip.new.self.text.now c.skip.new.self
+          (reached n c.args.machine.now) given same (c.skip.ensures.does F c.args.context.now (reached n c.args.machine.now) given left);
     }
 
 -- no part is open at the end of the text: the walk is done
 pub returns-in_default-clause-does : goal.returns-in_default-clause-does
-returns-in_default-clause-does g c F e given left =
-    walk_ended F c.args.context.now c.loop-walk.walk.text.now c.loop-walk.walk c.loop-walk.machine given c.loop-walk-test.true
+returns-in_default-clause-does g c n F e given left =
+    walk_ended F c.args.context.now c.loop-walk.walk.text.now c.loop-walk.walk (reached n c.loop-walk.machine) given c.loop-walk-test.true
     (none_popped c.pop.result (length c.loop-walk.walk.frames) c.pop.ensures.variant c.in_default.is)
-    (c.loop-walk.invariant.left F e given left)
+    (c.loop-walk.invariant.left n F e given left)
 
 -- what the innermost part was opened for is in the text
-pub close-requires-clause-fits : goal.close-requires-clause-fits
-close-requires-clause-fits g c =
+pub close-requires : goal.close-requires
+close-requires g c =
     can_close c.loop-walk.walk.text.now c.loop-walk.walk c.loop-walk-test.true c.in-Some.frame c.pop.new.self
     (c.pop.ensures.items ∙ ap (λ (o : Option Frame). c.pop.new.self ++ option_to_list o) c.in-Some.is)
-    no_facts c.args.context.now c.loop-walk.machine (given_of no_facts c.args.context.now c.loop-walk.walk.text.now c.loop-walk.walk
-    c.loop-walk.machine c.loop-walk.invariant.lain c.loop-walk.invariant.framed)
-    (as_left no_facts c.args.context.now c.loop-walk.walk.text.now c.loop-walk.walk c.loop-walk.machine c.loop-walk.invariant.lain
-    c.loop-walk.invariant.framed)
+    no_facts c.args.context.now (reached 0 c.loop-walk.machine) (given_of no_facts c.args.context.now c.loop-walk.walk.text.now
+    c.loop-walk.walk (reached 0 c.loop-walk.machine) c.loop-walk.invariant.lain c.loop-walk.invariant.framed)
+    (as_left no_facts c.args.context.now c.loop-walk.walk.text.now c.loop-walk.walk (reached 0 c.loop-walk.machine)
+    c.loop-walk.invariant.lain c.loop-walk.invariant.framed)
 
 -- the end of a part has a fault
 pub returns-in_err-close-clause-does : goal.returns-in_err-close-clause-does
-returns-in_err-close-clause-does g c F e given left =
+returns-in_err-close-clause-does g c n F e given left =
     let failed =
     closed c.loop-walk.walk.text.now c.loop-walk.walk c.loop-walk-test.true c.in-Some.frame c.pop.new.self
     (c.pop.ensures.items ∙ ap (λ (o : Option Frame). c.pop.new.self ++ option_to_list o) c.in-Some.is)
-    F c.args.context.now c.loop-walk.machine given (c.loop-walk.invariant.left F (extends_before c.close.ensures.asks e) given left)
-    (record c.loop-walk.walk { end = c.in-Some.frame.end; star = c.in-Some.frame.star; frames = c.pop.new.self }) refl refl refl
+    F c.args.context.now (reached n c.loop-walk.machine) given (c.loop-walk.invariant.left n F (extends_before c.close.ensures.asks e) given
+    left) (record c.loop-walk.walk { end = c.in-Some.frame.end; star = c.in-Some.frame.star; frames = c.pop.new.self }) refl refl refl
     ((c.in_err-close.field-0.0 ≡ Memory) ⊎ (given ≡ Is (Err c.in_err-close.field-0.0)))
-    (λ p items kept fits following. c.in_err-close.ensures.does F e p items kept given fits following) in
+    (λ p items kept fits following. c.in_err-close.ensures.does n F e p items kept given fits following) in
     let f = c.from_residual.ensures in
     search rules
 
 -- items lie from the place after the closed part on
 pub skip-requires-in-loop-walk : goal.skip-requires-in-loop-walk
 skip-requires-in-loop-walk g c =
+    let F = c.close.new.outside.facts.now in
+    let given = given_of F c.args.context.now c.loop-walk.walk.text.now c.loop-walk.walk (reached 0 c.loop-walk.machine)
+    c.loop-walk.invariant.lain c.loop-walk.invariant.framed in
     let left =
     closed c.loop-walk.walk.text.now c.loop-walk.walk c.loop-walk-test.true c.in-Some.frame c.pop.new.self
     (c.pop.ensures.items ∙ ap (λ (o : Option Frame). c.pop.new.self ++ option_to_list o) c.in-Some.is)
-    c.close.new.outside.facts.now c.args.context.now c.loop-walk.machine
-    (given_of c.close.new.outside.facts.now c.args.context.now c.loop-walk.walk.text.now c.loop-walk.walk c.loop-walk.machine
-    c.loop-walk.invariant.lain c.loop-walk.invariant.framed)
-    (as_left c.close.new.outside.facts.now c.args.context.now c.loop-walk.walk.text.now c.loop-walk.walk c.loop-walk.machine
-    c.loop-walk.invariant.lain c.loop-walk.invariant.framed)
+    F c.args.context.now (reached 0 c.loop-walk.machine) given (as_left F c.args.context.now c.loop-walk.walk.text.now c.loop-walk.walk
+    (reached 0 c.loop-walk.machine) c.loop-walk.invariant.lain c.loop-walk.invariant.framed)
     (record c.loop-walk.walk { end = c.in-Some.frame.end; star = c.in-Some.frame.star; frames = c.pop.new.self }) refl refl refl
-    (Left c.close.new.outside.facts.now c.args.context.now c.close.new.walk.text.now c.close.new.walk c.close.new.machine
-    (given_of c.close.new.outside.facts.now c.args.context.now c.loop-walk.walk.text.now c.loop-walk.walk c.loop-walk.machine
-    c.loop-walk.invariant.lain c.loop-walk.invariant.framed))
-    (λ p items kept fits following. c.in_ok-close.ensures.does c.close.new.outside.facts.now
-    (extends_refl c.close.new.outside.facts.now) p items kept
-    (given_of c.close.new.outside.facts.now c.args.context.now c.loop-walk.walk.text.now c.loop-walk.walk c.loop-walk.machine
-    c.loop-walk.invariant.lain c.loop-walk.invariant.framed) fits following) in
+    (Left F c.args.context.now c.close.new.walk.text.now c.close.new.walk (reached 0 c.close.new.machine) given)
+    (λ p items kept fits following. c.in_ok-close.ensures.does 0 F (extends_refl F) p items kept given fits following) in
     record { rest = left.rest; lies = left.lies }
 
 -- each end makes what open parts may still open less
@@ -105,55 +99,43 @@ loop-walk-smaller g c =
 pub loop-walk-preserved : goal.loop-walk-preserved
 loop-walk-preserved g c =
     let same = ap (λ (v : Walk). v.text.now) c.skip-in-loop-walk.ensures.same in
+    let F = c.close.new.outside.facts.now in
+    let given = given_of F c.args.context.now c.loop-walk.walk.text.now c.loop-walk.walk (reached 0 c.loop-walk.machine)
+    c.loop-walk.invariant.lain c.loop-walk.invariant.framed in
     let after =
-    left_in c.close.new.outside.facts.now c.args.context.now c.close.new.walk.text.now c.skip-in-loop-walk.new.self.text.now
-    c.skip-in-loop-walk.new.self c.close.new.machine
-    (given_of c.close.new.outside.facts.now c.args.context.now c.loop-walk.walk.text.now c.loop-walk.walk c.loop-walk.machine
-    c.loop-walk.invariant.lain c.loop-walk.invariant.framed) same
-    (c.skip-in-loop-walk.ensures.does c.close.new.outside.facts.now c.args.context.now c.close.new.machine
-    (given_of c.close.new.outside.facts.now c.args.context.now c.loop-walk.walk.text.now c.loop-walk.walk c.loop-walk.machine
-    c.loop-walk.invariant.lain c.loop-walk.invariant.framed)
+    left_in F c.args.context.now c.close.new.walk.text.now c.skip-in-loop-walk.new.self.text.now c.skip-in-loop-walk.new.self
+    (reached 0 c.close.new.machine) given same (c.skip-in-loop-walk.ensures.does F c.args.context.now (reached 0 c.close.new.machine) given
     (closed c.loop-walk.walk.text.now c.loop-walk.walk c.loop-walk-test.true c.in-Some.frame c.pop.new.self
     (c.pop.ensures.items ∙ ap (λ (o : Option Frame). c.pop.new.self ++ option_to_list o) c.in-Some.is)
-    c.close.new.outside.facts.now c.args.context.now c.loop-walk.machine
-    (given_of c.close.new.outside.facts.now c.args.context.now c.loop-walk.walk.text.now c.loop-walk.walk c.loop-walk.machine
-    c.loop-walk.invariant.lain c.loop-walk.invariant.framed)
-    (as_left c.close.new.outside.facts.now c.args.context.now c.loop-walk.walk.text.now c.loop-walk.walk c.loop-walk.machine
-    c.loop-walk.invariant.lain c.loop-walk.invariant.framed)
+    F c.args.context.now (reached 0 c.loop-walk.machine) given (as_left F c.args.context.now c.loop-walk.walk.text.now c.loop-walk.walk
+    (reached 0 c.loop-walk.machine) c.loop-walk.invariant.lain c.loop-walk.invariant.framed)
     (record c.loop-walk.walk { end = c.in-Some.frame.end; star = c.in-Some.frame.star; frames = c.pop.new.self }) refl refl refl
-    (Left c.close.new.outside.facts.now c.args.context.now c.close.new.walk.text.now c.close.new.walk c.close.new.machine
-    (given_of c.close.new.outside.facts.now c.args.context.now c.loop-walk.walk.text.now c.loop-walk.walk c.loop-walk.machine
-    c.loop-walk.invariant.lain c.loop-walk.invariant.framed))
-    (λ p items kept fits following. c.in_ok-close.ensures.does c.close.new.outside.facts.now
-    (extends_refl c.close.new.outside.facts.now) p items kept
-    (given_of c.close.new.outside.facts.now c.args.context.now c.loop-walk.walk.text.now c.loop-walk.walk c.loop-walk.machine
-    c.loop-walk.invariant.lain c.loop-walk.invariant.framed) fits following))) in record {
+    (Left F c.args.context.now c.close.new.walk.text.now c.close.new.walk (reached 0 c.close.new.machine) given)
+    (λ p items kept fits following. c.in_ok-close.ensures.does 0 F (extends_refl F) p items kept given fits following))) in record {
       asks = asked_further c.loop-walk.invariant.asks c.close.ensures.asks;
       lain = record { rest = after.rest; lies = after.lies };
       framed = record { arounds = after.arounds; framed = after.framed };
-      sized = c.close.ensures.sized ∙ c.loop-walk.invariant.sized;
-      uncounted = c.in_ok-close.ensures.uncounted ∙ c.loop-walk.invariant.uncounted;
-      reached = λ h. item_in c.close.new.walk.text.now c.skip-in-loop-walk.new.self.text.now c.skip-in-loop-walk.new.self same
+      at_item = λ h. item_in c.close.new.walk.text.now c.skip-in-loop-walk.new.self.text.now c.skip-in-loop-walk.new.self same
           (c.skip-in-loop-walk.ensures.reached h);
-      left = λ F e given left.
+      left = λ n F e given left.
           left_in F c.args.context.now c.close.new.walk.text.now c.skip-in-loop-walk.new.self.text.now c.skip-in-loop-walk.new.self
-          c.close.new.machine given same
-          (c.skip-in-loop-walk.ensures.does F c.args.context.now c.close.new.machine given
+          (reached n c.close.new.machine) given same
+          (c.skip-in-loop-walk.ensures.does F c.args.context.now (reached n c.close.new.machine) given
           (closed c.loop-walk.walk.text.now c.loop-walk.walk c.loop-walk-test.true c.in-Some.frame c.pop.new.self
           (c.pop.ensures.items ∙ ap (λ (o : Option Frame). c.pop.new.self ++ option_to_list o) c.in-Some.is)
-          F c.args.context.now c.loop-walk.machine given (c.loop-walk.invariant.left F (extends_before c.close.ensures.asks e) given left)
-          (record c.loop-walk.walk { end = c.in-Some.frame.end; star = c.in-Some.frame.star; frames = c.pop.new.self }) refl refl refl
-          (Left F c.args.context.now c.close.new.walk.text.now c.close.new.walk c.close.new.machine given)
-          (λ p items kept fits following. c.in_ok-close.ensures.does F e p items kept given fits following)));
+          F c.args.context.now (reached n c.loop-walk.machine) given (c.loop-walk.invariant.left n F (extends_before c.close.ensures.asks e)
+          given left) (record c.loop-walk.walk { end = c.in-Some.frame.end; star = c.in-Some.frame.star; frames = c.pop.new.self }) refl
+          refl refl (Left F c.args.context.now c.close.new.walk.text.now c.close.new.walk (reached n c.close.new.machine) given)
+          (λ p items kept fits following. c.in_ok-close.ensures.does n F e p items kept given fits following)));
     }
 
 -- the place of the walk is an item
 pub returns-clause-reached : goal.returns-clause-reached
-returns-clause-reached g c t = c.loop-walk.invariant.reached (omega (arith, c.loop-walk-test.false))
+returns-clause-reached g c t = c.loop-walk.invariant.at_item (omega (arith, c.loop-walk-test.false))
 
 -- an item is left, and what is left gives what the walk gave before
 pub returns-clause-does : goal.returns-clause-does
-returns-clause-does g c F e given left = c.loop-walk.invariant.left F e given left
+returns-clause-does g c n F e given left = c.loop-walk.invariant.left n F e given left
 
 -- what was asked, where the walk is done
 pub returns-in_default-clause-asks : goal.returns-in_default-clause-asks

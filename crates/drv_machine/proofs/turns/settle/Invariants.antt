@@ -1,11 +1,11 @@
 use Rattle.drv_machine.proofs.turns.settle.Given as goal
-use Rattle.drv_machine.specs.Code.Running.{Machine}
+use Rattle.drv_machine.specs.Code.Running.{Machine, reached}
 use Rattle.drv_machine.specs.Code.Walking.{AtItem, HasFrames, Lain, Left, weight}
 use Rattle.drv_machine.specs.Working.{Answer}
 use Rattle.drv_system.specs.Asking.{Extends}
 use Rattle.drv_system.specs.Code.Asked.{Asked}
 use Rattle.drv_system.specs.Facts.{Facts}
-use Rattle.std.proofs.Common.{length, ◌<◌, ◌≡◌}
+use Rattle.std.proofs.Common.{◌<◌, length, ℕ}
 
 -- The loops of settle (src/turns.rt). Closes the open parts that have ended, and says whether an item is left to be processed.
 
@@ -15,11 +15,10 @@ invariant-loop-walk g l = record {
   asks : Asked g.S.System.events l.fn.outside l.outside;
   lain : Lain l.walk.text.now l.walk;
   framed : HasFrames l.context l.walk.text.now l.walk;
-  sized : length l.machine.world.hidden ≡ length l.context.switches;
-  uncounted : l.machine.world.items ≡ l.fn.machine.world.items;
-  reached : l.walk.at < l.walk.end → AtItem l.walk.text.now l.walk;
-  left : (F : Facts) → Extends l.outside.facts.now F → (given : Answer (Unit {0} × Machine))
-      → Left F l.context l.fn.walk.text.now l.fn.walk l.fn.machine given → Left F l.context l.walk.text.now l.walk l.machine given;
+  at_item : l.walk.at < l.walk.end → AtItem l.walk.text.now l.walk;
+  left : (n : ℕ) (F : Facts) → Extends l.outside.facts.now F → (given : Answer (Unit {0} × Machine))
+      → Left F l.context l.fn.walk.text.now l.fn.walk (reached n l.fn.machine) given → Left F l.context l.walk.text.now l.walk
+      (reached n l.machine) given;
 }
 
 -- each round closes a part, or opens one that was counted for its end (`weight`)

@@ -1,9 +1,11 @@
 use Rattle.drv_machine.proofs.Settling.{settled_more, settled_none}
 use Rattle.drv_machine.proofs.TurnSteps.{as_left, framed_of, given_of, lain_of}
 use Rattle.drv_machine.proofs.turns.work_items.Goals as goal
+use Rattle.drv_machine.specs.Code.Counting.{state}
+use Rattle.drv_machine.specs.Code.Running.{reached}
 use Rattle.drv_system.proofs.AskedCalls.{asked_further, asked_none, extends_before}
 use Rattle.drv_system.proofs.Asking.{extends_refl}
-use Rattle.std.proofs.Common.{arith, rules, ◌∙◌}
+use Rattle.std.proofs.Common.{arith, rules}
 
 -- work_items (src/turns.rt). Works the items of a walk that are left, up to its end.
 
@@ -13,14 +15,13 @@ loop-walk-init g c = record {
   asks = asked_none c.args.outside.now;
   lain = c.requires.lain;
   framed = c.requires.framed;
-  sized = c.requires.sized;
   left = λ F e given left. left;
 }
 
 -- the end of a part has a fault
 pub returns-in_err-settle-clause-does : goal.returns-in_err-settle-clause-does
 returns-in_err-settle-clause-does g c F e given left =
-    let failed = c.in_err-settle.ensures.does F e given
+    let failed = c.in_err-settle.ensures.does c.loop-walk.tally.items F e given
     (c.loop-walk.invariant.left F (extends_before c.settle.ensures.asks e) given left) in
     let f = c.from_residual.ensures in
     search rules
@@ -33,12 +34,12 @@ returns-in_err-settle-clause-asks g c = asked_further c.loop-walk.invariant.asks
 pub turn-requires-clause-lain : goal.turn-requires-clause-lain
 turn-requires-clause-lain g c =
     let F = c.settle.new.outside.facts.now in
-    let given = given_of F c.args.context.now c.loop-walk.walk.text.now c.loop-walk.walk c.loop-walk.machine c.loop-walk.invariant.lain
-    c.loop-walk.invariant.framed in
-    lain_of F c.args.context.now c.settle.new.walk.text.now c.settle.new.walk c.settle.new.machine given
-    (settled_more F c.args.context.now c.settle.new.walk.text.now c.settle.new.walk c.settle.new.machine given _ c.if-branch.true
-    (c.in_ok-settle.ensures.does F (extends_refl F) given
-    (as_left F c.args.context.now c.loop-walk.walk.text.now c.loop-walk.walk c.loop-walk.machine c.loop-walk.invariant.lain
+    let given = given_of F c.args.context.now c.loop-walk.walk.text.now c.loop-walk.walk (state c.loop-walk.tally)
+    c.loop-walk.invariant.lain c.loop-walk.invariant.framed in
+    lain_of F c.args.context.now c.settle.new.walk.text.now c.settle.new.walk (reached c.loop-walk.tally.items c.settle.new.machine) given
+    (settled_more F c.args.context.now c.settle.new.walk.text.now c.settle.new.walk (reached c.loop-walk.tally.items c.settle.new.machine)
+    given _ c.if-branch.true (c.in_ok-settle.ensures.does c.loop-walk.tally.items F (extends_refl F) given
+    (as_left F c.args.context.now c.loop-walk.walk.text.now c.loop-walk.walk (state c.loop-walk.tally) c.loop-walk.invariant.lain
     c.loop-walk.invariant.framed)))
 
 -- the place of the walk is an item
@@ -50,8 +51,8 @@ pub returns-in_err-turn-clause-does : goal.returns-in_err-turn-clause-does
 returns-in_err-turn-clause-does g c F e given left =
     let failed =
     c.in_err-turn.ensures.does F e given
-    (settled_more F c.args.context.now c.settle.new.walk.text.now c.settle.new.walk c.settle.new.machine given _ c.if-branch.true
-    (c.in_ok-settle.ensures.does F (extends_before c.turn.ensures.asks e) given
+    (settled_more F c.args.context.now c.settle.new.walk.text.now c.settle.new.walk (reached c.loop-walk.tally.items c.settle.new.machine)
+    given _ c.if-branch.true (c.in_ok-settle.ensures.does c.loop-walk.tally.items F (extends_before c.turn.ensures.asks e) given
     (c.loop-walk.invariant.left F (extends_before c.settle.ensures.asks (extends_before c.turn.ensures.asks e)) given left))) in
     let f = c.from_residual-in_err-turn.ensures in
     search rules
@@ -65,7 +66,6 @@ pub loop-walk-smaller : goal.loop-walk-smaller
 loop-walk-smaller g c =
     omega (
       arith,
-      c.in_ok-settle.ensures.uncounted,
       c.in_ok-turn.ensures.counts,
       c.in_ok-turn.ensures.below,
     )
@@ -74,30 +74,30 @@ loop-walk-smaller g c =
 pub loop-walk-preserved : goal.loop-walk-preserved
 loop-walk-preserved g c =
     let F = c.turn.new.outside.facts.now in
-    let given = given_of F c.args.context.now c.loop-walk.walk.text.now c.loop-walk.walk c.loop-walk.machine c.loop-walk.invariant.lain
-    c.loop-walk.invariant.framed in
+    let given = given_of F c.args.context.now c.loop-walk.walk.text.now c.loop-walk.walk (state c.loop-walk.tally)
+    c.loop-walk.invariant.lain c.loop-walk.invariant.framed in
     let after =
     c.in_ok-turn.ensures.does F (extends_refl F) given
-    (settled_more F c.args.context.now c.settle.new.walk.text.now c.settle.new.walk c.settle.new.machine given _ c.if-branch.true
-    (c.in_ok-settle.ensures.does F (extends_before c.turn.ensures.asks (extends_refl F)) given
-    (as_left F c.args.context.now c.loop-walk.walk.text.now c.loop-walk.walk c.loop-walk.machine c.loop-walk.invariant.lain
+    (settled_more F c.args.context.now c.settle.new.walk.text.now c.settle.new.walk (reached c.loop-walk.tally.items c.settle.new.machine)
+    given _ c.if-branch.true (c.in_ok-settle.ensures.does c.loop-walk.tally.items F (extends_before c.turn.ensures.asks (extends_refl F))
+    given (as_left F c.args.context.now c.loop-walk.walk.text.now c.loop-walk.walk (state c.loop-walk.tally) c.loop-walk.invariant.lain
     c.loop-walk.invariant.framed))) in record {
       asks = asked_further c.loop-walk.invariant.asks (asked_further c.settle.ensures.asks c.turn.ensures.asks);
-      lain = lain_of F c.args.context.now c.turn.new.walk.text.now c.turn.new.walk c.turn.new.machine given after;
-      framed = framed_of F c.args.context.now c.turn.new.walk.text.now c.turn.new.walk c.turn.new.machine given after;
-      sized = c.turn.ensures.sized ∙ c.settle.ensures.sized ∙ c.loop-walk.invariant.sized;
+      lain = lain_of F c.args.context.now c.turn.new.walk.text.now c.turn.new.walk (state c.turn.new.tally) given after;
+      framed = framed_of F c.args.context.now c.turn.new.walk.text.now c.turn.new.walk (state c.turn.new.tally) given after;
       left = λ F e given left.
-          c.in_ok-turn.ensures.does F e given
-          (settled_more F c.args.context.now c.settle.new.walk.text.now c.settle.new.walk c.settle.new.machine given _ c.if-branch.true
-          (c.in_ok-settle.ensures.does F (extends_before c.turn.ensures.asks e) given
+          c.in_ok-turn.ensures.does F e given (settled_more F c.args.context.now c.settle.new.walk.text.now c.settle.new.walk
+          (reached c.loop-walk.tally.items c.settle.new.machine) given _ c.if-branch.true
+          (c.in_ok-settle.ensures.does c.loop-walk.tally.items F (extends_before c.turn.ensures.asks e) given
           (c.loop-walk.invariant.left F (extends_before c.settle.ensures.asks (extends_before c.turn.ensures.asks e)) given left)));
     }
 
 -- no item is left: the walk has given all
 pub returns-clause-does : goal.returns-clause-does
 returns-clause-does g c F e given left =
-    settled_none F c.args.context.now c.settle.new.walk.text.now c.settle.new.walk c.settle.new.machine given _ c.if-branch.false
-    (c.in_ok-settle.ensures.does F e given (c.loop-walk.invariant.left F (extends_before c.settle.ensures.asks e) given left))
+    settled_none F c.args.context.now c.settle.new.walk.text.now c.settle.new.walk (reached c.loop-walk.tally.items c.settle.new.machine)
+    given _ c.if-branch.false (c.in_ok-settle.ensures.does c.loop-walk.tally.items F e given
+    (c.loop-walk.invariant.left F (extends_before c.settle.ensures.asks e) given left))
 
 -- what was asked in all turns
 pub returns-clause-asks : goal.returns-clause-asks

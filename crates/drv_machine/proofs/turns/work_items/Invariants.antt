@@ -1,11 +1,12 @@
 use Rattle.drv_machine.proofs.turns.work_items.Given as goal
+use Rattle.drv_machine.specs.Code.Counting.{state}
 use Rattle.drv_machine.specs.Code.Running.{Machine}
 use Rattle.drv_machine.specs.Code.Walking.{HasFrames, Lain, Left}
 use Rattle.drv_machine.specs.Working.{Answer}
 use Rattle.drv_system.specs.Asking.{Extends}
 use Rattle.drv_system.specs.Code.Asked.{Asked}
 use Rattle.drv_system.specs.Facts.{Facts}
-use Rattle.std.proofs.Common.{length, ◌-◌, ◌≡◌}
+use Rattle.std.proofs.Common.{◌-◌}
 
 -- The loops of work_items (src/turns.rt). Works the items of a walk that are left, up to its end.
 
@@ -15,11 +16,11 @@ invariant-loop-walk g l = record {
   asks : Asked g.S.System.events l.fn.outside l.outside;
   lain : Lain l.walk.text.now l.walk;
   framed : HasFrames l.context l.walk.text.now l.walk;
-  sized : length l.machine.world.hidden ≡ length l.context.switches;
   left : (F : Facts) → Extends l.outside.facts.now F → (given : Answer (Unit {0} × Machine))
-      → Left F l.context l.fn.walk.text.now l.fn.walk l.fn.machine given → Left F l.context l.walk.text.now l.walk l.machine given;
+      → Left F l.context l.fn.walk.text.now l.fn.walk (state l.fn.tally) given → Left F l.context l.walk.text.now l.walk (state l.tally)
+      given;
 }
 
 -- each round reaches an item, and the limit of items ends the loop
 abbrev pub decreases-loop-walk : goal.decreases-loop-walk
-decreases-loop-walk g l = 1000000 - l.machine.world.items
+decreases-loop-walk g l = 1000000 - l.tally.items

@@ -1,6 +1,7 @@
 use Rattle.drv_machine.proofs.RunTurns.{byte_reached, run_worked}
 use Rattle.drv_machine.proofs.turns.work_run.Goals as goal
-use Rattle.std.proofs.Common.{◌<◌, ◌≤◌, ◌+◌, arith, length}
+use Rattle.drv_machine.specs.Code.Counting.{state}
+use Rattle.std.proofs.Common.{ap, arith}
 
 -- work_run (src/turns.rt). Works the plain bytes from the place that is reached, up to another item or the end of the innermost part, as
 -- many as may be reached.
@@ -24,8 +25,7 @@ returns-clause-does c F C s given first left =
     let some =
     c.plain_bytes-run.ensures.begins byte.0
     (omega (arith, c.requires.at_byte.before_end, c.min-end.ensures, c.saturating_add.ensures, c.left.ensures)) byte.1 in
-    run_worked F C c.args.text.now given c.args.walk.now s c.args.machine.now c.put_run.new.self c.plain_bytes-run.result.now some
-    c.plain_bytes-run.ensures.bytes
-    (omega (arith, some, c.plain_bytes-run.ensures.within, c.min-end.ensures))
+    run_worked F C c.args.text.now given c.args.walk.now s (state c.args.tally.now) (state c.put_run.new.self) c.plain_bytes-run.result.now
+    some c.plain_bytes-run.ensures.bytes (omega (arith, some, c.plain_bytes-run.ensures.within, c.min-end.ensures))
     (omega (arith, c.requires.few, c.plain_bytes-run.ensures.within, c.min-end.ensures, c.saturating_add.ensures, c.left.ensures))
-    first left c.in_ok-put_run.ensures.does
+    first left (ap state c.in_ok-put_run.ensures)

@@ -1,6 +1,7 @@
 use Rattle.drv_machine.proofs.Steps.{fails_as}
 use Rattle.drv_machine.proofs.whole.finish.Goals as goal
 use Rattle.drv_machine.specs.Atoms.{whole_text}
+use Rattle.drv_machine.specs.Code.Counting.{state}
 use Rattle.drv_machine.specs.Code.Running.{Machine, run}
 use Rattle.drv_machine.specs.Outcome.{finished}
 use Rattle.drv_machine.specs.Working.{◌>>-◌, Answer}
@@ -15,7 +16,7 @@ use Rattle.std.proofs.Common.{ap, rules, subst, sym}
 -- the text has a refusal
 pub returns-in_err-work_whole-clause-does : goal.returns-in_err-work_whole-clause-does
 returns-in_err-work_whole-clause-does g c F e =
-    let cut = run F c.args.context.now c.args.machine.now (whole_text F c.args.context.now (tree_of c.args.text.now)) in
+    let cut = run F c.args.context.now (state c.args.tally.now) (whole_text F c.args.context.now (tree_of c.args.text.now)) in
     let failed =
     fails_as cut (cut >>- λ r. finished F c.args.context.now r.1.world r.1.cut) (c.in_err-work_whole.ensures.does F e)
     (λ x. ap (λ (a : Answer (Unit {0} × Machine)). a >>- λ r. finished F c.args.context.now r.1.world r.1.cut) x) in
@@ -27,8 +28,7 @@ pub returns-clause-does : goal.returns-clause-does
 returns-clause-does g c F e =
     subst (λ given. GivesKnown Memory (λ o. o) c.outcome_of.result given)
     (sym (ap (λ (a : Answer (Unit {0} × Machine)). a >>- λ r. finished F c.args.context.now r.1.world r.1.cut)
-    (c.in_ok-work_whole.ensures.does F (extends_before c.outcome_of.ensures.asks e))))
-    (c.outcome_of.ensures.does F e)
+    (c.in_ok-work_whole.ensures.does F (extends_before c.outcome_of.ensures.asks e)))) (c.outcome_of.ensures.does F e)
 
 -- what was asked, where the text has a refusal
 pub returns-in_err-work_whole-clause-asks : goal.returns-in_err-work_whole-clause-asks

@@ -1,7 +1,9 @@
+use Rattle.drv_plan.proofs.Apart.{plan_apart}
 use Rattle.drv_plan.proofs.Steps.{given_alike, prefixes_first}
 use Rattle.drv_plan.proofs.planning.plan.Goals as goal
 use Rattle.drv_plan.specs.Denoted.{denoted, planned}
 use Rattle.drv_system.proofs.AskedCalls.{extends_before}
+use Rattle.drv_system.proofs.Asking.{extends_refl}
 use Rattle.drv_system.specs.Asking.{Extends}
 use Rattle.std.proofs.Common.{rules}
 
@@ -19,3 +21,8 @@ returns-clause-plans g c F e =
     c.as_slice.ensures c.as_slice-2.ensures (c.in_ok-prefixes.ensures.prefixes F (extends_before c.plan_in.ensures.asks known))
     c.in_ok-context.ensures)
     (c.plan_in.ensures.works F known)
+
+pub returns-clause-apart : goal.returns-clause-apart
+returns-clause-apart g c =
+    plan_apart c.plan_in.new.outside.facts.now c.args.set.now c.as_slice-2.result.now c.in_ok-context.context c.plan_in.result (λ p. p)
+    (c.plan_in.ensures.works c.plan_in.new.outside.facts.now (extends_refl c.plan_in.new.outside.facts.now))

@@ -1,15 +1,9 @@
-use Rattle.drv_plan.proofs.Refusals.{no_want}
 use Rattle.drv_plan.proofs.Steps.{file_chosen, given_alike, language_refused, refusal_given}
 use Rattle.drv_plan.proofs.sources.add_input.Goals as goal
 use Rattle.drv_plan.specs.Denoted.{with_file, with_input}
-use Rattle.std.proofs.Common.{Ok, rules}
+use Rattle.std.proofs.Common.{Ok}
 
 -- add_input (src/sources.rt). Adds an input: a file in its language, or a word for the link, which has none.
-
-pub returns-in_err-chosen-in-File-clause-apart : goal.returns-in_err-chosen-in-File-clause-apart
-returns-in_err-chosen-in-File-clause-apart g c =
-    let none = no_want c.args.set.now c.args.input.now c.in_err-chosen-in-File.field-0.0 c.in_err-chosen-in-File.ensures in
-    let handed = c.from_residual.ensures in search rules
 
 pub returns-in_err-chosen-in-File-clause-works : goal.returns-in_err-chosen-in-File-clause-works
 returns-in_err-chosen-in-File-clause-works g c F e =

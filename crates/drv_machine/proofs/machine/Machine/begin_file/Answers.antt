@@ -1,16 +1,18 @@
 use Rattle.drv_machine.proofs.Files.{file_begins, no_beginning}
 use Rattle.drv_machine.proofs.machine.Machine.begin_file.Goals as goal
-use Rattle.std.proofs.Common.{rules}
+use Rattle.drv_machine.specs.Code.Running.{reached}
+use Rattle.std.proofs.Common.{ap, rules}
 
 -- begin_file (src/machine/filing.rt). The open word ends, and the words after it are those of a file.
 
 -- the word that is open can't end: its look-up has a fault
 pub returns-in_err-end_word-clause-does : goal.returns-in_err-end_word-clause-does
-returns-in_err-end_word-clause-does g c F e =
-    let failed = no_beginning F c.args.context.now c.args.self.now c.in_err-end_word.field-0.0 (c.in_err-end_word.ensures.does F e) in
+returns-in_err-end_word-clause-does g c n F e =
+    let failed = no_beginning F c.args.context.now (reached n c.args.self.now) c.in_err-end_word.field-0.0
+    (c.in_err-end_word.ensures.does n F e) in
     let handed = c.from_residual.ensures in search rules
 
 -- the word that is open ends, and a file begins
 pub returns-clause-does : goal.returns-clause-does
-returns-clause-does g c F e = file_begins F c.args.context.now c.args.self.now c.end_word.new.self c.enter_file.new.self
-    (c.in_ok-end_word.ensures.does F e) c.enter_file.ensures
+returns-clause-does g c n F e = file_begins F c.args.context.now (reached n c.args.self.now) (reached n c.end_word.new.self)
+    (reached n c.enter_file.new.self) (c.in_ok-end_word.ensures.does n F e) (ap (reached n) c.enter_file.ensures)

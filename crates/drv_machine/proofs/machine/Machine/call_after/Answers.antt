@@ -1,7 +1,7 @@
 use Rattle.drv_machine.proofs.Arguments.{after_fails, after_is}
 use Rattle.drv_machine.proofs.machine.Machine.call_after.Goals as goal
 use Rattle.drv_machine.specs.Atoms.{call_step}
-use Rattle.drv_machine.specs.Code.Running.{run}
+use Rattle.drv_machine.specs.Code.Running.{reached, run}
 use Rattle.drv_machine.specs.Cutting.{Cut}
 use Rattle.drv_machine.specs.declared.fault.MachineFault.TheVariants.{Memory}
 use Rattle.drv_system.proofs.AskedCalls.{asked_further, extends_before}
@@ -13,24 +13,23 @@ use Rattle.std.proofs.Common.{ap, rules, subst, ◌≡◌, ◌∙◌}
 
 -- the word that is open can't end: its look-up has a fault
 pub returns-in_err-end_word-clause-does : goal.returns-in_err-end_word-clause-does
-returns-in_err-end_word-clause-does g c F e =
+returns-in_err-end_word-clause-does g c n F e =
     let failed = after_fails F c.args.context.now c.args.outer.value
-    (call_step F c.args.context.now c.args.name.now) c.args.self.now c.in_err-end_word.field-0.0
-    (c.in_err-end_word.ensures.does F e) in
+    (call_step F c.args.context.now c.args.name.now) (reached n c.args.self.now) c.in_err-end_word.field-0.0
+    (c.in_err-end_word.ensures.does n F e) in
     let handed = c.from_residual.ensures in search rules
 
 -- the last word of the arguments ends, and the function is called
 pub returns-clause-does : goal.returns-clause-does
-returns-clause-does g c F e =
+returns-clause-does g c n F e =
     let C = c.args.context.now in
-    subst (λ x. GivesKnown Memory (λ given. (given, c.call.new.self)) c.call.result x)
-    (ap (λ args. run F C c.take_back-args.new.self (call_step F C c.args.name.now args))
+    subst (λ x. GivesKnown Memory (λ given. (given, (reached n c.call.new.self))) c.call.result x)
+    (ap (λ args. run F C (reached n c.take_back-args.new.self) (call_step F C c.args.name.now args))
     (c.as_slice.ensures ∙ c.take_back-args.ensures.words)
-    ∙ after_is F C c.args.outer.value (call_step F C c.args.name.now) c.args.self.now c.end_word.new.self c.take_back-args.new.self
-    (c.in_ok-end_word.ensures.does F (extends_before c.call.ensures.asks e))
-    (c.take_back-args.ensures.back ∙ ap (λ (cut : Cut). record c.end_word.new.self { cut = cut })
-    (let same : c.into_inner.result ≡ c.args.outer.value = search rules in same)))
-    (c.call.ensures.does F e)
+    ∙ after_is F C c.args.outer.value (call_step F C c.args.name.now) (reached n c.args.self.now) (reached n c.end_word.new.self)
+    (reached n c.take_back-args.new.self) (c.in_ok-end_word.ensures.does n F (extends_before c.call.ensures.asks e))
+    (ap (reached n) c.take_back-args.ensures.back ∙ ap (λ (cut : Cut). record (reached n c.end_word.new.self) { cut = cut })
+    (let same : c.into_inner.result ≡ c.args.outer.value = search rules in same))) (c.call.ensures.does n F e)
 
 -- what was asked, where the word can't end
 pub returns-in_err-end_word-clause-asks : goal.returns-in_err-end_word-clause-asks

@@ -1,25 +1,27 @@
 use Rattle.drv_machine.proofs.Files.{file_ends, no_end}
 use Rattle.drv_machine.proofs.Steps.{gives_as}
 use Rattle.drv_machine.proofs.machine.Machine.end_file.Goals as goal
+use Rattle.drv_machine.specs.Code.Running.{reached}
 use Rattle.drv_system.proofs.AskedCalls.{asked_further, extends_before}
-use Rattle.std.proofs.Common.{rules, ◌∙◌}
+use Rattle.std.proofs.Common.{ap, rules, ◌∙◌}
 
 -- end_file (src/machine/filing.rt). The open word ends, and with it the file: its name is put, if it has words.
 
 -- the word that is open can't end: its look-up has a fault
 pub returns-in_err-end_word-clause-does : goal.returns-in_err-end_word-clause-does
-returns-in_err-end_word-clause-does g c F e =
-    let failed = no_end F c.args.context.now c.args.self.now c.in_err-end_word.field-0.0 (c.in_err-end_word.ensures.does F e) in
+returns-in_err-end_word-clause-does g c n F e =
+    let failed = no_end F c.args.context.now (reached n c.args.self.now) c.in_err-end_word.field-0.0 (c.in_err-end_word.ensures.does n F e)
+    in
     let handed = c.from_residual.ensures in search rules
 
 -- the last word of the file ends, and the file's name is put
 pub returns-clause-does : goal.returns-clause-does
-returns-clause-does g c F e =
-    gives_as c.put_file.new.self c.put_file.result _ _
-    (file_ends F c.args.context.now c.args.self.now c.end_word.new.self c.leave_file-words.new.self c.as_slice.result.now
-    (c.in_ok-end_word.ensures.does F (extends_before c.put_file.ensures.asks e))
-    (c.as_slice.ensures ∙ c.leave_file-words.ensures.words) c.leave_file-words.ensures.left)
-    (c.put_file.ensures.does F e)
+returns-clause-does g c n F e =
+    gives_as (reached n c.put_file.new.self) c.put_file.result _ _
+    (file_ends F c.args.context.now (reached n c.args.self.now) (reached n c.end_word.new.self) (reached n c.leave_file-words.new.self)
+    c.as_slice.result.now (c.in_ok-end_word.ensures.does n F (extends_before c.put_file.ensures.asks e))
+    (c.as_slice.ensures ∙ c.leave_file-words.ensures.words) (ap (reached n) c.leave_file-words.ensures.left))
+    (c.put_file.ensures.does n F e)
 
 -- what was asked, where the word can't end
 pub returns-in_err-end_word-clause-asks : goal.returns-in_err-end_word-clause-asks

@@ -1,5 +1,6 @@
 use Rattle.drv_machine.proofs.Cutter.{put_failed, put_last}
 use Rattle.drv_machine.proofs.machine.Machine.end_line.Goals as goal
+use Rattle.drv_machine.specs.Code.Running.{reached}
 use Rattle.drv_machine.specs.Working.{Break, End}
 use Rattle.std.proofs.Common.{[], ◌∷◌, rules}
 
@@ -7,13 +8,13 @@ use Rattle.std.proofs.Common.{[], ◌∷◌, rules}
 
 -- the word that is open can't end: its look-up has a fault
 pub returns-in_err-end_word-clause-does : goal.returns-in_err-end_word-clause-does
-returns-in_err-end_word-clause-does g c F e =
-    let failed = put_failed F c.args.context.now c.args.self.now (Break ∷ []) (End ∷ []) c.in_err-end_word.field-0.0
-    (c.in_err-end_word.ensures.does F e) in
+returns-in_err-end_word-clause-does g c n F e =
+    let failed = put_failed F c.args.context.now (reached n c.args.self.now) (Break ∷ []) (End ∷ []) c.in_err-end_word.field-0.0
+    (c.in_err-end_word.ensures.does n F e) in
     let handed = c.from_residual.ensures in search rules
 
 -- the word that is open ends, and so does the command
 pub returns-clause-does : goal.returns-clause-does
-returns-clause-does g c F e =
-    put_last F c.args.context.now c.args.self.now c.end_word.new.self c.close_line.new.self (Break ∷ []) (End ∷ []) c.close_line.result
-    (c.in_ok-end_word.ensures.does F e) (c.close_line.ensures.does F c.args.context.now)
+returns-clause-does g c n F e =
+    put_last F c.args.context.now (reached n c.args.self.now) (reached n c.end_word.new.self) (reached n c.close_line.new.self) (Break ∷ [])
+    (End ∷ []) c.close_line.result (c.in_ok-end_word.ensures.does n F e) (c.close_line.ensures.does n F c.args.context.now)

@@ -1,5 +1,6 @@
 use Rattle.drv_machine.proofs.Cutter.{argument_none, argument_open, put_failed, put_last, whole_failed, whole_last}
 use Rattle.drv_machine.proofs.machine.Machine.put_argument.Goals as goal
+use Rattle.drv_machine.specs.Code.Running.{reached}
 use Rattle.drv_machine.specs.Context.{argument}
 use Rattle.drv_machine.specs.Working.{Break, Put, word_of}
 use Rattle.drv_system.proofs.AskedCalls.{asked_further, extends_before}
@@ -9,39 +10,39 @@ use Rattle.std.proofs.Common.{◌∙◌, Some, [], ◌∷◌, ap, map, rules, sy
 
 -- the word of the switch can't end
 pub returns-in_err-end_word-clause-does : goal.returns-in_err-end_word-clause-does
-returns-in_err-end_word-clause-does g c F e =
-    let failed = put_failed F c.args.context.now c.args.self.now (Break ∷ [])
-    (word_of (argument c.args.context.now c.args.i)) c.in_err-end_word.field-0.0 (c.in_err-end_word.ensures.does F e) in
+returns-in_err-end_word-clause-does g c n F e =
+    let failed = put_failed F c.args.context.now (reached n c.args.self.now) (Break ∷ [])
+    (word_of (argument c.args.context.now c.args.i)) c.in_err-end_word.field-0.0 (c.in_err-end_word.ensures.does n F e) in
     let handed = c.from_residual.ensures in search rules
 
 -- the switch has no argument
 pub returns-in_default-clause-does : goal.returns-in_default-clause-does
-returns-in_default-clause-does g c F e =
-    argument_none F c.args.context.now c.args.self.now c.end_word.new.self (argument c.args.context.now c.args.i)
-    (sym c.argument.ensures ∙ c.in_default.is) (c.in_ok-end_word.ensures.does F e)
+returns-in_default-clause-does g c n F e =
+    argument_none F c.args.context.now (reached n c.args.self.now) (reached n c.end_word.new.self) (argument c.args.context.now c.args.i)
+    (sym c.argument.ensures ∙ c.in_default.is) (c.in_ok-end_word.ensures.does n F e)
 
 -- no memory for the argument
 pub returns-in_err-put-clause-does : goal.returns-in_err-put-clause-does
-returns-in_err-put-clause-does g c F e =
-    let whole = argument_open F c.args.context.now c.args.self.now c.end_word.new.self c.open.new.self
+returns-in_err-put-clause-does g c n F e =
+    let whole = argument_open F c.args.context.now (reached n c.args.self.now) (reached n c.end_word.new.self) (reached n c.open.new.self)
     (argument c.args.context.now c.args.i) c.as_bytes.result.now
-    (sym c.argument.ensures ∙ c.in-Some.is ∙ ap Some (sym c.as_bytes.ensures)) (c.in_ok-end_word.ensures.does F e)
-    (c.open.ensures.does F c.args.context.now) in
+    (sym c.argument.ensures ∙ c.in-Some.is ∙ ap Some (sym c.as_bytes.ensures)) (c.in_ok-end_word.ensures.does n F e)
+    (c.open.ensures.does n F c.args.context.now) in
     let failed = whole_failed F c.args.context.now c.in_err-put.field-0.0 whole
-    (put_failed F c.args.context.now c.open.new.self (map Put c.as_bytes.result.now) (Break ∷ []) c.in_err-put.field-0.0
-    (c.in_err-put.ensures.does F c.args.context.now)) in
+    (put_failed F c.args.context.now (reached n c.open.new.self) (map Put c.as_bytes.result.now) (Break ∷ []) c.in_err-put.field-0.0
+    (c.in_err-put.ensures n F c.args.context.now)) in
     let handed = c.from_residual-in_err-put.ensures in search rules
 
 -- the argument is put as a word
 pub returns-clause-does : goal.returns-clause-does
-returns-clause-does g c F e =
-    let whole = argument_open F c.args.context.now c.args.self.now c.end_word.new.self c.open.new.self
-    (argument c.args.context.now c.args.i) c.as_bytes.result.now
-    (sym c.argument.ensures ∙ c.in-Some.is ∙ ap Some (sym c.as_bytes.ensures))
-    (c.in_ok-end_word.ensures.does F (extends_before c.end_word-2.ensures.asks e)) (c.open.ensures.does F c.args.context.now) in
-    whole_last F c.args.context.now c.end_word-2.new.self c.end_word-2.result whole
-    (put_last F c.args.context.now c.open.new.self c.put.new.self c.end_word-2.new.self (map Put c.as_bytes.result.now)
-    (Break ∷ []) c.end_word-2.result (c.in_ok-put.ensures.does F c.args.context.now) (c.end_word-2.ensures.does F e))
+returns-clause-does g c n F e =
+    let whole = argument_open F c.args.context.now (reached n c.args.self.now) (reached n c.end_word.new.self) (reached n c.open.new.self)
+    (argument c.args.context.now c.args.i) c.as_bytes.result.now (sym c.argument.ensures ∙ c.in-Some.is ∙ ap Some (sym c.as_bytes.ensures))
+    (c.in_ok-end_word.ensures.does n F (extends_before c.end_word-2.ensures.asks e)) (c.open.ensures.does n F c.args.context.now) in
+    whole_last F c.args.context.now (reached n c.end_word-2.new.self) c.end_word-2.result whole
+    (put_last F c.args.context.now (reached n c.open.new.self) (reached n c.put.new.self) (reached n c.end_word-2.new.self)
+    (map Put c.as_bytes.result.now) (Break ∷ []) c.end_word-2.result (c.in_ok-put.ensures n F c.args.context.now)
+    (c.end_word-2.ensures.does n F e))
 
 -- what was asked, where the word of the switch can't end
 pub returns-in_err-end_word-clause-asks : goal.returns-in_err-end_word-clause-asks

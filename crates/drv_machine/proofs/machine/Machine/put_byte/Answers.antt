@@ -1,12 +1,13 @@
 use Rattle.drv_machine.proofs.Cutter.{bytes_put}
 use Rattle.drv_machine.proofs.machine.Machine.put_byte.Goals as goal
+use Rattle.drv_machine.specs.Code.Running.{reached}
 use Rattle.drv_machine.specs.contracts.machine.Machine.{the_view}
 use Rattle.std.proofs.Common.{◌∙◌, ◌++◌, ◌∷◌, [], ap, refl, sym}
 
 -- put_byte (src/machine.rt). A byte goes into the open word, or opens one.
 
 -- the byte goes into the open word, or opens one
-pub returns-clause-does : goal.returns-clause-does
-returns-clause-does c F C = rw (← c.self.view_is)
-    (bytes_put F C (the_view c.self.inside) (c.args.byte ∷ []) c.push.new.self.items refl
+pub returns : goal.returns
+returns c n F C = rw (← c.self.view_is)
+    (bytes_put F C (reached n (the_view c.self.inside)) (c.args.byte ∷ []) c.push.new.self.items refl
     (c.in_ok-push.ensures.ok ∙ ap (λ word. word ++ c.args.byte ∷ []) (sym c.self.invariant)))

@@ -1,11 +1,13 @@
 use Rattle.drv_machine.proofs.Cutter.{bytes_put}
 use Rattle.drv_machine.proofs.machine.Machine.put_bytes.Goals as goal
+use Rattle.drv_machine.specs.Code.Running.{reached}
+use Rattle.drv_machine.specs.contracts.machine.Machine.{the_view}
 use Rattle.std.proofs.Common.{◌∙◌, ◌++◌, ap, sym}
 
 -- put_bytes (src/machine.rt). Bytes go into the open word, or open one; no bytes change nothing.
 
 -- the bytes go into the open word, or open one
-pub returns-clause-does : goal.returns-clause-does
-returns-clause-does c F C = rw (← c.self.view_is)
-    (bytes_put F C _ c.args.bytes.now c.extend_from_slice.new.self.items c.if-is_empty.ensures
+pub returns : goal.returns
+returns c n F C = rw (← c.self.view_is)
+    (bytes_put F C (reached n (the_view c.self.inside)) c.args.bytes.now c.extend_from_slice.new.self.items c.if-is_empty.ensures
     (c.in_ok-extend_from_slice.ensures.ok ∙ ap (λ word. word ++ c.args.bytes.now) (sym c.self.invariant)))

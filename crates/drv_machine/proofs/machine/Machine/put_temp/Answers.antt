@@ -1,6 +1,7 @@
 use Rattle.drv_machine.proofs.Draws.{piped_out}
 use Rattle.drv_machine.proofs.Steps.{gives_as}
 use Rattle.drv_machine.proofs.machine.Machine.put_temp.Goals as goal
+use Rattle.drv_machine.specs.Code.Running.{reached}
 use Rattle.std.proofs.Common.{sym, ◌∙◌}
 
 -- put_temp (src/machine/naming.rt). The name of a temporary with this suffix is put; where commands are piped, `-` or nothing may take its
@@ -8,6 +9,6 @@ use Rattle.std.proofs.Common.{sym, ◌∙◌}
 
 -- with -pipe a %| is a hyphen
 pub returns-in-PipedOut-clause-does : goal.returns-in-PipedOut-clause-does
-returns-in-PipedOut-clause-does g c F e =
-    gives_as c.put.new.self c.put.result _ _ (piped_out F c.args.context.now c.args.self.now c.args.kind c.args.suffix.now c.in-PipedOut.is
-    (sym c.is_piping.ensures ∙ c.if-is_piping.true)) (c.put.ensures.does F c.args.context.now)
+returns-in-PipedOut-clause-does g c n F e =
+    gives_as (reached n c.put.new.self) c.put.result _ _ (piped_out F c.args.context.now (reached n c.args.self.now) c.args.kind
+    c.args.suffix.now c.in-PipedOut.is (sym c.is_piping.ensures ∙ c.if-is_piping.true)) (c.put.ensures n F c.args.context.now)

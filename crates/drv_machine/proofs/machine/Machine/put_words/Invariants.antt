@@ -1,19 +1,18 @@
 use Rattle.drv_machine.proofs.machine.Machine.put_words.Given as goal
-use Rattle.drv_machine.specs.Code.Running.{run}
+use Rattle.drv_machine.specs.Code.Running.{reached, run}
 use Rattle.drv_machine.specs.Working.{puts, words}
 use Rattle.drv_system.specs.Asking.{Extends}
 use Rattle.drv_system.specs.Code.Asked.{Asked}
 use Rattle.drv_system.specs.Facts.{Facts}
-use Rattle.std.proofs.Common.{drop, length, ◌≡◌}
+use Rattle.std.proofs.Common.{◌≡◌, drop, ℕ}
 
 -- The loops of put_words (src/machine/lists.rt). Whole words are put.
 
--- putting the words that are left gives what putting all would have given; no switch and no item is counted
+-- putting the words that are left gives what putting all would have given
 abbrev pub invariant-loop-word : goal.invariant-loop-word
 invariant-loop-word g l = record {
   asks : Asked g.S.System.events l.fn.outside l.outside;
-  sized : length l.self.world.hidden ≡ length l.fn.self.world.hidden;
-  uncounted : l.self.world.items ≡ l.fn.self.world.items;
-  left : (F : Facts) → Extends l.outside.facts.now F
-      → run F l.context l.self (puts (words (drop l.word-index l.list))) ≡ run F l.context l.fn.self (puts (words l.list));
+  left : (n : ℕ) (F : Facts) → Extends l.outside.facts.now F
+      → run F l.context (reached n l.self) (puts (words (drop l.word-index l.list))) ≡ run F l.context (reached n l.fn.self)
+      (puts (words l.list));
 }

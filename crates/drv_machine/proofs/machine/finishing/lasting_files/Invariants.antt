@@ -1,10 +1,10 @@
-use Rattle.drv_machine.proofs.machine.finishing.lasting.Given as goal
+use Rattle.drv_machine.proofs.machine.finishing.lasting_files.Given as goal
 use Rattle.drv_machine.specs.Working.{is_among}
 use Rattle.std.proofs.Common.{map, ◌≡◌}
 use Rattle.std.specs.List.{filter}
 use Rattle.std.specs.Prelude.{not}
 
--- The loops of lasting (src/machine/finishing.rt). Files, each once, and without the job's own temporaries.
+-- The loops of lasting_files (src/machine/finishing.rt). Files, each once, and without the job's own temporaries.
 
 -- the files kept are those so far that are no temporaries
 abbrev pub invariant-loop-file : goal.invariant-loop-file
