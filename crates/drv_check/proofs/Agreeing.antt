@@ -5,7 +5,8 @@ use Rattle.drv_check.proofs.PiecesRead.{pieces_read}
 use Rattle.drv_check.specs.Agreement.{Agrees, all_loaded, fault_in, fault_of, faults_of}
 use Rattle.drv_check.specs.Checked.{based, checked, checked_over, faults_alone, is_fault, tells_fault}
 use Rattle.drv_check.specs.Checks.{Enters, all_called, by_text, called, changed, entered, enters_at, file_checked, finding_of, noted}
-use Rattle.drv_check.specs.Checks.{numbered, open_file, opened, opened_of, pieces_checked, put_aside, spot_in, step, stepped, unchecked}
+use Rattle.drv_check.specs.Checks.{empty_check, open_file, opened, opened_of, pieces_checked, put_aside, spot_in, step, stepped}
+use Rattle.drv_check.specs.Checks.{with_number}
 use Rattle.drv_check.specs.Checks.{warned}
 use Rattle.drv_check.specs.Includes.{inclusion_in, read_text}
 use Rattle.drv_check.specs.Numbers.{AreRead, IsRead}
@@ -131,13 +132,14 @@ module _ (c : Checking) (file : OpenFile) (piece : Piece) where
       subst (λ x. Follows (faults_of c.findings) x (Is (Ok (record { set = set; files = c.files })))) (same_in is) (warned_faults, refl)
 
   -- Where the driver refuses a piece, the check notes that fault, with the number of the piece's line.
-  changed_ill : (enters : Enters) (fault told : SpecsFault) (c' : Checking) → numbered piece.number fault ≡ told
+  changed_ill : (enters : Enters) (fault told : SpecsFault) (c' : Checking) → with_number piece.number fault ≡ told
       → Alone enters (Err fault) c'
       → Follows (faults_of c.findings) c' (Is (Err told))
   changed_ill enters fault told c' same is =
       subst (λ x. Follows (faults_of c.findings) x (Is (Err told))) (same_in is) (
         [],
-        noted_faults (warned c file piece) _ (numbered piece.number fault) ∙ ap (λ fs. fs ++ numbered piece.number fault ∷ []) warned_faults
+        noted_faults (warned c file piece) _ (with_number piece.number fault) ∙ ap (λ fs. fs
+            ++ with_number piece.number fault ∷ []) warned_faults
             ∙ ap (λ f. faults_of c.findings ++ f ∷ []) same,
       )
 
@@ -467,15 +469,15 @@ agrees F prefixes c (Is (Err fault)) loads = loads
 module _ (F : Facts) (prefixes : Prefixes) (over names : List (List ℕ)) (c : Checking) where
   -- the faults of the files `over` are the driver's: leaving out their warnings changes none
   base_faults : (base : Checking) → based F prefixes over ≡ Is base → Loads F prefixes [] base (all_loaded F prefixes builtin_specs over)
-  base_faults base is = by (all_called F prefixes unchecked over) refl is
+  base_faults base is = by (all_called F prefixes empty_check over) refl is
     where
-      by : (known : Known Checking) → all_called F prefixes unchecked over ≡ known → (known >>= λ d. Is (faults_alone d)) ≡ Is base
+      by : (known : Known Checking) → all_called F prefixes empty_check over ≡ known → (known >>= λ d. Is (faults_alone d)) ≡ Is base
           → Loads F prefixes [] base (all_loaded F prefixes builtin_specs over)
       by Unasked calls more = absurd cc
       by (Is d) calls more =
           subst (λ x. Loads F prefixes [] x (all_loaded F prefixes builtin_specs over)) (same_in more)
           (loads_alike F prefixes [] d (faults_alone d) (all_loaded F prefixes builtin_specs over) (faults_stay d.findings) refl
-          (all_load F prefixes unchecked d over calls))
+          (all_load F prefixes empty_check d over calls))
 
   -- the faults of all files are the driver's, and judging the whole adds none
   over_agrees : checked_over F prefixes over names ≡ Is c

@@ -1,5 +1,5 @@
 use Rattle.drv_check.specs.Checked.{based, checked, checked_over, faults_alone, is_fault, tells_fault}
-use Rattle.drv_check.specs.Checks.{all_called, unchecked}
+use Rattle.drv_check.specs.Checks.{all_called, empty_check}
 use Rattle.drv_check.specs.Whole.{judged}
 use Rattle.drv_check.specs.declared.findings.Checking.{Checking}
 use Rattle.drv_check.specs.declared.findings.Finding.{Finding}
@@ -42,7 +42,7 @@ warning_goes kept yielded finding is before =
 
 module _ (F : Facts) (prefixes : Prefixes) (over : List (List ℕ)) where
   -- The files that are loaded first are checked over nothing, and their faults alone are kept.
-  pub base_checked : {E : Type 0} (start loaded : Checking) (result : Result Checking E) → start ≡ unchecked
+  pub base_checked : {E : Type 0} (start loaded : Checking) (result : Result Checking E) → start ≡ empty_check
       → all_called F prefixes start over ≡ Is loaded → IfOk result (λ kept. kept ≡ faults_alone loaded)
       → IfOk result (λ kept. based F prefixes over ≡ Is kept)
   base_checked start loaded (Err e) starts loads keeps = keeps

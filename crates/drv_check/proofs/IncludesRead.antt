@@ -3,8 +3,9 @@ use Rattle.drv_check.specs.Numbers.{IncludesAs}
 use Rattle.drv_check.specs.Pieces.{kind_of}
 use Rattle.drv_check.specs.declared.pieces.LineKind.TheVariants as kind
 use Rattle.drv_specs.specs.Blanks.{is_blank}
-use Rattle.drv_specs.specs.Directives.{Alone, Bad, Directive, Include, Passed, WithBody, by_keyword, included, renamed, start_of}
-use Rattle.drv_specs.specs.Lines.{is_empty_line, trimmed, without_front, words_of}
+use Rattle.drv_specs.specs.Directives.{Alone, Bad, Directive, Include, Passed, WithBody, by_keyword, include_directive, rename_directive}
+use Rattle.drv_specs.specs.Directives.{start_of}
+use Rattle.drv_specs.specs.Lines.{is_empty_line, trim, without_front, words_of}
 use Rattle.drv_specs.specs.Loading.{text_read}
 use Rattle.drv_system.specs.declared.event.ReadAnswer.TheVariants as read
 use Rattle.drv_system.specs.declared.event.ReadAnswer.{ReadAnswer}
@@ -45,7 +46,7 @@ answers_alike missing may reads misses fails large path read.TooLarge = large pa
 -- A line %include names the same file in the check and for the driver, or is no directive for both.
 included_as : (m n : ℕ) (missing : _) (may : Bool) (text : List ℕ)
     → ((path : List ℕ) (answer : ReadAnswer) → text_read missing path answer ≡ read_text may path answer)
-    → IncludesAs (inclusion_of may (included m missing text)) (included n missing text)
+    → IncludesAs (inclusion_of may (include_directive m missing text)) (include_directive n missing text)
 included_as m n missing may [] alike = refl
 included_as m n missing may (b ∷ text) alike = by (b == less_than && ends_with nat_eq text (greater_than ∷ []))
   where
@@ -55,7 +56,8 @@ included_as m n missing may (b ∷ text) alike = by (b == less_than && ends_with
     by false = refl
 
 -- A line %rename includes no file for either.
-renamed_as : (m n : ℕ) (may : Bool) (words : List (List ℕ)) → IncludesAs (inclusion_of may (renamed m words)) (renamed n words)
+renamed_as : (m n : ℕ) (may : Bool) (words : List (List ℕ)) → IncludesAs (inclusion_of may (rename_directive m words)) (rename_directive n
+    words)
 renamed_as m n may [] = refl
 renamed_as m n may (old ∷ []) = refl
 renamed_as m n may (old ∷ new ∷ []) = refl
@@ -82,13 +84,13 @@ passing = (_, codes "a", refl)
 -- The check and the driver read %include alike.
 refuses : (m n : ℕ) (line : List ℕ) (words : List (List ℕ)) → Alike m n line (codes "%include") words
 refuses m n line words =
-    included_as m n refusing.0 false (trimmed (drop (length (codes "%include")) line))
+    included_as m n refusing.0 false (trim (drop (length (codes "%include")) line))
     (answers_alike refusing.0 false (λ path text. refl) (λ path. refl) (λ path. refl) (λ path. refl))
 
 -- They read %include_noerr alike.
 passes : (m n : ℕ) (line : List ℕ) (words : List (List ℕ)) → Alike m n line (codes "%include_noerr") words
 passes m n line words =
-    included_as m n passing.0 true (trimmed (drop (length (codes "%include_noerr")) line))
+    included_as m n passing.0 true (trim (drop (length (codes "%include_noerr")) line))
     (answers_alike passing.0 true (λ path text. refl) (λ path. refl) (λ path. refl) (λ path. refl))
 
 -- a line that begins with %

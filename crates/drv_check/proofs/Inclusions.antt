@@ -1,12 +1,12 @@
 use Rattle.drv_check.specs.Includes.{inclusion_of, may_miss}
-use Rattle.drv_specs.specs.Directives.{by_keyword, renamed}
+use Rattle.drv_specs.specs.Directives.{by_keyword, rename_directive}
 use Rattle.std.proofs.Common.{◌≡◌, Bool, List, [], ◌∷◌, None, codes, nat_eq, refl, sym, true, ℕ}
 use Rattle.std.specs.Cmp.Lexicographic.{pointwise}
 
 -- For check_files (src/checking.rt): a line that renames a text includes no file.
 
 -- However many words a line %rename has, it includes nothing.
-none_renamed : (missing : Bool) (words : List (List ℕ)) → inclusion_of missing (renamed 1 words) ≡ None
+none_renamed : (missing : Bool) (words : List (List ℕ)) → inclusion_of missing (rename_directive 1 words) ≡ None
 none_renamed missing [] = refl
 none_renamed missing (old ∷ []) = refl
 none_renamed missing (old ∷ new ∷ []) = refl

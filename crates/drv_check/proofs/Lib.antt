@@ -11,6 +11,8 @@ mod Inclusions
 mod Judged
 mod LinesNumbered
 mod Lost
+mod MarkLaws
+mod MarkSteps
 mod Marks
 mod Namings
 mod OwnTrees

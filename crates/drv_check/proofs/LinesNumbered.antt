@@ -1,4 +1,4 @@
-use Rattle.drv_check.specs.Checks.{numbered}
+use Rattle.drv_check.specs.Checks.{with_number}
 use Rattle.drv_specs.proofs.Changes.{filled_body}
 use Rattle.drv_specs.specs.Blanks.{is_white}
 use Rattle.drv_specs.specs.Sets.{Set, append, appended_text, appends, begins_with_at, by_tree, ends_with_backslash, is_key, is_name}
@@ -21,7 +21,7 @@ use Rattle.std.specs.Prelude.{⊤}
 -- A refusal stays as it is when it gets the number of a line.
 abbrev pub Same : ℕ → {X : Type 0} → Result X SpecsFault → Type 0
 Same n (Ok x) = ⊤
-Same n (Err fault) = numbered n fault ≡ fault
+Same n (Err fault) = with_number n fault ≡ fault
 
 -- The refusal of a text by the grammar has no number.
 tree_same : (n : ℕ) {X : Type 0} (name : List ℕ) (x : X) (tree : Result Items SyntaxFault) → Same n (by_tree name x tree)

@@ -12,9 +12,9 @@ use Rattle.drv_specs.proofs.SettledLines.{Clean, last_back, last_is, settled_cle
 use Rattle.drv_specs.proofs.SettledTexts.{is_line_byte, is_settled, settled_same}
 use Rattle.drv_specs.specs.Blanks.{is_blank}
 use Rattle.drv_specs.specs.Directives.{Alone, Bad, Directive, Include, Pair, Passed, Start, Text, WithBody, body_lines, body_of, by_colon}
-use Rattle.drv_specs.specs.Directives.{by_key, by_keyword, directive_in, directives_of, first_line, included, is_colon, is_inside}
-use Rattle.drv_specs.specs.Directives.{opens_body, read_lines, read_settled, renamed, start_at, start_of}
-use Rattle.drv_specs.specs.Lines.{ends_line, is_empty_line, is_kept, lines_of, settled, trimmed, without_front, words_of}
+use Rattle.drv_specs.specs.Directives.{by_key, by_keyword, directive_in, directives_of, first_line, include_directive, is_colon, is_inside}
+use Rattle.drv_specs.specs.Directives.{opens_body, read_lines, read_settled, rename_directive, start_at, start_of}
+use Rattle.drv_specs.specs.Lines.{ends_line, is_empty_line, is_kept, lines_of, settle, trim, without_front, words_of}
 use Rattle.drv_specs.specs.Sets.{ends_with_backslash}
 use Rattle.drv_words.specs.Bytes.{asterisk, greater_than, less_than, newline, number_sign, percent}
 use Rattle.std.proofs.Common.{◌≡◌, ◌⊎◌, ◌+◌, ◌-◌, ◌∙◌, ◌==◌, ◌&&◌, Bool, List, [], ◌∷◌, ◌++◌, None, Option, Some, ap, append_assoc, codes}
@@ -44,14 +44,15 @@ colon_renumbered m n line lines None = refl
 colon_renumbered m n line lines (Some at) = key_renumbered m (take at line) (body_of (drop (at + 1) line) lines)
 
 -- a line %rename by another number is that line with the number
-rename_renumbered : (m n : ℕ) (words : List (List ℕ)) → renumbered m (renamed n words) ≡ renamed m words
+rename_renumbered : (m n : ℕ) (words : List (List ℕ)) → renumbered m (rename_directive n words) ≡ rename_directive m words
 rename_renumbered m n [] = refl
 rename_renumbered m n (old ∷ []) = refl
 rename_renumbered m n (old ∷ new ∷ []) = refl
 rename_renumbered m n (old ∷ new ∷ word ∷ words) = refl
 
 -- a line %include by another number is that line with the number
-include_renumbered : (m n : ℕ) (missing : _) (text : List ℕ) → renumbered m (included n missing text) ≡ included m missing text
+include_renumbered : (m n : ℕ) (missing : _) (text : List ℕ) → renumbered m (include_directive n missing text)
+    ≡ include_directive m missing text
 include_renumbered m n missing [] = refl
 include_renumbered m n missing (b ∷ text) = by (b == less_than && ends_with nat_eq text (greater_than ∷ []))
   where
@@ -71,8 +72,8 @@ keyword_renumbered m n line (word ∷ words) =
         → (e : Bool) → pointwise nat_eq word (codes "%include_noerr") ≡ e
         → renumbered m (by_keyword n line (word ∷ words)) ≡ by_keyword m line (word ∷ words)
     by true r i i' e e' = rw r (rename_renumbered m n words)
-    by false r true i e e' = rw r (rw i (include_renumbered m n _ (trimmed (drop (length word) line))))
-    by false r false i true e = rw r (rw i (rw e (include_renumbered m n _ (trimmed (drop (length word) line)))))
+    by false r true i e e' = rw r (rw i (include_renumbered m n _ (trim (drop (length word) line))))
+    by false r false i true e = rw r (rw i (rw e (include_renumbered m n _ (trim (drop (length word) line)))))
     by false r false i false e = rw r (rw i (rw e refl))
 
 -- the lines of a body, once more
@@ -372,5 +373,5 @@ both (line ∷ lines) clean =
     (outside_more line lines clean.0 clean.1.0 rest.0 rest.1, inside_more line lines clean.0 clean.1.0 rest.0 rest.1)
 
 -- the pieces of what is left of a text are its directives
-pub pieces_read : (text : List ℕ) → AreRead (pieces_of (settled text)) (directives_of text)
-pieces_read text = (both (lines_of (settled text)) (settled_clean text)).0 1 0
+pub pieces_read : (text : List ℕ) → AreRead (pieces_of (settle text)) (directives_of text)
+pieces_read text = (both (lines_of (settle text)) (settled_clean text)).0 1 0

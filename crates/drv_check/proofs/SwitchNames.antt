@@ -4,7 +4,7 @@ use Rattle.drv_check.specs.SwitchNames.{names_switch, part_names, parts_name, pi
 use Rattle.drv_check.specs.Pieces.{pieces_of}
 use Rattle.drv_check.specs.declared.pieces.Piece.{Piece}
 use Rattle.drv_specs.specs.Dumping.{dumped}
-use Rattle.drv_specs.specs.Lines.{settled}
+use Rattle.drv_specs.specs.Lines.{settle}
 use Rattle.drv_specs.specs.Sets.{Set}
 use Rattle.drv_syntax.specs.Labels.{label_at}
 use Rattle.drv_syntax.specs.Parsed.{tree_of}
@@ -52,9 +52,9 @@ tree_lacks name piece own has gives = ap (λ t. tree_names name t) (sym (ap tree
 
 -- The pieces that the code reads are those of the set's dump.
 pub set_names : {E : Type 0} (set : Set) (name dump left : List ℕ) (pieces : List Piece) (result : Result Bool E) → dump ≡ dumped set
-    → left ≡ settled dump → pieces ≡ pieces_of left → IfOk result (λ is. is ≡ list_any (piece_names name) pieces)
+    → left ≡ settle dump → pieces ≡ pieces_of left → IfOk result (λ is. is ≡ list_any (piece_names name) pieces)
     → IfOk result (λ is. is ≡ names_switch set name)
 unfolding names_switch
 set_names set name dump left pieces (Err e) one two three names = names
 set_names set name dump left pieces (Ok is) one two three names =
-    names ∙ ap (list_any (piece_names name)) (three ∙ ap pieces_of (two ∙ ap settled one))
+    names ∙ ap (list_any (piece_names name)) (three ∙ ap pieces_of (two ∙ ap settle one))

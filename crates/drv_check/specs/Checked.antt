@@ -1,4 +1,4 @@
-use Rattle.drv_check.specs.Checks.{all_called, unchecked}
+use Rattle.drv_check.specs.Checks.{all_called, empty_check}
 use Rattle.drv_check.specs.Whole.{judged}
 use Rattle.drv_check.specs.declared.findings.Checking.{Checking}
 use Rattle.drv_check.specs.declared.findings.Finding.{Finding}
@@ -29,7 +29,7 @@ faults_alone c = record c { findings = filter tells_fault c.findings }
 
 -- the check of the files `over`: their faults, and the set that they make
 abbrev pub based : Facts → Prefixes → List (List ℕ) → Known Checking
-based F prefixes over = all_called F prefixes unchecked over >>= λ c. Is (faults_alone c)
+based F prefixes over = all_called F prefixes empty_check over >>= λ c. Is (faults_alone c)
 
 -- the check of the files `names` over that set, with what only the whole shows
 abbrev pub checked_over : Facts → Prefixes → List (List ℕ) → List (List ℕ) → Known Checking

@@ -16,7 +16,7 @@ use Rattle.drv_search.specs.Search.{file_found}
 use Rattle.drv_search.specs.declared.prefixes.Prefixes.{Prefixes}
 use Rattle.drv_specs.specs.Blanks.{is_blank}
 use Rattle.drv_specs.specs.Builtin.{builtin_specs}
-use Rattle.drv_specs.specs.Lines.{settled}
+use Rattle.drv_specs.specs.Lines.{settle}
 use Rattle.drv_specs.specs.Loading.{loaded, most_files, most_levels}
 use Rattle.drv_specs.specs.Sets.{Set}
 use Rattle.drv_specs.specs.declared.fault.SpecsFault.TheVariants.{BadLine, IncludeTooDeep, TooManyIncludes}
@@ -36,9 +36,9 @@ abbrev pub noted : Checking → Option Spot → Note → Checking
 noted c spot note = record c { findings = c.findings ++ record { spot = spot; note = note } ∷ [] }
 
 -- a line that is no directive has its number in its file
-abbrev pub numbered : ℕ → SpecsFault → SpecsFault
-numbered n (BadLine m) = BadLine n
-numbered n fault = fault
+abbrev pub with_number : ℕ → SpecsFault → SpecsFault
+with_number n (BadLine m) = BadLine n
+with_number n fault = fault
 
 -- where a byte of a piece is in its file
 abbrev pub spot_at : OpenFile → ℕ → Option Spot
@@ -59,7 +59,7 @@ warned c file piece = record c { findings = c.findings ++ map (finding_of file p
 -- the effect of a piece that is loaded as a text by itself
 abbrev pub faulty : Checking → OpenFile → Piece → SpecsFault → Checking
 faulty c file piece fault =
-    noted c (spot_at file (point c.set piece.text (drop piece.start file.places) file.size fault)) (Fault (numbered piece.number fault))
+    noted c (spot_at file (point c.set piece.text (drop piece.start file.places) file.size fault)) (Fault (with_number piece.number fault))
 
 -- a check after a piece was loaded: its set is another, or a fault is noted and the set stays
 abbrev pub changed : Checking → OpenFile → Piece → Known (Result Set SpecsFault) → Known Checking
@@ -69,7 +69,7 @@ changed c file piece (Is (Err fault)) = Is (faulty c file piece fault)
 
 -- a file whose text was read: it is the next of the sources
 abbrev pub open_file : ℕ → List ℕ → OpenFile
-open_file number text = record { number = number; size = length text; places = places_of text; pieces = pieces_of (settled text) }
+open_file number text = record { number = number; size = length text; places = places_of text; pieces = pieces_of (settle text) }
 
 -- a file that was read, as the next of the sources and open; or the fault of one that can't be read
 abbrev pub by_text : Checking → Option Spot → List ℕ → Result (List ℕ) SpecsFault → Checking × Option OpenFile
@@ -146,5 +146,5 @@ all_called F prefixes c [] = Is c
 all_called F prefixes c (name ∷ names) = called F prefixes c name >>= λ c'. all_called F prefixes c' names
 
 -- a check of nothing yet: gcc's own texts, and no findings
-abbrev pub unchecked : Checking
-unchecked = record { set = builtin_specs; files = most_files; sources = []; findings = [] }
+abbrev pub empty_check : Checking
+empty_check = record { set = builtin_specs; files = most_files; sources = []; findings = [] }

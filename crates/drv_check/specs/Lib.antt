@@ -8,6 +8,9 @@ pub mod Differing
 pub mod FaultNotes
 pub mod Includes
 pub mod LostMarks
+pub mod MarkWords
+pub mod MarkedParts
+pub mod Markings
 pub mod Namings
 pub mod Numbers
 pub mod Origins

@@ -40,8 +40,8 @@ deed_of kinds.Test asks = test_deed asks
 deed_of kind asks = None
 
 -- a part of a text with this head, as it is written
-abbrev pub written : List ℕ → Token → List ℕ
-written text token = take (token.end - token.start) (drop token.start text)
+abbrev pub written_part : List ℕ → Token → List ℕ
+written_part text token = take (token.end - token.start) (drop token.start text)
 
 -- the naming of a token that has a deed
 abbrev pub naming_if : List ℕ → List ℕ → List Spot → Token → Label → Option Deed → List Naming
@@ -51,7 +51,7 @@ naming_if head text spots token label (Some deed) = record {
   deed = deed;
   word = label.word;
   starred = label.starred;
-  written = written text token;
+  written = written_part text token;
   spot = spot_at spots (length text) token.start;
 } ∷ []
 

@@ -1,4 +1,4 @@
-use Rattle.drv_check.specs.Checks.{all_called, open_file, unchecked}
+use Rattle.drv_check.specs.Checks.{all_called, empty_check, open_file}
 use Rattle.drv_check.specs.OwnTexts.{own_start}
 use Rattle.drv_check.specs.Points.{body_start, front_length, is_addition}
 use Rattle.drv_check.specs.Whole.{is_key}
@@ -24,7 +24,7 @@ use Rattle.std.specs.Prelude.{nat_lt, slice_get, take, true, ℕ}
 
 -- the files of a line and those that they include, found along prefixes, in the order in which they were opened
 abbrev pub sources_found : Facts → Prefixes → List (List ℕ) → Known (List Source)
-sources_found F prefixes names = all_called F prefixes unchecked names >>= λ c. Is c.sources
+sources_found F prefixes names = all_called F prefixes empty_check names >>= λ c. Is c.sources
 
 -- the files of a line and those that they include, found along the line's folders and the usual ones
 abbrev pub sources_of : Facts → List (List ℕ) → List (List ℕ) → Known (List Source)

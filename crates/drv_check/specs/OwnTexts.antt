@@ -6,7 +6,7 @@ use Rattle.std.specs.List.{position}
 use Rattle.std.specs.Prelude.{◌+◌, Bool, List, None, Option, Some, drop, if◌then◌else◌, ℕ}
 
 -- The text that a piece gives, read alone (GCC manual, "Spec Files"): its body, or what its body adds to a text.
--- For clauses of src/own_text.rt and src/naming.rt.
+-- For clauses of src/own_text.rt, src/marking.rt and src/naming.rt.
 
 -- how many bytes the + of an addition takes: they are not of its text
 abbrev pub plus_length : Bool → ℕ

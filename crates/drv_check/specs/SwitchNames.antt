@@ -4,7 +4,7 @@ use Rattle.drv_check.specs.Pieces.{pieces_of}
 use Rattle.drv_check.specs.declared.pieces.Piece.{Piece}
 use Rattle.drv_match.specs.Matching.{is_named}
 use Rattle.drv_specs.specs.Dumping.{dumped}
-use Rattle.drv_specs.specs.Lines.{settled}
+use Rattle.drv_specs.specs.Lines.{settle}
 use Rattle.drv_specs.specs.Sets.{Set}
 use Rattle.drv_syntax.specs.Labels.{Label, label_at}
 use Rattle.drv_syntax.specs.Tokens.{tokens_of}
@@ -47,4 +47,4 @@ piece_names name piece = tree_names name (own_tree piece.text)
 
 -- the texts are those of the dump of the set
 unfoldable pub names_switch : Set → List ℕ → Bool
-names_switch set name = list_any (piece_names name) (pieces_of (settled (dumped set)))
+names_switch set name = list_any (piece_names name) (pieces_of (settle (dumped set)))

@@ -6,7 +6,7 @@ use Rattle.drv_check.specs.declared.findings.Warning.TheVariants.{UnusedText}
 use Rattle.drv_check.specs.declared.pieces.Piece.{Piece}
 use Rattle.drv_check.specs.declared.warning.Mark.{Mark}
 use Rattle.drv_specs.specs.Blanks.{is_blank}
-use Rattle.drv_specs.specs.Lines.{settled}
+use Rattle.drv_specs.specs.Lines.{settle}
 use Rattle.drv_specs.specs.Sets.{Set, text_of}
 use Rattle.drv_syntax.specs.Labels.{Label, label_at}
 use Rattle.drv_syntax.specs.Tokens.{tokens_of}
@@ -72,7 +72,7 @@ piece_names piece = names_in (own_tree piece.text)
 
 -- the names of texts that the pieces of a file work
 abbrev pub source_names : Source → List (List ℕ)
-source_names source = flat_map piece_names (pieces_of (settled source.text))
+source_names source = flat_map piece_names (pieces_of (settle source.text))
 
 -- A piece that puts a text which is in the set, by the names that texts work.
 

@@ -91,8 +91,8 @@ fn test_at(tree: &SpecTree, place: usize) -> Ask<'_>
 {
     Ask {
         word: tree.word(place),
-        starred: tree.starred(place),
-        negated: tree.negated(place),
+        starred: tree.is_starred(place),
+        negated: tree.is_negated(place),
         asks: tree.asks(place),
     }
 }

@@ -2,7 +2,7 @@
 
 ghost use Rattle.drv_check.specs.Points.{front_length};
 ghost use Rattle.drv_specs.specs.Blanks.{has_byte, is_blank, is_white};
-ghost use Rattle.drv_specs.specs.Lines.{is_empty_line, lines_of, trimmed, without_end, without_front};
+ghost use Rattle.drv_specs.specs.Lines.{is_empty_line, lines_of, trim, without_end, without_front};
 ghost use Rattle.drv_specs.specs.Lines.{words_of};
 ghost use Rattle.drv_specs.specs.Code.Slices.{bytes_from, lines_from};
 ghost use Rattle.std.specs.List.{position};
@@ -121,8 +121,8 @@ fn without_end_blanks(text: &[u8]) -> &[u8]
 }
 
 /// A text without the blanks around it.
-pub(crate) fn trimmed(text: &[u8]) -> &[u8]
-    ensures { result.now ≡ trimmed text.now }
+pub(crate) fn trim(text: &[u8]) -> &[u8]
+    ensures { result.now ≡ trim text.now }
 {
     without_end_blanks(without_blanks(text))
 }

@@ -8,7 +8,7 @@ ghost use Rattle.drv_system.specs.Facts.{Facts};
 ghost use Rattle.drv_system.specs.Known.{Is};
 ghost use Rattle.std.specs.Prelude.{◌≡◌, IfOk};
 
-use crate::findings::{Checking, MOST_FILES, Note, unchecked};
+use crate::findings::{Checking, MOST_FILES, Note, empty_check};
 use crate::including::Inclusion;
 use crate::judging::judge;
 use crate::opening::{OpenFile, open};
@@ -134,7 +134,7 @@ fn check_base<S: System>(
     ensures checks { (F : Facts) → Extends outside.new.facts.now F
         → IfOk result (λ checking. based F prefixes.now over.now ≡ Is checking) }
 {
-    let mut checking = unchecked(alloc)?;
+    let mut checking = empty_check(alloc)?;
     check_all(alloc, &mut checking, over, prefixes, outside)?;
     faults_alone(alloc, checking)
 }

@@ -1,6 +1,6 @@
 //! What a check finds, and in which files.
 
-ghost use Rattle.drv_check.specs.Checks.{noted, unchecked};
+ghost use Rattle.drv_check.specs.Checks.{empty_check, noted};
 ghost use Rattle.std.specs.Prelude.{◌≡◌, IfOk, OnOk};
 
 use drv_specs::{SpecSet, SpecsFault, builtin};
@@ -86,8 +86,8 @@ pub struct Checking {
 pub(crate) const MOST_FILES: usize = 2000;
 
 /// A check of nothing yet, over the built-in set.
-pub(crate) fn unchecked(alloc: Global) -> Result<Checking, AllocError>
-    ensures { IfOk result (λ checking. checking ≡ unchecked) }
+pub(crate) fn empty_check(alloc: Global) -> Result<Checking, AllocError>
+    ensures { IfOk result (λ checking. checking ≡ empty_check) }
 {
     Ok(Checking {
         set: builtin(alloc)?,

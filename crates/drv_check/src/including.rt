@@ -1,11 +1,11 @@
 //! The file that a piece includes.
 
 ghost use Rattle.drv_check.specs.Includes.{inclusion_in, inclusion_of, may_miss};
-ghost use Rattle.drv_specs.specs.Directives.{by_keyword, included};
+ghost use Rattle.drv_specs.specs.Directives.{by_keyword, include_directive};
 ghost use Rattle.drv_specs.specs.Lines.{words_of};
 ghost use Rattle.std.specs.Prelude.{◌≡◌, IfOk};
 
-use crate::bytes::{following, next_word, trimmed, without_blanks, without_last};
+use crate::bytes::{following, next_word, trim, without_blanks, without_last};
 use drv_words::Word;
 use std::alloc::{AllocError, Global};
 
@@ -19,10 +19,10 @@ pub(crate) struct Inclusion {
 }
 
 /// The file of a line `%include`, by what follows that.
-fn included(alloc: Global, may_miss: bool, text: &[u8]) -> Result<Option<Inclusion>, AllocError>
+fn inclusion_of(alloc: Global, may_miss: bool, text: &[u8]) -> Result<Option<Inclusion>, AllocError>
     ensures { IfOk result
         (λ inclusion. (if_missing : _) → inclusion
-        ≡ inclusion_of may_miss (included 1 if_missing text.now)) }
+        ≡ inclusion_of may_miss (include_directive 1 if_missing text.now)) }
 {
     match text {
         [b'<', file @ ..] if file.ends_with(b">") => Ok(Some(Inclusion {
@@ -46,13 +46,13 @@ fn by_keyword(alloc: Global, line: &[u8]) -> Result<Option<Inclusion>, AllocErro
     if word == b"%rename".as_slice() {
         return Ok(None);
     }
-    let rest = trimmed(following(line, word.len()));
+    let rest = trim(following(line, word.len()));
     let may_miss = word == b"%include_noerr".as_slice();
     if word == b"%include".as_slice() {
-        return included(alloc, may_miss, rest);
+        return inclusion_of(alloc, may_miss, rest);
     }
     if may_miss {
-        return included(alloc, may_miss, rest);
+        return inclusion_of(alloc, may_miss, rest);
     }
     Ok(None)
 }

@@ -14,7 +14,7 @@ ghost use Rattle.drv_search.specs.Search.{prefixes_of};
 ghost use Rattle.drv_search.specs.declared.prefixes.Prefixes.{Prefixes};
 ghost use Rattle.drv_specs.specs.Builtin.{builtin_specs};
 ghost use Rattle.drv_specs.specs.Directives.{directives_of};
-ghost use Rattle.drv_specs.specs.Lines.{settled};
+ghost use Rattle.drv_specs.specs.Lines.{settle};
 ghost use Rattle.drv_specs.specs.Sets.{Set};
 ghost use Rattle.drv_syntax.specs.Labels.{Label};
 ghost use Rattle.drv_syntax.specs.declared.token.TestKind.TheVariants as asking;
@@ -27,7 +27,7 @@ ghost use Rattle.std.specs.Prelude.{◌≡◌, ◌++◌, Bool, List, [], true, �
 /// and gives nothing.
 #[tactic(auto, using(crate::proofs::PiecesRead::pieces_read))]
 pub fn pieces_are_directives()
-    ensures { (text : List ℕ) → AreRead (pieces_of (settled text)) (directives_of text) }
+    ensures { (text : List ℕ) → AreRead (pieces_of (settle text)) (directives_of text) }
 {}
 
 /// The law that a check finds no fault exactly where the driver loads the files, those that are

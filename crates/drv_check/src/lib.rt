@@ -11,6 +11,9 @@ mod including;
 mod judging;
 mod laws;
 mod lost_marks;
+mod mark_laws;
+mod mark_words;
+mod marking;
 mod naming;
 mod opening;
 mod origins;
@@ -36,6 +39,9 @@ pub use findings::{Checking, Finding, Note, Source, Spot, Warning};
 pub use laws::{
     covered_tests_are_true, first_fault_is_refusal, noted_fault_is_refusal, pieces_are_directives,
 };
+pub use mark_laws::marks_are_in_order;
+pub use mark_words::marked_text;
+pub use marking::{Joint, MarkedPart, marked_parts};
 pub use naming::{Deed, Naming, namings_of};
 pub use pieces::{Piece, pieces_of};
 pub use seeking::sources_of;

@@ -1,7 +1,7 @@
 //! The parts of a set's texts that name switches.
 
 ghost use Rattle.drv_check.specs.Namings.{deed_of, headed_namings, naming_if, namings_of, piece_namings};
-ghost use Rattle.drv_check.specs.Namings.{test_deed, token_namings, tree_namings, written};
+ghost use Rattle.drv_check.specs.Namings.{test_deed, token_namings, tree_namings, written_part};
 ghost use Rattle.drv_check.specs.OwnTexts.{own_text, own_tree};
 ghost use Rattle.drv_syntax.specs.Labels.{label_at};
 ghost use Rattle.drv_syntax.specs.Parsed.{tree_of};
@@ -69,8 +69,8 @@ fn deed_of(kind: TokenKind, asks: TestKind) -> Option<Deed>
 }
 
 /// A part of a text as it is written.
-fn written(text: &[u8], token: Token) -> &[u8]
-    ensures { result.now ≡ written text.now token }
+fn written_part(text: &[u8], token: Token) -> &[u8]
+    ensures { result.now ≡ written_part text.now token }
 {
     let start = token.start as usize;
     let size = (token.end as usize).saturating_sub(start);
@@ -106,8 +106,8 @@ fn push_naming(
         head: Word::from_bytes(alloc, text.head)?,
         deed,
         word: Word::from_bytes(alloc, text.tree.word(place))?,
-        starred: text.tree.starred(place),
-        written: Word::from_bytes(alloc, written(bytes, token))?,
+        starred: text.tree.is_starred(place),
+        written: Word::from_bytes(alloc, written_part(bytes, token))?,
         spot: spot_at(text.spots, bytes.len(), token.start as usize),
     })?;
     Ok(())

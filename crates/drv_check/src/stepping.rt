@@ -1,6 +1,7 @@
 //! One piece of a file is checked.
 
-ghost use Rattle.drv_check.specs.Checks.{changed, faulty, finding_of, numbered, spot_in, step, warned};
+ghost use Rattle.drv_check.specs.Checks.{changed, faulty, finding_of, spot_in, step, warned};
+ghost use Rattle.drv_check.specs.Checks.{with_number};
 ghost use Rattle.drv_specs.specs.Loading.{loaded};
 ghost use Rattle.drv_system.specs.Asking.{Extends};
 ghost use Rattle.drv_system.specs.Code.Asked.{Asked};
@@ -22,8 +23,8 @@ use drv_words::Listing;
 use std::alloc::{AllocError, Global};
 
 /// A fault with this number, if it is of a line.
-fn numbered(number: usize, fault: SpecsFault) -> SpecsFault
-    ensures { result ≡ numbered number fault }
+fn with_number(number: usize, fault: SpecsFault) -> SpecsFault
+    ensures { result ≡ with_number number fault }
 {
     match fault {
         SpecsFault::BadLine(_) => SpecsFault::BadLine(number),
@@ -66,7 +67,7 @@ fn note_fault(
     add_note(
         checking,
         Some(spot),
-        Note::Fault(numbered(piece.number, fault)),
+        Note::Fault(with_number(piece.number, fault)),
     )
 }
 

@@ -22,7 +22,7 @@ fn is_named(tree: &SpecTree, place: usize, name: &[u8]) -> bool
     ensures { result ≡ is_named (pattern_of (label_at (tree_of tree.now) place)) name.now }
 {
     let word = tree.word(place);
-    if tree.starred(place) {
+    if tree.is_starred(place) {
         name.starts_with(word)
     } else {
         name == word

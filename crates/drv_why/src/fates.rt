@@ -1,7 +1,6 @@
 //! What becomes of the switches of a line.
 
-ghost use Rattle.drv_match.specs.Matching.{cancels, has_negative, is_broad, is_level, is_named, is_negative_of, negative};
-ghost use Rattle.drv_why.specs.Fates.{argument_text, canceller, cancelled_line, cancelled_text, concerns, deed_text, fate_text};
+ghost use Rattle.drv_why.specs.Fates.{argument_text, cancelled_line, cancelled_text, concerns, deed_text, fate_text};
 ghost use Rattle.drv_why.specs.Fates.{fates_text, lines_text, naming_text, namings_text, or_unnamed, pattern_of};
 ghost use Rattle.drv_why.specs.Fates.{source_text, spot_text, switch_text, takes, text_if};
 ghost use Rattle.drv_why.specs.FatesJson.{fates_report};
@@ -11,9 +10,11 @@ ghost use Rattle.std.specs.Option.{option_map};
 ghost use Rattle.std.specs.Prelude.{◌≡◌, ◌∷◌, ◌++◌, IfOk, OnOk, decimal, is_none, Some};
 
 use crate::fates_json::fates_json;
+use crate::matching::{canceller, is_broad, is_named};
 use crate::report::Report;
 use drv_args::Switch;
 use drv_check::{Deed, Naming, Source, Spot};
+use drv_match::Pattern;
 use drv_place::{line_before, line_number};
 use drv_words::{Word, quote};
 use itoa::Buffer;
@@ -26,91 +27,14 @@ pub(crate) struct Parts<'a> {
     pub(crate) namings: &'a [Naming],
 }
 
-/// Whether this is an optimization level, such as `O2`.
-fn is_level(name: &[u8]) -> bool
-    ensures { result ≡ is_level name.now }
+/// The pattern of switches that a part names.
+fn pattern_of(naming: &Naming) -> Pattern<'_>
+    ensures { result ≡ pattern_of naming.now }
 {
-    matches!(name, [b'O', ..])
-}
-
-/// Whether the name has a negative form.
-fn has_negative(name: &[u8]) -> bool
-    ensures { result ≡ has_negative name.now }
-{
-    matches!(name, [b'f' | b'm' | b'W', ..])
-}
-
-/// The negative form of a name.
-fn negative(alloc: Global, name: &[u8]) -> Result<Word, AllocError>
-    ensures { IfOk result (λ form. form ≡ negative name.now) }
-{
-    let mut form = Word::empty(alloc);
-    if let [letter, rest @ ..] = name {
-        form.push(*letter)?;
-        form.extend_from_slice(b"no-")?;
-        form.extend_from_slice(rest)?;
+    Pattern {
+        name: naming.word.as_bytes(),
+        star: naming.starred,
     }
-    Ok(form)
-}
-
-/// Whether the first name is the negative form of the second.
-fn is_negative_of(alloc: Global, other: &[u8], name: &[u8]) -> Result<bool, AllocError>
-    ensures { IfOk result (λ is. is ≡ is_negative_of other.now name.now) }
-{
-    if !has_negative(name) {
-        return Ok(false);
-    }
-    let form = negative(alloc, name)?;
-    Ok(form.as_bytes() == other)
-}
-
-/// Whether a later switch cancels an earlier one, by their names.
-fn cancels(alloc: Global, later: &[u8], name: &[u8]) -> Result<bool, AllocError>
-    ensures { IfOk result (λ is. is ≡ cancels later.now name.now) }
-{
-    if is_level(later) && is_level(name) {
-        return Ok(true);
-    }
-    if is_negative_of(alloc, later, name)? {
-        return Ok(true);
-    }
-    is_negative_of(alloc, name, later)
-}
-
-/// The name of the first of later switches that cancels one of this name.
-#[tactic(auto, using(crate::proofs::SwitchFates::cancelled, crate::proofs::SwitchFates::kept, crate::proofs::SwitchFates::none_left))]
-pub(crate) fn canceller<'a>(
-    alloc: Global,
-    later: &'a [Switch],
-    name: &[u8],
-) -> Result<Option<&'a Word>, AllocError>
-    ensures { IfOk result
-        (λ by. option_map (λ word. word.now) by ≡ canceller later.now name.now) }
-{
-    for switch in later {
-        if cancels(alloc, switch.name.as_bytes(), name)? {
-            return Ok(Some(&switch.name));
-        }
-    }
-    Ok(None)
-}
-
-/// Whether the pattern of a part names a switch.
-fn is_named(naming: &Naming, name: &[u8]) -> bool
-    ensures { result ≡ is_named (pattern_of naming.now) name.now }
-{
-    if naming.starred {
-        name.starts_with(naming.word.as_bytes())
-    } else {
-        name == naming.word.as_bytes()
-    }
-}
-
-/// Whether the pattern of a part also hits cancelled switches.
-fn is_broad(naming: &Naming) -> bool
-    ensures { result ≡ is_broad (pattern_of naming.now) }
-{
-    naming.starred && naming.word.len() <= 1
 }
 
 /// Whether a part takes a switch that it names.
@@ -119,7 +43,7 @@ fn takes(naming: &Naming, live: bool) -> bool
 {
     match naming.deed {
         Deed::Hides => true,
-        Deed::Passes | Deed::Tests => is_broad(naming) || live,
+        Deed::Passes | Deed::Tests => is_broad(&pattern_of(naming)) || live,
     }
 }
 
@@ -127,7 +51,7 @@ fn takes(naming: &Naming, live: bool) -> bool
 pub(crate) fn concerns(name: &[u8], live: bool, naming: &Naming) -> bool
     ensures { result ≡ concerns name.now live naming.now }
 {
-    is_named(naming, name) && takes(naming, live)
+    is_named(&pattern_of(naming), name) && takes(naming, live)
 }
 
 /// Adds a number in decimal digits.
@@ -150,7 +74,11 @@ fn push_source(text: &mut Word, source: &Source, at: usize) -> Result<(), AllocE
 }
 
 /// Adds where a part is.
-fn push_spot(text: &mut Word, sources: &[Source], spot: Option<Spot>) -> Result<(), AllocError>
+pub(crate) fn push_spot(
+    text: &mut Word,
+    sources: &[Source],
+    spot: Option<Spot>,
+) -> Result<(), AllocError>
     ensures { OnOk result (text.new ≡ text.old ++ spot_text sources.now spot) }
 {
     let Some(spot) = spot else {

@@ -5,13 +5,14 @@ ghost use Rattle.drv_why.specs.Fates.{canceller};
 ghost use Rattle.drv_why.specs.FatesJson.{cancelled_json, deed_name, fate_by, fate_json, fate_members, fates_items, fates_json};
 ghost use Rattle.drv_why.specs.FatesJson.{naming_json, naming_members, namings_items, place_json, source_json, spot_json};
 ghost use Rattle.drv_why.specs.FatesJson.{switch_words};
-ghost use Rattle.drv_words.specs.Bytes.{hyphen};
 ghost use Rattle.json.specs.Json.{array, member, no_members};
 ghost use Rattle.json.specs.Tree.{json_tokens, members_tokens};
 ghost use Rattle.std.specs.Option.{option_map};
-ghost use Rattle.std.specs.Prelude.{◌≡◌, ◌∷◌, ◌++◌, IfOk, OnOk, Some, codes, is_none};
+ghost use Rattle.std.specs.Prelude.{◌≡◌, ◌++◌, IfOk, OnOk, Some, codes, is_none};
 
-use crate::fates::{Parts, canceller, concerns, is_live};
+use crate::fates::{Parts, concerns, is_live};
+use crate::matching::canceller;
+use crate::taking::option_of;
 use drv_args::Switch;
 use drv_check::{Deed, Naming, Source, Spot};
 use drv_forms::{put_number, put_word, put_words};
@@ -44,7 +45,11 @@ fn put_source(out: &mut Pretty, source: &Source, at: usize) -> Result<(), AllocE
 }
 
 /// Writes where a part is, or `null`.
-fn put_spot(out: &mut Pretty, sources: &[Source], spot: Option<Spot>) -> Result<(), AllocError>
+pub(crate) fn put_spot(
+    out: &mut Pretty,
+    sources: &[Source],
+    spot: Option<Spot>,
+) -> Result<(), AllocError>
     ensures { OnOk result (out.new ≡ out.old ++ json_tokens (spot_json sources.now spot)) }
 {
     let Some(spot) = spot else {
@@ -129,22 +134,12 @@ fn put_namings(
     out.token(Token::EndArray)
 }
 
-/// A name as an option.
-fn option_of(alloc: Global, name: &Word) -> Result<Word, AllocError>
-    ensures { IfOk result (λ option. option ≡ hyphen ∷ name.now) }
-{
-    let mut option = Word::empty(alloc);
-    option.push(b'-')?;
-    option.extend_from_slice(name.as_bytes())?;
-    Ok(option)
-}
-
 /// The words of a switch.
 fn switch_words(alloc: Global, switch: &Switch) -> Result<Listing<Word>, AllocError>
     ensures { IfOk result (λ words. words ≡ switch_words switch.now) }
 {
     let mut words = Listing::new(alloc);
-    words.push(option_of(alloc, &switch.name)?)?;
+    words.push(option_of(alloc, switch.name.as_bytes())?)?;
     if let Some(argument) = &switch.arg {
         words.push(argument.clone()?)?;
     }
@@ -158,7 +153,7 @@ fn put_cancelled(alloc: Global, out: &mut Pretty, by: Option<&Word>) -> Result<(
         ++ json_tokens (cancelled_json (option_map (λ word. word.now) by.entry))) }
 {
     match by {
-        Some(name) => put_word(out, &option_of(alloc, name)?),
+        Some(name) => put_word(out, &option_of(alloc, name.as_bytes())?),
         None => out.token(Token::Null),
     }
 }

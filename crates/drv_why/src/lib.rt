@@ -1,19 +1,30 @@
 //! The parts of a line, what the line without one of them is, and what becomes of its switches.
 #![tactic(auto)]
 
+mod causes;
 mod fates;
 mod fates_json;
 mod laws;
 mod leaving_out;
+mod matching;
+mod origins;
+mod origins_json;
+mod outers;
 mod parting;
 mod printing;
 mod reasons;
 mod reasons_json;
 mod report;
+mod taking;
+mod telling;
+mod traces;
+mod tracing;
+mod walking;
 
 pub use fates::fates_report;
-pub use laws::{live_is_uncancelled, parts_make_the_line};
+pub use laws::{live_is_uncancelled, parts_make_the_line, traced_words_are_the_commands};
 pub use leaving_out::{part_words, without};
+pub use origins::{Marking, origins_report};
 pub use parting::{LinePart, parts_of};
 pub use reasons::{Reason, Rest, reasons_report};
 pub use report::Report;

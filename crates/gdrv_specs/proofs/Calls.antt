@@ -1,5 +1,5 @@
 use Rattle.drv_words.specs.Gives.{Gives}
-use Rattle.gdrv_specs.specs.Calls.{are_compared, asks_database, asks_json, asks_switches, difference_asked, form_asked, line_compared, texts_compared}
+use Rattle.gdrv_specs.specs.Calls.{are_compared, asks_database, asks_json, asks_switches, asks_words, difference_asked, form_asked, line_compared, texts_compared}
 use Rattle.gdrv_specs.specs.declared.calling.Call.{Call}
 use Rattle.gdrv_specs.specs.declared.calling.Call.TheVariants.{Differ}
 use Rattle.gdrv_specs.specs.declared.calling.CallFault.TheVariants.{Memory, NotTwoFiles}
@@ -19,6 +19,11 @@ has_word (word ∷ words) form is = omega arith
 pub switches_word : (words : List (List ℕ)) → asks_switches words ≡ true → 0 < length words
 switches_word [] is = absurd cc
 switches_word (word ∷ words) is = omega arith
+
+-- words that ask for --words have a first word
+pub words_word : (words : List (List ℕ)) → asks_words words ≡ true → 0 < length words
+words_word [] is = absurd cc
+words_word (word ∷ words) is = omega arith
 
 -- words that ask for --json have a first word
 pub json_word : (words : List (List ℕ)) → asks_json words ≡ true → 0 < length words

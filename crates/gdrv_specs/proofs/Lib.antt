@@ -9,3 +9,4 @@ mod Runs
 mod SwitchesTold
 mod Told
 mod Translations
+mod WordsTold

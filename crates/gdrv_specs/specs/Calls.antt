@@ -1,6 +1,6 @@
 use Rattle.drv_why.specs.declared.report.Report.TheVariants as report
 use Rattle.drv_why.specs.declared.report.Report.{Report}
-use Rattle.gdrv_specs.specs.declared.calling.Call.TheVariants.{After, Ask, Check, Database, Differ, Explain, Plan, Switches, Translate}
+use Rattle.gdrv_specs.specs.declared.calling.Call.TheVariants.{After, Ask, Check, Database, Differ, Explain, Plan, Switches, Translate, Words}
 use Rattle.gdrv_specs.specs.declared.calling.Call.{Call}
 use Rattle.gdrv_specs.specs.declared.calling.CallFault.TheVariants.{MissingAnswer, MissingFile, NoCommand, NoFiles, NotOneFile, NotTwoFiles}
 use Rattle.gdrv_specs.specs.declared.calling.CallFault.TheVariants.{TooManyAnswers, UnknownCommand, UnknownOption}
@@ -150,14 +150,19 @@ check_by request None = if request.awaits then Err MissingFile else files_asked 
 abbrev pub check_asked : Request → Result Call CallFault
 check_asked request = check_by request request.unknown
 
--- The reasons of a line, or with a first word --switches what becomes of its switches.
+-- The reasons of a line, or with a first word --switches what becomes of its switches, or with --words where its plan's words are from.
 
 -- whether the words of why ask what becomes of switches
 abbrev pub asks_switches : List (List ℕ) → Bool
 asks_switches [] = false
 asks_switches (word ∷ words) = pointwise nat_eq word (codes "--switches")
 
--- each as text, or as JSON with a word --json at the beginning, before --switches or after it
+-- whether they ask where the words of the plan are from
+abbrev pub asks_words : List (List ℕ) → Bool
+asks_words [] = false
+asks_words (word ∷ words) = pointwise nat_eq word (codes "--words")
+
+-- each as text, or as JSON with a word --json at the beginning, before that word or after it
 
 -- whether a first word asks for JSON
 abbrev pub asks_json : List (List ℕ) → Bool
@@ -176,9 +181,17 @@ after_json words = if asks_json words then drop 1 words else words
 abbrev pub switches_asked : Report → List (List ℕ) → Call
 switches_asked otherwise words = Switches (report_of otherwise words) (after_json words)
 
--- what why asks for after a --json: the reasons of a line, or what becomes of its switches
+-- what why --words asks for; a --json after it counts too
+abbrev pub words_asked : Report → List (List ℕ) → Call
+words_asked otherwise words = Words (report_of otherwise words) (after_json words)
+
+-- what why asks for without --switches: the reasons of a line, or where the words of its plan are from
+abbrev pub reasons_or_words : Report → List (List ℕ) → Call
+reasons_or_words form words = if asks_words words then words_asked form (drop 1 words) else Explain form words
+
+-- what why asks for after a --json: that, or what becomes of its switches
 abbrev pub reasons_asked : Report → List (List ℕ) → Call
-reasons_asked form words = if asks_switches words then switches_asked form (drop 1 words) else Explain form words
+reasons_asked form words = if asks_switches words then switches_asked form (drop 1 words) else reasons_or_words form words
 
 -- what the words of why ask for
 abbrev pub why_asked : List (List ℕ) → Call

@@ -2,3 +2,4 @@
 pub mod Answering
 pub mod Explaining
 pub mod Following
+pub mod Tracing

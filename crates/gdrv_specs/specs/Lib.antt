@@ -13,3 +13,4 @@ pub mod Switches
 pub mod Told
 pub mod Translations
 pub mod WarningNames
+pub mod WordOrigins

@@ -1,10 +1,10 @@
 //! What a call of the program asks for.
 
-ghost use Rattle.gdrv_specs.specs.Calls.{are_compared, asks_switches, call_of, check_asked, command_named, difference_asked, form_asked};
+ghost use Rattle.gdrv_specs.specs.Calls.{are_compared, asks_switches, asks_words, call_of, check_asked, command_named, difference_asked, form_asked};
 ghost use Rattle.gdrv_specs.specs.Calls.{line_compared, texts_compared};
 ghost use Rattle.gdrv_specs.specs.Calls.{cut_from, form_named, form_of, line_of, no_words, run_asked};
-ghost use Rattle.gdrv_specs.specs.Calls.{after_json, asks_database, asks_json, plan_asked, reasons_asked};
-ghost use Rattle.gdrv_specs.specs.Calls.{report_of, switches_asked, translation_asked, why_asked};
+ghost use Rattle.gdrv_specs.specs.Calls.{after_json, asks_database, asks_json, plan_asked, reasons_asked, reasons_or_words};
+ghost use Rattle.gdrv_specs.specs.Calls.{report_of, switches_asked, translation_asked, why_asked, words_asked};
 ghost use Rattle.drv_words.specs.Gives.{Gives};
 ghost use Rattle.gdrv_specs.specs.Requests.{no_request, requested_from};
 ghost use Rattle.gdrv_specs.specs.declared.calling.CallFault.TheVariants.{Memory};
@@ -49,6 +49,11 @@ pub enum Call {
     },
     /// What becomes of the switches of a line, in a form.
     Switches {
+        report: Report,
+        line: Listing<Word>,
+    },
+    /// Where the words of a line's plan are from, in a form.
+    Words {
         report: Report,
         line: Listing<Word>,
     },
@@ -326,6 +331,16 @@ fn asks_switches(words: &[Word]) -> bool
     }
 }
 
+/// Whether the first of these words asks where the words of a plan are from.
+fn asks_words(words: &[Word]) -> bool
+    ensures { result ≡ asks_words words.now }
+{
+    match words {
+        [word, ..] => word.as_bytes() == b"--words".as_slice(),
+        _ => false,
+    }
+}
+
 /// Whether the first of these words asks for JSON.
 fn asks_json(words: &[Word]) -> bool
     ensures { result ≡ asks_json words.now }
@@ -361,16 +376,39 @@ fn switches_asked(otherwise: Report, words: Vec<Word>) -> Call
     }
 }
 
+/// Where the words of the plan of the line that words ask for are from.
+fn words_asked(otherwise: Report, words: Vec<Word>) -> Call
+    ensures { result ≡ words_asked otherwise words.items }
+{
+    let (report, line) = cut_report(otherwise, words);
+    Call::Words {
+        report,
+        line: Listing::from_vec(line),
+    }
+}
+
+/// What words without `--switches` ask for in this form.
+#[tactic(auto, using(crate::proofs::Calls::words_word))]
+fn reasons_or_words(report: Report, mut words: Vec<Word>) -> Call
+    ensures { result ≡ reasons_or_words report words.items }
+{
+    if !asks_words(words.as_slice()) {
+        return Call::Explain {
+            report,
+            line: Listing::from_vec(words),
+        };
+    }
+    let _ = words.remove(0);
+    words_asked(report, words)
+}
+
 /// What words ask for in this form.
 #[tactic(auto, using(crate::proofs::Calls::switches_word))]
 fn reasons_asked(report: Report, mut words: Vec<Word>) -> Call
     ensures { result ≡ reasons_asked report words.items }
 {
     if !asks_switches(words.as_slice()) {
-        return Call::Explain {
-            report,
-            line: Listing::from_vec(words),
-        };
+        return reasons_or_words(report, words);
     }
     let _ = words.remove(0);
     switches_asked(report, words)

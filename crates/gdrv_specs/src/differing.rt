@@ -87,7 +87,7 @@ fn works_of<S: System>(
 }
 
 /// The plan of a work, which a dump of the specs has not.
-fn plan_of(work: &Work) -> Option<&Plan>
+pub(crate) fn plan_of(work: &Work) -> Option<&Plan>
     ensures { option_map (λ plan. plan.now) result ≡ plan_in work.now }
 {
     match work {

@@ -72,7 +72,7 @@ fn reason_of(
 }
 
 /// What a line with these specs asks for.
-fn work_with<S: System>(
+pub(crate) fn work_with<S: System>(
     alloc: Global,
     sys: &mut S,
     facts: &mut FactTable,

@@ -9,7 +9,7 @@ Usage: gdrv-specs check [--json] [-Werror] [-Wno-NAME]... [--over FILE]... FILE.
        gdrv-specs after LINE... [--fail PLACE=ANSWER]...
        gdrv-specs translate FILE
        gdrv-specs diff FILE FILE [-- LINE...]
-       gdrv-specs why [--json] [--switches] LINE...
+       gdrv-specs why [--json] [--switches | --words] LINE...
 gdrv-specs prints what gdrv would do with a line. It starts nothing and makes no
 file.
 
@@ -30,7 +30,9 @@ file.
   why             print what each option and each file of the line changes
   why --switches  print which texts pass each switch on, test it or hide it, and
                   which later switch cancels it
-  why --json      print either as JSON
+  why --words     print the commands of the line, and under each its words with
+                  the parts of texts that they are from
+  why --json      print any of these as JSON
 
 The words of LINE are those of gdrv, -specs=FILE among them. The manual page
 gdrv-specs(1) says more.

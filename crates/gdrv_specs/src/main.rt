@@ -20,6 +20,7 @@ mod running;
 mod switches;
 mod translating;
 mod warning_names;
+mod word_origins;
 
 use calling::{Call, call_of};
 use checks::tell_check;
@@ -42,6 +43,7 @@ use std::process::ExitCode;
 use std::rt::Env;
 use switches::tell_switches;
 use translating::translate_file;
+use word_origins::tell_words;
 
 const OUT_OF_MEMORY: &[u8] = b"gdrv-specs: out of memory\n";
 
@@ -139,6 +141,13 @@ fn follow(rt: &HostRuntime, report: Report, line: Listing<Word>) -> Result<Outco
     Ok(tell_switches(rt.alloc(), &mut sys, report, line))
 }
 
+/// Tells where the words of a line's plan are from to this process's user.
+fn trace(rt: &HostRuntime, report: Report, line: Listing<Word>) -> Result<Outcome, AllocError> {
+    let seed = clock_seed(rt)?;
+    let mut sys = HostSystem::new(rt.clone()?, Reporter::Gdrv);
+    Ok(tell_words(rt.alloc(), &mut sys, report, line, seed))
+}
+
 /// Checks spec files for this process's user.
 fn check(rt: &HostRuntime, request: &Request) -> Result<Outcome, AllocError> {
     let mut sys = HostSystem::new(rt.clone()?, Reporter::Gdrv);
@@ -146,7 +155,7 @@ fn check(rt: &HostRuntime, request: &Request) -> Result<Outcome, AllocError> {
 }
 
 /// The outcome of a text, for which memory may have lacked first.
-fn ended(outcome: Result<Outcome, AllocError>) -> Outcome {
+fn outcome_or_lack(outcome: Result<Outcome, AllocError>) -> Outcome {
     match outcome {
         Ok(outcome) => outcome,
         Err(_) => Outcome::Ended(Ending::OutOfMemory),
@@ -157,14 +166,15 @@ fn ended(outcome: Result<Outcome, AllocError>) -> Outcome {
 fn act(rt: &HostRuntime, call: Call) -> Outcome {
     match call {
         Call::Ask(asked) => answer(rt, asked),
-        Call::Plan { form, line } => ended(tell(rt, &form, line)),
-        Call::Database(line) => ended(tell_sources(rt, line)),
-        Call::After { given, line } => ended(tell_run(rt, given.as_slice(), line)),
-        Call::Translate(path) => ended(translate(rt, path)),
-        Call::Differ(comparison) => ended(compare(rt, &comparison)),
-        Call::Check(request) => ended(check(rt, &request)),
-        Call::Explain { report, line } => ended(explain(rt, report, line.as_slice())),
-        Call::Switches { report, line } => ended(follow(rt, report, line)),
+        Call::Plan { form, line } => outcome_or_lack(tell(rt, &form, line)),
+        Call::Database(line) => outcome_or_lack(tell_sources(rt, line)),
+        Call::After { given, line } => outcome_or_lack(tell_run(rt, given.as_slice(), line)),
+        Call::Translate(path) => outcome_or_lack(translate(rt, path)),
+        Call::Differ(comparison) => outcome_or_lack(compare(rt, &comparison)),
+        Call::Check(request) => outcome_or_lack(check(rt, &request)),
+        Call::Explain { report, line } => outcome_or_lack(explain(rt, report, line.as_slice())),
+        Call::Switches { report, line } => outcome_or_lack(follow(rt, report, line)),
+        Call::Words { report, line } => outcome_or_lack(trace(rt, report, line)),
     }
 }
 

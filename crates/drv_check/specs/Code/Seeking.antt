@@ -9,7 +9,7 @@ use Rattle.drv_check.specs.declared.opening.OpenFile.{OpenFile}
 use Rattle.drv_check.specs.declared.pieces.Piece.{Piece}
 use Rattle.drv_search.specs.declared.prefixes.Prefixes.{Prefixes}
 use Rattle.drv_specs.specs.Blanks.{is_blank}
-use Rattle.drv_specs.specs.Lines.{settled}
+use Rattle.drv_specs.specs.Lines.{settle}
 use Rattle.drv_specs.specs.Sets.{Set}
 use Rattle.drv_system.specs.Facts.{Facts}
 use Rattle.drv_system.specs.Known.{Is, Known}
@@ -44,4 +44,4 @@ Seeks before after whole = Goes before after whole (λ c. Is c)
 
 -- an open file has the pieces of a text
 abbrev pub IsFile : OpenFile → Type 0
-IsFile file = (text : List ℕ) × (file.pieces ≡ pieces_of (settled text))
+IsFile file = (text : List ℕ) × (file.pieces ≡ pieces_of (settle text))

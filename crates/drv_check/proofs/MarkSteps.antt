@@ -1,0 +1,82 @@
+use Rattle.drv_check.specs.Code.OwnTrees.{tree_or_none}
+use Rattle.drv_check.specs.MarkedParts.{first_in, goes_on, joint_of, part_end, part_if, parts_from, parts_of, read_by, role_of}
+use Rattle.drv_check.specs.Markings.{headed_parts, marked_part, tree_parts}
+use Rattle.drv_check.specs.Origins.{text_spots}
+use Rattle.drv_check.specs.OwnTexts.{own_text, own_tree}
+use Rattle.drv_check.specs.declared.findings.Source.{Source}
+use Rattle.drv_check.specs.declared.findings.Spot.{Spot}
+use Rattle.drv_check.specs.declared.marking.Extent.{Extent}
+use Rattle.drv_check.specs.declared.marking.Joint.{Joint}
+use Rattle.drv_check.specs.declared.marking.MarkedPart.{MarkedPart}
+use Rattle.drv_check.specs.declared.marking.Reading.{Reading}
+use Rattle.drv_check.specs.declared.marking.Role.{Role}
+use Rattle.drv_check.specs.declared.opening.OpenFile.{OpenFile}
+use Rattle.drv_syntax.specs.Parsed.{tree_of}
+use Rattle.drv_syntax.specs.Tokens.{tokens_of}
+use Rattle.drv_syntax.specs.declared.token.Token.{Token}
+use Rattle.std.proofs.Common.{◌≡◌, ◌∙◌, ◌<◌, ◌≤◌, ◌++◌, ◌∷◌, Err, List, None, Ok, OnOk, Option, Result, Some, ap, append_assoc, arith}
+use Rattle.std.proofs.Common.{false, refl, sym, true, ℕ}
+use Rattle.std.proofs.lemmas.Bool.Decides.{nat_tests}
+use Rattle.std.proofs.lemmas.List.{append-nil}
+use Rattle.std.specs.Prelude.{map, nat_lt}
+
+-- For marked_parts (src/marking.rt): the parts of a text that have a mark, one after another.
+
+-- The loop takes one more token, and the part that begins with it, if that has a mark.
+pub extent_next : (text : List ℕ) (reading next : Reading) (token : Token) (left rest : List Token) (joint : Option Joint)
+    (before after whole : List Extent) → left ≡ token ∷ rest → joint ≡ joint_of reading token → next ≡ read_by text reading token
+    → after ≡ before ++ part_if joint token rest
+    → before ++ parts_from text reading left ≡ whole → after ++ parts_from text next rest ≡ whole
+extent_next text reading next token left rest joint before after whole cut judged reads grows is =
+    ap (λ ps. ps ++ parts_from text next rest) grows
+    ∙ ap (λ m. (before ++ part_if m token rest) ++ parts_from text next rest) judged
+    ∙ ap (λ r. (before ++ part_if (joint_of reading token) token rest) ++ parts_from text r rest) reads
+    ∙ append_assoc before (part_if (joint_of reading token) token rest) (parts_from text (read_by text reading token) rest)
+    ∙ ap (λ ts. before ++ parts_from text reading ts) (sym cut) ∙ is
+
+-- a part goes on behind the tokens inside its items, with each item that begins where the last one ends
+
+-- a token inside the part's last item doesn't end the part
+pub end_inside : (last : Role) (at : ℕ) (token : Token) (left rest : List Token) → left ≡ token ∷ rest → token.start < at
+    → part_end last at left ≡ part_end last at rest
+end_inside last at token left rest cut inside =
+    let is : nat_lt token.start at ≡ true = grind (arith, nat_tests, inside) in
+    ap (part_end last at) cut ∙ rw is refl
+
+-- a part goes on with an item that begins where its last one ends
+pub end_further : (last : Role) (at : ℕ) (token : Token) (left rest : List Token) → left ≡ token ∷ rest → at ≤ token.start
+    → goes_on last at token ≡ true → part_end last at left ≡ part_end (role_of token.kind) token.end rest
+end_further last at token left rest cut beyond goes =
+    let out : nat_lt token.start at ≡ false = grind (arith, nat_tests, beyond) in
+    ap (part_end last at) cut ∙ rw (out, goes) refl
+
+-- it ends before another item
+pub end_here : (last : Role) (at : ℕ) (token : Token) (left rest : List Token) → left ≡ token ∷ rest → at ≤ token.start
+    → goes_on last at token ≡ false → part_end last at left ≡ at
+end_here last at token left rest cut beyond stops =
+    let out : nat_lt token.start at ≡ false = grind (arith, nat_tests, beyond) in
+    ap (part_end last at) cut ∙ rw (out, stops) refl
+
+-- of the text of a piece
+
+-- For the exit of the code where the text of a piece has a tree.
+pub of_tree : {X E : Type 0} (sources : List Source) (files : List OpenFile) (head text tree : List ℕ) (start at : ℕ)
+    (own : Option (List ℕ)) (spots : List Spot) (before after : List MarkedPart) (result : Result X E)
+    → own ≡ Some tree → tree_or_none own ≡ own_tree text → tree ≡ own_text text → spots ≡ text_spots sources files head tree → at ≡ start
+    → OnOk result (after ≡ before ++ map (marked_part head tree spots at) (parts_of (first_in head) tree (tokens_of (tree_of tree))))
+    → OnOk result (after ≡ before ++ headed_parts sources files (Some head) (own_text text) start (own_tree text))
+of_tree sources files head text tree start at own spots before after (Err e) has is same found begins grows = grows
+of_tree sources files head text tree start at own spots before after (Ok x) has is same found begins grows =
+    grows
+    ∙ ap (λ ss. before ++ tree_parts head tree ss at (tree_of tree)) found
+    ∙ ap (λ t. before ++ tree_parts head tree (text_spots sources files head tree) at t) (sym (ap tree_or_none has) ∙ is)
+    ∙ ap (λ t. before ++ tree_parts head t (text_spots sources files head t) at (own_tree text)) same
+    ∙ ap (λ n. before ++ headed_parts sources files (Some head) (own_text text) n (own_tree text)) begins
+
+-- For its exit where it has none, which has no marks.
+pub of_none : (sources : List Source) (files : List OpenFile) (head text : List ℕ) (start : ℕ) (own : Option (List ℕ))
+    (before : List MarkedPart) → own ≡ None → tree_or_none own ≡ own_tree text
+    → before ≡ before ++ headed_parts sources files (Some head) (own_text text) start (own_tree text)
+of_none sources files head text start own before has is =
+    sym (append-nil before)
+    ∙ ap (λ t. before ++ headed_parts sources files (Some head) (own_text text) start t) (sym (ap tree_or_none has) ∙ is)

@@ -1,0 +1,12 @@
+use Rattle.drv_check.proofs.marking.marked_parts.Given as goal
+use Rattle.drv_check.specs.Markings.{marked_parts, piece_parts}
+use Rattle.drv_check.specs.Origins.{files_from}
+use Rattle.std.proofs.Common.{◌≡◌, ◌++◌, drop}
+use Rattle.std.specs.List.{flat_map}
+
+-- The loops of marked_parts (src/marking.rt). The parts of the texts of a set that have a mark, by its dump, in their order.
+
+abbrev pub invariant-loop-piece : goal.invariant-loop-piece
+invariant-loop-piece l =
+    l.parts ++ flat_map (piece_parts l.sources (files_from 0 l.sources)) (drop l.piece-index l.piece-items)
+    ≡ marked_parts l.sources l.dump

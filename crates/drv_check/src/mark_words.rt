@@ -1,0 +1,54 @@
+//! Marks in a text.
+
+ghost use Rattle.drv_check.specs.MarkWords.{mark_text, mark_word, marked_text, with_marks};
+ghost use Rattle.std.specs.Prelude.{◌≡◌, ◌++◌, IfOk, OnOk, drop, length, take};
+
+use crate::bytes::following;
+use crate::marking::{Joint, MarkedPart};
+use drv_words::Word;
+use itoa::Buffer;
+use std::alloc::{AllocError, Global};
+
+/// The byte that a mark begins and ends with.
+const MARK_END: u8 = 1;
+
+/// Adds a mark with this number, and a blank if it is a word of its own.
+fn push_mark(text: &mut Word, joint: Joint, number: usize) -> Result<(), AllocError>
+    ensures { OnOk result (text.new ≡ text.old ++ mark_text joint number) }
+{
+    text.push(MARK_END)?;
+    text.extend_from_slice(Buffer::new().format(number).as_bytes())?;
+    text.push(MARK_END)?;
+    match joint {
+        Joint::Apart => text.push(b' '),
+        Joint::Joined => Ok(()),
+    }
+}
+
+/// The first bytes of a text.
+fn first_bytes(text: &[u8], count: usize) -> &[u8]
+    ensures { result.now ≡ take count text.now }
+{
+    text.get(..count).unwrap_or(text)
+}
+
+/// A dump with a mark before each of these parts of it: its number is the part's place among them.
+pub fn marked_text(alloc: Global, dump: &[u8], parts: &[MarkedPart]) -> Result<Word, AllocError>
+    ensures { IfOk result (λ text. text ≡ marked_text dump.now parts.now) }
+{
+    let mut text = Word::empty(alloc);
+    let mut at = 0;
+    let mut left = dump;
+    let mut number = 0;
+    while number < parts.len() {
+        let part = &parts[number];
+        let count = part.at.saturating_sub(at);
+        text.extend_from_slice(first_bytes(left, count))?;
+        push_mark(&mut text, part.joint, number)?;
+        left = following(left, count);
+        at = part.at;
+        number += 1;
+    }
+    text.extend_from_slice(left)?;
+    Ok(text)
+}

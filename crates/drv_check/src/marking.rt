@@ -1,0 +1,485 @@
+//! The parts of a set's texts that have a mark.
+
+ghost use Rattle.drv_check.specs.MarkedParts.{after_blank, after_role, after_test, before_at, ends_starred, first_in, goes_on, has_left};
+ghost use Rattle.drv_check.specs.MarkedParts.{inside_until, is_entered, is_item, is_named, is_nested, is_passed, joint_after, joint_of};
+ghost use Rattle.drv_check.specs.MarkedParts.{part_at, part_end, part_if, parts_from, parts_of, read_by, read_token};
+ghost use Rattle.drv_check.specs.MarkedParts.{read_until, role_of};
+ghost use Rattle.drv_check.specs.Markings.{headed_parts, marked_part, marked_parts, piece_parts, tree_parts};
+ghost use Rattle.drv_check.specs.OwnTexts.{own_start, own_text, own_tree};
+ghost use Rattle.drv_syntax.specs.Parsed.{tree_of};
+ghost use Rattle.drv_syntax.specs.Tokens.{tokens_of};
+ghost use Rattle.std.specs.List.{flat_map};
+ghost use Rattle.std.specs.Prelude.{◌≡◌, ◌∷◌, ◌++◌, ◌+◌, ◌-◌, ◌<◌, ◌^◌, [], IfOk, OnOk, Some, drop, map, take};
+
+use crate::findings::{Source, Spot};
+use crate::opening::OpenFile;
+use crate::origins::{head_in, open_all, spot_at, text_spots};
+use crate::own_text::{own_start, own_tree};
+use crate::pieces::{Piece, pieces_of};
+use drv_syntax::{Token, TokenKind};
+use drv_words::{Listing, Word};
+use std::alloc::{AllocError, Global};
+
+/// A part of a text that has a mark.
+#[derive(Debug, Drop)]
+pub struct MarkedPart {
+    /// What precedes the colon where a file puts its text, as `*cc1` or `.c`.
+    pub head: Word,
+    /// The part as it is written.
+    pub written: Word,
+    /// Where it begins in the dump.
+    pub at: usize,
+    /// Where it begins in a file, if a file put its text.
+    pub spot: Option<Spot>,
+    /// How its mark is put.
+    pub joint: Joint,
+}
+
+/// How a mark is put before a part.
+#[derive(Clone, Copy, Debug)]
+pub enum Joint {
+    /// As a word of its own, where a blank precedes the part.
+    Apart,
+    /// In the word that may go on with the part.
+    Joined,
+}
+
+/// What precedes the next token in its list and command.
+#[derive(Clone, Copy, Debug)]
+pub(crate) enum Before {
+    /// Nothing, or blanks.
+    Opens,
+    /// Nothing, in a list that gives words for each of several switches, or in a text that others
+    /// name.
+    Loops,
+    /// An item without marks inside.
+    Follows,
+    /// An item that may have marks inside.
+    Returns,
+    /// An item, and blanks.
+    Spaces,
+}
+
+/// What a token is for marks.
+#[derive(Clone, Copy, Debug)]
+pub(crate) enum Role {
+    /// A blank.
+    Blank,
+    /// A command or a list begins after it.
+    Break,
+    /// A test, after which a list begins.
+    Test,
+    /// An item that may have marks inside.
+    Nested,
+    /// Another item.
+    Item,
+}
+
+/// The tokens of a text, as far as they were read.
+#[derive(Clone, Copy, Debug)]
+pub(crate) struct Reading {
+    /// What precedes the next one.
+    pub(crate) before: Before,
+    /// Those that begin before this byte are passed over.
+    pub(crate) until: u32,
+    /// Where the last alternative ends.
+    pub(crate) inside: u32,
+}
+
+/// The bytes of a text from one place up to another.
+#[derive(Clone, Copy, Debug)]
+pub(crate) struct Extent {
+    /// The place of the first one.
+    pub(crate) start: u32,
+    /// The place after the last one.
+    pub(crate) end: u32,
+    /// How the mark before them is put.
+    pub(crate) joint: Joint,
+}
+
+/// What a token is for marks.
+fn role_of(kind: TokenKind) -> Role
+    ensures { result ≡ role_of kind }
+{
+    match kind {
+        TokenKind::Blank => Role::Blank,
+        TokenKind::Newline | TokenKind::Pipe | TokenKind::Alternative => Role::Break,
+        TokenKind::Test => Role::Test,
+        TokenKind::NamedText | TokenKind::BuiltinText => Role::Nested,
+        TokenKind::Function | TokenKind::Choose => Role::Nested,
+        _ => Role::Item,
+    }
+}
+
+/// Whether a token is an item of a part.
+fn is_item(role: Role) -> bool
+    ensures { result ≡ is_item role }
+{
+    matches!(role, Role::Nested | Role::Item)
+}
+
+/// Whether a token is an item that may have marks inside.
+fn is_nested(role: Role) -> bool
+    ensures { result ≡ is_nested role }
+{
+    matches!(role, Role::Nested)
+}
+
+/// What precedes the token after a blank.
+fn after_blank(before: Before) -> Before
+    ensures { result ≡ after_blank before }
+{
+    match before {
+        Before::Opens => Before::Opens,
+        Before::Loops | Before::Follows | Before::Returns | Before::Spaces => Before::Spaces,
+    }
+}
+
+/// Whether a star is the last byte before this place.
+fn ends_starred(text: &[u8], end: u32) -> bool
+    ensures { result ≡ ends_starred text.now end }
+{
+    match text.get(end.saturating_sub(1) as usize) {
+        Some(byte) => *byte == b'*',
+        None => false,
+    }
+}
+
+/// What precedes the token after a test that has a star at its end or none.
+fn after_test(before: Before, starred: bool) -> Before
+    ensures { result ≡ after_test before starred }
+{
+    match before {
+        Before::Loops => Before::Loops,
+        Before::Opens | Before::Follows | Before::Returns | Before::Spaces => {
+            if starred {
+                Before::Loops
+            } else {
+                Before::Opens
+            }
+        }
+    }
+}
+
+/// What precedes the token after this one.
+fn after_role(before: Before, role: Role, starred: bool) -> Before
+    ensures { result ≡ after_role before role starred }
+{
+    match role {
+        Role::Blank => after_blank(before),
+        Role::Break => Before::Opens,
+        Role::Test => after_test(before, starred),
+        Role::Nested => Before::Returns,
+        Role::Item => Before::Follows,
+    }
+}
+
+/// Whether the tokens inside are read.
+fn is_entered(kind: TokenKind) -> bool
+    ensures { result ≡ is_entered kind }
+{
+    matches!(kind, TokenKind::Choose | TokenKind::Alternative)
+}
+
+/// The byte before which tokens are passed over after this one.
+fn read_until(token: Token) -> u32
+    ensures { result ≡ read_until token }
+{
+    if is_entered(token.kind) {
+        token.start
+    } else {
+        token.end
+    }
+}
+
+/// Where the last alternative ends after a token that ends here.
+fn inside_until(kind: TokenKind, end: u32, inside: u32) -> u32
+    ensures { result ≡ inside_until kind end inside }
+{
+    match kind {
+        TokenKind::Alternative => end,
+        _ => inside,
+    }
+}
+
+/// Whether a choice ends before this place.
+fn has_left(reading: Reading, start: u32) -> bool
+    ensures { result ≡ has_left reading start }
+{
+    reading.inside <= start && start != reading.until
+}
+
+/// What precedes a token that begins here.
+fn before_at(reading: Reading, start: u32) -> Before
+    ensures { result ≡ before_at reading start }
+{
+    if has_left(reading, start) {
+        Before::Returns
+    } else {
+        reading.before
+    }
+}
+
+/// Whether a token is passed over.
+fn is_passed(reading: Reading, token: Token) -> bool
+    ensures { result ≡ is_passed reading token }
+{
+    token.start < reading.until
+}
+
+/// The tokens of a text with one more.
+fn read_by(text: &[u8], reading: Reading, token: Token) -> Reading
+    ensures { result ≡ read_by text.now reading token }
+{
+    if is_passed(reading, token) {
+        return reading;
+    }
+    let before = before_at(reading, token.start);
+    Reading {
+        before: after_role(before, role_of(token.kind), ends_starred(text, token.end)),
+        until: read_until(token),
+        inside: inside_until(token.kind, token.end, reading.inside),
+    }
+}
+
+/// How a mark is put after what precedes an item, if it has one.
+fn joint_after(before: Before) -> Option<Joint>
+    ensures { result ≡ joint_after before }
+{
+    match before {
+        Before::Opens | Before::Follows => None,
+        Before::Loops | Before::Returns => Some(Joint::Joined),
+        Before::Spaces => Some(Joint::Apart),
+    }
+}
+
+/// How the mark of a part that begins with a token is put, if it has one.
+fn joint_of(reading: Reading, token: Token) -> Option<Joint>
+    ensures { result ≡ joint_of reading token }
+{
+    if is_passed(reading, token) || !is_item(role_of(token.kind)) {
+        return None;
+    }
+    joint_after(before_at(reading, token.start))
+}
+
+/// Whether a part that has reached this place, behind an item of this role, goes on with a token.
+fn goes_on(last: Role, end: u32, token: Token) -> bool
+    ensures { result ≡ goes_on last end token }
+{
+    !is_nested(last) && token.start == end && is_item(role_of(token.kind))
+}
+
+/// Where a part ends that has reached this place, behind an item of this role.
+#[tactic(auto, using(crate::proofs::MarkSteps::end_inside, crate::proofs::MarkSteps::end_further, crate::proofs::MarkSteps::end_here))]
+fn part_end(role: Role, end: u32, tokens: &[Token]) -> u32
+    ensures { result ≡ part_end role end tokens.now }
+{
+    let mut last = role;
+    let mut at = end;
+    let mut left = tokens;
+    while let [token, rest @ ..] = left {
+        if token.start >= at {
+            if !goes_on(last, at, *token) {
+                return at;
+            }
+            last = role_of(token.kind);
+            at = token.end;
+        }
+        left = rest;
+    }
+    at
+}
+
+/// Adds the part that begins with a token, if it has a mark.
+fn push_extent(
+    parts: &mut Vec<Extent>,
+    joint: Option<Joint>,
+    token: Token,
+    tokens: &[Token],
+) -> Result<(), AllocError>
+    ensures { OnOk result
+        (parts.new.items ≡ parts.old.items ++ part_if joint token tokens.now) }
+{
+    if let Some(joint) = joint {
+        let end = part_end(role_of(token.kind), token.end, tokens);
+        parts.push(Extent {
+            start: token.start,
+            end,
+            joint,
+        })?;
+    }
+    Ok(())
+}
+
+/// Whether a text with this head is one that others name.
+fn is_named(head: &[u8]) -> bool
+    ensures { result ≡ is_named head.now }
+{
+    matches!(head, [b'*', ..]) && head != b"*link_command".as_slice()
+}
+
+/// What precedes the first token of a text with this head.
+fn first_in(head: &[u8]) -> Before
+    ensures { result ≡ first_in head.now }
+{
+    if is_named(head) {
+        Before::Loops
+    } else {
+        Before::Opens
+    }
+}
+
+/// The marked parts of a text with these tokens, the first of which this precedes.
+#[tactic(auto, using(crate::proofs::MarkSteps::extent_next))]
+fn parts_of(
+    alloc: Global,
+    first: Before,
+    text: &[u8],
+    tokens: &[Token],
+) -> Result<Vec<Extent>, AllocError>
+    ensures { IfOk result (λ parts. parts.items ≡ parts_of first text.now tokens.now) }
+{
+    let mut parts = Vec::new(alloc);
+    let mut reading = Reading {
+        before: first,
+        until: 0,
+        inside: 0,
+    };
+    let mut left = tokens;
+    while let [token, rest @ ..] = left {
+        let joint = joint_of(reading, *token);
+        push_extent(&mut parts, joint, *token, rest)?;
+        reading = read_by(text, reading, *token);
+        left = rest;
+    }
+    Ok(parts)
+}
+
+/// A text of a set, where it begins in the dump, and the spots of its last bytes.
+#[derive(Drop)]
+struct MarkedText<'a> {
+    head: &'a [u8],
+    text: &'a [u8],
+    at: usize,
+    spots: &'a [Spot],
+}
+
+/// The bytes of a part.
+fn written(text: &[u8], part: Extent) -> &[u8]
+    ensures { result.now ≡ take (part.end - part.start) (drop part.start text.now) }
+{
+    let size = part.end.saturating_sub(part.start) as usize;
+    let rest = text.get(part.start as usize..).unwrap_or(&[]);
+    rest.get(..size).unwrap_or(rest)
+}
+
+/// A part of a text.
+fn marked_part(alloc: Global, text: &MarkedText<'_>, part: Extent) -> Result<MarkedPart, AllocError>
+    requires { text.now.at < 2 ^ 63 }
+    ensures { IfOk result
+        (λ it. it ≡ marked_part text.now.head.now text.now.text.now text.now.spots.now text.now.at part) }
+{
+    Ok(MarkedPart {
+        head: Word::from_bytes(alloc, text.head)?,
+        written: Word::from_bytes(alloc, written(text.text, part))?,
+        at: text.at + part.start as usize,
+        spot: spot_at(text.spots, text.text.len(), part.start as usize),
+        joint: part.joint,
+    })
+}
+
+/// Adds the marked parts of a text with these tokens.
+fn push_parts(
+    alloc: Global,
+    parts: &mut Listing<MarkedPart>,
+    text: &MarkedText<'_>,
+    tokens: &[Token],
+) -> Result<(), AllocError>
+    requires { text.now.at < 2 ^ 63 }
+    ensures { OnOk result
+        (parts.new ≡ parts.old
+        ++ map (marked_part text.now.head.now text.now.text.now text.now.spots.now text.now.at)
+        (parts_of (first_in text.now.head.now) text.now.text.now tokens.now)) }
+{
+    let extents = parts_of(alloc, first_in(text.head), text.text, tokens)?;
+    for extent in extents.as_slice() {
+        parts.push(marked_part(alloc, text, *extent)?)?;
+    }
+    Ok(())
+}
+
+/// Where the text of a piece begins in the dump.
+fn text_start(piece: &Piece) -> Result<usize, AllocError>
+    ensures is { IfOk result (λ at. at ≡ piece.now.start + own_start piece.now.text) }
+    ensures within { IfOk result (λ at. at < 2 ^ 63) }
+{
+    let start = own_start(piece.text.as_bytes());
+    match piece.start.checked_add(start) {
+        Some(at) if at < 1 << 63 => Ok(at),
+        _ => Err(AllocError),
+    }
+}
+
+/// Adds the marked parts of the text of a piece, where it has this head.
+#[tactic(auto, using(crate::proofs::MarkSteps::of_tree, crate::proofs::MarkSteps::of_none))]
+fn push_headed(
+    alloc: Global,
+    parts: &mut Listing<MarkedPart>,
+    sources: &[Source],
+    files: &[OpenFile],
+    head: &[u8],
+    piece: &Piece,
+) -> Result<(), AllocError>
+    ensures { OnOk result
+        (parts.new ≡ parts.old
+        ++ headed_parts sources.now files.now (Some head.now) (own_text piece.now.text)
+        (piece.now.start + own_start piece.now.text) (own_tree piece.now.text)) }
+{
+    let Some(tree) = own_tree(alloc, piece.text.as_bytes())? else {
+        return Ok(());
+    };
+    let spots = text_spots(alloc, sources, files, head, tree.text())?;
+    let text = MarkedText {
+        head,
+        text: tree.text(),
+        at: text_start(piece)?,
+        spots: spots.as_slice(),
+    };
+    push_parts(alloc, parts, &text, tree.tokens())
+}
+
+/// Adds the marked parts of the text of a piece.
+fn push_piece(
+    alloc: Global,
+    parts: &mut Listing<MarkedPart>,
+    sources: &[Source],
+    files: &[OpenFile],
+    piece: &Piece,
+) -> Result<(), AllocError>
+    ensures { OnOk result
+        (parts.new ≡ parts.old ++ piece_parts sources.now files.now piece.now) }
+{
+    match head_in(piece.text.as_bytes()) {
+        Some(head) => push_headed(alloc, parts, sources, files, head, piece),
+        None => Ok(()),
+    }
+}
+
+/// The parts of the texts of a set that have a mark, by its dump, in their order. The files that
+/// were loaded into the set say where a part is.
+pub fn marked_parts(
+    alloc: Global,
+    sources: &[Source],
+    dump: &[u8],
+) -> Result<Listing<MarkedPart>, AllocError>
+    ensures { IfOk result (λ parts. parts ≡ marked_parts sources.now dump.now) }
+{
+    let files = open_all(alloc, sources)?;
+    let pieces = pieces_of(alloc, dump)?;
+    let mut parts = Listing::new(alloc);
+    for piece in pieces.as_slice() {
+        push_piece(alloc, &mut parts, sources, files.as_slice(), piece)?;
+    }
+    Ok(parts)
+}

@@ -1,0 +1,236 @@
+use Rattle.drv_args.specs.declared.line.Input.{Input}
+use Rattle.drv_args.specs.declared.line.Line.{Line}
+use Rattle.drv_args.specs.declared.line.Switch.{Switch}
+use Rattle.drv_check.specs.declared.marking.MarkedPart.{MarkedPart}
+use Rattle.drv_match.specs.Pattern.{Pattern}
+use Rattle.drv_syntax.specs.Labels.{label_at}
+use Rattle.drv_syntax.specs.Outcome.{parsed}
+use Rattle.drv_syntax.specs.Parsed.{tree_in, tree_of}
+use Rattle.drv_syntax.specs.Tree.{Items, none}
+use Rattle.drv_syntax.specs.declared.fault.SyntaxFault.{SyntaxFault}
+use Rattle.drv_syntax.specs.declared.token.Token.{Token}
+use Rattle.drv_why.specs.Causes.{Case, behind_groups, case_at, caused, causes_of, given, input_at, input_word, makers, number_told}
+use Rattle.drv_why.specs.Causes.{numbers_told, outer_of, outers_from, outers_of, part_told, source_of, token_told, tokens_told, tree_told}
+use Rattle.drv_why.specs.Taken.{fits, is_taken, is_this, with_name, with_names, with_switches}
+use Rattle.drv_why.specs.Walks.{way_to}
+use Rattle.drv_why.specs.declared.outers.Outer.{Outer}
+use Rattle.drv_why.specs.declared.telling.Telling.{Telling}
+use Rattle.drv_why.specs.declared.traces.Trace.{Trace}
+use Rattle.drv_words.specs.Bytes.{hyphen}
+use Rattle.drv_words.specs.declared.plan.Command.{Command}
+use Rattle.drv_words.specs.declared.plan.Job.{Job}
+use Rattle.std.proofs.Common.{◌≡◌, ◌∙◌, ◌<◌, ◌≤◌, ◌+◌, ◌-◌, ◌&&◌, ◌∷◌, ◌++◌, Bool, Err, List, None, Option, Some, [], ap, append_assoc, arith, drop}
+use Rattle.std.proofs.Common.{false, length, refl, sym, true, ℕ}
+use Rattle.std.proofs.lemmas.Bool.Decides.{Decides-eqb, nat_tests}
+use Rattle.std.proofs.lemmas.List.{drop_all, drop_more, map-append}
+use Rattle.std.proofs.lemmas.Slice.Eq.{slice_eq-Decides}
+use Rattle.std.specs.Cmp.Lexicographic.{pointwise}
+use Rattle.std.specs.Option.{option_to_list}
+use Rattle.std.specs.Prelude.{get_or, map, nat_eq, nat_le, nat_lt}
+
+-- For origins_report (src/causes.rt, src/taking.rt): what the words of a command are for, token by token and part by part.
+
+-- names and switches
+
+-- `add_names` has added one name more
+pub name_next : (n : ℕ) (others : List (List ℕ)) (name : List ℕ) (before after whole : List (List ℕ)) → n < length others
+    → name ≡ get_or others n name → after ≡ with_name before name
+    → with_names before (drop n others) ≡ whole → with_names after (drop (n + 1) others) ≡ whole
+name_next n others name before after whole below here grows is =
+    ap (λ ns. with_names ns (drop (n + 1) others)) grows
+    ∙ ap (λ m. with_names before (m ∷ drop (n + 1) others)) here
+    ∙ ap (with_names before) (sym (drop_more others n name below)) ∙ is
+
+-- `taken` has added a switch that is taken and fits
+pub switch_told : (pattern : Pattern) (word : Option (List ℕ)) (switch : Switch) (later left : List Switch) (option : List ℕ)
+    (before after whole : List (List ℕ)) → left ≡ switch ∷ later → (fits word switch && is_taken pattern switch later) ≡ true
+    → option ≡ hyphen ∷ switch.name → after ≡ with_name before option
+    → with_switches pattern word before left ≡ whole → with_switches pattern word after later ≡ whole
+switch_told pattern word switch later left option before after whole cut told spelled grows is =
+    ap (λ ns. with_switches pattern word ns later) (grows ∙ ap (with_name before) spelled)
+    ∙ sym (ap (with_switches pattern word before) cut ∙ rw told refl) ∙ is
+
+-- it passes over another one
+pub switch_untold : (pattern : Pattern) (word : Option (List ℕ)) (switch : Switch) (later left : List Switch)
+    (before whole : List (List ℕ)) → left ≡ switch ∷ later → (fits word switch && is_taken pattern switch later) ≡ false
+    → with_switches pattern word before left ≡ whole → with_switches pattern word before later ≡ whole
+switch_untold pattern word switch later left before whole cut untold is =
+    sym (ap (with_switches pattern word before) cut ∙ rw untold refl) ∙ is
+
+-- the source of a command
+
+-- a place in the next group is in one of them
+pub group_met : (n : ℕ) (groups : List (List Command)) (group : List Command) (left : ℕ) (whole : Option ℕ) → n < length groups
+    → group ≡ get_or groups n group → left < length group → behind_groups (drop n groups) left ≡ whole → None ≡ whole
+group_met n groups group left whole below here inside is =
+    let test : nat_lt left (length group) ≡ true = grind (arith, nat_tests, inside) in
+    sym (ap (λ gs. behind_groups gs left) (drop_more groups n group below)
+    ∙ ap (λ g. behind_groups (g ∷ drop (n + 1) groups) left) (sym here) ∙ rw test refl) ∙ is
+
+-- a place behind it is counted from there
+pub group_passed : (n : ℕ) (groups : List (List Command)) (group : List Command) (left rest : ℕ) (whole : Option ℕ) → n < length groups
+    → group ≡ get_or groups n group → length group ≤ left → rest ≡ left - length group → behind_groups (drop n groups) left ≡ whole
+    → behind_groups (drop (n + 1) groups) rest ≡ whole
+group_passed n groups group left rest whole below here past counted is =
+    let test : nat_lt left (length group) ≡ false = grind (arith, nat_tests, past) in
+    ap (behind_groups (drop (n + 1) groups)) counted
+    ∙ sym (ap (λ gs. behind_groups gs left) (drop_more groups n group below)
+    ∙ ap (λ g. behind_groups (g ∷ drop (n + 1) groups) left) (sym here) ∙ rw test refl) ∙ is
+
+-- no group is left
+pub no_group : (n : ℕ) (groups : List (List Command)) (left : ℕ) (whole : Option ℕ) → length groups ≤ n
+    → behind_groups (drop n groups) left ≡ whole → Some left ≡ whole
+no_group n groups left whole past is = sym (ap (λ gs. behind_groups gs left) (drop_all n groups past)) ∙ is
+
+-- a command of the next job is for its source
+pub job_met : (n : ℕ) (jobs : List Job) (job : Job) (left : ℕ) (whole : Option ℕ) → n < length jobs → job ≡ get_or jobs n job
+    → behind_groups job.groups left ≡ None → source_of (drop n jobs) left ≡ whole → job.source ≡ whole
+job_met n jobs job left whole below here met is =
+    sym (ap (λ js. source_of js left) (drop_more jobs n job below)
+    ∙ ap (λ j. source_of (j ∷ drop (n + 1) jobs) left) (sym here) ∙ rw met refl) ∙ is
+
+-- another one is counted from behind that job
+pub job_passed : (n : ℕ) (jobs : List Job) (job : Job) (left rest : ℕ) (whole : Option ℕ) → n < length jobs → job ≡ get_or jobs n job
+    → behind_groups job.groups left ≡ Some rest → source_of (drop n jobs) left ≡ whole → source_of (drop (n + 1) jobs) rest ≡ whole
+job_passed n jobs job left rest whole below here passed is =
+    sym (ap (λ js. source_of js left) (drop_more jobs n job below)
+    ∙ ap (λ j. source_of (j ∷ drop (n + 1) jobs) left) (sym here) ∙ rw passed refl) ∙ is
+
+-- no job is left: it is a command of the link
+pub no_job : (n : ℕ) (jobs : List Job) (left : ℕ) (whole : Option ℕ) → length jobs ≤ n → source_of (drop n jobs) left ≡ whole → None ≡ whole
+no_job n jobs left whole past is = sym (ap (λ js. source_of js left) (drop_all n jobs past)) ∙ is
+
+-- what a word of %o is for
+
+-- the next job has this output
+pub maker_met : (n : ℕ) (inputs : List Input) (jobs : List Job) (job : Job) (word : List ℕ) (names whole : List (List ℕ)) → n < length jobs
+    → job ≡ get_or jobs n job → is_this word job.output ≡ true → names ≡ option_to_list (input_at inputs job.source)
+    → makers inputs (drop n jobs) word ≡ whole → names ≡ whole
+maker_met n inputs jobs job word names whole below here made has is =
+    has
+    ∙ sym (ap (λ js. makers inputs js word) (drop_more jobs n job below)
+    ∙ ap (λ j. makers inputs (j ∷ drop (n + 1) jobs) word) (sym here) ∙ rw made refl) ∙ is
+
+-- it has another one
+pub maker_passed : (n : ℕ) (inputs : List Input) (jobs : List Job) (job : Job) (word : List ℕ) (whole : List (List ℕ)) → n < length jobs
+    → job ≡ get_or jobs n job → is_this word job.output ≡ false
+    → makers inputs (drop n jobs) word ≡ whole → makers inputs (drop (n + 1) jobs) word ≡ whole
+maker_passed n inputs jobs job word whole below here made is =
+    sym (ap (λ js. makers inputs js word) (drop_more jobs n job below)
+    ∙ ap (λ j. makers inputs (j ∷ drop (n + 1) jobs) word) (sym here) ∙ rw made refl) ∙ is
+
+-- no job has it
+pub no_maker : (n : ℕ) (inputs : List Input) (jobs : List Job) (word : List ℕ) (whole : List (List ℕ)) → length jobs ≤ n
+    → makers inputs (drop n jobs) word ≡ whole → [] ≡ whole
+no_maker n inputs jobs word whole past is = sym (ap (λ js. makers inputs js word) (drop_all n jobs past)) ∙ is
+
+-- the next input is this word
+pub input_met : (n : ℕ) (inputs : List Input) (input : Input) (word : List ℕ) (names whole : List (List ℕ)) → n < length inputs
+    → input ≡ get_or inputs n input → pointwise nat_eq (input_word input) word ≡ true → names ≡ word ∷ []
+    → given (drop n inputs) word ≡ whole → names ≡ whole
+input_met n inputs input word names whole below here same has is =
+    has
+    ∙ sym (ap (λ is. given is word) (drop_more inputs n input below)
+    ∙ ap (λ i. given (i ∷ drop (n + 1) inputs) word) (sym here) ∙ rw same refl) ∙ is
+
+-- it is another word
+pub input_passed : (n : ℕ) (inputs : List Input) (input : Input) (word : List ℕ) (whole : List (List ℕ)) → n < length inputs
+    → input ≡ get_or inputs n input → pointwise nat_eq (input_word input) word ≡ false → given (drop n inputs) word ≡ whole
+    → given (drop (n + 1) inputs) word ≡ whole
+input_passed n inputs input word whole below here other is =
+    sym (ap (λ is. given is word) (drop_more inputs n input below)
+    ∙ ap (λ i. given (i ∷ drop (n + 1) inputs) word) (sym here) ∙ rw other refl) ∙ is
+
+-- no input is this word
+pub no_input : (n : ℕ) (inputs : List Input) (word : List ℕ) (whole : List (List ℕ)) → length inputs ≤ n
+    → given (drop n inputs) word ≡ whole → [] ≡ whole
+no_input n inputs word whole past is = sym (ap (λ is. given is word) (drop_all n inputs past)) ∙ is
+
+-- tokens and parts
+
+-- `take_tree` has taken one token more
+pub token_next : (case : Case) (items : Items) (n : ℕ) (tokens : List Token) (token : Token) (before after whole : Telling)
+    → n < length tokens → token ≡ get_or tokens n token → nat_le before.walk.last token.start ≡ false
+    → after ≡ token_told case token (label_at items n) before
+    → tokens_told case items n before (drop n tokens) ≡ whole
+    → tokens_told case items (n + 1) after (drop (n + 1) tokens) ≡ whole
+token_next case items n tokens token before after whole below here inside takes is =
+    ap (λ t. tokens_told case items (n + 1) t (drop (n + 1) tokens)) takes
+    ∙ sym (ap (tokens_told case items n before) (drop_more tokens n token below)
+    ∙ ap (λ t. tokens_told case items n before (t ∷ drop (n + 1) tokens)) (sym here) ∙ rw inside refl) ∙ is
+
+-- it ends behind the part
+pub token_behind : (case : Case) (items : Items) (n : ℕ) (tokens : List Token) (token : Token) (before whole : Telling)
+    → n < length tokens → token ≡ get_or tokens n token → nat_le before.walk.last token.start ≡ true
+    → tokens_told case items n before (drop n tokens) ≡ whole → before ≡ whole
+token_behind case items n tokens token before whole below here behind is =
+    sym (ap (tokens_told case items n before) (drop_more tokens n token below)
+    ∙ ap (λ t. tokens_told case items n before (t ∷ drop (n + 1) tokens)) (sym here) ∙ rw behind refl) ∙ is
+
+-- a text that the grammar refuses has no item
+pub no_tree : (text : List ℕ) (fault : SyntaxFault) → parsed text ≡ Err fault → tree_of text ≡ none
+no_tree text fault is = ap tree_in is
+
+-- a text that is kept is the same one
+pub same_text : (kept text : List ℕ) → pointwise nat_eq kept text ≡ true → kept ≡ text
+same_text kept text is = (slice_eq-Decides Decides-eqb kept text (pointwise nat_eq kept text) refl).0 is
+
+-- `take_part` goes through the tree that is kept
+pub kept_told : (case : Case) (before start after : Telling) (part outer : MarkedPart) (kept : List ℕ) (has : Bool) → has ≡ true
+    → (has ≡ true → kept ≡ outer.written)
+    → start ≡ record before { walk = way_to (part.at - outer.at) (part.at - outer.at + length part.written) }
+    → after ≡ tree_told case start (tree_of kept) → after ≡ part_told case before part outer
+kept_told case before start after part outer kept has is same begins takes =
+    takes ∙ ap (λ t. tree_told case t (tree_of kept)) begins
+    ∙ ap (λ text. tree_told case (record before { walk = way_to (part.at - outer.at) (part.at - outer.at + length part.written) }) (tree_of text))
+    (same is)
+
+-- it goes through nothing where there is no tree
+pub none_told : (case : Case) (before after : Telling) (part outer : MarkedPart) (has : Bool) → has ≡ false
+    → (has ≡ false → tree_of outer.written ≡ none)
+    → after ≡ record before { walk = way_to (part.at - outer.at) (part.at - outer.at + length part.written) }
+    → after ≡ part_told case before part outer
+none_told case before after part outer has is lacks begins =
+    begins
+    ∙ sym (ap (tree_told case (record before { walk = way_to (part.at - outer.at) (part.at - outer.at + length part.written) })) (lacks is))
+
+-- `outers_of` has judged one part more
+pub outer_next : (n : ℕ) (parts : List MarkedPart) (part : MarkedPart) (outer next : Outer) (before after whole : List ℕ) → n < length parts
+    → part ≡ get_or parts n part → next ≡ outer_of n outer part → after ≡ before ++ next.number ∷ []
+    → before ++ outers_from n outer (drop n parts) ≡ whole → after ++ outers_from (n + 1) next (drop (n + 1) parts) ≡ whole
+outer_next n parts part outer next before after whole below here judged grows is =
+    ap (λ ns. ns ++ outers_from (n + 1) next (drop (n + 1) parts)) grows
+    ∙ append_assoc before (next.number ∷ []) (outers_from (n + 1) next (drop (n + 1) parts))
+    ∙ ap (λ o. before ++ o.number ∷ outers_from (n + 1) o (drop (n + 1) parts)) judged
+    ∙ ap (λ p. before ++ outers_from n outer (p ∷ drop (n + 1) parts)) here
+    ∙ ap (λ ps. before ++ outers_from n outer ps) (sym (drop_more parts n part below)) ∙ is
+
+-- `causes_of` has judged one number more
+pub number_next : (case : Case) (n number : ℕ) (numbers : List ℕ) (before after whole : Telling)
+    → n < length numbers → number ≡ get_or numbers n number → after ≡ number_told case before number
+    → numbers_told case before (drop n numbers) ≡ whole → numbers_told case after (drop (n + 1) numbers) ≡ whole
+number_next case n number numbers before after whole below here takes is =
+    ap (λ t. numbers_told case t (drop (n + 1) numbers)) takes
+    ∙ ap (λ m. numbers_told case before (m ∷ drop (n + 1) numbers)) here
+    ∙ ap (numbers_told case before) (sym (drop_more numbers n number below)) ∙ is
+
+-- `all_caused` has judged one word more
+pub cause_next : (line : Line) (jobs js : List Job) (parts : List MarkedPart) (place : ℕ) (input : Option (List ℕ)) (outers : List ℕ)
+    (trace it : Trace) (causes : List (List ℕ)) (before after yielded : List Trace)
+    → js ≡ jobs → input ≡ input_at line.inputs (source_of js place) → outers ≡ outers_of parts
+    → causes
+    ≡ causes_of (record { line = line; jobs = js; input = input; word = trace.word; parts = parts; outers = outers }) trace.parts
+    → it ≡ record trace { causes = causes } → after ≡ before ++ it ∷ [] → before ≡ map (caused line jobs parts place) yielded
+    → after ≡ map (caused line jobs parts place) (yielded ++ trace ∷ [])
+cause_next line jobs js parts place input outers trace it causes before after yielded same at outer told is grows so_far =
+    grows
+    ∙ ap (λ ts. ts ++ it ∷ []) so_far
+    ∙ ap (λ t. map (caused line jobs parts place) yielded ++ t ∷ [])
+    (is
+    ∙ ap (λ cs. record trace { causes = cs })
+    (told
+    ∙ ap (λ os. causes_of (record { line = line; jobs = js; input = input; word = trace.word; parts = parts; outers = os }) trace.parts) outer
+    ∙ ap (λ i. causes_of (record { line = line; jobs = js; input = i; word = trace.word; parts = parts; outers = outers_of parts })
+    trace.parts) at
+    ∙ ap (λ xs. causes_of (case_at line xs parts place trace.word) trace.parts) same))
+    ∙ sym (map-append (caused line jobs parts place) yielded (trace ∷ []))

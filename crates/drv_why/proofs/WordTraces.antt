@@ -1,0 +1,77 @@
+use Rattle.drv_forms.specs.Difference.{words_of}
+use Rattle.drv_why.specs.Origins.{Marking, command_json, command_text, is_cut, origins_from, origins_items, shown}
+use Rattle.drv_why.specs.Traces.{are_words, is_found, traces_by, traces_of}
+use Rattle.drv_why.specs.declared.traces.Trace.{Trace}
+use Rattle.drv_words.specs.declared.plan.Command.{Command}
+use Rattle.drv_words.specs.declared.plan.PlanLine.{PlanLine}
+use Rattle.json.specs.Token.{Token}
+use Rattle.json.specs.Tree.{items_tokens, json_tokens}
+use Rattle.std.proofs.Common.{◌≡◌, ◌∙◌, ◌<◌, ◌+◌, ◌-◌, ◌++◌, ◌∷◌, Bool, List, None, Option, Some, [], ap, append_assoc}
+use Rattle.std.proofs.Common.{codes, drop, false, length, refl, sym, true, ℕ}
+use Rattle.std.proofs.lemmas.List.{drop_more}
+use Rattle.std.specs.Option.{unwrap_or}
+use Rattle.std.specs.Prelude.{get_or, if◌then◌else◌}
+
+-- For origins_report (src/origins.rt): the words of a command beside those of the plan, the bytes of a part, and the commands of a plan, one
+-- after another.
+
+-- `are_words` goes on after a word that is the same
+pub are_next : (t : Trace) (word : List ℕ) (ts ts' : List Trace) (words words' : List (List ℕ)) → ts ≡ t ∷ ts' → words ≡ word ∷ words'
+    → is_found word t.word ≡ true → are_words ts words ≡ are_words ts' words'
+are_next t word ts ts' words words' cut cut' is =
+    ap (λ xs. are_words xs words) cut ∙ ap (λ ws. are_words (t ∷ ts') ws) cut' ∙ rw is refl
+
+-- where the parts are known, the words are those of the command
+pub traced_alike : (command : Command) (marked : Option PlanLine) (ts : List Trace) → traces_by command marked ≡ Some ts
+    → are_words ts (words_of command) ≡ true
+traced_alike command None ts known = absurd cc
+traced_alike command (Some line) ts known = by (are_words (traces_of line.command) (words_of command)) refl known
+  where
+    by : (test : Bool) → are_words (traces_of line.command) (words_of command) ≡ test
+        → (if test then Some (traces_of line.command) else None) ≡ Some ts → are_words ts (words_of command) ≡ true
+    by true is same = ap (λ xs. are_words xs (words_of command)) (sym (ap (λ o. unwrap_or o []) same)) ∙ is
+    by false is same = absurd cc
+
+-- `push_shown` has added one byte more: those that are left complete the part
+pub shown_next : (n room : ℕ) (part : List ℕ) (byte : ℕ) (before after whole : List ℕ) → n < length part → byte ≡ get_or part n byte
+    → is_cut room byte ≡ false → after ≡ before ++ byte ∷ []
+    → before ++ shown room (drop n part) ≡ whole → after ++ shown (room - 1) (drop (n + 1) part) ≡ whole
+shown_next n room part byte before after whole below here goes grows is =
+    let one : shown room (byte ∷ drop (n + 1) part) ≡ byte ∷ shown (room - 1) (drop (n + 1) part) = rw goes refl in
+    ap (λ t. t ++ shown (room - 1) (drop (n + 1) part)) grows
+    ∙ append_assoc before (byte ∷ []) (shown (room - 1) (drop (n + 1) part))
+    ∙ ap (λ t. before ++ t) (sym one)
+    ∙ ap (λ b. before ++ shown room (b ∷ drop (n + 1) part)) here
+    ∙ ap (λ bs. before ++ shown room bs) (sym (drop_more part n byte below)) ∙ is
+
+-- it ends where no further byte is shown
+pub shown_cut : (n room : ℕ) (part : List ℕ) (byte : ℕ) (before after whole : List ℕ) → n < length part → byte ≡ get_or part n byte
+    → is_cut room byte ≡ true → after ≡ before ++ codes ".."
+    → before ++ shown room (drop n part) ≡ whole → after ≡ whole
+shown_cut n room part byte before after whole below here stops grows is =
+    let one : shown room (byte ∷ drop (n + 1) part) ≡ codes ".." = rw stops refl in
+    grows
+    ∙ ap (λ t. before ++ t) (sym one)
+    ∙ ap (λ b. before ++ shown room (b ∷ drop (n + 1) part)) here
+    ∙ ap (λ bs. before ++ shown room bs) (sym (drop_more part n byte below)) ∙ is
+
+-- `origins_text` has written one command more: those that are left complete the text
+pub command_next : (m : Marking) (lines : List PlanLine) (n : ℕ) (line : PlanLine) (before after whole : List ℕ) → n < length lines
+    → line ≡ get_or lines n line → after ≡ before ++ command_text m n line
+    → before ++ origins_from m n (drop n lines) ≡ whole → after ++ origins_from m (n + 1) (drop (n + 1) lines) ≡ whole
+command_next m lines n line before after whole below here grows is =
+    ap (λ t. t ++ origins_from m (n + 1) (drop (n + 1) lines)) grows
+    ∙ append_assoc before (command_text m n line) (origins_from m (n + 1) (drop (n + 1) lines))
+    ∙ ap (λ l. before ++ origins_from m n (l ∷ drop (n + 1) lines)) here
+    ∙ ap (λ ls. before ++ origins_from m n ls) (sym (drop_more lines n line below)) ∙ is
+
+-- `put_origins` has written one command more: those that are left complete the array
+pub command_written : (m : Marking) (lines : List PlanLine) (n : ℕ) (line : PlanLine) (before after whole : List Token) → n < length lines
+    → line ≡ get_or lines n line → after ≡ before ++ json_tokens (command_json m n line)
+    → before ++ items_tokens (origins_items m n (drop n lines)) ≡ whole
+    → after ++ items_tokens (origins_items m (n + 1) (drop (n + 1) lines)) ≡ whole
+command_written m lines n line before after whole below here grows is =
+    ap (λ t. t ++ items_tokens (origins_items m (n + 1) (drop (n + 1) lines))) grows
+    ∙ append_assoc before (json_tokens (command_json m n line)) (items_tokens (origins_items m (n + 1) (drop (n + 1) lines)))
+    ∙ ap (λ l. before ++ items_tokens (origins_items m n (l ∷ drop (n + 1) lines))) here
+    ∙ ap (λ ls. before ++ items_tokens (origins_items m n ls)) (sym (drop_more lines n line below)) ∙ is

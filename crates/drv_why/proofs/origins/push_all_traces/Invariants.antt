@@ -1,0 +1,11 @@
+use Rattle.drv_why.proofs.origins.push_all_traces.Given as goal
+use Rattle.drv_why.specs.Origins.{trace_text}
+use Rattle.std.proofs.Common.{◌≡◌, ◌++◌, drop}
+use Rattle.std.specs.List.{flat_map}
+
+-- The loops of push_all_traces (src/origins.rt). Adds the lines of words.
+
+abbrev pub invariant-loop-trace : goal.invariant-loop-trace
+invariant-loop-trace l =
+    l.text ++ flat_map (trace_text l.marking.sources l.marking.parts) (drop l.trace-index l.traces)
+    ≡ l.fn.text ++ flat_map (trace_text l.marking.sources l.marking.parts) l.traces

@@ -1,0 +1,284 @@
+//! Where the words of a plan are from.
+
+ghost use Rattle.drv_why.specs.Origins.{causes_text, command_text, found_text, further_text, is_cut, more_text, most_shown};
+ghost use Rattle.drv_why.specs.Origins.{origins_from, origins_report, origins_text};
+ghost use Rattle.drv_why.specs.Origins.{part_text, parts_text, shown, trace_text, traces_text};
+ghost use Rattle.drv_words.specs.Printed.{line_text, quoted};
+ghost use Rattle.std.specs.List.{flat_map};
+ghost use Rattle.std.specs.Prelude.{◌≡◌, ◌++◌, IfOk, OnOk, slice_get};
+
+use crate::fates::push_spot;
+use crate::origins_json::origins_json;
+use crate::report::Report;
+use crate::traces::Trace;
+use crate::tracing::caused_at;
+use drv_args::Line;
+use drv_check::{MarkedPart, Source};
+use drv_words::{Listing, Plan, PlanLine, Word, plan_lines, quote, render};
+use std::alloc::{AllocError, Global};
+use std::marker::Model;
+use std::slice::from_ref;
+
+/// The most bytes of a part that are shown.
+const MOST_SHOWN: usize = 40;
+
+/// A line and its plan, and what the marks of the marked plan lead to.
+#[derive(Drop)]
+pub struct Marking<'a> {
+    /// The line.
+    pub line: &'a Line,
+    /// Its plan.
+    pub plan: &'a Plan,
+    /// The files that the places of parts are in.
+    pub sources: &'a [Source],
+    /// The parts that have a mark: a mark's number is the place of its part.
+    pub parts: &'a [MarkedPart],
+    /// The lines of the plan with the marks.
+    pub marked: &'a [PlanLine],
+}
+
+impl<'a> Model for Marking<'a> {
+    ghost use Rattle.drv_why.specs.Origins as specs;
+
+    ghost Value = { specs.Marking };
+
+    ghost view = { λ m. record {
+      line = m.line.now;
+      plan = m.plan.now;
+      sources = m.sources.now;
+      parts = m.parts.now;
+      marked = m.marked.now;
+    } };
+}
+
+/// Whether no further byte of a part is shown, where there is room for so many.
+fn is_cut(room: usize, byte: u8) -> bool
+    ensures { result ≡ is_cut room byte }
+{
+    room == 0 || byte == b'\n'
+}
+
+/// Adds a part as it is written, as far as it is shown.
+#[tactic(auto, using(crate::proofs::WordTraces::shown_next, crate::proofs::WordTraces::shown_cut))]
+fn push_shown(text: &mut Word, part: &[u8]) -> Result<(), AllocError>
+    ensures { OnOk result (text.new ≡ text.old ++ shown most_shown part.now) }
+{
+    let mut room = MOST_SHOWN;
+    for byte in part {
+        if is_cut(room, *byte) {
+            text.extend_from_slice(b"..")?;
+            return Ok(());
+        }
+        text.push(*byte)?;
+        room = room.saturating_sub(1);
+    }
+    Ok(())
+}
+
+/// Adds a part, its text, and where it is.
+fn push_part(text: &mut Word, sources: &[Source], part: &MarkedPart) -> Result<(), AllocError>
+    ensures { OnOk result (text.new ≡ text.old ++ part_text sources.now part.now) }
+{
+    push_shown(text, part.written.as_bytes())?;
+    text.extend_from_slice(b" of ")?;
+    text.extend_from_slice(part.head.as_bytes())?;
+    push_spot(text, sources, part.spot)
+}
+
+/// Adds the part of a mark's number.
+fn push_found(text: &mut Word, marking: &Marking<'_>, number: usize) -> Result<(), AllocError>
+    ensures { OnOk result
+        (text.new ≡ text.old
+        ++ found_text marking.now.sources (slice_get marking.now.parts number)) }
+{
+    match marking.parts.get(number) {
+        Some(part) => push_part(text, marking.sources, part),
+        None => text.extend_from_slice(b"no part"),
+    }
+}
+
+/// Adds one more part of a word.
+fn push_further(text: &mut Word, marking: &Marking<'_>, number: usize) -> Result<(), AllocError>
+    ensures { OnOk result
+        (text.new ≡ text.old ++ further_text marking.now.sources marking.now.parts number) }
+{
+    text.extend_from_slice(b" and ")?;
+    push_found(text, marking, number)
+}
+
+/// Adds more parts of a word.
+fn push_all_further(
+    text: &mut Word,
+    marking: &Marking<'_>,
+    numbers: &[usize],
+) -> Result<(), AllocError>
+    ensures { OnOk result
+        (text.new ≡ text.old
+        ++ flat_map (further_text marking.now.sources marking.now.parts) numbers.now) }
+{
+    for number in numbers {
+        push_further(text, marking, *number)?;
+    }
+    Ok(())
+}
+
+/// Adds the parts of a word.
+fn push_parts(text: &mut Word, marking: &Marking<'_>, numbers: &[usize]) -> Result<(), AllocError>
+    ensures { OnOk result
+        (text.new ≡ text.old
+        ++ parts_text marking.now.sources marking.now.parts numbers.now) }
+{
+    match numbers {
+        [first, others @ ..] => {
+            push_found(text, marking, *first)?;
+            push_all_further(text, marking, others)
+        }
+        [] => text.extend_from_slice(b"the first part of its command"),
+    }
+}
+
+/// Adds what a word is for, after a word before it.
+fn push_cause(alloc: Global, text: &mut Word, before: &[u8], name: &Word) -> Result<(), AllocError>
+    ensures { OnOk result (text.new ≡ text.old ++ before.now ++ quoted name.now) }
+{
+    text.extend_from_slice(before)?;
+    text.extend_from_slice(quote(alloc, name)?.as_bytes())
+}
+
+/// Adds what else a word is for.
+fn push_more(alloc: Global, text: &mut Word, names: &[Word]) -> Result<(), AllocError>
+    ensures { OnOk result (text.new ≡ text.old ++ flat_map more_text names.now) }
+{
+    for name in names {
+        push_cause(alloc, text, b" and ", name)?;
+    }
+    Ok(())
+}
+
+/// Adds what a word is for, if it is for anything.
+fn push_causes(alloc: Global, text: &mut Word, names: &[Word]) -> Result<(), AllocError>
+    ensures { OnOk result (text.new ≡ text.old ++ causes_text names.now) }
+{
+    match names {
+        [first, others @ ..] => {
+            push_cause(alloc, text, b" for ", first)?;
+            push_more(alloc, text, others)
+        }
+        [] => Ok(()),
+    }
+}
+
+/// Adds the line of a word.
+fn push_trace(
+    alloc: Global,
+    text: &mut Word,
+    marking: &Marking<'_>,
+    trace: &Trace,
+) -> Result<(), AllocError>
+    ensures { OnOk result
+        (text.new ≡ text.old
+        ++ trace_text marking.now.sources marking.now.parts trace.now) }
+{
+    text.extend_from_slice(b"  ")?;
+    text.extend_from_slice(quote(alloc, &trace.word)?.as_bytes())?;
+    text.extend_from_slice(b" by ")?;
+    push_parts(text, marking, trace.parts.as_slice())?;
+    push_causes(alloc, text, trace.causes.as_slice())?;
+    text.push(b'\n')
+}
+
+/// Adds the lines of words.
+fn push_all_traces(
+    alloc: Global,
+    text: &mut Word,
+    marking: &Marking<'_>,
+    traces: &[Trace],
+) -> Result<(), AllocError>
+    ensures { OnOk result
+        (text.new ≡ text.old
+        ++ flat_map (trace_text marking.now.sources marking.now.parts) traces.now) }
+{
+    for trace in traces {
+        push_trace(alloc, text, marking, trace)?;
+    }
+    Ok(())
+}
+
+/// Adds the lines of the words of a command, or that marks change it.
+fn push_traces(
+    alloc: Global,
+    text: &mut Word,
+    marking: &Marking<'_>,
+    traces: &Option<Listing<Trace>>,
+) -> Result<(), AllocError>
+    ensures { OnOk result
+        (text.new ≡ text.old
+        ++ traces_text marking.now.sources marking.now.parts traces.now) }
+{
+    match traces {
+        Some(traces) => push_all_traces(alloc, text, marking, traces.as_slice()),
+        None => text.extend_from_slice(
+            b"  marks change this command, so the parts of its words are not known\n",
+        ),
+    }
+}
+
+/// Adds the line of the plan at a place and the lines of its words.
+fn push_command(
+    alloc: Global,
+    text: &mut Word,
+    marking: &Marking<'_>,
+    place: usize,
+    line: &PlanLine,
+) -> Result<(), AllocError>
+    ensures { OnOk result (text.new ≡ text.old ++ command_text marking.now place line.now) }
+{
+    let traces = caused_at(alloc, marking, place, &line.command)?;
+    text.extend_from_slice(render(alloc, from_ref(line))?.as_bytes())?;
+    push_traces(alloc, text, marking, &traces)
+}
+
+/// Adds the lines of a plan, each with the lines of its words.
+#[tactic(auto, using(crate::proofs::WordTraces::command_next))]
+fn push_commands(
+    alloc: Global,
+    text: &mut Word,
+    marking: &Marking<'_>,
+    lines: &[PlanLine],
+) -> Result<(), AllocError>
+    ensures { OnOk result (text.new ≡ text.old ++ origins_from marking.now 0 lines.now) }
+{
+    let mut place = 0;
+    while place < lines.len() {
+        push_command(alloc, text, marking, place, &lines[place])?;
+        place += 1;
+    }
+    Ok(())
+}
+
+/// The lines of a plan, each with the lines of its words.
+fn origins_text(alloc: Global, marking: &Marking<'_>) -> Result<Word, AllocError>
+    ensures { IfOk result (λ text. text ≡ origins_text marking.now) }
+{
+    let lines = plan_lines(alloc, marking.plan)?;
+    let mut text = Word::empty(alloc);
+    push_commands(alloc, &mut text, marking, lines.as_slice())?;
+    Ok(text)
+}
+
+/// Where the words of a plan are from, in a form. Under each command there are its words, each with
+/// the parts of texts that it has bytes of, by the marks of the marked plan, and with the options and
+/// inputs of the line that it is for. Where a command of that, without marks, isn't the command in its
+/// place, no part is said.
+pub fn origins_report(
+    alloc: Global,
+    report: Report,
+    marking: &Marking<'_>,
+) -> Result<Word, AllocError>
+    ensures { IfOk result (λ text. text ≡ origins_report report marking.now) }
+{
+    match report {
+        Report::Lines => origins_text(alloc, marking),
+        Report::Json => origins_json(alloc, marking),
+    }
+}

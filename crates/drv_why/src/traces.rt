@@ -1,0 +1,268 @@
+//! The parts of texts that each word of a command has its bytes from, by marks.
+
+ghost use Rattle.drv_forms.specs.Difference.{words_of};
+ghost use Rattle.drv_why.specs.Traces.{are_words, at_word, before_name, in_mark, is_found, is_marks, no_traces, outside_marks, read, taken};
+ghost use Rattle.drv_why.specs.Traces.{traces_by, traces_if, traces_of, with_byte, with_digit, with_trace, with_word, words_read};
+ghost use Rattle.std.specs.Prelude.{◌≡◌, IfOk, OnOk, slice_get};
+
+use drv_words::{Command, Listing, PlanLine, Word};
+use std::alloc::{AllocError, Global};
+
+/// The byte that a mark begins and ends with.
+const MARK_END: u8 = 1;
+
+/// A number that is this large takes no more digits.
+const MOST_NUMBER: usize = 1_000_000_000;
+
+/// A word of a marked command, as far as its bytes were read.
+#[derive(Debug, Drop)]
+pub(crate) struct Trace {
+    /// Its bytes without marks.
+    pub(crate) word: Word,
+    /// The numbers of the parts that those are of.
+    pub(crate) parts: Listing<usize>,
+    /// The options and inputs of the line that it is for.
+    pub(crate) causes: Listing<Word>,
+    /// The last mark of the command.
+    last: Option<usize>,
+    /// That mark, if no byte follows it yet.
+    due: Option<usize>,
+    /// Inside a mark, its number so far.
+    number: Option<usize>,
+}
+
+/// Words of a marked command, and its last mark.
+#[derive(Debug, Drop)]
+struct Traces {
+    words: Listing<Trace>,
+    last: Option<usize>,
+}
+
+/// A number with one more digit.
+fn with_digit(number: usize, byte: u8) -> usize
+    ensures { result ≡ with_digit number byte }
+{
+    if number < MOST_NUMBER {
+        number * 10 + (byte as usize).saturating_sub(48)
+    } else {
+        number
+    }
+}
+
+impl Trace {
+    /// A word before its first byte.
+    fn new(alloc: Global, last: Option<usize>) -> Trace
+        ensures { result ≡ at_word last }
+    {
+        Trace {
+            word: Word::empty(alloc),
+            parts: Listing::new(alloc),
+            causes: Listing::new(alloc),
+            last,
+            due: last,
+            number: None,
+        }
+    }
+
+    /// Takes a byte of the plan's word.
+    fn take_plain(&mut self, byte: u8) -> Result<(), AllocError>
+        ensures { OnOk result (self.new ≡ with_byte self.old byte) }
+    {
+        self.word.push(byte)?;
+        if let Some(number) = self.due {
+            self.parts.push(number)?;
+        }
+        self.due = None;
+        Ok(())
+    }
+
+    /// Takes a byte inside the mark that has this number so far.
+    fn take_inside(&mut self, number: usize, byte: u8)
+        ensures { self.new ≡ in_mark self.old number byte }
+    {
+        if byte == MARK_END {
+            self.last = Some(number);
+            self.due = Some(number);
+            self.number = None;
+        } else {
+            self.number = Some(with_digit(number, byte));
+        }
+    }
+
+    /// Takes a byte outside of marks.
+    fn take_outside(&mut self, byte: u8) -> Result<(), AllocError>
+        ensures { OnOk result (self.new ≡ outside_marks self.old byte) }
+    {
+        if byte == MARK_END {
+            self.number = Some(0);
+            return Ok(());
+        }
+        self.take_plain(byte)
+    }
+
+    /// Takes one more byte.
+    fn take(&mut self, byte: u8) -> Result<(), AllocError>
+        ensures { OnOk result (self.new ≡ taken self.old byte) }
+    {
+        match self.number {
+            Some(number) => {
+                self.take_inside(number, byte);
+                Ok(())
+            }
+            None => self.take_outside(byte),
+        }
+    }
+}
+
+/// A word of a command whose last mark before it is this one.
+fn read(alloc: Global, last: Option<usize>, bytes: &[u8]) -> Result<Trace, AllocError>
+    ensures { IfOk result (λ trace. trace ≡ read (at_word last) bytes.now) }
+{
+    let mut trace = Trace::new(alloc, last);
+    for byte in bytes {
+        trace.take(*byte)?;
+    }
+    Ok(trace)
+}
+
+/// Whether bytes are marks alone.
+fn is_marks(bytes: &[u8], trace: &Trace) -> bool
+    ensures { result ≡ is_marks bytes.now trace.now }
+{
+    !bytes.is_empty() && trace.word.as_bytes().is_empty()
+}
+
+impl Traces {
+    /// No words.
+    fn new(alloc: Global) -> Traces
+        ensures { result ≡ no_traces }
+    {
+        Traces {
+            words: Listing::new(alloc),
+            last: None,
+        }
+    }
+
+    /// Takes a word that was read.
+    fn push(&mut self, bytes: &[u8], trace: Trace) -> Result<(), AllocError>
+        ensures { OnOk result (self.new ≡ with_trace self.old bytes.now trace) }
+    {
+        self.last = trace.last;
+        if !is_marks(bytes, &trace) {
+            self.words.push(trace)?;
+        }
+        Ok(())
+    }
+
+    /// Takes one more word.
+    fn take(&mut self, alloc: Global, bytes: &[u8]) -> Result<(), AllocError>
+        ensures { OnOk result (self.new ≡ with_word self.old bytes.now) }
+    {
+        let trace = read(alloc, self.last, bytes)?;
+        self.push(bytes, trace)
+    }
+
+    /// Takes more words.
+    fn take_all(&mut self, alloc: Global, words: &[Word]) -> Result<(), AllocError>
+        ensures { OnOk result (self.new ≡ words_read self.old words.now) }
+    {
+        for word in words {
+            self.take(alloc, word.as_bytes())?;
+        }
+        Ok(())
+    }
+}
+
+/// The words of a command without their marks, each with its parts.
+fn traces_of(alloc: Global, command: &Command) -> Result<Listing<Trace>, AllocError>
+    ensures { IfOk result (λ traces. traces ≡ traces_of command.now) }
+{
+    let mut traces = Traces::new(alloc);
+    traces.take(alloc, command.program.as_bytes())?;
+    traces.take_all(alloc, command.words.as_slice())?;
+    Ok(traces.words)
+}
+
+/// What precedes the last bytes of a word, as many as a name has.
+fn before_name<'a>(word: &'a [u8], name: &[u8]) -> &'a [u8]
+    ensures { result.now ≡ before_name word.now name.now }
+{
+    let size = word.len().saturating_sub(name.len());
+    word.get(..size).unwrap_or(word)
+}
+
+/// Whether a word is a name, or the path of a file with that name in a folder.
+fn is_found(word: &[u8], name: &[u8]) -> bool
+    ensures { result ≡ is_found word.now name.now }
+{
+    word == name || (word.ends_with(name) && before_name(word, name).ends_with(b"/"))
+}
+
+/// Whether a word is what a trace names.
+fn is_word(trace: &Trace, word: &Word) -> bool
+    ensures { result ≡ is_found word.now trace.now.word }
+{
+    is_found(word.as_bytes(), trace.word.as_bytes())
+}
+
+/// Whether they are these words.
+#[tactic(auto, using(crate::proofs::WordTraces::are_next))]
+fn are_words(traces: &[Trace], words: &[Word]) -> bool
+    ensures { result ≡ are_words traces.now words.now }
+{
+    let mut traces_left = traces;
+    let mut words_left = words;
+    while let [trace, traces_after @ ..] = traces_left {
+        let [word, words_after @ ..] = words_left else {
+            return false;
+        };
+        if !is_word(trace, word) {
+            return false;
+        }
+        traces_left = traces_after;
+        words_left = words_after;
+    }
+    matches!(words_left, [])
+}
+
+/// Whether they are the words of a command.
+fn are_of(traces: &[Trace], command: &Command) -> bool
+    ensures { result ≡ are_words traces.now (words_of command.now) }
+{
+    match traces {
+        [first, rest @ ..] => {
+            is_word(first, &command.program) && are_words(rest, command.words.as_slice())
+        }
+        [] => false,
+    }
+}
+
+/// Words with their parts, if they are those of a command.
+fn traces_if(traces: Listing<Trace>, command: &Command) -> Option<Listing<Trace>>
+    ensures { result ≡ traces_if traces command.now }
+{
+    if are_of(traces.as_slice(), command) {
+        Some(traces)
+    } else {
+        None
+    }
+}
+
+/// The words of a command of the plan with their parts, by the line at this place of the marked plan.
+pub(crate) fn traces_at(
+    alloc: Global,
+    command: &Command,
+    lines: &[PlanLine],
+    place: usize,
+) -> Result<Option<Listing<Trace>>, AllocError>
+    ensures { IfOk result
+        (λ traces. traces ≡ traces_by command.now (slice_get lines.now place)) }
+{
+    match lines.get(place) {
+        Some(line) => {
+            let traces = traces_of(alloc, &line.command)?;
+            Ok(traces_if(traces, command))
+        }
+        None => Ok(None),
+    }
+}

@@ -1,0 +1,283 @@
+//! The way through the tokens of a text to the words that a part of it gives.
+
+ghost use Rattle.drv_why.specs.Walks.{around, at_item, behind, behind_by, blank_by, ended, gives, inside};
+ghost use Rattle.drv_why.specs.Walks.{is_passed, is_run, last_by, opened_by, past, reached, runs, tested, tested_by, untold_by};
+ghost use Rattle.drv_why.specs.Walks.{walked, way_to};
+ghost use Rattle.std.specs.Prelude.{◌≡◌, nat_le};
+
+use drv_syntax::{TestKind, Token, TokenKind};
+
+/// Where the way has got to.
+#[derive(Clone, Copy, Debug)]
+pub(crate) enum Stand {
+    /// Among the alternatives around the part.
+    Around,
+    /// In a list that is run, before its first item.
+    First,
+    /// In a list that is run, behind an item.
+    Behind,
+    /// In an alternative, before its tests.
+    Before,
+    /// In an alternative, behind tests of which none is true.
+    Failed,
+}
+
+/// The way through the tokens of a text to a part, as far as they were read.
+#[derive(Clone, Copy, Debug)]
+pub(crate) struct Walk {
+    /// Where it has got to.
+    stand: Stand,
+    /// Tokens that begin before this byte are passed over.
+    from: usize,
+    /// Tokens that begin at this byte or later are passed over.
+    to: usize,
+    /// Where the last alternative ends.
+    end: usize,
+    /// Where the part ends.
+    last: usize,
+}
+
+impl Walk {
+    /// The way to a part from one place up to another.
+    pub(crate) fn new(at: usize, last: usize) -> Walk
+        ensures { result ≡ way_to at last }
+    {
+        Walk {
+            stand: Stand::Around,
+            from: 0,
+            to: at,
+            end: 0,
+            last,
+        }
+    }
+}
+
+/// The way at a token.
+pub(crate) fn reached(walk: Walk, token: Token) -> Walk
+    ensures { result ≡ reached walk token }
+{
+    match walk.stand {
+        Stand::Around => {
+            if walk.to <= token.start as usize {
+                Walk {
+                    stand: Stand::First,
+                    to: walk.last,
+                    ..walk
+                }
+            } else {
+                walk
+            }
+        }
+        Stand::First | Stand::Behind | Stand::Before | Stand::Failed => walk,
+    }
+}
+
+/// Whether a token is behind the part.
+pub(crate) fn is_behind(walk: Walk, token: Token) -> bool
+    ensures { result ≡ nat_le walk.last token.start }
+{
+    walk.last <= token.start as usize
+}
+
+/// Whether a token is not on the way, by its place.
+pub(crate) fn is_passed(walk: Walk, token: Token) -> bool
+    ensures { result ≡ is_passed walk token }
+{
+    (token.start as usize) < walk.from || walk.to <= token.start as usize
+}
+
+/// The way around the part, behind what ends before it.
+fn around(walk: Walk, token: Token) -> Walk
+    ensures { result ≡ around walk token }
+{
+    if token.end as usize <= walk.to {
+        return Walk {
+            from: token.end as usize,
+            ..walk
+        };
+    }
+    walk
+}
+
+/// The way that ends.
+fn ended(walk: Walk) -> Walk
+    ensures { result ≡ ended walk }
+{
+    Walk { to: 0, ..walk }
+}
+
+/// The way into the alternative whose beginning it has reached.
+fn inside(walk: Walk) -> Walk
+    ensures { result ≡ inside walk }
+{
+    Walk {
+        stand: Stand::First,
+        to: walk.end,
+        ..walk
+    }
+}
+
+/// The way that has got to this.
+fn at_stand(walk: Walk, stand: Stand) -> Walk
+    ensures { result ≡ record walk { stand = stand } }
+{
+    Walk { stand, ..walk }
+}
+
+/// The way at the beginning of an alternative.
+fn opened(walk: Walk, token: Token) -> Walk
+    ensures { result ≡ opened_by walk.stand walk token }
+{
+    match walk.stand {
+        Stand::Around => around(walk, token),
+        Stand::First | Stand::Behind | Stand::Before | Stand::Failed => Walk {
+            stand: Stand::Before,
+            end: token.end as usize,
+            ..walk
+        },
+    }
+}
+
+/// The way behind a test of switches, which is true or not.
+fn after_switches(walk: Walk, holds: bool) -> Walk
+    ensures { result ≡ tested_by walk.stand walk holds }
+{
+    match walk.stand {
+        Stand::Around | Stand::First | Stand::Behind => walk,
+        Stand::Before => {
+            if holds {
+                inside(walk)
+            } else {
+                at_stand(walk, Stand::Failed)
+            }
+        }
+        Stand::Failed => { if holds { inside(walk) } else { walk } }
+    }
+}
+
+/// The way behind another test.
+fn after_untold(walk: Walk) -> Walk
+    ensures { result ≡ untold_by walk.stand walk }
+{
+    match walk.stand {
+        Stand::Around | Stand::First | Stand::Behind => walk,
+        Stand::Before | Stand::Failed => ended(walk),
+    }
+}
+
+/// The way behind a test of this kind.
+fn tested(asks: TestKind, walk: Walk, holds: bool) -> Walk
+    ensures { result ≡ tested asks walk holds }
+{
+    match asks {
+        TestKind::Switch => after_switches(walk, holds),
+        TestKind::Suffix | TestKind::Language | TestKind::Result => after_untold(walk),
+    }
+}
+
+/// The way before an item.
+fn at_item(walk: Walk, token: Token) -> Walk
+    ensures { result ≡ at_item walk token }
+{
+    match walk.stand {
+        Stand::Around => around(walk, token),
+        Stand::First | Stand::Behind => walk,
+        Stand::Before => inside(walk),
+        Stand::Failed => Walk {
+            from: walk.end,
+            ..walk
+        },
+    }
+}
+
+/// The way behind a blank.
+fn after_blank(walk: Walk) -> Walk
+    ensures { result ≡ blank_by walk.stand walk }
+{
+    match walk.stand {
+        Stand::Behind => ended(walk),
+        Stand::Around | Stand::First | Stand::Before | Stand::Failed => walk,
+    }
+}
+
+/// The way behind an item that ends the part.
+fn after_last(walk: Walk) -> Walk
+    ensures { result ≡ last_by walk.stand walk }
+{
+    match walk.stand {
+        Stand::First | Stand::Behind => ended(walk),
+        Stand::Around | Stand::Before | Stand::Failed => walk,
+    }
+}
+
+/// The way behind another item.
+fn after_other(walk: Walk) -> Walk
+    ensures { result ≡ behind_by walk.stand walk }
+{
+    match walk.stand {
+        Stand::First => at_stand(walk, Stand::Behind),
+        Stand::Around | Stand::Behind | Stand::Before | Stand::Failed => walk,
+    }
+}
+
+/// The way behind an item of this kind.
+fn behind(kind: TokenKind, walk: Walk) -> Walk
+    ensures { result ≡ behind kind walk }
+{
+    match kind {
+        TokenKind::Blank => after_blank(walk),
+        TokenKind::Newline | TokenKind::Pipe => after_last(walk),
+        TokenKind::NamedText | TokenKind::BuiltinText | TokenKind::Function => after_last(walk),
+        _ => after_other(walk),
+    }
+}
+
+/// The way behind an item, if it is on the way.
+fn past(kind: TokenKind, walk: Walk, token: Token) -> Walk
+    ensures { result ≡ past kind walk token }
+{
+    if is_passed(walk, token) {
+        walk
+    } else {
+        behind(kind, walk)
+    }
+}
+
+/// The way behind a token on the way, which may be a true test.
+pub(crate) fn walked(walk: Walk, token: Token, asks: TestKind, holds: bool) -> Walk
+    ensures { result ≡ walked walk token asks holds }
+{
+    match token.kind {
+        TokenKind::Alternative => opened(walk, token),
+        TokenKind::Test => Walk {
+            from: token.end as usize,
+            ..tested(asks, walk, holds)
+        },
+        TokenKind::Pattern => walk,
+        kind => past(kind, at_item(walk, token), token),
+    }
+}
+
+/// Whether items are run where the way has got to.
+fn is_run(stand: Stand) -> bool
+    ensures { result ≡ is_run stand }
+{
+    matches!(stand, Stand::First | Stand::Behind)
+}
+
+/// Whether an item is run.
+fn runs(walk: Walk, token: Token) -> bool
+    ensures { result ≡ runs walk token }
+{
+    is_run(walk.stand) && !is_passed(walk, token)
+}
+
+/// Whether the words are for what a token on the way takes.
+pub(crate) fn gives(walk: Walk, token: Token, negated: bool) -> bool
+    ensures { result ≡ gives walk token negated }
+{
+    match token.kind {
+        TokenKind::Test => !negated,
+        _ => runs(at_item(walk, token), token),
+    }
+}
