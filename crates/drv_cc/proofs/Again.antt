@@ -1,7 +1,8 @@
 use Rattle.drv_cc.proofs.LongNames.{no_rename}
 use Rattle.drv_cc.specs.Code.Known.{again, by_names}
 use Rattle.drv_cc.specs.Items.{Start, Wants, Whole, accepts, begins, beyond, by_row, first_row, head_of, is_among, is_file, is_known}
-use Rattle.drv_cc.specs.Items.{is_longer, is_number, is_open, item, items_of, judges, known_item, machine_item, paired, plain, renamed, renamed_by}
+use Rattle.drv_cc.specs.Items.{is_longer, is_number, is_open, item, items_of, judges, known_item, leaves, machine_item, meant_option, plain}
+use Rattle.drv_cc.specs.Items.{positive_form, renamed_by}
 use Rattle.drv_cc.specs.Items.{start_of, start_option, start_renamed, takes_value, turns_off, value_of, with_rest, with_start}
 use Rattle.drv_cc.specs.Table.{OptionRow, ignored, renames, sections, table, texts}
 use Rattle.drv_cc.specs.UnknownWords.{is_unknown}
@@ -169,12 +170,12 @@ off_begins (a ∷ b ∷ word) e = by (45 == a) (45 == b) (87 == b) refl refl e
     by true u false m w e = absurd cc
     by true true true m w e = absurd (omega (arith, eqb-true 45 b m, eqb-true 87 b w))
 
--- So `renamed` leaves it as it is (LongNames.antt has the look-up of long names).
-off_named : (word : List ℕ) → begins (codes "-Wno-") word ≡ true → renamed word ≡ word
+-- So `meant_option` leaves it as it is (LongNames.antt has the look-up of long names).
+off_named : (word : List ℕ) → begins (codes "-Wno-") word ≡ true → meant_option word ≡ word
 off_named word e = ap (renamed_by word) (sym (no_rename word false (off_begins word e) refl))
 
 -- A word that turns a warning off without names is a switch with any names, by its own name.
-off_again : (known word : List ℕ) (b : ℕ) (name : List ℕ) → renamed word ≡ b ∷ name → turns_off [] word ≡ true
+off_again : (known word : List ℕ) (b : ℕ) (name : List ℕ) → meant_option word ≡ b ∷ name → turns_off [] word ≡ true
     → (turns_off known word ≡ true) × (begins (codes "-mcpu=") (b ∷ name) ≡ false)
 off_again known word b name is off =
     let (begun, alone) = off_alone (begins (codes "-Wno-") word) (list_any (nat_eq equals) word) off in
@@ -185,7 +186,8 @@ abbrev chosen : Bool → Bool → Bool → Item → Item → Item → Item
 chosen off taken judged known question unknown = cond (off || taken) known (cond judged question unknown)
 
 -- Without names a word that no row fits, that is not passed over and turns no warning off, is unknown.
-unknown_first : (word : List ℕ) (b : ℕ) (name : List ℕ) → is_among (texts ignored) (paired (b ∷ name)) ≡ false → turns_off [] word ≡ false
+unknown_first : (word : List ℕ) (b : ℕ) (name : List ℕ) → is_among (texts ignored) (positive_form (b ∷ name)) ≡ false
+    → turns_off [] word ≡ false
     → beyond [] word (b ∷ name) ≡ plain Unknown word
 unknown_first word b name e off =
     ap (λ t. cond t (item (b ∷ name) [] Nowhere Switch) (by_names [] word (b ∷ name))) e
@@ -196,16 +198,16 @@ unknown_first word b name e off =
     ∙ ap (λ t. chosen false false t (known_item [] (b ∷ name)) (plain Question word) (plain Unknown word)) (none_judged b name)
 
 -- What names make of such a word is what `beyond` makes of it, since it is not passed over.
-named_then : (known word : List ℕ) (b : ℕ) (name : List ℕ) → is_among (texts ignored) (paired (b ∷ name)) ≡ false
+named_then : (known word : List ℕ) (b : ℕ) (name : List ℕ) → is_among (texts ignored) (positive_form (b ∷ name)) ≡ false
     → by_names known word (b ∷ name) ≡ beyond known word (b ∷ name)
 named_then known word b name e = sym (ap (λ t. cond t (item (b ∷ name) [] Nowhere Switch) (by_names known word (b ∷ name))) e)
 
 -- a word that no row fits
-beyond_again : (known word : List ℕ) (b : ℕ) (name : List ℕ) → renamed word ≡ b ∷ name
+beyond_again : (known word : List ℕ) (b : ℕ) (name : List ℕ) → meant_option word ≡ b ∷ name
     → again known (beyond [] word (b ∷ name)) ≡ beyond known word (b ∷ name)
-beyond_again known word b name is = by (is_among (texts ignored) (paired (b ∷ name))) (turns_off [] word) refl refl
+beyond_again known word b name is = by (is_among (texts ignored) (positive_form (b ∷ name))) (turns_off [] word) refl refl
   where
-    by : (t u : Bool) → is_among (texts ignored) (paired (b ∷ name)) ≡ t → turns_off [] word ≡ u
+    by : (t u : Bool) → is_among (texts ignored) (positive_form (b ∷ name)) ≡ t → turns_off [] word ≡ u
         → again known (beyond [] word (b ∷ name)) ≡ beyond known word (b ∷ name)
     by true u e e' = rw e refl
     by false true e e' =
@@ -232,7 +234,7 @@ two_true true b e = e
 two_true false b e = absurd cc
 
 -- the name of a word that is not empty is not empty
-some_named : (b : ℕ) (word : List ℕ) → (c : ℕ) × (rest : List ℕ) × (renamed (b ∷ word) ≡ c ∷ rest)
+some_named : (b : ℕ) (word : List ℕ) → (c : ℕ) × (rest : List ℕ) × (meant_option (b ∷ word) ≡ c ∷ rest)
 some_named b word = by (find (is_longer (b ∷ word)) renames) refl
   where
     none : (rows : List (List ℕ × List ℕ)) → list_any (λ r. false) rows ≡ false
@@ -249,7 +251,7 @@ some_named b word = by (find (is_longer (b ∷ word)) renames) refl
         appended r.1 (drop (length r.0) (b ∷ word)) (some_left (length r.0) (b ∷ word) less)
 
 -- The same as `begun` for a word that no row fits: its long name may have a row, and else names decide.
-renamed_begun : (known word : List ℕ) (b : ℕ) (name : List ℕ) → renamed word ≡ b ∷ name
+renamed_begun : (known word : List ℕ) (b : ℕ) (name : List ℕ) → meant_option word ≡ b ∷ name
     → Begun known (start_renamed [] word (b ∷ name) (first_row (b ∷ name))) (start_renamed known word (b ∷ name) (first_row (b ∷ name)))
 renamed_begun known word b name is = by (first_row (b ∷ name)) refl
   where
@@ -307,21 +309,21 @@ pub all_again : (known : List ℕ) (args : List (List ℕ)) (before after : List
 all_again known args before after is are = are ∙ ap (map (again known)) is ∙ items_again known None args tt
 
 -- For `by_own_name` (src/reading.rt), where the word is no long name.
-pub unrenamed_named : {E : Type 0} (known word : List ℕ) (result : Result Item E) → renamed word ≡ word
-    → IfOk result (λ found. found ≡ by_names known word word) → IfOk result (λ found. found ≡ by_names known word (renamed word))
+pub unrenamed_named : {E : Type 0} (known word : List ℕ) (result : Result Item E) → meant_option word ≡ word
+    → IfOk result (λ found. found ≡ by_names known word word) → IfOk result (λ found. found ≡ by_names known word (meant_option word))
 unrenamed_named known word (Ok found) same is = is ∙ ap (by_names known word) (sym same)
 unrenamed_named known word (Err e) same is = tt
 
 -- For `by_own_name`, where the word is a long name.
-pub renamed_named : {E : Type 0} (known word name : List ℕ) (result : Result Item E) → name ≡ renamed word
-    → IfOk result (λ found. found ≡ by_names known word name) → IfOk result (λ found. found ≡ by_names known word (renamed word))
+pub renamed_named : {E : Type 0} (known word name : List ℕ) (result : Result Item E) → name ≡ meant_option word
+    → IfOk result (λ found. found ≡ by_names known word name) → IfOk result (λ found. found ≡ by_names known word (meant_option word))
 renamed_named known word name (Ok found) same is = is ∙ ap (by_names known word) same
 renamed_named known word name (Err e) same is = tt
 
 -- For `is_own_switch` (src/reading.rt): a word that is no long name and names no machine is a switch of its name, once names have it.
-pub own_switch : (known word : List ℕ) (machine off taken : Bool) → renamed word ≡ word → machine ≡ begins (codes "-mcpu=") word
+pub own_switch : (known word : List ℕ) (machine off taken : Bool) → meant_option word ≡ word → machine ≡ begins (codes "-mcpu=") word
     → machine ≡ false → off ≡ turns_off known word → taken ≡ accepts known word → (off || taken) ≡ true
-    → by_names known word (renamed word) ≡ item word [] Alone Switch
+    → by_names known word (meant_option word) ≡ item word [] Alone Switch
 own_switch known word machine off taken same machine_is other off_is taken_is either =
     let none : begins (codes "-mcpu=") word ≡ false = sym machine_is ∙ other in
     let found : (turns_off known word || accepts known word) ≡ true =
@@ -337,11 +339,51 @@ own_switch known word machine off taken same machine_is other off_is taken_is ei
 -- For `ask_again` (src/items.rt), where the unknown word is such a switch.
 pub switched_again : {E : Type 0} (known : List ℕ) (i : Item) (word : List ℕ) (unknown own : Bool) (result : Result Item E)
     → unknown ≡ is_unknown i.role → unknown ≡ true → word ≡ i.name
-    → (own ≡ true → by_names known word (renamed word) ≡ item word [] Alone Switch) → own ≡ true
+    → (own ≡ true → by_names known word (meant_option word) ≡ item word [] Alone Switch) → own ≡ true
     → IfOk result (λ made. made ≡ item i.name [] Alone Switch) → IfOk result (λ found. found ≡ again known i)
 switched_again known i word unknown own (Ok made) unknown_is here word_is switch so is =
-    let named : by_names known i.name (renamed i.name) ≡ item i.name [] Alone Switch =
-    ap (λ w. by_names known w (renamed w)) (sym word_is) ∙ switch so ∙ ap (λ w. item w [] Alone Switch) word_is in
+    let named : by_names known i.name (meant_option i.name) ≡ item i.name [] Alone Switch =
+    ap (λ w. by_names known w (meant_option w)) (sym word_is) ∙ switch so ∙ ap (λ w. item w [] Alone Switch) word_is in
     let asked : is_unknown i.role ≡ true = sym unknown_is ∙ here in
     is ∙ sym named ∙ sym (rw asked refl)
 switched_again known i word unknown own (Err e) unknown_is here word_is switch so is = tt
+
+-- For `by_names` (src/reading.rt), where no names are known: a word that turns no warning off is unknown.
+pub none_named : {E : Type 0} (known word name : List ℕ) (off : Bool) (result : Result Item E) → (length known == 0) ≡ true
+    → (length name == 0) ≡ false → off ≡ begins (codes "-Wno-") word → off ≡ false → IfOk result (λ made. made ≡ plain Unknown word)
+    → IfOk result (λ found. found ≡ by_names known word name)
+none_named known word name off (Err e) none some off_is not_off is = tt
+none_named known word name off (Ok made) none some off_is not_off is =
+    is ∙ sym (
+    ap (λ t. chosen (t && (not (list_any (nat_eq equals) word) || leaves known (positive_form word))) (accepts known name) (judges known
+    name)
+    (known_item known name) (plain Question word) (plain Unknown word)) (sym off_is ∙ not_off)
+    ∙ ap (λ t. chosen false t (judges known name) (known_item known name) (plain Question word) (plain Unknown word))
+    (sym (no_names_accept known name none some))
+    ∙ ap (λ t. chosen false false t (known_item known name) (plain Question word) (plain Unknown word))
+    (sym (no_names_judge known name none some))
+    )
+
+-- For `accepts_near` (src/values.rt), where an option is known by its name or by that up to its `=`.
+pub near_accepted : (known name head : List ℕ) (opens found begun : Bool) → opens ≡ is_open name → opens ≡ false → head ≡ head_of name
+    → (found ≡ true → is_known known name ≡ true) → (begun ≡ true → is_known known head ≡ true) → (found || begun) ≡ true
+    → accepts known name ≡ true
+near_accepted known name head opens true begun opens_is closed head_is here there either = rw (sym opens_is ∙ closed, here refl) refl
+near_accepted known name head opens false begun opens_is closed head_is here there either =
+    rw (sym opens_is ∙ closed, ap (is_known known) (sym head_is) ∙ there either) (second (is_known known name))
+  where
+    second : (t : Bool) → (t || true) ≡ true
+    second true = refl
+    second false = refl
+
+-- For `is_own_switch` (src/reading.rt), where lines of the names tell that the word is an option.
+pub found_switch : (known word : List ℕ) (machine found : Bool) → meant_option word ≡ word → machine ≡ begins (codes "-mcpu=") word
+    → machine ≡ false → (found ≡ true → accepts known word ≡ true) → found ≡ true
+    → by_names known word (meant_option word) ≡ item word [] Alone Switch
+found_switch known word machine found same machine_is other known_is so =
+    own_switch known word machine (turns_off known word) (accepts known word) same machine_is other refl refl
+    (either (turns_off known word) (accepts known word) (known_is so))
+  where
+    either : (a b : Bool) → b ≡ true → (a || b) ≡ true
+    either true b is = refl
+    either false b is = is

@@ -1,14 +1,15 @@
-use Rattle.drv_cc.specs.Code.Groups.{begun_at, begun_key, is_begun, is_parted, is_short, is_whole, key_of, third, whole_at, whole_key}
+use Rattle.drv_cc.specs.Code.Groups.{begun_at, begun_key, is_begun, is_parted, is_short, is_whole, key_of, last_byte, third, whole_at, whole_key}
 use Rattle.drv_cc.specs.Items.{begins, first_row, fits, option_fits, same, takes_rest}
 use Rattle.drv_cc.specs.Table.{OptionRow, sections, table}
 use Rattle.drv_cc.specs.declared.table.Takes.TheVariants.{Attached, Either, Next, Nothing, Rest}
 use Rattle.drv_cc.specs.declared.table.Takes.{Takes}
-use Rattle.std.proofs.Common.{arith, ◌≡◌, ◌==◌, ◌&&◌, ◌||◌, ◌∙◌, ◌++◌, ◌<◌, ◌%◌, Bool, List, [], ◌∷◌, None, Option, Some, ap, cond, false}
-use Rattle.std.proofs.Common.{find, length, not, refl, sym, true, ℕ}
+use Rattle.std.proofs.Common.{arith, ◌≡◌, ◌==◌, ◌&&◌, ◌||◌, ◌∙◌, ◌++◌, ◌<◌, ◌-◌, ◌%◌, Bool, List, [], ◌∷◌, None, Option, Some, ap, cond, false}
+use Rattle.std.proofs.Common.{find, get_or, length, map, not, refl, sym, take, true, ℕ}
 use Rattle.std.proofs.lemmas.Bool.{eq-eqb, eqb-true}
 use Rattle.std.proofs.lemmas.List.Folds.{find-append}
+use Rattle.std.proofs.lemmas.List.{get_or-take}
 use Rattle.std.specs.List.{filter}
-use Rattle.std.specs.Option.{option_or}
+use Rattle.std.specs.Option.{option_map, option_or}
 
 -- For the look-up of options (src/table.rt): the first row of the table that fits a word is in the group of its key.
 
@@ -174,27 +175,41 @@ longer_fits Attached word option less = longer_begins option word less
 longer_fits Rest word option less = longer_begins option word less
 longer_fits Either word option less = longer_begins option word less
 
--- a word with another third byte does not begin with an option that has one
-pub third_differs : (option word : List ℕ) (own other : ℕ) (differs : Bool) → own ≡ third option → other ≡ third word → (own == 0) ≡ false
+-- a byte of an option is at its place in a word that begins with it
+own_place : (option word : List ℕ) (i : ℕ) → i < length option → begins option word ≡ true → get_or word i 0 ≡ get_or option i 0
+own_place option word i less e =
+    sym (get_or-take (length option) word i 0 less) ∙ ap (λ l. get_or l i 0) (sym (same_is option (take (length option) word) e))
+
+-- what is found among rows is found among what they mean
+find_shown : {A B : Type 0} (f : A → B) (p : B → Bool) (xs : List A) → option_map f (find (λ x. p (f x)) xs) ≡ find p (map f xs)
+find_shown f p [] = refl
+find_shown f p (x ∷ xs) = by (p (f x)) refl (find_shown f p xs)
+  where
+    by : (t : Bool) → p (f x) ≡ t → option_map f (find (λ y. p (f y)) xs) ≡ find p (map f xs)
+        → option_map f (find (λ y. p (f y)) (x ∷ xs)) ≡ find p (map f (x ∷ xs))
+    by true e ih = rw e refl
+    by false e ih = rw e ih
+
+-- For `row_among` (src/table.rt), whose search gives a reference to a row.
+pub found_shown : {R A B : Type 0} (g : R → A) (f : A → B) (p : B → Bool) (xs : List A) (found : Option R)
+    → option_map g found ≡ find (λ x. p (f x)) xs → option_map (λ r. f (g r)) found ≡ find p (map f xs)
+found_shown {R} g f p xs found is = twice found ∙ ap (option_map f) is ∙ find_shown f p xs
+  where
+    twice : (r : Option R) → option_map (λ x. f (g x)) r ≡ option_map f (option_map g r)
+    twice None = refl
+    twice (Some r) = refl
+
+-- For `differs` (src/table.rt): a word with another byte where an option ends does not begin with it.
+pub end_differs : (option word : List ℕ) (own other : ℕ) (differs : Bool) → own ≡ last_byte option
+    → other ≡ get_or word (length option - 1) 0 → (length option == 0) ≡ false
     → differs ≡ not (own == other) → differs ≡ true → begins option word ≡ false
-third_differs [] word own other differs is are some so here = absurd (let clash : true ≡ false = sym (eq-eqb own 0 is) ∙ some in cc)
-third_differs (a ∷ []) word own other differs is are some so here = absurd (let clash : true ≡ false = sym (eq-eqb own 0 is) ∙ some in cc)
-third_differs (a ∷ b ∷ []) word own other differs is are some so here =
-    absurd (let clash : true ≡ false = sym (eq-eqb own 0 is) ∙ some in cc)
-third_differs (a ∷ b ∷ c ∷ option) [] own other differs is are some so here = refl
-third_differs (a ∷ b ∷ c ∷ option) (x ∷ []) own other differs is are some so here = and_false (a == x)
-third_differs (a ∷ b ∷ c ∷ option) (x ∷ y ∷ []) own other differs is are some so here = by (a == x) (b == y)
+end_differs [] word own other differs is are some so here = absurd cc
+end_differs (a ∷ option) word own other differs is are some so here = by (begins (a ∷ option) word) refl
   where
-    by : (t u : Bool) → (t && (u && false)) ≡ false
-    by false u = refl
-    by true false = refl
-    by true true = refl
-third_differs (a ∷ b ∷ c ∷ option) (x ∷ y ∷ z ∷ word) own other differs is are some so here = by (a == x) (b == y) (c == z) refl
-  where
-    by : (t u v : Bool) → (c == z) ≡ v → (t && (u && (v && begins option word))) ≡ false
-    by false u v e = refl
-    by true false v e = refl
-    by true true false e = refl
-    by true true true e =
-        let same : (own == other) ≡ true = eq-eqb own other (is ∙ eqb-true c z e ∙ sym are) in
+    by : (t : Bool) → begins (a ∷ option) word ≡ t → t ≡ false
+    by false e = refl
+    by true e =
+        let at : get_or word (length (a ∷ option) - 1) 0 ≡ last_byte (a ∷ option) =
+        own_place (a ∷ option) word (length (a ∷ option) - 1) (omega arith) e in
+        let same : (own == other) ≡ true = eq-eqb own other (is ∙ sym at ∙ sym are) in
         absurd (let clash : true ≡ false = sym here ∙ so ∙ ap not same in cc)

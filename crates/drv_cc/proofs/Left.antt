@@ -1,5 +1,5 @@
 use Rattle.drv_cc.specs.Code.Hiding.{left_after, live_item}
-use Rattle.drv_cc.specs.SelfSpecs.{is_left, live, written}
+use Rattle.drv_cc.specs.SelfSpecs.{is_left, item_words, live}
 use Rattle.drv_cc.specs.declared.item.Item.{Item}
 use Rattle.std.proofs.Common.{◌≡◌, Bool, List, ◌∷◌, ◌++◌, ◌∙◌, ap, append_assoc, false, refl, sym, true, ℕ}
 
@@ -7,9 +7,9 @@ use Rattle.std.proofs.Common.{◌≡◌, Bool, List, ◌∷◌, ◌++◌, ◌∙
 
 -- The definition `live` (specs/SelfSpecs.antt) takes the words of one item and goes on with those that are left after it.
 live_more : (i : Item) (tail : List Item) (left : List (List ℕ)) → live (i ∷ tail) left ≡ live_item i left ++ live tail (left_after i left)
-live_more i tail left = by (is_left (written i) left) refl
+live_more i tail left = by (is_left (item_words i) left) refl
   where
-    by : (t : Bool) → is_left (written i) left ≡ t → live (i ∷ tail) left ≡ live_item i left ++ live tail (left_after i left)
+    by : (t : Bool) → is_left (item_words i) left ≡ t → live (i ∷ tail) left ≡ live_item i left ++ live tail (left_after i left)
     by true e = rw e refl
     by false e = rw e refl
 

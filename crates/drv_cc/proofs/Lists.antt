@@ -3,7 +3,7 @@ use Rattle.drv_cc.specs.Code.Groups.{ignored_at, is_at, list_key, ringed_at, rin
 use Rattle.drv_cc.specs.Items.{is_among, same}
 use Rattle.drv_cc.specs.Table.{ignored, rings, texts, unpaired}
 use Rattle.std.proofs.Common.{◌≡◌, ◌∙◌, ◌||◌, Bool, List, [], ◌∷◌, Option, Some, ap, cond, false, find, if◌then◌else◌, map, refl, sym, true}
-use Rattle.std.proofs.Common.{ℕ}
+use Rattle.std.proofs.Common.{◌+◌, ◌%◌, arith, get_or, length, suc, ℕ}
 use Rattle.std.proofs.lemmas.Bool.{eq-eqb}
 use Rattle.std.proofs.lemmas.List.Folds.{find-append}
 use Rattle.std.specs.List.{filter, flat_map}
@@ -39,6 +39,15 @@ pub among_ignored : (name : List ℕ) (key : ℕ) (names : List (List ℕ)) (fou
     → found ≡ is_among names name → found ≡ is_among (texts ignored) name
 among_ignored name key names found is are sought =
     sought ∙ ap (λ l. is_among l name) are ∙ passing (is_at key) (texts ignored) name (own_key name key is)
+
+-- For `list_key_joined` (src/classes.rt): the key of a name, by what follows its first two bytes.
+pub joined_key : (a b : ℕ) (rest : List ℕ) (third : ℕ) → third ≡ get_or rest 0 0
+    → (third + (length rest + 2) % 16) % 16 ≡ list_key (a ∷ b ∷ rest)
+joined_key a b rest third is =
+    ap (λ t. (t + (length rest + 2) % 16) % 16) is ∙ ap (λ n. (get_or rest 0 0 + n % 16) % 16) (two_more (length rest))
+  where
+    two_more : (n : ℕ) → n + 2 ≡ suc (suc n)
+    two_more n = omega arith
 
 -- For `is_unpaired`, in the same way.
 pub among_unpaired : (name : List ℕ) (key : ℕ) (names : List (List ℕ)) (found : Bool) → key ≡ list_key name → names ≡ unpaired_at key

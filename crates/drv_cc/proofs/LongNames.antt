@@ -1,6 +1,6 @@
-use Rattle.drv_cc.specs.Items.{begins, is_longer}
+use Rattle.drv_cc.specs.Items.{begins, is_longer, meant_option, renamed_by}
 use Rattle.drv_cc.specs.Table.{renames}
-use Rattle.std.proofs.Common.{◌≡◌, ◌==◌, ◌&&◌, ◌∙◌, Bool, List, [], ◌∷◌, None, codes, false, find, refl, sym, true, ℕ}
+use Rattle.std.proofs.Common.{◌≡◌, ◌==◌, ◌&&◌, ◌∙◌, Bool, List, [], ◌∷◌, None, ap, codes, false, find, refl, sym, true, ℕ}
 
 -- For the options that long names mean (src/renaming.rt): all long names begin with two hyphens.
 
@@ -18,3 +18,7 @@ no_rename (a ∷ b ∷ rest) long is short = by (45 == a) (45 == b) refl refl (s
     by false u e f w = rw e refl
     by true false e f w = rw (e, f) refl
     by true true e f w = absurd cc
+
+-- For `is_renamed` (src/renaming.rt), which tests them too.
+pub not_renamed : (word : List ℕ) (long : Bool) → long ≡ begins (codes "--") word → long ≡ false → meant_option word ≡ word
+not_renamed word long is short = ap (renamed_by word) (sym (no_rename word long is short))

@@ -1,4 +1,4 @@
-use Rattle.drv_cc.specs.Items.{Wants, Whole, beyond, by_row, first_row, items_of, renamed, start_of, start_renamed, with_start}
+use Rattle.drv_cc.specs.Items.{Wants, Whole, beyond, by_row, first_row, items_of, meant_option, start_of, start_renamed, with_start}
 use Rattle.drv_cc.specs.Table.{OptionRow}
 use Rattle.drv_cc.specs.declared.item.Item.{Item}
 use Rattle.std.proofs.Common.{◌≡◌, ◌∙◌, List, [], ◌∷◌, ◌++◌, None, Some, ap, append_assoc, ℕ}
@@ -23,6 +23,6 @@ whole_noted known items word i rest is =
     append_assoc items (i ∷ []) (items_of known None rest) ∙ ap (λ s. items ++ with_start s (λ wanting. items_of known wanting rest)) is
 
 -- a word that no row fits, and that is no long name of another one
-pub unrenamed_begins : (known word : List ℕ) (i : Item) → renamed word ≡ word → first_row word ≡ None → i ≡ beyond known word word
-    → Whole i ≡ start_renamed known word (renamed word) (first_row (renamed word))
+pub unrenamed_begins : (known word : List ℕ) (i : Item) → meant_option word ≡ word → first_row word ≡ None → i ≡ beyond known word word
+    → Whole i ≡ start_renamed known word (meant_option word) (first_row (meant_option word))
 unrenamed_begins known word i same none is = rw (same, none) (ap Whole is)

@@ -1,7 +1,7 @@
 use Rattle.drv_cc.specs.Code.Staying.{Keeping, KeepingAll, Notes, kept_before, stays_before}
 use Rattle.drv_cc.specs.Front.{run_of}
 use Rattle.drv_cc.specs.Items.{same}
-use Rattle.drv_cc.specs.Kept.{all_stay, goes, kept}
+use Rattle.drv_cc.specs.Kept.{all_stay, effective_items, goes}
 use Rattle.drv_cc.specs.declared.answer.Answer.{Answer}
 use Rattle.drv_cc.specs.declared.answer.Surroundings.{Surroundings}
 use Rattle.drv_cc.specs.declared.item.Item.{Item}
@@ -38,17 +38,18 @@ goes_by i following seen are = by i.class refl
 
 -- One more item at the front of those that stay, by whether the code found that it stays.
 kept_on : (i : Item) (following : List Item) (stays : Bool) → stays ≡ not (goes i following)
-    → kept (i ∷ following) ≡ (if stays then i ∷ kept following else kept following)
+    → effective_items (i ∷ following) ≡ (if stays then i ∷ effective_items following else effective_items following)
 kept_on i following stays is = by (goes i following) refl
   where
-    by : (t : Bool) → goes i following ≡ t → (if t then kept following else i ∷ kept following)
-        ≡ (if stays then i ∷ kept following else kept following)
-    by true e = ap (λ b. if b then i ∷ kept following else kept following) (sym (is ∙ ap not e))
-    by false e = ap (λ b. if b then i ∷ kept following else kept following) (sym (is ∙ ap not e))
+    by : (t : Bool) → goes i following ≡ t → (if t then effective_items following else i ∷ effective_items following)
+        ≡ (if stays then i ∷ effective_items following else effective_items following)
+    by true e = ap (λ b. if b then i ∷ effective_items following else effective_items following) (sym (is ∙ ap not e))
+    by false e = ap (λ b. if b then i ∷ effective_items following else effective_items following) (sym (is ∙ ap not e))
 
 -- what an item that is of a class does to what was seen
-pub noted_class : (p class : List ℕ) (new old : Bool) → new ≡ cond (same class p) true old → new ≡ (same p class || old)
-noted_class p class new old is = is ∙ by (same class p) ∙ ap (λ b. b || old) (nat_list_eq_equiv.symm class p)
+pub noted_class : (p class key : List ℕ) (new old : Bool) → key ≡ class → new ≡ cond (same key p) true old → new ≡ (same p class || old)
+noted_class p class key new old key_is is =
+    is ∙ by (same key p) ∙ ap (λ b. b || old) (nat_list_eq_equiv.symm key p ∙ ap (same p) key_is)
   where
     by : (t : Bool) → cond t true old ≡ (t || old)
     by true = refl
@@ -84,14 +85,15 @@ keeping_more items left before stay now i seen new h parts is notes = record {
   seen_are = λ p some. notes p some ∙ ap (λ b. same p i.class || b) (h.seen_are p some);
 }
   where
-    by : (t : Bool) → reverse (if t then stay ++ i ∷ [] else stay) ≡ (if t then i ∷ kept h.following else kept h.following)
+    by : (t : Bool) → reverse (if t then stay ++ i ∷ [] else stay)
+        ≡ (if t then i ∷ effective_items h.following else effective_items h.following)
     by true = reverse-append stay (i ∷ []) ∙ ap (λ l. i ∷ l) h.stays
     by false = h.stays
 
 -- none is left
 pub keeping_ends : (items left stay : List Item) (seen : List ℕ → Bool) → Keeping items left stay seen → left ≡ []
-    → reverse stay ≡ kept items
-keeping_ends items left stay seen h none = h.stays ∙ ap kept (ap (λ l. l ++ h.following) (sym none) ∙ h.parts)
+    → reverse stay ≡ effective_items items
+keeping_ends items left stay seen h none = h.stays ∙ ap effective_items (ap (λ l. l ++ h.following) (sym none) ∙ h.parts)
 
 -- For `do_all_stay` (src/keeping.rt), which goes over the same items but makes no list: before its loop
 pub all_start : (items : List Item) (seen : List ℕ → Bool) → ((p : List ℕ) → seen p ≡ false) → KeepingAll items items seen
@@ -136,18 +138,18 @@ all_break items left before i seen h parts is =
     (ap not (goes_by i h.following seen h.seen_are) ∙ sym is)))
 
 -- of items that all stay, none is left out
-kept_all : (items : List Item) → all_stay items ≡ true → kept items ≡ items
+kept_all : (items : List Item) → all_stay items ≡ true → effective_items items ≡ items
 kept_all [] e = refl
 kept_all (i ∷ items) e = by (goes i items) e (kept_all items)
   where
-    by : (t : Bool) → (not t && all_stay items) ≡ true → (all_stay items ≡ true → kept items ≡ items)
-        → (if t then kept items else i ∷ kept items) ≡ i ∷ items
+    by : (t : Bool) → (not t && all_stay items) ≡ true → (all_stay items ≡ true → effective_items items ≡ items)
+        → (if t then effective_items items else i ∷ effective_items items) ≡ i ∷ items
     by true e all = absurd cc
     by false e all = ap (λ l. i ∷ l) (all e)
 
 -- For `call_of_kept` (src/fronting.rt), where all items stay: the call is made of the items themselves.
 pub all_called : {E : Type 0} (around : Surroundings) (items : List Item) (all : Bool) (result : Result Answer E)
     → all ≡ all_stay items → all ≡ true → IfOk result (λ answer. answer ≡ run_of around items)
-    → IfOk result (λ answer. answer ≡ run_of around (kept items))
+    → IfOk result (λ answer. answer ≡ run_of around (effective_items items))
 all_called around items all (Ok answer) stay so is = is ∙ ap (run_of around) (sym (kept_all items (sym stay ∙ so)))
 all_called around items all (Err e) stay so is = tt

@@ -3,7 +3,7 @@ use Rattle.drv_args.specs.declared.option_table.Effect.TheVariants as effect
 use Rattle.drv_args.specs.declared.option_table.Setting.TheVariants as setting
 use Rattle.drv_cc.specs.Asked.{is_asked}
 use Rattle.drv_cc.specs.Items.{begins, is_among, items_of, same, words_of}
-use Rattle.drv_cc.specs.Kept.{has, is_file_role, is_vendors, kept, last_argument, refusals}
+use Rattle.drv_cc.specs.Kept.{effective_items, has, is_file_role, is_vendors, last_argument, refusals}
 use Rattle.drv_cc.specs.Levels.{check_words, debug_words}
 use Rattle.drv_cc.specs.LineItems.{alone, item_of, line_item}
 use Rattle.drv_cc.specs.SideFiles.{inputs, is_some, link_beginning, side_words, sources, stops, with_value, worked}
@@ -209,8 +209,8 @@ abbrev pub dump_words : List Item → List (List ℕ)
 dump_words items = codes "-dumpdir" ∷ link_beginning items ∷ []
 
 -- the words that COLLECT_GCC_OPTIONS holds
-abbrev pub collected : List Item → List (List ℕ)
-collected items = switch_words items ++ thread_words items ++ dump_words items
+abbrev pub compiler_words : List Item → List (List ℕ)
+compiler_words items = switch_words items ++ thread_words items ++ dump_words items
 
 -- The pieces for the assembler, each between quotes: those of -Wa, between commas, and those of -Xassembler ("Assembler Options").
 
@@ -254,7 +254,7 @@ variables_by around words = variable (codes "COLLECT_GCC") around.compiler ∷ v
 
 -- the variables that name the compiler and the line's own switches
 abbrev pub compiler_variables : Surroundings → List Item → List Variable
-compiler_variables around items = variables_by around (collected items)
+compiler_variables around items = variables_by around (compiler_words items)
 
 -- the variables that are set for a link's children: none where the line stops before the link or turns LTO off
 abbrev pub children : Surroundings → List Item → List Variable
@@ -321,7 +321,7 @@ run_of around items =
 
 -- the faults of a line, or what it runs: of each class only the last item, since the others have no effect
 abbrev pub refused_or_run : Surroundings → List Item → List Refusal → Answer
-refused_or_run around items faults = if nat_lt 0 (length faults) then Refuse faults else run_of around (kept items)
+refused_or_run around items faults = if nat_lt 0 (length faults) then Refuse faults else run_of around (effective_items items)
 
 -- the answer for a line that was read as items: a question goes to gcc whole, before faults are looked for
 abbrev pub answer_of : List (List ℕ) → Surroundings → List Item → Answer

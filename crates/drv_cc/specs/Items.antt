@@ -30,9 +30,9 @@ is_among names name = list_any (same name) names
 -- Classes: of each one the last item of the line stays. A class is the text of its ring, or the option; no text is no class.
 
 -- the positive form of an option: -Wno-X is of the class -WX
-abbrev pub paired : List ℕ → List ℕ
-paired (dash ∷ letter ∷ rest) = dash ∷ letter ∷ (if begins (codes "no-") rest then drop 3 rest else rest)
-paired word = word
+abbrev pub positive_form : List ℕ → List ℕ
+positive_form (dash ∷ letter ∷ rest) = dash ∷ letter ∷ (if begins (codes "no-") rest then drop 3 rest else rest)
+positive_form word = word
 
 -- whether an option's letter is one that takes no-: -W, -f, -g and -m do (-Wall, -Wno-all)
 abbrev pub has_two_signs : List ℕ → Bool
@@ -44,7 +44,7 @@ abbrev pub class_alone : List ℕ → List ℕ
 class_alone name =
     if not (has_two_signs name) then []
     else if list_any (nat_eq equals) name then []
-    else if is_among (texts unpaired) name then [] else paired name
+    else if is_among (texts unpaired) name then [] else positive_form name
 
 -- the class of a name by its spelling, apart from the rings: an option with an argument is of none
 abbrev pub class_by : Spelling → List ℕ → List ℕ
@@ -128,8 +128,8 @@ renamed_by word None = word
 renamed_by word (Some rename) = rename.1 ++ drop (length rename.0) word
 
 -- what a word that no row fits is read as: by its other name, or as it is
-abbrev pub renamed : List ℕ → List ℕ
-renamed word = renamed_by word (find (is_longer word) renames)
+abbrev pub meant_option : List ℕ → List ℕ
+meant_option word = renamed_by word (find (is_longer word) renames)
 
 -- a word up to its first =, and that too
 abbrev pub head_of : List ℕ → List ℕ
@@ -167,12 +167,12 @@ abbrev pub is_number : List ℕ → Bool
 is_number value = nat_lt 0 (length value) && list_all is_digit value
 
 -- the name under which an option with a number is known: up to its =, and a # there
-abbrev pub numbered : List ℕ → List ℕ
-numbered name = if is_number (value_of name) then head_of name ++ codes "#" else head_of name
+abbrev pub name_before_argument : List ℕ → List ℕ
+name_before_argument name = if is_number (value_of name) then head_of name ++ codes "#" else head_of name
 
 -- whether a name with its argument is known: with any, or with a number if it is one
 abbrev pub takes_value : List ℕ → List ℕ → Bool
-takes_value known name = is_known known (head_of name) || is_known known (numbered name)
+takes_value known name = is_known known (head_of name) || is_known known (name_before_argument name)
 
 -- a name that ends so is no whole option: its argument follows, or it has a mark
 abbrev pub is_open : List ℕ → Bool
@@ -195,13 +195,13 @@ leaves known positive = nat_lt 0 (length known) && not (is_known known (head_of 
 
 -- whether a word is a -Wno- that is left to the compiler: one without =, or one whose positive form gcc's driver doesn't know
 abbrev pub turns_off : List ℕ → List ℕ → Bool
-turns_off known word = begins (codes "-Wno-") word && (not (list_any (nat_eq equals) word) || leaves known (paired word))
+turns_off known word = begins (codes "-Wno-") word && (not (list_any (nat_eq equals) word) || leaves known (positive_form word))
 
 -- A word that no row fits: names that are known beyond the table are taken as they are. An argument that gcc's driver judges makes the line
 -- a question: the compiler refuses it in its own words.
 abbrev pub beyond : List ℕ → List ℕ → List ℕ → Item
 beyond known word name =
-    if is_among (texts ignored) (paired name) then item name [] Nowhere Switch
+    if is_among (texts ignored) (positive_form name) then item name [] Nowhere Switch
     else if turns_off known word || accepts known name then known_item known name
     else if judges known name then plain Question word
     else plain Unknown word
@@ -220,7 +220,7 @@ start_renamed known word name None = Whole (beyond known word name)
 -- a word that begins with a hyphen: its row decides, or else its other name
 abbrev pub start_option : List ℕ → List ℕ → Option OptionRow → Start
 start_option known word (Some r) = with_rest r.takes r (drop (length r.option) word)
-start_option known word None = start_renamed known word (renamed word) (first_row (renamed word))
+start_option known word None = start_renamed known word (meant_option word) (first_row (meant_option word))
 
 -- how a word begins, where no option before it takes it as argument
 abbrev pub start_of : List ℕ → List ℕ → Start

@@ -114,9 +114,9 @@ abbrev pub goes : Item → List Item → Bool
 goes i following = nat_lt 0 (length i.class) && list_any (λ j. same i.class j.class) following
 
 -- the items that stay: each one that none of its class follows
-abbrev pub kept : List Item → List Item
-kept [] = []
-kept (i ∷ items) = if goes i items then kept items else i ∷ kept items
+abbrev pub effective_items : List Item → List Item
+effective_items [] = []
+effective_items (i ∷ items) = if goes i items then effective_items items else i ∷ effective_items items
 
 -- whether all items stay
 abbrev pub all_stay : List Item → Bool

@@ -61,9 +61,9 @@ debugged_by d name = record {
 }
 
 -- level, version and toggle after items: what an option says counts until another says otherwise
-abbrev pub debugged : Debugging → List Item → Debugging
-debugged d [] = d
-debugged d (i ∷ items) = debugged (debugged_by d i.name) items
+abbrev pub debugging_of : Debugging → List Item → Debugging
+debugging_of d [] = d
+debugging_of d (i ∷ items) = debugging_of (debugged_by d i.name) items
 
 -- the level that counts: -gtoggle turns level 0 to 2, and any other to 0
 abbrev pub toggled : Debugging → ℕ
@@ -79,7 +79,7 @@ debug_words_of level version = if level == 48 then [] else level_words level ver
 
 -- the words for the debugging information of a line
 abbrev pub debug_words : List Item → List (List ℕ)
-debug_words items = debug_words_of (toggled (debugged no_debugging items)) (debugged no_debugging items).version
+debug_words items = debug_words_of (toggled (debugging_of no_debugging items)) (debugging_of no_debugging items).version
 
 -- Checks.
 

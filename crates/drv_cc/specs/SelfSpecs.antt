@@ -5,8 +5,8 @@ use Rattle.drv_args.specs.declared.option_table.Setting.TheVariants as setting
 use Rattle.drv_cc.specs.Front.{added_pipe, assembler_variables, dump_words, first_words, program_items, switch_words, thread_words}
 use Rattle.drv_cc.specs.Front.{variables_by}
 use Rattle.drv_cc.specs.Items.{is_among, item, items_of, same}
-use Rattle.drv_cc.specs.Kept.{has, kept, last_argument, refused_role}
-use Rattle.drv_cc.specs.Levels.{check_words, debug_words_of, debugged, no_debugging, toggled}
+use Rattle.drv_cc.specs.Kept.{effective_items, has, last_argument, refused_role}
+use Rattle.drv_cc.specs.Levels.{check_words, debug_words_of, debugging_of, no_debugging, toggled}
 use Rattle.drv_cc.specs.LineItems.{alone, effect_of, line_item}
 use Rattle.drv_cc.specs.SideFiles.{inputs, side_words, stops}
 use Rattle.drv_cc.specs.Table.{texts}
@@ -36,12 +36,12 @@ abbrev pub thread_item : List ℕ → Item
 thread_item word = item word [] Alone role.Switch
 
 -- the items that `self_spec` sees: those that stay, and -pthread where the line needs threads
-abbrev pub seen : List Item → List Item
-seen items = items ++ map thread_item (thread_words items)
+abbrev pub visible_items : List Item → List Item
+visible_items items = items ++ map thread_item (thread_words items)
 
 -- the items of a line's words that `self_spec` sees, as items of the driver's line
 abbrev pub seen_items : List ℕ → List (List ℕ) → List LineItem
-seen_items known words = filter_map line_item (seen (kept (items_of known None words)))
+seen_items known words = filter_map line_item (visible_items (effective_items (items_of known None words)))
 
 -- The words by which a text writes a switch of the line; none for what is no switch.
 abbrev pub written_by : Effect → List ℕ → List ℕ → List (List ℕ)
@@ -61,8 +61,8 @@ written_if None i = []
 written_if (Some effect) i = written_by effect i.name i.argument
 
 -- the words by which the text would write an item, to find it among those that it left
-abbrev pub written : Item → List (List ℕ)
-written i = written_if (effect_of i.role i.spelling i.name) i
+abbrev pub item_words : Item → List (List ℕ)
+item_words i = written_if (effect_of i.role i.spelling i.name) i
 
 -- Hidden for good: a switch that the text hid. `left` are the words of those that it left, in their order. Switches of one name are hidden
 -- alike, so the first word tells.
@@ -74,7 +74,7 @@ is_left (word ∷ words) (first ∷ others) = same word first
 -- the items that the text left: those whose words are next among the words left
 abbrev pub live : List Item → List (List ℕ) → List Item
 live [] left = []
-live (i ∷ items) left = if is_left (written i) left then i ∷ live items (drop (length (written i)) left) else live items left
+live (i ∷ items) left = if is_left (item_words i) left then i ∷ live items (drop (length (item_words i)) left) else live items left
 
 -- Given: the text's words as items, pruned among themselves. A spec file and a language come too late to count.
 abbrev pub is_late : Item → Bool
@@ -82,7 +82,7 @@ is_late i = is_among (texts (codes "-specs= -x")) i.name
 
 -- the items that the text gives to a line, by its words
 abbrev pub given_items : List ℕ → List (List ℕ) → List Item
-given_items known words = filter (λ i. not (is_late i)) (kept (items_of known None words))
+given_items known words = filter (λ i. not (is_late i)) (effective_items (items_of known None words))
 
 -- Refused of them: a file, a question, a choice of a machine, since gcc has added its defaults before, and what is refused on a line.
 abbrev pub is_machine : List ℕ → Bool
@@ -100,12 +100,12 @@ abbrev pub given_refusals : List (List ℕ) → List Item → List Refusal
 given_refusals named given = flat_map (λ i. given_refused named i.role i.name) given
 
 -- The level of debugging goes on from that of the line, whose toggle is not turned again.
-abbrev pub settled : Debugging → Debugging
-settled d = record d { level = toggled d; toggled = false }
+abbrev pub with_toggle : Debugging → Debugging
+with_toggle d = record d { level = toggled d; toggled = false }
 
 -- level, version and toggle after the line and what the text gives it
 abbrev pub debugged_with : List Item → List Item → Debugging
-debugged_with items given = debugged (settled (debugged no_debugging items)) given
+debugged_with items given = debugging_of (with_toggle (debugging_of no_debugging items)) given
 
 -- the words for the level and version after that; a toggle counts on the line alone
 abbrev pub levels_with : Debugging → List (List ℕ)
@@ -161,9 +161,10 @@ refused_or_run_with around items left given faults =
 
 -- the answer, by what the text left and gave: `items` are those of the line before it
 abbrev pub answer_with : List (List ℕ) → Surroundings → List Item → List (List ℕ) → List Item → Answer
-answer_with named around items left given = refused_or_run_with around items (live (seen items) left) given (given_refusals named given)
+answer_with named around items left given =
+    refused_or_run_with around items (live (visible_items items) left) given (given_refusals named given)
 
 -- the answer for a line's words after its text was run once: `given` has the words that it left and gave
 abbrev pub front_with : List ℕ → List (List ℕ) → Surroundings → List (List ℕ) → Given → Answer
 front_with known named around words given =
-    answer_with named around (kept (items_of known None words)) given.left (given_items known given.words)
+    answer_with named around (effective_items (items_of known None words)) given.left (given_items known given.words)

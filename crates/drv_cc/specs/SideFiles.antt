@@ -3,7 +3,7 @@ use Rattle.drv_cc.specs.Kept.{has, is_file_role, last_argument}
 use Rattle.drv_cc.specs.Table.{texts}
 use Rattle.drv_cc.specs.declared.item.Item.{Item}
 use Rattle.drv_words.specs.Bytes.{period}
-use Rattle.drv_words.specs.FileNames.{base, parted, stem}
+use Rattle.drv_words.specs.FileNames.{base, split_at_last, stem}
 use Rattle.std.specs.List.{ends_with, filter, list_all}
 use Rattle.std.specs.Prelude.{◌==◌, ◌&&◌, ◌||◌, Bool, List, [], ◌∷◌, ◌++◌, ◌-◌, None, Option, Some, codes, drop, false, if◌then◌else◌}
 use Rattle.std.specs.Prelude.{length, map, nat_eq, nat_lt, not, take, true, ℕ}
@@ -224,8 +224,8 @@ leading_by items (Some name) = leading_base items name
 leading_by items None = leading_program items
 
 -- what leads the names of the sources' side files, if anything does
-abbrev pub leading : List Item → Option (List ℕ)
-leading items = leading_by items (given_base items)
+abbrev pub side_lead : List Item → Option (List ℕ)
+side_lead items = leading_by items (given_base items)
 
 -- what leads the link's side files where -dumpbase is given: its name, or the program's where that is empty
 abbrev pub link_base : List Item → List ℕ → List ℕ
@@ -245,17 +245,17 @@ abbrev pub link_leading : List Item → Option (List ℕ)
 link_leading items = link_leading_by items (given_base items)
 
 -- a leading name with the mark after it, - for sources and . for the link; nothing where nothing leads
-abbrev pub marked : List ℕ → Option (List ℕ) → List ℕ
-marked mark None = []
-marked mark (Some name) = name ++ mark
+abbrev pub path_with_mark : List ℕ → Option (List ℕ) → List ℕ
+path_with_mark mark None = []
+path_with_mark mark (Some name) = name ++ mark
 
 -- how the names of the sources' side files begin: the word --gdrv-dir= gives it to the texts
 abbrev pub beginning : List Item → List ℕ
-beginning items = side_folder items ++ marked (codes "-") (leading items)
+beginning items = side_folder items ++ path_with_mark (codes "-") (side_lead items)
 
 -- how the names of the link's side files begin: the link's children get it by -dumpdir
 abbrev pub link_beginning : List Item → List ℕ
-link_beginning items = side_folder items ++ marked (codes ".") (link_leading items)
+link_beginning items = side_folder items ++ path_with_mark (codes ".") (link_leading items)
 
 -- the name of -dumpbase as that of the only source, with its end: where it isn't empty and leads no names
 abbrev pub own_base : List Item → List ℕ → Option (List ℕ)
@@ -296,15 +296,15 @@ stem_of items name = stem_from items name (source_base items)
 
 -- the file that -MD writes for an output: its name with .d in place of its last suffix
 abbrev pub dependencies : List ℕ → List ℕ
-dependencies output = by (parted period (base output))
+dependencies output = by (split_at_last period (base output))
   where
     by : Option (List ℕ × List ℕ) → List ℕ
     by None = output ++ codes ".d"
     by (Some parts) = folder output ++ parts.0 ++ codes ".d"
 
 -- the kinds of sources that get a name by --gdrv-base=: with -E, -M and -MM assembler too
-abbrev pub named : List Item → List ℕ × List ℕ
-named items = if has (codes "-E") items || has (codes "-M") items || has (codes "-MM") items then preprocessed else compiled
+abbrev pub named_kinds : List Item → List ℕ × List ℕ
+named_kinds items = if has (codes "-E") items || has (codes "-M") items || has (codes "-MM") items then preprocessed else compiled
 
 -- Words.
 
@@ -380,7 +380,7 @@ is_some (name ∷ names) = true
 abbrev pub named_words : List Item → List (List ℕ)
 named_words items =
     with_value (codes "--gdrv-dir=") (beginning items)
-    ++ base_words items (sources (named items) items) (only (sources (named items) items)) ++ dependencies_asked items
+    ++ base_words items (sources (named_kinds items) items) (only (sources (named_kinds items) items)) ++ dependencies_asked items
     ++ aux_asked items
 
 -- the words by which the texts name side files; a line without a source has none

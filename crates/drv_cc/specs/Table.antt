@@ -232,7 +232,7 @@ sections =
     ∷ section Attached Joined Switch
     (codes "-d")
     ∷ section Either Separate Switch
-    (codes "-A -D -U -I -B -T -e -o -u -z")
+    (codes "-A -D -U -I -B -G -T -e -o -u -z")
     ∷ section Either Joined Switch
     (codes "-L -F")
     ∷ section Either Separate Piece

@@ -62,6 +62,7 @@ const GROUP_10: &[Row] = group! {
 };
 
 const GROUP_11: &[Row] = group! {
+    b"-G" b"-G" Either Separate Switch
     b"-e" b"-e" Either Separate Switch
 };
 

@@ -2,13 +2,13 @@
 
 ghost use Rattle.drv_cc.specs.Code.Groups.{list_key, ringed_shown, third};
 ghost use Rattle.drv_cc.specs.Items.{class_alone, class_by, class_of, has_two_signs, is_among};
-ghost use Rattle.drv_cc.specs.Items.{paired, same};
+ghost use Rattle.drv_cc.specs.Items.{positive_form, same};
 ghost use Rattle.drv_cc.specs.Table.{ignored, rings, texts, unpaired};
 ghost use Rattle.std.specs.Option.{option_map};
-ghost use Rattle.std.specs.Prelude.{◌≡◌, ◌<◌, IfOk, find, map};
+ghost use Rattle.std.specs.Prelude.{◌≡◌, ◌<◌, ◌∷◌, IfOk, find, map, ℕ};
 
 use crate::name_groups::{Ringed, ignored_group, ringed_group, unpaired_group};
-use crate::table::{Spelling, last_byte, third};
+use crate::table::{Spelling, byte_at, last_byte, third};
 use drv_words::Word;
 use std::alloc::{AllocError, Global};
 
@@ -32,12 +32,51 @@ fn list_key(name: &[u8]) -> usize
     (usize::from(third(name)) + name.len() % 16) % 16
 }
 
+/// The same number, of a name of two bytes and this rest.
+#[tactic(auto, using(crate::proofs::Lists::joined_key))]
+fn list_key_joined(rest: &[u8]) -> usize
+    ensures key { (a b : ℕ) → result ≡ list_key (a ∷ b ∷ rest.now) }
+    ensures below { result < 16 }
+{
+    (usize::from(byte_at(rest, 0)) + (rest.len() + 2) % 16) % 16
+}
+
 /// Whether an option is passed over.
 #[tactic(auto, using(crate::proofs::Lists::among_ignored))]
 pub(crate) fn is_ignored(name: &[u8]) -> bool
     ensures { result ≡ is_among (texts ignored) name.now }
 {
     is_one_of(ignored_group(list_key(name)), name)
+}
+
+/// Whether a name begins with these two bytes and goes on so.
+fn is_joined(name: &[u8], hyphen: u8, letter: u8, rest: &[u8]) -> bool
+    ensures { result ≡ same (hyphen ∷ letter ∷ rest.now) name.now }
+{
+    match name {
+        [first, second, left @ ..] => is(rest, left) && *first == hyphen && *second == letter,
+        _ => false,
+    }
+}
+
+/// Whether one of these names does.
+fn has_joined(names: &[&[u8]], hyphen: u8, letter: u8, rest: &[u8]) -> bool
+    ensures { result ≡ is_among (map (λ other. other.now) names.now) (hyphen ∷ letter ∷ rest.now) }
+{
+    for other in names {
+        if is_joined(other, hyphen, letter, rest) {
+            return true;
+        }
+    }
+    false
+}
+
+/// Whether an option is passed over that begins with these two bytes and goes on so.
+pub(crate) fn is_ignored_joined(hyphen: u8, letter: u8, rest: &[u8]) -> bool
+    ensures { result ≡ is_among (texts ignored) (hyphen ∷ letter ∷ rest.now) }
+{
+    let names = ignored_group(list_key_joined(rest));
+    has_joined(names, hyphen, letter, rest)
 }
 
 /// Whether an option has no opposite: neither `-fno-X` nor `-fX` takes the other back (RejectNegative).
@@ -92,8 +131,8 @@ fn has_two_signs(name: &[u8]) -> bool
 }
 
 /// The positive form of an option.
-pub(crate) fn paired(alloc: Global, name: &[u8]) -> Result<Word, AllocError>
-    ensures { IfOk result (λ word. word ≡ paired name.now) }
+pub(crate) fn positive_form(alloc: Global, name: &[u8]) -> Result<Word, AllocError>
+    ensures { IfOk result (λ word. word ≡ positive_form name.now) }
 {
     match name {
         [dash, letter, b'n', b'o', b'-', rest @ ..] => {
@@ -112,7 +151,7 @@ fn class_alone(alloc: Global, name: &[u8]) -> Result<Word, AllocError>
     if !has_two_signs(name) || name.contains(&b'=') || is_unpaired(name) {
         return Ok(Word::empty(alloc));
     }
-    paired(alloc, name)
+    positive_form(alloc, name)
 }
 
 /// The class of an option that is in no ring.

@@ -1,13 +1,13 @@
 //! A line of `gcc` read into a question, refusals, or items of the driver's line.
 
 ghost use Rattle.drv_cc.specs.Front.{answer_of, front_of, line_items, refused_or_run, run_of};
-ghost use Rattle.drv_cc.specs.Kept.{kept, last_argument, refusals};
+ghost use Rattle.drv_cc.specs.Kept.{effective_items, last_argument, refusals};
 ghost use Rattle.std.specs.Prelude.{◌≡◌, IfOk, codes};
 
 use crate::asking::is_asked;
 use crate::item::Item;
 use crate::judging::refusals;
-use crate::keeping::{do_all_stay, kept, last_argument};
+use crate::keeping::{do_all_stay, effective_items, last_argument};
 use crate::line_adding::add_items;
 use crate::line_items::add_kept;
 use crate::quoting::children;
@@ -61,12 +61,12 @@ fn call_of(alloc: Global, around: &Surroundings, items: &[Item]) -> Result<Answe
 
 /// The call of a line with those of these items that stay. Where all stay, none is copied for it.
 fn call_of_kept(alloc: Global, around: &Surroundings, items: &[Item]) -> Result<Answer, AllocError>
-    ensures { IfOk result (λ answer. answer ≡ run_of around.now (kept items.now)) }
+    ensures { IfOk result (λ answer. answer ≡ run_of around.now (effective_items items.now)) }
 {
     if do_all_stay(alloc, items)? {
         return call_of(alloc, around, items);
     }
-    let kept = kept(alloc, items)?;
+    let kept = effective_items(alloc, items)?;
     call_of(alloc, around, kept.as_slice())
 }
 

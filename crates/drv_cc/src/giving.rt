@@ -2,11 +2,11 @@
 
 ghost use Rattle.drv_args.specs.declared.option_table.Effect.TheVariants as added;
 ghost use Rattle.drv_cc.specs.Items.{items_of};
-ghost use Rattle.drv_cc.specs.Kept.{kept};
+ghost use Rattle.drv_cc.specs.Kept.{effective_items};
 ghost use Rattle.drv_cc.specs.LineItems.{alone};
 ghost use Rattle.drv_cc.specs.SelfSpecs.{added_with, answer_with, front_with, given_items};
 ghost use Rattle.drv_cc.specs.SelfSpecs.{given_refusals, given_refused, is_late, items_with};
-ghost use Rattle.drv_cc.specs.SelfSpecs.{refused_or_run_with, run_with, seen, seen_items};
+ghost use Rattle.drv_cc.specs.SelfSpecs.{refused_or_run_with, run_with, seen_items, visible_items};
 ghost use Rattle.drv_cc.specs.SelfSpecs.{switches_with};
 ghost use Rattle.drv_cc.specs.SelfSpecs.{thread_item};
 ghost use Rattle.std.specs.List.{filter};
@@ -20,7 +20,7 @@ use crate::fronting::output;
 use crate::hiding::live;
 use crate::item::Item;
 use crate::judging::refuse;
-use crate::keeping::kept;
+use crate::keeping::effective_items;
 use crate::levels::add_levels_with;
 use crate::line_adding::{add_first_words, add_pipe, add_program_items, add_switches};
 use crate::line_items::add_kept;
@@ -43,10 +43,10 @@ pub struct Given {
 
 /// The items of a line that stay.
 fn line_kept(alloc: Global, known: &[u8], words: &[Word]) -> Result<Listing<Item>, AllocError>
-    ensures { IfOk result (λ stay. stay ≡ kept (items_of known.now None words.now)) }
+    ensures { IfOk result (λ stay. stay ≡ effective_items (items_of known.now None words.now)) }
 {
     let items = items_of(alloc, known, words)?;
-    kept(alloc, items.as_slice())
+    effective_items(alloc, items.as_slice())
 }
 
 /// Adds the switches of words.
@@ -64,8 +64,8 @@ fn add_thread_items(
 }
 
 /// The items that the text sees, where these stay of the line.
-fn seen(alloc: Global, items: &[Item]) -> Result<Listing<Item>, AllocError>
-    ensures { IfOk result (λ all. all ≡ seen items.now) }
+fn visible_items(alloc: Global, items: &[Item]) -> Result<Listing<Item>, AllocError>
+    ensures { IfOk result (λ all. all ≡ visible_items items.now) }
 {
     let mut threads = Listing::new(alloc);
     add_thread_words(alloc, items, &mut threads)?;
@@ -113,7 +113,7 @@ pub fn seen_items(
     ensures { IfOk result (λ items. items ≡ seen_items known.now args.now) }
 {
     let items = line_kept(alloc, known, args)?;
-    let all = seen(alloc, items.as_slice())?;
+    let all = visible_items(alloc, items.as_slice())?;
     let mut given = Listing::new(alloc);
     add_kept(all.as_slice(), &mut given)?;
     Ok(given)
@@ -310,7 +310,7 @@ fn answer_with(
     ensures { IfOk result (λ answer. answer
         ≡ answer_with named.now around.now items.now left.now given.now) }
 {
-    let all = seen(alloc, items)?;
+    let all = visible_items(alloc, items)?;
     let live = live(alloc, all.as_slice(), left)?;
     refused_or_run_with(alloc, named, around, items, live.as_slice(), given)
 }

@@ -1,7 +1,7 @@
 //! Which switches of a line a spec text left, by the words that it writes for them.
 
 ghost use Rattle.drv_cc.specs.Code.Hiding.{left_after, live_item};
-ghost use Rattle.drv_cc.specs.SelfSpecs.{is_left, live, written, written_by, written_if};
+ghost use Rattle.drv_cc.specs.SelfSpecs.{is_left, item_words, live, written_by, written_if};
 ghost use Rattle.std.specs.Prelude.{◌≡◌, ◌++◌, IfOk, OnOk, drop};
 
 use crate::item::Item;
@@ -38,8 +38,8 @@ fn written_by(
 }
 
 /// The words that a text writes for an item: none where it is no switch.
-fn written(alloc: Global, item: &Item) -> Result<Listing<Word>, AllocError>
-    ensures { IfOk result (λ words. words ≡ written item.now) }
+fn item_words(alloc: Global, item: &Item) -> Result<Listing<Word>, AllocError>
+    ensures { IfOk result (λ words. words ≡ item_words item.now) }
 {
     let name = item.name.as_bytes();
     match effect_of(item.role, item.spelling, name) {
@@ -76,7 +76,7 @@ fn keep_live<'l>(
     ensures stays { OnOk result (stay.new ≡ stay.old ++ live_item item.now left.now) }
     ensures left { IfOk result (λ rest. rest.now ≡ left_after item.now left.now) }
 {
-    let words = written(alloc, item)?;
+    let words = item_words(alloc, item)?;
     if is_left(words.as_slice(), left) {
         stay.push(item.clone()?)?;
         return Ok(after(left, words.len()));

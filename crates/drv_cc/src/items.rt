@@ -8,6 +8,7 @@ ghost use Rattle.std.specs.List.{list_any};
 ghost use Rattle.std.specs.Prelude.{◌≡◌, [], IfOk, List, None, OnOk, map, ℕ};
 
 use crate::asking::is_asked;
+use crate::fences::{Fence, fences_of};
 use crate::fronting::answer_of;
 use crate::item::Item;
 use crate::reading::{by_own_name, is_own_switch, items_of};
@@ -31,16 +32,27 @@ fn are_unknown(items: &[Item]) -> bool
     items.iter().any(|item| is_unknown(item.role))
 }
 
+/// Lines of the names that help to look up the unknown among items, as many as these are.
+fn fences_for(alloc: Global, known: &[u8], items: &[Item]) -> Result<Vec<Fence>, AllocError> {
+    let unknown = items.iter().filter(|item| is_unknown(item.role)).count();
+    fences_of(alloc, known, unknown)
+}
+
 /// Asks an item again by names of options, in its place. One that is unknown is none that is passed
 /// over.
 #[tactic(auto, using(crate::proofs::Again::switched_again))]
-fn ask_again(alloc: Global, known: &[u8], item: &mut Item) -> Result<(), AllocError>
+fn ask_again(
+    alloc: Global,
+    known: &[u8],
+    fences: &[Fence],
+    item: &mut Item,
+) -> Result<(), AllocError>
     ensures { OnOk result (item.new ≡ again known.now item.old) }
 {
     if !is_unknown(item.role) {
         return Ok(());
     }
-    if is_own_switch(alloc, known, item.name.as_bytes())? {
+    if is_own_switch(alloc, known, fences, item.name.as_bytes())? {
         return item.turn_to_switch(alloc);
     }
     *item = by_own_name(alloc, known, item.name.as_bytes())?;
@@ -48,11 +60,16 @@ fn ask_again(alloc: Global, known: &[u8], item: &mut Item) -> Result<(), AllocEr
 }
 
 /// Asks items again by names of options.
-fn ask_all(alloc: Global, known: &[u8], items: &mut [Item]) -> Result<(), AllocError>
+fn ask_all(
+    alloc: Global,
+    known: &[u8],
+    fences: &[Fence],
+    items: &mut [Item],
+) -> Result<(), AllocError>
     ensures { OnOk result (items.new ≡ map (again known.now) items.old) }
 {
     for item in items.iter_mut() {
-        ask_again(alloc, known, item)?;
+        ask_again(alloc, known, fences, item)?;
     }
     Ok(())
 }
@@ -61,8 +78,9 @@ fn ask_all(alloc: Global, known: &[u8], items: &mut [Item]) -> Result<(), AllocE
 fn all_asked(alloc: Global, known: &[u8], items: Vec<Item>) -> Result<Listing<Item>, AllocError>
     ensures { IfOk result (λ found. found ≡ map (again known.now) items.items) }
 {
+    let fences = fences_for(alloc, known, items.as_slice())?;
     let mut found = items;
-    ask_all(alloc, known, found.as_mut_slice())?;
+    ask_all(alloc, known, &fences, found.as_mut_slice())?;
     Ok(Listing::from_vec(found))
 }
 

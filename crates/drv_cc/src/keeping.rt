@@ -1,10 +1,12 @@
 //! What a line has, and which of its items stay.
 
 ghost use Rattle.drv_cc.specs.Code.Staying.{Notes, is_seen, kept_before, stays_before};
-ghost use Rattle.drv_cc.specs.Kept.{all_stay, has, has_input, is_input, kept, last_argument};
+ghost use Rattle.drv_cc.specs.Kept.{all_stay, effective_items, has, has_input, is_input};
+ghost use Rattle.drv_cc.specs.Kept.{last_argument};
 ghost use Rattle.std.specs.Option.{option_map};
 ghost use Rattle.std.specs.Prelude.{◌≡◌, IfOk, OnOk, reverse};
 
+use crate::class_key::ClassKey;
 use crate::classes::is;
 use crate::item::Item;
 use crate::table::Role;
@@ -49,29 +51,29 @@ pub(crate) fn has_input(items: &[Item]) -> bool
 /// Notes the class of an item, and tells whether the item stays: whether none after it, whose
 /// classes were noted before, is of its class.
 #[tactic(auto, using(crate::proofs::Staying::not_noted))]
-fn note_class<'i>(seen: &mut HashSet<&'i Word>, class: &'i Word) -> Result<bool, AllocError>
+fn note_class<'i>(seen: &mut HashSet<ClassKey<'i>>, class: &'i Word) -> Result<bool, AllocError>
     ensures stays { IfOk result (λ stays. stays ≡ stays_before class.now
-        (is_seen seen.old.keys (λ k. k.now))) }
-    ensures noted { OnOk result (Notes class.now (is_seen seen.old.keys (λ k. k.now))
-        (is_seen seen.new.keys (λ k. k.now))) }
+        (is_seen seen.old.keys (λ k. k))) }
+    ensures noted { OnOk result (Notes class.now (is_seen seen.old.keys (λ k. k))
+        (is_seen seen.new.keys (λ k. k))) }
 {
     if class.is_empty() {
         return Ok(true);
     }
-    Ok(seen.insert(class)?)
+    Ok(seen.insert(ClassKey::of(class.as_bytes()))?)
 }
 
 /// Adds an item if none after it, whose classes were noted before, is of its class, and notes its
 /// class.
 fn keep_item<'i>(
-    seen: &mut HashSet<&'i Word>,
+    seen: &mut HashSet<ClassKey<'i>>,
     item: &'i Item,
     stay: &mut Vec<Item>,
 ) -> Result<(), AllocError>
     ensures kept { OnOk result (stay.new.items ≡ kept_before item.now
-        (is_seen seen.old.keys (λ k. k.now)) stay.old.items) }
-    ensures noted { OnOk result (Notes item.now.class (is_seen seen.old.keys (λ k. k.now))
-        (is_seen seen.new.keys (λ k. k.now))) }
+        (is_seen seen.old.keys (λ k. k)) stay.old.items) }
+    ensures noted { OnOk result (Notes item.now.class (is_seen seen.old.keys (λ k. k))
+        (is_seen seen.new.keys (λ k. k))) }
 {
     if note_class(seen, &item.class)? {
         stay.push(item.clone()?)?;
@@ -100,7 +102,7 @@ pub(crate) fn do_all_stay(alloc: Global, items: &[Item]) -> Result<bool, AllocEr
 /// The items that stay, the last one first.
 #[tactic(auto, using(crate::proofs::Staying::keeping_starts, crate::proofs::Staying::keeping_ends))]
 fn kept_backwards(alloc: Global, items: &[Item]) -> Result<Vec<Item>, AllocError>
-    ensures { IfOk result (λ stay. reverse stay.items ≡ kept items.now) }
+    ensures { IfOk result (λ stay. reverse stay.items ≡ effective_items items.now) }
 {
     let mut seen = HashSet::new(alloc);
     let mut stay = Vec::new(alloc);
@@ -113,8 +115,8 @@ fn kept_backwards(alloc: Global, items: &[Item]) -> Result<Vec<Item>, AllocError
 }
 
 /// The items that stay: of each class the last, and those of no class.
-pub(crate) fn kept(alloc: Global, items: &[Item]) -> Result<Listing<Item>, AllocError>
-    ensures { IfOk result (λ stay. stay ≡ kept items.now) }
+pub(crate) fn effective_items(alloc: Global, items: &[Item]) -> Result<Listing<Item>, AllocError>
+    ensures { IfOk result (λ stay. stay ≡ effective_items items.now) }
 {
     let mut stay = kept_backwards(alloc, items)?;
     stay.as_mut_slice().reverse();

@@ -36,80 +36,74 @@ fn near_end(text: &[u8], at: usize) -> usize
     end
 }
 
-/// Where the first end of a line is among eight bytes, of which the first is the lowest; 8 if there
-/// is none.
-fn end_among_eight(bytes: u64) -> usize
-    ensures { result ≤ 8 }
-{
+/// The ends of lines among eight bytes, of which the first is the lowest: the highest bit of each of
+/// them, and maybe of a byte behind one.
+fn ends_among_eight(bytes: u64) -> u64 {
     let others = bytes ^ u64::from_le_bytes([b'\n'; 8]);
-    let ends = others.wrapping_sub(LOWEST) & !others & (LOWEST << 7);
-    (ends.trailing_zeros() as usize / 8).min(8)
+    others.wrapping_sub(LOWEST) & !others & (LOWEST << 7)
 }
 
 /// Where the line ends in which a place is.
-fn line_end(text: &[u8], at: usize) -> usize
+pub(crate) fn line_end(text: &[u8], at: usize) -> usize
     ensures from { at ≤ result }
     ensures to { at < length text.now → result ≤ length text.now }
 {
     let mut end = at;
     while let Some((eight, _)) = rest_from(text, end).split_first_chunk::<8>() {
-        let ahead = end_among_eight(u64::from_le_bytes(*eight));
-        end += ahead;
-        if ahead < 8 {
-            return end;
+        let ends = ends_among_eight(u64::from_le_bytes(*eight));
+        if ends != 0 {
+            return end + (ends.trailing_zeros() as usize / 8).min(8);
         }
+        end += 8;
     }
     near_end(text, end)
 }
 
-/// Whether a text comes before another one, where their first eight bytes tell that.
-#[inline(always)]
-fn is_before_by_eight(text: &[u8], other: &[u8]) -> Option<bool> {
-    let (front, _) = text.split_first_chunk::<8>()?;
-    let (beside, _) = other.split_first_chunk::<8>()?;
-    let number = u64::from_be_bytes(*front);
-    let wanted = u64::from_be_bytes(*beside);
-    if number == wanted {
-        None
-    } else {
-        Some(number < wanted)
+/// The first sixteen bytes of a text that has fewer, filled up with ends of lines.
+fn filled(text: &[u8]) -> [u8; 16] {
+    let mut bytes = [b'\n'; 16];
+    if let Some(front) = bytes.get_mut(..text.len()) {
+        front.copy_from_slice(text);
+    }
+    bytes
+}
+
+/// How a line begins: its first sixteen bytes as a number. All bytes of names come after the end of
+/// a line, so of two lines that begin otherwise the number of the earlier one is less.
+pub(crate) fn beginning_of(text: &[u8]) -> u128 {
+    match text.split_first_chunk::<16>() {
+        Some((front, _)) => u128::from_be_bytes(*front),
+        None => u128::from_be_bytes(filled(text)),
     }
 }
 
-/// Whether the line at the beginning of a text comes before another one, by all their bytes. All
-/// bytes of names come after the end of a line.
-fn is_before_by_all(rest: &[u8], line: &[u8]) -> bool {
-    order(&rest[..line.len().min(rest.len())], line).is_lt()
-}
-
-/// The same, where their first eight bytes don't tell it: the next eight do mostly.
+/// Whether the line at the beginning of a text comes before another one that begins as it does, by
+/// what follows.
 fn is_before_further(rest: &[u8], line: &[u8]) -> bool {
-    match is_before_by_eight(rest_from(rest, 8), rest_from(line, 8)) {
-        Some(is) => is,
-        None => is_before_by_all(rest, line),
-    }
+    let left = rest_from(&rest[..line.len().min(rest.len())], 16);
+    order(left, rest_from(line, 16)).is_lt()
 }
 
-/// Whether the line at a place of a text comes before another one. It is inlined for speed: the
-/// search asks it some fifteen times a name.
-#[inline(always)]
-fn is_before(text: &[u8], at: usize, line: &[u8]) -> bool {
+/// Whether the line at a place of a text comes before another one, which begins so.
+fn is_before(text: &[u8], at: usize, line: &[u8], beginning: u128) -> bool {
     let rest = rest_from(text, at);
-    match is_before_by_eight(rest, line) {
-        Some(is) => is,
-        None => is_before_further(rest, line),
+    let own = beginning_of(rest);
+    if own == beginning {
+        is_before_further(rest, line)
+    } else {
+        own < beginning
     }
 }
 
-/// Where to begin a search line by line, if the lines of a text are sorted by their bytes: the line
-/// is not before this place, and only a few lines are between.
-fn near_place(text: &[u8], line: &[u8]) -> usize {
-    let mut low = 0;
-    let mut high = text.len();
+/// Where to begin a search line by line between two places, if the lines of a text are sorted by
+/// their bytes: the line is not before this place, and only a few lines are between.
+fn near_place(text: &[u8], line: &[u8], beginning: u128, from: usize, to: usize) -> usize {
+    let mut high = to.min(text.len());
+    let mut low = from.min(high);
     while NEAR < high - low {
         let middle = low + (high - low) / 2;
         let next = line_end(text, middle) + 1;
-        if next < high && is_before(text, next, line) {
+        if next < high && is_before(text, next, line, beginning) {
             low = next;
         } else {
             high = middle;
@@ -118,11 +112,11 @@ fn near_place(text: &[u8], line: &[u8]) -> usize {
     low
 }
 
-/// Where a line begins, if the lines of a text are sorted by their bytes and it is one of them. The
-/// caller checks which line is there.
-fn place_of(text: &[u8], line: &[u8]) -> usize {
-    let mut at = near_place(text, line);
-    while at < text.len() && is_before(text, at, line) {
+/// Where a line that begins so is, if the lines of a text are sorted by their bytes and it is one of
+/// them, not before one place and not behind another. The caller checks which line is there.
+fn place_of(text: &[u8], line: &[u8], beginning: u128, from: usize, to: usize) -> usize {
+    let mut at = near_place(text, line, beginning, from, to);
+    while at < text.len() && is_before(text, at, line, beginning) {
         at = line_end(text, at) + 1;
     }
     at
@@ -148,7 +142,7 @@ fn begins_with(text: &[u8], line: &[u8]) -> bool
 }
 
 /// The rest of a text from a place on.
-fn rest_from(text: &[u8], at: usize) -> &[u8]
+pub(crate) fn rest_from(text: &[u8], at: usize) -> &[u8]
     ensures { result.now ≡ drop at text.now }
 {
     text.get(at..).unwrap_or(&[])
@@ -171,7 +165,20 @@ fn stands_at(text: &[u8], at: usize, line: &[u8]) -> bool
 pub(crate) fn is_found(known: &[u8], name: &[u8]) -> bool
     ensures { result ≡ true → is_known known.now name.now ≡ true }
 {
-    stands_at(known, place_of(known, name), name)
+    is_found_between(known, name, beginning_of(name), 0, known.len())
+}
+
+/// Whether a name that begins so is found in the same way between two places.
+pub(crate) fn is_found_between(
+    known: &[u8],
+    name: &[u8],
+    beginning: u128,
+    from: usize,
+    to: usize,
+) -> bool
+    ensures { result ≡ true → is_known known.now name.now ≡ true }
+{
+    stands_at(known, place_of(known, name, beginning, from, to), name)
 }
 
 /// Whether a name is known, by all lines.

@@ -1,7 +1,7 @@
 //! Laws of the definitions that the contracts cite.
 
 ghost use Rattle.drv_cc.specs.LevelRules.{NoneNames, level_after};
-ghost use Rattle.drv_cc.specs.Levels.{debugged, level_named, no_debugging, toggle_named};
+ghost use Rattle.drv_cc.specs.Levels.{debugging_of, level_named, no_debugging, toggle_named};
 ghost use Rattle.drv_cc.specs.Levels.{version_named};
 ghost use Rattle.drv_cc.specs.declared.item.Item.{Item};
 ghost use Rattle.std.specs.Prelude.{◌≡◌, ◌∷◌, ◌++◌, Bool, List, Some, false, ℕ};
@@ -13,17 +13,17 @@ ghost use Rattle.std.specs.Prelude.{◌≡◌, ◌∷◌, ◌++◌, Bool, List, 
 pub fn last_level_counts()
     ensures level { (before after : List Item) (i : Item) (level : ℕ)
         → level_named i.name ≡ Some level → NoneNames level_named after
-        → (debugged no_debugging (before ++ i ∷ after)).level ≡ level_after after level }
+        → (debugging_of no_debugging (before ++ i ∷ after)).level ≡ level_after after level }
     ensures no_level { (items : List Item) → NoneNames level_named items
-        → (debugged no_debugging items).level ≡ level_after items no_debugging.level }
+        → (debugging_of no_debugging items).level ≡ level_after items no_debugging.level }
     ensures version { (before after : List Item) (i : Item) (version : ℕ)
         → version_named i.name ≡ Some version → NoneNames version_named after
-        → (debugged no_debugging (before ++ i ∷ after)).version ≡ version }
+        → (debugging_of no_debugging (before ++ i ∷ after)).version ≡ version }
     ensures no_version { (items : List Item) → NoneNames version_named items
-        → (debugged no_debugging items).version ≡ no_debugging.version }
+        → (debugging_of no_debugging items).version ≡ no_debugging.version }
     ensures toggle { (before after : List Item) (i : Item) (toggle : Bool)
         → toggle_named i.name ≡ Some toggle → NoneNames toggle_named after
-        → (debugged no_debugging (before ++ i ∷ after)).toggled ≡ toggle }
+        → (debugging_of no_debugging (before ++ i ∷ after)).toggled ≡ toggle }
     ensures no_toggle { (items : List Item) → NoneNames toggle_named items
-        → (debugged no_debugging items).toggled ≡ false }
+        → (debugging_of no_debugging items).toggled ≡ false }
 {}

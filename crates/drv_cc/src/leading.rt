@@ -6,9 +6,9 @@ ghost use Rattle.drv_cc.specs.Kept.{last_argument};
 ghost use Rattle.drv_cc.specs.SideFiles as sides;
 ghost use Rattle.drv_cc.specs.SideFiles.{beginning, folder_by, given_base, given_end};
 ghost use Rattle.drv_cc.specs.SideFiles.{given_folder, given_or};
-ghost use Rattle.drv_cc.specs.SideFiles.{is_empty_name, is_end, is_given, is_named, leading};
+ghost use Rattle.drv_cc.specs.SideFiles.{is_empty_name, is_end, is_given, is_named, side_lead};
 ghost use Rattle.drv_cc.specs.SideFiles.{leading_base, leading_program, leads, link_base};
-ghost use Rattle.drv_cc.specs.SideFiles.{link_beginning, marked, only};
+ghost use Rattle.drv_cc.specs.SideFiles.{link_beginning, only, path_with_mark};
 ghost use Rattle.drv_cc.specs.SideFiles.{output, own_folder, program, side_folder, source_base};
 ghost use Rattle.drv_cc.specs.SideFiles.{stem_of, stops, unnamed_stem, usual_program, without_end};
 ghost use Rattle.std.specs.Option.{option_map};
@@ -199,8 +199,8 @@ fn leading_program(items: &[Item]) -> Option<&[u8]>
 }
 
 /// What leads the names of side files.
-fn leading(items: &[Item]) -> Option<&[u8]>
-    ensures { option_map (λ name. name.now) result ≡ leading items.now }
+fn side_lead(items: &[Item]) -> Option<&[u8]>
+    ensures { option_map (λ name. name.now) result ≡ side_lead items.now }
 {
     match given_base(items) {
         Some(name) => leading_base(items, name),
@@ -250,9 +250,14 @@ fn link_leading<'a>(
 }
 
 /// A folder, and a name with a mark, if there is one.
-fn marked(alloc: Global, folder: &[u8], name: Option<&[u8]>, mark: u8) -> Result<Word, AllocError>
+fn path_with_mark(
+    alloc: Global,
+    folder: &[u8],
+    name: Option<&[u8]>,
+    mark: u8,
+) -> Result<Word, AllocError>
     ensures { IfOk result (λ word. word ≡ folder.now
-        ++ marked (mark ∷ []) (option_map (λ bytes. bytes.now) name.entry)) }
+        ++ path_with_mark (mark ∷ []) (option_map (λ bytes. bytes.now) name.entry)) }
 {
     let Some(name) = name else {
         return Word::from_bytes(alloc, folder);
@@ -267,7 +272,7 @@ fn marked(alloc: Global, folder: &[u8], name: Option<&[u8]>, mark: u8) -> Result
 pub(crate) fn beginning(alloc: Global, items: &[Item]) -> Result<Word, AllocError>
     ensures { IfOk result (λ word. word ≡ beginning items.now) }
 {
-    marked(alloc, side_folder(items), leading(items), b'-')
+    path_with_mark(alloc, side_folder(items), side_lead(items), b'-')
 }
 
 /// What the names of the link's side files begin with.
@@ -279,7 +284,7 @@ pub(crate) fn link_beginning(alloc: Global, items: &[Item]) -> Result<Word, Allo
     let own = own_folder(items);
     let given = placed_folder(own, items);
     let leading = link_leading(items, base, given);
-    marked(alloc, folder_by(base, given_or(own, given)), leading, b'.')
+    path_with_mark(alloc, folder_by(base, given_or(own, given)), leading, b'.')
 }
 
 /// The name of -dumpbase, where it is that of the only source's side files.

@@ -1,9 +1,9 @@
 //! The level of debugging information, and the libraries of checks.
 
-ghost use Rattle.drv_cc.specs.Levels.{asks_for_records, debug_words, debug_words_of, debugged};
+ghost use Rattle.drv_cc.specs.Levels.{asks_for_records, debug_words, debug_words_of, debugging_of};
 ghost use Rattle.drv_cc.specs.Levels.{debugged_by, level_named, level_words, no_debugging};
 ghost use Rattle.drv_cc.specs.Levels.{raised_by, toggle_named, toggled, version_named};
-ghost use Rattle.drv_cc.specs.SelfSpecs.{debugged_with, levels_with, settled};
+ghost use Rattle.drv_cc.specs.SelfSpecs.{debugged_with, levels_with, with_toggle};
 ghost use Rattle.std.specs.Prelude.{◌≡◌, ◌++◌, OnOk};
 
 use crate::classes::{is, stands_in};
@@ -128,8 +128,8 @@ impl Debugging {
     }
 
     /// The same with the level that the toggle gives, and without a toggle.
-    fn settled(self) -> Debugging
-        ensures { result ≡ settled self }
+    fn with_toggle(self) -> Debugging
+        ensures { result ≡ with_toggle self }
     {
         Debugging {
             level: self.level(),
@@ -141,7 +141,7 @@ impl Debugging {
 
 /// The debugging information after items.
 fn debugged_after(before: Debugging, items: &[Item]) -> Debugging
-    ensures { result ≡ debugged before items.now }
+    ensures { result ≡ debugging_of before items.now }
 {
     let mut so_far = before;
     for item in items {
@@ -151,8 +151,8 @@ fn debugged_after(before: Debugging, items: &[Item]) -> Debugging
 }
 
 /// The debugging information of a line.
-fn debugged(items: &[Item]) -> Debugging
-    ensures { result ≡ debugged no_debugging items.now }
+fn debugging_of(items: &[Item]) -> Debugging
+    ensures { result ≡ debugging_of no_debugging items.now }
 {
     let none = Debugging {
         level: b'0',
@@ -166,7 +166,7 @@ fn debugged(items: &[Item]) -> Debugging
 fn debugged_with(items: &[Item], given: &[Item]) -> Debugging
     ensures { result ≡ debugged_with items.now given.now }
 {
-    debugged_after(debugged(items).settled(), given)
+    debugged_after(debugging_of(items).with_toggle(), given)
 }
 
 /// Adds the words of a level above 0 and a version.
@@ -205,7 +205,7 @@ pub(crate) fn add_debug_words(
 ) -> Result<(), AllocError>
     ensures { OnOk result (words.new ≡ words.old ++ debug_words items.now) }
 {
-    let debugging = debugged(items);
+    let debugging = debugging_of(items);
     add_levels(alloc, words, debugging.level(), debugging.version)
 }
 

@@ -1,6 +1,6 @@
 //! The switches of a link as one text, for its children.
 
-ghost use Rattle.drv_cc.specs.Front.{assembler_line, assembler_variables, children, collected};
+ghost use Rattle.drv_cc.specs.Front.{assembler_line, assembler_variables, children, compiler_words};
 ghost use Rattle.drv_cc.specs.Front.{compiler_variables, dump_words, has_pieces, is_switch};
 ghost use Rattle.drv_cc.specs.Front.{piece_byte, variables_by};
 ghost use Rattle.drv_cc.specs.Front.{piece_text, piece_variables, quoted, quoted_byte, quoted_line};
@@ -92,8 +92,8 @@ pub(crate) fn add_dump_words(
 }
 
 /// The words that the compiler is called again with.
-fn collected(alloc: Global, items: &[Item]) -> Result<Listing<Word>, AllocError>
-    ensures { IfOk result (λ words. words ≡ collected items.now) }
+fn compiler_words(alloc: Global, items: &[Item]) -> Result<Listing<Word>, AllocError>
+    ensures { IfOk result (λ words. words ≡ compiler_words items.now) }
 {
     let mut words = Listing::new(alloc);
     add_switches(items, &mut words)?;
@@ -263,7 +263,7 @@ fn compiler_variables(
 ) -> Result<Listing<Variable>, AllocError>
     ensures { IfOk result (λ made. made ≡ compiler_variables around.now items.now) }
 {
-    let words = collected(alloc, items)?;
+    let words = compiler_words(alloc, items)?;
     variables_by(alloc, around, words.as_slice())
 }
 

@@ -3,7 +3,8 @@
 ghost use Rattle.drv_cc.specs.Code.Building.{Notes, row_shown, shown, start_shown};
 ghost use Rattle.drv_cc.specs.Code.Known.{by_names};
 ghost use Rattle.drv_cc.specs.Items.{begins, beyond, first_row, is_among, is_file, item, items_of};
-ghost use Rattle.drv_cc.specs.Items.{known_item, machine_item, machine_name, paired, plain, renamed};
+ghost use Rattle.drv_cc.specs.Items.{known_item, machine_item, machine_name, meant_option, plain};
+ghost use Rattle.drv_cc.specs.Items.{positive_form};
 ghost use Rattle.drv_cc.specs.Items.{start_of, start_renamed, with_rest};
 ghost use Rattle.drv_cc.specs.Table.{ignored, texts};
 ghost use Rattle.drv_cc.specs.declared.table.Role.TheVariants as lacking;
@@ -11,12 +12,13 @@ ghost use Rattle.drv_cc.specs.declared.table.Role.TheVariants.{Switch};
 ghost use Rattle.drv_cc.specs.declared.table.Spelling.TheVariants.{Alone};
 ghost use Rattle.std.specs.Prelude.{◌≡◌, ◌∷◌, ◌++◌, [], IfOk, None, OnOk, codes, drop, length, true};
 
-use crate::classes::{is_ignored, paired};
+use crate::classes::{is_ignored, is_ignored_joined};
+use crate::fences::Fence;
 use crate::item::Item;
 use crate::known::is_known_line;
-use crate::renaming::{is_renamed, renamed};
+use crate::renaming::{is_renamed, meant_option};
 use crate::table::{Role, Row, Spelling, Takes, first_row};
-use crate::values::{accepts, judges, turns_off};
+use crate::values::{accepts, accepts_near, is_off, judges, turns_off};
 use drv_words::{Listing, Word};
 use std::alloc::{AllocError, Global};
 
@@ -90,10 +92,14 @@ fn known_item(alloc: Global, known: &[u8], name: &[u8]) -> Result<Item, AllocErr
     Item::new(alloc, name, b"", Spelling::Alone, Role::Switch)
 }
 
-/// A word that no row fits and that is not passed over, by the name that it has.
+/// A word that no row fits and that is not passed over, by the name that it has. Without names it is
+/// unknown, if it turns no warning off.
 fn by_names(alloc: Global, known: &[u8], word: &[u8], name: &[u8]) -> Result<Item, AllocError>
     ensures { IfOk result (λ item. item ≡ by_names known.now word.now name.now) }
 {
+    if known.is_empty() && !name.is_empty() && !is_off(word) {
+        return Item::plain(alloc, Role::Unknown, word);
+    }
     if turns_off(alloc, known, word)? || accepts(alloc, known, name)? {
         return known_item(alloc, known, name);
     }
@@ -108,38 +114,43 @@ fn by_names(alloc: Global, known: &[u8], word: &[u8], name: &[u8]) -> Result<Ite
 /// The same, by the name that the word has itself.
 #[tactic(auto, using(crate::proofs::Again::unrenamed_named, crate::proofs::Again::renamed_named))]
 pub(crate) fn by_own_name(alloc: Global, known: &[u8], word: &[u8]) -> Result<Item, AllocError>
-    ensures { IfOk result (λ item. item ≡ by_names known.now word.now (renamed word.now)) }
+    ensures { IfOk result (λ item. item ≡ by_names known.now word.now (meant_option word.now)) }
 {
     if !is_renamed(word) {
         return by_names(alloc, known, word, word);
     }
-    let name = renamed(alloc, word)?;
+    let name = meant_option(alloc, word)?;
     by_names(alloc, known, word, name.as_bytes())
 }
 
 /// Whether a word is a switch of its own name by names of options: they have it as it is, or it
-/// turns a warning off.
-#[tactic(auto, using(crate::proofs::Again::own_switch))]
-pub(crate) fn is_own_switch(alloc: Global, known: &[u8], word: &[u8]) -> Result<bool, AllocError>
+/// turns a warning off. These lines of them tell where it is.
+#[tactic(auto, using(crate::proofs::Again::own_switch, crate::proofs::Again::found_switch))]
+pub(crate) fn is_own_switch(
+    alloc: Global,
+    known: &[u8],
+    fences: &[Fence],
+    word: &[u8],
+) -> Result<bool, AllocError>
     ensures { IfOk result (λ is. is ≡ true
-        → by_names known.now word.now (renamed word.now) ≡ item word.now [] Alone Switch) }
+        → by_names known.now word.now (meant_option word.now) ≡ item word.now [] Alone Switch) }
 {
     if is_renamed(word) || names_machine(word) {
         return Ok(false);
+    }
+    if !is_off(word) && accepts_near(known, fences, word) {
+        return Ok(true);
     }
     Ok(turns_off(alloc, known, word)? || accepts(alloc, known, word)?)
 }
 
 /// Whether an option is passed over, or its other sign is.
-fn is_passed_over(alloc: Global, name: &[u8]) -> Result<bool, AllocError>
-    ensures { IfOk result (λ is. is ≡ is_among (texts ignored) (paired name.now)) }
+fn is_passed_over(name: &[u8]) -> bool
+    ensures { result ≡ is_among (texts ignored) (positive_form name.now) }
 {
     match name {
-        [_, _, b'n', b'o', b'-', ..] => {
-            let positive = paired(alloc, name)?;
-            Ok(is_ignored(positive.as_bytes()))
-        }
-        _ => Ok(is_ignored(name)),
+        [hyphen, letter, b'n', b'o', b'-', rest @ ..] => is_ignored_joined(*hyphen, *letter, rest),
+        _ => is_ignored(name),
     }
 }
 
@@ -147,7 +158,7 @@ fn is_passed_over(alloc: Global, name: &[u8]) -> Result<bool, AllocError>
 fn beyond(alloc: Global, known: &[u8], word: &[u8], name: &[u8]) -> Result<Item, AllocError>
     ensures { IfOk result (λ item. item ≡ beyond known.now word.now name.now) }
 {
-    if is_passed_over(alloc, name)? {
+    if is_passed_over(name) {
         return Item::new(alloc, name, b"", Spelling::Nowhere, Role::Switch);
     }
     by_names(alloc, known, word, name)
@@ -158,12 +169,12 @@ fn beyond(alloc: Global, known: &[u8], word: &[u8], name: &[u8]) -> Result<Item,
 fn start_renamed(alloc: Global, known: &[u8], word: &[u8]) -> Result<Start, AllocError>
     requires { first_row word.now ≡ None }
     ensures { IfOk result (λ start. start_shown start
-        ≡ start_renamed known.now word.now (renamed word.now) (first_row (renamed word.now))) }
+        ≡ start_renamed known.now word.now (meant_option word.now) (first_row (meant_option word.now))) }
 {
     if !is_renamed(word) {
         return Ok(Start::Whole(beyond(alloc, known, word, word)?));
     }
-    let name = renamed(alloc, word)?;
+    let name = meant_option(alloc, word)?;
     match first_row(name.as_bytes()) {
         Some(row) => with_rest(alloc, row, rest_after(name.as_bytes(), row.option)),
         None => Ok(Start::Whole(beyond(alloc, known, word, name.as_bytes())?)),

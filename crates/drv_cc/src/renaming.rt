@@ -1,7 +1,7 @@
 //! The options that other long names mean.
 
 ghost use Rattle.drv_cc.specs.Code.Building.{pair_shown};
-ghost use Rattle.drv_cc.specs.Items.{begins, is_longer, renamed};
+ghost use Rattle.drv_cc.specs.Items.{begins, is_longer, meant_option};
 ghost use Rattle.drv_cc.specs.Table.{renames};
 ghost use Rattle.std.specs.Option.{option_map};
 ghost use Rattle.std.specs.Prelude.{◌≡◌, IfOk, IsFalse, codes, find, map};
@@ -75,15 +75,16 @@ fn rename_of(word: &[u8]) -> Option<Rename>
 }
 
 /// Whether a word is a long name of an option.
+#[tactic(auto, using(crate::proofs::LongNames::not_renamed))]
 pub(crate) fn is_renamed(word: &[u8]) -> bool
-    ensures { IsFalse result → renamed word.now ≡ word.now }
+    ensures { IsFalse result → meant_option word.now ≡ word.now }
 {
-    rename_of(word).is_some()
+    is_long(word) && rename_of(word).is_some()
 }
 
 /// The option that a long name means.
-pub(crate) fn renamed(alloc: Global, word: &[u8]) -> Result<Word, AllocError>
-    ensures { IfOk result (λ name. name ≡ renamed word.now) }
+pub(crate) fn meant_option(alloc: Global, word: &[u8]) -> Result<Word, AllocError>
+    ensures { IfOk result (λ name. name ≡ meant_option word.now) }
 {
     let Some(rename) = rename_of(word) else {
         return Word::from_bytes(alloc, word);

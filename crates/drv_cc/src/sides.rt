@@ -4,7 +4,7 @@ ghost use Rattle.drv_cc.specs.SideFiles as sides;
 ghost use Rattle.drv_cc.specs.SideFiles.{aux_asked, aux_words, base_words, base_words_of};
 ghost use Rattle.drv_cc.specs.SideFiles.{beginning, dependencies, dependencies_asked};
 ghost use Rattle.drv_cc.specs.SideFiles.{dependency_words, end_words, given_dependencies};
-ghost use Rattle.drv_cc.specs.SideFiles.{given_end, named, named_words, only, saves};
+ghost use Rattle.drv_cc.specs.SideFiles.{given_end, named_kinds, named_words, only, saves};
 ghost use Rattle.drv_cc.specs.SideFiles.{side_folder, side_words, source_base, suffix_words};
 ghost use Rattle.drv_cc.specs.SideFiles.{with_value, without_end, worked};
 ghost use Rattle.drv_cc.specs.Code.Building.{count_shown, kinds_shown, suffixes_words};
@@ -20,7 +20,7 @@ use crate::leading::{
 use crate::names::{folder, suffix};
 use crate::sources::{Count, Kinds, has_source, only_source, other_suffixes};
 use crate::words::{add_joined, add_parts, add_value, add_word};
-use drv_words::{Listing, Word, base, parted};
+use drv_words::{Listing, Word, base, split_at_last};
 use std::alloc::{AllocError, Global};
 
 /// Adds the name of a source's side files and its suffix.
@@ -89,8 +89,8 @@ fn add_base_of(
 }
 
 /// The kinds of sources whose name the compiler gets.
-fn named(items: &[Item]) -> Kinds
-    ensures { kinds_shown result ≡ named items.now }
+fn named_kinds(items: &[Item]) -> Kinds
+    ensures { kinds_shown result ≡ named_kinds items.now }
 {
     if has(items, b"-E") || has(items, b"-M") || has(items, b"-MM") {
         Kinds::Preprocessed
@@ -130,12 +130,12 @@ fn add_suffix(
 /// several.
 fn add_base(alloc: Global, items: &[Item], words: &mut Listing<Word>) -> Result<(), AllocError>
     ensures { OnOk result (words.new ≡ words.old
-        ++ base_words items.now (sides.sources (named items.now) items.now)
-        (only (sides.sources (named items.now) items.now))) }
+        ++ base_words items.now (sides.sources (named_kinds items.now) items.now)
+        (only (sides.sources (named_kinds items.now) items.now))) }
 {
-    match only_source(named(items), items) {
+    match only_source(named_kinds(items), items) {
         Some(name) => add_base_of(alloc, items, name, words),
-        None => add_suffix(alloc, named(items), items, words),
+        None => add_suffix(alloc, named_kinds(items), items, words),
     }
 }
 
@@ -143,7 +143,7 @@ fn add_base(alloc: Global, items: &[Item], words: &mut Listing<Word>) -> Result<
 fn dependencies(alloc: Global, output: &[u8]) -> Result<Word, AllocError>
     ensures { IfOk result (λ word. word ≡ dependencies output.now) }
 {
-    let mut word = match parted(b'.', base(output)) {
+    let mut word = match split_at_last(b'.', base(output)) {
         None => Word::from_bytes(alloc, output)?,
         Some((before, _)) => {
             let mut word = Word::from_bytes(alloc, folder(output))?;

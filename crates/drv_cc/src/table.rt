@@ -5,7 +5,7 @@ ghost use Rattle.drv_cc.specs.Code.Groups.{begun_at, begun_key, is_parted, last_
 ghost use Rattle.drv_cc.specs.Code.Groups.{whole_at, whole_key};
 ghost use Rattle.drv_cc.specs.Items.{begins, first_row, fits, option_fits, takes_rest};
 ghost use Rattle.std.specs.Option.{option_map};
-ghost use Rattle.std.specs.Prelude.{◌≡◌, false, find, map, true};
+ghost use Rattle.std.specs.Prelude.{◌≡◌, false, find, get_or, map, true};
 
 use crate::beginnings::begun_group;
 use crate::classes::is;
@@ -122,16 +122,25 @@ pub(crate) fn last_byte(word: &[u8]) -> u8
     }
 }
 
-/// Whether an option has a third byte that is not that of a word.
-#[tactic(auto, using(crate::proofs::Groups::third_differs))]
+/// The byte at a place of a word, or 0.
+pub(crate) fn byte_at(word: &[u8], at: usize) -> u8
+    ensures { result ≡ get_or word.now at 0 }
+{
+    match word.get(at) {
+        Some(byte) => *byte,
+        None => 0,
+    }
+}
+
+/// Whether the last byte of an option is not at its place in a word.
+#[tactic(auto, using(crate::proofs::Groups::end_differs))]
 fn differs(option: &[u8], word: &[u8]) -> bool
     ensures { result ≡ true → begins option.now word.now ≡ false }
 {
-    let own = third(option);
-    if own == 0 {
+    if option.is_empty() {
         return false;
     }
-    own != third(word)
+    last_byte(option) != byte_at(word, option.len() - 1)
 }
 
 /// Whether a word begins with an option.
@@ -191,12 +200,7 @@ fn row_among(rows: &'static [Row], word: &[u8]) -> Option<&'static Row>
     ensures { option_map (λ row. shown row.now) result
         ≡ find (fits word.now) (map shown rows.now) }
 {
-    for row in rows {
-        if row.takes.fits(row.option, word) {
-            return Some(row);
-        }
-    }
-    None
+    rows.iter().find(|row| row.takes.fits(row.option, word))
 }
 
 /// The row of a word.

@@ -2,12 +2,14 @@
 //! mark behind the name says so.
 
 ghost use Rattle.drv_cc.specs.Items.{accepts, begins, head_of, is_digit, is_known};
-ghost use Rattle.drv_cc.specs.Items.{is_number, is_open, judges, leaves, numbered, takes_value};
+ghost use Rattle.drv_cc.specs.Items.{is_number, is_open, judges, leaves, name_before_argument};
+ghost use Rattle.drv_cc.specs.Items.{takes_value};
 ghost use Rattle.drv_cc.specs.Items.{turns_off, value_of};
 ghost use Rattle.std.specs.List.{list_all};
-ghost use Rattle.std.specs.Prelude.{◌≡◌, ◌++◌, ◌&&◌, IfOk, codes, not};
+ghost use Rattle.std.specs.Prelude.{◌≡◌, ◌++◌, ◌&&◌, IfOk, codes, not, true};
 
-use crate::classes::paired;
+use crate::classes::positive_form;
+use crate::fences::{Fence, is_found_near};
 use crate::known::{are_known, is_either_known, is_found, is_known_line};
 use crate::places::first_place;
 use crate::reading::rest_after;
@@ -63,8 +65,8 @@ fn head_with_mark(alloc: Global, name: &[u8], mark: &[u8]) -> Result<Word, Alloc
 }
 
 /// The name of an option up to its argument, with the mark of a number where that is one.
-fn numbered(alloc: Global, name: &[u8]) -> Result<Word, AllocError>
-    ensures { IfOk result (λ line. line ≡ numbered name.now) }
+fn name_before_argument(alloc: Global, name: &[u8]) -> Result<Word, AllocError>
+    ensures { IfOk result (λ line. line ≡ name_before_argument name.now) }
 {
     if is_number(value_of(name)) {
         head_with_mark(alloc, name, b"#")
@@ -88,7 +90,7 @@ fn accepts_open(alloc: Global, known: &[u8], name: &[u8]) -> Result<bool, AllocE
     if is_known_line(known, name) {
         return Ok(false);
     }
-    let numbered = numbered(alloc, name)?;
+    let numbered = name_before_argument(alloc, name)?;
     Ok(is_either_known(known, head_of(name), numbered.as_bytes()))
 }
 
@@ -106,8 +108,19 @@ pub(crate) fn accepts(alloc: Global, known: &[u8], name: &[u8]) -> Result<bool, 
     if is_found(known, name) {
         return Ok(true);
     }
-    let numbered = numbered(alloc, name)?;
+    let numbered = name_before_argument(alloc, name)?;
     Ok(are_known(known, name, head_of(name), numbered.as_bytes()))
+}
+
+/// Whether an option is known, with any argument or none, as far as these lines of the names tell.
+#[tactic(auto, using(crate::proofs::Again::near_accepted))]
+pub(crate) fn accepts_near(known: &[u8], fences: &[Fence], name: &[u8]) -> bool
+    ensures { result ≡ true → accepts known.now name.now ≡ true }
+{
+    if is_open(name) {
+        return false;
+    }
+    is_found_near(known, fences, name) || is_found_near(known, fences, head_of(name))
 }
 
 /// Whether an option is known whose argument the compiler judges.
@@ -138,7 +151,7 @@ fn leaves(alloc: Global, known: &[u8], positive: &[u8]) -> Result<bool, AllocErr
 }
 
 /// Whether a word begins as the options do that turn a warning off.
-fn is_off(word: &[u8]) -> bool
+pub(crate) fn is_off(word: &[u8]) -> bool
     ensures { result ≡ begins (codes "-Wno-") word.now }
 {
     matches!(word, [b'-', b'W', b'n', b'o', b'-', ..])
@@ -154,6 +167,6 @@ pub(crate) fn turns_off(alloc: Global, known: &[u8], word: &[u8]) -> Result<bool
     if !word.contains(&b'=') {
         return Ok(true);
     }
-    let positive = paired(alloc, word)?;
+    let positive = positive_form(alloc, word)?;
     leaves(alloc, known, positive.as_bytes())
 }

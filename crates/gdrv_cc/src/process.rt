@@ -53,7 +53,7 @@ impl Host<HostSystem> for Process {
     ghost notes = { λ process. process };
 
     /// A name that is no text leads to no file.
-    fn resolved(&mut self, name: &Word) -> Result<Option<Word>, AllocError> {
+    fn resolve(&mut self, name: &Word) -> Result<Option<Word>, AllocError> {
         let asked = name.clone()?;
         let path = path_of(&self.rt, name)?;
         let noted = copy_word(&path)?;

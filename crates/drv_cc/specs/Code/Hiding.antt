@@ -1,4 +1,4 @@
-use Rattle.drv_cc.specs.SelfSpecs.{is_left, written}
+use Rattle.drv_cc.specs.SelfSpecs.{is_left, item_words}
 use Rattle.drv_cc.specs.declared.item.Item.{Item}
 use Rattle.std.specs.Prelude.{List, [], ◌∷◌, drop, if◌then◌else◌, length, ℕ}
 
@@ -6,8 +6,8 @@ use Rattle.std.specs.Prelude.{List, [], ◌∷◌, drop, if◌then◌else◌, le
 
 -- an item, if it stays
 abbrev pub live_item : Item → List (List ℕ) → List Item
-live_item i left = if is_left (written i) left then i ∷ [] else []
+live_item i left = if is_left (item_words i) left then i ∷ [] else []
 
 -- the words that are left after it
 abbrev pub left_after : Item → List (List ℕ) → List (List ℕ)
-left_after i left = if is_left (written i) left then drop (length (written i)) left else left
+left_after i left = if is_left (item_words i) left then drop (length (item_words i)) left else left

@@ -1,4 +1,4 @@
-use Rattle.drv_cc.specs.Items.{accepts, judges, known_item, plain, renamed, turns_off}
+use Rattle.drv_cc.specs.Items.{accepts, judges, known_item, meant_option, plain, turns_off}
 use Rattle.drv_cc.specs.UnknownWords.{is_unknown}
 use Rattle.drv_cc.specs.declared.item.Item.{Item}
 use Rattle.drv_cc.specs.declared.table.Role.TheVariants.{Question, Unknown}
@@ -22,4 +22,4 @@ by_names known word name =
 
 -- an item of a line that was read without names of options, by these names: what is unknown is none that is passed over
 abbrev pub again : List ℕ → Item → Item
-again known i = if is_unknown i.role then by_names known i.name (renamed i.name) else i
+again known i = if is_unknown i.role then by_names known i.name (meant_option i.name) else i

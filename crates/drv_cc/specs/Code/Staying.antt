@@ -1,5 +1,5 @@
 use Rattle.drv_cc.specs.Items.{same}
-use Rattle.drv_cc.specs.Kept.{all_stay, kept}
+use Rattle.drv_cc.specs.Kept.{all_stay, effective_items}
 use Rattle.drv_cc.specs.declared.item.Item.{Item}
 use Rattle.std.specs.List.{list_any}
 use Rattle.std.specs.Prelude.{◌≡◌, ◌<◌, ◌&&◌, ◌||◌, Bool, List, [], ◌∷◌, ◌++◌, if◌then◌else◌, length, nat_lt, not, reverse, true, ℕ}
@@ -34,5 +34,5 @@ pub record KeepingAll (items left : List Item) (seen : List ℕ → Bool) : Type
 pub record Keeping (items left stay : List Item) (seen : List ℕ → Bool) : Type 0 where
   pub following : List Item
   pub parts : left ++ following ≡ items
-  pub stays : reverse stay ≡ kept following
+  pub stays : reverse stay ≡ effective_items following
   pub seen_are : (p : List ℕ) → 0 < length p → seen p ≡ list_any (λ j. same p j.class) following

@@ -8,7 +8,7 @@ use Rattle.std.proofs.Common.{◌-◌, ◌∙◌, length, sym, take}
 pub loop-left-preserved : goal.loop-left-preserved
 loop-left-preserved c =
     all_more c.args.items.now c.loop-left.left.now (take (length c.loop-left.left.now - 1) c.loop-left.left.now) c.item-item.result
-    (is_seen c.loop-left.seen.keys (λ k. k.now)) _
+    (is_seen c.loop-left.seen.keys (λ k. k)) _
     c.loop-left.invariant (last_part c.loop-left.left.now c.item-item.result c.in-len1-up.len_at_least c.item-item.is)
     (sym c.if-not-stays.false ∙ c.in_ok-stays.ensures.stays)
     c.in_ok-stays.ensures.noted
@@ -16,6 +16,6 @@ loop-left-preserved c =
 pub returns-then-not-stays : goal.returns-then-not-stays
 returns-then-not-stays c =
     all_break c.args.items.now c.loop-left.left.now (take (length c.loop-left.left.now - 1) c.loop-left.left.now) c.item-item.result
-    (is_seen c.loop-left.seen.keys (λ k. k.now)) c.loop-left.invariant
+    (is_seen c.loop-left.seen.keys (λ k. k)) c.loop-left.invariant
     (last_part c.loop-left.left.now c.item-item.result c.in-len1-up.len_at_least c.item-item.is)
     (sym c.if-not-stays.true ∙ c.in_ok-stays.ensures.stays)

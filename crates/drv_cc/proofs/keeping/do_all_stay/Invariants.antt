@@ -5,7 +5,7 @@ use Rattle.std.proofs.Common.{length}
 -- The loops of do_all_stay (src/keeping.rt). Whether all items stay: no two are of one class.
 
 abbrev pub invariant-loop-left : goal.invariant-loop-left
-invariant-loop-left l = KeepingAll l.items l.left (is_seen l.seen.keys (λ k. k.now))
+invariant-loop-left l = KeepingAll l.items l.left (is_seen l.seen.keys (λ k. k))
 
 abbrev pub decreases-loop-left : goal.decreases-loop-left
 decreases-loop-left l = length l.left

@@ -5,7 +5,7 @@ use Rattle.std.proofs.Common.{length}
 -- The loops of kept_backwards (src/keeping.rt). The items that stay, the last one first.
 
 abbrev pub invariant-loop-left : goal.invariant-loop-left
-invariant-loop-left l = Keeping l.items l.left l.stay.items (is_seen l.seen.keys (λ k. k.now))
+invariant-loop-left l = Keeping l.items l.left l.stay.items (is_seen l.seen.keys (λ k. k))
 
 abbrev pub decreases-loop-left : goal.decreases-loop-left
 decreases-loop-left l = length l.left

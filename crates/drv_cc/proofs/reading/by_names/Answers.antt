@@ -1,0 +1,14 @@
+use Rattle.drv_cc.proofs.Again.{none_named}
+use Rattle.drv_cc.proofs.reading.by_names.Goals as goal
+use Rattle.std.proofs.Common.{◌∙◌, sym}
+
+-- by_names (src/reading.rt). A word that no row fits and that is not passed over, by the name that it has.
+
+pub returns-then-not-is_off : goal.returns-then-not-is_off
+returns-then-not-is_off c =
+    none_named c.args.known.now c.args.word.now c.args.name.now c.is_off.result c.plain.result
+    (sym c.is_empty.ensures ∙ c.if-is_empty.true)
+    (sym c.is_empty-then-is_empty.ensures ∙ c.if-not-is_empty.true)
+    c.is_off.ensures
+    c.if-not-is_off.true
+    c.plain.ensures
