@@ -3,7 +3,7 @@ use Rattle.drv_cc.specs.declared.answer.Stages.{Stages}
 use Rattle.drv_cc.specs.declared.answer.Surroundings.{Surroundings}
 use Rattle.drv_compile.specs.Beside.{given_by, file_of_variable, spec_file, written_beside}
 use Rattle.drv_compile.specs.Compilers.{values}
-use Rattle.drv_compile.specs.Decides.{decided, decided_around, decided_by, decided_over, decided_with, of_reading, surroundings}
+use Rattle.drv_compile.specs.Decides.{decide, decided_around, decided_by, decided_over, decided_with, of_reading, surroundings}
 use Rattle.drv_compile.specs.Parts.{texts_at, texts_of}
 use Rattle.drv_compile.specs.Places.{texts_for, texts_or}
 use Rattle.drv_compile.specs.Reading.{line_read}
@@ -15,7 +15,7 @@ use Rattle.drv_system.specs.Known.{◌>>=◌, Is, asked}
 use Rattle.drv_system.specs.declared.event.PathKind.{PathKind}
 use Rattle.std.proofs.Common.{◌≡◌, ◌∙◌, Err, IfOk, List, Ok, Option, Result, Some, ap, codes, sym, ℕ}
 
--- For `decided` (src/deciding.rt): what was asked, one thing after another, gives the decision.
+-- For `decide` (src/deciding.rt): what was asked, one thing after another, gives the decision.
 
 -- `file_of_variable` asks for the variable by a word that it makes of its name
 pub named_by_variable : {E : Type 0} (F : Facts) (name : List ℕ) (value : Option (List ℕ)) (result : Result (Option (List ℕ)) E)
@@ -73,11 +73,11 @@ specs_given F own words found specs slice text (Ok decision) some same written i
     ap (decided_with F own words) some
     ∙ ap (λ k. k >>= λ t. decided_over F specs words t) (ap (λ s. written_beside F s (codes ".gcc")) (sym same) ∙ written) ∙ is
 
--- `decided` takes its own place twice, since the look for the spec file uses the first copy up
+-- `decide` takes its own place twice, since the look for the spec file uses the first copy up
 pub decided_so : {E : Type 0} (F : Facts) (own : Option (List ℕ)) (words : List (List ℕ)) (place found again : Option (List ℕ))
     (result : Result Decision E)
     → place ≡ own → spec_file F place ≡ Is found → again ≡ own
-    → IfOk result (λ decision. decided_with F again words found ≡ Is decision) → IfOk result (λ decision. decided F own words ≡ Is decision)
+    → IfOk result (λ decision. decided_with F again words found ≡ Is decision) → IfOk result (λ decision. decide F own words ≡ Is decision)
 decided_so F own words place found again (Err e) place_is known again_is is = tt
 decided_so F own words place found again (Ok decision) place_is known again_is is =
     ap (λ k. k >>= λ s. decided_with F own words s) (ap (spec_file F) (sym place_is) ∙ known)

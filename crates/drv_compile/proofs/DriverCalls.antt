@@ -3,6 +3,7 @@ use Rattle.drv_args.specs.declared.line.Expanded.{Expanded}
 use Rattle.drv_cc.specs.declared.answer.Answer.TheVariants.{Ask, Refuse, Run}
 use Rattle.drv_cc.specs.declared.answer.Answer.{Answer}
 use Rattle.drv_cc.specs.declared.answer.Call.{Call}
+use Rattle.drv_cc.specs.declared.answer.Variable.{Variable}
 use Rattle.drv_cc.specs.declared.refusal.Refusal.{Refusal}
 use Rattle.drv_compile.proofs.Worded.{stop_stays, told_as}
 use Rattle.drv_compile.specs.Code.Refusing.{IsEndSaid}
@@ -64,22 +65,25 @@ answer_told F name chain given first ending stop stops tells =
 
 -- `machined_call` calls the driver: it takes the rows only of a text that has some, which gives the same items
 pub machined_driver : (path : List ℕ) (rows text : Option (List ℕ)) (call : Call) (given : Expanded) (made : MachineItems)
-    (items suffixed all : List Item) (driven : Driven)
-    → machined_by text call.items ≡ machined_by rows call.items → made ≡ machined_by text call.items → made ≡ Made items
+    (items suffixed all : List Item) (children : List Variable) (driven : Driven)
+    → machined_by text call.items call.children ≡ machined_by rows call.items call.children
+    → made ≡ machined_by text call.items call.children → made ≡ Made items children
     → suffixed_by text items ≡ suffixed_by rows items → suffixed ≡ suffixed_by text items → all ≡ driver_items path suffixed
-    → driven ≡ record { line = record { items = all; from_file = given.from_file }; children = call.children }
+    → driven ≡ record { line = record { items = all; from_file = given.from_file }; children = children }
     → IsMachined path rows call given (Driver driven)
-machined_driver path rows text call given made items suffixed all driven same made_is is same_suffix suffixed_is all_is driven_is = (
+machined_driver path rows text call given made items suffixed all children driven same made_is is same_suffix suffixed_is all_is driven_is = (
   items,
+  children,
   sym same ∙ sym made_is ∙ is,
-  driven_is ∙ ap (λ its. record { line = record { items = its; from_file = given.from_file }; children = call.children })
+  driven_is ∙ ap (λ its. record { line = record { items = its; from_file = given.from_file }; children = children })
       (all_is ∙ ap (driver_items path) (suffixed_is ∙ same_suffix)),
 )
 
 -- `machined_call` gives the line to the compiler where no row has its words
 pub machined_compiler : (path : List ℕ) (rows text : Option (List ℕ)) (call : Call) (given : Expanded) (made : MachineItems)
     (options : List ℕ)
-    → machined_by text call.items ≡ machined_by rows call.items → made ≡ machined_by text call.items → made ≡ Lacks options
+    → machined_by text call.items call.children ≡ machined_by rows call.items call.children
+    → made ≡ machined_by text call.items call.children → made ≡ Lacks options
     → IsMachined path rows call given (Compiler options)
 machined_compiler path rows text call given made options same made_is is = sym same ∙ sym made_is ∙ is
 

@@ -1,4 +1,4 @@
-use Rattle.drv_compile.specs.Beside.{bytes_read, if_plain, is_written, file_of_variable, or_own, plain_at, spec_file, written}
+use Rattle.drv_compile.specs.Beside.{bytes_read, file_of_variable, if_plain, is_written, or_own, plain_at, spec_file, written_lines}
 use Rattle.drv_compile.specs.Written.{whole_lines}
 use Rattle.drv_search.specs.Search.{is_plain}
 use Rattle.drv_system.specs.Facts.{Facts, kind_of, read_of}
@@ -15,10 +15,11 @@ pub plain_asked : (F : Facts) (given : Option (List ℕ)) (path : List ℕ) (kin
     → given ≡ Some path → kind_of F path ≡ Some kind → found ≡ if_plain path kind → plain_at F given ≡ Is found
 plain_asked F given path kind found some known is = rw (some, known, is) refl
 
--- `written` reads a plain file, and takes its lines if it is whole
+-- `written_lines` reads a plain file, and takes its lines if it is whole
 pub written_read : {E : Type 0} (F : Facts) (path : List ℕ) (kind : PathKind) (answer : ReadAnswer) (result : Result (Option (List ℕ)) E)
     → is_plain kind ≡ true → kind_of F path ≡ Some kind → read_of F path ≡ Some answer
-    → IfOk result (λ lines. lines ≡ option_and_then whole_lines (bytes_read answer)) → IfOk result (λ lines. written F path ≡ Is lines)
+    → IfOk result (λ lines. lines ≡ option_and_then whole_lines (bytes_read answer)) → IfOk result (λ lines. written_lines F path
+    ≡ Is lines)
 written_read F path kind answer (Ok lines) plain known read is = rw (known, plain, read, is) refl
 written_read F path kind answer (Err e) plain known read is = tt
 

@@ -1,4 +1,5 @@
 use Rattle.drv_args.specs.declared.items.Item.{Item}
+use Rattle.drv_cc.specs.declared.answer.Variable.{Variable}
 use Rattle.drv_compile.specs.Code.CutLines.{begins_with}
 use Rattle.drv_compile.specs.Compilers.{lines, value_in}
 use Rattle.drv_compile.specs.Decides.{first_of}
@@ -33,11 +34,11 @@ no_second one other (line ∷ all) none =
     rw parts.1 (no_second one other all parts.2)
 
 -- `for_machines` leaves out a text without such lines: the rows change nothing
-pub rows_left_out : (text : List ℕ) (found : Bool) (items : List Item)
+pub rows_left_out : (text : List ℕ) (found : Bool) (items : List Item) (children : List Variable)
     → found ≡ list_any (begins_with (codes "machine") (codes "suffix ")) (lines text) → found ≡ false
-    → machined_by None items ≡ machined_by (Some text) items
-rows_left_out text found items is none =
-    sym (ap (λ found. by_rows text items (first_of found)) (no_first (codes "machine") (codes "suffix ") (lines text) (sym is ∙ none)))
+    → machined_by None items children ≡ machined_by (Some text) items children
+rows_left_out text found items children is none =
+    sym (ap (λ found. by_rows text items children (first_of found)) (no_first (codes "machine") (codes "suffix ") (lines text) (sym is ∙ none)))
 
 -- `for_machines` leaves out a text without such lines: the suffix changes nothing
 pub suffix_left_out : (text : List ℕ) (found : Bool) (items : List Item)

@@ -6,7 +6,7 @@ use Rattle.drv_compile.proofs.Worded.{memory_stops, stop_stays, told_as}
 use Rattle.drv_compile.specs.Code.Preparing.{IsFailure, IsOverwriting, IsPrepared, IsQuestion, IsTaskDone, IsTaskRefused, IsUnplanned}
 use Rattle.drv_compile.specs.Compiles.{Comes, Fails, IsPlanned, Performs, Refuses, asks, declines, drives, fails, handed_on, hands_on}
 use Rattle.drv_compile.specs.Compiles.{no_words, objected, overwriting, performs, stopped, undriven}
-use Rattle.drv_compile.specs.Decides.{decided}
+use Rattle.drv_compile.specs.Decides.{decide}
 use Rattle.drv_compile.specs.Driven.{IsWorker, Undriven}
 use Rattle.drv_compile.specs.Inputs.{IsRead, Noted, Overwrites, file_of, new_output, no_output, objection, old_output}
 use Rattle.drv_compile.specs.Opening.{opening}
@@ -287,7 +287,7 @@ compilation_done calling args given seed task chain call before after result kno
 -- what a task makes of a call is what its words ask for
 pub task_comes : (F : Facts) (calling : Calling) (own : Option (List ℕ)) (args : List (List ℕ)) (seed : ℕ) (words : Expanded)
     (decision : Decision) (task : Task)
-    (events : List HostEvent) (result : Result Prepared Stop) → Words F calling args words → decided F own words.words ≡ Is decision
+    (events : List HostEvent) (result : Result Prepared Stop) → Words F calling args words → decide F own words.words ≡ Is decision
     → Leads decision task
     → MatchResult result (λ prepared. IsTaskDone F calling args words seed task events prepared)
     (λ stop. IfTold stop (IsTaskRefused F calling words seed task events))
@@ -313,7 +313,7 @@ words_refused F calling own args seed stop tells =
 -- `prepare` hands on why the decision refuses the line
 pub decision_declined : (F : Facts) (calling : Calling) (own : Option (List ℕ)) (args : List (List ℕ)) (seed : ℕ) (words : Expanded)
     (decision : Decision) (stop : Stop)
-    → Words F calling args words → decided F own words.words ≡ Is decision → IfTold stop (Declines calling decision)
+    → Words F calling args words → decide F own words.words ≡ Is decision → IfTold stop (Declines calling decision)
     → IfTold stop (Refuses F calling own args seed [])
 decision_declined F calling own args seed words decision stop gives decides tells =
     told_as stop (Declines calling decision) (Refuses F calling own args seed []) (λ text is. declines gives decides is) tells
@@ -323,7 +323,7 @@ pub prepares : (calling : Calling) (own : Option (List ℕ)) (args : List (List 
     (decision : Decision) (task : Task)
     (before after : List HostEvent) (result : Result Prepared Stop) (knows : Facts → Type 0) → slice ≡ words.words
     → ((F : Facts) → knows F → Words F calling args words)
-    → ((F : Facts) → knows F → decided F own slice ≡ Is decision) → Leads decision task
+    → ((F : Facts) → knows F → decide F own slice ≡ Is decision) → Leads decision task
     → Noted before after (λ events. (F : Facts) → knows F
     → MatchResult result (λ prepared. IsTaskDone F calling args words seed task events prepared)
     (λ s. IfTold s (IsTaskRefused F calling words seed task events)))
@@ -333,7 +333,7 @@ prepares calling own args seed words slice decision task before after result kno
   events,
   grown,
   λ F k. task_comes F calling own args seed words decision task events result (gives F k)
-      (ap (decided F own) (sym same) ∙ decides F k) leads (done F k),
+      (ap (decide F own) (sym same) ∙ decides F k) leads (done F k),
 )
 
 -- words that are refused end it: the host was asked nothing
@@ -348,9 +348,9 @@ words_stop F calling own args seed stop result is tells =
 -- a decision that leads to no task ends it likewise
 pub decision_stops : (F : Facts) (calling : Calling) (own : Option (List ℕ)) (args : List (List ℕ)) (seed : ℕ) (words : Expanded)
     (slice : List (List ℕ)) (decision : Decision) (stop : Stop)
-    (result : Result Prepared Stop) → slice ≡ words.words → Words F calling args words → decided F own slice ≡ Is decision
+    (result : Result Prepared Stop) → slice ≡ words.words → Words F calling args words → decide F own slice ≡ Is decision
     → IsErrAnd result (λ s. s ≡ stop) → IfTold stop (Declines calling decision)
     → MatchResult result (λ prepared. Comes F calling own args seed [] prepared) (λ s. IfTold s (Refuses F calling own args seed []))
 decision_stops F calling own args seed words slice decision stop result same gives decides is tells =
     stop_stays result stop (λ prepared. Comes F calling own args seed [] prepared) (Refuses F calling own args seed []) is
-    (decision_declined F calling own args seed words decision stop gives (ap (decided F own) (sym same) ∙ decides) tells)
+    (decision_declined F calling own args seed words decision stop gives (ap (decide F own) (sym same) ∙ decides) tells)

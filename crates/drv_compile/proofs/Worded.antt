@@ -8,7 +8,7 @@ use Rattle.drv_compile.specs.Code.Preparing.{IsFailure}
 use Rattle.drv_compile.specs.Code.Refusing.{IsEndSaid}
 use Rattle.drv_compile.specs.Runs.{Stops}
 use Rattle.drv_compile.specs.Tasks.{IfTold}
-use Rattle.drv_compile.specs.Words.{IsUnexpanded, IsUnfronted, IsUnread, RefusesWords, Words, first_unread, fronted, if_unread}
+use Rattle.drv_compile.specs.Words.{IsUnexpanded, IsUnfronted, IsUnread, RefusesWords, Words, first_unread, if_unread, words_of_front}
 use Rattle.drv_compile.specs.Words.{not_expanded, not_fronted, not_readable, or_later, stop_of, unread_at, within_limit}
 use Rattle.drv_compile.specs.declared.calling.Calling.{Calling}
 use Rattle.drv_compile.specs.declared.running.DriverLine.{DriverLine}
@@ -114,10 +114,10 @@ args_told F name args fault stop is given = subst (λ s. IfTold s (IsUnexpanded 
 -- `gcc_words` that of c99's
 pub c99_told : (calling : Calling) (expanded : Expanded) (fault : C99Fault) (stop : Stop)
     → stop ≡ stop_of calling.name (stopped_by_c99 fault)
-    → (fault ≡ c99_fault.Memory) ⊎ (fronted calling.front expanded ≡ Err fault) → IfTold stop (IsUnfronted calling expanded)
+    → (fault ≡ c99_fault.Memory) ⊎ (words_of_front calling.front expanded ≡ Err fault) → IfTold stop (IsUnfronted calling expanded)
 c99_told calling expanded fault stop is given = subst (λ s. IfTold s (IsUnfronted calling expanded)) (sym is) (by fault given)
   where
-    refused : (fault : C99Fault) → fronted calling.front expanded ≡ Err fault
+    refused : (fault : C99Fault) → words_of_front calling.front expanded ≡ Err fault
         → IfTold (stop_of calling.name (stopped_by_c99 fault)) (IsUnfronted calling expanded)
     refused c99_fault.Memory refuses = tt
     refused (c99_fault.UnknownOption word) refuses = (c99_fault.UnknownOption word, refuses, refl)
@@ -125,7 +125,7 @@ c99_told calling expanded fault stop is given = subst (λ s. IfTold s (IsUnfront
     refused c99_fault.NoOperand refuses = (c99_fault.NoOperand, refuses, refl)
     refused (c99_fault.BadLevel argument) refuses = (c99_fault.BadLevel argument, refuses, refl)
 
-    by : (fault : C99Fault) → (fault ≡ c99_fault.Memory) ⊎ (fronted calling.front expanded ≡ Err fault)
+    by : (fault : C99Fault) → (fault ≡ c99_fault.Memory) ⊎ (words_of_front calling.front expanded ≡ Err fault)
         → IfTold (stop_of calling.name (stopped_by_c99 fault)) (IsUnfronted calling expanded)
     by fault (inl memory) = subst (λ f. IfTold (stop_of calling.name (stopped_by_c99 f)) (IsUnfronted calling expanded)) (sym memory) tt
     by fault (inr refuses) = refused fault refuses
@@ -169,7 +169,7 @@ unreadable F calling name args words expanded stop result named are expands is t
 pub words_given : (F : Facts) (calling : Calling) (args words : List (List ℕ)) (expanded : Expanded) (result : Result Expanded Stop)
     → words ≡ expanded.words
     → Expands (within_limit F) 2000 args (Ok expanded) → first_unread F words ≡ Is None
-    → MatchResult result (λ given. fronted calling.front expanded ≡ Ok given) (λ s. IfTold s (IsUnfronted calling expanded))
+    → MatchResult result (λ given. words_of_front calling.front expanded ≡ Ok given) (λ s. IfTold s (IsUnfronted calling expanded))
     → MatchResult result (λ given. Words F calling args given) (λ s. IfTold s (RefusesWords F calling args))
 words_given F calling args words expanded (Ok given) are expands readable fronts =
     record { expanded = expanded; expands = expands; readable = ap (first_unread F) (sym are) ∙ readable; fronts = fronts }

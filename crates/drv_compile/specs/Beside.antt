@@ -1,4 +1,4 @@
-use Rattle.drv_compile.specs.Places.{companion, given}
+use Rattle.drv_compile.specs.Places.{companion, path_of_caller}
 use Rattle.drv_compile.specs.Written.{whole_lines}
 use Rattle.drv_search.specs.Search.{is_plain}
 use Rattle.drv_system.specs.Facts.{Facts, kind_of, read_of, variable_of}
@@ -25,16 +25,16 @@ plain_text F path = asked (kind_of F path) >>= λ kind. if is_plain kind then (a
     else Is None
 
 -- the lines before the mark of a file, where it is a plain one and whole
-abbrev pub written : Facts → List ℕ → Known (Option (List ℕ))
-written F path = plain_text F path >>= λ text. Is (option_and_then whole_lines text)
+abbrev pub written_lines : Facts → List ℕ → Known (Option (List ℕ))
+written_lines F path = plain_text F path >>= λ text. Is (option_and_then whole_lines text)
 
 -- whether a file is a plain one and whole
 abbrev pub is_written : Facts → List ℕ → Known Bool
-is_written F path = written F path >>= λ lines. Is (is_some lines)
+is_written F path = written_lines F path >>= λ lines. Is (is_some lines)
 
 -- the lines of a file beside the spec file, where that is whole
 abbrev pub written_beside : Facts → List ℕ → List ℕ → Known (Option (List ℕ))
-written_beside F specs ending = written F (companion specs ending)
+written_beside F specs ending = written_lines F (companion specs ending)
 
 -- the names of the compiler's options, a line each
 abbrev pub known_names : Facts → List ℕ → Known (Option (List ℕ))
@@ -56,7 +56,7 @@ plain_at F (Some path) = asked (kind_of F path) >>= λ kind. Is (if_plain path k
 abbrev pub given_by : Option (List ℕ) → Option (List ℕ)
 given_by None = None
 given_by (Some []) = None
-given_by (Some (b ∷ path)) = Some (given (b ∷ path))
+given_by (Some (b ∷ path)) = Some (path_of_caller (b ∷ path))
 
 -- the spec file that the caller names by GDRV_CC_SPECS
 abbrev pub file_of_variable : Facts → Known (Option (List ℕ))

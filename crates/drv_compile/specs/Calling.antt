@@ -54,9 +54,10 @@ for_machine name None = record { name = codes "gdrv-cc"; machine = codes "host";
 for_machine name (Some machine) = record { name = name; machine = machine; front = Gcc }
 
 -- how it was called by this name; in messages it has the name that the user typed, or gdrv-cc
-abbrev pub named : List ℕ → Calling
-named name = if is_c99 name then record { name = name; machine = codes "host"; front = C99 } else for_machine name (machine_of name)
+abbrev pub calling_by_name : List ℕ → Calling
+calling_by_name name = if is_c99 name then record { name = name; machine = codes "host"; front = C99 } else for_machine name (machine_of
+    name)
 
 -- how it was called at this path
 abbrev pub calling_of : List ℕ → Calling
-calling_of path = named (last_part path)
+calling_of path = calling_by_name (last_part path)

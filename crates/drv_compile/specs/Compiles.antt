@@ -1,7 +1,7 @@
 use Rattle.drv_args.specs.declared.line.Expanded.{Expanded}
 use Rattle.drv_cc.specs.declared.answer.Call.{Call}
 use Rattle.drv_cc.specs.declared.answer.Variable.{Variable}
-use Rattle.drv_compile.specs.Decides.{decided}
+use Rattle.drv_compile.specs.Decides.{decide}
 use Rattle.drv_compile.specs.Driven.{IsWorker, Undriven}
 use Rattle.drv_compile.specs.Inputs.{Overwrites, objection}
 use Rattle.drv_compile.specs.Notes.{IsSaid}
@@ -136,7 +136,7 @@ pub data Fails (F : Facts) (calling : Calling) (chain : Toolchain) (call : Call)
 pub data Comes (F : Facts) (calling : Calling) (own : Option (List ℕ)) (args : List (List ℕ)) (seed : ℕ) : List HostEvent → Prepared
     → Type 0 where
   asks : {words : Expanded} {decision : Decision} {specs compiler : List ℕ} → Words F calling args words
-      → decided F own words.words ≡ Is decision
+      → decide F own words.words ≡ Is decision
       → Leads decision (Question specs compiler)
       → Comes F calling own args seed [] (record {
         work = question compiler args;
@@ -148,18 +148,18 @@ pub data Comes (F : Facts) (calling : Calling) (own : Option (List ℕ)) (args :
       })
   performs : {words : Expanded} {decision : Decision} {chain : Toolchain} {call : Call} {events : List HostEvent} {prepared : Prepared}
       → Words F calling args words
-      → decided F own words.words ≡ Is decision → Leads decision (Compilation chain call)
+      → decide F own words.words ≡ Is decision → Leads decision (Compilation chain call)
       → Performs F calling chain call args words seed events prepared → Comes F calling own args seed events prepared
 
 -- why arguments are refused, with what the host was asked before: by their words, by what they ask for, or by the line
 pub data Refuses (F : Facts) (calling : Calling) (own : Option (List ℕ)) (args : List (List ℕ)) (seed : ℕ) : List HostEvent → List ℕ
     → Type 0 where
   no_words : {text : List ℕ} → RefusesWords F calling args text → Refuses F calling own args seed [] text
-  declines : {words : Expanded} {decision : Decision} {text : List ℕ} → Words F calling args words → decided F own words.words ≡ Is decision
+  declines : {words : Expanded} {decision : Decision} {text : List ℕ} → Words F calling args words → decide F own words.words ≡ Is decision
       → Declines calling decision text → Refuses F calling own args seed [] text
   fails : {words : Expanded} {decision : Decision} {chain : Toolchain} {text : List ℕ} {call : Call} {events : List HostEvent}
       → Words F calling args words
-      → decided F own words.words ≡ Is decision → Leads decision (Compilation chain call)
+      → decide F own words.words ≡ Is decision → Leads decision (Compilation chain call)
       → Fails F calling chain call words seed events text → Refuses F calling own args seed events text
 
 -- whether an answer says that the program to start isn't there. After such a one the call says the hint, and otherwise its remark: see

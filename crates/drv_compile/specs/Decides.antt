@@ -51,5 +51,5 @@ decided_with F own words None = file_of_variable F >>= λ named. Is (NoSpecs (or
 decided_with F own words (Some specs) = written_beside F specs (codes ".gcc") >>= λ text. decided_over F specs words text
 
 -- The decision: `own` is where the spec file of this program lies, if that is known.
-abbrev pub decided : Facts → Option (List ℕ) → List (List ℕ) → Known Decision
-decided F own words = spec_file F own >>= λ specs. decided_with F own words specs
+abbrev pub decide : Facts → Option (List ℕ) → List (List ℕ) → Known Decision
+decide F own words = spec_file F own >>= λ specs. decided_with F own words specs

@@ -5,6 +5,7 @@ use Rattle.drv_cc.specs.LineItems.{alone, item_of}
 use Rattle.drv_cc.specs.declared.answer.Answer.TheVariants.{Ask, Refuse, Run}
 use Rattle.drv_cc.specs.declared.answer.Answer.{Answer}
 use Rattle.drv_cc.specs.declared.answer.Call.{Call}
+use Rattle.drv_cc.specs.declared.answer.Variable.{Variable}
 use Rattle.drv_cc.specs.declared.refusal.Refusal.{Refusal}
 use Rattle.drv_compile.specs.Beside.{written_beside}
 use Rattle.drv_compile.specs.Compilers.{values}
@@ -47,9 +48,9 @@ driver_line path items given = record { items = driver_items path items; from_fi
 -- with the words for its machine, by the rows of the file that names the compiler, if they have them
 abbrev pub IsMachined : List ℕ → Option (List ℕ) → Call → Expanded → Worker → Type 0
 IsMachined path rows call given (Driver driven) =
-    (items : List Item) × (machined_by rows call.items ≡ Made items)
-    × (driven ≡ record { line = driver_line path (suffixed_by rows items) given; children = call.children })
-IsMachined path rows call given (Compiler options) = machined_by rows call.items ≡ Lacks options
+    (items : List Item) × (children : List Variable) × (machined_by rows call.items call.children ≡ Made items children)
+    × (driven ≡ record { line = driver_line path (suffixed_by rows items) given; children = children })
+IsMachined path rows call given (Compiler options) = machined_by rows call.items call.children ≡ Lacks options
 
 -- the file that names the compiler and has the rows of its machines, if it is whole
 abbrev pub rows_of : Facts → List ℕ → Known (Option (List ℕ))

@@ -1,14 +1,16 @@
 use Rattle.drv_args.specs.declared.items.Item.{Item}
 use Rattle.drv_args.specs.declared.option_table.Effect.TheVariants as effect
 use Rattle.drv_cc.specs.LineItems.{alone, item_of}
+use Rattle.drv_cc.specs.declared.answer.Variable.{Variable}
 use Rattle.drv_compile.specs.Compilers.{values}
 use Rattle.drv_compile.specs.Decides.{first_of}
+use Rattle.drv_compile.specs.Texts.{is}
 use Rattle.drv_compile.specs.declared.machines.MachineItems.TheVariants.{Lacks, Made}
 use Rattle.drv_compile.specs.declared.machines.MachineItems.{MachineItems}
 use Rattle.drv_words.specs.Bytes as byte
 use Rattle.std.specs.Cmp.Lexicographic.{pointwise}
 use Rattle.std.specs.List.{flat_map, slice_split, starts_with}
-use Rattle.std.specs.Prelude.{◌==◌, ◌||◌, Bool, List, [], ◌∷◌, ◌++◌, None, Option, Some, codes, drop, if◌then◌else◌, length, nat_eq, ℕ}
+use Rattle.std.specs.Prelude.{◌==◌, ◌||◌, Bool, List, [], ◌∷◌, ◌++◌, None, Option, Some, codes, drop, if◌then◌else◌, length, map, nat_eq, ℕ}
 
 -- The options of a line that choose its machine, and the words that gcc makes of them (GCC, "gcc.cc", DRIVER_SELF_SPECS and
 -- OPTION_DEFAULT_SPECS, set_multilib_dir; in no dump). The file beside the spec file may have rows: `machine`, these options with a blank
@@ -64,21 +66,65 @@ plain_item i = if is_machine i.option then [] else i ∷ []
 abbrev pub plain_items : List Item → List Item
 plain_items items = flat_map plain_item items
 
+-- The children of a link get the line again, in COLLECT_GCC_OPTIONS (GCC, "gcc.cc", set_collect_gcc_options): there too the words of the
+-- row are in the place of the line's options for the machine, behind the others. Options for a machine have no quotes.
+
+-- a word as COLLECT_GCC_OPTIONS has it, after a blank
+abbrev pub quoted_word : List ℕ → List ℕ
+quoted_word word = codes " '" ++ word ++ codes "'"
+
+-- a text without a part, at the first place where that is
+abbrev pub without : List ℕ → List ℕ → List ℕ
+without part [] = []
+without part (b ∷ text) = if starts_with nat_eq (b ∷ text) part then drop (length part) (b ∷ text) else b ∷ without part text
+
+-- a text without a word of it, if that is an option for the machine
+abbrev pub without_option : Item → List ℕ → List ℕ
+without_option i text = if is_machine i.option then without (quoted_word (i.option ++ i.argument)) text else text
+
+-- a text without the options of a line for its machine
+abbrev pub without_options : List Item → List ℕ → List ℕ
+without_options [] text = text
+without_options (i ∷ items) text = without_options items (without_option i text)
+
+-- how a word of a row begins that is for the children alone: the spec file of a device
+abbrev pub child_option : List ℕ
+child_option = codes "--gdrv-child="
+
+-- a word of a row for the children: they know none of this driver's own
+abbrev pub child_word : List ℕ → List ℕ
+child_word [] = []
+child_word (b ∷ word) =
+    if starts_with nat_eq (b ∷ word) child_option then quoted_word (drop (length child_option) (b ∷ word))
+    else if starts_with nat_eq (b ∷ word) (codes "--gdrv-") then [] else quoted_word (b ∷ word)
+
+-- the words of a row for the children
+abbrev pub child_words : List ℕ → List ℕ
+child_words row = flat_map child_word (slice_split (λ b. b == byte.tab) row)
+
+-- a line's switches for the children, by its row
+abbrev pub child_line : List Item → List ℕ → List ℕ → List ℕ
+child_line items row text = drop 1 (without_options items (byte.space ∷ text) ++ child_words row)
+
+-- a variable of the children, by the row of the line
+abbrev pub child_variable : List Item → List ℕ → Variable → Variable
+child_variable items row v = record v { value = if is v.name (codes "COLLECT_GCC_OPTIONS") then child_line items row v.value else v.value }
+
 -- a line of which no row has the words: its options for a machine, a blank between two
-abbrev pub with_row : List Item → Option (List ℕ) → MachineItems
-with_row items None = Lacks (drop 1 (key_of items))
-with_row items (Some row) = Made (row_items row ++ plain_items items)
+abbrev pub with_row : List Item → List Variable → Option (List ℕ) → MachineItems
+with_row items children None = Lacks (drop 1 (key_of items))
+with_row items children (Some row) = Made (row_items row ++ plain_items items) (map (child_variable items row) children)
 
--- the items of a line by the rows of a text; where it has none, the line stays as it is
-abbrev pub by_rows : List ℕ → List Item → Option (List ℕ) → MachineItems
-by_rows text items None = Made items
-by_rows text items (Some first) = with_row items (first_of (values (row_beginning items) text))
+-- the items of a line and the variables of its children by the rows of a text; where it has none, they stay
+abbrev pub by_rows : List ℕ → List Item → List Variable → Option (List ℕ) → MachineItems
+by_rows text items children None = Made items children
+by_rows text items children (Some first) = with_row items children (first_of (values (row_beginning items) text))
 
--- the items of a line by a file's text: rows count only if that text has any
-abbrev pub machined : List ℕ → List Item → MachineItems
-machined text items = by_rows text items (first_of (values (codes "machine") text))
+-- the same by a file's text: rows count only if that text has any
+abbrev pub items_by_rows : List ℕ → List Item → List Variable → MachineItems
+items_by_rows text items children = by_rows text items children (first_of (values (codes "machine") text))
 
 -- where the file is not whole, the line stays as it is
-abbrev pub machined_by : Option (List ℕ) → List Item → MachineItems
-machined_by None items = Made items
-machined_by (Some text) items = machined text items
+abbrev pub machined_by : Option (List ℕ) → List Item → List Variable → MachineItems
+machined_by None items children = Made items children
+machined_by (Some text) items children = items_by_rows text items children

@@ -26,13 +26,13 @@ abbrev pub is_marked : List ℕ → Bool
 is_marked name = ends_with nat_eq name (codes "?") || ends_with nat_eq name (codes "=#")
 
 -- a name without that mark, as a user types it
-abbrev pub unmarked : List ℕ → List ℕ
-unmarked name = if is_marked name then take (length name - 1) name else name
+abbrev pub without_mark : List ℕ → List ℕ
+without_mark name = if is_marked name then take (length name - 1) name else name
 
 -- an option that the refusal of an unknown word may name: none, or one of the known ones
 abbrev pub MayMean : List (List ℕ) → List ℕ → Option (List ℕ) → Type 0
 MayMean known word None = ⊤
-MayMean known word (Some near) = (place : ℕ) × (place < length known) × (near ≡ meant_by word (unmarked (get_or known place [])))
+MayMean known word (Some near) = (place : ℕ) × (place < length known) × (near ≡ meant_by word (without_mark (get_or known place [])))
 
 -- the option that a refusal names: only that of an unknown word may name one
 abbrev pub IsMeant : List (List ℕ) → Refusal → Option (List ℕ) → Type 0

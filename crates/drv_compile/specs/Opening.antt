@@ -3,7 +3,7 @@ use Rattle.drv_args.specs.declared.option_table.Effect.TheVariants as effect
 use Rattle.drv_args.specs.declared.option_table.Effect.{Effect}
 use Rattle.drv_args.specs.declared.option_table.Setting.TheVariants as setting
 use Rattle.drv_cc.specs.declared.answer.Variable.{Variable}
-use Rattle.drv_compile.specs.Said.{said}
+use Rattle.drv_compile.specs.Said.{compiler_lines}
 use Rattle.drv_compile.specs.Texts.{said_text}
 use Rattle.drv_system.specs.Facts.{Facts}
 use Rattle.drv_system.specs.Known.{◌>>=◌, Is, Known}
@@ -22,7 +22,7 @@ shows _ = false
 
 -- what the compiler says of itself, if the line shows its commands
 abbrev pub lines_shown : Facts → List ℕ → List Item → Known (List (List ℕ))
-lines_shown F specs items = if list_any (λ i. shows i.effect) items then said F specs else Is []
+lines_shown F specs items = if list_any (λ i. shows i.effect) items then compiler_lines F specs else Is []
 
 -- what the compiler says of itself, and then the switches of a link; nothing where it says nothing
 abbrev pub text_shown : List Variable → List (List ℕ) → List ℕ

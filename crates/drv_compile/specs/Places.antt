@@ -29,8 +29,8 @@ abbrev pub beside : List ℕ → List ℕ → List ℕ
 beside program machine = above (folder program) ++ codes "share/gdrv/" ++ machine ++ codes ".specs"
 
 -- a path that the caller gives: one without a folder lies in the folder of the call
-abbrev pub given : List ℕ → List ℕ
-given path = if list_any (λ b. b == slash) path then path else codes "./" ++ path
+abbrev pub path_of_caller : List ℕ → List ℕ
+path_of_caller path = if list_any (λ b. b == slash) path then path else codes "./" ++ path
 
 -- the file of another ending beside a spec file
 abbrev pub without_ending : List ℕ → Option (List ℕ) → List ℕ

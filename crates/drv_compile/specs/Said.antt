@@ -14,5 +14,5 @@ lines_said None = []
 lines_said (Some text) = values (codes "said ") text
 
 -- what the compiler of a spec file says of itself, by the file beside it
-abbrev pub said : Facts → List ℕ → Known (List (List ℕ))
-said F specs = written_beside F specs (codes ".gcc") >>= λ text. Is (lines_said text)
+abbrev pub compiler_lines : Facts → List ℕ → Known (List (List ℕ))
+compiler_lines F specs = written_beside F specs (codes ".gcc") >>= λ text. Is (lines_said text)

@@ -23,12 +23,12 @@ abbrev pub has_dot : List ℕ → Bool
 has_dot path = list_any (λ b. b == byte.period) (base path)
 
 -- an output with the machine's suffix of programs, if it is a file without any
-abbrev pub suffixed : List ℕ → List ℕ → List ℕ
-suffixed suffix path = if is_no_file path then path else if has_dot path then path else path ++ suffix
+abbrev pub name_with_suffix : List ℕ → List ℕ → List ℕ
+name_with_suffix suffix path = if is_no_file path then path else if has_dot path then path else path ++ suffix
 
 -- an item's argument with that suffix, if the item is the output
 abbrev pub argument_by : Effect → List ℕ → List ℕ → List ℕ
-argument_by effect.Output suffix path = suffixed suffix path
+argument_by effect.Output suffix path = name_with_suffix suffix path
 argument_by _ suffix path = path
 
 -- an item's argument, by what the item does

@@ -47,8 +47,8 @@ abbrev pub takes_goal : List ℕ → Bool
 takes_goal option = is option (codes "-MT") || is option (codes "-MQ")
 
 -- what gcc says of an option without its argument, up to the option
-abbrev pub lacking : List ℕ → List ℕ
-lacking option =
+abbrev pub lack_text : List ℕ → List ℕ
+lack_text option =
     if takes_file option then codes "missing filename after '"
     else if takes_macro option then codes "macro name missing after '"
     else if takes_path option then codes "missing path after '"
@@ -78,7 +78,7 @@ fatal_line name text = name ++ codes ": fatal error: " ++ text ++ codes "\ncompi
 -- a refusal of the front
 abbrev pub refusal_text : List ℕ → Refusal → Option (List ℕ) → List ℕ
 refusal_text name (UnknownOption word) near = error_line name (unknown_text word near)
-refusal_text name (NoArgument option) near = error_line name (lacking option ++ option ++ codes "'")
+refusal_text name (NoArgument option) near = error_line name (lack_text option ++ option ++ codes "'")
 refusal_text name (NotTaken option) near = error_line name (quoted (codes "option '") option (codes "' is not supported"))
 refusal_text name (GivenFile word) near = fatal_line name (given_text word)
 refusal_text name GivenMore near = error_line name

@@ -53,9 +53,9 @@ with_words from_file (Ok words) = Ok (record { words = words; from_file = from_f
 with_words from_file (Err fault) = Err fault
 
 -- the words of a call by the name it was called by: those of c99 become gcc's, or are refused
-abbrev pub fronted : Front → Expanded → Result Expanded C99Fault
-fronted Gcc expanded = Ok expanded
-fronted C99 expanded = with_words expanded.from_file (front_of expanded.words)
+abbrev pub words_of_front : Front → Expanded → Result Expanded C99Fault
+words_of_front Gcc expanded = Ok expanded
+words_of_front C99 expanded = with_words expanded.from_file (front_of expanded.words)
 
 -- the facts in which a response file of more than 262,144 words is too large (gcc has no such limit; this project's profile)
 abbrev pub within_limit : Facts → Facts
@@ -66,7 +66,7 @@ pub record Words (F : Facts) (calling : Calling) (args : List (List ℕ)) (words
   pub expanded : Expanded
   pub expands : Expands (within_limit F) 2000 args (Ok expanded)
   pub readable : first_unread F expanded.words ≡ Is None
-  pub fronts : fronted calling.front expanded ≡ Ok words
+  pub fronts : words_of_front calling.front expanded ≡ Ok words
 
 -- The text of a refusal of the driver: that of c99 has its name in its text. No spec file of this program is for another language than C
 -- and assembler, so none is said to be not installed.
@@ -96,7 +96,7 @@ IsUnread F name words text = (path : List ℕ) × (first_unread F words ≡ Is (
 -- c99 refuses the words, and this text says it
 abbrev pub IsUnfronted : Calling → Expanded → List ℕ → Type 0
 IsUnfronted calling expanded text =
-    (fault : C99Fault) × (fronted calling.front expanded ≡ Err fault) × (text ≡ told_refusal calling.name (refusal.C99 fault))
+    (fault : C99Fault) × (words_of_front calling.front expanded ≡ Err fault) × (text ≡ told_refusal calling.name (refusal.C99 fault))
 
 -- why the words of a call are refused, and the text that says it
 pub data RefusesWords (F : Facts) (calling : Calling) (args : List (List ℕ)) (text : List ℕ) : Type 0 where

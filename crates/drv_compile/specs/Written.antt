@@ -1,5 +1,5 @@
 use Rattle.drv_words.specs.Bytes.{newline}
-use Rattle.drv_words.specs.FileNames.{parted}
+use Rattle.drv_words.specs.FileNames.{split_at_last}
 use Rattle.drv_compile.specs.Calling.{before_ending}
 use Rattle.std.specs.Cmp.Lexicographic.{pointwise}
 use Rattle.std.specs.Fmt.{decimal}
@@ -20,4 +20,4 @@ marked parts = if pointwise nat_eq parts.1 (mark (length parts.0 + 1)) then Some
 
 -- the lines of a file without its mark, if the mark fits
 abbrev pub whole_lines : List ℕ → Option (List ℕ)
-whole_lines text = option_and_then marked (option_and_then (parted newline) (before_ending (newline ∷ []) text))
+whole_lines text = option_and_then marked (option_and_then (split_at_last newline) (before_ending (newline ∷ []) text))

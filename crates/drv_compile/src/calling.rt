@@ -1,7 +1,8 @@
 //! By which name the program was called.
 
 ghost use Rattle.drv_compile.specs.Calling.{before_ending, calling_of, folder, for_machine, is_c99};
-ghost use Rattle.drv_compile.specs.Calling.{last_from, last_part, machine_of, named, or_before};
+ghost use Rattle.drv_compile.specs.Calling.{calling_by_name, last_from, last_part, machine_of};
+ghost use Rattle.drv_compile.specs.Calling.{or_before};
 ghost use Rattle.std.specs.Option.{option_copied, option_map};
 ghost use Rattle.std.specs.Prelude.{◌≡◌, IfOk, codes};
 
@@ -86,7 +87,12 @@ fn is_c99(name: &[u8]) -> bool
 }
 
 /// A call by these names.
-fn made(alloc: Global, name: &[u8], machine: &[u8], front: Front) -> Result<Calling, AllocError>
+fn calling_by_names(
+    alloc: Global,
+    name: &[u8],
+    machine: &[u8],
+    front: Front,
+) -> Result<Calling, AllocError>
     ensures { IfOk result (λ calling. calling
         ≡ record { name = name.now; machine = machine.now; front = front }) }
 {
@@ -100,15 +106,15 @@ fn made(alloc: Global, name: &[u8], machine: &[u8], front: Front) -> Result<Call
 }
 
 /// What a name says of the call.
-fn named(alloc: Global, name: &[u8]) -> Result<Calling, AllocError>
-    ensures { IfOk result (λ calling. calling ≡ named name.now) }
+fn calling_by_name(alloc: Global, name: &[u8]) -> Result<Calling, AllocError>
+    ensures { IfOk result (λ calling. calling ≡ calling_by_name name.now) }
 {
     if is_c99(name) {
-        return made(alloc, name, b"host", Front::C99);
+        return calling_by_names(alloc, name, b"host", Front::C99);
     }
     match machine_of(name) {
-        Some(machine) => made(alloc, name, machine, Front::Gcc),
-        None => made(alloc, b"gdrv-cc", b"host", Front::Gcc),
+        Some(machine) => calling_by_names(alloc, name, machine, Front::Gcc),
+        None => calling_by_names(alloc, b"gdrv-cc", b"host", Front::Gcc),
     }
 }
 
@@ -117,5 +123,5 @@ fn named(alloc: Global, name: &[u8]) -> Result<Calling, AllocError>
 pub fn calling_of(alloc: Global, path: &[u8]) -> Result<Calling, AllocError>
     ensures { IfOk result (λ calling. calling ≡ calling_of path.now) }
 {
-    named(alloc, last_part(path))
+    calling_by_name(alloc, last_part(path))
 }

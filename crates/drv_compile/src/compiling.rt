@@ -122,7 +122,7 @@ fn lacks_program(prepared: &Prepared, events: &[Event]) -> bool
 }
 
 /// Says a text after a work, if there is one.
-fn closed<S: System>(sys: &mut S, text: &Word, status: u8) -> Outcome
+fn say_after<S: System>(sys: &mut S, text: &Word, status: u8) -> Outcome
     requires pipe { pipe_pending (run_of (S.events sys.old)) ≡ false }
     ensures closes { IsClosed (S.events sys.old) (S.events sys.new) text.now status result }
     ensures pipe { pipe_pending (run_of (S.events sys.new)) ≡ false }
@@ -138,7 +138,12 @@ fn closed<S: System>(sys: &mut S, text: &Word, status: u8) -> Outcome
 
 /// Says the hint if the work after the first `before` events did not find a program of the
 /// compiler, or else the remark.
-fn noted<S: System>(sys: &mut S, before: usize, prepared: &Prepared, status: u8) -> Outcome
+fn say_hint_or_remark<S: System>(
+    sys: &mut S,
+    before: usize,
+    prepared: &Prepared,
+    status: u8,
+) -> Outcome
     requires pipe { pipe_pending (run_of (S.events sys.old)) ≡ false }
     requires before { before ≤ length (S.events sys.old) }
     ensures notes { Noting (S.events sys.old) (S.events sys.new) before prepared.now status result }
@@ -149,25 +154,25 @@ fn noted<S: System>(sys: &mut S, before: usize, prepared: &Prepared, status: u8)
     } else {
         &prepared.remark
     };
-    closed(sys, text, status)
+    say_after(sys, text, status)
 }
 
 /// Does what is prepared, and says the hint where its run does not find a program of the compiler,
 /// or else the remark.
-fn done<S: System>(alloc: Global, name: &[u8], prepared: &Prepared, sys: &mut S) -> Outcome
+fn carry_out<S: System>(alloc: Global, name: &[u8], prepared: &Prepared, sys: &mut S) -> Outcome
     requires pipe { pipe_pending (run_of (S.events sys.old)) ≡ false }
     ensures does { Worked name.now (S.events sys.old) (S.events sys.new) prepared.now result }
     ensures pipe { pipe_pending (run_of (S.events sys.new)) ≡ false }
 {
     let before = sys.journal().len();
     match do_work(alloc, sys, name, &prepared.work) {
-        Ok(status) => noted(sys, before, prepared, status),
+        Ok(status) => say_hint_or_remark(sys, before, prepared, status),
         Err(_) => Outcome::OutOfMemory,
     }
 }
 
 /// Says what is said before a work, if there is anything.
-fn opened<S: System>(sys: &mut S, said: &Word) -> Result<(), AllocError>
+fn say_before<S: System>(sys: &mut S, said: &Word) -> Result<(), AllocError>
     requires pipe { pipe_pending (run_of (S.events sys.old)) ≡ false }
     ensures opens { OnOk result (IsOpened (S.events sys.old) (S.events sys.new) said.now) }
     ensures memory { OnErr result (S.events sys.new ≡ S.events sys.old) }
@@ -180,13 +185,18 @@ fn opened<S: System>(sys: &mut S, said: &Word) -> Result<(), AllocError>
 }
 
 /// Says what is said before the work of what is prepared, and does that.
-fn spoken<S: System>(alloc: Global, name: &[u8], prepared: &Prepared, sys: &mut S) -> Outcome
+fn say_and_carry_out<S: System>(
+    alloc: Global,
+    name: &[u8],
+    prepared: &Prepared,
+    sys: &mut S,
+) -> Outcome
     requires pipe { pipe_pending (run_of (S.events sys.old)) ≡ false }
     ensures does { Spoken name.now (S.events sys.old) (S.events sys.new) prepared.now result }
     ensures pipe { pipe_pending (run_of (S.events sys.new)) ≡ false }
 {
-    match opened(sys, &prepared.said) {
-        Ok(()) => done(alloc, name, prepared, sys),
+    match say_before(sys, &prepared.said) {
+        Ok(()) => carry_out(alloc, name, prepared, sys),
         Err(_) => Outcome::OutOfMemory,
     }
 }
@@ -206,13 +216,13 @@ fn carried_out<S: System, H: Host<S>>(
     ensures pipe { pipe_pending (run_of (S.events sys.new)) ≡ false }
 {
     match set_children(prepared.children.as_slice(), sys, host) {
-        Ok(()) => spoken(alloc, name, prepared, sys),
+        Ok(()) => say_and_carry_out(alloc, name, prepared, sys),
         Err(_) => Outcome::OutOfMemory,
     }
 }
 
 /// Says why a call ends before its work.
-fn stopped<S: System>(sys: &mut S, stop: &Stop) -> Outcome
+fn say_stop<S: System>(sys: &mut S, stop: &Stop) -> Outcome
     requires pipe { pipe_pending (run_of (S.events sys.old)) ≡ false }
     ensures tells { TellsStop (S.events sys.old) (S.events sys.new) stop.now result }
     ensures pipe { pipe_pending (run_of (S.events sys.new)) ≡ false }
@@ -255,7 +265,7 @@ fn compile_settled<S: System, H: Host<S>>(
         host,
     ) {
         Ok(prepared) => carried_out(alloc, calling.name.as_bytes(), &prepared, sys, host),
-        Err(stop) => stopped(sys, &stop),
+        Err(stop) => say_stop(sys, &stop),
     }
 }
 

@@ -1,7 +1,7 @@
 //! What the words of a line ask for, over the spec file and the files beside it.
 
 ghost use Rattle.drv_compile.specs.Compilers.{values};
-ghost use Rattle.drv_compile.specs.Decides.{decided, decided_around, decided_by, decided_over};
+ghost use Rattle.drv_compile.specs.Decides.{decide, decided_around, decided_by, decided_over};
 ghost use Rattle.drv_compile.specs.Decides.{decided_with, of_reading};
 ghost use Rattle.drv_search.specs.Code.Telling.{Tells};
 ghost use Rattle.drv_system.specs.Code.Asked.{Asked};
@@ -171,14 +171,14 @@ fn decided_with<S: System>(
 /// the table has no answer: for the spec file, the files beside it, two variables, and what the
 /// line's unknown words need.
 #[tactic(auto, using(drv_system::proofs::AskedCalls::asked_further))]
-pub(crate) fn decided<S: System>(
+pub(crate) fn decide<S: System>(
     alloc: Global,
     own: &Option<Word>,
     words: &[Word],
     outside: &mut Outside<'_, S>,
 ) -> Result<Decision, AllocError>
     ensures asks { Asked S.events outside.old outside.new }
-    ensures decision { Tells outside.new result (λ F. decided F own.now words.now) }
+    ensures decision { Tells outside.new result (λ F. decide F own.now words.now) }
 {
     let place = copy_word(own)?;
     let found = spec_file(alloc, place, outside)?;

@@ -93,19 +93,16 @@ fn machined_call(
         worker) }
 {
     let text = for_machines(rows);
-    match machined_by(alloc, text, call.items)? {
+    match machined_by(alloc, text, call.items, call.children)? {
         MachineItems::Lacks(options) => Ok(Worker::Compiler(options)),
-        MachineItems::Made(items) => {
+        MachineItems::Made(items, children) => {
             let suffixed = suffixed_by(alloc, text, items)?;
             let all = driver_items(alloc, path, suffixed)?;
             let line = DriverLine {
                 items: all,
                 from_file: given.from_file,
             };
-            Ok(Worker::Driver(Driven {
-                line,
-                children: call.children,
-            }))
+            Ok(Worker::Driver(Driven { line, children }))
         }
     }
 }
@@ -114,7 +111,7 @@ fn machined_call(
 ///
 /// # Errors
 /// The text about a file that is missing or not whole.
-fn called<S: System>(
+fn driver_of_call<S: System>(
     alloc: Global,
     calling: &Calling,
     specs: &[u8],
@@ -180,7 +177,7 @@ fn answer<S: System>(
 ///
 /// # Errors
 /// The text of the refusal of what they gave.
-fn answered<S: System>(
+fn driver_of_answers<S: System>(
     alloc: Global,
     calling: &Calling,
     chain: &Toolchain,
@@ -197,7 +194,7 @@ fn answered<S: System>(
 {
     match answer {
         Some(Answer::Run(call)) => {
-            called(alloc, calling, chain.specs.as_bytes(), call, given, outside)
+            driver_of_call(alloc, calling, chain.specs.as_bytes(), call, given, outside)
         }
         Some(Answer::Refuse(refusals)) => {
             let name = calling.name.as_bytes();
@@ -232,7 +229,7 @@ fn worker_after<S: System>(
 {
     let name = calling.name.as_bytes();
     let answer = answer(alloc, name, chain, given, &first, outside)?;
-    answered(alloc, calling, chain, answer, given, first, outside)
+    driver_of_answers(alloc, calling, chain, answer, given, first, outside)
 }
 
 /// Who carries out a line, with the options that its spec files give it. It asks the system only
@@ -254,7 +251,7 @@ pub(crate) fn worker_of<S: System>(
         → MatchResult result (λ worker. IsWorker F chain.now call given.now worker)
         (λ stop. IfTold stop (Undriven F calling.now chain.now call given.now)) }
 {
-    match called(alloc, calling, chain.specs.as_bytes(), call, given, outside)? {
+    match driver_of_call(alloc, calling, chain.specs.as_bytes(), call, given, outside)? {
         Worker::Driver(first) => worker_after(alloc, calling, chain, given, first, outside),
         Worker::Compiler(options) => Ok(Worker::Compiler(options)),
     }

@@ -4,7 +4,7 @@ ghost use Rattle.drv_args.specs.Expansion.{Expands, file_named};
 ghost use Rattle.drv_c99.specs.declared.fault.C99Fault.TheVariants as c99_fault;
 ghost use Rattle.drv_compile.specs.Tasks.{IfTold};
 ghost use Rattle.drv_compile.specs.Words.{IsUnexpanded, IsUnfronted, IsUnread, RefusesWords};
-ghost use Rattle.drv_compile.specs.Words.{Words, first_unread, fronted, if_unread, stop_of};
+ghost use Rattle.drv_compile.specs.Words.{Words, first_unread, if_unread, stop_of, words_of_front};
 ghost use Rattle.drv_compile.specs.Words.{unread_at, within_limit};
 ghost use Rattle.drv_search.specs.Code.Telling.{Tells};
 ghost use Rattle.drv_system.specs.Asking.{Extends};
@@ -86,8 +86,8 @@ fn first_unread<S: System>(
 }
 
 /// The words of gcc for those of a front.
-fn fronted(alloc: Global, front: Front, expanded: Expanded) -> Result<Expanded, C99Fault>
-    ensures { Gives c99_fault.Memory (λ words. words) result (fronted front expanded) }
+fn words_of_front(alloc: Global, front: Front, expanded: Expanded) -> Result<Expanded, C99Fault>
+    ensures { Gives c99_fault.Memory (λ words. words) result (words_of_front front expanded) }
 {
     match front {
         Front::Gcc => Ok(expanded),
@@ -163,10 +163,10 @@ fn refuse_unread<S: System>(
 /// # Errors
 /// The text of their refusal.
 fn gcc_words(alloc: Global, calling: &Calling, expanded: Expanded) -> Result<Expanded, Stop>
-    ensures { MatchResult result (λ words. fronted calling.now.front expanded ≡ Ok words)
+    ensures { MatchResult result (λ words. words_of_front calling.now.front expanded ≡ Ok words)
         (λ stop. IfTold stop (IsUnfronted calling.now expanded)) }
 {
-    match fronted(alloc, calling.front, expanded) {
+    match words_of_front(alloc, calling.front, expanded) {
         Ok(words) => Ok(words),
         Err(fault) => {
             let stop = stop_of(alloc, calling.name.as_bytes(), &Ending::from(fault))?;

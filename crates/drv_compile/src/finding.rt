@@ -1,7 +1,8 @@
 //! The spec file of a call, and the files beside it.
 
 ghost use Rattle.drv_compile.specs.Beside.{bytes_read, given_by, if_plain, is_written, known_names};
-ghost use Rattle.drv_compile.specs.Beside.{file_of_variable, or_own, plain_at, spec_file, written, written_beside};
+ghost use Rattle.drv_compile.specs.Beside.{file_of_variable, or_own, plain_at, spec_file};
+ghost use Rattle.drv_compile.specs.Beside.{written_beside, written_lines};
 ghost use Rattle.drv_compile.specs.Written.{whole_lines};
 ghost use Rattle.drv_search.specs.Code.Telling.{Tells};
 ghost use Rattle.drv_search.specs.Search.{is_plain};
@@ -9,7 +10,7 @@ ghost use Rattle.drv_system.specs.Code.Asked.{Asked};
 ghost use Rattle.std.specs.Option.{is_some, option_and_then, option_copied};
 ghost use Rattle.std.specs.Prelude.{◌≡◌, IfOk};
 
-use crate::places::{companion, given};
+use crate::places::{companion, path_of_caller};
 use crate::written::whole_lines;
 use drv_system::{Outside, PathKind, ReadAnswer, System};
 use drv_words::Word;
@@ -37,13 +38,13 @@ fn lines_in(alloc: Global, answer: &ReadAnswer) -> Result<Option<Word>, AllocErr
 
 /// The lines before the mark of a file that `gdrv-write-specs` wrote, where it is a plain file and
 /// whole.
-pub(crate) fn written<S: System>(
+pub(crate) fn written_lines<S: System>(
     alloc: Global,
     path: &Word,
     outside: &mut Outside<'_, S>,
 ) -> Result<Option<Word>, AllocError>
     ensures asks { Asked S.events outside.old outside.new }
-    ensures lines { Tells outside.new result (λ F. written F path.now) }
+    ensures lines { Tells outside.new result (λ F. written_lines F path.now) }
 {
     let kind = outside.facts.kind(outside.sys, path)?;
     if is_plain(kind) {
@@ -90,7 +91,7 @@ pub(crate) fn written_beside<S: System>(
     ensures lines { Tells outside.new result (λ F. written_beside F specs.now ending.now) }
 {
     let path = companion(alloc, specs, ending)?;
-    written(alloc, &path, outside)
+    written_lines(alloc, &path, outside)
 }
 
 /// The names of the compiler's options, a line each, where the file that has them is whole.
@@ -132,7 +133,7 @@ fn given_by(alloc: Global, value: Option<&Word>) -> Result<Option<Word>, AllocEr
     ensures { IfOk result (λ path. path ≡ given_by (option_copied value.entry)) }
 {
     match value {
-        Some(path) if !path.is_empty() => Ok(Some(given(alloc, path.as_bytes())?)),
+        Some(path) if !path.is_empty() => Ok(Some(path_of_caller(alloc, path.as_bytes())?)),
         _ => Ok(None),
     }
 }

@@ -32,7 +32,7 @@ pub trait Host<S: System> {
 
     /// Asks for the path of the file that a name leads to, links followed: two names of one file
     /// have one path.
-    fn resolved(&mut self, name: &Word) -> Result<Option<Word>, AllocError>
+    fn resolve(&mut self, name: &Word) -> Result<Option<Word>, AllocError>
         ensures event { IfOk result (λ path. notes self.new
             ≡ notes self.old ++ Resolved name.now path ∷ []) }
         ensures memory { OnErr result (notes self.new ≡ notes self.old) };

@@ -31,7 +31,7 @@ fn add_if_absent(
 
 /// The text about the inputs that are not there.
 #[tactic(auto, using(drv_system::proofs::AskedCalls::asked_none))]
-fn absent<S: System>(
+fn absent_inputs_text<S: System>(
     alloc: Global,
     name: &[u8],
     inputs: &[Word],
@@ -64,7 +64,7 @@ pub(crate) fn objection<S: System>(
     if value.is_some() {
         return variable_text(alloc, name);
     }
-    absent(alloc, name, inputs, outside)
+    absent_inputs_text(alloc, name, inputs, outside)
 }
 
 /// Whether what a name leads to is the file at a path.
@@ -88,7 +88,7 @@ fn reaches<S: System, H: Host<S>>(
         (λ events. IfOk result (λ found. Reaches path.now inputs.now events found)) }
 {
     for input in inputs {
-        let found = host.resolved(input)?;
+        let found = host.resolve(input)?;
         if is_at(path, &found) {
             return Ok(true);
         }
@@ -112,7 +112,7 @@ pub(crate) fn overwrites<S: System, H: Host<S>>(
     if is_no_file(output.as_bytes()) {
         return Ok(false);
     }
-    let found = host.resolved(output)?;
+    let found = host.resolve(output)?;
     let Some(path) = found else {
         return Ok(false);
     };

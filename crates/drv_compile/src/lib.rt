@@ -3,6 +3,7 @@
 #![tactic(auto)]
 
 mod calling;
+mod children;
 mod compilers;
 mod compiling;
 mod deciding;

@@ -1,30 +1,34 @@
 //! The options of a line that choose its machine, and the words that gcc makes of them.
 
-ghost use Rattle.drv_compile.specs.Machines.{by_rows, folder_item, is_machine, key_of, key_word};
-ghost use Rattle.drv_compile.specs.Machines.{machined, machined_by, plain_item, row_beginning};
+ghost use Rattle.drv_compile.specs.Machines.{folder_item, is_machine, key_of, key_word};
+ghost use Rattle.drv_compile.specs.Machines.{items_by_rows, machined_by, plain_item, row_beginning};
 ghost use Rattle.drv_compile.specs.Machines.{row_items, with_row, word_item, word_items};
 ghost use Rattle.drv_compile.specs.Suffixes.{suffixed_by};
 ghost use Rattle.drv_args.specs.declared.items.Item.{Item};
+ghost use Rattle.drv_cc.specs.declared.answer.Variable.{Variable};
 ghost use Rattle.std.specs.List.{flat_map};
 ghost use Rattle.std.specs.Option.{option_copied};
 ghost use Rattle.std.specs.Prelude.{◌≡◌, ◌++◌, IfOk, List, OnOk, drop};
 
+use crate::children::child_variables;
 use crate::compilers::{first_value, has_either, rest_of};
 use drv_args::{Effect, Item};
+use drv_cc::Variable;
 use drv_words::{Listing, Word};
 use std::alloc::{AllocError, Global};
 
-/// The items of a line with the words for its machine.
+/// The items of a line with the words for its machine, and the variables of its children.
 #[derive(Drop)]
 pub(crate) enum MachineItems {
-    /// The items: the words of the line's row are in the place of its options for a machine.
-    Made(Listing<Item>),
+    /// The items and the variables: in both the words of the line's row are in the place of its
+    /// options for a machine.
+    Made(Listing<Item>, Listing<Variable>),
     /// The options of the line for its machine, of which no row has the words.
     Lacks(Word),
 }
 
 /// Whether an option chooses a machine.
-fn is_machine(option: &[u8]) -> bool
+pub(crate) fn is_machine(option: &[u8]) -> bool
     ensures { result ≡ is_machine option.now }
 {
     option.starts_with(b"-m") || option == b"-EB".as_slice() || option == b"-EL".as_slice()
@@ -158,9 +162,14 @@ fn without_blank(alloc: Global, key: &[u8]) -> Result<Word, AllocError>
     Word::from_bytes(alloc, key.get(1..).unwrap_or(&[]))
 }
 
-/// The items of a line after the words of its row, if it has one.
-fn with_row(alloc: Global, items: &[Item], row: Option<Word>) -> Result<MachineItems, AllocError>
-    ensures { IfOk result (λ made. made ≡ with_row items.now row) }
+/// The items of a line after the words of its row, if it has one, and the variables of its children.
+fn with_row(
+    alloc: Global,
+    items: &[Item],
+    children: &[Variable],
+    row: Option<Word>,
+) -> Result<MachineItems, AllocError>
+    ensures { IfOk result (λ made. made ≡ with_row items.now children.now row) }
 {
     let Some(row) = row else {
         let key = key_of(alloc, items)?;
@@ -170,42 +179,51 @@ fn with_row(alloc: Global, items: &[Item], row: Option<Word>) -> Result<MachineI
     let mut plain = Listing::new(alloc);
     push_all_plain(items, &mut plain)?;
     let words = row_items(alloc, row.as_bytes())?;
+    let told = child_variables(alloc, items, row.as_bytes(), children)?;
     let mut made = words.into_vec();
     made.append(&mut plain.into_vec())?;
-    Ok(MachineItems::Made(Listing::from_vec(made)))
+    Ok(MachineItems::Made(Listing::from_vec(made), told))
 }
 
-/// The items of a line by the rows of a text. Where it has none, the line stays as it is.
-fn machined(alloc: Global, text: &[u8], items: Listing<Item>) -> Result<MachineItems, AllocError>
-    ensures { IfOk result (λ made. made ≡ machined text.now items) }
+/// The items of a line and the variables of its children by the rows of a text. Where it has none,
+/// they stay.
+fn items_by_rows(
+    alloc: Global,
+    text: &[u8],
+    items: Listing<Item>,
+    children: Listing<Variable>,
+) -> Result<MachineItems, AllocError>
+    ensures { IfOk result (λ made. made ≡ items_by_rows text.now items children) }
 {
     if first_value(alloc, b"machine", text)?.is_none() {
-        return Ok(MachineItems::Made(items));
+        return Ok(MachineItems::Made(items, children));
     }
     let beginning = row_beginning(alloc, items.as_slice())?;
     let row = first_value(alloc, beginning.as_bytes(), text)?;
-    with_row(alloc, items.as_slice(), row)
+    with_row(alloc, items.as_slice(), children.as_slice(), row)
 }
 
-/// The items of a line by the rows of a file, if that is whole.
+/// The items of a line and the variables of its children by the rows of a file, if that is whole.
 pub(crate) fn machined_by(
     alloc: Global,
     text: Option<&[u8]>,
     items: Listing<Item>,
+    children: Listing<Variable>,
 ) -> Result<MachineItems, AllocError>
-    ensures { IfOk result (λ made. made ≡ machined_by (option_copied text.entry) items) }
+    ensures { IfOk result (λ made. made ≡ machined_by (option_copied text.entry) items children) }
 {
     match text {
-        Some(text) => machined(alloc, text, items),
-        None => Ok(MachineItems::Made(items)),
+        Some(text) => items_by_rows(alloc, text, items, children),
+        None => Ok(MachineItems::Made(items, children)),
     }
 }
 
 /// The text, if it has rows for machines or names a suffix of programs. A line by any other text
 /// stays as it is.
 pub(crate) fn for_machines(text: Option<&[u8]>) -> Option<&[u8]>
-    ensures rows { (items : List Item)
-        → machined_by (option_copied result) items ≡ machined_by (option_copied text.entry) items }
+    ensures rows { (items : List Item) (children : List Variable)
+        → machined_by (option_copied result) items children
+        ≡ machined_by (option_copied text.entry) items children }
     ensures suffix { (items : List Item)
         → suffixed_by (option_copied result) items ≡ suffixed_by (option_copied text.entry) items }
 {

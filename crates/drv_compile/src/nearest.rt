@@ -1,7 +1,7 @@
 //! Which option an unknown word was meant to be, as gcc reckons it. No contract says that it is the
 //! nearest one.
 
-ghost use Rattle.drv_compile.specs.Near.{MayMean, after_equals, is_marked, meant_by, unmarked};
+ghost use Rattle.drv_compile.specs.Near.{MayMean, after_equals, is_marked, meant_by, without_mark};
 ghost use Rattle.std.specs.List.{ends_with};
 ghost use Rattle.std.specs.Prelude.{◌≡◌, ◌<◌, ◌≤◌, IfOk, IfSome, codes, length, nat_eq};
 
@@ -41,7 +41,7 @@ impl<'w> Wanted<'w> {
     }
 
     /// How many bytes of a name have one of the word for themselves.
-    fn shared(&self, name: &[u8]) -> usize {
+    fn common_bytes(&self, name: &[u8]) -> usize {
         let mut left = self.counts;
         let mut shared = 0_usize;
         for byte in name {
@@ -60,7 +60,7 @@ impl<'w> Wanted<'w> {
         self.word
             .len()
             .max(name.len())
-            .saturating_sub(self.shared(name))
+            .saturating_sub(self.common_bytes(name))
     }
 
     /// How many edits lead to a name; none where there are more than are wanted.
@@ -121,8 +121,8 @@ fn is_marked(name: &[u8]) -> bool
 }
 
 /// A name without the mark at its end.
-fn unmarked(name: &[u8]) -> &[u8]
-    ensures { result.now ≡ unmarked name.now }
+fn without_mark(name: &[u8]) -> &[u8]
+    ensures { result.now ≡ without_mark name.now }
 {
     if is_marked(name) {
         &name[..name.len().saturating_sub(1)]
@@ -164,7 +164,7 @@ fn nearest(alloc: Global, known: &[Word], word: &[u8]) -> Result<Option<usize>, 
     let head = Wanted::new(&word[..head_length(word)]);
     let mut found: Option<Near<'_>> = None;
     for place in 0..known.len() {
-        let name = unmarked(known[place].as_bytes());
+        let name = without_mark(known[place].as_bytes());
         let wanted = if takes_argument(name) { &head } else { &whole };
         let compared = wanted.word.len();
         if !is_near(compared, name.len(), compared.abs_diff(name.len())) {
@@ -225,6 +225,6 @@ pub(crate) fn meant(alloc: Global, known: &[Word], word: &[u8]) -> Result<Option
     let Some(place) = nearest(alloc, known, word)? else {
         return Ok(None);
     };
-    let option = meant_by(alloc, word, unmarked(known[place].as_bytes()))?;
+    let option = meant_by(alloc, word, without_mark(known[place].as_bytes()))?;
     Ok(Some(option))
 }

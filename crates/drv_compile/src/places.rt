@@ -1,6 +1,7 @@
 //! The place of the spec file, and of the files beside it.
 
-ghost use Rattle.drv_compile.specs.Places.{above, beside, companion, given, is_begun, is_native};
+ghost use Rattle.drv_compile.specs.Places.{above, beside, companion, is_begun, is_native};
+ghost use Rattle.drv_compile.specs.Places.{path_of_caller};
 ghost use Rattle.drv_compile.specs.Places.{is_rooted, may_link, texts_by, texts_for, texts_or};
 ghost use Rattle.drv_compile.specs.Places.{wants_whole, whole_options};
 ghost use Rattle.drv_cc.specs.Items.{is_among};
@@ -15,7 +16,7 @@ use drv_words::Word;
 use std::alloc::{AllocError, Global};
 
 /// Two texts as one word.
-fn joined(alloc: Global, first: &[u8], second: &[u8]) -> Result<Word, AllocError>
+fn join(alloc: Global, first: &[u8], second: &[u8]) -> Result<Word, AllocError>
     ensures { IfOk result (λ word. word ≡ first.now ++ second.now) }
 {
     let mut word = Word::from_bytes(alloc, first)?;
@@ -38,20 +39,20 @@ fn above(path: &[u8]) -> &[u8]
 pub fn beside(alloc: Global, program: &[u8], machine: &[u8]) -> Result<Word, AllocError>
     ensures { IfOk result (λ path. path ≡ beside program.now machine.now) }
 {
-    let mut path = joined(alloc, above(folder(program)), b"share/gdrv/")?;
+    let mut path = join(alloc, above(folder(program)), b"share/gdrv/")?;
     path.extend_from_slice(machine)?;
     path.extend_from_slice(b".specs")?;
     Ok(path)
 }
 
 /// A path that the caller gives: without a folder it lies in the folder of the call.
-pub(crate) fn given(alloc: Global, path: &[u8]) -> Result<Word, AllocError>
-    ensures { IfOk result (λ word. word ≡ given path.now) }
+pub(crate) fn path_of_caller(alloc: Global, path: &[u8]) -> Result<Word, AllocError>
+    ensures { IfOk result (λ word. word ≡ path_of_caller path.now) }
 {
     if path.contains(&b'/') {
         return Word::from_bytes(alloc, path);
     }
-    joined(alloc, b"./", path)
+    join(alloc, b"./", path)
 }
 
 /// The file of another ending beside a spec file.
@@ -59,8 +60,8 @@ pub fn companion(alloc: Global, path: &[u8], ending: &[u8]) -> Result<Word, Allo
     ensures { IfOk result (λ word. word ≡ companion path.now ending.now) }
 {
     match before_ending(b".specs", path) {
-        Some(stem) => joined(alloc, stem, ending),
-        None => joined(alloc, path, ending),
+        Some(stem) => join(alloc, stem, ending),
+        None => join(alloc, path, ending),
     }
 }
 

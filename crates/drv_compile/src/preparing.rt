@@ -14,7 +14,7 @@ ghost use Rattle.drv_system.specs.Facts.{Facts};
 ghost use Rattle.std.specs.Prelude.{◌≡◌, IfOk, MatchResult, false};
 
 use crate::calling::{Calling, Front};
-use crate::deciding::decided;
+use crate::deciding::decide;
 use crate::driving::{Driven, Worker, worker_of};
 use crate::expanding::line_words;
 use crate::host::Host;
@@ -24,7 +24,7 @@ use crate::running::{DriverLine, work_of_items};
 use crate::speaking::opening;
 use crate::stop::Stop;
 use crate::tasks::{Task, Toolchain, task_of};
-use crate::wording::{gone, handed_text, help_text, overwritten, version_text};
+use crate::wording::{gone_text, handed_text, help_text, overwrite_text, version_text};
 use crate::wrapping::wrapper_of;
 use drv_args::Expanded;
 use drv_cc::{Call, Variable};
@@ -140,7 +140,7 @@ fn refuse_overwriting<S: System, H: Host<S>>(
     if !found {
         return Ok(());
     }
-    let text = overwritten(alloc, name, output.as_bytes())?;
+    let text = overwrite_text(alloc, name, output.as_bytes())?;
     Err(Stop::Told(text))
 }
 
@@ -149,7 +149,7 @@ fn refuse_overwriting<S: System, H: Host<S>>(
 /// # Errors
 /// The text of its refusal.
 #[tactic(auto, using(drv_system::proofs::AskedCalls::asked_further))]
-fn planned<S: System>(
+fn prepare_plan<S: System>(
     alloc: Global,
     calling: &Calling,
     chain: &Toolchain,
@@ -165,7 +165,7 @@ fn planned<S: System>(
 {
     let name = calling.name.as_bytes();
     let specs = chain.specs.as_bytes();
-    let hint = gone(alloc, name, specs, calling.machine.as_bytes())?;
+    let hint = gone_text(alloc, name, specs, calling.machine.as_bytes())?;
     let items = driven.line.items.as_slice();
     let wrapper = Word::from_bytes(alloc, wrapper_of(items))?;
     let said = opening(alloc, specs, items, driven.children.as_slice(), outside)?;
@@ -205,7 +205,7 @@ fn handed_on(
 {
     let name = calling.name.as_bytes();
     let specs = chain.specs.as_bytes();
-    let hint = gone(alloc, name, specs, calling.machine.as_bytes())?;
+    let hint = gone_text(alloc, name, specs, calling.machine.as_bytes())?;
     let said = handed_text(alloc, name, specs, options)?;
     let compiler = chain.around.compiler.clone()?;
     let work = question(alloc, compiler, words_for(calling.front, args, given))?;
@@ -241,7 +241,7 @@ fn prepared_plan<S: System>(
         (λ stop. IfTold stop (IsUnplanned F calling.now chain.now call given.now seed)) }
 {
     match worker_of(alloc, calling, chain, call, given, outside)? {
-        Worker::Driver(driven) => planned(alloc, calling, chain, driven, seed, outside),
+        Worker::Driver(driven) => prepare_plan(alloc, calling, chain, driven, seed, outside),
         Worker::Compiler(options) => {
             let prepared = handed_on(alloc, calling, chain, options.as_bytes(), args, given)?;
             Ok(prepared)
@@ -282,7 +282,7 @@ fn compilation<S: System, H: Host<S>>(
 }
 
 /// What a call does whose line is a question to a compiler.
-fn asked(
+fn prepare_question(
     alloc: Global,
     calling: &Calling,
     specs: &[u8],
@@ -293,7 +293,7 @@ fn asked(
         prepared) }
 {
     let name = calling.name.as_bytes();
-    let hint = gone(alloc, name, specs, calling.machine.as_bytes())?;
+    let hint = gone_text(alloc, name, specs, calling.machine.as_bytes())?;
     let said = help_text(alloc, name, compiler.as_bytes(), args.as_slice())?;
     let remark = version_text(alloc, name, compiler.as_bytes(), args.as_slice())?;
     let work = question(alloc, compiler, args)?;
@@ -330,7 +330,7 @@ fn task_prepared<S: System, H: Host<S>>(
 {
     match task {
         Task::Question(specs, compiler) => {
-            let prepared = asked(alloc, calling, specs.as_bytes(), compiler, args)?;
+            let prepared = prepare_question(alloc, calling, specs.as_bytes(), compiler, args)?;
             Ok(prepared)
         }
         Task::Compilation(chain, call) => {
@@ -363,7 +363,7 @@ pub(crate) fn prepare<S: System, H: Host<S>>(
         (λ stop. IfTold stop (Refuses F calling.now own.now args.now seed events))) }
 {
     let words = line_words(alloc, calling, args, outside)?;
-    let decision = decided(alloc, own, words.words.as_slice(), outside)?;
+    let decision = decide(alloc, own, words.words.as_slice(), outside)?;
     let task = task_of(alloc, calling, decision)?;
     task_prepared(alloc, calling, task, args, &words, seed, outside, host)
 }

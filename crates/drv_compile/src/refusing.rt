@@ -71,7 +71,7 @@ fn note_of<S: System>(
 }
 
 /// The text of a refusal of a line of the driver, with its note.
-fn said<S: System>(
+fn refusal_text<S: System>(
     alloc: Global,
     name: &[u8],
     given: &DriverLine,
@@ -102,7 +102,7 @@ pub(crate) fn stop_after<S: System>(
         → IfTold result (IsEndSaid F name.now given.now ending.now) }
 {
     match ending {
-        Ending::Refused(refusal) => match said(alloc, name, given, refusal, outside) {
+        Ending::Refused(refusal) => match refusal_text(alloc, name, given, refusal, outside) {
             Ok(text) => Stop::Told(text),
             Err(_) => Stop::Memory,
         },

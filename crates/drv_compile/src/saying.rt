@@ -1,6 +1,6 @@
 //! What the compiler of a spec file says of itself.
 
-ghost use Rattle.drv_compile.specs.Said.{lines_said, said};
+ghost use Rattle.drv_compile.specs.Said.{compiler_lines, lines_said};
 ghost use Rattle.drv_search.specs.Code.Telling.{Tells};
 ghost use Rattle.drv_system.specs.Code.Asked.{Asked};
 ghost use Rattle.std.specs.Prelude.{◌≡◌, IfOk};
@@ -25,13 +25,13 @@ fn lines_said(alloc: Global, text: &Option<Word>) -> Result<Listing<Word>, Alloc
 /// manual, "Overall Options", `-v`): its machine, its version and where it looks. There are none
 /// where the file that has them is not whole. It asks the system only where the table has no
 /// answer.
-pub(crate) fn said<S: System>(
+pub(crate) fn compiler_lines<S: System>(
     alloc: Global,
     specs: &[u8],
     outside: &mut Outside<'_, S>,
 ) -> Result<Listing<Word>, AllocError>
     ensures asks { Asked S.events outside.old outside.new }
-    ensures lines { Tells outside.new result (λ F. said F specs.now) }
+    ensures lines { Tells outside.new result (λ F. compiler_lines F specs.now) }
 {
     let text = written_beside(alloc, specs, b".gcc", outside)?;
     lines_said(alloc, &text)

@@ -7,7 +7,7 @@ ghost use Rattle.drv_system.specs.Code.Asked.{Asked};
 ghost use Rattle.std.specs.List.{flat_map, list_any};
 ghost use Rattle.std.specs.Prelude.{◌≡◌, ◌++◌, IfOk, OnOk};
 
-use crate::saying::said;
+use crate::saying::compiler_lines;
 use drv_args::{Effect, Item, Setting};
 use drv_cc::Variable;
 use drv_system::{Outside, System};
@@ -92,7 +92,7 @@ fn lines_shown<S: System>(
     if !is_shown(items) {
         return Ok(Listing::new(alloc));
     }
-    said(alloc, specs, outside)
+    compiler_lines(alloc, specs, outside)
 }
 
 /// The text of these lines, if there are any.

@@ -1,6 +1,7 @@
 //! The names of programs that lines link.
 
-ghost use Rattle.drv_compile.specs.Suffixes.{argument_of, has_dot, is_no_file, is_unlinked, suffixed};
+ghost use Rattle.drv_compile.specs.Suffixes.{argument_of, has_dot, is_no_file, is_unlinked};
+ghost use Rattle.drv_compile.specs.Suffixes.{name_with_suffix};
 ghost use Rattle.drv_compile.specs.Suffixes.{suffixed_by, suffixed_items, with_suffix};
 ghost use Rattle.std.specs.List.{flat_map, list_any};
 ghost use Rattle.std.specs.Option.{option_copied};
@@ -27,8 +28,8 @@ fn has_dot(path: &[u8]) -> bool
 }
 
 /// The name of a program with a suffix, if it has none.
-fn suffixed(path: &Word, suffix: &[u8]) -> Result<Word, AllocError>
-    ensures { IfOk result (λ name. name ≡ suffixed suffix.now path.now) }
+fn name_with_suffix(path: &Word, suffix: &[u8]) -> Result<Word, AllocError>
+    ensures { IfOk result (λ name. name ≡ name_with_suffix suffix.now path.now) }
 {
     let mut name = path.clone()?;
     if !is_no_file(path.as_bytes()) && !has_dot(path.as_bytes()) {
@@ -42,7 +43,7 @@ fn argument_of(item: &Item, suffix: &[u8]) -> Result<Word, AllocError>
     ensures { IfOk result (λ argument. argument ≡ argument_of suffix.now item.now) }
 {
     match item.effect {
-        Effect::Output => suffixed(&item.argument, suffix),
+        Effect::Output => name_with_suffix(&item.argument, suffix),
         _ => item.argument.clone(),
     }
 }

@@ -81,7 +81,7 @@ fn folder_names<S: System>(
 
 /// The first of names that is that of a folder in which files can be made, or else the folder of
 /// the call. The host is asked for each name up to the first.
-fn chosen<S: System, H: Host<S>>(
+fn first_usable<S: System, H: Host<S>>(
     alloc: Global,
     names: &[Word],
     host: &mut H,
@@ -112,7 +112,7 @@ fn folder_asked<S: System, H: Host<S>>(
         (λ events. (F : Facts) → Extends outside.new.facts.now F → IsTried F events) }
 {
     let names = folder_names(alloc, outside)?;
-    chosen(alloc, names.as_slice(), host)
+    first_usable(alloc, names.as_slice(), host)
 }
 
 /// Asks for the folder of temporaries, and puts it into a table that has no answer yet, as the

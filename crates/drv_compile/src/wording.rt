@@ -1,7 +1,7 @@
 //! What the user reads.
 
 ghost use Rattle.drv_compile.specs.Texts.{absent_text, adding, error_line, fatal_line, file_said, given_text};
-ghost use Rattle.drv_compile.specs.Texts.{gone_text, help_text, if_only, lacking, meant};
+ghost use Rattle.drv_compile.specs.Texts.{gone_text, help_text, if_only, lack_text, meant};
 ghost use Rattle.drv_compile.specs.Texts.{overwritten_text, quoted, version_text};
 ghost use Rattle.drv_compile.specs.Texts.{refusal_text};
 ghost use Rattle.drv_compile.specs.Texts.{takes_file, takes_goal, takes_macro, takes_path};
@@ -97,8 +97,8 @@ fn takes_goal(option: &[u8]) -> bool
 }
 
 /// What is said before an option that lacks its argument.
-fn lacking(option: &[u8]) -> &'static [u8]
-    ensures { result.now ≡ lacking option.now }
+fn lack_text(option: &[u8]) -> &'static [u8]
+    ensures { result.now ≡ lack_text option.now }
 {
     if takes_file(option) {
         b"missing filename after '"
@@ -204,7 +204,7 @@ pub(crate) fn add_refusal(
         Refusal::UnknownOption(word) => add_unknown_line(text, name, word.as_bytes(), near),
         Refusal::NoArgument(option) => {
             let option = option.as_bytes();
-            add_line(text, name, lacking(option), option, b"'")
+            add_line(text, name, lack_text(option), option, b"'")
         }
         Refusal::NotTaken(option) => {
             add_line(
@@ -260,7 +260,7 @@ pub(crate) fn add_absent(text: &mut Word, name: &[u8], path: &[u8]) -> Result<()
 }
 
 /// The text about an output that is an input.
-pub(crate) fn overwritten(alloc: Global, name: &[u8], output: &[u8]) -> Result<Word, AllocError>
+pub(crate) fn overwrite_text(alloc: Global, name: &[u8], output: &[u8]) -> Result<Word, AllocError>
     ensures { IfOk result (λ text. text ≡ overwritten_text name.now output.now) }
 {
     let mut text = Word::from_bytes(alloc, name)?;
@@ -302,7 +302,7 @@ fn add_writing(text: &mut Word, specs: &[u8], machine: &[u8]) -> Result<(), Allo
 
 /// The text about a file that `gdrv-write-specs` writes, and that is not there or is not what it
 /// writes.
-pub(crate) fn unwritten(
+pub(crate) fn unwritten_text(
     alloc: Global,
     name: &[u8],
     before: &[u8],
@@ -332,7 +332,7 @@ fn add_gone(text: &mut Word, name: &[u8], specs: &[u8], machine: &[u8]) -> Resul
 }
 
 /// The text after a run that did not find a program.
-pub(crate) fn gone(
+pub(crate) fn gone_text(
     alloc: Global,
     name: &[u8],
     specs: &[u8],
@@ -436,7 +436,7 @@ pub(crate) fn no_specs_text(
 ) -> Result<Word, AllocError>
     ensures { IfOk result (λ text. text ≡ no_specs_text name.now path.now machine.now) }
 {
-    unwritten(alloc, name, b"there is no spec file '", path, path, machine)
+    unwritten_text(alloc, name, b"there is no spec file '", path, path, machine)
 }
 
 /// The text about a spec file beside which no compiler is named.
@@ -449,7 +449,7 @@ pub(crate) fn no_compiler_text(
     ensures { IfOk result (λ text. text ≡ no_compiler_text name.now specs.now machine.now) }
 {
     let path = companion(alloc, specs, b".gcc")?;
-    unwritten(
+    unwritten_text(
         alloc,
         name,
         b"no compiler is named by '",
@@ -469,7 +469,7 @@ pub(crate) fn damaged_text(
 ) -> Result<Word, AllocError>
     ensures { IfOk result (λ text. text ≡ damaged_text name.now path.now specs.now machine.now) }
 {
-    unwritten(
+    unwritten_text(
         alloc,
         name,
         b"missing or damaged file '",

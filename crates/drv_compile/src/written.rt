@@ -6,7 +6,7 @@ ghost use Rattle.std.specs.Prelude.{◌≡◌, nat_eq};
 ghost use Rattle.std.specs.Cmp.Lexicographic.{pointwise};
 
 use crate::calling::before_ending;
-use drv_words::parted;
+use drv_words::split_at_last;
 use itoa::Buffer;
 
 /// Whether a line is the mark of a file with this many bytes before it.
@@ -24,6 +24,6 @@ fn is_mark(line: &[u8], size: usize) -> bool
 pub fn whole_lines(text: &[u8]) -> Option<&[u8]>
     ensures { option_copied result ≡ whole_lines text.now }
 {
-    let (lines, mark) = parted(b'\n', before_ending(b"\n", text)?)?;
+    let (lines, mark) = split_at_last(b'\n', before_ending(b"\n", text)?)?;
     is_mark(mark, lines.len() + 1).then_some(lines)
 }

@@ -37,8 +37,8 @@ use Rattle.std.proofs.Common.{◌≡◌, ◌⊎◌, ◌∙◌, Err, IsErrAnd, Li
 -- give these words. `line_read words` is the line of words, or a refusal.
 
 -- a call that ends without work
-ended_as : (F : Facts) (args : List (List ℕ)) (seed : ℕ) (ending : Ending) (result : Result Work Ending) → IsErrAnd result (λ e. e ≡ ending)
-    → Comes F args seed (Err ending) → Comes F args seed result
+pub ended_as : (F : Facts) (args : List (List ℕ)) (seed : ℕ) (ending : Ending) (result : Result Work Ending)
+    → IsErrAnd result (λ e. e ≡ ending) → Comes F args seed (Err ending) → Comes F args seed result
 ended_as F args seed ending (Ok work) is comes = absurd is
 ended_as F args seed ending (Err e) is comes = subst (λ e'. Comes F args seed (Err e')) (sym is) comes
 

@@ -18,9 +18,9 @@ ghost use Rattle.drv_system.specs.Gives.{GivesKnown};
 ghost use Rattle.std.specs.Prelude.{◌≢◌, IfErr};
 
 use crate::ending::Ending;
-use crate::fronting::words_of;
+use crate::reading::line_of_args;
 use crate::work::{Work, work_with};
-use drv_args::{Line, Settings, read};
+use drv_args::{Line, Settings};
 use drv_plan::{PlanFault, plan};
 use drv_search::Prefixes;
 use drv_specs::{SpecSet, SpecsFault, builtin};
@@ -123,7 +123,7 @@ pub fn work_of<S: System>(
 /// # Errors
 /// The first refusal: of a spec file, or of the plan.
 #[tactic(auto, using(drv_system::proofs::AskedCalls::asked_further))]
-fn work_of_line<S: System>(
+pub(crate) fn work_of_line<S: System>(
     alloc: Global,
     line: &Line,
     seed: u32,
@@ -146,7 +146,7 @@ fn work_of_line<S: System>(
 /// # Errors
 /// The first refusal of these steps.
 #[tactic(auto, using(drv_system::proofs::AskedCalls::asked_further))]
-pub(crate) fn work_of_args<S: System>(
+fn work_of_args<S: System>(
     alloc: Global,
     args: Listing<Word>,
     seed: u32,
@@ -156,8 +156,7 @@ pub(crate) fn work_of_args<S: System>(
     ensures comes { (F : Facts) → Extends outside.new.facts.now F → Comes F args seed result }
     ensures apart { IfErr result (λ ending. IsApart ending) }
 {
-    let words = words_of(alloc, args, outside)?;
-    let line = read(alloc, &words)?;
+    let line = line_of_args(alloc, args, outside)?;
     work_of_line(alloc, &line, seed, outside)
 }
 

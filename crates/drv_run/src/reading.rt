@@ -1,10 +1,15 @@
 //! The line of a call.
 
-// In clauses: `Extends F G` says that G has every answer of F.
-ghost use Rattle.drv_run.specs.LineReads.{ComesLine};
+// In clauses: `Extends F G` says that G has every answer of F. `IsWindow` says that a number is from
+// 1 to 64. `IsApart` says that lack of memory is no refusal. `IsUnread` says that a call ended before
+// it had a line.
+ghost use Rattle.drv_run.specs.Calls.{IsWindow};
+ghost use Rattle.drv_run.specs.Drives.{IsApart};
+ghost use Rattle.drv_run.specs.LineReads.{ComesLine, IsUnread};
 ghost use Rattle.drv_system.specs.Asking.{Asks, Extends};
 ghost use Rattle.drv_system.specs.Code.Asked.{Asked};
 ghost use Rattle.drv_system.specs.Facts.{Facts};
+ghost use Rattle.std.specs.Prelude.{IfErr, IfOk};
 
 use crate::ending::Ending;
 use crate::fronting::words_of;
@@ -13,15 +18,21 @@ use drv_system::{FactTable, Outside, System};
 use drv_words::{Listing, Word};
 use std::alloc::Global;
 
-/// The line of arguments.
+/// The line of arguments. It asks the system only where the table has no answer.
+///
+/// # Errors
+/// The refusal of the words, or of the line.
 #[tactic(auto, using(drv_system::proofs::AskedCalls::asked_further))]
-fn line_of_args<S: System>(
+pub(crate) fn line_of_args<S: System>(
     alloc: Global,
     args: Listing<Word>,
     outside: &mut Outside<'_, S>,
 ) -> Result<Line, Ending>
     ensures asks { Asked S.events outside.old outside.new }
     ensures comes { (F : Facts) → Extends outside.new.facts.now F → ComesLine F args result }
+    ensures jobs { IfOk result (λ line. IsWindow line.settings.jobs) }
+    ensures apart { IfErr result (λ ending. IsApart ending) }
+    ensures unread { IfErr result (λ ending. IsUnread ending) }
 {
     let words = words_of(alloc, args, outside)?;
     let line = read(alloc, &words)?;
@@ -41,6 +52,9 @@ pub fn line_of_call<S: System>(
 ) -> Result<Line, Ending>
     ensures asks { Asks (S.events sys.old) (S.events sys.new) facts.old facts.new }
     ensures comes { (F : Facts) → Extends facts.new F → ComesLine F args result }
+    ensures jobs { IfOk result (λ line. IsWindow line.settings.jobs) }
+    ensures apart { IfErr result (λ ending. IsApart ending) }
+    ensures unread { IfErr result (λ ending. IsUnread ending) }
 {
     line_of_args(alloc, args, &mut Outside { sys, facts })
 }

@@ -3,8 +3,6 @@ use Rattle.drv_args.specs.declared.line.Settings.{Settings}
 use Rattle.drv_args.specs.declared.line.Switch.{Switch}
 use Rattle.drv_check.specs.FaultNotes.{fault_note}
 use Rattle.drv_run.specs.Drives.{specs_of, specs_over}
-use Rattle.drv_run.specs.LineReads.{ComesLine, ReadsLine}
-use Rattle.drv_run.specs.declared.ending.Ending.{Ending}
 use Rattle.drv_specs.specs.Builtin.{builtin_specs}
 use Rattle.drv_specs.specs.Sets.{Set}
 use Rattle.drv_system.specs.Facts.{Facts}
@@ -13,13 +11,7 @@ use Rattle.gdrv.specs.Meant.{HintsOf, hints_of, is_doubtful}
 use Rattle.std.proofs.Common.{◌≡◌, ◌∙◌, Bool, Err, IfOk, List, Ok, Result, [], ap, false, inl, inr, sym, ℕ}
 use Rattle.std.specs.List.{list_any}
 
--- For what is said after a call: its line, the note over its files, and its specs.
-
--- a line that a call gives is the line of its arguments
-pub line_reads : (F : Facts) (args : List (List ℕ)) (result : Result Line Ending) → ComesLine F args result
-    → IfOk result (λ line. ReadsLine F args line)
-line_reads F args (Ok line) comes = comes
-line_reads F args (Err ending) comes = tt
+-- For what is said after a call: the note over the files of its line, and its specs.
 
 -- the note over the built-in set is that over the set at hand
 pub note_builtin : {E : Type 0} (F : Facts) (settings : Settings) (set : Set) (folders names : List (List ℕ)) (result : Result (List ℕ) E)

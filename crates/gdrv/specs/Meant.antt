@@ -3,7 +3,6 @@ use Rattle.drv_args.specs.declared.line.Line.{Line}
 use Rattle.drv_args.specs.declared.line.Switch.{Switch}
 use Rattle.drv_check.specs.SwitchNames.{names_switch}
 use Rattle.drv_run.specs.Drives.{specs_of}
-use Rattle.drv_run.specs.LineReads.{ReadsLine}
 use Rattle.drv_specs.specs.Sets.{Set}
 use Rattle.drv_system.specs.Facts.{Facts}
 use Rattle.drv_system.specs.Known.{Is}
@@ -124,7 +123,3 @@ abbrev pub HintsOf : Facts → Line → List ℕ → Type 0
 HintsOf F line text =
     ((list_any is_doubtful line.switches ≡ false) × (text ≡ []))
     ⊎ ((set : Set) × (specs_of F line.settings ≡ Is (Ok set)) × (text ≡ hints_of set line.switches))
-
--- the hints on a call's line
-abbrev pub Hints : Facts → List (List ℕ) → List ℕ → Type 0
-Hints F args text = (line : Line) × ReadsLine F args line × HintsOf F line text

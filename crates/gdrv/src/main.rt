@@ -10,7 +10,7 @@ mod noting;
 mod question;
 mod records;
 
-use drv_run::{Ending, Refusal, drive_over, ending_text};
+use drv_run::{EndedCall, Ending, Refusal, drive_over, ending_text};
 use drv_system::{
     FactTable, HostSystem, Reporter, ScriptSystem, System, arguments, clock_seed, complain,
 };
@@ -65,7 +65,10 @@ fn answer(rt: &HostRuntime, asked: Question) -> ExitCode {
 /// What is said of a call after it ended: where a refused spec file has its fault, or which option a
 /// word may have been. Only answers of the call count, and what it did not ask is not there, so no
 /// file is read again.
-fn more_text(alloc: Global, ending: &Ending, args: Listing<Word>, facts: &mut FactTable) -> Word {
+fn more_text(alloc: Global, call: &EndedCall, facts: &mut FactTable) -> Word {
+    let Some(line) = &call.line else {
+        return Word::empty(alloc);
+    };
     let nothing = &mut ScriptSystem::new(
         alloc,
         Listing::new(alloc),
@@ -73,14 +76,16 @@ fn more_text(alloc: Global, ending: &Ending, args: Listing<Word>, facts: &mut Fa
         Listing::new(alloc),
         Listing::new(alloc),
     );
-    let text = match ending {
-        Ending::Refused(Refusal::Specs(_)) => place_noted(alloc, args, nothing, facts),
-        Ending::Done(_) | Ending::Refused(_) => hints(alloc, args, nothing, facts),
+    let text = match &call.ending {
+        Ending::Refused(Refusal::Specs(_)) => {
+            place_noted(alloc, &line.settings, nothing, facts).ok()
+        }
+        Ending::Done(_) | Ending::Refused(_) => hints(alloc, line, nothing, facts).ok(),
         Ending::OutOfMemory => return Word::empty(alloc),
     };
     match text {
-        Ok(text) => text,
-        Err(_) => Word::empty(alloc),
+        Some(text) => text,
+        None => Word::empty(alloc),
     }
 }
 
@@ -90,11 +95,10 @@ fn call(rt: &HostRuntime, args: Listing<Word>) -> Result<ExitCode, AllocError> {
     let seed = clock_seed(rt)?;
     let mut sys = HostSystem::new(rt.clone()?, Reporter::Gdrv);
     let has_own_specs = has_own_specs(args.as_slice());
-    let words = args.clone()?;
     let facts = &mut FactTable::new(rt.alloc());
-    let ending = drive_over(rt.alloc(), &mut sys, args, seed, facts);
-    let status = finish(rt, &ending);
-    complain(rt, more_text(rt.alloc(), &ending, words, facts).as_bytes());
+    let call = drive_over(rt.alloc(), &mut sys, args, seed, facts);
+    let status = finish(rt, &call.ending);
+    complain(rt, more_text(rt.alloc(), &call, facts).as_bytes());
     if !has_own_specs {
         tell_of_records(rt, sys.journal());
     }

@@ -9,7 +9,7 @@ ghost use Rattle.drv_system.specs.Facts.{Facts};
 ghost use Rattle.drv_system.specs.Known.{Is};
 ghost use Rattle.drv_words.specs.Bytes.{equals, hyphen};
 ghost use Rattle.gdrv.specs.Code.Doubts.{is_last, is_second};
-ghost use Rattle.gdrv.specs.Meant.{Hints, HintsOf, IsEdit, before, compared_part, hint_of, hint_text, hints_of};
+ghost use Rattle.gdrv.specs.Meant.{HintsOf, IsEdit, before, compared_part, hint_of, hint_text, hints_of};
 ghost use Rattle.gdrv.specs.Meant.{is_doubtful, is_front_edited, is_meant, is_near, is_single};
 ghost use Rattle.gdrv.specs.Meant.{is_swapped, long_options, meant_option, names_file, takes_equals, through};
 ghost use Rattle.gdrv.specs.Meant.{word_of};
@@ -17,13 +17,12 @@ ghost use Rattle.std.specs.List.{list_any, position};
 ghost use Rattle.std.specs.Option.{option_map};
 ghost use Rattle.std.specs.Prelude.{◌≡◌, ◌<◌, ◌==◌, ◌∷◌, ◌++◌, IfOk, IfSome, IsFalse, IsTrue, None, Ok, OnOk, drop, false, find, length, map, true};
 
-use crate::noting::line_asked;
 use drv_args::{Line, Settings, Switch};
 use drv_check::names_switch;
 use drv_run::{Ending, load_specs};
 use drv_specs::{SpecSet, builtin};
 use drv_system::{FactTable, Outside, System};
-use drv_words::{Listing, Word};
+use drv_words::Word;
 use std::alloc::{AllocError, Global};
 
 /// The options of the table that have five bytes or more.
@@ -387,35 +386,20 @@ fn hints_over<S: System>(
     Ok(text)
 }
 
-/// The lines about the words of a call.
-#[tactic(auto, using(drv_system::proofs::AskedCalls::asked_further))]
-fn hints_asked<S: System>(
-    alloc: Global,
-    args: Listing<Word>,
-    outside: &mut Outside<'_, S>,
-) -> Result<Word, Ending>
-    ensures asks { Asked S.events outside.old outside.new }
-    ensures hints { (F : Facts) → Extends outside.new.facts.now F
-        → IfOk result (λ text. Hints F args text) }
-{
-    let line = line_asked(alloc, args, outside)?;
-    let text = hints_over(alloc, &line, outside)?;
-    Ok(text)
-}
-
-/// A line for each word of a call that no spec text names and that is one letter away from an option
+/// A line for each word of a line that no spec text names and that is one letter away from an option
 /// of the driver. It asks the system only where the table has no answer.
 ///
 /// # Errors
-/// Lack of memory, or the refusal of the words or of a spec file.
+/// Lack of memory, or the refusal of a spec file.
 pub fn hints<S: System>(
     alloc: Global,
-    args: Listing<Word>,
+    line: &Line,
     sys: &mut S,
     facts: &mut FactTable,
 ) -> Result<Word, Ending>
     ensures asks { Asks (S.events sys.old) (S.events sys.new) facts.old facts.new }
-    ensures hints { (F : Facts) → Extends facts.new F → IfOk result (λ text. Hints F args text) }
+    ensures hints { (F : Facts) → Extends facts.new F
+        → IfOk result (λ text. HintsOf F line.now text) }
 {
-    hints_asked(alloc, args, &mut Outside { sys, facts })
+    hints_over(alloc, line, &mut Outside { sys, facts })
 }

@@ -1,6 +1,6 @@
 use Rattle.drv_cc.specs.Items.{items_of}
 use Rattle.drv_cc.specs.declared.item.Item.{Item}
-use Rattle.drv_compile.specs.Beside.{known_names, written}
+use Rattle.drv_compile.specs.Beside.{known_names, written_lines}
 use Rattle.drv_system.specs.Facts.{Facts}
 use Rattle.drv_system.specs.Known.{◌>>=◌, Is, Known}
 use Rattle.std.specs.Prelude.{List, None, Option, Some, ℕ}
@@ -14,7 +14,7 @@ items_named words (Some known) = Some (items_of known None words)
 
 -- that at a path, and that of the compiler beside a spec file
 abbrev pub items_at : Facts → List ℕ → List (List ℕ) → Known (Option (List Item))
-items_at F path words = written F path >>= λ known. Is (items_named words known)
+items_at F path words = written_lines F path >>= λ known. Is (items_named words known)
 
 -- the items of a line by the names of options beside a spec file
 abbrev pub items_beside : Facts → List ℕ → List (List ℕ) → Known (Option (List Item))

@@ -158,7 +158,7 @@ impl Called<'_> {
         sys: &mut S,
         out: &mut Transcript,
     ) -> Result<(), AllocError> {
-        let Some(function) = Function::named(self.name.as_bytes()) else {
+        let Some(function) = Function::by_name(self.name.as_bytes()) else {
             return out.add(b"no function");
         };
         let line = switches_of(alloc, self.switches)?;

@@ -104,7 +104,7 @@ impl Host<ScriptSystem> for ScriptHost {
     ghost notes = { λ host. host };
 
     /// The path that the script lists for a name; the question is noted.
-    fn resolved(&mut self, name: &Word) -> Result<Option<Word>, AllocError> {
+    fn resolve(&mut self, name: &Word) -> Result<Option<Word>, AllocError> {
         let asked = name.clone()?;
         let path = path_of(self.paths.as_slice(), name)?;
         let noted = path_copied(&path)?;

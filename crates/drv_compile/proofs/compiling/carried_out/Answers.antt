@@ -5,8 +5,8 @@ use Rattle.drv_compile.proofs.compiling.carried_out.Goals as goal
 
 pub returns-in-Ok-clause-carries : goal.returns-in-Ok-clause-carries
 returns-in-Ok-clause-carries g c =
-    carried c.args.name.now _ _ _ c.args.prepared.now _ _ _ c.spoken.result c.as_slice.ensures c.in-Ok.ensures.sets
-    c.in-Ok.ensures.unchanged c.spoken.ensures.does
+    carried c.args.name.now _ _ _ c.args.prepared.now _ _ _ c.say_and_carry_out.result c.as_slice.ensures c.in-Ok.ensures.sets
+    c.in-Ok.ensures.unchanged c.say_and_carry_out.ensures.does
 
 pub returns-in-Err-clause-carries : goal.returns-in-Err-clause-carries
 returns-in-Err-clause-carries g c = nothing_carried c.args.name.now _ _ c.args.prepared.now _ _ c.in-Err.ensures.sets

@@ -14,5 +14,5 @@ returns-in-Ok-clause-compiled g c journal notes before =
 pub returns-in-Err-clause-compiled : goal.returns-in-Err-clause-compiled
 returns-in-Err-clause-compiled g c journal notes before =
     let asks = c.prepare.ensures.asks.asks in
-    compiled_stopped c.args.calling.now c.args.own.now c.args.args.now c.args.seed c.in-Err.stop c.stopped.result
-    (going_further before (search rules)) c.in-Err.ensures.comes c.stopped.ensures.tells
+    compiled_stopped c.args.calling.now c.args.own.now c.args.args.now c.args.seed c.in-Err.stop c.say_stop.result
+    (going_further before (search rules)) c.in-Err.ensures.comes c.say_stop.ensures.tells

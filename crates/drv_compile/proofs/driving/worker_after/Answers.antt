@@ -11,9 +11,9 @@ returns-in_err-answer-clause-drives g c F e =
     c.from_residual.ensures.1 (c.in_err-answer.ensures.answers F e)
 
 pub returns-clause-asks : goal.returns-clause-asks
-returns-clause-asks g c = asked_further c.answer.ensures.asks c.answered.ensures.asks
+returns-clause-asks g c = asked_further c.answer.ensures.asks c.driver_of_answers.ensures.asks
 
 pub returns-clause-drives : goal.returns-clause-drives
 returns-clause-drives g c F e =
-    worker_answered F c.args.calling.now c.args.chain.now c.args.given.now c.args.first c.in_ok-answer.answer c.answered.result
-    (c.in_ok-answer.ensures.answers F (extends_before c.answered.ensures.asks e)) (c.answered.ensures.drives F e)
+    worker_answered F c.args.calling.now c.args.chain.now c.args.given.now c.args.first c.in_ok-answer.answer c.driver_of_answers.result
+    (c.in_ok-answer.ensures.answers F (extends_before c.driver_of_answers.ensures.asks e)) (c.driver_of_answers.ensures.drives F e)

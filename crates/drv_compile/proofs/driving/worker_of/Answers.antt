@@ -10,7 +10,7 @@ returns-in_err-first-clause-drives g c F e =
     c.from_residual.ensures.1 (c.in_err-first.ensures.calls F e)
 
 pub returns-in-Driver-clause-asks : goal.returns-in-Driver-clause-asks
-returns-in-Driver-clause-asks g c = asked_further c.called.ensures.asks c.worker_after.ensures.asks
+returns-in-Driver-clause-asks g c = asked_further c.driver_of_call.ensures.asks c.worker_after.ensures.asks
 
 pub returns-in-Driver-clause-drives : goal.returns-in-Driver-clause-drives
 returns-in-Driver-clause-drives g c F e =

@@ -13,6 +13,6 @@ returns-then-is_some-clause-text g c F e =
 
 pub returns-clause-text : goal.returns-clause-text
 returns-clause-text g c F e =
-    unset_objects F c.args.name.now c.args.inputs.now c.in_ok-value.value c.absent.result
-    (c.in_ok-value.ensures.value F (extends_before c.absent.ensures.asks e))
-    (sym c.is_some.ensures ∙ c.if-is_some.false) (c.absent.ensures.text F e)
+    unset_objects F c.args.name.now c.args.inputs.now c.in_ok-value.value c.absent_inputs_text.result
+    (c.in_ok-value.ensures.value F (extends_before c.absent_inputs_text.ensures.asks e))
+    (sym c.is_some.ensures ∙ c.if-is_some.false) (c.absent_inputs_text.ensures.text F e)

@@ -10,13 +10,13 @@ returns-in_err-driven-clause-plans g c F e =
     c.from_residual.ensures.1 (c.in_err-driven.ensures.drives F e)
 
 pub returns-in-Driver-clause-asks : goal.returns-in-Driver-clause-asks
-returns-in-Driver-clause-asks g c = asked_further c.worker_of.ensures.asks c.planned.ensures.asks
+returns-in-Driver-clause-asks g c = asked_further c.worker_of.ensures.asks c.prepare_plan.ensures.asks
 
 pub returns-in-Driver-clause-plans : goal.returns-in-Driver-clause-plans
 returns-in-Driver-clause-plans g c F e =
     prepared_by_driver F c.args.calling.now c.args.chain.now c.args.call c.args.args.now c.args.given.now c.args.seed _ c.in-Driver.driven
-    c.planned.result (c.in_ok-driven.ensures.drives F (extends_before c.planned.ensures.asks e)) c.in-Driver.is
-    (c.planned.ensures.plans F e)
+    c.prepare_plan.result (c.in_ok-driven.ensures.drives F (extends_before c.prepare_plan.ensures.asks e)) c.in-Driver.is
+    (c.prepare_plan.ensures.plans F e)
 
 pub returns-in_ok-prepared-in-Compiler-clause-plans : goal.returns-in_ok-prepared-in-Compiler-clause-plans
 returns-in_ok-prepared-in-Compiler-clause-plans g c F e =

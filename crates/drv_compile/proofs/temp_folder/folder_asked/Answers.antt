@@ -8,9 +8,9 @@ returns-in_err-names-clause-tries g c = nothing_tried _ _
 
 pub returns-clause-folder : goal.returns-clause-folder
 returns-clause-folder g c =
-    folder_chosen _ c.in_ok-names.names c.as_slice.result.now _ _ c.chosen.result c.as_slice.ensures c.in_ok-names.ensures.names
-    c.chosen.ensures.chooses
+    folder_chosen _ c.in_ok-names.names c.as_slice.result.now _ _ c.first_usable.result c.as_slice.ensures c.in_ok-names.ensures.names
+    c.first_usable.ensures.chooses
 
 pub returns-clause-tries : goal.returns-clause-tries
 returns-clause-tries g c = folder_tried _ c.in_ok-names.names c.as_slice.result.now _ _ c.as_slice.ensures c.in_ok-names.ensures.names
-    c.chosen.ensures.tries
+    c.first_usable.ensures.tries

@@ -1,7 +1,8 @@
-use Rattle.drv_run.proofs.LinesRead.{line_stops}
+use Rattle.drv_run.proofs.LinesRead.{args_unread, ends_unread, line_stops, words_unread}
 use Rattle.drv_run.proofs.Steps.{reading_ends, words_end}
 use Rattle.drv_run.proofs.reading.line_of_args.Goals as goal
 use Rattle.drv_run.specs.Drives.{stopped_by_args}
+use Rattle.drv_system.proofs.Asking.{extends_refl}
 use Rattle.std.proofs.Common.{Err, refl}
 
 -- line_of_args (src/reading.rt). The line of arguments.
@@ -22,3 +23,14 @@ returns-in_err-line-clause-comes g c F e =
 
 pub returns-clause-comes : goal.returns-clause-comes
 returns-clause-comes g c F e = (c.in_ok-words.words, c.in_ok-words.ensures.gives F e, c.in_ok-line.ensures.line)
+
+pub returns-in_err-words-clause-unread : goal.returns-in_err-words-clause-unread
+returns-in_err-words-clause-unread g c =
+    ends_unread c.in_err-words.field-0.0 c.from_residual.result c.from_residual.ensures.1
+    (words_unread c.words_of.new.outside.facts.now c.args.args c.in_err-words.field-0.0
+    (c.in_err-words.ensures.gives c.words_of.new.outside.facts.now (extends_refl c.words_of.new.outside.facts.now)))
+
+pub returns-in_err-line-clause-unread : goal.returns-in_err-line-clause-unread
+returns-in_err-line-clause-unread g c =
+    ends_unread (stopped_by_args c.in_err-line.field-0.0) c.from_residual-in_err-line.result c.from_residual-in_err-line.ensures.1
+    (args_unread c.in_err-line.field-0.0)

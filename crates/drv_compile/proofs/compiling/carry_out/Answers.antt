@@ -1,0 +1,16 @@
+use Rattle.drv_compile.proofs.Done.{longer_than, work_noted}
+use Rattle.drv_compile.proofs.compiling.carry_out.Goals as goal
+use Rattle.std.proofs.Common.{ap, length}
+
+-- carry_out (src/compiling.rt). Does what is prepared, and says the hint where its run does not find a program of the compiler, or else the
+-- remark.
+
+pub say_hint_or_remark-requires-clause-before : goal.say_hint_or_remark-requires-clause-before
+say_hint_or_remark-requires-clause-before g c =
+    longer_than _ _ _ c.args.name.now c.args.prepared.now c.in-Ok.status c.journal-before.ensures
+    c.in-Ok.ensures.does
+
+pub returns-in-Ok-clause-does : goal.returns-in-Ok-clause-does
+returns-in-Ok-clause-does g c =
+    work_noted c.args.name.now _ _ _ c.args.prepared.now c.in-Ok.status _ c.say_hint_or_remark.result
+    (ap length c.journal-before.ensures) c.in-Ok.ensures.does c.say_hint_or_remark.ensures.notes

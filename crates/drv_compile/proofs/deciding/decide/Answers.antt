@@ -1,0 +1,12 @@
+use Rattle.drv_compile.proofs.Decided.{decided_so}
+use Rattle.drv_compile.proofs.deciding.decide.Goals as goal
+use Rattle.drv_system.proofs.AskedCalls.{extends_before}
+
+-- decide (src/deciding.rt). What the words of a line ask for, response files expanded and those of c99 turned into gcc's, where the spec
+-- file of this program lies at `own`, if that is known.
+
+pub returns-clause-decision : goal.returns-clause-decision
+returns-clause-decision g c F e =
+    decided_so F c.args.own.now c.args.words.now c.in_ok-place.place c.in_ok-found.found c.in_ok-place-2.place c.decided_with.result
+    c.in_ok-place.ensures (c.in_ok-found.ensures.path F (extends_before c.decided_with.ensures.asks e)) c.in_ok-place-2.ensures
+    (c.decided_with.ensures.decision F e)

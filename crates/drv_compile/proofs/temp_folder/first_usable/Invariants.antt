@@ -1,0 +1,11 @@
+use Rattle.drv_compile.proofs.Settled.{Choosing, Trying}
+use Rattle.drv_compile.proofs.temp_folder.first_usable.Given as goal
+
+-- The loops of first_usable (src/temp_folder.rt). The first of names that is that of a folder in which files can be made, or else the
+-- folder of the call.
+
+abbrev pub invariant-loop-name : goal.invariant-loop-name
+invariant-loop-name g l = record {
+  chooses : Choosing l.names l.name-index (g.H.Host.notes l.fn.host) (g.H.Host.notes l.host);
+  tries : Trying l.names l.name-index (g.H.Host.notes l.fn.host) (g.H.Host.notes l.host);
+}

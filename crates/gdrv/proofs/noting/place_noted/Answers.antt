@@ -1,0 +1,10 @@
+use Rattle.gdrv.proofs.Noted.{note_builtin}
+use Rattle.gdrv.proofs.noting.place_noted.Goals as goal
+
+-- place_noted (src/noting.rt). Where the spec files of a line are refused, as a note.
+
+pub returns-clause-note : goal.returns-clause-note
+returns-clause-note g c F e =
+    note_builtin F c.args.settings.now c.in_ok-set.set c.as_slice-folders.result.now c.as_slice-names.result.now c.fault_note.result
+    c.in_ok-set.ensures
+    c.as_slice-folders.ensures c.as_slice-names.ensures (c.fault_note.ensures.note F e)
