@@ -1,16 +1,15 @@
 //! The words for options of a machine are added beside a spec file.
 
 use crate::alike::FolderName;
-use crate::asked::{Asked, Places};
-use crate::asking::{named, text};
+use crate::asking::{question_about, text};
 use crate::checking::Pair;
 use crate::fault::Fault;
-use crate::names::sorted;
+use crate::names::sort_lines;
 use crate::natives::with_natives;
 use crate::placing::{driver_at, stem_of};
 use crate::row_texts::Ways;
 use crate::rows::{Row, naming_in, push_names, push_row, row_of};
-use crate::work_folder::{WorkFolder, joined, write};
+use crate::work_folder::{WorkFolder, join, write};
 use drv_gcc::values;
 use drv_words::{Listing, Word};
 use std::alloc::Global;
@@ -65,7 +64,7 @@ fn text_of(alloc: Global, lines: &[Word]) -> Result<Word, Fault> {
 
 /// The lines of which none is a row of these options.
 fn other_lines(alloc: Global, lines: &[Word], key: &Word) -> Result<Listing<Word>, Fault> {
-    let mut beginning = named(alloc, b"machine ", key.as_bytes())?;
+    let mut beginning = question_about(alloc, b"machine ", key.as_bytes())?;
     beginning.push(b'\t')?;
     let mut others = Listing::new(alloc);
     for line in lines {
@@ -79,11 +78,11 @@ fn other_lines(alloc: Global, lines: &[Word], key: &Word) -> Result<Listing<Word
 /// Copies the files of a spec file into a folder of work.
 fn copy_files(rt: &HostRuntime, work: &WorkFolder, stem: &Word) -> Result<(), Fault> {
     for ending in ENDINGS {
-        let path = joined(rt.alloc(), stem, ending)?;
+        let path = join(rt.alloc(), stem, ending)?;
         if let Ok(content) = fs::read(rt, text(path.as_bytes())?) {
             write(
                 rt,
-                &joined(rt.alloc(), &work.stem, ending)?,
+                &join(rt.alloc(), &work.stem, ending)?,
                 content.as_slice(),
             )?;
         }
@@ -92,21 +91,8 @@ fn copy_files(rt: &HostRuntime, work: &WorkFolder, stem: &Word) -> Result<(), Fa
 }
 
 /// The row of these options, for a gcc with these folders.
-fn row_for(
-    rt: &HostRuntime,
-    work: &WorkFolder,
-    gcc: &Word,
-    folders: &[Word],
-    naming: FolderName,
-    key: &Word,
-) -> Result<Row, Fault> {
-    let asked = Asked {
-        rt,
-        work,
-        gcc,
-        option: key,
-        places: Places::Searched,
-    };
+fn row_for(pair: Pair<'_>, folders: &[Word], naming: FolderName, key: &Word) -> Result<Row, Fault> {
+    let asked = pair.asked(key);
     let (_, probes) = with_natives(asked, asked.own_texts()?, Ways::Rows)?;
     match row_of(asked, probes.as_slice(), folders, naming)? {
         Some(row) => Ok(row),
@@ -127,28 +113,22 @@ fn put_row(
     let mut whole = text_of(alloc, others.as_slice())?;
     push_row(&mut whole, row)?;
     work.put(rt, b".gcc", &whole)?;
-    let options = lines_of(rt, &joined(alloc, stem, b".options")?)?;
+    let options = lines_of(rt, &join(alloc, stem, b".options")?)?;
     let mut names = text_of(alloc, options.as_slice())?;
     push_names(&mut names, row)?;
-    work.put(rt, b".options", &sorted(alloc, &names)?)
+    work.put(rt, b".options", &sort_lines(alloc, &names)?)
 }
 
 /// Adds the row of these options in a folder of work, tries it, and puts it in place.
-fn add_in(
-    rt: &HostRuntime,
-    work: &WorkFolder,
-    stem: &Word,
-    lines: &[Word],
-    gcc: &Word,
-    key: &Word,
-) -> Result<(), Fault> {
+fn add_in(pair: Pair<'_>, stem: &Word, lines: &[Word], key: &Word) -> Result<(), Fault> {
+    let Pair { rt, work, .. } = pair;
     copy_files(rt, work, stem)?;
     let whole = text_of(rt.alloc(), lines)?;
     let folders = values(rt.alloc(), b"folder ", whole.as_bytes())?;
     let naming = naming_in(rt.alloc(), whole.as_bytes())?;
-    let row = row_for(rt, work, gcc, folders.as_slice(), naming, key)?;
+    let row = row_for(pair, folders.as_slice(), naming, key)?;
     put_row(rt, work, stem, lines, &row)?;
-    if (Pair { rt, work, gcc }).is_other(key)? {
+    if pair.is_other(key)? {
         return Err(Fault::NoRow(key.clone()?));
     }
     work.place_file(rt, stem, b".options")?;
@@ -170,12 +150,17 @@ fn gcc_with_rows(alloc: Global, path: &Word, lines: &[Word]) -> Result<Word, Fau
 /// that file. If its plans by them differ from gcc's, nothing is written.
 pub fn add_words(rt: &HostRuntime, output: &Word, options: &[Word]) -> Result<(), Fault> {
     let stem = stem_of(rt, output)?;
-    let path = joined(rt.alloc(), &stem, b".gcc")?;
+    let path = join(rt.alloc(), &stem, b".gcc")?;
     let lines = lines_of(rt, &path)?;
     let gcc = gcc_with_rows(rt.alloc(), &path, lines.as_slice())?;
     let key = key_of(rt.alloc(), options)?;
     let work = WorkFolder::new(rt, &stem, &driver_at(rt)?)?;
-    let done = add_in(rt, &work, &stem, lines.as_slice(), &gcc, &key);
+    let pair = Pair {
+        rt,
+        work: &work,
+        gcc: &gcc,
+    };
+    let done = add_in(pair, &stem, lines.as_slice(), &key);
     work.remove(rt);
     done
 }

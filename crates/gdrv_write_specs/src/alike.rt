@@ -1,6 +1,6 @@
 //! Texts that are alike for each library in a folder of its own: one takes the place of all.
 
-use crate::asking::named;
+use crate::asking::question_about;
 use crate::fault::Fault;
 use crate::gathering::nothing;
 use crate::machines::{Facts, MachineText};
@@ -104,7 +104,7 @@ pub fn for_all(
     if !are_alike(alloc, rest, part, &text)? {
         return Ok(None);
     }
-    let test = named(alloc, b"-gdrv-multi=", b"*")?;
+    let test = question_about(alloc, b"-gdrv-multi=", b"*")?;
     Ok(Some(ForMachine { test, text }))
 }
 

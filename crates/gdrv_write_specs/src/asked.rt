@@ -1,6 +1,7 @@
 //! A gcc that is asked.
 
-use crate::asking::{Said, answer, ask, commands, named};
+use crate::asking::{Said, answer, ask, commands, question_about};
+use crate::checking::Pair;
 use crate::fault::Fault;
 use crate::work_folder::WorkFolder;
 use drv_words::{Listing, Word};
@@ -26,6 +27,19 @@ pub struct Asked<'a> {
     pub places: Places,
 }
 
+impl<'a> Pair<'a> {
+    /// The gcc of the pair, asked with an option.
+    pub fn asked(self, option: &'a Word) -> Asked<'a> {
+        Asked {
+            rt: self.rt,
+            work: self.work,
+            gcc: self.gcc,
+            option,
+            places: Places::Searched,
+        }
+    }
+}
+
 impl<'a> Asked<'a> {
     pub fn alloc(self) -> Global {
         self.rt.alloc()
@@ -33,7 +47,7 @@ impl<'a> Asked<'a> {
 
     /// A line with the option.
     fn with_option(self, line: &[u8]) -> Result<Word, Fault> {
-        let mut whole = named(self.alloc(), line, b" ")?;
+        let mut whole = question_about(self.alloc(), line, b" ")?;
         whole.extend_from_slice(self.option.as_bytes())?;
         Ok(whole)
     }
@@ -46,7 +60,7 @@ impl<'a> Asked<'a> {
 
     /// The answer to a question about a name.
     pub fn answer(self, question: &[u8], name: &[u8]) -> Result<Word, Fault> {
-        let line = named(self.alloc(), question, name)?;
+        let line = question_about(self.alloc(), question, name)?;
         let whole = self.with_option(line.as_bytes())?;
         answer(self.rt, &self.work.lines, self.gcc, whole.as_bytes())
     }
@@ -62,7 +76,7 @@ impl<'a> Asked<'a> {
     }
 
     /// The commands that gcc plans for a line.
-    pub fn planned(self, line: &[u8]) -> Result<Listing<Listing<Word>>, Fault> {
+    pub fn plan(self, line: &[u8]) -> Result<Listing<Listing<Word>>, Fault> {
         commands(self.alloc(), self.ask(line)?.err.as_bytes())
     }
 }

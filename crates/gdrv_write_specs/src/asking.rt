@@ -84,7 +84,7 @@ pub fn answer(rt: &HostRuntime, at: &Word, program: &Word, line: &[u8]) -> Resul
 }
 
 /// A question of a name: these bytes and the name.
-pub fn named(alloc: Global, question: &[u8], name: &[u8]) -> Result<Word, Fault> {
+pub fn question_about(alloc: Global, question: &[u8], name: &[u8]) -> Result<Word, Fault> {
     let mut line = Word::from_bytes(alloc, question)?;
     line.extend_from_slice(name)?;
     Ok(line)

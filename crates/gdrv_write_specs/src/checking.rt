@@ -2,6 +2,7 @@
 
 use crate::asking::{Said, ask, commands};
 use crate::fault::Fault;
+use crate::finding::has_bytes;
 use crate::listing::option_list;
 use crate::refusing::{Answer, answer_to};
 use crate::work_folder::WorkFolder;
@@ -61,8 +62,9 @@ const ROOT_LINES: [&[u8]; 3] = [
 /// The lines that are compared with each option for a machine.
 const MACHINE_LINES: [&[u8]; 3] = [b"-c x.c -o made", b"-c x.S -o made", b"x.o -o made"];
 
-/// Options that gcc's driver takes only where its texts name them.
-const NAMED: [&[u8]; 14] = [
+/// Options that gcc's driver takes only where its texts name them, or for some machines (`-G`).
+const NAMED: [&[u8]; 15] = [
+    b"-G",
     b"-nolibc",
     b"-pthread",
     b"-rdynamic",
@@ -81,14 +83,17 @@ const NAMED: [&[u8]; 14] = [
 
 /// Options other than `-m..` by which a gcc may choose other words for its machine: a line with one
 /// has its plan, or is refused.
-const OTHERS: [&[u8]; 15] = [
+const OTHERS: [&[u8]; 18] = [
     b"-fopenmp",
+    b"-fopenacc",
     b"-fpic",
     b"-fPIC",
     b"-fpie",
     b"-fPIE",
     b"-fno-pic",
+    b"-fno-PIC",
     b"-fno-pie",
+    b"-fno-PIE",
     b"-pie",
     b"-no-pie",
     b"-static",
@@ -98,6 +103,9 @@ const OTHERS: [&[u8]; 15] = [
     b"-ffast-math",
     b"-fno-fast-math",
 ];
+
+/// Such options that are compared where there is no link.
+const COMPILED: [&[u8]; 2] = [b"-fgnu-tm", b"-ftree-parallelize-loops=2"];
 
 /// Two drivers that are compared in a folder of work.
 #[derive(Clone, Copy)]
@@ -187,7 +195,7 @@ impl<'a> Pair<'a> {
     }
 
     /// The lines whose plans differ.
-    pub fn differing(self) -> Result<Listing<Word>, Fault> {
+    pub fn differences(self) -> Result<Listing<Word>, Fault> {
         let mut lines = Listing::new(self.rt.alloc());
         for line in LINES {
             self.add_unlike(line, &mut lines)?;
@@ -219,16 +227,34 @@ impl<'a> Pair<'a> {
         Ok(false)
     }
 
+    /// Adds those of these options that this driver would carry out otherwise in a line.
+    fn add_otherwise(
+        self,
+        line: &[u8],
+        options: &[&[u8]],
+        others: &mut Listing<Word>,
+    ) -> Result<(), Fault> {
+        for option in options {
+            if let Verdict::Other = self.verdict(line, option)? {
+                others.push(Word::from_bytes(self.rt.alloc(), option)?)?;
+            }
+        }
+        Ok(())
+    }
+
     /// The options for no machine that this driver would carry out otherwise.
     pub fn chosen_otherwise(self) -> Result<Listing<Word>, Fault> {
         let mut others = Listing::new(self.rt.alloc());
-        for option in OTHERS {
-            let word = Word::from_bytes(self.rt.alloc(), option)?;
-            if let Verdict::Other = self.verdict(b"x.c -o made", option)? {
-                others.push(word)?;
-            }
-        }
+        self.add_otherwise(b"x.c -o made", &OTHERS, &mut others)?;
+        self.add_otherwise(b"-c x.c -o made", &COMPILED, &mut others)?;
         Ok(others)
+    }
+
+    /// Whether the gcc leaves an option out of the line, as one that it supports no longer.
+    pub fn is_dropped(self, option: &Word) -> Result<bool, Fault> {
+        let line = shown_line(self.rt.alloc(), b"-c x.c -o made", option.as_bytes(), false)?;
+        let said = self.show(self.gcc, &line)?;
+        Ok(said.is_done && has_bytes(said.err.as_bytes(), b"is no longer supported"))
     }
 
     /// The options that the gcc lacks because its texts don't name them.
@@ -236,7 +262,7 @@ impl<'a> Pair<'a> {
         let mut unnamed = Listing::new(self.rt.alloc());
         for option in NAMED {
             let word = Word::from_bytes(self.rt.alloc(), option)?;
-            if let Answer::Lacks = answer_to(self.rt, self.work, self.gcc, &word)? {
+            if let Answer::Lacks = answer_to(self, &word)? {
                 unnamed.push(word)?;
             }
         }

@@ -1,6 +1,6 @@
 //! The words that a gcc adds for its machine count as words of the line.
 
-use crate::asking::named;
+use crate::asking::question_about;
 use crate::fault::Fault;
 use crate::machines::test_of;
 use drv_gcc::{MachineWord, replace};
@@ -9,7 +9,7 @@ use std::alloc::Global;
 
 /// A form of texts: a test, what follows it, and the end.
 fn form_of(alloc: Global, test: &[u8], body: &[u8], end: &[u8]) -> Result<Word, Fault> {
-    let mut form = named(alloc, b"%{", test)?;
+    let mut form = question_about(alloc, b"%{", test)?;
     form.extend_from_slice(body)?;
     form.extend_from_slice(end)?;
     Ok(form)
@@ -17,14 +17,14 @@ fn form_of(alloc: Global, test: &[u8], body: &[u8], end: &[u8]) -> Result<Word, 
 
 /// The end of the form for a word with a value where gcc adds it.
 fn end_of_default(alloc: Global, word: &[u8]) -> Result<Word, Fault> {
-    let mut end = named(alloc, b";:", word)?;
+    let mut end = question_about(alloc, b";:", word)?;
     end.push(b'}')?;
     Ok(end)
 }
 
 /// The form of texts for a word with a value, and the same for a line where gcc adds it.
 fn value_form(alloc: Global, test: &[u8], name: &[u8], word: &[u8]) -> Result<(Word, Word), Fault> {
-    let mut body = named(alloc, b":-", name)?;
+    let mut body = question_about(alloc, b":-", name)?;
     body.extend_from_slice(b"%*")?;
     let end = end_of_default(alloc, word)?;
     let form = form_of(alloc, test, body.as_bytes(), b"}")?;
@@ -39,7 +39,7 @@ fn plain_form(alloc: Global, test: &[u8], unless: &[Word]) -> Result<(Word, Word
     match unless {
         [_, only] => {
             let other = form_of(alloc, test, b"|!", only.as_bytes())?;
-            Ok((form, named(alloc, other.as_bytes(), b":")?))
+            Ok((form, question_about(alloc, other.as_bytes(), b":")?))
         }
         _ => Ok((form_of(alloc, test, b"", b":")?, form)),
     }

@@ -1,15 +1,15 @@
 //! The spec files of a gcc's devices. It reads one for each line: that of the device which an option
 //! of the line names, or of a usual one.
 
-use crate::asked::{Asked, Places};
-use crate::asking::{ask, named, text};
+use crate::asked::Asked;
+use crate::asking::{ask, question_about, text};
+use crate::checking::Pair;
 use crate::fault::Fault;
 use crate::finding::has_bytes;
-use crate::names::sorted;
+use crate::names::sort_lines;
 use crate::natives::add_probe;
-use crate::work_folder::WorkFolder;
 use drv_gcc::{replace, values};
-use drv_words::{Listing, Word, parted};
+use drv_words::{Listing, Word, split_at_last};
 use itoa::Buffer;
 use std::alloc::Global;
 use std::fs;
@@ -27,16 +27,13 @@ const GUARDED: [(&[u8], &[u8]); 4] = [
     ),
     (b"*cc1_options:\n", b"*cc1_options:\n%(device_alone) "),
     (b"*asm_options:\n", b"*asm_options:\n%(device_alone) "),
-    (b"*link:\n", b"*link:\n%(device_alone) %(device_whole) "),
+    (b"*link:\n", b"*link:\n%(device_alone) "),
 ];
 
 /// What these beginnings refuse: a folder of the line may have another spec file for its device, and
-/// a spec file of the line comes before that. The linker's plugin would hand on the name of a device
-/// beside gcc's words for it.
+/// a spec file of the line comes before that.
 const ALONE: &[u8] = b"*device_alone:\n\
-    %{-gdrv-dirs:%e-B and -specs= beside the spec file of a device are not in this spec file}\n\n\
-    *device_whole:\n\
-    %{-gdrv-device:%{flto*:%{!fno-lto:%e-flto in a link for a device is not in this spec file}}}\n\n";
+    %{-gdrv-dirs:%e-B and -specs= beside the spec file of a device are not in this spec file}\n\n";
 
 /// The text of devices that names a library, and the option without which it does.
 const LIBRARY: &[u8] = b"avrlibc_devicelib";
@@ -73,7 +70,7 @@ fn push_passed(texts: &mut Word, name: &[u8], number: usize) -> Result<(), Fault
 }
 
 /// A dump that refuses lines of which the device may have another spec file.
-fn guarded(alloc: Global, dump: Word) -> Result<Word, Fault> {
+fn guard(alloc: Global, dump: Word) -> Result<Word, Fault> {
     let mut texts = dump;
     for (head, other) in GUARDED {
         texts = replace(alloc, texts.as_bytes(), head, other)?;
@@ -94,7 +91,7 @@ impl<'a> Asked<'a> {
     /// The folder of its devices' spec files; empty if it has none.
     pub fn device_folder(self) -> Result<Word, Fault> {
         for path in self.files_read()?.as_slice() {
-            let parts = parted(b'/', path.as_bytes());
+            let parts = split_at_last(b'/', path.as_bytes());
             if let (true, Some((folder, _))) = (is_of_device(path.as_bytes()), parts) {
                 return Ok(Word::from_bytes(self.alloc(), folder)?);
             }
@@ -111,14 +108,14 @@ impl<'a> Asked<'a> {
                 names.push(b'\n')?;
             }
         }
-        let lines = sorted(self.alloc(), &names)?;
+        let lines = sort_lines(self.alloc(), &names)?;
         Ok(values(self.alloc(), b"specs-", lines.as_bytes())?)
     }
 
     /// Adds the names of the texts that a device's spec file puts, a line each.
     fn add_names(self, folder: &Word, device: &Word, names: &mut Word) -> Result<(), Fault> {
-        let start = named(self.alloc(), folder.as_bytes(), b"/specs-")?;
-        let path = named(self.alloc(), start.as_bytes(), device.as_bytes())?;
+        let start = question_about(self.alloc(), folder.as_bytes(), b"/specs-")?;
+        let path = question_about(self.alloc(), start.as_bytes(), device.as_bytes())?;
         let content = fs::read(self.rt, text(path.as_bytes())?)?;
         for line in values(self.alloc(), b"*", content.as_slice())?.as_slice() {
             if let Some(name) = line.as_bytes().strip_suffix(b":".as_slice()) {
@@ -136,7 +133,7 @@ impl<'a> Asked<'a> {
         for device in self.devices_in(folder)?.as_slice() {
             self.add_names(folder, device, &mut names)?;
         }
-        let lines = sorted(self.alloc(), &names)?;
+        let lines = sort_lines(self.alloc(), &names)?;
         let mut texts = Listing::new(self.alloc());
         for name in values(self.alloc(), b"", lines.as_bytes())?.into_vec() {
             if !name.is_empty() && name.as_bytes() != b"self_spec".as_slice() {
@@ -153,7 +150,7 @@ impl<'a> Asked<'a> {
         texts: &mut Word,
         probes: &mut Listing<Word>,
     ) -> Result<(), Fault> {
-        let mut call = named(self.alloc(), b"%(", name.as_bytes())?;
+        let mut call = question_about(self.alloc(), b"%(", name.as_bytes())?;
         call.push(b')')?;
         push_passed(texts, name.as_bytes(), probes.len())?;
         let own = add_probe(self, &call, probes)?;
@@ -167,7 +164,7 @@ impl<'a> Asked<'a> {
         if folder.is_empty() {
             return Ok(dump);
         }
-        let mut texts = guarded(self.alloc(), dump)?;
+        let mut texts = guard(self.alloc(), dump)?;
         for name in self.texts_in(&folder)?.as_slice() {
             self.add_text(name, &mut texts, probes)?;
         }
@@ -176,14 +173,7 @@ impl<'a> Asked<'a> {
 }
 
 /// Whether a gcc has spec files of devices.
-pub fn has_devices(rt: &HostRuntime, work: &WorkFolder, gcc: &Word) -> Result<bool, Fault> {
-    let option = Word::empty(rt.alloc());
-    let asked = Asked {
-        rt,
-        work,
-        gcc,
-        option: &option,
-        places: Places::Searched,
-    };
-    Ok(!asked.device_folder()?.is_empty())
+pub fn has_devices(pair: Pair<'_>) -> Result<bool, Fault> {
+    let option = Word::empty(pair.rt.alloc());
+    Ok(!pair.asked(&option).device_folder()?.is_empty())
 }

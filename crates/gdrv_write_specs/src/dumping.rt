@@ -1,7 +1,7 @@
 //! The texts of a gcc: its dump, and the spec files that it reads for each line.
 
 use crate::asked::{Asked, Places};
-use crate::asking::{ask, named, text};
+use crate::asking::{ask, question_about, text};
 use crate::devices::is_of_device;
 use crate::fault::Fault;
 use crate::parts::dump_of;
@@ -96,7 +96,7 @@ impl<'a> Asked<'a> {
             let Some(name) = file.as_bytes().strip_suffix(b"%s".as_slice()) else {
                 continue;
             };
-            let mut call = named(alloc, IF_EXISTS, file.as_bytes())?;
+            let mut call = question_about(alloc, IF_EXISTS, file.as_bytes())?;
             call.push(b')')?;
             let found = if self.path_of(name)?.is_empty() {
                 b"".as_slice()

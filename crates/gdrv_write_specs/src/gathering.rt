@@ -2,18 +2,18 @@
 
 use crate::alike::{folder_name, named_so};
 use crate::asked::{Asked, Places};
-use crate::asking::{commands, named};
+use crate::asking::{commands, question_about};
+use crate::checking::Pair;
 use crate::defaults::with_defaults;
 use crate::fault::Fault;
 use crate::finding::{command_named, has_word, word_beginning};
-use crate::machines::{Facts, MachineText, choice, facts_for, machine_of, own_folder};
+use crate::machines::{Facts, MachineText, Machines, facts_for, machine_of, own_folder};
 use crate::natives::with_natives;
 use crate::programs::is_folder;
 use crate::row_texts::{Ways, multilib_facts};
 use crate::rows::{Row, rows_of};
 use crate::texts_by_name::named_for;
 use crate::wording::{own_records, with_other_words};
-use crate::work_folder::WorkFolder;
 use drv_dump::{OurDump, pass_libraries, translate_dump};
 use drv_gcc::{
     Choice, Included, MachineOptions, MachineWord, NamedText, Programs, Toolchain, named_texts,
@@ -105,6 +105,10 @@ pub struct Gathered {
     own: Facts,
     /// What it does for those that an option chooses.
     others: Listing<Facts>,
+    /// The tests of options that it leaves out of a line.
+    pub dropped: Listing<Word>,
+    /// The tests of options that are refused whatever their values are.
+    pub valued: Listing<Word>,
     /// Its rows.
     pub rows: Listing<Row>,
     /// Where its words for its machines are.
@@ -141,8 +145,8 @@ impl<'a> Asked<'a> {
 
     /// The root that the linker is given; empty if none.
     fn root_with(self, words: &[u8]) -> Result<Word, Fault> {
-        let line = named(self.alloc(), b"-### x.o -o x ", words)?;
-        let planned = self.planned(line.as_bytes())?;
+        let line = question_about(self.alloc(), b"-### x.o -o x ", words)?;
+        let planned = self.plan(line.as_bytes())?;
         let link = match planned.as_slice().last() {
             Some(link) => link.as_slice(),
             None => &[],
@@ -152,21 +156,21 @@ impl<'a> Asked<'a> {
 
     /// What the assembler is given for `-g`; empty if nothing.
     fn records(self) -> Result<Word, Fault> {
-        let planned = self.planned(b"-### -g -c x.c -o x.o")?;
+        let planned = self.plan(b"-### -g -c x.c -o x.o")?;
         let assembler = command_named(planned.as_slice(), b"as").unwrap_or(&[]);
         word_beginning(self.alloc(), assembler, b"--gdwarf")
     }
 
     /// Whether the linker is given the root of the line.
     fn is_rooted(self) -> Result<bool, Fault> {
-        let words = named(self.alloc(), b"--sysroot=", self.work.root.as_bytes())?;
+        let words = question_about(self.alloc(), b"--sysroot=", self.work.root.as_bytes())?;
         Ok(self.root_with(words.as_bytes())?.as_bytes() == words.as_bytes())
     }
 
     /// The programs by the plans of a compilation, of which this is shown, and of a link.
     fn all_programs(self, shown: &Word) -> Result<Programs, Fault> {
         let compiling = commands(self.alloc(), shown.as_bytes())?;
-        let linking = self.planned(b"-### x.o -o x")?;
+        let linking = self.plan(b"-### x.o -o x")?;
         let (Some([cc1, ..]), Some([assembler, ..]), Some(link)) = (
             command_named(compiling.as_slice(), b"cc1"),
             command_named(compiling.as_slice(), b"as"),
@@ -271,7 +275,7 @@ impl<'a> Asked<'a> {
     }
 
     /// What is known of the gcc before its programs are asked for.
-    fn known(self, ways: Ways) -> Result<Known, Fault> {
+    fn known_facts(self, ways: Ways) -> Result<Known, Fault> {
         let translated = self.translate(ways)?;
         let machine = self.machine(ways)?;
         let own = self.own_machine(&translated, machine.as_slice())?;
@@ -365,14 +369,13 @@ pub fn nothing(alloc: Global) -> Choice {
 fn machine_options(
     alloc: Global,
     has_native: bool,
-    own: &Facts,
-    others: &[Facts],
+    machines: Machines<'_>,
 ) -> Result<MachineOptions, Fault> {
     Ok(MachineOptions {
         has_native,
-        usual: choice(alloc, own, others, MachineText::Usual)?,
-        native: choice(alloc, own, others, MachineText::Native)?,
-        tuned: choice(alloc, own, others, MachineText::Tuned)?,
+        usual: machines.choice(alloc, MachineText::Usual)?,
+        native: machines.choice(alloc, MachineText::Native)?,
+        tuned: machines.choice(alloc, MachineText::Tuned)?,
     })
 }
 
@@ -389,14 +392,13 @@ fn tests_of(alloc: Global, others: &[Facts]) -> Result<Listing<Word>, Fault> {
 fn choose_for(
     alloc: Global,
     toolchain: &mut Toolchain,
-    own: &Facts,
-    others: &[Facts],
+    machines: Machines<'_>,
     has_native: bool,
 ) -> Result<(), Fault> {
-    let include_words = choice(alloc, own, others, MachineText::IncludeWords)?;
-    let link_folders = choice(alloc, own, others, MachineText::LinkFolders)?;
-    let machine = machine_options(alloc, has_native, own, others)?;
-    let tests = tests_of(alloc, others)?;
+    let include_words = machines.choice(alloc, MachineText::IncludeWords)?;
+    let link_folders = machines.choice(alloc, MachineText::LinkFolders)?;
+    let machine = machine_options(alloc, has_native, machines)?;
+    let tests = tests_of(alloc, machines.others)?;
     toolchain.include_words = include_words;
     toolchain.link_folders = link_folders;
     toolchain.machine = machine;
@@ -407,14 +409,15 @@ fn choose_for(
 impl Gathered {
     /// The texts of the toolchain for each of its machines.
     pub fn choose(&mut self, alloc: Global) -> Result<(), Fault> {
-        let own = &self.own;
-        let others = self.others.as_slice();
+        let machines = Machines {
+            own: &self.own,
+            others: self.others.as_slice(),
+        };
         let named = named_for(
             alloc,
             self.names.as_slice(),
             self.probes.as_slice(),
-            own,
-            others,
+            machines,
             self.ways,
         )?;
         let records = NamedText {
@@ -422,7 +425,7 @@ impl Gathered {
             choice: own_records(alloc, self.records.as_bytes())?,
         };
         let is_native = matches!(self.ways, Ways::Texts) && !self.probes.is_empty();
-        choose_for(alloc, &mut self.toolchain, own, others, is_native)?;
+        choose_for(alloc, &mut self.toolchain, machines, is_native)?;
         if let Ways::Rows = self.ways {
             self.toolchain.tests = Listing::new(alloc);
         }
@@ -432,35 +435,22 @@ impl Gathered {
     }
 
     /// Asks for the rows.
-    pub fn add_rows(
-        &mut self,
-        rt: &HostRuntime,
-        work: &WorkFolder,
-        gcc: &Word,
-    ) -> Result<(), Fault> {
-        let libraries = multilib_facts(rt, work, gcc, &self.folder, self.names.as_slice())?;
+    pub fn add_rows(&mut self, pair: Pair<'_>) -> Result<(), Fault> {
+        let alloc = pair.rt.alloc();
+        let libraries = multilib_facts(pair, &self.folder, self.names.as_slice())?;
         let all = libraries.as_slice();
-        let naming = folder_name(rt.alloc(), &self.own, all, self.names.len())?;
-        self.others = named_so(rt.alloc(), libraries, naming);
+        let naming = folder_name(alloc, &self.own, all, self.names.len())?;
+        self.others = named_so(alloc, libraries, naming);
         let folders = self.toolchain.folders.as_slice();
-        self.rows = rows_of(rt, work, gcc, self.probes.as_slice(), folders, naming)?;
+        self.rows = rows_of(pair, self.probes.as_slice(), folders, naming)?;
         Ok(())
     }
 
     /// Asks for the machine that an option chooses. One that gcc plans nothing for is left out.
-    pub fn add_machine(
-        &mut self,
-        rt: &HostRuntime,
-        work: &WorkFolder,
-        gcc: &Word,
-        option: &Word,
-    ) -> Result<(), Fault> {
+    pub fn add_machine(&mut self, pair: Pair<'_>, option: &Word) -> Result<(), Fault> {
         let asked = Asked {
-            rt,
-            work,
-            gcc,
-            option,
             places: self.places,
+            ..pair.asked(option)
         };
         if let Some(machine) = machine_of(asked)? {
             self.others.push(facts_for(
@@ -475,39 +465,20 @@ impl Gathered {
     }
 }
 
-/// Where the texts of a gcc look for its files.
-fn places_of(rt: &HostRuntime, work: &WorkFolder, gcc: &Word) -> Result<Places, Fault> {
-    let option = Word::empty(rt.alloc());
-    let asked = Asked {
-        rt,
-        work,
-        gcc,
-        option: &option,
-        places: Places::Searched,
-    };
-    asked.places_of()
-}
-
 /// Asks a gcc for all that its spec file is made of. The texts for its machines are not chosen yet.
-pub fn gather(
-    rt: &HostRuntime,
-    work: &WorkFolder,
-    gcc: &Word,
-    ways: Ways,
-) -> Result<Gathered, Fault> {
-    let option = Word::empty(rt.alloc());
+pub fn gather(pair: Pair<'_>, ways: Ways) -> Result<Gathered, Fault> {
+    let alloc = pair.rt.alloc();
+    let option = Word::empty(alloc);
+    let plain = pair.asked(&option);
     let asked = Asked {
-        rt,
-        work,
-        gcc,
-        option: &option,
-        places: places_of(rt, work, gcc)?,
+        places: plain.places_of()?,
+        ..plain
     };
     let Known {
         translated,
         machine,
         own,
-    } = asked.known(ways)?;
+    } = asked.known_facts(ways)?;
     let Translated {
         texts,
         passed,
@@ -529,8 +500,10 @@ pub fn gather(
         places: asked.places,
         records,
         own: own.facts,
-        others: Listing::new(rt.alloc()),
-        rows: Listing::new(rt.alloc()),
+        others: Listing::new(alloc),
+        dropped: Listing::new(alloc),
+        valued: Listing::new(alloc),
+        rows: Listing::new(alloc),
         ways,
     })
 }

@@ -1,7 +1,7 @@
 //! The spec files that the texts of a gcc include.
 
 use crate::asked::Asked;
-use crate::asking::{named, text};
+use crate::asking::{question_about, text};
 use crate::fault::Fault;
 use crate::finding::has_bytes;
 use drv_dump::{OurDump, translate_dump};
@@ -38,14 +38,14 @@ fn texts_of_file(alloc: Global, content: &[u8]) -> Result<Word, Fault> {
 
 /// How a text of a dump begins that has the name of an included file.
 fn head_of(alloc: Global, name: &Word) -> Result<Word, Fault> {
-    let mut head = named(alloc, b"*include_", name.as_bytes())?;
+    let mut head = question_about(alloc, b"*include_", name.as_bytes())?;
     head.extend_from_slice(b":\n")?;
     Ok(head)
 }
 
 impl<'a> Asked<'a> {
     /// A spec file that the texts include.
-    fn included(self, name: &Word) -> Result<Included, Fault> {
+    fn inclusion(self, name: &Word) -> Result<Included, Fault> {
         let path = self.path_of(name.as_bytes())?;
         let (is_there, texts) = match fs::read(self.rt, text(path.as_bytes())?) {
             Ok(content) => (true, texts_of_file(self.alloc(), content.as_slice())?),
@@ -60,7 +60,7 @@ impl<'a> Asked<'a> {
 
     /// Adds a spec file that the texts include.
     fn add_included(self, name: &Word, included: &mut Listing<Included>) -> Result<(), Fault> {
-        let file = self.included(name)?;
+        let file = self.inclusion(name)?;
         included.push(file)?;
         Ok(())
     }

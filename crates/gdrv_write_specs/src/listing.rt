@@ -1,8 +1,8 @@
 //! The options that a gcc lists.
 
-use crate::asking::{ask, named};
+use crate::asking::{ask, question_about};
 use crate::fault::Fault;
-use crate::names::sorted;
+use crate::names::sort_lines;
 use crate::work_folder::WorkFolder;
 use drv_words::Word;
 
@@ -81,16 +81,16 @@ pub fn option_list(
     gcc: &Word,
     beginning: &[u8],
 ) -> Result<Word, Fault> {
-    let question = named(rt.alloc(), b"--completion=", beginning)?;
+    let question = question_about(rt.alloc(), b"--completion=", beginning)?;
     let said = ask(rt, &work.lines, gcc, question.as_bytes())?;
     if said.is_done {
         return Ok(said.out);
     }
     let mut list = Word::empty(rt.alloc());
     for class in CLASSES {
-        let question = named(rt.alloc(), b"--help=", class)?;
+        let question = question_about(rt.alloc(), b"--help=", class)?;
         let help = ask(rt, &work.lines, gcc, question.as_bytes())?;
         push_helped(&mut list, help.out.as_bytes(), beginning)?;
     }
-    sorted(rt.alloc(), &list)
+    sort_lines(rt.alloc(), &list)
 }

@@ -2,7 +2,7 @@
 
 use crate::alike::for_all;
 use crate::asked::{Asked, Places};
-use crate::asking::named;
+use crate::asking::question_about;
 use crate::fault::Fault;
 use crate::finding::{command_named, has_word, words_between};
 use crate::listing::option_list;
@@ -77,7 +77,7 @@ pub fn test_of(alloc: Global, option: &[u8]) -> Result<Word, Fault> {
 }
 
 /// Adds a test that a list lacks.
-fn add_test(tests: &mut Listing<Word>, test: Word) -> Result<(), Fault> {
+pub fn add_test(tests: &mut Listing<Word>, test: Word) -> Result<(), Fault> {
     if !has_word(tests.as_slice(), test.as_bytes()) {
         tests.push(test)?;
     }
@@ -137,7 +137,7 @@ fn without(alloc: Global, machine: &[MachineWord], tests: &[&[u8]]) -> Result<Wo
 
 /// The paths in which gcc looks for libraries below a root.
 fn library_paths(asked: Asked<'_>, root: &Word) -> Result<Listing<Word>, Fault> {
-    let line = named(
+    let line = question_about(
         asked.alloc(),
         b"-print-search-dirs --sysroot=",
         root.as_bytes(),
@@ -168,7 +168,7 @@ fn make_below(asked: Asked<'_>, root: &Word) -> Result<(), Fault> {
 
 /// The text for these words, of which one names gcc's own folder, and the last is apart.
 fn libraries_of(alloc: Global, own: &Word, words: &[Word], last: &Word) -> Result<Word, Fault> {
-    let own_word = named(alloc, b"-L", own.as_bytes())?;
+    let own_word = question_about(alloc, b"-L", own.as_bytes())?;
     let found = words
         .iter()
         .position(|it| it.as_bytes() == own_word.as_bytes());
@@ -194,8 +194,8 @@ fn libraries_in(alloc: Global, own: &Word, commands: &[Listing<Word>]) -> Result
 /// The texts for the folders that gcc shows with these words.
 fn folders_with(asked: Asked<'_>, own: &Word, words: &[u8]) -> Result<Folders, Fault> {
     let alloc = asked.alloc();
-    let line = named(alloc, b"-### -specs=probe x.c -o x ", words)?;
-    let probed = asked.planned(line.as_bytes())?;
+    let line = question_about(alloc, b"-### -specs=probe x.c -o x ", words)?;
+    let probed = asked.plan(line.as_bytes())?;
     Ok(Folders {
         headers: headers_in(alloc, probed.as_slice())?,
         libraries: libraries_in(alloc, own, probed.as_slice())?,
@@ -239,7 +239,7 @@ fn maybe_rooted(alloc: Global, plain: Word, rooted: &Word, root: &Word) -> Resul
     let below = rooted.as_bytes().get(end..).unwrap_or(b"");
     let name = root_in_text(alloc, root)?;
     let rest = rooted_text(alloc, own, below, name.as_bytes())?;
-    named(alloc, start, rest.as_bytes())
+    question_about(alloc, start, rest.as_bytes())
 }
 
 /// The texts for the folders, also with another root.
@@ -247,7 +247,7 @@ fn all_folders(asked: Asked<'_>, own: &Word) -> Result<Folders, Fault> {
     let alloc = asked.alloc();
     let root = &asked.work.root;
     make_below(asked, root)?;
-    let words = named(alloc, b"--sysroot=", root.as_bytes())?;
+    let words = question_about(alloc, b"--sysroot=", root.as_bytes())?;
     let plain = folders_with(asked, own, b"")?;
     let rooted = folders_with(asked, own, words.as_bytes())?;
     Ok(Folders {
@@ -330,9 +330,9 @@ fn value_in(alloc: Global, commands: &[Listing<Word>]) -> Result<Word, Fault> {
 /// What a probe of a function shows.
 fn value_of(asked: Asked<'_>, probe: &Word) -> Result<Word, Fault> {
     let alloc = asked.alloc();
-    let mut line = named(alloc, b"-### x.o -o x -specs=", probe.as_bytes())?;
+    let mut line = question_about(alloc, b"-### x.o -o x -specs=", probe.as_bytes())?;
     line.extend_from_slice(b" ")?;
-    let planned = asked.planned(line.as_bytes())?;
+    let planned = asked.plan(line.as_bytes())?;
     value_in(alloc, planned.as_slice())
 }
 
@@ -347,7 +347,7 @@ fn shown_by(asked: Asked<'_>, probes: &[Word]) -> Result<Listing<Word>, Fault> {
 
 /// The words that gcc adds for its machine, each left out where the line has it, if gcc compiles.
 fn compiled_words(asked: Asked<'_>) -> Result<Option<Listing<MachineWord>>, Fault> {
-    let planned = asked.planned(b"-### -c x.c -o x.o")?;
+    let planned = asked.plan(b"-### -c x.c -o x.o")?;
     match command_named(planned.as_slice(), b"cc1") {
         Some(cc1) => Ok(Some(added_words(asked.alloc(), asked.option, cc1)?)),
         None => Ok(None),
@@ -361,8 +361,8 @@ fn compare_option(
     option: &Word,
     machine: &mut [MachineWord],
 ) -> Result<bool, Fault> {
-    let line = named(asked.alloc(), b"-### -c x.c -o x.o ", option.as_bytes())?;
-    let planned = asked.planned(line.as_bytes())?;
+    let line = question_about(asked.alloc(), b"-### -c x.c -o x.o ", option.as_bytes())?;
+    let planned = asked.plan(line.as_bytes())?;
     let Some(cc1) = command_named(planned.as_slice(), b"cc1") else {
         return Ok(false);
     };
@@ -474,38 +474,39 @@ fn for_machine(alloc: Global, facts: &Facts, part: MachineText) -> Result<ForMac
     })
 }
 
-/// The texts of the machines of which it is another one.
-fn differing(
-    alloc: Global,
-    own: &Facts,
-    others: &[Facts],
-    part: MachineText,
-) -> Result<Listing<ForMachine>, Fault> {
-    let mut differing = Listing::new(alloc);
-    for it in others {
-        if it.text(part) != own.text(part) {
-            differing.push(for_machine(alloc, it, part)?)?;
-        }
-    }
-    Ok(differing)
+/// What a gcc does for its own machine, and for those that an option chooses.
+#[derive(Clone, Copy)]
+pub struct Machines<'a> {
+    /// What it does for its own.
+    pub own: &'a Facts,
+    /// What it does for each other one.
+    pub others: &'a [Facts],
 }
 
-/// A text for each machine: the gcc's own, and those of which it is another one.
-pub fn choice(
-    alloc: Global,
-    own: &Facts,
-    others: &[Facts],
-    part: MachineText,
-) -> Result<Choice, Fault> {
-    let mut chosen = differing(alloc, own, others, part)?;
-    if !chosen.is_empty() {
-        if let Some(one) = for_all(alloc, others, part)? {
-            chosen = Listing::new(alloc);
-            chosen.push(one)?;
+impl<'a> Machines<'a> {
+    /// The texts of the machines of which it is another one.
+    fn different(self, alloc: Global, part: MachineText) -> Result<Listing<ForMachine>, Fault> {
+        let mut differing = Listing::new(alloc);
+        for it in self.others {
+            if it.text(part) != self.own.text(part) {
+                differing.push(for_machine(alloc, it, part)?)?;
+            }
         }
+        Ok(differing)
     }
-    Ok(Choice {
-        own: Word::from_bytes(alloc, own.text(part))?,
-        others: chosen,
-    })
+
+    /// A text for each machine: the gcc's own, and those of which it is another one.
+    pub fn choice(self, alloc: Global, part: MachineText) -> Result<Choice, Fault> {
+        let mut chosen = self.different(alloc, part)?;
+        if !chosen.is_empty() {
+            if let Some(one) = for_all(alloc, self.others, part)? {
+                chosen = Listing::new(alloc);
+                chosen.push(one)?;
+            }
+        }
+        Ok(Choice {
+            own: Word::from_bytes(alloc, self.own.text(part))?,
+            others: chosen,
+        })
+    }
 }

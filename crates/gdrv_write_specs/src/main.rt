@@ -31,12 +31,12 @@ mod row_texts;
 mod rows;
 mod shortening;
 mod texts_by_name;
+mod version;
 mod wording;
 mod work_folder;
 
 use adding::add_words;
 use calling::{Call, CallFault, call_of};
-use drv_run::VERSION;
 use drv_system::{arguments, complain};
 use drv_words::Word;
 use fault::{Fault, misuse_text};
@@ -45,6 +45,7 @@ use placing::write_file;
 use std::alloc::AllocError;
 use std::io::{self, Write};
 use std::process::ExitCode;
+use version::VERSION;
 
 const OUT_OF_MEMORY: &[u8] = b"gdrv-write-specs: out of memory\n";
 
@@ -82,7 +83,7 @@ fn print_version(rt: &HostRuntime) -> ExitCode {
 }
 
 /// How a call ends.
-fn ended(rt: &HostRuntime, done: Result<(), Fault>) -> ExitCode {
+fn end_call(rt: &HostRuntime, done: Result<(), Fault>) -> ExitCode {
     match done {
         Ok(()) => ExitCode::from(0),
         Err(fault) => refuse(rt, fault.text(rt.alloc())),
@@ -94,8 +95,8 @@ fn act(rt: &HostRuntime, call: Result<Call, CallFault>) -> ExitCode {
     match call {
         Ok(Call::Help) => print(rt, HELP),
         Ok(Call::Version) => print_version(rt),
-        Ok(Call::Write(manner, output, gcc)) => ended(rt, write_file(rt, manner, &output, &gcc)),
-        Ok(Call::Add(output, options)) => ended(rt, add_words(rt, &output, options.as_slice())),
+        Ok(Call::Write(manner, output, gcc)) => end_call(rt, write_file(rt, manner, &output, &gcc)),
+        Ok(Call::Add(output, options)) => end_call(rt, add_words(rt, &output, options.as_slice())),
         Err(fault) => refuse(rt, misuse_text(rt.alloc(), &fault)),
     }
 }

@@ -1,19 +1,24 @@
 //! The options of a gcc by their names, as gdrv-cc reads them.
 
-use crate::asking::{ask, ask_words, commands, named};
+use crate::asking::{ask, ask_words, commands, question_about};
+use crate::checking::Pair;
 use crate::fault::Fault;
 use crate::finding::has_word;
 use crate::listing::option_list;
 use crate::refusing::{Answer, answer_to, refused_of};
-use crate::work_folder::WorkFolder;
 use drv_gcc::{option_lines, options, values};
 use drv_words::{Listing, Word, split};
 use std::alloc::Global;
 
 /// Whether a gcc calls `-mcpu=` by another name.
-fn calls_cpu_tune(rt: &HostRuntime, work: &WorkFolder, gcc: &Word) -> Result<bool, Fault> {
-    let shown = ask(rt, &work.lines, gcc, b"-### -S x.i -o made -mcpu=x")?;
-    let planned = commands(rt.alloc(), shown.err.as_bytes())?;
+fn calls_cpu_tune(pair: Pair<'_>) -> Result<bool, Fault> {
+    let shown = ask(
+        pair.rt,
+        &pair.work.lines,
+        pair.gcc,
+        b"-### -S x.i -o made -mcpu=x",
+    )?;
+    let planned = commands(pair.rt.alloc(), shown.err.as_bytes())?;
     Ok(
         planned.as_slice().iter().any(|command| {
             command
@@ -52,7 +57,7 @@ fn with_no_value(alloc: Global, known: &[Word]) -> Result<Listing<Word>, Fault> 
     let mut words = Listing::new(alloc);
     for option in known {
         if let Some(name) = open_name(option.as_bytes()) {
-            let word = named(alloc, name, b"?")?;
+            let word = question_about(alloc, name, b"?")?;
             if !has_word(words.as_slice(), word.as_bytes()) {
                 words.push(word)?;
             }
@@ -129,7 +134,7 @@ fn before_quote(line: &[u8]) -> (&[u8], &[u8]) {
 }
 
 /// The words of a list up to a semicolon.
-fn listed(alloc: Global, text: &[u8]) -> Result<Listing<Word>, Fault> {
+fn list_words(alloc: Global, text: &[u8]) -> Result<Listing<Word>, Fault> {
     let end = text
         .iter()
         .position(|byte| *byte == b';')
@@ -146,12 +151,12 @@ fn list_after(after: &[u8]) -> Option<&[u8]> {
 }
 
 /// What a text behind the name of an option says that the option takes, if it does.
-fn taken(alloc: Global, after: &[u8]) -> Result<Option<Takes>, Fault> {
+fn argument_of(alloc: Global, after: &[u8]) -> Result<Option<Takes>, Fault> {
     if after.starts_with(b" should be a non-negative integer") {
         return Ok(Some(Takes::Number));
     }
     if let Some(list) = list_after(after) {
-        return Ok(Some(Takes::Listed(listed(alloc, list)?)));
+        return Ok(Some(Takes::Listed(list_words(alloc, list)?)));
     }
     match between(alloc, after)? {
         Some(numbers) => Ok(Some(Takes::Listed(numbers))),
@@ -163,7 +168,7 @@ fn taken(alloc: Global, after: &[u8]) -> Result<Option<Takes>, Fault> {
 fn judged_in(alloc: Global, line: &[u8]) -> Result<Option<Judged>, Fault> {
     let (_, rest) = before_quote(line);
     let (name, after) = before_quote(rest);
-    match taken(alloc, after)? {
+    match argument_of(alloc, after)? {
         Some(takes) => Ok(Some(Judged {
             name: Word::from_bytes(alloc, name)?,
             takes,
@@ -173,23 +178,18 @@ fn judged_in(alloc: Global, line: &[u8]) -> Result<Option<Judged>, Fault> {
 }
 
 /// What a gcc says of these words.
-fn said_of(rt: &HostRuntime, work: &WorkFolder, gcc: &Word, tried: &[Word]) -> Result<Word, Fault> {
-    let mut words = split(rt.alloc(), b"-### -c x.s")?;
+fn said_of(pair: Pair<'_>, tried: &[Word]) -> Result<Word, Fault> {
+    let mut words = split(pair.rt.alloc(), b"-### -c x.s")?;
     for word in tried {
         words.push(word.clone()?)?;
     }
-    Ok(ask_words(rt, &work.lines, gcc, words.as_slice())?.err)
+    Ok(ask_words(pair.rt, &pair.work.lines, pair.gcc, words.as_slice())?.err)
 }
 
 /// What a gcc says of the values of these options.
-fn judgements(
-    rt: &HostRuntime,
-    work: &WorkFolder,
-    gcc: &Word,
-    tried: &[Word],
-) -> Result<Listing<Judged>, Fault> {
-    let alloc = rt.alloc();
-    let said = said_of(rt, work, gcc, tried)?;
+fn judgements(pair: Pair<'_>, tried: &[Word]) -> Result<Listing<Judged>, Fault> {
+    let alloc = pair.rt.alloc();
+    let said = said_of(pair, tried)?;
     let mut found = Listing::new(alloc);
     for line in said.as_bytes().split(|byte| *byte == b'\n') {
         if let Some(one) = judged_in(alloc, line)? {
@@ -231,18 +231,11 @@ struct OptionNames {
 }
 
 /// Notes what a gcc makes of a word with the option of this name.
-fn note(
-    rt: &HostRuntime,
-    work: &WorkFolder,
-    gcc: &Word,
-    name: &[u8],
-    word: &Word,
-    options: &mut OptionNames,
-) -> Result<(), Fault> {
-    let alloc = rt.alloc();
-    match answer_to(rt, work, gcc, word)? {
+fn note(pair: Pair<'_>, name: &[u8], word: &Word, options: &mut OptionNames) -> Result<(), Fault> {
+    let alloc = pair.rt.alloc();
+    match answer_to(pair, word)? {
         Answer::Takes => Ok(()),
-        Answer::Refuses => Ok(options.names.push(named(alloc, name, b"?")?)?),
+        Answer::Refuses => Ok(options.names.push(question_about(alloc, name, b"?")?)?),
         Answer::Lacks => Ok(options.lacking.push(Word::from_bytes(alloc, name)?)?),
     }
 }
@@ -250,20 +243,18 @@ fn note(
 /// Notes the options that a gcc lists and refuses: each as it is, and each with a value that no
 /// option has.
 fn note_refused(
-    rt: &HostRuntime,
-    work: &WorkFolder,
-    gcc: &Word,
+    pair: Pair<'_>,
     whole: Listing<Word>,
     tried: &[Word],
     options: &mut OptionNames,
 ) -> Result<(), Fault> {
-    for word in refused_of(rt, work, gcc, whole)?.as_slice() {
-        note(rt, work, gcc, word.as_bytes(), word, options)?;
+    for word in refused_of(pair, whole)?.as_slice() {
+        note(pair, word.as_bytes(), word, options)?;
     }
     for word in tried {
         let bytes = word.as_bytes();
         let name = bytes.strip_suffix(b"?".as_slice()).unwrap_or(bytes);
-        note(rt, work, gcc, name, word, options)?;
+        note(pair, name, word, options)?;
     }
     Ok(())
 }
@@ -273,7 +264,7 @@ fn with_large(alloc: Global, found: &[Judged]) -> Result<Listing<Word>, Fault> {
     let mut words = Listing::new(alloc);
     for it in found {
         if let Takes::Number = it.takes {
-            words.push(named(alloc, it.name.as_bytes(), b"99999999999999999999")?)?;
+            words.push(question_about(alloc, it.name.as_bytes(), b"99999999999999999999")?)?;
         }
     }
     Ok(words)
@@ -283,7 +274,7 @@ fn with_large(alloc: Global, found: &[Judged]) -> Result<Listing<Word>, Fault> {
 fn add_values(alloc: Global, it: &Judged, names: &mut Listing<Word>) -> Result<(), Fault> {
     if let Takes::Listed(values) = &it.takes {
         for value in values.as_slice() {
-            names.push(named(alloc, it.name.as_bytes(), value.as_bytes())?)?;
+            names.push(question_about(alloc, it.name.as_bytes(), value.as_bytes())?)?;
         }
     }
     Ok(())
@@ -296,21 +287,15 @@ fn speaks_of(found: &[Judged], name: &Word) -> bool {
 
 /// Adds the names of the options whose value is judged: `NAME=#` takes a number, and what is listed
 /// follows `NAME=`. Numbers up to a small one are a list.
-fn add_judged(
-    rt: &HostRuntime,
-    work: &WorkFolder,
-    gcc: &Word,
-    tried: &[Word],
-    names: &mut Listing<Word>,
-) -> Result<(), Fault> {
-    let alloc = rt.alloc();
-    let found = judgements(rt, work, gcc, tried)?;
+fn add_judged(pair: Pair<'_>, tried: &[Word], names: &mut Listing<Word>) -> Result<(), Fault> {
+    let alloc = pair.rt.alloc();
+    let found = judgements(pair, tried)?;
     let large = with_large(alloc, found.as_slice())?;
-    let few = judgements(rt, work, gcc, large.as_slice())?;
+    let few = judgements(pair, large.as_slice())?;
     for it in found.as_slice() {
         add_values(alloc, it, names)?;
         if !speaks_of(few.as_slice(), &it.name) && matches!(it.takes, Takes::Number) {
-            names.push(named(alloc, it.name.as_bytes(), b"#")?)?;
+            names.push(question_about(alloc, it.name.as_bytes(), b"#")?)?;
         }
     }
     for it in few.as_slice() {
@@ -321,21 +306,16 @@ fn add_judged(
 
 /// What a gcc makes of these options. `NAME?` is known and refused; of one with a value, others
 /// than those that are listed.
-fn sorted_out(
-    rt: &HostRuntime,
-    work: &WorkFolder,
-    gcc: &Word,
-    known: &[Word],
-) -> Result<OptionNames, Fault> {
-    let alloc = rt.alloc();
+fn sorted_out(pair: Pair<'_>, known: &[Word]) -> Result<OptionNames, Fault> {
+    let alloc = pair.rt.alloc();
     let mut options = OptionNames {
         names: Listing::new(alloc),
         lacking: Listing::new(alloc),
     };
     let tried = with_no_value(alloc, known)?;
     let whole = whole_of(alloc, known)?;
-    note_refused(rt, work, gcc, whole, tried.as_slice(), &mut options)?;
-    add_judged(rt, work, gcc, tried.as_slice(), &mut options.names)?;
+    note_refused(pair, whole, tried.as_slice(), &mut options)?;
+    add_judged(pair, tried.as_slice(), &mut options.names)?;
     Ok(options)
 }
 
@@ -368,7 +348,7 @@ fn add_taken(
 }
 
 /// The lines of a text, sorted by their bytes, each once.
-pub fn sorted(alloc: Global, text: &Word) -> Result<Word, Fault> {
+pub fn sort_lines(alloc: Global, text: &Word) -> Result<Word, Fault> {
     let mut lines = Vec::new(alloc);
     for line in values(alloc, b"", text.as_bytes())?.into_vec() {
         lines.push(line)?;
@@ -390,35 +370,25 @@ pub fn sorted(alloc: Global, text: &Word) -> Result<Word, Fault> {
 fn add_negatives(alloc: Global, said: &[u8], known: &mut Listing<Word>) -> Result<(), Fault> {
     for rest in values(alloc, b"-Wno-", said)?.as_slice() {
         if let [option, ..] = split(alloc, rest.as_bytes())?.as_slice() {
-            known.push(named(alloc, b"-Wno-", option.as_bytes())?)?;
+            known.push(question_about(alloc, b"-Wno-", option.as_bytes())?)?;
         }
     }
     Ok(())
 }
 
 /// Adds the name by which a gcc calls `-mcpu=`, if it is another one.
-fn add_tune(
-    rt: &HostRuntime,
-    work: &WorkFolder,
-    gcc: &Word,
-    lines: &mut Word,
-) -> Result<(), Fault> {
-    if calls_cpu_tune(rt, work, gcc)? {
+fn add_tune(pair: Pair<'_>, lines: &mut Word) -> Result<(), Fault> {
+    if calls_cpu_tune(pair)? {
         lines.extend_from_slice(b"-mcpu=>-mtune=\n")?;
     }
     Ok(())
 }
 
 /// The sorted lines of these names.
-fn sorted_lines(
-    rt: &HostRuntime,
-    work: &WorkFolder,
-    gcc: &Word,
-    names: &[Word],
-) -> Result<Word, Fault> {
-    let mut lines = option_lines(rt.alloc(), names)?;
-    add_tune(rt, work, gcc, &mut lines)?;
-    sorted(rt.alloc(), &lines)
+fn sorted_lines(pair: Pair<'_>, names: &[Word]) -> Result<Word, Fault> {
+    let mut lines = option_lines(pair.rt.alloc(), names)?;
+    add_tune(pair, &mut lines)?;
+    sort_lines(pair.rt.alloc(), &lines)
 }
 
 /// Adds the options that a gcc takes and those that were judged.
@@ -432,31 +402,29 @@ fn add_known(known: &[Word], judged: &OptionNames, names: &mut Listing<Word>) ->
 
 /// The names of the options that a gcc lists, with what it says of them.
 fn names_among(
-    rt: &HostRuntime,
-    work: &WorkFolder,
-    gcc: &Word,
+    pair: Pair<'_>,
     said: &[u8],
     known: &mut Listing<Word>,
 ) -> Result<Listing<Word>, Fault> {
-    let judged = sorted_out(rt, work, gcc, known.as_slice())?;
-    add_negatives(rt.alloc(), said, known)?;
-    let mut names = Listing::new(rt.alloc());
+    let judged = sorted_out(pair, known.as_slice())?;
+    add_negatives(pair.rt.alloc(), said, known)?;
+    let mut names = Listing::new(pair.rt.alloc());
     add_known(known.as_slice(), &judged, &mut names)?;
     Ok(names)
 }
 
 /// The lines of the options in what a gcc says of itself.
-fn lines_in(rt: &HostRuntime, work: &WorkFolder, gcc: &Word, said: &[u8]) -> Result<Word, Fault> {
-    let mut known = options(rt.alloc(), said)?;
+fn lines_in(pair: Pair<'_>, said: &[u8]) -> Result<Word, Fault> {
+    let mut known = options(pair.rt.alloc(), said)?;
     if known.is_empty() {
-        return Err(Fault::NoOptions(gcc.clone()?));
+        return Err(Fault::NoOptions(pair.gcc.clone()?));
     }
-    let names = names_among(rt, work, gcc, said, &mut known)?;
-    sorted_lines(rt, work, gcc, names.as_slice())
+    let names = names_among(pair, said, &mut known)?;
+    sorted_lines(pair, names.as_slice())
 }
 
 /// All options that a gcc knows, by their names, a line each.
-pub fn names_of(rt: &HostRuntime, work: &WorkFolder, gcc: &Word) -> Result<Word, Fault> {
-    let said = option_list(rt, work, gcc, b"-")?;
-    lines_in(rt, work, gcc, said.as_bytes())
+pub fn names_of(pair: Pair<'_>) -> Result<Word, Fault> {
+    let said = option_list(pair.rt, pair.work, pair.gcc, b"-")?;
+    lines_in(pair, said.as_bytes())
 }

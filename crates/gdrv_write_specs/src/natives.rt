@@ -1,10 +1,10 @@
 //! The function of a gcc's texts that finds out about the machine of the call.
 
 use crate::asked::Asked;
-use crate::asking::named;
+use crate::asking::question_about;
 use crate::fault::Fault;
 use crate::row_texts::Ways;
-use crate::work_folder::{joined, write};
+use crate::work_folder::{join, write};
 use drv_gcc::{named_texts, replace};
 use drv_words::{Listing, Word};
 use itoa::Buffer;
@@ -24,7 +24,7 @@ const FUNCTIONS: [&[u8]; 5] = [
 
 /// A call of a function.
 fn native_call(alloc: Global, function: &[u8], arguments: &Word) -> Result<Word, Fault> {
-    let mut call = named(alloc, function, arguments.as_bytes())?;
+    let mut call = question_about(alloc, function, arguments.as_bytes())?;
     call.push(b')')?;
     Ok(call)
 }
@@ -45,22 +45,22 @@ fn guard_call(alloc: Global, arguments: &Word, call: &Word) -> Result<Word, Faul
 
 /// The name of the text in the place of its call of this number.
 fn native_name(alloc: Global, number: usize) -> Result<Word, Fault> {
-    named(alloc, b"native_", Buffer::new().format(number).as_bytes())
+    question_about(alloc, b"native_", Buffer::new().format(number).as_bytes())
 }
 
 /// Writes a spec file of this name that shows what a call gives.
 fn write_probe(asked: Asked<'_>, name: &Word, call: &Word) -> Result<(), Fault> {
     let alloc = asked.alloc();
-    let mut body = named(alloc, b"*link_command:\nPROBE-V ", call.as_bytes())?;
+    let mut body = question_about(alloc, b"*link_command:\nPROBE-V ", call.as_bytes())?;
     body.extend_from_slice(b" PROBE-END\n\n")?;
-    let folder = joined(alloc, &asked.work.lines, b"/")?;
-    let path = joined(alloc, &folder, name.as_bytes())?;
+    let folder = join(alloc, &asked.work.lines, b"/")?;
+    let path = join(alloc, &folder, name.as_bytes())?;
     write(asked.rt, &path, body.as_bytes())
 }
 
 /// A dump with the text of this name in the places of a call.
 fn with_native(alloc: Global, dump: &Word, name: &Word, call: &Word) -> Result<Word, Fault> {
-    let mut other = named(alloc, b"%(", name.as_bytes())?;
+    let mut other = question_about(alloc, b"%(", name.as_bytes())?;
     other.push(b')')?;
     Ok(replace(alloc, dump.as_bytes(), call.as_bytes(), other.as_bytes())?)
 }

@@ -1,6 +1,6 @@
 //! The parts of a spec file, which gdrv-cc reads in its place for most lines.
 
-use crate::asking::named;
+use crate::asking::question_about;
 use crate::fault::Fault;
 use crate::finding::has_bytes;
 use crate::shortening::{Known, name_in, shorten, squeeze};
@@ -319,14 +319,14 @@ fn letter(alloc: Global, number: usize) -> Result<Word, Fault> {
 
 /// The use of a text by its name.
 fn use_of(alloc: Global, name: &Word) -> Result<Word, Fault> {
-    let mut text = named(alloc, b"%(", name.as_bytes())?;
+    let mut text = question_about(alloc, b"%(", name.as_bytes())?;
     text.push(b')')?;
     Ok(text)
 }
 
 /// What replaces a text's name: the text, or another name if it is long and used
 /// often. None if the text isn't grown yet.
-fn placed(alloc: Global, entries: &mut [Entry], name: &[u8]) -> Result<Option<Word>, Fault> {
+fn place_entry(alloc: Global, entries: &mut [Entry], name: &[u8]) -> Result<Option<Word>, Fault> {
     let letters = entries.iter().filter(|it| it.letter.is_some()).count();
     let Some(at) = place_of(entries, name) else {
         return Ok(Some(Word::empty(alloc)));
@@ -362,7 +362,7 @@ fn with_bodies(alloc: Global, entries: &mut [Entry], body: &[u8]) -> Result<Opti
     };
     for piece in pieces.as_slice() {
         if let Kind::NamedText = piece.kind {
-            let Some(text) = placed(alloc, entries, name_in(piece))? else {
+            let Some(text) = place_entry(alloc, entries, name_in(piece))? else {
                 return Ok(None);
             };
             whole.extend_from_slice(text.as_bytes())?;

@@ -1,21 +1,23 @@
 //! A spec file is written, tried and put in place.
 
-use crate::asking::{ask, named, text};
+use crate::asking::{ask, question_about};
 use crate::calling::Manner;
 use crate::checking::Pair;
 use crate::devices::has_devices;
 use crate::fault::Fault;
 use crate::gathering::{Gathered, gather};
-use crate::names::{names_of, sorted};
+use crate::machines::{add_test, test_of};
+use crate::names::{names_of, sort_lines};
 use crate::older::with_own_names;
 use crate::parts::{PARTS, part_of, whole_of};
 use crate::programs::{is_file, program_at};
 use crate::row_texts::Ways;
 use crate::rows::{push_names, push_rows, suffix_of};
-use crate::work_folder::{WorkFolder, absolute, joined};
+use crate::wording::{with_refused, without_dropped};
+use crate::work_folder::{WorkFolder, absolute, join};
 use drv_gcc::{gcc_file, spec_file, values};
 use drv_system::complain;
-use drv_words::{Listing, Word, parted};
+use drv_words::{Listing, Word, split_at_last};
 use std::alloc::Global;
 use std::env::current_exe;
 
@@ -27,15 +29,15 @@ fn gcc_at(rt: &HostRuntime, name: &Word) -> Result<Option<Word>, Fault> {
     }
     match program_at(rt, name)? {
         Some(path) => Ok(Some(path)),
-        None => program_at(rt, &named(rt.alloc(), name.as_bytes(), b"-gcc")?),
+        None => program_at(rt, &question_about(rt.alloc(), name.as_bytes(), b"-gcc")?),
     }
 }
 
 /// The driver that plans by a spec file: beside this program, or along PATH.
 pub fn driver_at(rt: &HostRuntime) -> Result<Word, Fault> {
     if let Ok(own) = current_exe(rt) {
-        if let Some((folder, _)) = parted(b'/', own.as_str().as_bytes()) {
-            let path = named(rt.alloc(), folder, b"/gdrv-cc")?;
+        if let Some((folder, _)) = split_at_last(b'/', own.as_str().as_bytes()) {
+            let path = question_about(rt.alloc(), folder, b"/gdrv-cc")?;
             if is_file(rt, &path)? {
                 return Ok(path);
             }
@@ -64,80 +66,80 @@ fn add_values(
 ) -> Result<(), Fault> {
     let values = values(alloc, key, text)?;
     for value in values.as_slice() {
-        lines.push(named(alloc, key, value.as_bytes())?)?;
+        lines.push(question_about(alloc, key, value.as_bytes())?)?;
     }
     Ok(())
 }
 
 /// Adds what a gcc says of its version.
-fn add_version(
-    rt: &HostRuntime,
-    work: &WorkFolder,
-    gcc: &Word,
-    lines: &mut Listing<Word>,
-) -> Result<(), Fault> {
-    let version = ask(rt, &work.lines, gcc, b"-v")?;
-    add_lines(rt.alloc(), version.err.as_bytes(), lines)
+fn add_version(pair: Pair<'_>, lines: &mut Listing<Word>) -> Result<(), Fault> {
+    let version = ask(pair.rt, &pair.work.lines, pair.gcc, b"-v")?;
+    add_lines(pair.rt.alloc(), version.err.as_bytes(), lines)
 }
 
 /// Adds the folders that a gcc searches.
-fn add_folders(
-    rt: &HostRuntime,
-    work: &WorkFolder,
-    gcc: &Word,
-    lines: &mut Listing<Word>,
-) -> Result<(), Fault> {
-    let shown = ask(rt, &work.lines, gcc, b"-### -c -x c /dev/null")?;
-    add_values(rt.alloc(), b"COMPILER_PATH=", shown.err.as_bytes(), lines)?;
-    add_values(rt.alloc(), b"LIBRARY_PATH=", shown.err.as_bytes(), lines)
+fn add_folders(pair: Pair<'_>, lines: &mut Listing<Word>) -> Result<(), Fault> {
+    let shown = ask(
+        pair.rt,
+        &pair.work.lines,
+        pair.gcc,
+        b"-### -c -x c /dev/null",
+    )?;
+    add_values(
+        pair.rt.alloc(),
+        b"COMPILER_PATH=",
+        shown.err.as_bytes(),
+        lines,
+    )?;
+    add_values(
+        pair.rt.alloc(),
+        b"LIBRARY_PATH=",
+        shown.err.as_bytes(),
+        lines,
+    )
 }
 
 /// What a gcc says of itself where commands are shown.
-fn said(rt: &HostRuntime, work: &WorkFolder, gcc: &Word) -> Result<Listing<Word>, Fault> {
-    let mut lines = Listing::new(rt.alloc());
-    add_version(rt, work, gcc, &mut lines)?;
-    add_folders(rt, work, gcc, &mut lines)?;
+fn say_of_itself(pair: Pair<'_>) -> Result<Listing<Word>, Fault> {
+    let mut lines = Listing::new(pair.rt.alloc());
+    add_version(pair, &mut lines)?;
+    add_folders(pair, &mut lines)?;
     Ok(lines)
 }
 
 /// Writes the files beside the spec file.
-fn put_beside(
-    rt: &HostRuntime,
-    work: &WorkFolder,
-    gcc: &Word,
-    gathered: &Gathered,
-) -> Result<(), Fault> {
-    let mut names = names_of(rt, work, gcc)?;
+fn put_beside(pair: Pair<'_>, gathered: &Gathered) -> Result<(), Fault> {
+    let mut names = names_of(pair)?;
     for row in gathered.rows.as_slice() {
         push_names(&mut names, row)?;
     }
-    work.put(rt, b".options", &sorted(rt.alloc(), &names)?)?;
-    put_gcc(rt, work, gcc, gathered)
+    pair.work.put(pair.rt, b".options", &sort_lines(pair.rt.alloc(), &names)?)?;
+    put_gcc(pair, gathered)
 }
 
 /// Writes the file beside the spec file that names the gcc, and has its rows.
-fn put_gcc(
-    rt: &HostRuntime,
-    work: &WorkFolder,
-    gcc: &Word,
-    gathered: &Gathered,
-) -> Result<(), Fault> {
-    let lines = said(rt, work, gcc)?;
+fn put_gcc(pair: Pair<'_>, gathered: &Gathered) -> Result<(), Fault> {
+    let lines = say_of_itself(pair)?;
     let folders = gathered.toolchain.folders.as_slice();
-    let mut text = gcc_file(rt.alloc(), gcc.as_bytes(), folders, lines.as_slice())?;
-    let suffix = suffix_of(rt, work, gcc)?;
+    let mut text = gcc_file(
+        pair.rt.alloc(),
+        pair.gcc.as_bytes(),
+        folders,
+        lines.as_slice(),
+    )?;
+    let suffix = suffix_of(pair)?;
     if !suffix.is_empty() {
         text.extend_from_slice(b"suffix ")?;
         text.extend_from_slice(suffix.as_bytes())?;
         text.push(b'\n')?;
     }
     push_rows(&mut text, gathered.rows.as_slice())?;
-    work.put(rt, b".gcc", &text)
+    pair.work.put(pair.rt, b".gcc", &text)
 }
 
 /// Names some words to the user, on one line.
 fn tell(rt: &HostRuntime, before: &[u8], names: &[Word]) -> Result<(), Fault> {
-    let mut line = named(rt.alloc(), b"gdrv-write-specs: ", before)?;
+    let mut line = question_about(rt.alloc(), b"gdrv-write-specs: ", before)?;
     for name in names {
         line.push(b' ')?;
         line.extend_from_slice(name.as_bytes())?;
@@ -151,7 +153,7 @@ fn tell(rt: &HostRuntime, before: &[u8], names: &[Word]) -> Result<(), Fault> {
 
 /// The refusal for lines whose plans differ.
 fn differ(rt: &HostRuntime, gcc: &Word, lines: &[Word]) -> Result<Fault, Fault> {
-    let mut text = named(rt.alloc(), b"no spec file for '", gcc.as_bytes())?;
+    let mut text = question_about(rt.alloc(), b"no spec file for '", gcc.as_bytes())?;
     text.extend_from_slice(b"': with it these lines would not have gcc's plan")?;
     for line in lines {
         text.extend_from_slice(b"\n    ")?;
@@ -162,16 +164,16 @@ fn differ(rt: &HostRuntime, gcc: &Word, lines: &[Word]) -> Result<Fault, Fault> 
 
 /// Writes the spec file in the folder of work.
 fn put_specs(pair: Pair<'_>, gathered: &Gathered) -> Result<(), Fault> {
-    let specs = spec_file(pair.rt.alloc(), &gathered.toolchain)?;
-    let specs = with_own_names(pair.rt.alloc(), specs)?;
+    let alloc = pair.rt.alloc();
+    let plain = spec_file(alloc, &gathered.toolchain)?;
+    let named = with_own_names(alloc, plain)?;
+    let judged = with_refused(alloc, named, gathered.valued.as_slice())?;
+    let specs = without_dropped(alloc, judged, gathered.dropped.as_slice())?;
     for part in PARTS {
-        pair.work.put_part(
-            pair.rt,
-            part.ending,
-            part_of(pair.rt.alloc(), &specs, &part)?,
-        )?;
+        pair.work
+            .put_part(pair.rt, part.ending, part_of(alloc, &specs, &part)?)?;
     }
-    let whole = whole_of(pair.rt.alloc(), &specs)?.unwrap_or(specs);
+    let whole = whole_of(alloc, &specs)?.unwrap_or(specs);
     pair.work.put(pair.rt, b".specs", &whole)
 }
 
@@ -194,12 +196,43 @@ fn refuse(gathered: &mut Gathered, options: &[Word]) -> Result<(), Fault> {
     Ok(())
 }
 
+/// Has some options refused by name, those with a value for all of their values.
+fn refuse_all(alloc: Global, gathered: &mut Gathered, options: &[Word]) -> Result<(), Fault> {
+    for option in options {
+        if option.as_bytes().contains(&b'=') {
+            add_test(&mut gathered.valued, test_of(alloc, option.as_bytes())?)?;
+        } else {
+            gathered.toolchain.refused.push(option.clone()?)?;
+        }
+    }
+    Ok(())
+}
+
+/// Has those of these options left out of a line that the gcc leaves out. Gives the others.
+fn drop_options(
+    pair: Pair<'_>,
+    gathered: &mut Gathered,
+    options: &[Word],
+) -> Result<Listing<Word>, Fault> {
+    let mut others = Listing::new(pair.rt.alloc());
+    for option in options {
+        if pair.is_dropped(option)? {
+            let test = test_of(pair.rt.alloc(), option.as_bytes())?;
+            add_test(&mut gathered.dropped, test)?;
+        } else {
+            others.push(option.clone()?)?;
+        }
+    }
+    Ok(others)
+}
+
 /// Compares the options for machines. Those that have another plan get texts of their own, and are
 /// refused by name if that doesn't help. Gives those that are refused.
 fn check_machines(pair: Pair<'_>, gathered: &mut Gathered) -> Result<Listing<Word>, Fault> {
     let others = pair.others(pair.machines()?.as_slice())?;
-    for option in others.as_slice().iter().take(MACHINES) {
-        gathered.add_machine(pair.rt, pair.work, pair.gcc, option)?;
+    let chosen = drop_options(pair, gathered, others.as_slice())?;
+    for option in chosen.as_slice().iter().take(MACHINES) {
+        gathered.add_machine(pair, option)?;
     }
     gathered.choose(pair.rt.alloc())?;
     put_specs(pair, gathered)?;
@@ -216,7 +249,7 @@ fn check_machines(pair: Pair<'_>, gathered: &mut Gathered) -> Result<Listing<Wor
 fn refuse_others(pair: Pair<'_>, gathered: &mut Gathered) -> Result<Listing<Word>, Fault> {
     let others = pair.chosen_otherwise()?;
     if !others.is_empty() {
-        refuse(gathered, others.as_slice())?;
+        refuse_all(pair.rt.alloc(), gathered, others.as_slice())?;
         put_specs(pair, gathered)?;
     }
     Ok(others)
@@ -246,7 +279,7 @@ fn check_rows(pair: Pair<'_>, gathered: &mut Gathered) -> Result<(), Fault> {
         b"no row, since it would make something else:",
         others.as_slice(),
     )?;
-    put_gcc(pair.rt, pair.work, pair.gcc, gathered)
+    put_gcc(pair, gathered)
 }
 
 /// Compares the plans by texts alone, and has the options refused that would give others.
@@ -268,7 +301,7 @@ fn tell_refused(rt: &HostRuntime, options: &[Word]) -> Result<(), Fault> {
 /// Compares the plans, and has the options refused that would give others.
 fn check(pair: Pair<'_>, manner: Manner, gathered: &mut Gathered) -> Result<(), Fault> {
     let others = refuse_others(pair, gathered)?;
-    judge(pair, manner, pair.differing()?.as_slice())?;
+    judge(pair, manner, pair.differences()?.as_slice())?;
     tell_refused(pair.rt, others.as_slice())?;
     match gathered.ways {
         Ways::Texts => check_texts(pair, manner, gathered),
@@ -284,7 +317,7 @@ fn put_gathered(pair: Pair<'_>, manner: Manner, gathered: &mut Gathered) -> Resu
         b"texts that cannot be translated, so lines that use them are refused:",
         gathered.lacking.as_slice(),
     )?;
-    put_beside(pair.rt, pair.work, pair.gcc, gathered)?;
+    put_beside(pair, gathered)?;
     refuse(gathered, pair.unnamed_options()?.as_slice())?;
     put_specs(pair, gathered)?;
     check(pair, manner, gathered)
@@ -292,18 +325,18 @@ fn put_gathered(pair: Pair<'_>, manner: Manner, gathered: &mut Gathered) -> Resu
 
 /// Makes the files of a gcc whose words for its machines are in rows, and tries them.
 fn put_with_rows(pair: Pair<'_>, manner: Manner) -> Result<(), Fault> {
-    let mut gathered = gather(pair.rt, pair.work, pair.gcc, Ways::Rows)?;
-    gathered.add_rows(pair.rt, pair.work, pair.gcc)?;
+    let mut gathered = gather(pair, Ways::Rows)?;
+    gathered.add_rows(pair)?;
     put_gathered(pair, manner, &mut gathered)
 }
 
 /// Makes the files of a gcc, and tries them. If the texts alone give other plans, or devices have
 /// spec files, rows do the work.
 fn put_all(pair: Pair<'_>, manner: Manner) -> Result<(), Fault> {
-    if has_devices(pair.rt, pair.work, pair.gcc)? {
+    if has_devices(pair)? {
         return put_with_rows(pair, manner);
     }
-    let mut gathered = gather(pair.rt, pair.work, pair.gcc, Ways::Texts)?;
+    let mut gathered = gather(pair, Ways::Texts)?;
     match put_gathered(pair, manner, &mut gathered) {
         Err(Fault::Differs(_)) => put_with_rows(pair, manner),
         done => done,

@@ -1,7 +1,7 @@
 //! The programs of a gcc, and where programs are.
 
 use crate::asked::Asked;
-use crate::asking::{named, text};
+use crate::asking::{question_about, text};
 use crate::fault::Fault;
 use crate::finding::{word_after, word_after_start};
 use crate::work_folder::absolute;
@@ -44,7 +44,7 @@ pub fn program_at(rt: &HostRuntime, name: &Word) -> Result<Option<Word>, Fault> 
         return Ok(None);
     };
     for folder in folders.as_bytes().split(|byte| *byte == b':') {
-        let mut path = named(rt.alloc(), folder, b"/")?;
+        let mut path = question_about(rt.alloc(), folder, b"/")?;
         path.extend_from_slice(name.as_bytes())?;
         if is_file(rt, &path)? {
             return Ok(Some(absolute(rt, &path)?));

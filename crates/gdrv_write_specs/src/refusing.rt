@@ -1,9 +1,9 @@
 //! Which words of its line a gcc refuses.
 
 use crate::asking::{Said, ask_words};
+use crate::checking::Pair;
 use crate::fault::Fault;
 use crate::finding::has_bytes;
-use crate::work_folder::WorkFolder;
 use drv_gcc::halve;
 use drv_words::{Listing, Word, split};
 use std::slice;
@@ -21,23 +21,19 @@ pub enum Answer {
 
 /// What a gcc says of these words. The input after each of them is the argument of an option that
 /// takes the next word.
-fn tried(rt: &HostRuntime, work: &WorkFolder, gcc: &Word, words: &[Word]) -> Result<Said, Fault> {
-    let mut line = split(rt.alloc(), b"-###")?;
+fn try_words(pair: Pair<'_>, words: &[Word]) -> Result<Said, Fault> {
+    let alloc = pair.rt.alloc();
+    let mut line = split(alloc, b"-###")?;
     for word in words {
         line.push(word.clone()?)?;
-        line.push(Word::from_bytes(rt.alloc(), b"-Wl,x")?)?;
+        line.push(Word::from_bytes(alloc, b"-Wl,x")?)?;
     }
-    Ok(ask_words(rt, &work.lines, gcc, line.as_slice())?)
+    Ok(ask_words(pair.rt, &pair.work.lines, pair.gcc, line.as_slice())?)
 }
 
 /// What a gcc makes of a word.
-pub fn answer_to(
-    rt: &HostRuntime,
-    work: &WorkFolder,
-    gcc: &Word,
-    word: &Word,
-) -> Result<Answer, Fault> {
-    let said = tried(rt, work, gcc, slice::from_ref(word))?;
+pub fn answer_to(pair: Pair<'_>, word: &Word) -> Result<Answer, Fault> {
+    let said = try_words(pair, slice::from_ref(word))?;
     Ok(if said.is_done {
         Answer::Takes
     } else if has_bytes(said.err.as_bytes(), b"unrecognized command") {
@@ -55,46 +51,37 @@ const HALVINGS: usize = 20;
 
 /// Asks a gcc of words. Those that it refuses are halved.
 fn ask_of(
-    rt: &HostRuntime,
-    work: &WorkFolder,
-    gcc: &Word,
+    pair: Pair<'_>,
     words: &[Word],
     halves: &mut Listing<Listing<Word>>,
     refused: &mut Listing<Word>,
 ) -> Result<(), Fault> {
-    if AT_ONCE < words.len() || !tried(rt, work, gcc, words)?.is_done {
-        halve(rt.alloc(), words, halves, refused)?;
+    if AT_ONCE < words.len() || !try_words(pair, words)?.is_done {
+        halve(pair.rt.alloc(), words, halves, refused)?;
     }
     Ok(())
 }
 
 /// Asks a gcc of each of these lists of words, and gives the halves of those that it refuses.
 fn halves_of(
-    rt: &HostRuntime,
-    work: &WorkFolder,
-    gcc: &Word,
+    pair: Pair<'_>,
     waiting: &[Listing<Word>],
     refused: &mut Listing<Word>,
 ) -> Result<Listing<Listing<Word>>, Fault> {
-    let mut halves = Listing::new(rt.alloc());
+    let mut halves = Listing::new(pair.rt.alloc());
     for words in waiting {
-        ask_of(rt, work, gcc, words.as_slice(), &mut halves, refused)?;
+        ask_of(pair, words.as_slice(), &mut halves, refused)?;
     }
     Ok(halves)
 }
 
 /// Those of these words that a gcc refuses, each by itself.
-pub fn refused_of(
-    rt: &HostRuntime,
-    work: &WorkFolder,
-    gcc: &Word,
-    words: Listing<Word>,
-) -> Result<Listing<Word>, Fault> {
-    let mut refused = Listing::new(rt.alloc());
-    let mut waiting = Listing::new(rt.alloc());
+pub fn refused_of(pair: Pair<'_>, words: Listing<Word>) -> Result<Listing<Word>, Fault> {
+    let mut refused = Listing::new(pair.rt.alloc());
+    let mut waiting = Listing::new(pair.rt.alloc());
     waiting.push(words)?;
     for _ in 0..HALVINGS {
-        waiting = halves_of(rt, work, gcc, waiting.as_slice(), &mut refused)?;
+        waiting = halves_of(pair, waiting.as_slice(), &mut refused)?;
     }
     Ok(refused)
 }

@@ -1,13 +1,13 @@
 //! Texts of a gcc whose words for its machines are in rows.
 
 use crate::alike::FolderName;
-use crate::asked::{Asked, Places};
-use crate::asking::named;
+use crate::asked::Asked;
+use crate::asking::question_about;
+use crate::checking::Pair;
 use crate::fault::Fault;
 use crate::gathering::nothing;
 use crate::machines::{Facts, facts_for};
 use crate::rows::{folder_switch, multilibs};
-use crate::work_folder::WorkFolder;
 use drv_gcc::{Choice, NamedText, replace};
 use drv_words::{Listing, Word};
 use itoa::Buffer;
@@ -69,7 +69,7 @@ impl<'a> Asked<'a> {
 /// The text for what a function gives: the words of the row, each after this one's name.
 fn row_value(alloc: Global, number: usize) -> Result<Choice, Fault> {
     let mut choice = nothing(alloc);
-    choice.own = named(
+    choice.own = question_about(
         alloc,
         b"%{-gdrv-fn",
         Buffer::new().format(number).as_bytes(),
@@ -95,27 +95,19 @@ pub fn add_row_values(
 
 /// What the gcc does for each of its libraries in a folder of its own, by a test of that folder.
 pub fn multilib_facts(
-    rt: &HostRuntime,
-    work: &WorkFolder,
-    gcc: &Word,
+    pair: Pair<'_>,
     folder: &Word,
     names: &[Word],
 ) -> Result<Listing<Facts>, Fault> {
-    let none = Word::empty(rt.alloc());
-    let own = Asked {
-        rt,
-        work,
-        gcc,
-        option: &none,
-        places: Places::Searched,
-    };
-    let mut found = Listing::new(rt.alloc());
-    for option in multilibs(own)?.as_slice() {
-        let asked = Asked { option, ..own };
+    let alloc = pair.rt.alloc();
+    let none = Word::empty(alloc);
+    let mut found = Listing::new(alloc);
+    for option in multilibs(pair.asked(&none))?.as_slice() {
+        let asked = pair.asked(option);
         let place = asked.answer(b"-print-multi-directory", b"")?;
         let mut facts = facts_for(asked, folder, names, &[], &[])?;
-        let switch = folder_switch(rt.alloc(), &place, FolderName::Tested)?;
-        facts.test = named(rt.alloc(), b"-", switch.as_bytes())?;
+        let switch = folder_switch(alloc, &place, FolderName::Tested)?;
+        facts.test = question_about(alloc, b"-", switch.as_bytes())?;
         facts.library = place;
         found.push(facts)?;
     }

@@ -2,14 +2,14 @@
 //! them. gdrv-cc hands on the words of a row in the place of its options.
 
 use crate::alike::FolderName;
-use crate::asked::{Asked, Places};
-use crate::asking::named;
+use crate::asked::Asked;
+use crate::asking::question_about;
+use crate::checking::Pair;
 use crate::devices::is_of_device;
 use crate::fault::Fault;
 use crate::finding::{command_named, has_word, word_after, words_between};
 use crate::listing::option_list;
 use crate::programs::is_folder;
-use crate::work_folder::WorkFolder;
 use drv_gcc::{options, replace, values};
 use drv_words::{Listing, Word, split};
 use itoa::Buffer;
@@ -25,7 +25,7 @@ pub struct Row {
 }
 
 /// The switches that gcc makes of a line with the options; none where it refuses them.
-fn collected(asked: Asked<'_>) -> Result<Option<Listing<Word>>, Fault> {
+fn collect_switches(asked: Asked<'_>) -> Result<Option<Listing<Word>>, Fault> {
     let said = asked.ask(b"-### -c -x c /dev/null")?;
     let lines = values(asked.alloc(), b"COLLECT_GCC_OPTIONS=", said.err.as_bytes())?;
     let [line, ..] = lines.as_slice() else {
@@ -33,7 +33,9 @@ fn collected(asked: Asked<'_>) -> Result<Option<Listing<Word>>, Fault> {
     };
     let mut words = Listing::new(asked.alloc());
     for word in split(asked.alloc(), line.as_bytes())?.into_vec() {
-        if word.as_bytes() != b"-c".as_slice() && !is_of_device(word.as_bytes()) {
+        if is_of_device(word.as_bytes()) {
+            words.push(question_about(asked.alloc(), b"--gdrv-child=", word.as_bytes())?)?;
+        } else if word.as_bytes() != b"-c".as_slice() {
             words.push(word)?;
         }
     }
@@ -48,10 +50,10 @@ fn add_places(
     words: &mut Listing<Word>,
 ) -> Result<(), Fault> {
     for folder in folders {
-        let mut place = named(asked.alloc(), folder.as_bytes(), name.as_bytes())?;
+        let mut place = question_about(asked.alloc(), folder.as_bytes(), name.as_bytes())?;
         place.push(b'/')?;
         if is_folder(asked.rt, place.as_bytes())? {
-            words.push(named(asked.alloc(), b"--gdrv-in=", place.as_bytes())?)?;
+            words.push(question_about(asked.alloc(), b"--gdrv-in=", place.as_bytes())?)?;
         }
     }
     Ok(())
@@ -69,13 +71,13 @@ fn add_folder(
         return Ok(());
     }
     let switch = folder_switch(asked.alloc(), &name, naming)?;
-    words.push(named(asked.alloc(), b"--", switch.as_bytes())?)?;
+    words.push(question_about(asked.alloc(), b"--", switch.as_bytes())?)?;
     add_places(asked, &name, folders, words)
 }
 
 /// The switch for libraries in a folder of this name.
 pub fn folder_switch(alloc: Global, name: &Word, naming: FolderName) -> Result<Word, Fault> {
-    let switch = named(alloc, b"gdrv-multi=", name.as_bytes())?;
+    let switch = question_about(alloc, b"gdrv-multi=", name.as_bytes())?;
     match naming {
         FolderName::Plain => Ok(switch),
         FolderName::Tested => Ok(replace(alloc, switch.as_bytes(), b"/", b",")?),
@@ -96,7 +98,7 @@ pub fn naming_in(alloc: Global, text: &[u8]) -> Result<FolderName, Fault> {
 
 /// The beginning of the words for the function of this number.
 fn value_name(alloc: Global, number: usize) -> Result<Word, Fault> {
-    let mut name = named(alloc, b"--gdrv-fn", Buffer::new().format(number).as_bytes())?;
+    let mut name = question_about(alloc, b"--gdrv-fn", Buffer::new().format(number).as_bytes())?;
     name.push(b'=')?;
     Ok(name)
 }
@@ -109,24 +111,12 @@ fn add_values(
     words: &mut Listing<Word>,
 ) -> Result<(), Fault> {
     let alloc = asked.alloc();
-    let line = named(alloc, b"-### x.o -o x -specs=", probe.as_bytes())?;
-    let planned = asked.planned(line.as_bytes())?;
+    let line = question_about(alloc, b"-### x.o -o x -specs=", probe.as_bytes())?;
+    let planned = asked.plan(line.as_bytes())?;
     let shown = command_named(planned.as_slice(), b"PROBE-V").unwrap_or(&[]);
     let name = value_name(alloc, number)?;
     for value in words_between(alloc, shown, b"PROBE-V", b"PROBE-END")?.as_slice() {
-        words.push(named(alloc, name.as_bytes(), value.as_bytes())?)?;
-    }
-    Ok(())
-}
-
-/// Adds a word if gcc has others in the place of an option that names a device: links of objects with
-/// `-flto` get that option too, and refuse the second.
-fn add_device_word(asked: Asked<'_>, words: &mut Listing<Word>) -> Result<(), Fault> {
-    let is_renamed = asked.option.as_bytes().split(|byte| *byte == b' ').any(
-        |option| option.starts_with(b"-mmcu=") && !has_word(words.as_slice(), option),
-    );
-    if is_renamed {
-        words.push(Word::from_bytes(asked.alloc(), b"--gdrv-device")?)?;
+        words.push(question_about(alloc, name.as_bytes(), value.as_bytes())?)?;
     }
     Ok(())
 }
@@ -138,10 +128,9 @@ pub fn row_of(
     folders: &[Word],
     naming: FolderName,
 ) -> Result<Option<Row>, Fault> {
-    let Some(mut words) = collected(asked)? else {
+    let Some(mut words) = collect_switches(asked)? else {
         return Ok(None);
     };
-    add_device_word(asked, &mut words)?;
     add_folder(asked, folders, naming, &mut words)?;
     for (number, probe) in probes.iter().enumerate() {
         add_values(asked, number, probe, &mut words)?;
@@ -204,8 +193,8 @@ fn add_listed(asked: Asked<'_>, beginning: &[u8], keys: &mut Listing<Word>) -> R
 /// The values that gcc names where it refuses one of an option.
 fn values_named(asked: Asked<'_>, name: &[u8]) -> Result<Listing<Word>, Fault> {
     let alloc = asked.alloc();
-    let question = named(alloc, b"-### -c -x c /dev/null ", name)?;
-    let said = asked.ask(named(alloc, question.as_bytes(), b"?")?.as_bytes())?;
+    let question = question_about(alloc, b"-### -c -x c /dev/null ", name)?;
+    let said = asked.ask(question_about(alloc, question.as_bytes(), b"?")?.as_bytes())?;
     let mut found = Listing::new(alloc);
     for line in values(alloc, b"", said.err.as_bytes())?.as_slice() {
         if let Some(list) = named_in(line.as_bytes()) {
@@ -238,9 +227,9 @@ fn place_after(text: &[u8], bytes: &[u8]) -> Option<usize> {
 fn add_named(asked: Asked<'_>, name: &[u8], keys: &mut Listing<Word>) -> Result<(), Fault> {
     let alloc = asked.alloc();
     for value in values_named(asked, name)?.as_slice() {
-        add_key(keys, named(alloc, name, value.as_bytes())?)?;
+        add_key(keys, question_about(alloc, name, value.as_bytes())?)?;
         if name == b"-mcpu=".as_slice() {
-            add_key(keys, named(alloc, b"-mtune=", value.as_bytes())?)?;
+            add_key(keys, question_about(alloc, b"-mtune=", value.as_bytes())?)?;
         }
     }
     Ok(())
@@ -250,7 +239,10 @@ fn add_named(asked: Asked<'_>, name: &[u8], keys: &mut Listing<Word>) -> Result<
 fn add_devices(asked: Asked<'_>, keys: &mut Listing<Word>) -> Result<(), Fault> {
     let folder = asked.device_folder()?;
     for device in asked.devices_in(&folder)?.as_slice() {
-        add_key(keys, named(asked.alloc(), b"-mmcu=", device.as_bytes())?)?;
+        add_key(
+            keys,
+            question_about(asked.alloc(), b"-mmcu=", device.as_bytes())?,
+        )?;
     }
     Ok(())
 }
@@ -275,35 +267,17 @@ fn keys_of(asked: Asked<'_>) -> Result<Listing<Word>, Fault> {
     Ok(keys)
 }
 
-/// The same gcc, asked with other options.
-fn asked_with<'a>(
-    rt: &'a HostRuntime,
-    work: &'a WorkFolder,
-    gcc: &'a Word,
-    option: &'a Word,
-) -> Asked<'a> {
-    Asked {
-        rt,
-        work,
-        gcc,
-        option,
-        places: Places::Searched,
-    }
-}
-
 /// The rows of a gcc with these folders, whose functions have these probes.
 pub fn rows_of(
-    rt: &HostRuntime,
-    work: &WorkFolder,
-    gcc: &Word,
+    pair: Pair<'_>,
     probes: &[Word],
     folders: &[Word],
     naming: FolderName,
 ) -> Result<Listing<Row>, Fault> {
-    let none = Word::empty(rt.alloc());
-    let mut rows = Listing::new(rt.alloc());
-    for key in keys_of(asked_with(rt, work, gcc, &none))?.as_slice() {
-        if let Some(row) = row_of(asked_with(rt, work, gcc, key), probes, folders, naming)? {
+    let none = Word::empty(pair.rt.alloc());
+    let mut rows = Listing::new(pair.rt.alloc());
+    for key in keys_of(pair.asked(&none))?.as_slice() {
+        if let Some(row) = row_of(pair.asked(key), probes, folders, naming)? {
             rows.push(row)?;
         }
     }
@@ -311,17 +285,17 @@ pub fn rows_of(
 }
 
 /// The suffix that gcc gives the name of a program; empty if none.
-pub fn suffix_of(rt: &HostRuntime, work: &WorkFolder, gcc: &Word) -> Result<Word, Fault> {
-    let none = Word::empty(rt.alloc());
-    let asked = asked_with(rt, work, gcc, &none);
-    let planned = asked.planned(b"-### x.o -o made")?;
+pub fn suffix_of(pair: Pair<'_>) -> Result<Word, Fault> {
+    let none = Word::empty(pair.rt.alloc());
+    let asked = pair.asked(&none);
+    let planned = asked.plan(b"-### x.o -o made")?;
     let link = match planned.as_slice().last() {
         Some(link) => link.as_slice(),
         None => &[],
     };
-    let output = word_after(rt.alloc(), link, b"-o")?;
+    let output = word_after(pair.rt.alloc(), link, b"-o")?;
     let suffix = output.as_bytes().strip_prefix(b"made".as_slice());
-    Ok(Word::from_bytes(rt.alloc(), suffix.unwrap_or(b""))?)
+    Ok(Word::from_bytes(pair.rt.alloc(), suffix.unwrap_or(b""))?)
 }
 
 /// Adds the line of a row.

@@ -57,7 +57,7 @@ struct Cutting {
 }
 
 /// Braces that begin so.
-fn opened(alloc: Global, opening: &Word) -> Result<Braces, Fault> {
+fn open_braces(alloc: Global, opening: &Word) -> Result<Braces, Fault> {
     Ok(Braces {
         opening: opening.clone()?,
         given: Word::empty(alloc),
@@ -129,7 +129,7 @@ fn note_failed(alloc: Global, it: &mut Braces, tests: &[u8]) -> Result<(), Fault
 }
 
 /// A body without the blanks at its end.
-fn trimmed(body: &[u8]) -> &[u8] {
+fn trim_end(body: &[u8]) -> &[u8] {
     let mut end = 0;
     let mut is_escaped = false;
     for (at, byte) in body.iter().enumerate() {
@@ -156,7 +156,7 @@ fn decide(it: &mut Braces, body: Word) -> Result<(), Fault> {
         return Ok(());
     }
     it.given.push(b':')?;
-    it.given.extend_from_slice(trimmed(body.as_bytes()))?;
+    it.given.extend_from_slice(trim_end(body.as_bytes()))?;
     Ok(())
 }
 
@@ -179,7 +179,7 @@ fn end_alternative(alloc: Global, known: &Known, it: &mut Braces) -> Result<(), 
             }
             it.given.extend_from_slice(tests.as_bytes())?;
             it.given.push(b':')?;
-            let text = squeeze(alloc, trimmed(body.as_bytes()))?;
+            let text = squeeze(alloc, trim_end(body.as_bytes()))?;
             it.given.extend_from_slice(text.as_bytes())?;
             note_failed(alloc, it, tests.as_bytes())?;
         }
@@ -190,7 +190,7 @@ fn end_alternative(alloc: Global, known: &Known, it: &mut Braces) -> Result<(), 
 }
 
 /// Words between braces.
-fn braced(opening: &Word, inside: &[u8]) -> Result<Word, Fault> {
+fn brace(opening: &Word, inside: &[u8]) -> Result<Word, Fault> {
     let mut whole = opening.clone()?;
     whole.extend_from_slice(inside)?;
     whole.push(b'}')?;
@@ -261,7 +261,7 @@ fn merge(alloc: Global, text: &[u8]) -> Result<Option<Word>, Fault> {
 fn tests_alone(alloc: Global, known: &Known, it: &Braces) -> Result<Word, Fault> {
     match tests_left(alloc, known, it)? {
         Left::Never => Ok(Word::empty(alloc)),
-        _ => braced(&it.opening, it.tests.as_bytes()),
+        _ => brace(&it.opening, it.tests.as_bytes()),
     }
 }
 
@@ -270,7 +270,7 @@ fn alternatives(alloc: Global, it: &Braces) -> Result<Word, Fault> {
     if !it.has_words {
         return Ok(Word::empty(alloc));
     }
-    let whole = braced(&it.opening, it.given.as_bytes())?;
+    let whole = brace(&it.opening, it.given.as_bytes())?;
     Ok(match merge(alloc, whole.as_bytes())? {
         Some(shorter) => shorter,
         None => whole,
@@ -278,7 +278,7 @@ fn alternatives(alloc: Global, it: &Braces) -> Result<Word, Fault> {
 }
 
 /// What is left of braces that end.
-fn closed(alloc: Global, known: &Known, it: &mut Braces) -> Result<Word, Fault> {
+fn close_braces(alloc: Global, known: &Known, it: &mut Braces) -> Result<Word, Fault> {
     if it.body.is_none() && it.given.is_empty() && !it.is_decided {
         return tests_alone(alloc, known, it);
     }
@@ -366,7 +366,7 @@ impl Cutting {
         let Some(mut it) = self.open.pop() else {
             return Ok(());
         };
-        let left = closed(alloc, known, &mut it)?;
+        let left = close_braces(alloc, known, &mut it)?;
         self.put(left.as_bytes())
     }
 
@@ -380,7 +380,7 @@ impl Cutting {
     ) -> Result<(), Fault> {
         let bytes = piece.bytes.as_bytes();
         match piece.kind {
-            Kind::Opening => Ok(self.open.push(opened(alloc, &piece.bytes)?)?),
+            Kind::Opening => Ok(self.open.push(open_braces(alloc, &piece.bytes)?)?),
             Kind::Blank => Ok(()),
             Kind::TestCall | Kind::NegatedCall => self.put_call(bytes),
             Kind::Then | Kind::Otherwise => self.turn(alloc, known, piece.kind),

@@ -1,10 +1,10 @@
 //! The named texts of a gcc's spec file.
 
 use crate::alike::add_library;
-use crate::asking::named;
+use crate::asking::question_about;
 use crate::fault::Fault;
 use crate::gathering::nothing;
-use crate::machines::{Facts, MachineText, choice};
+use crate::machines::{MachineText, Machines};
 use crate::row_texts::{Ways, add_row_values};
 use drv_gcc::{NamedText, folder_text};
 use drv_words::{Listing, Word};
@@ -15,14 +15,13 @@ use std::alloc::Global;
 fn add_files(
     alloc: Global,
     names: &[Word],
-    own: &Facts,
-    others: &[Facts],
+    machines: Machines<'_>,
     texts: &mut Listing<NamedText>,
 ) -> Result<(), Fault> {
     for (n, name) in names.iter().enumerate() {
         texts.push(NamedText {
-            name: named(alloc, b"file_", name.as_bytes())?,
-            choice: choice(alloc, own, others, MachineText::Place(n))?,
+            name: question_about(alloc, b"file_", name.as_bytes())?,
+            choice: machines.choice(alloc, MachineText::Place(n))?,
         })?;
     }
     Ok(())
@@ -38,7 +37,7 @@ fn add_folders_of(
         let mut choice = nothing(alloc);
         choice.own = folder_text(alloc, folder.as_bytes())?;
         texts.push(NamedText {
-            name: named(alloc, b"in_", Buffer::new().format(n).as_bytes())?,
+            name: question_about(alloc, b"in_", Buffer::new().format(n).as_bytes())?,
             choice,
         })?;
     }
@@ -49,14 +48,13 @@ fn add_folders_of(
 fn add_natives(
     alloc: Global,
     probes: &[Word],
-    own: &Facts,
-    others: &[Facts],
+    machines: Machines<'_>,
     texts: &mut Listing<NamedText>,
 ) -> Result<(), Fault> {
     for (n, probe) in probes.iter().enumerate() {
         texts.push(NamedText {
             name: probe.clone()?,
-            choice: choice(alloc, own, others, MachineText::Value(n))?,
+            choice: machines.choice(alloc, MachineText::Value(n))?,
         })?;
     }
     Ok(())
@@ -67,15 +65,14 @@ pub fn named_for(
     alloc: Global,
     names: &[Word],
     probes: &[Word],
-    own: &Facts,
-    others: &[Facts],
+    machines: Machines<'_>,
     ways: Ways,
 ) -> Result<Listing<NamedText>, Fault> {
     let mut texts = Listing::new(alloc);
-    add_files(alloc, names, own, others, &mut texts)?;
-    add_folders_of(alloc, own.folders.as_slice(), &mut texts)?;
+    add_files(alloc, names, machines, &mut texts)?;
+    add_folders_of(alloc, machines.own.folders.as_slice(), &mut texts)?;
     match ways {
-        Ways::Texts => add_natives(alloc, probes, own, others, &mut texts)?,
+        Ways::Texts => add_natives(alloc, probes, machines, &mut texts)?,
         Ways::Rows => {
             add_row_values(alloc, probes, &mut texts)?;
             add_library(alloc, &mut texts)?;

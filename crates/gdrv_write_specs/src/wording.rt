@@ -1,5 +1,6 @@
 //! Texts of gcc in other words than those of the table of forms.
 
+use crate::asking::question_about;
 use crate::fault::Fault;
 use drv_gcc::{Choice, replace};
 use drv_words::{Listing, Word};
@@ -56,4 +57,52 @@ pub fn own_records(alloc: Global, usual: &[u8]) -> Result<Choice, Fault> {
         own: text,
         others: Listing::new(alloc),
     })
+}
+
+/// What a compilation says of options that it leaves out, as gcc does, and how its text hides them.
+fn dropping_text(alloc: Global, test: &[u8]) -> Result<Word, Fault> {
+    let mut text = Word::from_bytes(alloc, b"%{")?;
+    text.extend_from_slice(test)?;
+    text.extend_from_slice(b":%nswitch '-")?;
+    text.extend_from_slice(test.strip_suffix(b"*".as_slice()).unwrap_or(test))?;
+    text.extend_from_slice(b"' is no longer supported} %<")?;
+    text.extend_from_slice(test)?;
+    text.push(b' ')?;
+    Ok(text)
+}
+
+/// A spec file with some text in front of the texts that begin so.
+fn in_front(alloc: Global, specs: &Word, head: &[u8], text: &Word) -> Result<Word, Fault> {
+    let other = question_about(alloc, head, text.as_bytes())?;
+    Ok(replace(alloc, specs.as_bytes(), head, other.as_bytes())?)
+}
+
+/// A spec file by which each compilation leaves out the options of these tests.
+pub fn without_dropped(alloc: Global, specs: Word, tests: &[Word]) -> Result<Word, Fault> {
+    let mut whole = specs;
+    for test in tests {
+        let text = dropping_text(alloc, test.as_bytes())?;
+        whole = in_front(alloc, &whole, b"*driver_alone:\n", &text)?;
+    }
+    Ok(whole)
+}
+
+/// How a text refuses an option whatever its value is.
+fn refusing_text(alloc: Global, test: &[u8]) -> Result<Word, Fault> {
+    let mut text = Word::from_bytes(alloc, b"%{")?;
+    text.extend_from_slice(test)?;
+    text.extend_from_slice(b":%e-")?;
+    text.extend_from_slice(test.strip_suffix(b"*".as_slice()).unwrap_or(test))?;
+    text.extend_from_slice(b" is not in this spec file}")?;
+    Ok(text)
+}
+
+/// A spec file that refuses the options of these tests.
+pub fn with_refused(alloc: Global, specs: Word, tests: &[Word]) -> Result<Word, Fault> {
+    let mut whole = specs;
+    for test in tests {
+        let text = refusing_text(alloc, test.as_bytes())?;
+        whole = in_front(alloc, &whole, b"*refused_options:\n", &text)?;
+    }
+    Ok(whole)
 }

@@ -1,10 +1,10 @@
 //! The folder in which a spec file is written and tried before it is put in place.
 
-use crate::asking::{named, text};
+use crate::asking::{question_about, text};
 use crate::fault::Fault;
 use crate::gathering::PROBE;
 use drv_gcc::with_mark;
-use drv_words::{Word, parted};
+use drv_words::{Word, split_at_last};
 use itoa::Buffer;
 use std::alloc::Global;
 use std::{env, fs, process};
@@ -45,8 +45,8 @@ const PARTS: [&[u8]; 5] = [b".compile", b".c.compile", b".link", b".all", b".c.a
 const ENDINGS: [&[u8]; 3] = [b".gcc", b".options", b".specs"];
 
 /// A path with this after it.
-pub fn joined(alloc: Global, path: &Word, more: &[u8]) -> Result<Word, Fault> {
-    named(alloc, path.as_bytes(), more)
+pub fn join(alloc: Global, path: &Word, more: &[u8]) -> Result<Word, Fault> {
+    question_about(alloc, path.as_bytes(), more)
 }
 
 /// A path that is the same from any folder.
@@ -84,11 +84,11 @@ pub fn make_all(rt: &HostRuntime, path: &[u8]) -> Result<(), Fault> {
 
 /// The place of the folder for a spec file: in the same one, by the number of this process.
 fn work_path(rt: &HostRuntime, specs: &Word) -> Result<Word, Fault> {
-    let folder = match parted(b'/', specs.as_bytes()) {
+    let folder = match split_at_last(b'/', specs.as_bytes()) {
         Some((folder, _)) => folder,
         None => b".",
     };
-    let mut path = named(rt.alloc(), folder, b"/.gdrv-write-specs.")?;
+    let mut path = question_about(rt.alloc(), folder, b"/.gdrv-write-specs.")?;
     let number = process::id(rt.process());
     path.extend_from_slice(Buffer::new().format(number).as_bytes())?;
     Ok(path)
@@ -98,10 +98,10 @@ impl WorkFolder {
     /// The folder at a path, of which nothing is made yet.
     fn at(alloc: Global, path: Word) -> Result<WorkFolder, Fault> {
         Ok(WorkFolder {
-            lines: joined(alloc, &path, b"/lines")?,
-            driver: joined(alloc, &path, b"/bin/checked-gdrv-cc")?,
-            root: joined(alloc, &path, b"/root")?,
-            stem: joined(alloc, &path, b"/share/gdrv/checked")?,
+            lines: join(alloc, &path, b"/lines")?,
+            driver: join(alloc, &path, b"/bin/checked-gdrv-cc")?,
+            root: join(alloc, &path, b"/root")?,
+            stem: join(alloc, &path, b"/share/gdrv/checked")?,
             path,
         })
     }
@@ -110,14 +110,14 @@ impl WorkFolder {
     fn make_folders(&self, rt: &HostRuntime) -> Result<(), Fault> {
         make_folder(rt, &self.path)?;
         for folder in FOLDERS {
-            make_folder(rt, &joined(rt.alloc(), &self.path, folder)?)?;
+            make_folder(rt, &join(rt.alloc(), &self.path, folder)?)?;
         }
         Ok(())
     }
 
     /// Writes a file that lines are tried with.
     fn write_line_file(&self, rt: &HostRuntime, name: &[u8], content: &[u8]) -> Result<(), Fault> {
-        write(rt, &joined(rt.alloc(), &self.lines, name)?, content)
+        write(rt, &join(rt.alloc(), &self.lines, name)?, content)
     }
 
     /// Writes the files that lines are tried with.
@@ -148,7 +148,7 @@ impl WorkFolder {
 
     /// Writes a file of this ending, with its mark.
     pub fn put(&self, rt: &HostRuntime, ending: &[u8], content: &Word) -> Result<(), Fault> {
-        let path = joined(rt.alloc(), &self.stem, ending)?;
+        let path = join(rt.alloc(), &self.stem, ending)?;
         write(rt, &path, with_mark(content)?.as_bytes())
     }
 
@@ -162,15 +162,15 @@ impl WorkFolder {
         if let Some(content) = content {
             return self.put(rt, ending, &content);
         }
-        let path = joined(rt.alloc(), &self.stem, ending)?;
+        let path = join(rt.alloc(), &self.stem, ending)?;
         let _ = fs::remove_file(rt, text(path.as_bytes())?);
         Ok(())
     }
 
     /// Puts a part of the spec file in place of an earlier one, or removes that.
     fn place_part(&self, rt: &HostRuntime, stem: &Word, ending: &[u8]) -> Result<(), Fault> {
-        let from = joined(rt.alloc(), &self.stem, ending)?;
-        let to = joined(rt.alloc(), stem, ending)?;
+        let from = join(rt.alloc(), &self.stem, ending)?;
+        let to = join(rt.alloc(), stem, ending)?;
         let _ = fs::remove_file(rt, text(to.as_bytes())?);
         let _ = fs::rename(rt, text(from.as_bytes())?, text(to.as_bytes())?);
         Ok(())
@@ -178,8 +178,8 @@ impl WorkFolder {
 
     /// Puts a file of this ending in place.
     pub fn place_file(&self, rt: &HostRuntime, stem: &Word, ending: &[u8]) -> Result<(), Fault> {
-        let from = joined(rt.alloc(), &self.stem, ending)?;
-        let to = joined(rt.alloc(), stem, ending)?;
+        let from = join(rt.alloc(), &self.stem, ending)?;
+        let to = join(rt.alloc(), stem, ending)?;
         match fs::rename(rt, text(from.as_bytes())?, text(to.as_bytes())?) {
             Ok(()) => Ok(()),
             Err(_) => Err(Fault::NoPlace(to)),
