@@ -49,18 +49,36 @@ fn add_events(
     Ok(())
 }
 
+/// What becomes of a plan.
+#[derive(Clone, Copy)]
+pub enum Manner {
+    /// Carried out over the script.
+    CarriedOut,
+    /// Block by block, as the lines choose.
+    Chosen,
+}
+
+/// How a plan is run.
+#[derive(Clone, Copy)]
+struct Running {
+    /// How many sources are under way at once, at most.
+    window: Window,
+    /// The exit status where a command failed.
+    pass_codes: FailureStatus,
+}
+
 /// Carries out a plan on a fresh system.
 fn carry_out_on(
     alloc: Global,
     sys: &mut ScriptSystem,
     plan: &Plan,
-    window: Window,
-    pass_codes: FailureStatus,
+    running: Running,
     out: &mut Transcript,
 ) -> Result<(), AllocError>
     requires new { sys.old.journal ≡ [] }
 {
-    let status = execute(alloc, sys, plan, pass_codes, window.sources())?;
+    let sources = running.window.sources();
+    let status = execute(alloc, sys, plan, running.pass_codes, sources)?;
     add_events(sys.journal(), Some(plan), out)?;
     add_line(b"status ", usize::from(status), out)?;
     add_line(b"needed ", events_needed(plan).unwrap_or(0), out)
@@ -71,21 +89,11 @@ fn carry_out(
     alloc: Global,
     plan: &Plan,
     lines: &[Listing<Word>],
-    window: Window,
-    pass_codes: FailureStatus,
+    running: Running,
     out: &mut Transcript,
 ) -> Result<(), AllocError> {
     let mut sys = system(alloc, lines)?;
-    carry_out_on(alloc, &mut sys, plan, window, pass_codes, out)
-}
-
-/// How to run a plan.
-#[derive(Clone, Copy)]
-pub enum Manner {
-    /// Carried out over the script.
-    CarriedOut,
-    /// Block by block, as the lines choose.
-    Chosen,
+    carry_out_on(alloc, &mut sys, plan, running, out)
 }
 
 /// Runs the plan of these lines.
@@ -93,14 +101,13 @@ fn run_lines(
     alloc: Global,
     lines: &[Listing<Word>],
     manner: Manner,
-    window: Window,
-    pass_codes: FailureStatus,
+    running: Running,
     out: &mut Transcript,
 ) -> Result<(), AllocError> {
     let plan = plan(alloc, lines)?;
     match manner {
-        Manner::CarriedOut => carry_out(alloc, &plan, lines, window, pass_codes, out),
-        Manner::Chosen => choose_blocks(alloc, &plan, lines, window, pass_codes, out),
+        Manner::CarriedOut => carry_out(alloc, &plan, lines, running, out),
+        Manner::Chosen => choose_blocks(alloc, &plan, lines, running, out),
     }
 }
 
@@ -115,15 +122,9 @@ pub fn try_plan(
     let Some(window) = window_of(window) else {
         return Ok(out.add(b"a window is 1 to 64\n")?);
     };
+    let running = Running { window, pass_codes };
     let lines = read_lines(rt)?;
-    Ok(run_lines(
-        rt.alloc(),
-        lines.as_slice(),
-        manner,
-        window,
-        pass_codes,
-        out,
-    )?)
+    Ok(run_lines(rt.alloc(), lines.as_slice(), manner, running, out)?)
 }
 
 /// Adds a refusal as the user reads it.

@@ -118,37 +118,21 @@ fn in_link(words: &[Word]) -> Option<Called<'_>> {
 }
 
 impl Called<'_> {
-    /// The result of the function with these switches. It may change the outputs.
+    /// The result of the function with the switches. It may change the outputs.
     fn call<S: System>(
         &self,
         alloc: Global,
         sys: &mut S,
         function: Function,
-        switches: &Switches<'_>,
         outputs: &mut Outputs,
     ) -> Result<Option<Word>, FuncsFault> {
-        let hidden = Hidden::new(alloc, switches)?;
-        let mut facts = FactTable::new(alloc);
+        let line = switches_of(alloc, self.switches)?;
+        let switches = &Switches::new(alloc, &line)?;
+        let hidden = &Hidden::new(alloc, switches)?;
+        let facts = &mut FactTable::new(alloc);
         call(
-            alloc, function, self.args, switches, &hidden, self.site, outputs, sys, &mut facts,
+            alloc, function, self.args, switches, hidden, self.site, outputs, sys, facts,
         )
-    }
-
-    /// Adds the result of the function with these switches, followed by the outputs.
-    fn try_with<S: System>(
-        &self,
-        alloc: Global,
-        sys: &mut S,
-        function: Function,
-        switches: &Switches<'_>,
-        out: &mut Transcript,
-    ) -> Result<(), AllocError> {
-        let mut outputs = outputs_of(alloc, self.outputs)?;
-        add_given(
-            &self.call(alloc, sys, function, switches, &mut outputs),
-            out,
-        )?;
-        add_outputs(outputs.take()?.as_slice(), out)
     }
 
     /// Adds the result of the function, followed by the outputs.
@@ -161,9 +145,10 @@ impl Called<'_> {
         let Some(function) = Function::by_name(self.name.as_bytes()) else {
             return out.add(b"no function");
         };
-        let line = switches_of(alloc, self.switches)?;
-        let switches = Switches::new(alloc, &line)?;
-        self.try_with(alloc, sys, function, &switches, out)
+        let mut outputs = outputs_of(alloc, self.outputs)?;
+        let given = self.call(alloc, sys, function, &mut outputs);
+        add_given(&given, out)?;
+        add_outputs(outputs.take()?.as_slice(), out)
     }
 }
 

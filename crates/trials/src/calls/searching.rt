@@ -19,11 +19,11 @@ pub enum Wanted {
 fn find<S: System>(
     alloc: Global,
     sys: &mut S,
-    facts: &mut FactTable,
     wanted: Wanted,
     name: &Word,
     dirs: &[Word],
 ) -> Result<Word, SearchFault> {
+    let facts = &mut FactTable::new(alloc);
     let prefixes = Prefixes::new(alloc, dirs, sys, facts)?;
     match wanted {
         Wanted::Program => Ok(find_program(alloc, &prefixes, name, sys, facts)?),
@@ -55,8 +55,7 @@ pub fn try_search<S: System>(
     let [name, dirs @ ..] = words else {
         return out.add(NO_CALL);
     };
-    let mut facts = FactTable::new(alloc);
-    add_found(&find(alloc, sys, &mut facts, wanted, name, dirs), out)
+    add_found(&find(alloc, sys, wanted, name, dirs), out)
 }
 
 /// The options for the folders of libraries, with these arguments of `-B`.

@@ -185,175 +185,6 @@ fn add_lent(
     }
 }
 
-/// Loads a text into a set.
-fn load<S: System>(
-    alloc: Global,
-    sys: &mut S,
-    facts: &mut FactTable,
-    set: &mut SpecSet,
-    text: &[u8],
-) -> Result<(), SpecsFault> {
-    set.load(text, &nowhere(alloc), sys, facts)
-}
-
-/// Loads the file of this name into a set.
-fn load_file<S: System>(
-    alloc: Global,
-    sys: &mut S,
-    facts: &mut FactTable,
-    set: &mut SpecSet,
-    name: &[u8],
-) -> Result<(), SpecsFault> {
-    let name = Word::from_bytes(alloc, name)?;
-    set.load_file(&name, &nowhere(alloc), sys, facts)
-}
-
-/// How many beginnings of a text were accepted, and how many changed the empty set although they
-/// were refused.
-#[derive(Clone, Copy)]
-struct Fronts {
-    taken: u64,
-    left: u64,
-}
-
-impl Fronts {
-    /// Loads one beginning into the empty set.
-    fn try_front<S: System>(
-        &mut self,
-        alloc: Global,
-        sys: &mut S,
-        facts: &mut FactTable,
-        front: &[u8],
-    ) -> Result<(), AllocError> {
-        let mut set = SpecSet::empty(alloc);
-        if load(alloc, sys, facts, &mut set, front).is_ok() {
-            self.taken = self.taken.saturating_add(1);
-        } else if !set.dump()?.is_empty() {
-            self.left = self.left.saturating_add(1);
-        }
-        Ok(())
-    }
-}
-
-/// Adds the results for the beginnings of a text, from the empty one to the whole.
-fn add_fronts<S: System>(
-    alloc: Global,
-    sys: &mut S,
-    facts: &mut FactTable,
-    text: &[u8],
-    out: &mut Transcript,
-) -> Result<(), AllocError> {
-    let mut fronts = Fronts { taken: 0, left: 0 };
-    for length in 0..=text.len() {
-        fronts.try_front(alloc, sys, facts, &text[..length])?;
-    }
-    out.add_number(fronts.taken)?;
-    out.add(b" taken, ")?;
-    out.add_number(fronts.left)?;
-    out.add(b" left something")
-}
-
-/// Adds the results for the beginnings of a set's dump.
-fn try_fronts<S: System>(
-    alloc: Global,
-    sys: &mut S,
-    facts: &mut FactTable,
-    set: &SpecSet,
-    out: &mut Transcript,
-) -> Result<(), AllocError> {
-    let dump = set.dump()?;
-    add_fronts(alloc, sys, facts, dump.as_bytes(), out)
-}
-
-/// The set that replaces this one.
-fn replacement<S: System>(
-    alloc: Global,
-    sys: &mut S,
-    facts: &mut FactTable,
-    set: &SpecSet,
-    other: Other,
-) -> Result<SpecSet, AllocError> {
-    match other {
-        Other::Builtin => builtin(alloc),
-        Other::Empty => Ok(SpecSet::empty(alloc)),
-        Other::Again => again(alloc, sys, facts, set.dump()?.as_bytes()),
-    }
-}
-
-/// The empty set after loading a text.
-fn again<S: System>(
-    alloc: Global,
-    sys: &mut S,
-    facts: &mut FactTable,
-    text: &[u8],
-) -> Result<SpecSet, AllocError> {
-    let mut set = SpecSet::empty(alloc);
-    match load(alloc, sys, facts, &mut set, text) {
-        Err(SpecsFault::Memory) => Err(AllocError),
-        _ => Ok(set),
-    }
-}
-
-/// Replaces this set by another.
-fn begin<S: System>(
-    alloc: Global,
-    sys: &mut S,
-    facts: &mut FactTable,
-    set: &mut SpecSet,
-    other: Other,
-    out: &mut Transcript,
-) -> Result<(), AllocError> {
-    *set = replacement(alloc, sys, facts, set, other)?;
-    out.add(b"begun")
-}
-
-/// Loads a set's own dump into it.
-fn load_dump<S: System>(
-    alloc: Global,
-    sys: &mut S,
-    facts: &mut FactTable,
-    set: &mut SpecSet,
-) -> Result<(), SpecsFault> {
-    let dump = set.dump()?;
-    load(alloc, sys, facts, set, dump.as_bytes())
-}
-
-/// Adds the result of a load.
-fn try_load<S: System>(
-    alloc: Global,
-    sys: &mut S,
-    facts: &mut FactTable,
-    set: &mut SpecSet,
-    source: Source,
-    argument: &[u8],
-    out: &mut Transcript,
-) -> Result<(), AllocError> {
-    let loaded = match source {
-        Source::Text => load(alloc, sys, facts, set, argument),
-        Source::File => load_file(alloc, sys, facts, set, argument),
-        Source::Dump => load_dump(alloc, sys, facts, set),
-    };
-    add_loaded(alloc, &loaded, out)
-}
-
-/// Adds the result of a step.
-fn try_step<S: System>(
-    alloc: Global,
-    sys: &mut S,
-    facts: &mut FactTable,
-    set: &mut SpecSet,
-    step: Step,
-    argument: &[u8],
-    out: &mut Transcript,
-) -> Result<(), AllocError> {
-    match step {
-        Step::Begin(other) => begin(alloc, sys, facts, set, other, out),
-        Step::Load(source) => try_load(alloc, sys, facts, set, source, argument, out),
-        Step::Fronts => try_fronts(alloc, sys, facts, set, out),
-        Step::Lend(lent) => add_lent(set, lent, argument, out),
-    }
-}
-
 /// The index of the first `=` of a step.
 fn sign_in(step: &[u8]) -> Option<usize>
     ensures { IfSome result (λ at. at < length step.now) }
@@ -369,38 +200,142 @@ fn parts(step: &[u8]) -> (&[u8], &[u8]) {
     }
 }
 
-/// Adds the result of the step of a word.
-fn try_word<S: System>(
-    alloc: Global,
-    sys: &mut S,
-    facts: &mut FactTable,
-    set: &mut SpecSet,
-    word: &Word,
-    out: &mut Transcript,
-) -> Result<(), AllocError> {
-    let (name, argument) = parts(word.as_bytes());
-    match look_up(&STEPS, name) {
-        Some(step) => try_step(alloc, sys, facts, set, step, argument, out),
-        None => out.add(b"no such step"),
-    }
+/// How many beginnings of a text were accepted, and how many changed the empty set although they
+/// were refused.
+#[derive(Clone, Copy)]
+struct Fronts {
+    taken: u64,
+    left: u64,
 }
 
-/// Adds the results of these steps in turn, one on each line.
-fn try_words<S: System>(
+/// A set under trial, and what its loads ask.
+#[derive(Drop)]
+struct Trial<'s, S> {
     alloc: Global,
-    sys: &mut S,
-    facts: &mut FactTable,
-    set: &mut SpecSet,
-    words: &[Word],
-    out: &mut Transcript,
-) -> Result<(), AllocError> {
-    for (number, word) in words.iter().enumerate() {
-        if number > 0 {
-            out.add(b"\n")?;
-        }
-        try_word(alloc, sys, facts, set, word, out)?;
+    set: SpecSet,
+    sys: &'s mut S,
+    facts: FactTable,
+}
+
+impl<S: System> Trial<'_, S> {
+    /// Loads a text into the set.
+    fn load(&mut self, text: &[u8]) -> Result<(), SpecsFault> {
+        self.set
+            .load(text, &nowhere(self.alloc), self.sys, &mut self.facts)
     }
-    Ok(())
+
+    /// Loads the file of this name into the set.
+    fn load_file(&mut self, name: &[u8]) -> Result<(), SpecsFault> {
+        let name = Word::from_bytes(self.alloc, name)?;
+        self.set
+            .load_file(&name, &nowhere(self.alloc), self.sys, &mut self.facts)
+    }
+
+    /// Loads the set's own dump into it.
+    fn load_dump(&mut self) -> Result<(), SpecsFault> {
+        let dump = self.set.dump()?;
+        self.load(dump.as_bytes())
+    }
+
+    /// Loads a text into another set.
+    fn load_into(&mut self, set: &mut SpecSet, text: &[u8]) -> Result<(), SpecsFault> {
+        set.load(text, &nowhere(self.alloc), self.sys, &mut self.facts)
+    }
+
+    /// Loads the beginning of a text into the empty set, and counts it.
+    fn try_front(&mut self, front: &[u8], fronts: &mut Fronts) -> Result<(), AllocError> {
+        let mut set = SpecSet::empty(self.alloc);
+        if self.load_into(&mut set, front).is_ok() {
+            fronts.taken = fronts.taken.saturating_add(1);
+        } else if !set.dump()?.is_empty() {
+            fronts.left = fronts.left.saturating_add(1);
+        }
+        Ok(())
+    }
+
+    /// Adds the results for the beginnings of the set's dump, from the empty one to the whole.
+    fn try_fronts(&mut self, out: &mut Transcript) -> Result<(), AllocError> {
+        let dump = self.set.dump()?;
+        let text = dump.as_bytes();
+        let mut fronts = Fronts { taken: 0, left: 0 };
+        for length in 0..=text.len() {
+            self.try_front(&text[..length], &mut fronts)?;
+        }
+        out.add_number(fronts.taken)?;
+        out.add(b" taken, ")?;
+        out.add_number(fronts.left)?;
+        out.add(b" left something")
+    }
+
+    /// The empty set after loading the set's dump.
+    fn again(&mut self) -> Result<SpecSet, AllocError> {
+        let dump = self.set.dump()?;
+        let mut set = SpecSet::empty(self.alloc);
+        match self.load_into(&mut set, dump.as_bytes()) {
+            Err(SpecsFault::Memory) => Err(AllocError),
+            _ => Ok(set),
+        }
+    }
+
+    /// Replaces the set by another.
+    fn begin(&mut self, other: Other, out: &mut Transcript) -> Result<(), AllocError> {
+        self.set = match other {
+            Other::Builtin => builtin(self.alloc)?,
+            Other::Empty => SpecSet::empty(self.alloc),
+            Other::Again => self.again()?,
+        };
+        out.add(b"begun")
+    }
+
+    /// Adds the result of a load.
+    fn try_load(
+        &mut self,
+        source: Source,
+        argument: &[u8],
+        out: &mut Transcript,
+    ) -> Result<(), AllocError> {
+        let loaded = match source {
+            Source::Text => self.load(argument),
+            Source::File => self.load_file(argument),
+            Source::Dump => self.load_dump(),
+        };
+        add_loaded(self.alloc, &loaded, out)
+    }
+
+    /// Adds the result of a step.
+    fn try_step(
+        &mut self,
+        step: Step,
+        argument: &[u8],
+        out: &mut Transcript,
+    ) -> Result<(), AllocError> {
+        match step {
+            Step::Begin(other) => self.begin(other, out),
+            Step::Load(source) => self.try_load(source, argument, out),
+            Step::Fronts => self.try_fronts(out),
+            Step::Lend(lent) => add_lent(&self.set, lent, argument, out),
+        }
+    }
+
+    /// Adds the result of the step of a word.
+    fn try_word(&mut self, word: &Word, out: &mut Transcript) -> Result<(), AllocError> {
+        let (name, argument) = parts(word.as_bytes());
+        match look_up(&STEPS, name) {
+            Some(step) => self.try_step(step, argument, out),
+            None => out.add(b"no such step"),
+        }
+    }
+
+    /// Adds the results of these steps in turn, one on each line.
+    fn try_words(&mut self, words: &[Word], out: &mut Transcript) -> Result<(), AllocError> {
+        for (number, word) in words.iter().enumerate() {
+            if number > 0 {
+                out.add(b"\n")?;
+            }
+            self.try_word(word, out)?;
+        }
+        Ok(())
+    }
 }
 
 /// Adds the results of these steps, beginning with the empty set, one on each line.
@@ -410,7 +345,11 @@ pub fn try_steps<S: System>(
     steps: &[Word],
     out: &mut Transcript,
 ) -> Result<(), AllocError> {
-    let mut set = SpecSet::empty(alloc);
-    let mut facts = FactTable::new(alloc);
-    try_words(alloc, sys, &mut facts, &mut set, steps, out)
+    let mut trial = Trial {
+        alloc,
+        set: SpecSet::empty(alloc),
+        sys,
+        facts: FactTable::new(alloc),
+    };
+    trial.try_words(steps, out)
 }

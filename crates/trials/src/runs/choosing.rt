@@ -11,10 +11,11 @@
 ghost use Rattle.drv_words.specs.Stepping.{fits, fits_start, is_child, is_new};
 ghost use Rattle.std.specs.Prelude.{◌≡◌};
 
+use super::Running;
 use super::showing::{add_line, add_made};
 use crate::answers::answer_of;
 use crate::transcript::Transcript;
-use drv_core::{Action, FailureStatus, Run, Window};
+use drv_core::{Action, Run};
 use drv_words::{Answer, Listing, Plan, RunEvent, StartAnswer, Step, Word};
 use std::alloc::{AllocError, Global};
 use std::str::from_utf8;
@@ -141,11 +142,10 @@ pub fn choose_blocks(
     alloc: Global,
     plan: &Plan,
     lines: &[Listing<Word>],
-    window: Window,
-    pass_codes: FailureStatus,
+    running: Running,
     out: &mut Transcript,
 ) -> Result<(), AllocError> {
-    let mut run = Run::new(alloc, plan, pass_codes, window.sources())?;
+    let mut run = Run::new(alloc, plan, running.pass_codes, running.window.sources())?;
     for line in lines {
         go(&mut run, plan, line.as_slice(), out)?;
     }

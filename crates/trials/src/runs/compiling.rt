@@ -11,7 +11,7 @@ use crate::runs::showing::add_line;
 use crate::script::{read_lines, system};
 use crate::transcript::Transcript;
 use drv_cc::Variable;
-use drv_compile::{Calling, Host, HostEvent, Outcome, beside, calling_of, compile};
+use drv_compile::{Host, HostEvent, Outcome, beside, calling_of, compile};
 use drv_system::{Event, ScriptSystem, System};
 use drv_words::{Listing, Word};
 use std::alloc::{AllocError, Global};
@@ -211,35 +211,20 @@ fn add_call(
     }
 }
 
-/// Makes a call of `gdrv-cc` as its name says, with the files beside the program at `/bin/`.
-fn compile_as(
-    alloc: Global,
-    calling: &Calling,
-    args: &Listing<Word>,
-    sys: &mut ScriptSystem,
-    host: &mut ScriptHost,
-    out: &mut Transcript,
-) -> Result<(), AllocError>
-    requires { sys.old.journal ≡ [] }
-{
-    let own = Some(beside(alloc, b"/bin/gdrv-cc", calling.machine.as_bytes())?);
-    let outcome = compile(alloc, calling, &own, args, SEED, sys, host);
-    add_call(sys, host, &outcome, out)
-}
-
-/// Makes a call of `gdrv-cc` by a name on this system and host.
+/// Makes a call of `gdrv-cc` by a name on this system and host, with the files beside the program at
+/// `/bin/`.
 fn compile_on(
     alloc: Global,
     name: &Word,
     args: &Listing<Word>,
     sys: &mut ScriptSystem,
     host: &mut ScriptHost,
-    out: &mut Transcript,
-) -> Result<(), AllocError>
+) -> Result<Outcome, AllocError>
     requires { sys.old.journal ≡ [] }
 {
     let calling = calling_of(alloc, name.as_bytes())?;
-    compile_as(alloc, &calling, args, sys, host, out)
+    let own = Some(beside(alloc, b"/bin/gdrv-cc", calling.machine.as_bytes())?);
+    Ok(compile(alloc, &calling, &own, args, SEED, sys, host))
 }
 
 /// Makes a call of `gdrv-cc` by a name over what lines say.
@@ -252,7 +237,8 @@ fn compile_over(
 ) -> Result<(), AllocError> {
     let mut sys = system(alloc, lines)?;
     let mut host = host(alloc, lines)?;
-    compile_on(alloc, name, args, &mut sys, &mut host, out)
+    let outcome = compile_on(alloc, name, args, &mut sys, &mut host)?;
+    add_call(&sys, &host, &outcome, out)
 }
 
 /// Makes a call of `gdrv-cc` by a name with these arguments.
