@@ -2,18 +2,18 @@ use Rattle.drv_args.specs.Options.{option_table}
 use Rattle.drv_args.specs.declared.line.Switch.{Switch}
 use Rattle.drv_words.specs.Bytes.{equals, hyphen}
 use Rattle.gdrv.proofs.Nearness.{first_of, near_is_edit, near_sized, never, second_of}
-use Rattle.gdrv.specs.Code.Doubts.{has_ends, is_last, is_second, last_of}
+use Rattle.gdrv.specs.Code.Doubts.{has_ends, is_front, is_last, last_of}
 use Rattle.gdrv.specs.Meant.{IsEdit, before, compared_part, is_doubtful, is_meant, is_near, long_options, meant_option, names_file, one_later, one_less, one_more}
 use Rattle.gdrv.specs.Meant.{one_other, takes_equals, through, two_swapped, word_of}
 use Rattle.std.proofs.Common.{◌≡◌, ◌∙◌, ◌&&◌, ◌==◌, ◌⊎◌, ◌<◌, ◌≤◌, ◌+◌, ◌-◌, Bool, List, [], ◌∷◌, None, Option, Some, ap, arith, false, get_or}
-use Rattle.std.proofs.Common.{if◌then◌else◌, inl, inr, length, refl, suc, sym, true, ℕ}
+use Rattle.std.proofs.Common.{if◌then◌else◌, inl, inr, length, refl, suc, sym, take, true, zero, ℕ}
 use Rattle.std.proofs.lemmas.Bool.Decides.{nat_tests}
 use Rattle.std.proofs.lemmas.List.{length-take}
 use Rattle.std.specs.List.{list_all, position, position_or_len}
 use Rattle.std.specs.Prelude.{find, is_some, nat_lt}
 
--- For `may_be_meant` (meant.rt): one edit leaves the second byte of a word or its last one as it was. So a word with neither end of a long
--- option was not meant to be one.
+-- For `may_be_meant` (meant.rt): one edit leaves the first three bytes of a word or its last one as they were. So a word with neither end
+-- of a long option was not meant to be one.
 
 -- a byte before a word leaves its last byte
 last_more : (b : ℕ) (word : List ℕ) → 0 < length word → last_of (b ∷ word) ≡ last_of word
@@ -23,39 +23,28 @@ last_more b (c ∷ word) some =
     let short : length (c ∷ word) - 1 ≡ length word = omega arith in
     ap (λ n. get_or (b ∷ c ∷ word) n 0) long ∙ sym (ap (λ n. get_or (c ∷ word) n 0) short)
 
--- one edit leaves the first byte or the last one
-one_end : (word edited : List ℕ) → IsEdit word edited → 3 ≤ length word → 3 ≤ length edited
-    → (get_or word 0 0 ≡ get_or edited 0 0) ⊎ (last_of word ≡ last_of edited)
-one_end word (b ∷ rest) one_less h k = inr (sym (last_more b word (omega (arith, h))))
-one_end (b ∷ word) rest one_more h k = inr (last_more b rest (omega (arith, k)))
-one_end (b ∷ word) (c ∷ rest) (one_other apart) h k =
+-- one edit leaves the first bytes, as many as are asked for, or the last one
+ends_stay : (n : ℕ) (word edited : List ℕ) → IsEdit word edited → n < length word → n + 1 < length edited
+    → (take n word ≡ take n edited) ⊎ (last_of word ≡ last_of edited)
+ends_stay zero word edited edit h k = inl refl
+ends_stay (suc n) word (b ∷ rest) one_less h k = inr (sym (last_more b word (omega (arith, h))))
+ends_stay (suc n) (b ∷ word) rest one_more h k = inr (last_more b rest (omega (arith, k)))
+ends_stay (suc n) (b ∷ word) (c ∷ rest) (one_other apart) h k =
     inr (last_more b rest (omega (arith, k)) ∙ sym (last_more c rest (omega (arith, k))))
-one_end (b ∷ c ∷ word) (d ∷ e ∷ rest) (two_swapped apart) h k =
-    inr (last_more b (c ∷ word) (omega arith) ∙ last_more c word (omega (arith, h)) ∙ sym (last_more b word (omega (arith, h)))
+ends_stay (suc n) (b ∷ c ∷ word) (d ∷ e ∷ rest) (two_swapped apart) h k =
+    inr (last_more b (c ∷ word) (omega arith) ∙ last_more c word (omega (arith, k)) ∙ sym (last_more b word (omega (arith, k)))
     ∙ sym (last_more c (b ∷ word) (omega arith)))
-one_end (b ∷ word) (c ∷ edited) (one_later edit) h k = inl refl
-
--- and the second byte or the last one
-ends_stay : (word edited : List ℕ) → IsEdit word edited → 4 ≤ length word → 4 ≤ length edited
-    → (get_or word 1 0 ≡ get_or edited 1 0) ⊎ (last_of word ≡ last_of edited)
-ends_stay word (b ∷ rest) one_less h k = inr (sym (last_more b word (omega (arith, h))))
-ends_stay (b ∷ word) rest one_more h k = inr (last_more b rest (omega (arith, k)))
-ends_stay (b ∷ word) (c ∷ rest) (one_other apart) h k =
-    inr (last_more b rest (omega (arith, k)) ∙ sym (last_more c rest (omega (arith, k))))
-ends_stay (b ∷ c ∷ word) (d ∷ e ∷ rest) (two_swapped apart) h k =
-    inr (last_more b (c ∷ word) (omega arith) ∙ last_more c word (omega (arith, h)) ∙ sym (last_more b word (omega (arith, h)))
-    ∙ sym (last_more c (b ∷ word) (omega arith)))
-ends_stay (b ∷ word) (c ∷ edited) (one_later edit) h k = by (one_end word edited edit (omega (arith, h)) (omega (arith, k)))
+ends_stay (suc n) (b ∷ word) (c ∷ edited) (one_later edit) h k = by (ends_stay n word edited edit (omega (arith, h)) (omega (arith, k)))
   where
-    by : (get_or word 0 0 ≡ get_or edited 0 0) ⊎ (last_of word ≡ last_of edited)
-        → (get_or (b ∷ word) 1 0 ≡ get_or (c ∷ edited) 1 0) ⊎ (last_of (b ∷ word) ≡ last_of (c ∷ edited))
-    by (inl same) = inl same
-    by (inr same) = inr (last_more b word (omega (arith, h)) ∙ same ∙ sym (last_more c edited (omega (arith, k))))
+    by : (take n word ≡ take n edited) ⊎ (last_of word ≡ last_of edited)
+        → (take (suc n) (b ∷ word) ≡ take (suc n) (b ∷ edited)) ⊎ (last_of (b ∷ word) ≡ last_of (b ∷ edited))
+    by (inl same) = inl (ap (λ ws. b ∷ ws) same)
+    by (inr same) = inr (last_more b word (omega (arith, h)) ∙ same ∙ sym (last_more b edited (omega (arith, k))))
 
 -- a word with the ends of a long option is long
 ends_long : (option : List ℕ) → has_ends option ≡ true → 4 < length option
 ends_long option ends =
-    let long = first_of (nat_lt 4 (length option)) (is_second (get_or option 1 0) && is_last (last_of option)) ends in
+    let long = first_of (nat_lt 4 (length option)) (is_front (get_or option 1 0) (get_or option 2 0) && is_last (last_of option)) ends in
     grind (arith, nat_tests, long)
 
 -- what is compared of a word is no longer than the word
@@ -68,29 +57,44 @@ compared_short word option = by (takes_equals option) (position (λ b. b == equa
     by false None = omega arith
     by false (Some n) = omega (arith, length-take n word)
 
+-- the test of the second and third bytes is about the first three
+front_of : (word option : List ℕ) → take 3 word ≡ take 3 option → 2 < length word → 2 < length option
+    → is_front (get_or word 1 0) (get_or word 2 0) ≡ is_front (get_or option 1 0) (get_or option 2 0)
+front_of [] option same h k = absurd (omega (arith, h))
+front_of (a ∷ []) option same h k = absurd (omega (arith, h))
+front_of (a ∷ b ∷ []) option same h k = absurd (omega (arith, h))
+front_of (a ∷ b ∷ c ∷ word) [] same h k = absurd (omega (arith, k))
+front_of (a ∷ b ∷ c ∷ word) (d ∷ []) same h k = absurd (omega (arith, k))
+front_of (a ∷ b ∷ c ∷ word) (d ∷ e ∷ []) same h k = absurd (omega (arith, k))
+front_of (a ∷ b ∷ c ∷ word) (d ∷ e ∷ f ∷ option) same h k = ap (λ front. is_front (get_or front 1 0) (get_or front 2 0)) same
+
 -- a word with neither end of a long option isn't near an option with both
-ends_far : (word option : List ℕ) → is_second (get_or word 1 0) ≡ false → is_last (last_of word) ≡ false → has_ends option ≡ true
-    → is_near word option ≡ false
-ends_far word option second last ends = never (is_near word option) far
+ends_far : (word option : List ℕ) → is_front (get_or word 1 0) (get_or word 2 0) ≡ false → is_last (last_of word) ≡ false
+    → has_ends option ≡ true → is_near word option ≡ false
+ends_far word option front last ends = never (is_near word option) far
   where
-    others : (is_second (get_or option 1 0) && is_last (last_of option)) ≡ true
-    others = second_of (nat_lt 4 (length option)) (is_second (get_or option 1 0) && is_last (last_of option)) ends
+    others : (is_front (get_or option 1 0) (get_or option 2 0) && is_last (last_of option)) ≡ true
+    others =
+        second_of (nat_lt 4 (length option)) (is_front (get_or option 1 0) (get_or option 2 0) && is_last (last_of option)) ends
 
     long : 4 < length option
     long = ends_long option ends
 
-    by : (get_or word 1 0 ≡ get_or option 1 0) ⊎ (last_of word ≡ last_of option) → ⊥
-    by (inl same) =
-        let t : true ≡ false = sym (first_of (is_second (get_or option 1 0)) (is_last (last_of option)) others) ∙ sym (ap is_second same) ∙ second in
+    by : 3 < length word → (take 3 word ≡ take 3 option) ⊎ (last_of word ≡ last_of option) → ⊥
+    by size (inl same) =
+        let o = first_of (is_front (get_or option 1 0) (get_or option 2 0)) (is_last (last_of option)) others in
+        let t : true ≡ false = sym o ∙ sym (front_of word option same (omega (arith, size)) (omega (arith, long))) ∙ front in
         absurd cc
-    by (inr same) =
-        let t : true ≡ false = sym (second_of (is_second (get_or option 1 0)) (is_last (last_of option)) others) ∙ sym (ap is_last same) ∙ last in
+    by size (inr same) =
+        let o = second_of (is_front (get_or option 1 0) (get_or option 2 0)) (is_last (last_of option)) others in
+        let t : true ≡ false = sym o ∙ sym (ap is_last same) ∙ last in
         absurd cc
 
     far : is_near word option ≡ true → ⊥
     far is =
         let size = near_sized word option is in
-        by (ends_stay word option (near_is_edit word option is) (omega (arith, long, size.1)) (omega (arith, long)))
+        let h : 3 < length word = omega (arith, long, size.1) in
+        by h (ends_stay 3 word option (near_is_edit word option is) h (omega (arith, long)))
 
 -- a word without a = is compared as it is
 compared_whole : (word option : List ℕ) → position (λ b. b == equals) word ≡ None → compared_part word option ≡ word
@@ -134,9 +138,9 @@ no_equals name none = by (nat_lt (position_or_len (λ b. b == equals) name) (len
         ap (λ (t : Bool). if t then Some (1 + position_or_len (λ b. b == equals) name) else None) past
 
 -- so a word whose ends are none of a long option, and that has no =, was not meant to be one
-pub ends_unmeant : (name : List ℕ) → 2 ≤ length name → is_second (get_or name 0 0) ≡ false → is_last (get_or name (length name - 1) 0) ≡ false
-    → position (λ b. b == equals) name ≡ None → meant_option (hyphen ∷ name) ≡ None
-ends_unmeant name long second last none =
+pub ends_unmeant : (name : List ℕ) → 3 ≤ length name → is_front (get_or name 0 0) (get_or name 1 0) ≡ false
+    → is_last (get_or name (length name - 1) 0) ≡ false → position (λ b. b == equals) name ≡ None → meant_option (hyphen ∷ name) ≡ None
+ends_unmeant name long front last none =
     not_meant (hyphen ∷ name) (unmet (is_meant (hyphen ∷ name)) has_ends long_options far long_ends)
   where
     last_is : is_last (last_of (hyphen ∷ name)) ≡ false
@@ -144,10 +148,10 @@ ends_unmeant name long second last none =
 
     far : (option : List ℕ) → has_ends option ≡ true → is_meant (hyphen ∷ name) option ≡ false
     far option ends = ap (λ word. is_near word option) (compared_whole (hyphen ∷ name) option (no_equals name none))
-        ∙ ends_far (hyphen ∷ name) option second last_is ends
+        ∙ ends_far (hyphen ∷ name) option front last_is ends
 
--- nor was a word of two bytes or less
-pub short_unmeant : (name : List ℕ) → length name < 2 → meant_option (hyphen ∷ name) ≡ None
+-- nor was a word of three bytes or less
+pub short_unmeant : (name : List ℕ) → length name < 3 → meant_option (hyphen ∷ name) ≡ None
 short_unmeant name short = not_meant (hyphen ∷ name) (unmet (is_meant (hyphen ∷ name)) has_ends long_options far long_ends)
   where
     far : (option : List ℕ) → has_ends option ≡ true → is_meant (hyphen ∷ name) option ≡ false

@@ -18,7 +18,7 @@ use drv_words::{Listing, Word};
 use meant::hints;
 use noting::place_noted;
 use question::{Question, question_of};
-use records::{has_own_specs, tell_of_records};
+use records::tell_of_records;
 use std::alloc::{AllocError, Global};
 use std::io::{self, ErrorKind};
 use std::process::ExitCode;
@@ -94,13 +94,12 @@ fn more_text(alloc: Global, call: &EndedCall, facts: &mut FactTable) -> Word {
 fn call(rt: &HostRuntime, args: Listing<Word>) -> Result<ExitCode, AllocError> {
     let seed = clock_seed(rt)?;
     let mut sys = HostSystem::new(rt.clone()?, Reporter::Gdrv);
-    let has_own_specs = has_own_specs(args.as_slice());
     let facts = &mut FactTable::new(rt.alloc());
     let call = drive_over(rt.alloc(), &mut sys, args, seed, facts);
     let status = finish(rt, &call.ending);
     complain(rt, more_text(rt.alloc(), &call, facts).as_bytes());
-    if !has_own_specs {
-        tell_of_records(rt, sys.journal());
+    if let Some(line) = &call.line {
+        tell_of_records(rt, line, sys.journal());
     }
     Ok(status)
 }

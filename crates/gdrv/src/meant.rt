@@ -8,7 +8,7 @@ ghost use Rattle.drv_system.specs.Code.Asked.{Asked};
 ghost use Rattle.drv_system.specs.Facts.{Facts};
 ghost use Rattle.drv_system.specs.Known.{Is};
 ghost use Rattle.drv_words.specs.Bytes.{equals, hyphen};
-ghost use Rattle.gdrv.specs.Code.Doubts.{is_last, is_second};
+ghost use Rattle.gdrv.specs.Code.Doubts.{is_front, is_last};
 ghost use Rattle.gdrv.specs.Meant.{HintsOf, IsEdit, before, compared_part, hint_of, hint_text, hints_of};
 ghost use Rattle.gdrv.specs.Meant.{is_doubtful, is_front_edited, is_meant, is_near, is_single};
 ghost use Rattle.gdrv.specs.Meant.{is_swapped, long_options, meant_option, names_file, takes_equals, through};
@@ -236,18 +236,20 @@ fn word_of(alloc: Global, switch: &Switch) -> Result<Word, AllocError>
     Ok(word)
 }
 
-/// Whether a byte is the second one of a long option.
-fn is_second(byte: u8) -> bool
-    ensures { result ≡ is_second byte }
+/// Whether a long option has these as its second and third bytes.
+fn is_front(second: u8, third: u8) -> bool
+    ensures { result ≡ is_front second third }
 {
-    byte == b'-'
-        || byte == b'T'
-        || byte == b'X'
-        || byte == b'a'
-        || byte == b'd'
-        || byte == b'i'
-        || byte == b'p'
-        || byte == b's'
+    matches!(
+        (second, third),
+        (b'-', b'j' | b'p' | b's')
+            | (b'T', b'b' | b'd' | b't')
+            | (b'X', b'a' | b'l' | b'p')
+            | (b'a' | b'd', b'u')
+            | (b'i', b'd' | b'm' | b'n' | b'p' | b'q' | b's' | b'w')
+            | (b'p', b'a' | b'i')
+            | (b's', b'p')
+    )
 }
 
 /// Whether a byte is the last one of a long option.
@@ -265,16 +267,16 @@ fn is_last(byte: u8) -> bool
         || byte == b'x'
 }
 
-/// Whether the word of a switch may be meant to be an option. Most are not, which the ends of the
-/// switch's name tell.
+/// Whether the word of a switch may be meant to be an option. Most are not, which the first bytes of
+/// the switch's name and its last one tell.
 #[tactic(auto, using(crate::proofs::Doubts::short_unmeant, crate::proofs::Doubts::ends_unmeant))]
 fn may_be_meant(name: &[u8]) -> bool
     ensures { IsFalse result → meant_option (hyphen ∷ name.now) ≡ None }
 {
-    if name.len() < 2 {
+    if name.len() < 3 {
         return false;
     }
-    if is_second(name[0]) {
+    if is_front(name[0], name[1]) {
         return true;
     }
     if is_last(name[name.len() - 1]) {

@@ -1,18 +1,13 @@
 //! The message at a terminal after a run that only recorded its calls.
 
+use drv_args::Line;
 use drv_system::{Event, complain};
-use drv_words::{Answer, RunEvent, StartAnswer, Word};
+use drv_words::{Answer, RunEvent, StartAnswer};
 use std::io::IsTerminal;
 
 /// The message.
 const RECORDS: &[u8] =
     b"gdrv: rectool recorded these calls and compiled nothing; to compile, use gdrv-cc\n";
-
-/// Whether the words may name spec files besides the built-in specs, which start only rectool.
-pub fn has_own_specs(args: &[Word]) -> bool {
-    args.iter().any(|word| word.as_bytes().starts_with(b"-specs=")
-        || word.as_bytes().starts_with(b"@"))
-}
 
 /// Whether an event started a program.
 fn is_start(event: &Event) -> bool {
@@ -25,10 +20,12 @@ fn is_start(event: &Event) -> bool {
     )
 }
 
-/// On a terminal, says that a call with the built-in specs compiled nothing, if it started a
-/// program. Scripts, whose standard error is not a terminal, don't see the message.
-pub fn tell_of_records(rt: &HostRuntime, events: &[Event]) {
-    if events.iter().any(is_start) && rt.stderr().is_terminal() {
+/// On a terminal, says that a call with the built-in specs alone, which start only rectool, compiled
+/// nothing, if it started a program. Scripts, whose standard error is not a terminal, don't see the
+/// message.
+pub fn tell_of_records(rt: &HostRuntime, line: &Line, events: &[Event]) {
+    let has_own_specs = !line.settings.specs.as_slice().is_empty();
+    if !has_own_specs && events.iter().any(is_start) && rt.stderr().is_terminal() {
         complain(rt, RECORDS);
     }
 }
