@@ -1,15 +1,15 @@
 use Rattle.drv_cc.proofs.LongNames.{no_rename}
-use Rattle.drv_cc.specs.Code.Known.{again, by_names}
-use Rattle.drv_cc.specs.Items.{Start, Wants, Whole, accepts, begins, beyond, by_row, first_row, head_of, is_among, is_file, is_known}
-use Rattle.drv_cc.specs.Items.{is_longer, is_number, is_open, item, items_of, judges, known_item, leaves, machine_item, meant_option, plain}
-use Rattle.drv_cc.specs.Items.{positive_form, renamed_by}
+use Rattle.drv_cc.specs.Code.Known.{again}
+use Rattle.drv_cc.specs.Items.{Start, Wants, Whole, accepts, begins, beyond, by_row, first_row, head_of, is_file, is_known}
+use Rattle.drv_cc.specs.Items.{is_longer, is_number, is_open, is_passed_over, item, items_of, judges, known_item, leaves, machine_item}
+use Rattle.drv_cc.specs.Items.{meant_option, passed_item, plain, positive_form, renamed_by}
 use Rattle.drv_cc.specs.Items.{start_of, start_option, start_renamed, takes_value, turns_off, value_of, with_rest, with_start}
-use Rattle.drv_cc.specs.Table.{OptionRow, ignored, renames, sections, table, texts}
+use Rattle.drv_cc.specs.Table.{OptionRow, renames, sections, table}
 use Rattle.drv_cc.specs.UnknownWords.{is_unknown}
 use Rattle.drv_cc.specs.declared.item.Item.{Item}
 use Rattle.drv_cc.specs.declared.table.Role.TheVariants.{Question, Switch, Unknown}
-use Rattle.drv_cc.specs.declared.table.Spelling.TheVariants.{Alone, Nowhere}
-use Rattle.drv_cc.specs.declared.table.Takes.TheVariants.{Attached, Either, Next, Nothing, Rest}
+use Rattle.drv_cc.specs.declared.table.Spelling.TheVariants.{Alone}
+use Rattle.drv_cc.specs.declared.table.Takes.TheVariants.{Attached, Either, Newer, Next, Nothing, Rest}
 use Rattle.drv_cc.specs.declared.table.Takes.{Takes}
 use Rattle.drv_words.specs.Bytes.{equals}
 use Rattle.std.proofs.Common.{Err, IfOk, Ok, Result, ◌≡◌, ◌==◌, ◌&&◌, ◌||◌, ◌∙◌, ◌<◌, ◌++◌, Bool, List, [], ◌∷◌, None, Option, Some, ap}
@@ -26,6 +26,20 @@ use Rattle.std.specs.List.{list_any}
 no_row : list_any (λ r. is_unknown r.role) table ≡ false
 unfolding sections
 no_row = refl
+
+-- A row whose name newer compilers alone give has no name: none is so.
+abbrev is_nameless : Takes → List ℕ → Bool
+is_nameless Nothing name = false
+is_nameless Newer name = not (nat_lt 0 (length name))
+is_nameless Attached name = false
+is_nameless Rest name = false
+is_nameless Next name = false
+is_nameless Either name = false
+
+-- The table is computed to see it.
+all_named : list_any (λ r. is_nameless r.takes r.name) table ≡ false
+unfolding sections
+all_named = refl
 
 -- Parts the test of a list into that of its first row and that of the others.
 both_false : (a b : Bool) → (a || b) ≡ false → (a ≡ false) × (b ≡ false)
@@ -48,6 +62,10 @@ found_passes p q (x ∷ rows) r e missed = by (p x) refl e (both_false (q x) (li
 row_known : (word : List ℕ) (r : OptionRow) → first_row word ≡ Some r → is_unknown r.role ≡ false
 row_known word r e = (found_passes _ (λ r. is_unknown r.role) table r e no_row).1
 
+-- Nor does it lack the name that newer compilers alone give.
+row_named : (word : List ℕ) (r : OptionRow) → first_row word ≡ Some r → is_nameless r.takes r.name ≡ false
+row_named word r e = (found_passes _ (λ r. is_nameless r.takes r.name) table r e all_named).1
+
 -- So an option of the table stays as it is when the line is asked again.
 row_again : (known : List ℕ) (r : OptionRow) (argument : List ℕ) → is_unknown r.role ≡ false
     → again known (by_row r argument) ≡ by_row r argument
@@ -67,16 +85,23 @@ IsFit (Wants r) = is_unknown r.role ≡ false
 abbrev Begun : List ℕ → Start → Start → Type 0
 Begun known before after = (start_again known before ≡ after) × IsFit before
 
--- A word that a row of the table fits is read alike with and without names, in each way that an option takes its argument.
-rest_begun : (known : List ℕ) (takes : Takes) (r : OptionRow) (rest : List ℕ) → is_unknown r.role ≡ false
-    → Begun known (with_rest takes r rest) (with_rest takes r rest)
-rest_begun known Nothing r rest e = (ap Whole (row_again known r [] e), tt)
-rest_begun known Next r rest e = (refl, e)
-rest_begun known Attached r [] e = (refl, tt)
-rest_begun known Attached r (b ∷ rest) e = (ap Whole (row_again known r (b ∷ rest) e), tt)
-rest_begun known Rest r rest e = (ap Whole (row_again known r rest e), tt)
-rest_begun known Either r [] e = (refl, e)
-rest_begun known Either r (b ∷ rest) e = (ap Whole (row_again known r (b ∷ rest) e), tt)
+-- what is not false is true
+not_false : (t : Bool) → not t ≡ false → t ≡ true
+not_false true e = refl
+not_false false e = absurd cc
+
+-- A word that a row of the table fits is read alike with and without names, in each way that an option takes its argument. One to which
+-- newer compilers alone give its name is asked again.
+rest_begun : (known : List ℕ) (takes : Takes) (r : OptionRow) (rest : List ℕ) → is_unknown r.role ≡ false → is_nameless takes r.name ≡ false
+    → Begun known (with_rest [] takes r rest) (with_rest known takes r rest)
+rest_begun known Nothing r rest e named = (ap Whole (row_again known r [] e), tt)
+rest_begun known Newer r rest e named = (rw (not_false (nat_lt 0 (length r.name)) named) refl, tt)
+rest_begun known Next r rest e named = (refl, e)
+rest_begun known Attached r [] e named = (refl, tt)
+rest_begun known Attached r (b ∷ rest) e named = (ap Whole (row_again known r (b ∷ rest) e), tt)
+rest_begun known Rest r rest e named = (ap Whole (row_again known r rest e), tt)
+rest_begun known Either r [] e named = (refl, e)
+rest_begun known Either r (b ∷ rest) e named = (ap Whole (row_again known r (b ∷ rest) e), tt)
 
 -- nothing is known by an empty text but the empty name
 unknown_some : (name : List ℕ) → 0 < length name → is_known [] name ≡ false
@@ -185,35 +210,34 @@ off_again known word b name is off =
 abbrev chosen : Bool → Bool → Bool → Item → Item → Item → Item
 chosen off taken judged known question unknown = cond (off || taken) known (cond judged question unknown)
 
+-- what a word is that no row fits, by whether it is passed over
+abbrev passed_or : List ℕ → List ℕ → List ℕ → Bool → Item
+passed_or known word name passed = cond passed (passed_item known word name)
+    (chosen (turns_off known word) (accepts known name) (judges known name) (known_item known name) (plain Question word) (plain Unknown word))
+
 -- Without names a word that no row fits, that is not passed over and turns no warning off, is unknown.
-unknown_first : (word : List ℕ) (b : ℕ) (name : List ℕ) → is_among (texts ignored) (positive_form (b ∷ name)) ≡ false
-    → turns_off [] word ≡ false
+unknown_first : (word : List ℕ) (b : ℕ) (name : List ℕ) → is_passed_over (b ∷ name) ≡ false → turns_off [] word ≡ false
     → beyond [] word (b ∷ name) ≡ plain Unknown word
 unknown_first word b name e off =
-    ap (λ t. cond t (item (b ∷ name) [] Nowhere Switch) (by_names [] word (b ∷ name))) e
+    ap (passed_or [] word (b ∷ name)) e
     ∙ ap (λ t. chosen t (accepts [] (b ∷ name)) (judges [] (b ∷ name)) (known_item [] (b ∷ name)) (plain Question word)
     (plain Unknown word)) off
     ∙ ap (λ t. chosen false t (judges [] (b ∷ name)) (known_item [] (b ∷ name)) (plain Question word) (plain Unknown word))
     (none_accepted b name)
     ∙ ap (λ t. chosen false false t (known_item [] (b ∷ name)) (plain Question word) (plain Unknown word)) (none_judged b name)
 
--- What names make of such a word is what `beyond` makes of it, since it is not passed over.
-named_then : (known word : List ℕ) (b : ℕ) (name : List ℕ) → is_among (texts ignored) (positive_form (b ∷ name)) ≡ false
-    → by_names known word (b ∷ name) ≡ beyond known word (b ∷ name)
-named_then known word b name e = sym (ap (λ t. cond t (item (b ∷ name) [] Nowhere Switch) (by_names known word (b ∷ name))) e)
-
 -- a word that no row fits
 beyond_again : (known word : List ℕ) (b : ℕ) (name : List ℕ) → meant_option word ≡ b ∷ name
     → again known (beyond [] word (b ∷ name)) ≡ beyond known word (b ∷ name)
-beyond_again known word b name is = by (is_among (texts ignored) (positive_form (b ∷ name))) (turns_off [] word) refl refl
+beyond_again known word b name is = by (is_passed_over (b ∷ name)) (turns_off [] word) refl refl
   where
-    by : (t u : Bool) → is_among (texts ignored) (positive_form (b ∷ name)) ≡ t → turns_off [] word ≡ u
+    by : (t u : Bool) → is_passed_over (b ∷ name) ≡ t → turns_off [] word ≡ u
         → again known (beyond [] word (b ∷ name)) ≡ beyond known word (b ∷ name)
-    by true u e e' = rw e refl
+    by true u e e' = ap (again known) (ap (passed_or [] word (b ∷ name)) e) ∙ ap (beyond known word) is
     by false true e e' =
         let (off, other) = off_again known word b name is e' in
         rw (e, e', off, other) refl
-    by false false e e' = ap (again known) (unknown_first word b name e e') ∙ ap (by_names known word) is ∙ named_then known word b name e
+    by false false e e' = ap (again known) (unknown_first word b name e e') ∙ ap (beyond known word) is
 
 -- A long name goes on after its beginning, so something of the word is left.
 some_left : (n : ℕ) (word : List ℕ) → n < length word → (b : ℕ) × (rest : List ℕ) × (drop n word ≡ b ∷ rest)
@@ -258,7 +282,7 @@ renamed_begun known word b name is = by (first_row (b ∷ name)) refl
     by : (found : Option OptionRow) → first_row (b ∷ name) ≡ found
         → Begun known (start_renamed [] word (b ∷ name) found) (start_renamed known word (b ∷ name) found)
     by None e = (ap Whole (beyond_again known word b name is), tt)
-    by (Some r) e = rest_begun known r.takes r (drop (length r.option) (b ∷ name)) (row_known (b ∷ name) r e)
+    by (Some r) e = rest_begun known r.takes r (drop (length r.option) (b ∷ name)) (row_known (b ∷ name) r e) (row_named (b ∷ name) r e)
 
 -- The same for a word that is an option.
 option_begun : (known : List ℕ) (b : ℕ) (word : List ℕ)
@@ -270,7 +294,7 @@ option_begun known b word = by (first_row (b ∷ word)) refl
     by None e =
         let (c, name, is) = some_named b word in
         rw is (renamed_begun known (b ∷ word) c name is)
-    by (Some r) e = rest_begun known r.takes r (drop (length r.option) (b ∷ word)) (row_known (b ∷ word) r e)
+    by (Some r) e = rest_begun known r.takes r (drop (length r.option) (b ∷ word)) (row_known (b ∷ word) r e) (row_named (b ∷ word) r e)
 
 -- Each word begins as it would with names, once it is asked again. `items_again` goes on from here to the next word.
 begun : (known word : List ℕ) → Begun known (start_of [] word) (start_of known word)
@@ -310,25 +334,28 @@ all_again known args before after is are = are ∙ ap (map (again known)) is ∙
 
 -- For `by_own_name` (src/reading.rt), where the word is no long name.
 pub unrenamed_named : {E : Type 0} (known word : List ℕ) (result : Result Item E) → meant_option word ≡ word
-    → IfOk result (λ found. found ≡ by_names known word word) → IfOk result (λ found. found ≡ by_names known word (meant_option word))
-unrenamed_named known word (Ok found) same is = is ∙ ap (by_names known word) (sym same)
+    → IfOk result (λ found. found ≡ beyond known word word) → IfOk result (λ found. found ≡ beyond known word (meant_option word))
+unrenamed_named known word (Ok found) same is = is ∙ ap (beyond known word) (sym same)
 unrenamed_named known word (Err e) same is = tt
 
 -- For `by_own_name`, where the word is a long name.
 pub renamed_named : {E : Type 0} (known word name : List ℕ) (result : Result Item E) → name ≡ meant_option word
-    → IfOk result (λ found. found ≡ by_names known word name) → IfOk result (λ found. found ≡ by_names known word (meant_option word))
-renamed_named known word name (Ok found) same is = is ∙ ap (by_names known word) same
+    → IfOk result (λ found. found ≡ beyond known word name) → IfOk result (λ found. found ≡ beyond known word (meant_option word))
+renamed_named known word name (Ok found) same is = is ∙ ap (beyond known word) same
 renamed_named known word name (Err e) same is = tt
 
--- For `is_own_switch` (src/reading.rt): a word that is no long name and names no machine is a switch of its name, once names have it.
-pub own_switch : (known word : List ℕ) (machine off taken : Bool) → meant_option word ≡ word → machine ≡ begins (codes "-mcpu=") word
-    → machine ≡ false → off ≡ turns_off known word → taken ≡ accepts known word → (off || taken) ≡ true
-    → by_names known word (meant_option word) ≡ item word [] Alone Switch
-own_switch known word machine off taken same machine_is other off_is taken_is either =
+-- For `is_own_switch` (src/reading.rt): a word that is no long name, names no machine and is not passed over is a switch of its name, once
+-- names have it.
+pub own_switch : (known word : List ℕ) (machine passed off taken : Bool) → meant_option word ≡ word
+    → machine ≡ begins (codes "-mcpu=") word → machine ≡ false → passed ≡ is_passed_over word → passed ≡ false
+    → off ≡ turns_off known word → taken ≡ accepts known word → (off || taken) ≡ true
+    → beyond known word (meant_option word) ≡ item word [] Alone Switch
+own_switch known word machine passed off taken same machine_is other passed_is stays off_is taken_is either =
     let none : begins (codes "-mcpu=") word ≡ false = sym machine_is ∙ other in
     let found : (turns_off known word || accepts known word) ≡ true =
     ap (λ t. t || accepts known word) (sym off_is) ∙ ap (λ t. off || t) (sym taken_is) ∙ either in
-    ap (by_names known word) same ∙ by (turns_off known word || accepts known word) found ∙ ap
+    ap (beyond known word) same ∙ ap (passed_or known word word) (sym passed_is ∙ stays)
+    ∙ by (turns_off known word || accepts known word) found ∙ ap
     (λ t. if t then machine_item known (drop (length (codes "-mcpu=")) word) else item word [] Alone Switch) none
   where
     by : (t : Bool) → t ≡ true
@@ -336,33 +363,40 @@ own_switch known word machine off taken same machine_is other off_is taken_is ei
     by true e = refl
     by false e = absurd cc
 
--- For `ask_again` (src/items.rt), where the unknown word is such a switch.
-pub switched_again : {E : Type 0} (known : List ℕ) (i : Item) (word : List ℕ) (unknown own : Bool) (result : Result Item E)
-    → unknown ≡ is_unknown i.role → unknown ≡ true → word ≡ i.name
-    → (own ≡ true → by_names known word (meant_option word) ≡ item word [] Alone Switch) → own ≡ true
-    → IfOk result (λ made. made ≡ item i.name [] Alone Switch) → IfOk result (λ found. found ≡ again known i)
-switched_again known i word unknown own (Ok made) unknown_is here word_is switch so is =
-    let named : by_names known i.name (meant_option i.name) ≡ item i.name [] Alone Switch =
-    ap (λ w. by_names known w (meant_option w)) (sym word_is) ∙ switch so ∙ ap (λ w. item w [] Alone Switch) word_is in
-    let asked : is_unknown i.role ≡ true = sym unknown_is ∙ here in
-    is ∙ sym named ∙ sym (rw asked refl)
-switched_again known i word unknown own (Err e) unknown_is here word_is switch so is = tt
+-- nothing of an empty argument is left
+none_left : (argument : List ℕ) → (length argument == 0) ≡ true → nat_lt 0 (length argument) ≡ false
+none_left [] e = refl
+none_left (b ∷ argument) e = absurd (omega (arith, eqb-true (length (b ∷ argument)) 0 e))
 
--- For `by_names` (src/reading.rt), where no names are known: a word that turns no warning off is unknown.
+-- For `ask_again` (src/items.rt), where the unknown word has no argument and is such a switch.
+pub switched_again : {E : Type 0} (known : List ℕ) (i : Item) (word : List ℕ) (unknown own : Bool) (result : Result Item E)
+    → unknown ≡ is_unknown i.role → unknown ≡ true → (length i.argument == 0) ≡ true → word ≡ i.name
+    → (own ≡ true → beyond known word (meant_option word) ≡ item word [] Alone Switch) → own ≡ true
+    → IfOk result (λ made. made ≡ item i.name [] Alone Switch) → IfOk result (λ found. found ≡ again known i)
+switched_again known i word unknown own (Ok made) unknown_is here alone word_is switch so is =
+    let named : beyond known i.name (meant_option i.name) ≡ item i.name [] Alone Switch =
+    ap (λ w. beyond known w (meant_option w)) (sym word_is) ∙ switch so ∙ ap (λ w. item w [] Alone Switch) word_is in
+    let asked : is_unknown i.role ≡ true = sym unknown_is ∙ here in
+    is ∙ sym named ∙ sym (rw (asked, none_left i.argument alone) refl)
+switched_again known i word unknown own (Err e) unknown_is here alone word_is switch so is = tt
+
+-- For `beyond` (src/reading.rt), where no names are known: a word that turns no warning off is unknown.
 pub none_named : {E : Type 0} (known word name : List ℕ) (off : Bool) (result : Result Item E) → (length known == 0) ≡ true
     → (length name == 0) ≡ false → off ≡ begins (codes "-Wno-") word → off ≡ false → IfOk result (λ made. made ≡ plain Unknown word)
-    → IfOk result (λ found. found ≡ by_names known word name)
+    → IfOk result (λ found. found ≡ beyond known word name)
 none_named known word name off (Err e) none some off_is not_off is = tt
-none_named known word name off (Ok made) none some off_is not_off is =
-    is ∙ sym (
-    ap (λ t. chosen (t && (not (list_any (nat_eq equals) word) || leaves known (positive_form word))) (accepts known name) (judges known
-    name)
-    (known_item known name) (plain Question word) (plain Unknown word)) (sym off_is ∙ not_off)
-    ∙ ap (λ t. chosen false t (judges known name) (known_item known name) (plain Question word) (plain Unknown word))
-    (sym (no_names_accept known name none some))
-    ∙ ap (λ t. chosen false false t (known_item known name) (plain Question word) (plain Unknown word))
-    (sym (no_names_judge known name none some))
-    )
+none_named known word name off (Ok made) none some off_is not_off is = is ∙ sym (by (is_passed_over name) refl)
+  where
+    by : (t : Bool) → is_passed_over name ≡ t → beyond known word name ≡ plain Unknown word
+    by true e = rw (e, none_left known none) refl
+    by false e =
+        ap (passed_or known word name) e
+        ∙ ap (λ t. chosen (t && (not (list_any (nat_eq equals) word) || leaves known (positive_form word))) (accepts known name)
+        (judges known name) (known_item known name) (plain Question word) (plain Unknown word)) (sym off_is ∙ not_off)
+        ∙ ap (λ t. chosen false t (judges known name) (known_item known name) (plain Question word) (plain Unknown word))
+        (sym (no_names_accept known name none some))
+        ∙ ap (λ t. chosen false false t (known_item known name) (plain Question word) (plain Unknown word))
+        (sym (no_names_judge known name none some))
 
 -- For `accepts_near` (src/values.rt), where an option is known by its name or by that up to its `=`.
 pub near_accepted : (known name head : List ℕ) (opens found begun : Bool) → opens ≡ is_open name → opens ≡ false → head ≡ head_of name
@@ -377,11 +411,12 @@ near_accepted known name head opens false begun opens_is closed head_is here the
     second false = refl
 
 -- For `is_own_switch` (src/reading.rt), where lines of the names tell that the word is an option.
-pub found_switch : (known word : List ℕ) (machine found : Bool) → meant_option word ≡ word → machine ≡ begins (codes "-mcpu=") word
-    → machine ≡ false → (found ≡ true → accepts known word ≡ true) → found ≡ true
-    → by_names known word (meant_option word) ≡ item word [] Alone Switch
-found_switch known word machine found same machine_is other known_is so =
-    own_switch known word machine (turns_off known word) (accepts known word) same machine_is other refl refl
+pub found_switch : (known word : List ℕ) (machine passed found : Bool) → meant_option word ≡ word
+    → machine ≡ begins (codes "-mcpu=") word → machine ≡ false → passed ≡ is_passed_over word → passed ≡ false
+    → (found ≡ true → accepts known word ≡ true) → found ≡ true
+    → beyond known word (meant_option word) ≡ item word [] Alone Switch
+found_switch known word machine passed found same machine_is other passed_is stays known_is so =
+    own_switch known word machine passed (turns_off known word) (accepts known word) same machine_is other passed_is stays refl refl
     (either (turns_off known word) (accepts known word) (known_is so))
   where
     either : (a b : Bool) → b ≡ true → (a || b) ≡ true

@@ -1,12 +1,12 @@
-use Rattle.drv_cc.specs.Items.{head_of}
-use Rattle.drv_words.specs.Bytes.{equals}
+use Rattle.drv_cc.specs.Items.{first_line, head_of}
+use Rattle.drv_words.specs.Bytes.{equals, newline}
 use Rattle.std.proofs.Common.{arith, ◌≡◌, ◌==◌, ◌+◌, ◌≤◌, ◌∙◌, Bool, List, [], ◌∷◌, None, Some, ap, cond, false, if◌then◌else◌, length}
 use Rattle.std.proofs.Common.{nat_lt, not, refl, suc, sym, take, true, ℕ}
 use Rattle.std.proofs.lemmas.Bool.Decides.{nat_tests}
 use Rattle.std.proofs.lemmas.List.{take_all}
 use Rattle.std.specs.List.{position, position_or_len}
 
--- For the name of an option up to its `=` (src/values.rt): a text is cut at the first byte of a kind.
+-- For the name of an option up to its `=` (src/values.rt), and a first line (src/known.rt): a text is cut at the first byte of a kind.
 
 -- The test of a byte by which std's `position` looks.
 abbrev is_mark : ℕ → ℕ → Bool
@@ -57,3 +57,11 @@ head_at text i is = sym (ap (λ n. take (n + 1) text) (place_is equals text i is
 -- For `head_of`, where it has none.
 pub head_whole : (text : List ℕ) → position (is_mark equals) text ≡ None → text ≡ head_of text
 head_whole text none = sym (take_all (before equals text + 1) text (omega (arith, no_place equals text none))) ∙ head_is text
+
+-- For `first_line` (src/known.rt), where a line ends.
+pub line_at : (text : List ℕ) (i : ℕ) → position (is_mark newline) text ≡ Some i → take i text ≡ first_line text
+line_at text i is = sym (ap (λ n. take n text) (place_is newline text i is))
+
+-- For `first_line`, where none does.
+pub line_whole : (text : List ℕ) → position (is_mark newline) text ≡ None → text ≡ first_line text
+line_whole text none = sym (take_all (before newline text) text (no_place newline text none))

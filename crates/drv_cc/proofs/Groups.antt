@@ -1,7 +1,7 @@
 use Rattle.drv_cc.specs.Code.Groups.{begun_at, begun_key, is_begun, is_parted, is_short, is_whole, key_of, last_byte, third, whole_at, whole_key}
 use Rattle.drv_cc.specs.Items.{begins, first_row, fits, option_fits, same, takes_rest}
 use Rattle.drv_cc.specs.Table.{OptionRow, sections, table}
-use Rattle.drv_cc.specs.declared.table.Takes.TheVariants.{Attached, Either, Next, Nothing, Rest}
+use Rattle.drv_cc.specs.declared.table.Takes.TheVariants.{Attached, Either, Newer, Next, Nothing, Rest}
 use Rattle.drv_cc.specs.declared.table.Takes.{Takes}
 use Rattle.std.proofs.Common.{arith, ◌≡◌, ◌==◌, ◌&&◌, ◌||◌, ◌∙◌, ◌++◌, ◌<◌, ◌-◌, ◌%◌, Bool, List, [], ◌∷◌, None, Option, Some, ap, cond, false}
 use Rattle.std.proofs.Common.{find, get_or, length, map, not, refl, sym, take, true, ℕ}
@@ -41,6 +41,7 @@ same_is (x ∷ a) (y ∷ b) e = by (x == y) refl (same_is a b) e
 whole_alike : (takes : Takes) (option word : List ℕ) → option_fits takes word option ≡ true → not (takes_rest takes) ≡ true
     → (whole_key option == whole_key word) ≡ true
 whole_alike Nothing option word e w = eq-eqb (whole_key option) (whole_key word) (ap whole_key (same_is option word e))
+whole_alike Newer option word e w = eq-eqb (whole_key option) (whole_key word) (ap whole_key (same_is option word e))
 whole_alike Next option word e w = eq-eqb (whole_key option) (whole_key word) (ap whole_key (same_is option word e))
 whole_alike Attached option word e w = absurd cc
 whole_alike Rest option word e w = absurd cc
@@ -107,6 +108,7 @@ begins_alike (a ∷ b ∷ c ∷ option) (x ∷ y ∷ z ∷ word) e =
 begun_alike : (takes : Takes) (option word : List ℕ) → option_fits takes word option ≡ true → takes_rest takes ≡ true
     → (is_short option || (begun_key option == begun_key word)) ≡ true
 begun_alike Nothing option word e b = absurd cc
+begun_alike Newer option word e b = absurd cc
 begun_alike Next option word e b = absurd cc
 begun_alike Attached option word e b = begins_alike option word e
 begun_alike Rest option word e b = begins_alike option word e
@@ -170,6 +172,7 @@ longer_same (a ∷ option) (x ∷ word) less = ap (λ t. (a == x) && t) (longer_
 -- For `Takes::fits` (src/table.rt), which compares lengths before bytes.
 pub longer_fits : (takes : Takes) (word option : List ℕ) → length word < length option → option_fits takes word option ≡ false
 longer_fits Nothing word option less = longer_same option word less
+longer_fits Newer word option less = longer_same option word less
 longer_fits Next word option less = longer_same option word less
 longer_fits Attached word option less = longer_begins option word less
 longer_fits Rest word option less = longer_begins option word less

@@ -4,13 +4,13 @@ use Rattle.drv_cc.specs.declared.table.Spelling.TheVariants.{Alone, Joined, Nowh
 use Rattle.drv_cc.specs.declared.table.Spelling.{Spelling}
 use Rattle.drv_cc.specs.declared.table.Role.TheVariants.{Input, Lacking, Question, Switch, Unknown}
 use Rattle.drv_cc.specs.declared.table.Role.{Role}
-use Rattle.drv_cc.specs.declared.table.Takes.TheVariants.{Attached, Either, Next, Nothing, Rest}
+use Rattle.drv_cc.specs.declared.table.Takes.TheVariants.{Attached, Either, Newer, Next, Nothing, Rest}
 use Rattle.drv_cc.specs.declared.table.Takes.{Takes}
-use Rattle.drv_words.specs.Bytes.{equals, hyphen, newline}
+use Rattle.drv_words.specs.Bytes.{equals, hyphen, newline, space}
 use Rattle.std.specs.Cmp.Lexicographic.{pointwise}
-use Rattle.std.specs.List.{ends_with, list_all, list_any, slice_split, starts_with}
+use Rattle.std.specs.List.{ends_with, list_all, list_any, position_or_len, slice_split, starts_with}
 use Rattle.std.specs.Prelude.{◌==◌, ◌&&◌, ◌||◌, Bool, List, [], ◌∷◌, ◌++◌, None, Option, Some, codes, drop, false, find, if◌then◌else◌}
-use Rattle.std.specs.Prelude.{length, nat_eq, nat_lt, not, true, ℕ}
+use Rattle.std.specs.Prelude.{length, nat_eq, nat_lt, not, take, true, ℕ}
 
 -- A line of gcc as a list of items (GCC manual, "Invoking GCC"; "Option Summary").
 -- For clauses of src/reading.rt, src/values.rt, src/classes.rt and others. drv_compile cites it too.
@@ -83,24 +83,50 @@ plain role word = record { name = word; argument = []; spelling = Alone; role = 
 abbrev pub by_row : OptionRow → List ℕ → Item
 by_row r argument = item r.name argument r.spelling r.role
 
+-- Options that newer compilers ignore or call by another name: names of options say which of them this compiler takes as they are.
+
+-- the first line of a text
+abbrev pub first_line : List ℕ → List ℕ
+first_line text = take (position_or_len (λ b. b == newline) text) text
+
+-- the line of those that this compiler takes as they are, with blanks between: the first one, if it begins with a blank
+abbrev pub own_line : List ℕ → List ℕ
+own_line [] = []
+own_line (b ∷ known) = if b == space then first_line known else []
+
+-- whether names of options say that this compiler takes such an option as it is
+abbrev pub is_own : List ℕ → List ℕ → Bool
+is_own known option = is_among (texts (own_line known)) option
+
+-- an option of a row whose name newer compilers alone give it. Without names it is unknown, and that name its argument
+abbrev pub unsettled : List ℕ → List ℕ → Item
+unsettled option name = record { name = option; argument = name; spelling = Alone; role = Unknown; class = [] }
+
+-- the same by names of options: as it is, or by the newer name
+abbrev pub newer_item : List ℕ → List ℕ → List ℕ → Item
+newer_item known option name =
+    if nat_lt 0 (length known) then item (if is_own known option then option else name) [] Alone Switch else unsettled option name
+
 -- how a word begins: an item, or an option that takes the next word
 pub data Start : Type 0 where
   Whole : Item → Start
   Wants : OptionRow → Start
 
 -- what an option makes of the rest of its word; one that needs an argument in its word and has none is Lacking
-abbrev pub with_rest : Takes → OptionRow → List ℕ → Start
-with_rest Nothing r rest = Whole (by_row r [])
-with_rest Next r rest = Wants r
-with_rest Attached r [] = Whole (plain Lacking r.option)
-with_rest Attached r (b ∷ rest) = Whole (by_row r (b ∷ rest))
-with_rest Rest r rest = Whole (by_row r rest)
-with_rest Either r [] = Wants r
-with_rest Either r (b ∷ rest) = Whole (by_row r (b ∷ rest))
+abbrev pub with_rest : List ℕ → Takes → OptionRow → List ℕ → Start
+with_rest known Nothing r rest = Whole (by_row r [])
+with_rest known Newer r rest = Whole (newer_item known r.option r.name)
+with_rest known Next r rest = Wants r
+with_rest known Attached r [] = Whole (plain Lacking r.option)
+with_rest known Attached r (b ∷ rest) = Whole (by_row r (b ∷ rest))
+with_rest known Rest r rest = Whole (by_row r rest)
+with_rest known Either r [] = Wants r
+with_rest known Either r (b ∷ rest) = Whole (by_row r (b ∷ rest))
 
 -- whether an argument may follow the option in its word: then a word that only begins with the option fits too
 abbrev pub takes_rest : Takes → Bool
 takes_rest Nothing = false
+takes_rest Newer = false
 takes_rest Next = false
 takes_rest Attached = true
 takes_rest Rest = true
@@ -197,11 +223,20 @@ leaves known positive = nat_lt 0 (length known) && not (is_known known (head_of 
 abbrev pub turns_off : List ℕ → List ℕ → Bool
 turns_off known word = begins (codes "-Wno-") word && (not (list_any (nat_eq equals) word) || leaves known (positive_form word))
 
+-- an option that newer compilers ignore, or whose other sign they do
+abbrev pub is_passed_over : List ℕ → Bool
+is_passed_over name = is_among (texts ignored) (positive_form name)
+
+-- such an option: by names of options it is taken as it is or is passed over, and without them it is unknown
+abbrev pub passed_item : List ℕ → List ℕ → List ℕ → Item
+passed_item known word name =
+    if nat_lt 0 (length known) then item name [] (if is_own known name then Alone else Nowhere) Switch else plain Unknown word
+
 -- A word that no row fits: names that are known beyond the table are taken as they are. An argument that gcc's driver judges makes the line
 -- a question: the compiler refuses it in its own words.
 abbrev pub beyond : List ℕ → List ℕ → List ℕ → Item
 beyond known word name =
-    if is_among (texts ignored) (positive_form name) then item name [] Nowhere Switch
+    if is_passed_over name then passed_item known word name
     else if turns_off known word || accepts known name then known_item known name
     else if judges known name then plain Question word
     else plain Unknown word
@@ -214,12 +249,12 @@ is_file (b ∷ c ∷ rest) = not (b == hyphen)
 
 -- a word that no row fits, by its other name: the row of that name decides, or the names beyond the table do
 abbrev pub start_renamed : List ℕ → List ℕ → List ℕ → Option OptionRow → Start
-start_renamed known word name (Some r) = with_rest r.takes r (drop (length r.option) name)
+start_renamed known word name (Some r) = with_rest known r.takes r (drop (length r.option) name)
 start_renamed known word name None = Whole (beyond known word name)
 
 -- a word that begins with a hyphen: its row decides, or else its other name
 abbrev pub start_option : List ℕ → List ℕ → Option OptionRow → Start
-start_option known word (Some r) = with_rest r.takes r (drop (length r.option) word)
+start_option known word (Some r) = with_rest known r.takes r (drop (length r.option) word)
 start_option known word None = start_renamed known word (meant_option word) (first_row (meant_option word))
 
 -- how a word begins, where no option before it takes it as argument

@@ -2,7 +2,7 @@ use Rattle.drv_cc.specs.declared.table.Spelling.TheVariants.{Alone, Joined, Nowh
 use Rattle.drv_cc.specs.declared.table.Spelling.{Spelling}
 use Rattle.drv_cc.specs.declared.table.Role.TheVariants.{Library, Piece, Question, Refused, Switch, Tells}
 use Rattle.drv_cc.specs.declared.table.Role.{Role}
-use Rattle.drv_cc.specs.declared.table.Takes.TheVariants.{Attached, Either, Next, Nothing, Rest}
+use Rattle.drv_cc.specs.declared.table.Takes.TheVariants.{Attached, Either, Newer, Next, Nothing, Rest}
 use Rattle.drv_cc.specs.declared.table.Takes.{Takes}
 use Rattle.drv_words.specs.Bytes.{greater_than, space}
 use Rattle.std.specs.List.{flat_map, slice_split}
@@ -11,8 +11,8 @@ use Rattle.std.specs.Prelude.{◌==◌, List, [], ◌∷◌, ◌++◌, codes, if
 -- The option table (GCC manual, the section that each part names; "GCC Internals", "Option Files": which forms an option has and which
 -- other it is an alias of). The first row that fits a word decides.
 -- The values of Takes, Spelling and Role are explained in src/table.rt: Attached takes the word's rest, which isn't empty, and Rest one that
--- may be; Either takes the next word where the rest is empty. After a change run tools/option_rows: it writes the rows and names of the code
--- (src/whole_options.rt and its like; docs/CHANGING.md).
+-- may be; Either takes the next word where the rest is empty; Newer takes none, and newer compilers alone call the option by its name. After
+-- a change run tools/option_rows: it writes the rows and names of the code (src/whole_options.rt and its like; docs/CHANGING.md).
 -- For clauses of src/classes.rt, src/reading.rt, src/renaming.rt and src/checks.rt. drv_compile cites it too.
 
 -- an option, how it takes its argument, the name that it is called by, how that is spelled, and what it is on the line
@@ -125,36 +125,23 @@ sections =
     ++ codes "-Wno-missing-noreturn>-Wno-suggest-attribute=noreturn -Wmissing-format-attribute>-Wsuggest-attribute=format")
     ∷ section Nothing Alone Switch
     (codes "-Wno-missing-format-attribute>-Wno-suggest-attribute=format -Wshadow-local>-Wshadow=local "
-    ++ codes "-Wno-shadow-local>-Wno-shadow=local -Wshadow-compatible-local>-Wshadow=compatible-local "
-    ++ codes "-Wno-shadow-compatible-local>-Wno-shadow=compatible-local -Wshadow=global>-Wshadow -Wno-shadow=global>-Wno-shadow "
-    ++ codes "-Werror-implicit-function-declaration>-Werror=implicit-function-declaration -Wformat>-Wformat=1 -Wno-format>-Wformat=0 "
-    ++ codes "-Wshift-overflow>-Wshift-overflow=1 -Wno-shift-overflow>-Wshift-overflow=0 -Wformat-overflow>-Wformat-overflow=1 "
-    ++ codes "-Wno-format-overflow>-Wformat-overflow=0 -Wformat-truncation>-Wformat-truncation=1")
+    ++ codes "-Wshadow-compatible-local>-Wshadow=compatible-local -Wshadow=global>-Wshadow "
+    ++ codes "-Werror-implicit-function-declaration>-Werror=implicit-function-declaration -Wformat>-Wformat=1 "
+    ++ codes "-Wno-format>-Wformat=0 -Wshift-overflow>-Wshift-overflow=1 -Wformat-overflow>-Wformat-overflow=1 "
+    ++ codes "-Wformat-truncation>-Wformat-truncation=1")
     ∷ section Nothing Alone Switch
-    (codes "-Wno-format-truncation>-Wformat-truncation=0 -Wattribute-alias>-Wattribute-alias=1 "
-    ++ codes "-Wno-attribute-alias>-Wattribute-alias=0 -Warray-parameter>-Warray-parameter=2 "
-    ++ codes "-Wno-array-parameter>-Warray-parameter=0 -Wdangling-pointer>-Wdangling-pointer=2 "
-    ++ codes "-Wno-dangling-pointer>-Wdangling-pointer=0 -Wstringop-overflow>-Wstringop-overflow=2 "
-    ++ codes "-Wno-stringop-overflow>-Wstringop-overflow=0 -Wunused-const-variable>-Wunused-const-variable=2 "
-    ++ codes "-Wno-unused-const-variable>-Wunused-const-variable=0 -Wimplicit-fallthrough>-Wimplicit-fallthrough=3 "
-    ++ codes "-Wno-implicit-fallthrough>-Wimplicit-fallthrough=0 -Wbidi-chars>-Wbidi-chars=any -Wno-bidi-chars>-Wbidi-chars=none")
+    (codes "-Warray-parameter>-Warray-parameter=2 -Wdangling-pointer>-Wdangling-pointer=2 "
+    ++ codes "-Wstringop-overflow>-Wstringop-overflow=2 -Wunused-const-variable>-Wunused-const-variable=2 "
+    ++ codes "-Wimplicit-fallthrough>-Wimplicit-fallthrough=3 -Wbidi-chars>-Wbidi-chars=any")
     ∷ section Nothing Alone Switch
-    (codes "-Wnormalized>-Wnormalized=nfc -Wno-normalized>-Wnormalized=none "
-    ++ codes "-Wno-frame-larger-than>-Wframe-larger-than=18446744073709551615EiB "
-    ++ codes "-Wno-larger-than>-Wlarger-than=18446744073709551615EiB -Wno-stack-usage>-Wstack-usage=18446744073709551615EiB "
-    ++ codes "-Wno-vla-larger-than>-Wvla-larger-than=18446744073709551615EiB "
-    ++ codes "-Wno-alloca-larger-than>-Walloca-larger-than=18446744073709551615EiB "
-    ++ codes "-Wno-alloc-size-larger-than>-Walloc-size-larger-than=18446744073709551615EiB "
-    ++ codes "-fdiagnostics-color>-fdiagnostics-color=always -fno-diagnostics-color>-fdiagnostics-color=never "
-    ++ codes "-fcf-protection>-fcf-protection=full -flive-patching>-flive-patching=inline-clone")
+    (codes "-Wnormalized>-Wnormalized=nfc -Wno-normalized>-Wnormalized=none -fdiagnostics-color>-fdiagnostics-color=always "
+    ++ codes "-fno-diagnostics-color>-fdiagnostics-color=never -fcf-protection>-fcf-protection=full "
+    ++ codes "-flive-patching>-flive-patching=inline-clone")
     ∷ section Nothing Alone Switch
     (codes "-fdiagnostics-color=always -fdiagnostics-color=never -fdiagnostics-color=auto "
-    ++ codes "-fstack-check>-fstack-check=specific -fno-stack-check>-fstack-check=no -fvect-cost-model>-fvect-cost-model=dynamic "
-    ++ codes "-fno-vect-cost-model>-fvect-cost-model=unlimited -floop-block>-floop-nest-optimize "
-    ++ codes "-fno-loop-block>-fno-loop-nest-optimize -floop-strip-mine>-floop-nest-optimize "
-    ++ codes "-fno-loop-strip-mine>-fno-loop-nest-optimize -ftree-loop-linear>-floop-nest-optimize "
-    ++ codes "-fno-tree-loop-linear>-fno-loop-nest-optimize -mfused-madd>-ffp-contract=fast -mno-fused-madd>-ffp-contract=off "
-    ++ codes "-mprefer-avx128>-mprefer-vector-width=128 -mno-prefer-avx128>-mprefer-vector-width=256 -mintel-syntax>-masm=intel "
+    ++ codes "-fstack-check>-fstack-check=specific -fno-stack-check>-fstack-check=no "
+    ++ codes "-fvect-cost-model>-fvect-cost-model=dynamic -fno-vect-cost-model>-fvect-cost-model=unlimited "
+    ++ codes "-mfused-madd>-ffp-contract=fast -mno-fused-madd>-ffp-contract=off -mintel-syntax>-masm=intel "
     ++ codes "-mno-intel-syntax>-masm=att -msse5>-mavx")
     ∷ section Nothing Alone Switch
     (codes "-mno-sse5>-mno-avx --all-warnings>-Wall --ansi>-ansi --assemble>-S --comments>-C --comments-in-macros>-CC --compile>-c "
@@ -166,6 +153,24 @@ sections =
     ∷ section Nothing Alone Switch
     (codes "--traditional-cpp>-traditional-cpp --trace-includes>-H --trigraphs>-trigraphs --user-dependencies>-MM "
     ++ codes "--write-dependencies>-MD --write-user-dependencies>-MMD")
+    ∷ section Newer Alone Switch
+    (codes "-Wno-shadow-local>-Wno-shadow=local -Wno-shadow-compatible-local>-Wno-shadow=compatible-local "
+    ++ codes "-Wno-shadow=global>-Wno-shadow -Wno-shift-overflow>-Wshift-overflow=0 -Wno-format-overflow>-Wformat-overflow=0 "
+    ++ codes "-Wno-format-truncation>-Wformat-truncation=0 -Wattribute-alias>-Wattribute-alias=1 "
+    ++ codes "-Wno-attribute-alias>-Wattribute-alias=0 -Wno-array-parameter>-Warray-parameter=0 "
+    ++ codes "-Wno-dangling-pointer>-Wdangling-pointer=0 -Wno-stringop-overflow>-Wstringop-overflow=0 "
+    ++ codes "-Wno-unused-const-variable>-Wunused-const-variable=0 -Wno-implicit-fallthrough>-Wimplicit-fallthrough=0 "
+    ++ codes "-Wno-bidi-chars>-Wbidi-chars=none")
+    ∷ section Newer Alone Switch
+    (codes "-Wno-frame-larger-than>-Wframe-larger-than=18446744073709551615EiB "
+    ++ codes "-Wno-larger-than>-Wlarger-than=18446744073709551615EiB -Wno-stack-usage>-Wstack-usage=18446744073709551615EiB "
+    ++ codes "-Wno-vla-larger-than>-Wvla-larger-than=18446744073709551615EiB "
+    ++ codes "-Wno-alloca-larger-than>-Walloca-larger-than=18446744073709551615EiB "
+    ++ codes "-Wno-alloc-size-larger-than>-Walloc-size-larger-than=18446744073709551615EiB -floop-block>-floop-nest-optimize "
+    ++ codes "-fno-loop-block>-fno-loop-nest-optimize -floop-strip-mine>-floop-nest-optimize "
+    ++ codes "-fno-loop-strip-mine>-fno-loop-nest-optimize -ftree-loop-linear>-floop-nest-optimize "
+    ++ codes "-fno-tree-loop-linear>-fno-loop-nest-optimize -mprefer-avx128>-mprefer-vector-width=128 "
+    ++ codes "-mno-prefer-avx128>-mprefer-vector-width=256")
     ∷ section Nothing Alone Piece
     (codes "--pass-exit-codes>-pass-exit-codes")
     ∷ section Nothing Alone Tells
@@ -253,7 +258,7 @@ renames =
     (codes "--debug=", codes "-g") ∷ (codes "--machine-", codes "-m") ∷ (codes "--machine=", codes "-m") ∷ (codes "--optimize=", codes "-O")
     ∷ (codes "--std=", codes "-std=") ∷ (codes "--warn-", codes "-W") ∷ (codes "--", codes "-f") ∷ []
 
--- options that gcc takes and does nothing for, in both signs
+-- options that gcc 12 takes and does nothing for, in both signs; an older one may do something
 unfoldable pub ignored : List ℕ
 ignored =
     codes "-Wargument-mismatch -Wchkp -Whsa -Wimport -Wmudflap -Wunreachable-code -Wunsafe-loop-optimizations -fall-virtual "

@@ -1,7 +1,7 @@
 //! What a word of the line gives.
 
 ghost use Rattle.drv_cc.specs.Code.Building.{shown};
-ghost use Rattle.drv_cc.specs.Items.{by_row, item, plain, words_of};
+ghost use Rattle.drv_cc.specs.Items.{by_row, item, plain, unsettled, words_of};
 ghost use Rattle.drv_cc.specs.declared.table.Role.TheVariants.{Switch};
 ghost use Rattle.drv_cc.specs.declared.table.Spelling.TheVariants.{Alone};
 ghost use Rattle.std.specs.Prelude.{◌≡◌, ◌++◌, [], IfOk, OnOk};
@@ -90,6 +90,20 @@ impl Item {
             argument: Word::empty(alloc),
             spelling: Spelling::Alone,
             role,
+            class: Word::empty(alloc),
+        })
+    }
+
+    /// An option of a row without names that say by which name it is called: unknown, with the newer
+    /// name as its argument.
+    pub(crate) fn unsettled(alloc: Global, option: &[u8], name: &[u8]) -> Result<Item, AllocError>
+        ensures { IfOk result (λ made. made ≡ unsettled option.now name.now) }
+    {
+        Ok(Item {
+            name: Word::from_bytes(alloc, option)?,
+            argument: Word::from_bytes(alloc, name)?,
+            spelling: Spelling::Alone,
+            role: Role::Unknown,
             class: Word::empty(alloc),
         })
     }

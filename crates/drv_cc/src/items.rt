@@ -11,7 +11,7 @@ use crate::asking::is_asked;
 use crate::fences::{Fence, fences_of};
 use crate::fronting::answer_of;
 use crate::item::Item;
-use crate::reading::{by_own_name, is_own_switch, items_of};
+use crate::reading::{by_own_name, is_own_switch, items_of, newer_item};
 use crate::table::Role;
 use crate::{Answer, Surroundings};
 use drv_words::{Listing, Word};
@@ -38,8 +38,8 @@ fn fences_for(alloc: Global, known: &[u8], items: &[Item]) -> Result<Vec<Fence>,
     fences_of(alloc, known, unknown)
 }
 
-/// Asks an item again by names of options, in its place. One that is unknown is none that is passed
-/// over.
+/// Asks an item again by names of options, in its place. An unknown one with an argument is that of
+/// a row, which newer compilers call by this other name.
 #[tactic(auto, using(crate::proofs::Again::switched_again))]
 fn ask_again(
     alloc: Global,
@@ -50,6 +50,10 @@ fn ask_again(
     ensures { OnOk result (item.new ≡ again known.now item.old) }
 {
     if !is_unknown(item.role) {
+        return Ok(());
+    }
+    if !item.argument.as_bytes().is_empty() {
+        *item = newer_item(alloc, known, item.name.as_bytes(), item.argument.as_bytes())?;
         return Ok(());
     }
     if is_own_switch(alloc, known, fences, item.name.as_bytes())? {

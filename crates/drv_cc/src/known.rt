@@ -2,9 +2,11 @@
 //! first as in a sorted text.
 
 ghost use Rattle.drv_cc.specs.Code.Known.{is_ended};
-ghost use Rattle.drv_cc.specs.Items.{is_known};
+ghost use Rattle.drv_cc.specs.Items.{first_line, is_known, is_own, own_line};
 ghost use Rattle.std.specs.Prelude.{◌≡◌, ◌<◌, ◌≤◌, ◌||◌, IsFalse, drop, length, true};
 
+use crate::classes::stands_in;
+use crate::places::first_place;
 use crate::reading::rest_after;
 use drv_words::order;
 
@@ -216,4 +218,33 @@ pub(crate) fn are_known(known: &[u8], name: &[u8], head: &[u8], numbered: &[u8])
         return true;
     }
     is_known(known, name) || is_known(known, head) || is_known(known, numbered)
+}
+
+/// The first line of a text.
+#[tactic(auto, using(crate::proofs::Cuts::line_at, crate::proofs::Cuts::line_whole))]
+fn first_line(text: &[u8]) -> &[u8]
+    ensures { result.now ≡ first_line text.now }
+{
+    match first_place(b'\n', text) {
+        Some(at) => &text[..at],
+        None => text,
+    }
+}
+
+/// The first line of the names without its blank, if it begins with one.
+fn own_line(known: &[u8]) -> &[u8]
+    ensures { result.now ≡ own_line known.now }
+{
+    match known {
+        [b' ', rest @ ..] => first_line(rest),
+        _ => b"",
+    }
+}
+
+/// Whether names say that the compiler takes an option as it is which newer ones ignore or call by
+/// another name.
+pub(crate) fn is_own(known: &[u8], option: &[u8]) -> bool
+    ensures { result ≡ is_own known.now option.now }
+{
+    stands_in(own_line(known), option)
 }

@@ -26,8 +26,8 @@ const GROUP_0: &[Row] = group! {
     b"-print-search-dirs" b"-print-search-dirs" Nothing Alone Question
     b"-Wno-comments" b"-Wno-comment" Nothing Alone Switch
     b"-fno-vect-cost-model" b"-fvect-cost-model=unlimited" Nothing Alone Switch
-    b"-fno-loop-strip-mine" b"-fno-loop-nest-optimize" Nothing Alone Switch
     b"--no-integrated-cpp" b"-no-integrated-cpp" Nothing Alone Switch
+    b"-fno-loop-strip-mine" b"-fno-loop-nest-optimize" Newer Alone Switch
 };
 
 const GROUP_1: &[Row] = group! {
@@ -65,17 +65,17 @@ const GROUP_6: &[Row] = group! {
     b"-MD" b"-MD" Nothing Alone Switch
     b"-dump-body=" b"-dump-body=" Nothing Alone Question
     b"-Wno-no-vla-larger-than" b"-Wno-no-vla-larger-than" Nothing Alone Question
-    b"-Wno-alloca-larger-than" b"-Walloca-larger-than=18446744073709551615EiB" Nothing Alone Switch
-    b"-floop-block" b"-floop-nest-optimize" Nothing Alone Switch
     b"--symbolic" b"-symbolic" Nothing Alone Switch
+    b"-Wno-alloca-larger-than" b"-Walloca-larger-than=18446744073709551615EiB" Newer Alone Switch
+    b"-floop-block" b"-floop-nest-optimize" Newer Alone Switch
 };
 
 const GROUP_7: &[Row] = group! {
     b"-fsanitize-undefined-trap-on-error" b"-fsanitize-undefined-trap-on-error" Nothing Alone Switch
     b"-mno-align-stringops" b"-mno-align-stringops" Nothing Alone Switch
-    b"-fno-tree-loop-linear" b"-fno-loop-nest-optimize" Nothing Alone Switch
     b"-mfused-madd" b"-ffp-contract=fast" Nothing Alone Switch
     b"--user-dependencies" b"-MM" Nothing Alone Switch
+    b"-fno-tree-loop-linear" b"-fno-loop-nest-optimize" Newer Alone Switch
     b"--force-link" b"-u" Next Separate Switch
     b"--for-linker" b"-Xlinker" Next Separate Library
 };
@@ -130,10 +130,10 @@ const GROUP_13: &[Row] = group! {
 
 const GROUP_14: &[Row] = group! {
     b"-g2" b"-g2" Nothing Alone Switch
-    b"-Wno-bidi-chars" b"-Wbidi-chars=none" Nothing Alone Switch
     b"-Wno-normalized" b"-Wnormalized=none" Nothing Alone Switch
     b"-fno-diagnostics-color" b"-fdiagnostics-color=never" Nothing Alone Switch
     b"--trigraphs" b"-trigraphs" Nothing Alone Switch
+    b"-Wno-bidi-chars" b"-Wbidi-chars=none" Newer Alone Switch
 };
 
 const GROUP_15: &[Row] = group! {
@@ -143,8 +143,8 @@ const GROUP_15: &[Row] = group! {
     b"-fuse-ld=bfd" b"-fuse-ld=bfd" Nothing Alone Switch
     b"-fuse-ld=lld" b"-fuse-ld=lld" Nothing Alone Switch
     b"--print-sysroot-headers-suffix" b"--print-sysroot-headers-suffix" Nothing Alone Question
-    b"-Wattribute-alias" b"-Wattribute-alias=1" Nothing Alone Switch
     b"-Warray-parameter" b"-Warray-parameter=2" Nothing Alone Switch
+    b"-Wattribute-alias" b"-Wattribute-alias=1" Newer Alone Switch
 };
 
 const GROUP_16: &[Row] = group! {
@@ -186,10 +186,10 @@ const GROUP_20: &[Row] = group! {
     b"-Wno-no-frame-larger-than" b"-Wno-no-frame-larger-than" Nothing Alone Question
     b"-dumpbase-ext" b"-dumpbase-ext" Next Nowhere Switch
     b"-Wformat-overflow" b"-Wformat-overflow=1" Nothing Alone Switch
-    b"-Wno-implicit-fallthrough" b"-Wimplicit-fallthrough=0" Nothing Alone Switch
     b"-fstack-check" b"-fstack-check=specific" Nothing Alone Switch
     b"--save-temps" b"-save-temps" Nothing Alone Switch
     b"--static-pie" b"-static-pie" Nothing Alone Switch
+    b"-Wno-implicit-fallthrough" b"-Wimplicit-fallthrough=0" Newer Alone Switch
 };
 
 const GROUP_21: &[Row] = group! {
@@ -199,9 +199,9 @@ const GROUP_21: &[Row] = group! {
     b"-pie" b"-pie" Nothing Alone Switch
     b"-ftarget-help" b"-ftarget-help" Nothing Alone Question
     b"-Wformat" b"-Wformat=1" Nothing Alone Switch
-    b"-Wno-larger-than" b"-Wlarger-than=18446744073709551615EiB" Nothing Alone Switch
-    b"-Wno-stack-usage" b"-Wstack-usage=18446744073709551615EiB" Nothing Alone Switch
     b"--no-standard-includes" b"-nostdinc" Nothing Alone Switch
+    b"-Wno-larger-than" b"-Wlarger-than=18446744073709551615EiB" Newer Alone Switch
+    b"-Wno-stack-usage" b"-Wstack-usage=18446744073709551615EiB" Newer Alone Switch
 };
 
 const GROUP_22: &[Row] = group! {
@@ -250,8 +250,8 @@ const GROUP_26: &[Row] = group! {
 const GROUP_27: &[Row] = group! {
     b"-Wno-no-alloca-larger-than" b"-Wno-no-alloca-larger-than" Nothing Alone Question
     b"--dump" b"-d" Next Joined Switch
-    b"-Wno-unused-const-variable" b"-Wunused-const-variable=0" Nothing Alone Switch
     b"-flive-patching" b"-flive-patching=inline-clone" Nothing Alone Switch
+    b"-Wno-unused-const-variable" b"-Wunused-const-variable=0" Newer Alone Switch
 };
 
 const GROUP_28: &[Row] = group! {
@@ -261,9 +261,9 @@ const GROUP_28: &[Row] = group! {
     b"--target-help" b"--target-help" Nothing Alone Question
     b"-print-multi-directory" b"-print-multi-directory" Nothing Alone Question
     b"--no-canonical-prefixes" b"--no-canonical-prefixes" Nothing Nowhere Switch
-    b"-Wno-shadow-local" b"-Wno-shadow=local" Nothing Alone Switch
     b"--no-standard-libraries" b"-nostdlib" Nothing Alone Switch
     b"--traditional" b"-traditional" Nothing Alone Switch
+    b"-Wno-shadow-local" b"-Wno-shadow=local" Newer Alone Switch
     b"--for-assembler" b"-Xassembler" Next Separate Piece
     b"-Xlinker" b"-Xlinker" Next Separate Library
 };
@@ -273,7 +273,7 @@ const GROUP_29: &[Row] = group! {
     b"-save-temps=obj" b"-save-temps=obj" Nothing Alone Switch
     b"-mno-push-args" b"-mno-push-args" Nothing Alone Switch
     b"-shared-libgcc" b"-shared-libgcc" Nothing Alone Switch
-    b"-fno-loop-block" b"-fno-loop-nest-optimize" Nothing Alone Switch
+    b"-fno-loop-block" b"-fno-loop-nest-optimize" Newer Alone Switch
 };
 
 const GROUP_30: &[Row] = group! {

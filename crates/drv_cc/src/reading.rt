@@ -1,21 +1,20 @@
 //! A line read as a list of items.
 
 ghost use Rattle.drv_cc.specs.Code.Building.{Notes, row_shown, shown, start_shown};
-ghost use Rattle.drv_cc.specs.Code.Known.{by_names};
-ghost use Rattle.drv_cc.specs.Items.{begins, beyond, first_row, is_among, is_file, item, items_of};
-ghost use Rattle.drv_cc.specs.Items.{known_item, machine_item, machine_name, meant_option, plain};
-ghost use Rattle.drv_cc.specs.Items.{positive_form};
+ghost use Rattle.drv_cc.specs.Items.{begins, beyond, first_row, is_file, is_passed_over, item};
+ghost use Rattle.drv_cc.specs.Items.{items_of, known_item, machine_item, machine_name, meant_option};
+ghost use Rattle.drv_cc.specs.Items.{newer_item, passed_item, plain};
 ghost use Rattle.drv_cc.specs.Items.{start_of, start_renamed, with_rest};
-ghost use Rattle.drv_cc.specs.Table.{ignored, texts};
 ghost use Rattle.drv_cc.specs.declared.table.Role.TheVariants as lacking;
 ghost use Rattle.drv_cc.specs.declared.table.Role.TheVariants.{Switch};
 ghost use Rattle.drv_cc.specs.declared.table.Spelling.TheVariants.{Alone};
-ghost use Rattle.std.specs.Prelude.{◌≡◌, ◌∷◌, ◌++◌, [], IfOk, None, OnOk, codes, drop, length, true};
+ghost use Rattle.std.specs.Prelude.{◌≡◌, ◌∷◌, ◌++◌, [], IfOk, None, OnOk, codes, drop, false, length};
+ghost use Rattle.std.specs.Prelude.{true};
 
 use crate::classes::{is_ignored, is_ignored_joined};
 use crate::fences::Fence;
 use crate::item::Item;
-use crate::known::is_known_line;
+use crate::known::{is_known_line, is_own};
 use crate::renaming::{is_renamed, meant_option};
 use crate::table::{Role, Row, Spelling, Takes, first_row};
 use crate::values::{accepts, accepts_near, is_off, judges, turns_off};
@@ -38,13 +37,31 @@ pub(crate) fn rest_after<'a>(word: &'a [u8], option: &[u8]) -> &'a [u8]
     word.get(option.len()..).unwrap_or(&[])
 }
 
+/// An option to which newer compilers alone give this name: as it is, or by the name. Without names
+/// of options it is unknown.
+pub(crate) fn newer_item(
+    alloc: Global,
+    known: &[u8],
+    option: &[u8],
+    name: &[u8],
+) -> Result<Item, AllocError>
+    ensures { IfOk result (λ item. item ≡ newer_item known.now option.now name.now) }
+{
+    if known.is_empty() {
+        return Item::unsettled(alloc, option, name);
+    }
+    let own = if is_own(known, option) { option } else { name };
+    Item::new(alloc, own, b"", Spelling::Alone, Role::Switch)
+}
+
 /// An option with what follows it in its word.
-fn with_rest(alloc: Global, row: &Row, rest: &[u8]) -> Result<Start, AllocError>
+fn with_rest(alloc: Global, known: &[u8], row: &Row, rest: &[u8]) -> Result<Start, AllocError>
     ensures { IfOk result (λ start. start_shown start
-        ≡ with_rest row.now.takes (shown row.now) rest.now) }
+        ≡ with_rest known.now row.now.takes (shown row.now) rest.now) }
 {
     match row.takes {
         Takes::Nothing => Ok(Start::Whole(Item::by_row(alloc, row, b"")?)),
+        Takes::Newer => Ok(Start::Whole(newer_item(alloc, known, row.option, row.name)?)),
         Takes::Next => Ok(Start::Wants(*row)),
         Takes::Either if rest.is_empty() => Ok(Start::Wants(*row)),
         Takes::Attached if rest.is_empty() => {
@@ -92,14 +109,11 @@ fn known_item(alloc: Global, known: &[u8], name: &[u8]) -> Result<Item, AllocErr
     Item::new(alloc, name, b"", Spelling::Alone, Role::Switch)
 }
 
-/// A word that no row fits and that is not passed over, by the name that it has. Without names it is
-/// unknown, if it turns no warning off.
+/// A word that no row fits and that is not passed over, by the name that it has.
 fn by_names(alloc: Global, known: &[u8], word: &[u8], name: &[u8]) -> Result<Item, AllocError>
-    ensures { IfOk result (λ item. item ≡ by_names known.now word.now name.now) }
+    requires { is_passed_over name.now ≡ false }
+    ensures { IfOk result (λ item. item ≡ beyond known.now word.now name.now) }
 {
-    if known.is_empty() && !name.is_empty() && !is_off(word) {
-        return Item::plain(alloc, Role::Unknown, word);
-    }
     if turns_off(alloc, known, word)? || accepts(alloc, known, name)? {
         return known_item(alloc, known, name);
     }
@@ -111,16 +125,55 @@ fn by_names(alloc: Global, known: &[u8], word: &[u8], name: &[u8]) -> Result<Ite
     Item::plain(alloc, role, word)
 }
 
+/// Whether an option is passed over, or its other sign is.
+fn is_passed_over(name: &[u8]) -> bool
+    ensures { result ≡ is_passed_over name.now }
+{
+    match name {
+        [hyphen, letter, b'n', b'o', b'-', rest @ ..] => is_ignored_joined(*hyphen, *letter, rest),
+        _ => is_ignored(name),
+    }
+}
+
+/// An option that newer compilers pass over.
+fn passed_item(alloc: Global, known: &[u8], word: &[u8], name: &[u8]) -> Result<Item, AllocError>
+    ensures { IfOk result (λ item. item ≡ passed_item known.now word.now name.now) }
+{
+    if known.is_empty() {
+        return Item::plain(alloc, Role::Unknown, word);
+    }
+    let spelling = if is_own(known, name) {
+        Spelling::Alone
+    } else {
+        Spelling::Nowhere
+    };
+    Item::new(alloc, name, b"", spelling, Role::Switch)
+}
+
+/// A word that no row fits, as an item of its own name. Without names it is unknown, if it turns no
+/// warning off.
+fn beyond(alloc: Global, known: &[u8], word: &[u8], name: &[u8]) -> Result<Item, AllocError>
+    ensures { IfOk result (λ item. item ≡ beyond known.now word.now name.now) }
+{
+    if known.is_empty() && !name.is_empty() && !is_off(word) {
+        return Item::plain(alloc, Role::Unknown, word);
+    }
+    if is_passed_over(name) {
+        return passed_item(alloc, known, word, name);
+    }
+    by_names(alloc, known, word, name)
+}
+
 /// The same, by the name that the word has itself.
 #[tactic(auto, using(crate::proofs::Again::unrenamed_named, crate::proofs::Again::renamed_named))]
 pub(crate) fn by_own_name(alloc: Global, known: &[u8], word: &[u8]) -> Result<Item, AllocError>
-    ensures { IfOk result (λ item. item ≡ by_names known.now word.now (meant_option word.now)) }
+    ensures { IfOk result (λ item. item ≡ beyond known.now word.now (meant_option word.now)) }
 {
     if !is_renamed(word) {
-        return by_names(alloc, known, word, word);
+        return beyond(alloc, known, word, word);
     }
     let name = meant_option(alloc, word)?;
-    by_names(alloc, known, word, name.as_bytes())
+    beyond(alloc, known, word, name.as_bytes())
 }
 
 /// Whether a word is a switch of its own name by names of options: they have it as it is, or it
@@ -133,35 +186,15 @@ pub(crate) fn is_own_switch(
     word: &[u8],
 ) -> Result<bool, AllocError>
     ensures { IfOk result (λ is. is ≡ true
-        → by_names known.now word.now (meant_option word.now) ≡ item word.now [] Alone Switch) }
+        → beyond known.now word.now (meant_option word.now) ≡ item word.now [] Alone Switch) }
 {
-    if is_renamed(word) || names_machine(word) {
+    if is_renamed(word) || names_machine(word) || is_passed_over(word) {
         return Ok(false);
     }
     if !is_off(word) && accepts_near(known, fences, word) {
         return Ok(true);
     }
     Ok(turns_off(alloc, known, word)? || accepts(alloc, known, word)?)
-}
-
-/// Whether an option is passed over, or its other sign is.
-fn is_passed_over(name: &[u8]) -> bool
-    ensures { result ≡ is_among (texts ignored) (positive_form name.now) }
-{
-    match name {
-        [hyphen, letter, b'n', b'o', b'-', rest @ ..] => is_ignored_joined(*hyphen, *letter, rest),
-        _ => is_ignored(name),
-    }
-}
-
-/// A word that no row fits, as an item of its own name.
-fn beyond(alloc: Global, known: &[u8], word: &[u8], name: &[u8]) -> Result<Item, AllocError>
-    ensures { IfOk result (λ item. item ≡ beyond known.now word.now name.now) }
-{
-    if is_passed_over(name) {
-        return Item::new(alloc, name, b"", Spelling::Nowhere, Role::Switch);
-    }
-    by_names(alloc, known, word, name)
 }
 
 /// How a word that no row fits begins.
@@ -176,7 +209,7 @@ fn start_renamed(alloc: Global, known: &[u8], word: &[u8]) -> Result<Start, Allo
     }
     let name = meant_option(alloc, word)?;
     match first_row(name.as_bytes()) {
-        Some(row) => with_rest(alloc, row, rest_after(name.as_bytes(), row.option)),
+        Some(row) => with_rest(alloc, known, row, rest_after(name.as_bytes(), row.option)),
         None => Ok(Start::Whole(beyond(alloc, known, word, name.as_bytes())?)),
     }
 }
@@ -196,7 +229,7 @@ fn start_of(alloc: Global, known: &[u8], word: &[u8]) -> Result<Start, AllocErro
         return Ok(Start::Whole(Item::plain(alloc, Role::Input, word)?));
     }
     match first_row(word) {
-        Some(row) => with_rest(alloc, row, rest_after(word, row.option)),
+        Some(row) => with_rest(alloc, known, row, rest_after(word, row.option)),
         None => start_renamed(alloc, known, word),
     }
 }

@@ -18,6 +18,9 @@ use crate::whole_options::whole_group;
 pub(crate) enum Takes {
     /// It takes none: the word is the option.
     Nothing,
+    /// It takes none, and newer compilers alone call it by the name: names of options say whether
+    /// this one does.
+    Newer,
     /// The word's rest, which is not empty.
     Attached,
     /// The word's rest, which may be empty.

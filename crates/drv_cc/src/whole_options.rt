@@ -39,15 +39,15 @@ const GROUP_1: &[Row] = group! {
 const GROUP_2: &[Row] = group! {
     b"-Wmissing-noreturn" b"-Wsuggest-attribute=noreturn" Nothing Alone Switch
     b"-Wformat-truncation" b"-Wformat-truncation=1" Nothing Alone Switch
-    b"-Wno-alloc-size-larger-than" b"-Walloc-size-larger-than=18446744073709551615EiB" Nothing Alone Switch
     b"--debug" b"-g" Nothing Alone Switch
     b"--extra-warnings" b"-Wextra" Nothing Alone Switch
+    b"-Wno-alloc-size-larger-than" b"-Walloc-size-larger-than=18446744073709551615EiB" Newer Alone Switch
 };
 
 const GROUP_3: &[Row] = group! {
     b"-mfancy-math-387" b"-mfancy-math-387" Nothing Alone Switch
     b"-print-libgcc-file-name" b"-print-libgcc-file-name" Nothing Alone Question
-    b"-Wno-shadow=global" b"-Wno-shadow" Nothing Alone Switch
+    b"-Wno-shadow=global" b"-Wno-shadow" Newer Alone Switch
     b"--entry" b"-e" Next Separate Switch
 };
 
@@ -73,7 +73,7 @@ const GROUP_5: &[Row] = group! {
 const GROUP_6: &[Row] = group! {
     b"-export-dynamic" b"-export-dynamic" Nothing Alone Switch
     b"--print-sysroot" b"--print-sysroot" Nothing Alone Question
-    b"-mprefer-avx128" b"-mprefer-vector-width=128" Nothing Alone Switch
+    b"-mprefer-avx128" b"-mprefer-vector-width=128" Newer Alone Switch
     b"--assert" b"-A" Next Separate Switch
     b"--include-prefix" b"-iprefix" Next Separate Switch
     b"-Xassembler" b"-Xassembler" Next Separate Piece
@@ -99,8 +99,8 @@ const GROUP_9: &[Row] = group! {
     b"-dumpfullversion" b"-dumpfullversion" Nothing Alone Question
     b"-canonical-prefixes" b"-canonical-prefixes" Nothing Alone Refused
     b"-objects" b"-objects" Nothing Alone Refused
-    b"-Wno-shadow-compatible-local" b"-Wno-shadow=compatible-local" Nothing Alone Switch
-    b"-floop-strip-mine" b"-floop-nest-optimize" Nothing Alone Switch
+    b"-Wno-shadow-compatible-local" b"-Wno-shadow=compatible-local" Newer Alone Switch
+    b"-floop-strip-mine" b"-floop-nest-optimize" Newer Alone Switch
 };
 
 const GROUP_10: &[Row] = group! {
@@ -113,8 +113,8 @@ const GROUP_10: &[Row] = group! {
     b"-msse4" b"-msse4" Nothing Alone Switch
     b"-Wno-no-larger-than" b"-Wno-no-larger-than" Nothing Alone Question
     b"-Wno-no-stack-usage" b"-Wno-no-stack-usage" Nothing Alone Question
-    b"-Wno-shift-overflow" b"-Wshift-overflow=0" Nothing Alone Switch
     b"-msse5" b"-mavx" Nothing Alone Switch
+    b"-Wno-shift-overflow" b"-Wshift-overflow=0" Newer Alone Switch
 };
 
 const GROUP_11: &[Row] = group! {
@@ -170,11 +170,11 @@ const GROUP_17: &[Row] = group! {
     b"-print-multi-os-directory" b"-print-multi-os-directory" Nothing Alone Question
     b"--specs" b"-specs=" Next Joined Switch
     b"-dumpdir" b"-dumpdir" Next Nowhere Switch
-    b"-Wno-format-overflow" b"-Wformat-overflow=0" Nothing Alone Switch
-    b"-Wno-attribute-alias" b"-Wattribute-alias=0" Nothing Alone Switch
-    b"-Wno-array-parameter" b"-Warray-parameter=0" Nothing Alone Switch
-    b"-Wno-vla-larger-than" b"-Wvla-larger-than=18446744073709551615EiB" Nothing Alone Switch
     b"--trace-includes" b"-H" Nothing Alone Switch
+    b"-Wno-format-overflow" b"-Wformat-overflow=0" Newer Alone Switch
+    b"-Wno-attribute-alias" b"-Wattribute-alias=0" Newer Alone Switch
+    b"-Wno-array-parameter" b"-Warray-parameter=0" Newer Alone Switch
+    b"-Wno-vla-larger-than" b"-Wvla-larger-than=18446744073709551615EiB" Newer Alone Switch
 };
 
 const GROUP_18: &[Row] = group! {
@@ -238,11 +238,11 @@ const GROUP_24: &[Row] = group! {
     b"-static" b"-static" Nothing Alone Switch
     b"-dumpbase" b"-dumpbase" Next Nowhere Switch
     b"-Wno-missing-noreturn" b"-Wno-suggest-attribute=noreturn" Nothing Alone Switch
-    b"-Wno-dangling-pointer" b"-Wdangling-pointer=0" Nothing Alone Switch
-    b"-ftree-loop-linear" b"-floop-nest-optimize" Nothing Alone Switch
     b"--shared" b"-shared" Nothing Alone Switch
     b"--static" b"-static" Nothing Alone Switch
     b"--traditional-cpp" b"-traditional-cpp" Nothing Alone Switch
+    b"-Wno-dangling-pointer" b"-Wdangling-pointer=0" Newer Alone Switch
+    b"-ftree-loop-linear" b"-floop-nest-optimize" Newer Alone Switch
 };
 
 const GROUP_25: &[Row] = group! {
@@ -250,8 +250,8 @@ const GROUP_25: &[Row] = group! {
     b"-fPIE" b"-fPIE" Nothing Alone Switch
     b"-mgeneral-regs-only" b"-mgeneral-regs-only" Nothing Alone Switch
     b"-Wnormalized" b"-Wnormalized=nfc" Nothing Alone Switch
-    b"-mno-prefer-avx128" b"-mprefer-vector-width=256" Nothing Alone Switch
     b"--no-line-commands" b"-P" Nothing Alone Switch
+    b"-mno-prefer-avx128" b"-mprefer-vector-width=256" Newer Alone Switch
     b"-Tbss" b"-Tbss" Next Separate Switch
 };
 
@@ -313,9 +313,9 @@ const GROUP_31: &[Row] = group! {
     b"-std=c1x" b"-std=c11" Nothing Alone Switch
     b"-std=c18" b"-std=c17" Nothing Alone Switch
     b"-Werror-implicit-function-declaration" b"-Werror=implicit-function-declaration" Nothing Alone Switch
-    b"-Wno-format-truncation" b"-Wformat-truncation=0" Nothing Alone Switch
-    b"-Wno-stringop-overflow" b"-Wstringop-overflow=0" Nothing Alone Switch
-    b"-Wno-frame-larger-than" b"-Wframe-larger-than=18446744073709551615EiB" Nothing Alone Switch
+    b"-Wno-format-truncation" b"-Wformat-truncation=0" Newer Alone Switch
+    b"-Wno-stringop-overflow" b"-Wstringop-overflow=0" Newer Alone Switch
+    b"-Wno-frame-larger-than" b"-Wframe-larger-than=18446744073709551615EiB" Newer Alone Switch
     b"--language" b"-x" Next Separate Piece
 };
 

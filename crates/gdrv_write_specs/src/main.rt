@@ -22,6 +22,7 @@ mod listing;
 mod machines;
 mod names;
 mod natives;
+mod newer;
 mod older;
 mod parts;
 mod placing;

@@ -5,6 +5,7 @@ use crate::checking::Pair;
 use crate::fault::Fault;
 use crate::finding::has_word;
 use crate::listing::option_list;
+use crate::newer::own_line;
 use crate::refusing::{Answer, answer_to, refused_of};
 use drv_gcc::{option_lines, options, values};
 use drv_words::{Listing, Word, split};
@@ -388,6 +389,7 @@ fn add_tune(pair: Pair<'_>, lines: &mut Word) -> Result<(), Fault> {
 fn sorted_lines(pair: Pair<'_>, names: &[Word]) -> Result<Word, Fault> {
     let mut lines = option_lines(pair.rt.alloc(), names)?;
     add_tune(pair, &mut lines)?;
+    lines.extend_from_slice(own_line(pair)?.as_bytes())?;
     sort_lines(pair.rt.alloc(), &lines)
 }
 

@@ -1,9 +1,8 @@
-use Rattle.drv_cc.specs.Items.{accepts, judges, known_item, meant_option, plain, turns_off}
+use Rattle.drv_cc.specs.Items.{beyond, meant_option, newer_item}
 use Rattle.drv_cc.specs.UnknownWords.{is_unknown}
 use Rattle.drv_cc.specs.declared.item.Item.{Item}
-use Rattle.drv_cc.specs.declared.table.Role.TheVariants.{Question, Unknown}
 use Rattle.drv_words.specs.Bytes.{newline}
-use Rattle.std.specs.Prelude.{◌==◌, ◌||◌, Bool, List, [], ◌∷◌, if◌then◌else◌, true, ℕ}
+use Rattle.std.specs.Prelude.{◌==◌, Bool, List, [], ◌∷◌, if◌then◌else◌, length, nat_lt, true, ℕ}
 
 -- How the code looks for a line of a text, and how it asks unknown words again. Only private clauses of src/reading.rt, src/known.rt and
 -- others cite them.
@@ -13,13 +12,10 @@ abbrev pub is_ended : List ℕ → Bool
 is_ended [] = true
 is_ended (b ∷ rest) = b == newline
 
--- a word that no row fits and that is not passed over
-abbrev pub by_names : List ℕ → List ℕ → List ℕ → Item
-by_names known word name =
-    if turns_off known word || accepts known name then known_item known name
-    else if judges known name then plain Question word
-    else plain Unknown word
+-- an unknown word asked again by names: one with an argument is that of a row, whose other name this is
+abbrev pub asked_again : List ℕ → List ℕ → List ℕ → Item
+asked_again known name newer = if nat_lt 0 (length newer) then newer_item known name newer else beyond known name (meant_option name)
 
--- an item of a line that was read without names of options, by these names: what is unknown is none that is passed over
+-- an item of a line that was read without names of options, by these names
 abbrev pub again : List ℕ → Item → Item
-again known i = if is_unknown i.role then by_names known i.name (meant_option i.name) else i
+again known i = if is_unknown i.role then asked_again known i.name i.argument else i

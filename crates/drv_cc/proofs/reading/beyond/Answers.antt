@@ -1,8 +1,8 @@
 use Rattle.drv_cc.proofs.Again.{none_named}
-use Rattle.drv_cc.proofs.reading.by_names.Goals as goal
+use Rattle.drv_cc.proofs.reading.beyond.Goals as goal
 use Rattle.std.proofs.Common.{◌∙◌, sym}
 
--- by_names (src/reading.rt). A word that no row fits and that is not passed over, by the name that it has.
+-- beyond (src/reading.rt). A word that no row fits, as an item of its own name.
 
 pub returns-then-not-is_off : goal.returns-then-not-is_off
 returns-then-not-is_off c =
