@@ -226,6 +226,15 @@ unknown_first word b name e off =
     (none_accepted b name)
     ∙ ap (λ t. chosen false false t (known_item [] (b ∷ name)) (plain Question word) (plain Unknown word)) (none_judged b name)
 
+-- A word that turns a warning off, is not passed over and names no machine is a switch of its name.
+off_item : (known word : List ℕ) (b : ℕ) (name : List ℕ) → is_passed_over (b ∷ name) ≡ false → turns_off known word ≡ true
+    → begins (codes "-mcpu=") (b ∷ name) ≡ false → beyond known word (b ∷ name) ≡ item (b ∷ name) [] Alone Switch
+off_item known word b name e off other =
+    ap (passed_or known word (b ∷ name)) e
+    ∙ ap (λ t. chosen t (accepts known (b ∷ name)) (judges known (b ∷ name)) (known_item known (b ∷ name)) (plain Question word)
+    (plain Unknown word)) off
+    ∙ ap (λ t. if t then machine_item known (drop (length (codes "-mcpu=")) (b ∷ name)) else item (b ∷ name) [] Alone Switch) other
+
 -- a word that no row fits
 beyond_again : (known word : List ℕ) (b : ℕ) (name : List ℕ) → meant_option word ≡ b ∷ name
     → again known (beyond [] word (b ∷ name)) ≡ beyond known word (b ∷ name)
@@ -236,7 +245,7 @@ beyond_again known word b name is = by (is_passed_over (b ∷ name)) (turns_off 
     by true u e e' = ap (again known) (ap (passed_or [] word (b ∷ name)) e) ∙ ap (beyond known word) is
     by false true e e' =
         let (off, other) = off_again known word b name is e' in
-        rw (e, e', off, other) refl
+        ap (again known) (off_item [] word b name e e' other) ∙ sym (off_item known word b name e off other)
     by false false e e' = ap (again known) (unknown_first word b name e e') ∙ ap (beyond known word) is
 
 -- A long name goes on after its beginning, so something of the word is left.

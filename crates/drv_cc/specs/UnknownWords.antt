@@ -8,7 +8,7 @@ use Rattle.std.specs.Prelude.{◌&&◌, Bool, List, false, not, true}
 -- Words that are no options.
 -- For clauses of src/items.rt. drv_compile cites it too.
 
--- whether an item is a word that no row fits and that is no option beyond the table
+-- whether an item is a word that is no option as far as names tell
 abbrev pub is_unknown : Role → Bool
 is_unknown role.Input = false
 is_unknown role.Library = false

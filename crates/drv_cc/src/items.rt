@@ -116,7 +116,7 @@ impl Items {
     }
 
     /// The items of the same line by these names of options, if none was known so far. Only words
-    /// that were no option are looked up.
+    /// that were unknown without them are looked up.
     #[tactic(auto, using(crate::proofs::Again::all_again))]
     pub fn with_names(self, alloc: Global, known: &[u8]) -> Result<Items, AllocError>
         ensures { (args : List (List ℕ)) → self ≡ items_of [] None args
