@@ -16,7 +16,7 @@ use Rattle.drv_syntax.specs.Labels.{part_label, word_label}
 use Rattle.drv_syntax.specs.Tree.{AddOption, Hide, Item, Pattern, pattern}
 use Rattle.drv_syntax.specs.declared.directives.SayKind.TheVariants.{AsError, AsNotice}
 use Rattle.drv_syntax.specs.declared.directives.SayKind.{SayKind}
-use Rattle.drv_syntax.specs.declared.fault.SyntaxFault.TheVariants.{BadDirective, EmptyTest, Unclosed, UnknownFunction}
+use Rattle.drv_syntax.specs.declared.fault.SyntaxFault.TheVariants.{BadDirective, EmptyTest, Memory, Unclosed, UnknownFunction}
 use Rattle.drv_syntax.specs.declared.fault.SyntaxFault.{SyntaxFault}
 use Rattle.drv_syntax.specs.declared.token.TestKind.TheVariants as asking
 use Rattle.drv_syntax.specs.declared.token.TokenKind.TheVariants as kinds
@@ -59,19 +59,18 @@ some_left (c ∷ bs) b e =
     ap (λ (x : ℕ). x ∷ bs) p
 
 -- code that returns the fault that its definition gives meets its clause
-pub err_gives : {X Y : Type 0} (memory fault : SyntaxFault) (view : X → Y) (result : Result X SyntaxFault) (whole : Result Y SyntaxFault)
-    → IsErrAnd result (λ e. e ≡ fault) → whole ≡ Err fault → Gives memory view result whole
-err_gives memory fault view (Ok x) whole e h = absurd e
-err_gives memory fault view (Err f) whole e h = inr (h ∙ ap (λ x. Err x) (sym e))
+pub err_gives : {X Y : Type 0} {fault : SyntaxFault} (view : X → Y) (result : Result X SyntaxFault) {whole : Result Y SyntaxFault}
+    → IsErrAnd result (λ e. e ≡ fault) → whole ≡ Err fault → Gives Memory view result whole
+err_gives view (Ok x) e h = absurd e
+err_gives view (Err f) e h = inr (rw e h)
 
 -- code that passes on the fault of a part meets its clause, if by the definition this fault of the part is that of the whole
-pub gives_err : {X Y Z : Type 0} (memory fault : SyntaxFault) (view : X → Y) (result : Result X SyntaxFault) (part : Result Z SyntaxFault)
-    (whole : Result Y SyntaxFault)
-    → (part ≡ Err fault → whole ≡ Err fault) → (fault ≡ memory) ⊎ (part ≡ Err fault) → IsErrAnd result (λ e. e ≡ fault)
-    → Gives memory view result whole
-gives_err memory fault view (Ok x) part whole on h e = absurd e
-gives_err memory fault view (Err f) part whole on (inl g) e = inl (e ∙ g)
-gives_err memory fault view (Err f) part whole on (inr g) e = inr (on g ∙ ap (λ x. Err x) (sym e))
+pub gives_err : {X Y Z : Type 0} {fault : SyntaxFault} (view : X → Y) (result : Result X SyntaxFault) {part : Result Z SyntaxFault}
+    {whole : Result Y SyntaxFault} → IsErrAnd result (λ e. e ≡ fault) → (fault ≡ Memory) ⊎ (part ≡ Err fault)
+    → (part ≡ Err fault → whole ≡ Err fault) → Gives Memory view result whole
+gives_err view (Ok x) e h on = absurd e
+gives_err view (Err f) e (inl g) on = inl (rw e g)
+gives_err view (Err f) e (inr g) on = inr (rw e (on g))
 
 -- parts
 

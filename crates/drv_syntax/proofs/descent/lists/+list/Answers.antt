@@ -1,5 +1,5 @@
 use Rattle.drv_syntax.proofs.AskedResults.{asked_done, asked_stop}
-use Rattle.drv_syntax.proofs.ChoicesGiven.{choices_later_done, choices_later_stop, choices_patterns, choices_stop, choices_x_last}
+use Rattle.drv_syntax.proofs.ChoicesGiven.{choices_by, choices_later_done, choices_later_stop, choices_patterns, choices_stop, choices_x_last}
 use Rattle.drv_syntax.proofs.ChoicesGiven.{choices_x_stop}
 use Rattle.drv_syntax.proofs.ChoicesGiven.{default_bad, default_last, default_stop, later_less, later_patterns, later_stop, later_x_last}
 use Rattle.drv_syntax.proofs.ChoicesGiven.{later_x_more, later_x_stop}
@@ -39,7 +39,7 @@ items-returns-in_default-clause-list t c =
 -- the text ends in a list that is no whole text
 pub items-returns-in_err-last-clause-list : goal.items-returns-in_err-last-clause-list
 items-returns-in_err-last-clause-list t c =
-    err_gives _ c.in_err-last.field-0.0 _ c.from_residual-in_err-last.result _ c.from_residual-in_err-last.ensures.1
+    err_gives _ _ c.from_residual-in_err-last.ensures.1
     (sym c.loop-tail.invariant
     ∙ plains_go (around c.args.c.levels).0 (around c.args.c.levels).1 (context_seen c.args.c) c.args.outer c.requires c.args.c.kind
     c.loop-tail.tail c.in_ok-tail.tail (seen c.loop-tail.r) (seen c.plains.new.r) refl (ok_same c.in_ok-tail.ensures)
@@ -60,7 +60,7 @@ items-returns-then-ends_list-clause-list t c =
 
 pub items-returns-in_err-percent-clause-list : goal.items-returns-in_err-percent-clause-list
 items-returns-in_err-percent-clause-list t c =
-    gives_err _ c.in_err-percent.field-0.0 _ c.from_residual-in_err-percent.result _ _
+    gives_err _ _ c.from_residual-in_err-percent.ensures.1 c.in_err-percent.ensures
     (λ h. sym c.loop-tail.invariant
     ∙ plains_go (around c.args.c.levels).0 (around c.args.c.levels).1 (context_seen c.args.c) c.args.outer c.requires c.args.c.kind
     c.loop-tail.tail c.in_ok-tail.tail (seen c.loop-tail.r) (seen c.plains.new.r) refl (ok_same c.in_ok-tail.ensures)
@@ -68,7 +68,6 @@ items-returns-in_err-percent-clause-list t c =
     (seen c.plains.new.r) c.in_err-percent.field-0.0 (drop 1 c.plains.new.r.rest.bytes)
     (some_left c.plains.new.r.rest.bytes c.in-Some.b c.in-Some.ensures
     ∙ ap (λ x. x ∷ drop 1 c.plains.new.r.rest.bytes) c.if-b-eq37.true) h)
-    c.in_err-percent.ensures c.from_residual-in_err-percent.ensures.1
 
 pub items-loop-tail-smaller-then-b-eq37 : goal.items-loop-tail-smaller-then-b-eq37
 items-loop-tail-smaller-then-b-eq37 t c =
@@ -99,7 +98,7 @@ items-loop-tail-preserved-then-b-eq37 t c =
 
 pub items-returns-in_err-tail-2-clause-list : goal.items-returns-in_err-tail-2-clause-list
 items-returns-in_err-tail-2-clause-list t c =
-    gives_err _ c.in_err-tail-2.field-0.0 _ c.from_residual-in_err-tail-2.result _ _
+    gives_err _ _ c.from_residual-in_err-tail-2.ensures.1 c.in_err-tail-2.ensures
     (λ h. sym c.loop-tail.invariant
     ∙ plains_go (around c.args.c.levels).0 (around c.args.c.levels).1 (context_seen c.args.c) c.args.outer c.requires c.args.c.kind
     c.loop-tail.tail c.in_ok-tail.tail (seen c.loop-tail.r) (seen c.plains.new.r) refl (ok_same c.in_ok-tail.ensures)
@@ -107,7 +106,6 @@ items-returns-in_err-tail-2-clause-list t c =
     (seen c.plains.new.r) c.in_err-tail-2.field-0.0 c.in-Some.b (drop 1 c.plains.new.r.rest.bytes)
     (some_left c.plains.new.r.rest.bytes c.in-Some.b c.in-Some.ensures) (sym c.ends_list.ensures ∙ c.if-ends_list.false)
     (differs c.in-Some.b 37 c.if-b-eq37.false) h)
-    c.in_err-tail-2.ensures c.from_residual-in_err-tail-2.ensures.1
 
 pub items-loop-tail-smaller : goal.items-loop-tail-smaller
 items-loop-tail-smaller t c =
@@ -231,10 +229,9 @@ percent-returns-else-b-ne123 t c =
 
 pub tests-returns-in_err-test : goal.tests-returns-in_err-test
 tests-returns-in_err-test t c =
-    gives_err _ c.in_err-test.field-0.0 _ c.from_residual.result _ _
+    gives_err _ _ c.from_residual.ensures.1 c.in_err-test.ensures
     (λ h. tests_stop (around c.args.c.levels).1 (context_seen c.args.c) c.args.at c.args.outer (order_seen c.args.order)
     (seen c.args.r.now) c.in_err-test.field-0.0 h)
-    c.in_err-test.ensures c.from_residual.ensures.1
 
 -- the braces hold one pattern
 pub tests-returns-in-Emits : goal.tests-returns-in-Emits
@@ -250,10 +247,9 @@ tests-returns-in-Asks t c =
 
 pub more_tests-returns-in_err-test : goal.more_tests-returns-in_err-test
 more_tests-returns-in_err-test t c =
-    gives_err _ c.in_err-test.field-0.0 _ c.from_residual.result _ _
+    gives_err _ _ c.from_residual.ensures.1 c.in_err-test.ensures
     (λ h. sym c.loop-choice.invariant ∙ more_stop (around c.args.c.levels).1 (context_seen c.args.c) c.args.at c.args.outer AtBar
     (seen c.loop-choice.r) c.loop-choice.choice c.in_err-test.field-0.0 tt h)
-    c.in_err-test.ensures c.from_residual.ensures.1
 
 pub more_tests-returns-in-Asks : goal.more_tests-returns-in-Asks
 more_tests-returns-in-Asks t c =
@@ -277,11 +273,10 @@ more_tests-loop-choice-smaller t c =
 
 pub tests-returns-in_err-patterns-in-Joins : goal.tests-returns-in_err-patterns-in-Joins
 tests-returns-in_err-patterns-in-Joins t c =
-    gives_err _ c.in_err-patterns-in-Joins.field-0.0 _ c.from_residual-in_err-patterns-in-Joins.result _ _
+    gives_err _ _ c.from_residual-in_err-patterns-in-Joins.ensures.1 c.in_err-patterns-in-Joins.ensures
     (λ h. joins_stop (around c.args.c.levels).1 (context_seen c.args.c) c.args.at c.args.outer (order_seen c.args.order) (seen c.args.r.now)
     (seen c.test.new.r) c.in_ok-test.field-0 c.in_err-patterns-in-Joins.field-0.0
     c.in_ok-test.ensures c.in-Joins.is h)
-    c.in_err-patterns-in-Joins.ensures c.from_residual-in_err-patterns-in-Joins.ensures.1
 
 pub tests-returns-in_ok-patterns-in-Joins : goal.tests-returns-in_ok-patterns-in-Joins
 tests-returns-in_ok-patterns-in-Joins t c =
@@ -291,11 +286,10 @@ tests-returns-in_ok-patterns-in-Joins t c =
 
 pub tests-returns-in_err-more_tests-in-Bars : goal.tests-returns-in_err-more_tests-in-Bars
 tests-returns-in_err-more_tests-in-Bars t c =
-    gives_err _ c.in_err-more_tests-in-Bars.field-0.0 _ c.from_residual-in_err-more_tests-in-Bars.result _ _
+    gives_err _ _ c.from_residual-in_err-more_tests-in-Bars.ensures.1 c.in_err-more_tests-in-Bars.ensures
     (λ h. bars_stop (around c.args.c.levels).1 (context_seen c.args.c) c.args.at c.args.outer (order_seen c.args.order) (seen c.args.r.now)
     (seen c.test.new.r) c.in_ok-test.field-0 c.in-Bars.choice c.in_err-more_tests-in-Bars.field-0.0
     c.in_ok-test.ensures c.in-Bars.is h)
-    c.in_err-more_tests-in-Bars.ensures c.from_residual-in_err-more_tests-in-Bars.ensures.1
 
 pub tests-returns-in_ok-more_tests-in-Bars : goal.tests-returns-in_ok-more_tests-in-Bars
 tests-returns-in_ok-more_tests-in-Bars t c =
@@ -313,54 +307,41 @@ more_tests-returns-in-Emits t c =
 
 pub choices-returns-in_err-tests : goal.choices-returns-in_err-tests
 choices-returns-in_err-tests t c =
-    gives_err _ c.in_err-tests.field-0.0 _ c.from_residual.result _ _
-    (λ h. choices_stop (around c.args.c.levels).0 (around c.args.c.levels).1 (context_seen c.args.c) c.args.at c.args.outer
-    (seen c.args.r.now) c.in_err-tests.field-0.0 h)
-    c.in_err-tests.ensures c.from_residual.ensures.1
+    gives_err _ _ c.from_residual.ensures.1 c.in_err-tests.ensures
+    (λ h. rw (choices_by, h) refl)
 
 pub choices-returns-in-Patterns : goal.choices-returns-in-Patterns
-choices-returns-in-Patterns t c =
-    choices_patterns (around c.args.c.levels).0 (around c.args.c.levels).1 (context_seen c.args.c) c.args.at c.args.outer
-    (seen c.args.r.now) (seen c.tests.new.r) c.in_ok-tests.field-0 c.in_ok-tests.ensures c.in-Patterns.is
+choices-returns-in-Patterns t c = rw (choices_by, c.in_ok-tests.ensures, c.in-Patterns.is) refl
 
 pub choices-returns-in_err-x : goal.choices-returns-in_err-x
 choices-returns-in_err-x t c =
-    gives_err _ c.in_err-x.field-0.0 _ c.from_residual-in_err-x.result _ _
-    (λ h. choices_x_stop (around c.args.c.levels).0 (around c.args.c.levels).1 (context_seen c.args.c) c.args.at c.args.outer
-    (seen c.args.r.now) (seen c.tests.new.r) c.in_ok-tests.field-0 c.in_ok-tests.ensures c.in-Tests.choice c.in-Tests.is
-    c.in_err-x.field-0.0 h)
-    c.in_err-x.ensures c.from_residual-in_err-x.ensures.1
+    gives_err _ _ c.from_residual-in_err-x.ensures.1 c.in_err-x.ensures
+    (λ h. rw (choices_by, c.in_ok-tests.ensures, c.in-Tests.is, h) refl)
 
 pub choices-returns-in_err-later : goal.choices-returns-in_err-later
 choices-returns-in_err-later t c =
-    gives_err _ c.in_err-later.field-0.0 _ c.from_residual-in_err-later.result _ _
-    (λ h. choices_later_stop (around c.args.c.levels).0 (around c.args.c.levels).1 (context_seen c.args.c) c.args.at c.args.outer
-    (seen c.args.r.now) (seen c.tests.new.r) c.in_ok-tests.field-0 c.in_ok-tests.ensures c.in-Tests.choice c.in-Tests.is
-    c.in_ok-x.field-0 (seen c.x.new.r) c.in_ok-x.ensures c.in_err-later.field-0.0 c.if-branch-ne125.true h)
-    c.in_err-later.ensures c.from_residual-in_err-later.ensures.1
+    gives_err _ _ c.from_residual-in_err-later.ensures.1 c.in_err-later.ensures
+    (λ h. rw (choices_by, c.in_ok-tests.ensures, c.in-Tests.is, c.in_ok-x.ensures, differs c.in_ok-x.field-0 125 c.if-branch-ne125.true, h)
+    refl)
 
 pub choices-returns-in_ok-later : goal.choices-returns-in_ok-later
 choices-returns-in_ok-later t c =
-    choices_later_done (around c.args.c.levels).0 (around c.args.c.levels).1 (context_seen c.args.c) c.args.at c.args.outer
-    (seen c.args.r.now) (seen c.tests.new.r) c.in_ok-tests.field-0 c.in_ok-tests.ensures c.in-Tests.choice c.in-Tests.is
-    c.in_ok-x.field-0 (seen c.x.new.r) c.in_ok-x.ensures (seen c.later.new.r) c.if-branch-ne125.true c.in_ok-later.ensures
+    rw (choices_by, c.in_ok-tests.ensures, c.in-Tests.is, c.in_ok-x.ensures, differs c.in_ok-x.field-0 125 c.if-branch-ne125.true,
+    c.in_ok-later.ensures) refl
 
 -- a closing brace (125) ends the first X, and the braces with it
 pub choices-returns-else-branch-ne125 : goal.choices-returns-else-branch-ne125
 choices-returns-else-branch-ne125 t c =
-    choices_x_last (around c.args.c.levels).0 (around c.args.c.levels).1 (context_seen c.args.c) c.args.at c.args.outer (seen c.args.r.now)
-    (seen c.tests.new.r) c.in_ok-tests.field-0 c.in_ok-tests.ensures c.in-Tests.choice c.in-Tests.is
-    c.in_ok-x.field-0 (seen c.x.new.r) c.in_ok-x.ensures c.if-branch-ne125.false
+    rw (choices_by, c.in_ok-tests.ensures, c.in-Tests.is, c.in_ok-x.ensures, c.if-branch-ne125.false) refl
 
 pub later-returns-in_err-x : goal.later-returns-in_err-x
 later-returns-in_err-x t c =
-    gives_err _ c.in_err-x.field-0.0 _ c.from_residual-in_err-x.result _ _
+    gives_err _ _ c.from_residual-in_err-x.ensures.1 c.in_err-x.ensures
     (λ h. sym c.loop-r.invariant ∙ default_stop (around c.args.c.levels).0 (around c.args.c.levels).1
     (context_seen c.args.c) c.args.at c.args.outer (seen c.loop-r.r)
     (sym c.begins_after_white.ensures ∙ c.if-begins_after_white.true)
     c.skip_white.new.self c.skip_white.ensures
     c.in_ok-choice.choice (seen c.opened_default.new.r) (ok_same c.in_ok-choice.ensures) c.in_err-x.field-0.0 h)
-    c.in_err-x.ensures c.from_residual-in_err-x.ensures.1
 
 -- another alternative follows the default
 pub later-returns-then-branch-ne125 : goal.later-returns-then-branch-ne125
@@ -384,11 +365,10 @@ later-returns-then-begins_after_white t c =
 
 pub later-returns-in_err-choice-2 : goal.later-returns-in_err-choice-2
 later-returns-in_err-choice-2 t c =
-    gives_err _ c.in_err-choice-2.field-0.0 _ c.from_residual-in_err-choice-2.result _ _
+    gives_err _ _ c.from_residual-in_err-choice-2.ensures.1 c.in_err-choice-2.ensures
     (λ h. sym c.loop-r.invariant ∙ later_stop (around c.args.c.levels).0 (around c.args.c.levels).1
     (context_seen c.args.c) c.args.at c.args.outer (seen c.loop-r.r) c.in_err-choice-2.field-0.0
     (sym c.begins_after_white.ensures ∙ c.if-begins_after_white.false) h)
-    c.in_err-choice-2.ensures c.from_residual-in_err-choice-2.ensures.1
 
 -- patterns are in the place of a later alternative
 pub later-returns-in_default : goal.later-returns-in_default
@@ -400,12 +380,11 @@ later-returns-in_default t c =
 
 pub later-returns-in_err-x-2 : goal.later-returns-in_err-x-2
 later-returns-in_err-x-2 t c =
-    gives_err _ c.in_err-x-2.field-0.0 _ c.from_residual-in_err-x-2.result _ _
+    gives_err _ _ c.from_residual-in_err-x-2.ensures.1 c.in_err-x-2.ensures
     (λ h. sym c.loop-r.invariant ∙ later_x_stop (around c.args.c.levels).0 (around c.args.c.levels).1
     (context_seen c.args.c) c.args.at c.args.outer (seen c.loop-r.r)
     (sym c.begins_after_white.ensures ∙ c.if-begins_after_white.false)
     (seen c.tests.new.r) c.in_ok-choice-2.field-0 c.in_ok-choice-2.ensures c.in-Tests.choice c.in-Tests.is c.in_err-x-2.field-0.0 h)
-    c.in_err-x-2.ensures c.from_residual-in_err-x-2.ensures.1
 
 -- a closing brace (125) ends the X of a later alternative
 pub later-returns-then-branch-eq125 : goal.later-returns-then-branch-eq125
@@ -443,13 +422,12 @@ test-returns-then-begun-ne37 t c =
 
 pub test-returns-in_err-choice : goal.test-returns-in_err-choice
 test-returns-in_err-choice t c =
-    gives_err _ c.in_err-choice.field-0.0 _ c.from_residual-in_err-choice.result _ _
+    gives_err _ _ c.from_residual-in_err-choice.ensures.1 c.in_err-choice.ensures
     (λ h. result_stop (around c.args.c.levels).1 (context_seen c.args.c) c.args.at c.args.outer (order_seen c.args.order) c.args.so_far
     (seen c.args.r.now)
     (seen c.begin.new.r) c.in_ok-begun.begun c.in_ok-begun.ensures
     c.if-begun-ne37.false
     (deep_enough c.args.c.levels c.requires c.if-c-eq1.false) c.in_err-choice.field-0.0 h)
-    c.in_err-choice.ensures c.from_residual-in_err-choice.ensures.1
 
 pub test-returns-in_default : goal.test-returns-in_default
 test-returns-in_default t c =
@@ -463,7 +441,7 @@ test-returns-in_default t c =
 
 pub test-returns-in_err-judged : goal.test-returns-in_err-judged
 test-returns-in_err-judged t c =
-    err_gives _ c.in_err-judged.field-0.0 _ c.from_residual-in_err-judged.result _ c.from_residual-in_err-judged.ensures.1
+    err_gives _ _ c.from_residual-in_err-judged.ensures.1
     (result_bad (around c.args.c.levels).1 (context_seen c.args.c) c.args.at c.args.outer (order_seen c.args.order) c.args.so_far
     (seen c.args.r.now)
     (seen c.begin.new.r) c.in_ok-begun.begun c.in_ok-begun.ensures
@@ -485,7 +463,7 @@ test-returns t c =
 
 pub result-returns-in_err-items : goal.result-returns-in_err-items
 result-returns-in_err-items t c =
-    gives_err _ c.in_err-items.field-0.0 _ c.from_residual-in_err-items.result _ _
+    gives_err _ _ c.from_residual-in_err-items.ensures.1 c.in_err-items.ensures.list
     (λ h. asked_stop c.args.outer c.args.at c.args.so_far c.args.begun.start c.args.begun.negated (context_seen c.args.c)
     (seen c.args.r.now)
     c.in-Some.b c.take.new.self c.take-2.new.self c.take.ensures.left c.in-Some.ensures c.if-b-ne58.false c.take-2.ensures.left
@@ -495,7 +473,6 @@ result-returns-in_err-items t c =
     (ok_same c.in_ok-choice.ensures.choice)
     c.open_alternative.ensures.rest (ok_same c.in_ok-part.ensures) (context_seen c.in_arguments.result)
     (c.in_arguments.ensures ∙ ap (λ x. in_arguments x) c.in_braces.ensures) c.requires.levels c.in_err-items.field-0.0 h)
-    c.in_err-items.ensures.list c.from_residual-in_err-items.ensures.1
 
 pub result-returns : goal.result-returns
 result-returns t c =

@@ -16,7 +16,7 @@ returns-in_default c =
 -- what follows the word makes no pattern
 pub returns-in_err-star : goal.returns-in_err-star
 returns-in_err-star c =
-    err_gives _ c.in_err-star.field-0.0 _ c.from_residual-in_err-star.result _ c.from_residual-in_err-star.ensures.1
+    err_gives _ _ c.from_residual-in_err-star.ensures.1
     (pattern_stops c.args.outer c.args.at (seen c.args.r.now) (seen c.quoted.new.r) (spelled c.in-Some.word c.quoted.new.r.word.items)
     _ c.first.result c.in_err-star.field-0.0
     (seen_some _ c.in-Some.word c.quoted.new.r.word.items (seen c.quoted.new.r) _ c.in_ok-word.ensures c.in-Some.is)

@@ -13,10 +13,9 @@ use Rattle.std.specs.Prelude.{Err}
 -- the next pattern has a fault
 pub returns-in_err-p : goal.returns-in_err-p
 returns-in_err-p c =
-    gives_err _ c.in_err-p.field-0.0 _ c.from_residual.result _ _
+    gives_err _ _ c.from_residual.ensures.1 c.in_err-p.ensures
     (λ h. sym c.loop-p.invariant ∙ joined_stops c.args.outer c.args.at (seen c.loop-p.r) c.skip_white.new.self c.in_err-p.field-0.0
     c.skip_white.ensures h)
-    c.in_err-p.ensures c.from_residual.ensures.1
 
 -- the text ends after a pattern
 pub returns-in_default : goal.returns-in_default

@@ -9,11 +9,10 @@ use Rattle.std.specs.Prelude.{false}
 -- the items have a fault
 pub returns-in_err-items : goal.returns-in_err-items
 returns-in_err-items c =
-    gives_err _ c.in_err-items.field-0.0 _ c.from_residual.result _ _
+    gives_err _ _ c.from_residual.ensures.1 c.in_err-items.ensures.list
     (λ h. rest_stops c.args.start c.args.more.now
     (record { rest = c.new.result; parts = record { tokens = c.args.tokens; labels = c.args.labels; holds = false } })
     c.new.ensures c.in_err-items.field-0.0 h)
-    c.in_err-items.ensures.list c.from_residual.ensures.1
 
 -- the items are read to the end of the text
 pub returns : goal.returns

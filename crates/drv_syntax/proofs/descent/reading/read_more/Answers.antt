@@ -6,7 +6,8 @@ use Rattle.drv_syntax.proofs.descent.reading.read_more.Goals as goal
 -- the rest of the text has a fault
 pub returns-in_err-r : goal.returns-in_err-r
 returns-in_err-r c =
-    gives_err _ c.in_err-r.field-0.0 _ c.from_residual.result _ _ (λ h. h) c.in_err-r.ensures c.from_residual.ensures.1
+    gives_err _ _ c.from_residual.ensures.1 c.in_err-r.ensures
+    (λ h. h)
 
 -- the rest of the text is read
 pub returns : goal.returns

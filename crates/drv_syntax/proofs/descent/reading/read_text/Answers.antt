@@ -8,21 +8,21 @@ use Rattle.std.proofs.Common.{◌∙◌, sym}
 -- no memory for the tokens
 pub returns-in_err-tokens : goal.returns-in_err-tokens
 returns-in_err-tokens c =
-    gives_err _ c.in_err-tokens.field-0.0 _ c.from_residual.result _ _ (λ h. absurd cc) c.in_err-tokens.ensures c.from_residual.ensures.1
+    gives_err _ _ c.from_residual.ensures.1 c.in_err-tokens.ensures
+    (λ h. absurd cc)
 
 -- no memory for the labels
 pub returns-in_err-labels : goal.returns-in_err-labels
 returns-in_err-labels c =
-    gives_err _ c.in_err-labels.field-0.0 _ c.from_residual-in_err-labels.result _ _ (λ h. absurd cc) c.in_err-labels.ensures
-    c.from_residual-in_err-labels.ensures.1
+    gives_err _ _ c.from_residual-in_err-labels.ensures.1 c.in_err-labels.ensures
+    (λ h. absurd cc)
 
 -- the text has a fault
 pub returns-in_err-r : goal.returns-in_err-r
 returns-in_err-r c =
-    gives_err _ c.in_err-r.field-0.0 _ c.from_residual-in_err-r.result _ _
+    gives_err _ _ c.from_residual-in_err-r.ensures.1 c.in_err-r.ensures
     (λ h. sym (from_start c.args.text.now c.in_ok-tokens.tokens c.in_ok-labels.labels (ok_same c.in_ok-tokens.ensures)
     (ok_same c.in_ok-labels.ensures)) ∙ h)
-    c.in_err-r.ensures c.from_residual-in_err-r.ensures.1
 
 -- the text is read, and what is kept of it takes no more room than it fills
 pub returns : goal.returns

@@ -20,7 +20,7 @@ returns-in_default c =
 -- what follows the word makes neither a test nor a pattern
 pub returns-in_err-form : goal.returns-in_err-form
 returns-in_err-form c =
-    err_gives _ c.in_err-form.field-0.0 _ c.from_residual-in_err-form.result _ c.from_residual-in_err-form.ensures.1
+    err_gives _ _ c.from_residual-in_err-form.ensures.1
     (marked_stops c.args.outer c.args.at (may_emit (order_seen c.args.order) c.args.begun.negated) c.args.begun.byte (seen c.args.r.now)
     (seen c.quoted.new.r)
     (spelled c.in-Some.word c.quoted.new.r.word.items) _ c.first.result c.in_err-form.field-0.0

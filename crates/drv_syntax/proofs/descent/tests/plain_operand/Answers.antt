@@ -21,8 +21,7 @@ returns-then-is_mark c =
 -- the pattern has a fault
 pub returns-in_err-p : goal.returns-in_err-p
 returns-in_err-p c =
-    gives_err _ c.in_err-p.field-0.0 _ c.from_residual.result _ _
+    gives_err _ _ c.from_residual.ensures.1 c.in_err-p.ensures
     (λ h. switch_stops no_lists top c.args.outer c.args.at (may_emit (order_seen c.args.order) c.args.begun.negated) (seen c.args.r.now)
     c.args.begun.byte c.requires.byte c.in_err-p.field-0.0
     (sym c.is_mark.ensures ∙ c.if-is_mark.false) c.requires.other h)
-    c.in_err-p.ensures c.from_residual.ensures.1
