@@ -437,17 +437,8 @@ module _ (lists deep : Lists) (c : ListContext) (at : ℕ) where
 
     -- the code's steps
 
-    -- where no closing brace ends an X, the alternatives after it follow
-    x_more : {W : Type 0} (g : Reading → W) (end : ℕ) (w : Reading) → (end ≡ ascii.closing_brace → ⊥) → x_next g end w
-        ≡ mapped g (later_from w)
-    x_more g end w h = ap (λ (t : Bool). if t then Ok (g w) else mapped g (later_from w)) (differs end ascii.closing_brace h)
-
-    -- where a closing brace ends an X, the braces end
-    x_last : {W : Type 0} (g : Reading → W) (end : ℕ) (w : Reading) → end ≡ ascii.closing_brace → x_next g end w ≡ Ok (g w)
-    x_last g end w h = ap (λ (i : ℕ). x_next g i w) h
-
     -- a result with its value left as it is stays the same
-    mapped_same : (r : Result Reading SyntaxFault) → mapped same_reading r ≡ r
+    pub mapped_same : (r : Result Reading SyntaxFault) → mapped same_reading r ≡ r
     mapped_same (Ok w) = refl
     mapped_same (Err fault) = refl
 
@@ -465,115 +456,17 @@ module _ (lists deep : Lists) (c : ListContext) (at : ℕ) where
         by (Ends i) e = absurd cc
         by (Stops i fault) e = absurd cc
 
-    -- v is what was read before the first test
-    module _ (v : Reading) where
-      -- the fault of the first tests is that of the braces
-      pub choices_stop : (fault : SyntaxFault) → form_given outer v (tests deep c at AtFront v.rest.at 0 v.rest.bytes) ≡ Err fault
-          → brace_given outer v (choices lists deep c at AtFront v.rest.at 0 v.rest.bytes) ≡ Err fault
-      choices_stop fault h = choices_by v ∙ ap (λ x. forms_choices x) h
+    -- an alternative takes at least one byte, so the loop of `later` ends
+    pub later_less : (v u w : Reading) (form : code.Form) (choice : Choice) (end : ℕ)
+        → form_given outer v (tests deep c at AtNext v.rest.at 0 v.rest.bytes) ≡ Ok (form, u) → x_from choice u ≡ Ok (end, w)
+        → length w.rest.bytes < length v.rest.bytes
+    later_less v u w form choice end read ends = omega (arith, form_smaller deep c at outer AtNext v u form read, x_less choice u w end ends)
 
-      -- the fault of the tests of a later alternative is that of the alternatives from it on
-      pub later_stop : (fault : SyntaxFault) → begins_with ascii.colon (drop (prefix_len is_white v.rest.bytes) v.rest.bytes) ≡ false
-          → form_given outer v (tests deep c at AtNext v.rest.at 0 v.rest.bytes) ≡ Err fault → later_from v ≡ Err fault
-      later_stop fault e h = later_tests v e ∙ ap (λ x. forms_later x) h
-
-      -- the tests of the first alternative, or the patterns, are read
-      module _ (u : Reading) (form : code.Form) (read : form_given outer v (tests deep c at AtFront v.rest.at 0 v.rest.bytes)
-          ≡ Ok (form, u)) where
-        -- braces whose front is patterns hold these alone
-        pub choices_patterns : form ≡ forms.Patterns
-            → brace_given outer v (choices lists deep c at AtFront v.rest.at 0 v.rest.bytes) ≡ Ok (insides.Patterns, u)
-        choices_patterns e = choices_by v ∙ ap (λ x. forms_choices x) read ∙ ap (λ f. form_choices f u) e
-
-        -- what was read is the tests of this alternative, not patterns
-        module _ (choice : Choice) (is : form ≡ forms.Tests choice) where
-          -- once the first tests are read, braces give what their X gives, and what follows it
-          choices_x : brace_given outer v (choices lists deep c at AtFront v.rest.at 0 v.rest.bytes) ≡ x_nexts as_choices (x_from choice u)
-          choices_x = choices_by v ∙ ap (λ x. forms_choices x) read ∙ ap (λ f. form_choices f u) is
-
-          -- the fault of the first X is that of the braces
-          pub choices_x_stop : (fault : SyntaxFault) → x_from choice u ≡ Err fault
-              → brace_given outer v (choices lists deep c at AtFront v.rest.at 0 v.rest.bytes) ≡ Err fault
-          choices_x_stop fault h = choices_x ∙ ap (λ x. x_nexts as_choices x) h
-
-          -- the X of the first alternative is read, and its end byte
-          module _ (end : ℕ) (w : Reading) (ends : x_from choice u ≡ Ok (end, w)) where
-            -- where a closing brace ends the first X, the braces end with it
-            pub choices_x_last : end ≡ ascii.closing_brace
-                → brace_given outer v (choices lists deep c at AtFront v.rest.at 0 v.rest.bytes) ≡ Ok (insides.Choices, w)
-            choices_x_last e = choices_x ∙ ap (λ x. x_nexts as_choices x) ends ∙ x_last as_choices end w e
-
-            -- where no closing brace ends the first X, the fault of the later alternatives is that of the braces
-            pub choices_later_stop : (fault : SyntaxFault) → (end ≡ ascii.closing_brace → ⊥) → later_from w ≡ Err fault
-                → brace_given outer v (choices lists deep c at AtFront v.rest.at 0 v.rest.bytes) ≡ Err fault
-            choices_later_stop fault e h =
-                choices_x ∙ ap (λ x. x_nexts as_choices x) ends ∙ x_more as_choices end w e ∙ ap (λ x. mapped as_choices x) h
-
-            -- where no closing brace ends the first X, the braces leave what the later alternatives leave
-            pub choices_later_done : (last : Reading) → (end ≡ ascii.closing_brace → ⊥) → later_from w ≡ Ok last
-                → brace_given outer v (choices lists deep c at AtFront v.rest.at 0 v.rest.bytes) ≡ Ok (insides.Choices, last)
-            choices_later_done last e h =
-                choices_x ∙ ap (λ x. x_nexts as_choices x) ends ∙ x_more as_choices end w e ∙ ap (λ x. mapped as_choices x) h
-
-      -- no default comes next, and the tests of a later alternative, or patterns, are read
-      module _ (none : begins_with ascii.colon (drop (prefix_len is_white v.rest.bytes) v.rest.bytes) ≡ false)
-          (u : Reading) (form : code.Form) (read : form_given outer v (tests deep c at AtNext v.rest.at 0 v.rest.bytes) ≡ Ok (form, u))
-        where
-          -- patterns in place of a later alternative are refused
-          pub later_patterns : form ≡ forms.Patterns → later_from v ≡ Err (BadDirective at)
-          later_patterns e = later_tests v none ∙ ap (λ x. forms_later x) read ∙ ap (λ f. form_later f u) e
-
-          -- what was read is the tests of this alternative, not patterns
-          module _ (choice : Choice) (is : form ≡ forms.Tests choice) where
-            -- once its tests are read, a later alternative gives what its X gives, and what follows it
-            later_x : later_from v ≡ x_nexts same_reading (x_from choice u)
-            later_x = later_tests v none ∙ ap (λ x. forms_later x) read ∙ ap (λ f. form_later f u) is
-
-            -- the fault of the X of a later alternative is that of the alternatives from it on
-            pub later_x_stop : (fault : SyntaxFault) → x_from choice u ≡ Err fault → later_from v ≡ Err fault
-            later_x_stop fault h = later_x ∙ ap (λ x. x_nexts same_reading x) h
-
-            -- the X of the later alternative is read, and its end byte
-            module _ (end : ℕ) (w : Reading) (ends : x_from choice u ≡ Ok (end, w)) where
-              -- where a closing brace ends the X of a later alternative, the alternatives end with it
-              pub later_x_last : end ≡ ascii.closing_brace → later_from v ≡ Ok w
-              later_x_last e = later_x ∙ ap (λ x. x_nexts same_reading x) ends ∙ x_last same_reading end w e
-
-              -- where no closing brace ends the X of a later alternative, the alternatives give what those after it give
-              pub later_x_more : (end ≡ ascii.closing_brace → ⊥) → later_from v ≡ later_from w
-              later_x_more e = later_x ∙ ap (λ x. x_nexts same_reading x) ends ∙ x_more same_reading end w e ∙ mapped_same (later_from w)
-
-              -- an alternative takes at least one byte, so the loop of `later` ends
-              pub later_less : length w.rest.bytes < length v.rest.bytes
-              later_less =
-                  let first : length u.rest.bytes < length v.rest.bytes = form_smaller deep c at outer AtNext v u form read in
-                  let second : length w.rest.bytes ≤ length u.rest.bytes = x_less choice u w end ends in
-                  omega (arith, first, second)
-
-      -- an alternative without tests
-      module _ (some : begins_with ascii.colon (drop (prefix_len is_white v.rest.bytes) v.rest.bytes) ≡ true) (rest : Left)
-          (left : rest ≡ after (prefix_len is_white v.rest.bytes) v.rest) (choice : Choice) (u : Reading)
-          (opens : default_here (at_rest rest v) ≡ (choice, u)) where
-        -- a default gives what its X gives, and what follows it
-        default_x : later_from v ≡ default_nexts (x_from choice u)
-        default_x =
-            later_default v some
-            ∙ ap (λ (l : Left). default_nexts (x_from (default_here (at_rest l v)).0 (default_here (at_rest l v)).1))
-            (sym left)
-            ∙ ap (λ (x : Choice × Reading). default_nexts (x_from x.0 x.1)) opens
-
-        -- the fault of the X of the default is that of the alternatives
-        pub default_stop : (fault : SyntaxFault) → x_from choice u ≡ Err fault → later_from v ≡ Err fault
-        default_stop fault h = default_x ∙ ap (λ x. default_nexts x) h
-
-        -- the X of the default is read, and its end byte
-        module _ (end : ℕ) (w : Reading) (ends : x_from choice u ≡ Ok (end, w)) where
-          -- where a closing brace ends the X of the default, the alternatives end with it
-          pub default_last : end ≡ ascii.closing_brace → later_from v ≡ Ok w
-          default_last e = default_x ∙ ap (λ x. default_nexts x) ends ∙ ap (λ (i : ℕ). default_next i w) e
-
-          -- where any other byte ends the X of the default, it is refused, since the default must be the last alternative
-          pub default_bad : (end ≡ ascii.closing_brace → ⊥) → later_from v ≡ Err (EmptyTest at)
-          default_bad e =
-              default_x ∙ ap (λ x. default_nexts x) ends
-              ∙ ap (λ (t : Bool). if t then Ok w else Err (EmptyTest at)) (differs end ascii.closing_brace e)
+    -- a default gives what its X gives, and what follows it
+    pub default_x : (v : Reading) → begins_with ascii.colon (drop (prefix_len is_white v.rest.bytes) v.rest.bytes) ≡ true → (rest : Left)
+        → rest ≡ after (prefix_len is_white v.rest.bytes) v.rest → (choice : Choice) (u : Reading)
+        → default_here (at_rest rest v) ≡ (choice, u) → later_from v ≡ default_nexts (x_from choice u)
+    default_x v some rest left choice u opens =
+        later_default v some
+        ∙ ap (λ (l : Left). default_nexts (x_from (default_here (at_rest l v)).0 (default_here (at_rest l v)).1)) (sym left)
+        ∙ ap (λ (x : Choice × Reading). default_nexts (x_from x.0 x.1)) opens

@@ -187,8 +187,8 @@ module _ (deep : Lists) (c : ListContext) (at : ℕ) where
       by [] is e = absurd cc
       by (b ∷ text) is e = some b text is (tests deep c at order v.rest.at 0 (b ∷ text)) e
 
-  -- `outer` is the outermost directive that is open, if one is; `order` is the place of the test in the braces
-  module _ (outer : Option ℕ) (order : Order) where
+  -- `outer` is the outermost directive that is open, if one is
+  module _ (outer : Option ℕ) where
     -- the braces hold patterns and leave this
     abbrev pub as_patterns : Result Reading SyntaxFault → Result (code.Form × Reading) SyntaxFault
     as_patterns (Ok u) = Ok (forms.Patterns, u)
@@ -300,9 +300,9 @@ module _ (deep : Lists) (c : ListContext) (at : ℕ) where
       more_next choice (d.Fails fault) never = refl
 
     -- the tests of an alternative give what their first test and the byte after it lead to
-    pub tests_by : (v : Reading) → form_given outer v (tests deep c at order v.rest.at 0 v.rest.bytes)
+    pub tests_by : (order : Order) (v : Reading) → form_given outer v (tests deep c at order v.rest.at 0 v.rest.bytes)
         ≡ next_forms (tried_given outer at order None v (one_test deep c at order v.rest.at v.rest.bytes))
-    tests_by v = ap (λ r. form_given outer v r) (tests_whole order v.rest.at v.rest.bytes)
+    tests_by order v = ap (λ r. form_given outer v r) (tests_whole order v.rest.at v.rest.bytes)
         ∙ by (one_test deep c at order v.rest.at v.rest.bytes)
       where
         by : (r : Read Tried)
@@ -313,77 +313,17 @@ module _ (deep : Lists) (c : ListContext) (at : ℕ) where
         by (Ends m) = refl
         by (Stops m fault) = refl
 
-    -- the fault of the first test is that of the tests
-    pub tests_stop : (v : Reading) (fault : SyntaxFault)
-        → tried_given outer at order None v (one_test deep c at order v.rest.at v.rest.bytes) ≡ Err fault
-        → form_given outer v (tests deep c at order v.rest.at 0 v.rest.bytes) ≡ Err fault
-    tests_stop v fault h = tests_by v ∙ ap (λ x. next_forms x) h
-
-    -- once the first test is read, the tests give what the code does next
-    pub tests_at : (v u : Reading) (next is : Next) → tried_given outer at order None v (one_test deep c at order v.rest.at v.rest.bytes)
-        ≡ Ok (next, u)
-        → next ≡ is → form_given outer v (tests deep c at order v.rest.at 0 v.rest.bytes) ≡ next_form is u
-    tests_at v u next is h e = tests_by v ∙ ap (λ x. next_forms x) h ∙ ap (λ (n : Next). next_form n u) e
-
-    -- after a pattern and &, the fault of the other patterns is that of the whole
-    pub joins_stop : (v u : Reading) (next : Next) (fault : SyntaxFault)
-        → tried_given outer at order None v (one_test deep c at order v.rest.at v.rest.bytes) ≡ Ok (next, u) → next ≡ nexts.Joins
-        → patterns_given outer u (patterns at u.rest.at 0 u.rest.bytes) ≡ Err fault
-        → form_given outer v (tests deep c at order v.rest.at 0 v.rest.bytes) ≡ Err fault
-    joins_stop v u next fault h e g = tests_at v u next nexts.Joins h e ∙ ap (λ x. as_patterns x) g
-
-    -- after a pattern and &, the whole is patterns and leaves what the others leave
-    pub joins_done : (v u w : Reading) (next : Next)
-        → tried_given outer at order None v (one_test deep c at order v.rest.at v.rest.bytes) ≡ Ok (next, u) → next ≡ nexts.Joins
-        → patterns_given outer u (patterns at u.rest.at 0 u.rest.bytes) ≡ Ok w
-        → form_given outer v (tests deep c at order v.rest.at 0 v.rest.bytes) ≡ Ok (forms.Patterns, w)
-    joins_done v u w next h e g = tests_at v u next nexts.Joins h e ∙ ap (λ x. as_patterns x) g
-
-    -- after a test and a bar, the fault of the other tests is that of the whole
-    pub bars_stop : (v u : Reading) (next : Next) (choice : Choice) (fault : SyntaxFault)
-        → tried_given outer at order None v (one_test deep c at order v.rest.at v.rest.bytes) ≡ Ok (next, u) → next ≡ nexts.Bars choice
-        → more_given outer choice u (tests deep c at AtBar u.rest.at 0 u.rest.bytes) ≡ Err fault
-        → form_given outer v (tests deep c at order v.rest.at 0 v.rest.bytes) ≡ Err fault
-    bars_stop v u next choice fault h e g = tests_at v u next (nexts.Bars choice) h e ∙ ap (λ x. as_tests x) g
-
-    -- after a test and a bar, the whole is the tests of one alternative and leaves what the others leave
-    pub bars_done : (v u w : Reading) (next : Next) (choice last : Choice)
-        → tried_given outer at order None v (one_test deep c at order v.rest.at v.rest.bytes) ≡ Ok (next, u) → next ≡ nexts.Bars choice
-        → more_given outer choice u (tests deep c at AtBar u.rest.at 0 u.rest.bytes) ≡ Ok (last, w)
-        → form_given outer v (tests deep c at order v.rest.at 0 v.rest.bytes) ≡ Ok (forms.Tests last, w)
-    bars_done v u w next choice last h e g = tests_at v u next (nexts.Bars choice) h e ∙ ap (λ x. as_tests x) g
-
     -- tests after a bar give what the first of them and the byte after it lead to
-    pub more_by : (v : Reading) (choice : Choice) → Late order → more_given outer choice v (tests deep c at order v.rest.at 0 v.rest.bytes)
-        ≡ nexts_more (tried_given outer at order (Some choice) v (one_test deep c at order v.rest.at v.rest.bytes))
-    more_by v choice late =
-        ap (λ r. more_given outer choice v r) (tests_whole order v.rest.at v.rest.bytes)
-        ∙ by (one_test deep c at order v.rest.at v.rest.bytes)
+    pub more_by : (v : Reading) (choice : Choice) → more_given outer choice v (tests deep c at AtBar v.rest.at 0 v.rest.bytes)
+        ≡ nexts_more (tried_given outer at AtBar (Some choice) v (one_test deep c at AtBar v.rest.at v.rest.bytes))
+    more_by v choice =
+        ap (λ r. more_given outer choice v r) (tests_whole AtBar v.rest.at v.rest.bytes)
+        ∙ by (one_test deep c at AtBar v.rest.at v.rest.bytes)
       where
         by : (r : Read Tried)
-            → more_given outer choice v (then_read r (λ t k. test_go (d.after at order t) v.rest.at k
+            → more_given outer choice v (then_read r (λ t k. test_go (d.after at AtBar t) v.rest.at k
             (patterns at (v.rest.at + 1) k (drop 1 v.rest.bytes)) (tests deep c at AtBar (v.rest.at + 1) k (drop 1 v.rest.bytes))))
-            ≡ nexts_more (tried_given outer at order (Some choice) v r)
-        by (Took t k) = more_next v k choice (d.after at order t) (late_after at order t late)
+            ≡ nexts_more (tried_given outer at AtBar (Some choice) v r)
+        by (Took t k) = more_next v k choice (d.after at AtBar t) (next_after at t)
         by (Ends m) = refl
         by (Stops m fault) = refl
-
-    -- the fault of the first test after a bar is that of all tests after the bar
-    pub more_stop : (v : Reading) (choice : Choice) (fault : SyntaxFault) → Late order
-        → tried_given outer at order (Some choice) v (one_test deep c at order v.rest.at v.rest.bytes) ≡ Err fault
-        → more_given outer choice v (tests deep c at order v.rest.at 0 v.rest.bytes) ≡ Err fault
-    more_stop v choice fault late h = more_by v choice late ∙ ap (λ x. nexts_more x) h
-
-    -- once the first test after a bar is read, the tests after the bar give what the code does next
-    pub more_at : (v u : Reading) (choice : Choice) (next is : Next) → Late order
-        → tried_given outer at order (Some choice) v (one_test deep c at order v.rest.at v.rest.bytes) ≡ Ok (next, u) → next ≡ is
-        → more_given outer choice v (tests deep c at order v.rest.at 0 v.rest.bytes) ≡ next_more is u
-    more_at v u choice next is late h e = more_by v choice late ∙ ap (λ x. nexts_more x) h ∙ ap (λ (n : Next). next_more n u) e
-
-    -- a test after a bar is refused where the code takes it for a pattern
-    pub more_never : (v u : Reading) (choice : Choice) (next : Next) → Late order
-        → tried_given outer at order (Some choice) v (one_test deep c at order v.rest.at v.rest.bytes) ≡ Ok (next, u)
-        → (next ≡ nexts.Emits) ⊎ (next ≡ nexts.Joins)
-        → more_given outer choice v (tests deep c at order v.rest.at 0 v.rest.bytes) ≡ Err (BadDirective at)
-    more_never v u choice next late h (inl e) = more_at v u choice next nexts.Emits late h e
-    more_never v u choice next late h (inr e) = more_at v u choice next nexts.Joins late h e

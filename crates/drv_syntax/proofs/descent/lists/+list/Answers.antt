@@ -1,10 +1,6 @@
 use Rattle.drv_syntax.proofs.AskedResults.{asked_done, asked_stop}
-use Rattle.drv_syntax.proofs.ChoicesGiven.{choices_by, choices_later_done, choices_later_stop, choices_patterns, choices_stop, choices_x_last}
-use Rattle.drv_syntax.proofs.ChoicesGiven.{choices_x_stop}
-use Rattle.drv_syntax.proofs.ChoicesGiven.{default_bad, default_last, default_stop, later_less, later_patterns, later_stop, later_x_last}
-use Rattle.drv_syntax.proofs.ChoicesGiven.{later_x_more, later_x_stop}
-use Rattle.drv_syntax.proofs.FormsGiven.{bars_done, bars_stop, joins_done, joins_stop, more_at, more_never, more_stop, tests_at, tests_stop}
-use Rattle.drv_syntax.proofs.FormsGiven.{tried_smaller}
+use Rattle.drv_syntax.proofs.ChoicesGiven.{choices_by, default_x, later_less, later_tests, mapped_same}
+use Rattle.drv_syntax.proofs.FormsGiven.{more_by, tests_by, tried_smaller}
 use Rattle.drv_syntax.proofs.GivenParts.{err_gives, gives_err, ok_same, some_left}
 use Rattle.drv_syntax.proofs.HoldersGiven.{around_is, braces_done, call_done}
 use Rattle.drv_syntax.proofs.ListsGiven.{byte_goes, byte_shorter, byte_stops, directed_goes, directed_shorter, directed_stops, items_cut}
@@ -22,7 +18,7 @@ use Rattle.drv_syntax.specs.Contexts.{in_arguments}
 use Rattle.drv_syntax.specs.Refusals.{AtBar, AtFront}
 use Rattle.drv_syntax.specs.Descent as descent
 use Rattle.drv_syntax.specs.declared.descent.tests.Next.TheVariants as nexts
-use Rattle.std.proofs.Common.{◌∙◌, [], ◌∷◌, false, ap, arith, drop, inr, refl, sym}
+use Rattle.std.proofs.Common.{◌∙◌, [], ◌∷◌, false, ap, arith, drop, inl, inr, refl, sym}
 use Rattle.std.specs.Prelude.{Err, Ok, Some}
 
 -- The functions of the reader that call one another (src/descent/): each gives what the descent gives for its list, choice, test or call.
@@ -229,41 +225,27 @@ percent-returns-else-b-ne123 t c =
 
 pub tests-returns-in_err-test : goal.tests-returns-in_err-test
 tests-returns-in_err-test t c =
-    gives_err _ _ c.from_residual.ensures.1 c.in_err-test.ensures
-    (λ h. tests_stop (around c.args.c.levels).1 (context_seen c.args.c) c.args.at c.args.outer (order_seen c.args.order)
-    (seen c.args.r.now) c.in_err-test.field-0.0 h)
+    gives_err _ _ c.from_residual.ensures.1 c.in_err-test.ensures (λ h. rw (tests_by, h) refl)
 
 -- the braces hold one pattern
 pub tests-returns-in-Emits : goal.tests-returns-in-Emits
-tests-returns-in-Emits t c =
-    tests_at (around c.args.c.levels).1 (context_seen c.args.c) c.args.at c.args.outer (order_seen c.args.order) (seen c.args.r.now)
-    (seen c.test.new.r) c.in_ok-test.field-0 nexts.Emits c.in_ok-test.ensures c.in-Emits.is
+tests-returns-in-Emits t c = rw (tests_by, c.in_ok-test.ensures, c.in-Emits.is) refl
 
 -- the alternative has one test
 pub tests-returns-in-Asks : goal.tests-returns-in-Asks
-tests-returns-in-Asks t c =
-    tests_at (around c.args.c.levels).1 (context_seen c.args.c) c.args.at c.args.outer (order_seen c.args.order) (seen c.args.r.now)
-    (seen c.test.new.r) c.in_ok-test.field-0 (nexts.Asks c.in-Asks.choice) c.in_ok-test.ensures c.in-Asks.is
+tests-returns-in-Asks t c = rw (tests_by, c.in_ok-test.ensures, c.in-Asks.is) refl
 
 pub more_tests-returns-in_err-test : goal.more_tests-returns-in_err-test
 more_tests-returns-in_err-test t c =
-    gives_err _ _ c.from_residual.ensures.1 c.in_err-test.ensures
-    (λ h. sym c.loop-choice.invariant ∙ more_stop (around c.args.c.levels).1 (context_seen c.args.c) c.args.at c.args.outer AtBar
-    (seen c.loop-choice.r) c.loop-choice.choice c.in_err-test.field-0.0 tt h)
+    gives_err _ _ c.from_residual.ensures.1 c.in_err-test.ensures (λ h. sym c.loop-choice.invariant ∙ rw (more_by, h) refl)
 
 pub more_tests-returns-in-Asks : goal.more_tests-returns-in-Asks
 more_tests-returns-in-Asks t c =
-    sym c.loop-choice.invariant
-    ∙ more_at (around c.args.c.levels).1 (context_seen c.args.c) c.args.at c.args.outer AtBar (seen c.loop-choice.r)
-    (seen c.test.new.r) c.loop-choice.choice c.in_ok-test.field-0 (nexts.Asks c.in-Asks.choice) tt
-    c.in_ok-test.ensures c.in-Asks.is
+    sym c.loop-choice.invariant ∙ rw (more_by, c.in_ok-test.ensures, c.in-Asks.is) refl
 
 pub more_tests-loop-choice-preserved : goal.more_tests-loop-choice-preserved
 more_tests-loop-choice-preserved t c =
-    sym (more_at (around c.args.c.levels).1 (context_seen c.args.c) c.args.at c.args.outer AtBar (seen c.loop-choice.r)
-    (seen c.test.new.r) c.loop-choice.choice c.in_ok-test.field-0 (nexts.Bars c.in-Bars.more) tt
-    c.in_ok-test.ensures c.in-Bars.is)
-    ∙ c.loop-choice.invariant
+    (rw (more_by, c.in_ok-test.ensures, c.in-Bars.is) at c.loop-choice.invariant)
 
 pub more_tests-loop-choice-smaller : goal.more_tests-loop-choice-smaller
 more_tests-loop-choice-smaller t c =
@@ -273,61 +255,48 @@ more_tests-loop-choice-smaller t c =
 
 pub tests-returns-in_err-patterns-in-Joins : goal.tests-returns-in_err-patterns-in-Joins
 tests-returns-in_err-patterns-in-Joins t c =
-    gives_err _ _ c.from_residual-in_err-patterns-in-Joins.ensures.1 c.in_err-patterns-in-Joins.ensures
-    (λ h. joins_stop (around c.args.c.levels).1 (context_seen c.args.c) c.args.at c.args.outer (order_seen c.args.order) (seen c.args.r.now)
-    (seen c.test.new.r) c.in_ok-test.field-0 c.in_err-patterns-in-Joins.field-0.0
-    c.in_ok-test.ensures c.in-Joins.is h)
+    gives_err _ _ c.from_residual-in_err-patterns-in-Joins.ensures.1 c.in_err-patterns-in-Joins.ensures (λ h. rw (tests_by, c.in_ok-test.ensures, c.in-Joins.is, h) refl)
 
 pub tests-returns-in_ok-patterns-in-Joins : goal.tests-returns-in_ok-patterns-in-Joins
 tests-returns-in_ok-patterns-in-Joins t c =
-    joins_done (around c.args.c.levels).1 (context_seen c.args.c) c.args.at c.args.outer (order_seen c.args.order) (seen c.args.r.now)
-    (seen c.test.new.r) (seen c.patterns.new.r) c.in_ok-test.field-0
-    c.in_ok-test.ensures c.in-Joins.is c.in_ok-patterns-in-Joins.ensures
+    rw (tests_by, c.in_ok-test.ensures, c.in-Joins.is, c.in_ok-patterns-in-Joins.ensures) refl
 
 pub tests-returns-in_err-more_tests-in-Bars : goal.tests-returns-in_err-more_tests-in-Bars
 tests-returns-in_err-more_tests-in-Bars t c =
     gives_err _ _ c.from_residual-in_err-more_tests-in-Bars.ensures.1 c.in_err-more_tests-in-Bars.ensures
-    (λ h. bars_stop (around c.args.c.levels).1 (context_seen c.args.c) c.args.at c.args.outer (order_seen c.args.order) (seen c.args.r.now)
-    (seen c.test.new.r) c.in_ok-test.field-0 c.in-Bars.choice c.in_err-more_tests-in-Bars.field-0.0
-    c.in_ok-test.ensures c.in-Bars.is h)
+    (λ h. rw (tests_by, c.in_ok-test.ensures, c.in-Bars.is, h) refl)
 
 pub tests-returns-in_ok-more_tests-in-Bars : goal.tests-returns-in_ok-more_tests-in-Bars
 tests-returns-in_ok-more_tests-in-Bars t c =
-    bars_done (around c.args.c.levels).1 (context_seen c.args.c) c.args.at c.args.outer (order_seen c.args.order) (seen c.args.r.now)
-    (seen c.test.new.r) (seen c.more_tests.new.r) c.in_ok-test.field-0 c.in-Bars.choice
-    c.in_ok-more_tests-in-Bars.field-0 c.in_ok-test.ensures c.in-Bars.is c.in_ok-more_tests-in-Bars.ensures
+    rw (tests_by, c.in_ok-test.ensures, c.in-Bars.is, c.in_ok-more_tests-in-Bars.ensures) refl
 
 -- a test after a bar is no pattern
 pub more_tests-returns-in-Emits : goal.more_tests-returns-in-Emits
 more_tests-returns-in-Emits t c =
-    inr (sym c.loop-choice.invariant
-    ∙ more_never (around c.args.c.levels).1 (context_seen c.args.c) c.args.at c.args.outer AtBar (seen c.loop-choice.r)
-    (seen c.test.new.r) c.loop-choice.choice c.in_ok-test.field-0 tt
-    c.in_ok-test.ensures c.in-Emits.is)
+    inr (sym c.loop-choice.invariant ∙ elim c.in-Emits.is [
+      | inl e ↦ rw (more_by, c.in_ok-test.ensures, e) refl
+      | inr e ↦ rw (more_by, c.in_ok-test.ensures, e) refl
+    ])
 
 pub choices-returns-in_err-tests : goal.choices-returns-in_err-tests
 choices-returns-in_err-tests t c =
-    gives_err _ _ c.from_residual.ensures.1 c.in_err-tests.ensures
-    (λ h. rw (choices_by, h) refl)
+    gives_err _ _ c.from_residual.ensures.1 c.in_err-tests.ensures (λ h. rw (choices_by, h) refl)
 
 pub choices-returns-in-Patterns : goal.choices-returns-in-Patterns
 choices-returns-in-Patterns t c = rw (choices_by, c.in_ok-tests.ensures, c.in-Patterns.is) refl
 
 pub choices-returns-in_err-x : goal.choices-returns-in_err-x
 choices-returns-in_err-x t c =
-    gives_err _ _ c.from_residual-in_err-x.ensures.1 c.in_err-x.ensures
-    (λ h. rw (choices_by, c.in_ok-tests.ensures, c.in-Tests.is, h) refl)
+    gives_err _ _ c.from_residual-in_err-x.ensures.1 c.in_err-x.ensures (λ h. rw (choices_by, c.in_ok-tests.ensures, c.in-Tests.is, h) refl)
 
 pub choices-returns-in_err-later : goal.choices-returns-in_err-later
 choices-returns-in_err-later t c =
     gives_err _ _ c.from_residual-in_err-later.ensures.1 c.in_err-later.ensures
-    (λ h. rw (choices_by, c.in_ok-tests.ensures, c.in-Tests.is, c.in_ok-x.ensures, differs c.in_ok-x.field-0 125 c.if-branch-ne125.true, h)
-    refl)
+    (λ h. rw (choices_by, c.in_ok-tests.ensures, c.in-Tests.is, c.in_ok-x.ensures, differs _ _ c.if-branch-ne125.true, h) refl)
 
 pub choices-returns-in_ok-later : goal.choices-returns-in_ok-later
 choices-returns-in_ok-later t c =
-    rw (choices_by, c.in_ok-tests.ensures, c.in-Tests.is, c.in_ok-x.ensures, differs c.in_ok-x.field-0 125 c.if-branch-ne125.true,
-    c.in_ok-later.ensures) refl
+    rw (choices_by, c.in_ok-tests.ensures, c.in-Tests.is, c.in_ok-x.ensures, differs _ _ c.if-branch-ne125.true, c.in_ok-later.ensures) refl
 
 -- a closing brace (125) ends the first X, and the braces with it
 pub choices-returns-else-branch-ne125 : goal.choices-returns-else-branch-ne125
@@ -336,78 +305,57 @@ choices-returns-else-branch-ne125 t c =
 
 pub later-returns-in_err-x : goal.later-returns-in_err-x
 later-returns-in_err-x t c =
-    gives_err _ _ c.from_residual-in_err-x.ensures.1 c.in_err-x.ensures
-    (λ h. sym c.loop-r.invariant ∙ default_stop (around c.args.c.levels).0 (around c.args.c.levels).1
-    (context_seen c.args.c) c.args.at c.args.outer (seen c.loop-r.r)
-    (sym c.begins_after_white.ensures ∙ c.if-begins_after_white.true)
-    c.skip_white.new.self c.skip_white.ensures
-    c.in_ok-choice.choice (seen c.opened_default.new.r) (ok_same c.in_ok-choice.ensures) c.in_err-x.field-0.0 h)
+    gives_err _ _ c.from_residual-in_err-x.ensures.1 c.in_err-x.ensures (λ h. sym c.loop-r.invariant
+    ∙ rw (default_x _ _ _ _ _ (seen c.loop-r.r) (sym c.begins_after_white.ensures ∙ c.if-begins_after_white.true) _
+    c.skip_white.ensures _ _ (ok_same c.in_ok-choice.ensures), h) refl)
 
 -- another alternative follows the default
 pub later-returns-then-branch-ne125 : goal.later-returns-then-branch-ne125
 later-returns-then-branch-ne125 t c =
-    inr (sym c.loop-r.invariant ∙ default_bad (around c.args.c.levels).0 (around c.args.c.levels).1
-    (context_seen c.args.c) c.args.at c.args.outer (seen c.loop-r.r)
-    (sym c.begins_after_white.ensures ∙ c.if-begins_after_white.true)
-    c.skip_white.new.self c.skip_white.ensures
-    c.in_ok-choice.choice (seen c.opened_default.new.r) (ok_same c.in_ok-choice.ensures)
-    c.in_ok-x.field-0 (seen c.x.new.r) c.in_ok-x.ensures c.if-branch-ne125.true)
+    inr (sym c.loop-r.invariant
+    ∙ rw (default_x _ _ _ _ _ (seen c.loop-r.r) (sym c.begins_after_white.ensures ∙ c.if-begins_after_white.true) _
+    c.skip_white.ensures _ _ (ok_same c.in_ok-choice.ensures), c.in_ok-x.ensures, differs _ _ c.if-branch-ne125.true) refl)
 
 -- the default is the last alternative
 pub later-returns-then-begins_after_white : goal.later-returns-then-begins_after_white
 later-returns-then-begins_after_white t c =
-    sym c.loop-r.invariant ∙ default_last (around c.args.c.levels).0 (around c.args.c.levels).1
-    (context_seen c.args.c) c.args.at c.args.outer (seen c.loop-r.r)
-    (sym c.begins_after_white.ensures ∙ c.if-begins_after_white.true)
-    c.skip_white.new.self c.skip_white.ensures
-    c.in_ok-choice.choice (seen c.opened_default.new.r) (ok_same c.in_ok-choice.ensures)
-    c.in_ok-x.field-0 (seen c.x.new.r) c.in_ok-x.ensures c.if-branch-ne125.false
+    sym c.loop-r.invariant
+    ∙ rw (default_x _ _ _ _ _ (seen c.loop-r.r) (sym c.begins_after_white.ensures ∙ c.if-begins_after_white.true) _
+    c.skip_white.ensures _ _ (ok_same c.in_ok-choice.ensures), c.in_ok-x.ensures, c.if-branch-ne125.false) refl
 
 pub later-returns-in_err-choice-2 : goal.later-returns-in_err-choice-2
 later-returns-in_err-choice-2 t c =
-    gives_err _ _ c.from_residual-in_err-choice-2.ensures.1 c.in_err-choice-2.ensures
-    (λ h. sym c.loop-r.invariant ∙ later_stop (around c.args.c.levels).0 (around c.args.c.levels).1
-    (context_seen c.args.c) c.args.at c.args.outer (seen c.loop-r.r) c.in_err-choice-2.field-0.0
-    (sym c.begins_after_white.ensures ∙ c.if-begins_after_white.false) h)
+    let e = sym c.begins_after_white.ensures ∙ c.if-begins_after_white.false in
+    gives_err _ _ c.from_residual-in_err-choice-2.ensures.1 c.in_err-choice-2.ensures (λ h. sym c.loop-r.invariant ∙ rw (later_tests, h) refl)
 
 -- patterns are in the place of a later alternative
 pub later-returns-in_default : goal.later-returns-in_default
 later-returns-in_default t c =
-    inr (sym c.loop-r.invariant ∙ later_patterns (around c.args.c.levels).0 (around c.args.c.levels).1
-    (context_seen c.args.c) c.args.at c.args.outer (seen c.loop-r.r)
-    (sym c.begins_after_white.ensures ∙ c.if-begins_after_white.false)
-    (seen c.tests.new.r) c.in_ok-choice-2.field-0 c.in_ok-choice-2.ensures c.in_default.is)
+    let e = sym c.begins_after_white.ensures ∙ c.if-begins_after_white.false in
+    inr (sym c.loop-r.invariant ∙ rw (later_tests, c.in_ok-choice-2.ensures, c.in_default.is) refl)
 
 pub later-returns-in_err-x-2 : goal.later-returns-in_err-x-2
 later-returns-in_err-x-2 t c =
+    let e = sym c.begins_after_white.ensures ∙ c.if-begins_after_white.false in
     gives_err _ _ c.from_residual-in_err-x-2.ensures.1 c.in_err-x-2.ensures
-    (λ h. sym c.loop-r.invariant ∙ later_x_stop (around c.args.c.levels).0 (around c.args.c.levels).1
-    (context_seen c.args.c) c.args.at c.args.outer (seen c.loop-r.r)
-    (sym c.begins_after_white.ensures ∙ c.if-begins_after_white.false)
-    (seen c.tests.new.r) c.in_ok-choice-2.field-0 c.in_ok-choice-2.ensures c.in-Tests.choice c.in-Tests.is c.in_err-x-2.field-0.0 h)
+    (λ h. sym c.loop-r.invariant ∙ rw (later_tests, c.in_ok-choice-2.ensures, c.in-Tests.is, h) refl)
 
 -- a closing brace (125) ends the X of a later alternative
 pub later-returns-then-branch-eq125 : goal.later-returns-then-branch-eq125
 later-returns-then-branch-eq125 t c =
-    sym c.loop-r.invariant ∙ later_x_last (around c.args.c.levels).0 (around c.args.c.levels).1
-    (context_seen c.args.c) c.args.at c.args.outer (seen c.loop-r.r)
-    (sym c.begins_after_white.ensures ∙ c.if-begins_after_white.false)
-    (seen c.tests.new.r) c.in_ok-choice-2.field-0 c.in_ok-choice-2.ensures c.in-Tests.choice c.in-Tests.is
-    c.in_ok-x-2.field-0 (seen c.x-in-loop-r.new.r) c.in_ok-x-2.ensures c.if-branch-eq125.true
+    let e = sym c.begins_after_white.ensures ∙ c.if-begins_after_white.false in
+    sym c.loop-r.invariant ∙ rw (later_tests, c.in_ok-choice-2.ensures, c.in-Tests.is, c.in_ok-x-2.ensures, c.if-branch-eq125.true) refl
 
 pub later-loop-r-smaller : goal.later-loop-r-smaller
 later-loop-r-smaller t c =
     later_less (around c.args.c.levels).0 (around c.args.c.levels).1 (context_seen c.args.c) c.args.at c.args.outer (seen c.loop-r.r)
-    (sym c.begins_after_white.ensures ∙ c.if-begins_after_white.false)
-    (seen c.tests.new.r) c.in_ok-choice-2.field-0 c.in_ok-choice-2.ensures c.in-Tests.choice c.in-Tests.is
-    c.in_ok-x-2.field-0 (seen c.x-in-loop-r.new.r) c.in_ok-x-2.ensures
+    (seen c.tests.new.r) (seen c.x-in-loop-r.new.r) c.in_ok-choice-2.field-0 c.in-Tests.choice c.in_ok-x-2.field-0
+    c.in_ok-choice-2.ensures c.in_ok-x-2.ensures
 
 pub later-loop-r-preserved : goal.later-loop-r-preserved
 later-loop-r-preserved t c =
-    sym (later_x_more (around c.args.c.levels).0 (around c.args.c.levels).1 (context_seen c.args.c) c.args.at c.args.outer (seen c.loop-r.r)
-    (sym c.begins_after_white.ensures ∙ c.if-begins_after_white.false)
-    (seen c.tests.new.r) c.in_ok-choice-2.field-0 c.in_ok-choice-2.ensures c.in-Tests.choice c.in-Tests.is
-    c.in_ok-x-2.field-0 (seen c.x-in-loop-r.new.r) c.in_ok-x-2.ensures c.if-branch-eq125.false)
+    let e = sym c.begins_after_white.ensures ∙ c.if-begins_after_white.false in
+    sym (rw (later_tests, c.in_ok-choice-2.ensures, c.in-Tests.is, c.in_ok-x-2.ensures, differs _ _ c.if-branch-eq125.false, mapped_same) refl)
     ∙ c.loop-r.invariant
 
 -- a test without a function (no % is there, 37)
