@@ -1,11 +1,11 @@
 use Rattle.drv_words.specs.Bytes as ascii
-use Rattle.drv_syntax.proofs.GivenParts.{err_same, none_left, ok_same}
+use Rattle.drv_syntax.proofs.GivenParts.{none_left, ok_same}
 use Rattle.drv_syntax.proofs.Leads.{same}
 use Rattle.drv_syntax.proofs.NotWhite.{NotWhite, directive_white}
 use Rattle.drv_syntax.proofs.Writing.{after_after, after_none, leaf_is, parts_of}
 use Rattle.drv_syntax.specs.Bytes.{is_blank, is_of}
 use Rattle.drv_syntax.specs.Code.Left.{Left, after, first_of}
-use Rattle.drv_syntax.specs.Code.Lists.{Opened, byte_given, byte_here, end_given}
+use Rattle.drv_syntax.specs.Code.Lists.{Opened, byte_given, byte_here, directive_given, end_given}
 use Rattle.drv_syntax.specs.Code.Lists.{is_white_item, list_written, listed_given, plains_after, plains_on, run_after, second_given}
 use Rattle.drv_syntax.specs.Code.Lists.{tail_after, tail_at, tail_on, with_end, with_tail}
 use Rattle.drv_syntax.specs.Code.Writing.{Parts, Reading, given, item_written, kind_seen, leafed, open_at}
@@ -228,69 +228,22 @@ module _ (lists deep : Lists) (c : ListContext) (outer : Option ℕ) (inside : O
           ∙ ap (λ bs. listed_given outer (tail_after one tail (v.rest.at + 1 + k) z) next
           (items_with lists deep c (v.rest.at + 1 + k) 0 (drop k bs))) (sym (ap (λ bs. drop 1 bs) e))
 
-  -- at the byte that ends it, a list writes nothing more, and gives its tail with that byte
-  pub items_end : (tail : Tail) (v : Reading) (b : ℕ) (text : List ℕ) → v.rest.bytes ≡ b ∷ text → ends_list c.kind b ≡ true
-      → items_at tail v ≡ Ok (with_end tail b, v)
-  items_end tail v b text e g =
-      ap (λ bs. listed_given outer tail v (items_with lists deep c v.rest.at 0 bs)) e
-      ∙ rw g refl
-      ∙ ap (λ (r : Left). Ok (list_on tail v.parts (none, b) r)) (after_none v.rest)
-
-  -- what the code gives of a list at the end of the text: its tail, or the fault that it isn't closed
-  abbrev at_last : Reading → Result Tail SyntaxFault → Result (Tail × Reading) SyntaxFault
-  at_last v (Ok tail) = Ok (tail, v)
-  at_last v (Err fault) = Err fault
-
-  -- at the end of the text, a list gives what `end_given` says of its kind: a whole text is complete, any other list is not closed
-  pub items_last : (tail : Tail) (v : Reading) → v.rest.bytes ≡ [] → items_at tail v ≡ at_last v (end_given outer c.kind tail v.rest.at)
-  items_last tail v e = ap (λ bs. listed_given outer tail v (items_with lists deep c v.rest.at 0 bs)) e ∙ by c.kind
-    where
-      by : (kind : Kind) → listed_given outer tail v (list_end kind v.rest.at) ≡ at_last v (end_given outer kind tail v.rest.at)
-      by Top = ap (λ (r : Left). Ok (list_on tail v.parts (none, 0) r)) (after_none v.rest)
-      by InX = refl
-      by InArguments = refl
-
   -- an item that is a directive
 
   -- what a directive gives that begins with the percent sign here
   abbrev directed : Reading → Read Item → Result Reading SyntaxFault
   directed v r = given outer (after 1 v.rest) (λ one rest. item_after v.rest.at one rest v) r
 
-  -- after a directive, which is no white space, the list goes on with its tail right after it
-  stepped_ok : (tail : Tail) (v u : Reading) (r : Read Item) → NotWhite r → directed v r ≡ Ok u → stepped tail v r ≡ items_at (tail_at u) u
-  stepped_ok tail v u (Took one k) white h =
-      let p : item_after v.rest.at one (after k (after 1 v.rest)) v ≡ u = ok_same h in
-      ap (λ t. items_at (if t then tail else tail_at (item_after v.rest.at one (after k (after 1 v.rest)) v))
-      (item_after v.rest.at one (after k (after 1 v.rest)) v)) white
-      ∙ ap (λ (x : Reading). items_at (tail_at x) x) p
-  stepped_ok tail v u (Ends at) white h = absurd cc
-  stepped_ok tail v u (Stops n fault) white h = absurd cc
+  -- what the list gives from what a directive leaves, with its tail right after the directive
+  abbrev from_here : Result Reading SyntaxFault → Result (Tail × Reading) SyntaxFault
+  from_here (Ok u) = items_at (tail_at u) u
+  from_here (Err fault) = Err fault
 
-  -- the fault of a directive is that of the list
-  stepped_err : (tail : Tail) (v : Reading) (e : SyntaxFault) (r : Read Item) → directed v r ≡ Err e → stepped tail v r ≡ Err e
-  stepped_err tail v e (Took one k) h = absurd cc
-  stepped_err tail v e (Ends at) h =
-      let p : Unclosed (open_at outer at) ≡ e = err_same h in
-      ap (λ x. Err x) p
-  stepped_err tail v e (Stops n fault) h =
-      let p : fault ≡ e = err_same h in
-      ap (λ x. Err x) p
-
-  -- after a directive that is read, the list goes on, and its tail is right after the directive
-  pub directed_goes : (tail : Tail) (v u : Reading) (text : List ℕ) → v.rest.bytes ≡ ascii.percent ∷ text
-      → directed v (d.directive lists deep c v.rest.at (drop 1 v.rest.bytes)) ≡ Ok u → items_at tail v ≡ items_at (tail_at u) u
-  directed_goes tail v u text e h =
-      item_steps tail v ascii.percent text e refl
-      ∙ stepped_ok tail v u (d.directive lists deep c v.rest.at text) (directive_white lists deep c v.rest.at text)
-      (ap (λ bs. directed v (d.directive lists deep c v.rest.at (drop 1 bs))) (sym e) ∙ h)
-
-  -- the fault of a directive is the fault of the list
-  pub directed_stops : (tail : Tail) (v : Reading) (fault : SyntaxFault) (text : List ℕ) → v.rest.bytes ≡ ascii.percent ∷ text
-      → directed v (d.directive lists deep c v.rest.at (drop 1 v.rest.bytes)) ≡ Err fault → items_at tail v ≡ Err fault
-  directed_stops tail v fault text e h =
-      item_steps tail v ascii.percent text e refl
-      ∙ stepped_err tail v fault (d.directive lists deep c v.rest.at text)
-      (ap (λ bs. directed v (d.directive lists deep c v.rest.at (drop 1 bs))) (sym e) ∙ h)
+  -- a directive, which is no white space, moves the tail of the list
+  stepped_by : (tail : Tail) (v : Reading) (r : Read Item) → NotWhite r → stepped tail v r ≡ from_here (directed v r)
+  stepped_by tail v (Took one k) white = rw white refl
+  stepped_by tail v (Ends at) white = refl
+  stepped_by tail v (Stops n fault) white = refl
 
   -- an item that is no directive
 
@@ -358,19 +311,6 @@ module _ (lists deep : Lists) (c : ListContext) (outer : Option ℕ) (inside : O
       by false false false false e f g h = rw (e, other, f, g, h)
           (step_one tail v (Plain b) kinds.Plain (word_label (b ∷ [])) (λ end z. leaf_is kinds.Plain (word_label (b ∷ [])) n end z))
 
-  -- after an item that is no directive, the list goes on with the tail that this item leaves
-  pub byte_goes : (tail next : Tail) (v u : Reading) (b : ℕ) (text : List ℕ) → v.rest.bytes ≡ b ∷ text → ends_list c.kind b ≡ false
-      → (b == ascii.percent) ≡ false → byte_given outer c.in_arguments b tail v ≡ Ok (next, u) → items_at tail v ≡ items_at next u
-  byte_goes tail next v u b text e g other h =
-      item_steps tail v b text e g ∙ step_byte tail v b text e other ∙ ap (λ x. as_items x) h
-
-  -- the fault of an item that is no directive is the fault of the list
-  pub byte_stops : (tail : Tail) (v : Reading) (fault : SyntaxFault) (b : ℕ) (text : List ℕ) → v.rest.bytes ≡ b ∷ text
-      → ends_list c.kind b ≡ false
-      → (b == ascii.percent) ≡ false → byte_given outer c.in_arguments b tail v ≡ Err fault → items_at tail v ≡ Err fault
-  byte_stops tail v fault b text e g other h =
-      item_steps tail v b text e g ∙ step_byte tail v b text e other ∙ ap (λ x. as_items x) h
-
   -- plain bytes
 
   -- after a plain byte, the list goes on with its tail right after it
@@ -380,7 +320,7 @@ module _ (lists deep : Lists) (c : ListContext) (outer : Option ℕ) (inside : O
   plain_step kind tail v b text same_kind run is =
       let f : PlainByte kind b = plain_byte kind b run in
       let e : ends_list c.kind b ≡ false = subst (λ (k : Kind). ends_list k b ≡ false) same_kind f.stays in
-      byte_goes tail (tail_at (plain_here b v)) v (plain_here b v) b text is e f.other (f.given outer c.in_arguments tail v)
+      item_steps tail v b text is e ∙ step_byte tail v b text is f.other ∙ rw f.given refl
 
   -- a list gives the same from its start as from the end of the run of plain bytes that it begins with
   plains_from : (kind : ListKind) → kind_seen kind ≡ c.kind → (text : List ℕ) (tail : Tail) (v : Reading) → v.rest.bytes ≡ text
@@ -403,11 +343,45 @@ module _ (lists deep : Lists) (c : ListContext) (outer : Option ℕ) (inside : O
           ∙ ap (λ (x : Tail × Reading). as_items (Ok x)) (plains_more k tail v b text e)
           ∙ ap (λ (i : ℕ). as_items (Ok (plains_after i tail v))) one
 
-  -- after the run of plain bytes that the code takes at once, the list goes on
-  pub plains_go : (kind : ListKind) (tail next : Tail) (v u : Reading) → kind_seen kind ≡ c.kind → plains_on kind tail v ≡ (next, u)
-      → items_at tail v ≡ items_at next u
-  plains_go kind tail next v u same_kind h =
-      plains_from kind same_kind v.rest.bytes tail v refl ∙ ap (λ (x : Tail × Reading). as_items (Ok x)) h
+  -- what the code gives of a list at the end of the text: its tail, or the fault that it isn't closed
+  abbrev at_last : Reading → Result Tail SyntaxFault → Result (Tail × Reading) SyntaxFault
+  at_last v (Ok tail) = Ok (tail, v)
+  at_last v (Err fault) = Err fault
+
+  -- a turn of the loop of `items`: the run of plain bytes that the code takes at once leads to this tail and to v
+  module _ (kind : ListKind) (same_kind : kind_seen kind ≡ c.kind) (before tail : Tail) (w v : Reading)
+      (run : plains_on kind before w ≡ (tail, v)) where
+    -- after that run the list goes on
+    plains_go : items_at before w ≡ items_at tail v
+    plains_go = plains_from kind same_kind w.rest.bytes before w refl ∙ ap (λ (x : Tail × Reading). as_items (Ok x)) run
+
+    -- at the end of the text, a list gives what `end_given` says of its kind: a whole text is complete, any other list is not closed
+    pub items_last : v.rest.bytes ≡ [] → items_at before w ≡ at_last v (end_given outer c.kind tail v.rest.at)
+    items_last e = plains_go ∙ ap (λ bs. listed_given outer tail v (items_with lists deep c v.rest.at 0 bs)) e ∙ by c.kind
+      where
+        by : (kind : Kind) → listed_given outer tail v (list_end kind v.rest.at) ≡ at_last v (end_given outer kind tail v.rest.at)
+        by Top = ap (λ (r : Left). Ok (list_on tail v.parts (none, 0) r)) (after_none v.rest)
+        by InX = refl
+        by InArguments = refl
+
+    -- at the byte that ends it, a list writes nothing more, and gives its tail with that byte
+    pub items_end : {b : ℕ} {text : List ℕ} → v.rest.bytes ≡ b ∷ text → ends_list c.kind b ≡ true → items_at before w ≡ Ok (with_end tail b, v)
+    items_end {b} e g =
+        plains_go ∙ ap (λ bs. listed_given outer tail v (items_with lists deep c v.rest.at 0 bs)) e ∙ rw g refl
+        ∙ ap (λ (r : Left). Ok (list_on tail v.parts (none, b) r)) (after_none v.rest)
+
+    -- where a percent sign comes next, the list gives its directive and then the items after it
+    pub directed_by : {text : List ℕ} → v.rest.bytes ≡ ascii.percent ∷ text
+        → items_at before w ≡ from_here (directive_given outer c (lists, deep) v)
+    directed_by {text} e =
+        plains_go ∙ item_steps tail v ascii.percent text e refl
+        ∙ stepped_by tail v (d.directive lists deep c v.rest.at text) (directive_white lists deep c v.rest.at text)
+        ∙ ap (λ bs. from_here (directed v (d.directive lists deep c v.rest.at (drop 1 bs)))) (sym e)
+
+    -- where the next byte begins an item that is no directive, the list gives this item and then the items after it
+    pub byte_by : {b : ℕ} {text : List ℕ} → v.rest.bytes ≡ b ∷ text → ends_list c.kind b ≡ false → (b == ascii.percent) ≡ false
+        → items_at before w ≡ as_items (byte_given outer c.in_arguments b tail v)
+    byte_by {b} {text} e g other = plains_go ∙ item_steps tail v b text e g ∙ step_byte tail v b text e other
 
   -- what is left gets shorter
 
@@ -421,7 +395,7 @@ module _ (lists deep : Lists) (c : ListContext) (outer : Option ℕ) (inside : O
 
   -- a directive takes at least one byte, so the loop of `items` ends
   pub directed_shorter : (v u : Reading) (text : List ℕ) → v.rest.bytes ≡ ascii.percent ∷ text
-      → directed v (d.directive lists deep c v.rest.at (drop 1 v.rest.bytes)) ≡ Ok u → length u.rest.bytes < length v.rest.bytes
+      → directive_given outer c (lists, deep) v ≡ Ok u → length u.rest.bytes < length v.rest.bytes
   directed_shorter v u text e h = by (d.directive lists deep c v.rest.at (drop 1 v.rest.bytes)) h
     where
       by : (r : Read Item) → directed v r ≡ Ok u → length u.rest.bytes < length v.rest.bytes
@@ -430,21 +404,6 @@ module _ (lists deep : Lists) (c : ListContext) (outer : Option ℕ) (inside : O
           subst (λ (x : Reading). length x.rest.bytes < length v.rest.bytes) p (shorter_after k v.rest ascii.percent text e)
       by (Ends at) g = absurd cc
       by (Stops n fault) g = absurd cc
-
-  -- where no byte is left and a list of this kind may end there, the list is complete
-  pub items_finish : (tail last : Tail) (v : Reading) (n : ℕ) → None ≡ first_of v.rest.bytes → n ≡ v.rest.at
-      → end_given outer c.kind tail n ≡ Ok last
-      → items_at tail v ≡ Ok (last, v)
-  items_finish tail last v n e g h =
-      items_last tail v (none_left v.rest.bytes e)
-      ∙ ap (λ x. at_last v x) (ap (λ (i : ℕ). end_given outer c.kind tail i) (sym g) ∙ h)
-
-  -- where no byte is left and a list of this kind may not end there, the list gives that fault
-  pub items_cut : (tail : Tail) (v : Reading) (n : ℕ) (fault : SyntaxFault) → None ≡ first_of v.rest.bytes → n ≡ v.rest.at
-      → end_given outer c.kind tail n ≡ Err fault → items_at tail v ≡ Err fault
-  items_cut tail v n fault e g h =
-      items_last tail v (none_left v.rest.bytes e)
-      ∙ ap (λ x. at_last v x) (ap (λ (i : ℕ). end_given outer c.kind tail i) (sym g) ∙ h)
 
   -- after a run of plain bytes no more of the text is left than before
   pub plains_shorter : (kind : ListKind) (tail next : Tail) (v u : Reading) → plains_on kind tail v ≡ (next, u)

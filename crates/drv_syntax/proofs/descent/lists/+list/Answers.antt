@@ -1,11 +1,9 @@
 use Rattle.drv_syntax.proofs.AskedResults.{asked_done, asked_stop}
 use Rattle.drv_syntax.proofs.ChoicesGiven.{choices_by, default_x, later_less, later_tests, mapped_same}
 use Rattle.drv_syntax.proofs.FormsGiven.{more_by, tests_by, tried_smaller}
-use Rattle.drv_syntax.proofs.GivenParts.{err_gives, gives_err, ok_same, some_left}
+use Rattle.drv_syntax.proofs.GivenParts.{err_gives, gives_err, none_left, ok_same, some_left}
 use Rattle.drv_syntax.proofs.HoldersGiven.{around_is, braces_done, call_done}
-use Rattle.drv_syntax.proofs.ListsGiven.{byte_goes, byte_shorter, byte_stops, directed_goes, directed_shorter, directed_stops, items_cut}
-use Rattle.drv_syntax.proofs.ListsGiven.{items_end, items_finish}
-use Rattle.drv_syntax.proofs.ListsGiven.{plains_go, plains_shorter}
+use Rattle.drv_syntax.proofs.ListsGiven.{byte_by, byte_shorter, directed_by, directed_shorter, items_end, items_last, plains_shorter}
 use Rattle.drv_syntax.proofs.PercentGiven.{braces_go, call_goes, marked_bad, marked_go, marked_opens, percent_opens, places, simple_goes}
 use Rattle.drv_syntax.proofs.ResultsGiven.{deep_enough, result_bad, result_cut, result_done, result_stop, test_plain}
 use Rattle.drv_syntax.proofs.TestsGiven.{gives_same}
@@ -27,43 +25,28 @@ use Rattle.std.specs.Prelude.{Err, Ok, Some}
 pub items-returns-in_default-clause-list : goal.items-returns-in_default-clause-list
 items-returns-in_default-clause-list t c =
     sym c.loop-tail.invariant
-    ∙ plains_go (around c.args.c.levels).0 (around c.args.c.levels).1 (context_seen c.args.c) c.args.outer c.requires c.args.c.kind
-    c.loop-tail.tail c.in_ok-tail.tail (seen c.loop-tail.r) (seen c.plains.new.r) refl (ok_same c.in_ok-tail.ensures)
-    ∙ items_finish (around c.args.c.levels).0 (around c.args.c.levels).1 (context_seen c.args.c) c.args.outer c.requires c.in_ok-tail.tail
-    c.in_ok-last.last (seen c.plains.new.r) c.at.result c.in_default.ensures c.at.ensures.place (sym c.at_end.ensures ∙ c.in_ok-last.was)
+    ∙ rw (items_last _ _ (context_seen c.args.c) _ c.requires c.args.c.kind refl _ _ (seen c.loop-tail.r) (seen c.plains.new.r)
+    (ok_same c.in_ok-tail.ensures) (none_left _ c.in_default.ensures), ← c.at.ensures.place, ← c.at_end.ensures, c.in_ok-last.was) refl
 
 -- the text ends in a list that is no whole text
 pub items-returns-in_err-last-clause-list : goal.items-returns-in_err-last-clause-list
 items-returns-in_err-last-clause-list t c =
-    err_gives _ _ c.from_residual-in_err-last.ensures.1
-    (sym c.loop-tail.invariant
-    ∙ plains_go (around c.args.c.levels).0 (around c.args.c.levels).1 (context_seen c.args.c) c.args.outer c.requires c.args.c.kind
-    c.loop-tail.tail c.in_ok-tail.tail (seen c.loop-tail.r) (seen c.plains.new.r) refl (ok_same c.in_ok-tail.ensures)
-    ∙ items_cut (around c.args.c.levels).0 (around c.args.c.levels).1 (context_seen c.args.c) c.args.outer c.requires c.in_ok-tail.tail
-    (seen c.plains.new.r) c.at.result c.in_err-last.field-0.0 c.in_default.ensures c.at.ensures.place
-    (sym c.at_end.ensures ∙ c.in_err-last.was))
+    err_gives _ _ c.from_residual-in_err-last.ensures.1 (sym c.loop-tail.invariant
+    ∙ rw (items_last _ _ (context_seen c.args.c) _ c.requires c.args.c.kind refl _ _ (seen c.loop-tail.r) (seen c.plains.new.r)
+    (ok_same c.in_ok-tail.ensures) (none_left _ c.in_default.ensures), ← c.at.ensures.place, ← c.at_end.ensures, c.in_err-last.was) refl)
 
 -- the byte that ends the list comes next
 pub items-returns-then-ends_list-clause-list : goal.items-returns-then-ends_list-clause-list
 items-returns-then-ends_list-clause-list t c =
     sym c.loop-tail.invariant
-    ∙ plains_go (around c.args.c.levels).0 (around c.args.c.levels).1 (context_seen c.args.c) c.args.outer c.requires c.args.c.kind
-    c.loop-tail.tail c.in_ok-tail.tail (seen c.loop-tail.r) (seen c.plains.new.r) refl (ok_same c.in_ok-tail.ensures)
-    ∙ items_end (around c.args.c.levels).0 (around c.args.c.levels).1 (context_seen c.args.c) c.args.outer c.requires c.in_ok-tail.tail
-    (seen c.plains.new.r) c.in-Some.b (drop 1 c.plains.new.r.rest.bytes) (some_left c.plains.new.r.rest.bytes c.in-Some.b c.in-Some.ensures)
-    (sym c.ends_list.ensures ∙ c.if-ends_list.true)
-    ∙ ap (λ x. Ok (x, (seen c.plains.new.r))) (sym c.with_end.ensures)
+    ∙ rw (items_end _ _ (context_seen c.args.c) _ c.requires c.args.c.kind refl _ _ (seen c.loop-tail.r) (seen c.plains.new.r)
+    (ok_same c.in_ok-tail.ensures) (some_left _ _ c.in-Some.ensures) (sym c.ends_list.ensures ∙ c.if-ends_list.true), c.with_end.ensures) refl
 
 pub items-returns-in_err-percent-clause-list : goal.items-returns-in_err-percent-clause-list
 items-returns-in_err-percent-clause-list t c =
-    gives_err _ _ c.from_residual-in_err-percent.ensures.1 c.in_err-percent.ensures
-    (λ h. sym c.loop-tail.invariant
-    ∙ plains_go (around c.args.c.levels).0 (around c.args.c.levels).1 (context_seen c.args.c) c.args.outer c.requires c.args.c.kind
-    c.loop-tail.tail c.in_ok-tail.tail (seen c.loop-tail.r) (seen c.plains.new.r) refl (ok_same c.in_ok-tail.ensures)
-    ∙ directed_stops (around c.args.c.levels).0 (around c.args.c.levels).1 (context_seen c.args.c) c.args.outer c.requires c.in_ok-tail.tail
-    (seen c.plains.new.r) c.in_err-percent.field-0.0 (drop 1 c.plains.new.r.rest.bytes)
-    (some_left c.plains.new.r.rest.bytes c.in-Some.b c.in-Some.ensures
-    ∙ ap (λ x. x ∷ drop 1 c.plains.new.r.rest.bytes) c.if-b-eq37.true) h)
+    gives_err _ _ c.from_residual-in_err-percent.ensures.1 c.in_err-percent.ensures (λ h. sym c.loop-tail.invariant
+    ∙ rw (directed_by _ _ (context_seen c.args.c) _ c.requires c.args.c.kind refl _ _ (seen c.loop-tail.r) (seen c.plains.new.r)
+    (ok_same c.in_ok-tail.ensures) (some_left _ _ c.in-Some.ensures ∙ ap (λ x. x ∷ drop 1 c.plains.new.r.rest.bytes) c.if-b-eq37.true), h) refl)
 
 pub items-loop-tail-smaller-then-b-eq37 : goal.items-loop-tail-smaller-then-b-eq37
 items-loop-tail-smaller-then-b-eq37 t c =
@@ -80,28 +63,16 @@ items-loop-tail-smaller-then-b-eq37 t c =
 -- after a directive it is written, and the items after it follow
 pub items-loop-tail-preserved-then-b-eq37 : goal.items-loop-tail-preserved-then-b-eq37
 items-loop-tail-preserved-then-b-eq37 t c =
-    ap (λ x. listed_given c.args.outer x (seen c.percent.new.r)
-    (descent.items_with (around c.args.c.levels).0 (around c.args.c.levels).1 (context_seen c.args.c) c.percent.new.r.rest.at 0
-    c.percent.new.r.rest.bytes))
-    c.ended-tail-then-b-eq37.ensures
-    ∙ sym (sym c.loop-tail.invariant
-    ∙ plains_go (around c.args.c.levels).0 (around c.args.c.levels).1 (context_seen c.args.c) c.args.outer c.requires c.args.c.kind
-    c.loop-tail.tail c.in_ok-tail.tail (seen c.loop-tail.r) (seen c.plains.new.r) refl (ok_same c.in_ok-tail.ensures)
-    ∙ directed_goes (around c.args.c.levels).0 (around c.args.c.levels).1 (context_seen c.args.c) c.args.outer c.requires c.in_ok-tail.tail
-    (seen c.plains.new.r) (seen c.percent.new.r) (drop 1 c.plains.new.r.rest.bytes)
-    (some_left c.plains.new.r.rest.bytes c.in-Some.b c.in-Some.ensures
-    ∙ ap (λ x. x ∷ drop 1 c.plains.new.r.rest.bytes) c.if-b-eq37.true) c.in_ok-percent.ensures)
+    rw c.ended-tail-then-b-eq37.ensures (
+    rw (directed_by _ _ (context_seen c.args.c) _ c.requires c.args.c.kind refl _ _ (seen c.loop-tail.r) (seen c.plains.new.r)
+    (ok_same c.in_ok-tail.ensures) (some_left _ _ c.in-Some.ensures ∙ ap (λ x. x ∷ drop 1 c.plains.new.r.rest.bytes) c.if-b-eq37.true),
+    c.in_ok-percent.ensures) at c.loop-tail.invariant)
 
 pub items-returns-in_err-tail-2-clause-list : goal.items-returns-in_err-tail-2-clause-list
 items-returns-in_err-tail-2-clause-list t c =
-    gives_err _ _ c.from_residual-in_err-tail-2.ensures.1 c.in_err-tail-2.ensures
-    (λ h. sym c.loop-tail.invariant
-    ∙ plains_go (around c.args.c.levels).0 (around c.args.c.levels).1 (context_seen c.args.c) c.args.outer c.requires c.args.c.kind
-    c.loop-tail.tail c.in_ok-tail.tail (seen c.loop-tail.r) (seen c.plains.new.r) refl (ok_same c.in_ok-tail.ensures)
-    ∙ byte_stops (around c.args.c.levels).0 (around c.args.c.levels).1 (context_seen c.args.c) c.args.outer c.requires c.in_ok-tail.tail
-    (seen c.plains.new.r) c.in_err-tail-2.field-0.0 c.in-Some.b (drop 1 c.plains.new.r.rest.bytes)
-    (some_left c.plains.new.r.rest.bytes c.in-Some.b c.in-Some.ensures) (sym c.ends_list.ensures ∙ c.if-ends_list.false)
-    (differs c.in-Some.b 37 c.if-b-eq37.false) h)
+    gives_err _ _ c.from_residual-in_err-tail-2.ensures.1 c.in_err-tail-2.ensures (λ h. sym c.loop-tail.invariant
+    ∙ rw (byte_by _ _ (context_seen c.args.c) _ c.requires c.args.c.kind refl _ _ (seen c.loop-tail.r) (seen c.plains.new.r)
+    (ok_same c.in_ok-tail.ensures) (some_left _ _ c.in-Some.ensures) (sym c.ends_list.ensures ∙ c.if-ends_list.false) (differs _ _ c.if-b-eq37.false), h) refl)
 
 pub items-loop-tail-smaller : goal.items-loop-tail-smaller
 items-loop-tail-smaller t c =
@@ -117,13 +88,9 @@ items-loop-tail-smaller t c =
 -- after an item that is no directive it is written, and the items after it follow
 pub items-loop-tail-preserved : goal.items-loop-tail-preserved
 items-loop-tail-preserved t c =
-    sym (sym c.loop-tail.invariant
-    ∙ plains_go (around c.args.c.levels).0 (around c.args.c.levels).1 (context_seen c.args.c) c.args.outer c.requires c.args.c.kind
-    c.loop-tail.tail c.in_ok-tail.tail (seen c.loop-tail.r) (seen c.plains.new.r) refl (ok_same c.in_ok-tail.ensures)
-    ∙ byte_goes (around c.args.c.levels).0 (around c.args.c.levels).1 (context_seen c.args.c) c.args.outer c.requires c.in_ok-tail.tail
-    c.in_ok-tail-2.tail (seen c.plains.new.r) (seen c.item.new.r) c.in-Some.b (drop 1 c.plains.new.r.rest.bytes)
-    (some_left c.plains.new.r.rest.bytes c.in-Some.b c.in-Some.ensures) (sym c.ends_list.ensures ∙ c.if-ends_list.false)
-    (differs c.in-Some.b 37 c.if-b-eq37.false) c.in_ok-tail-2.ensures)
+    rw (byte_by _ _ (context_seen c.args.c) _ c.requires c.args.c.kind refl _ _ (seen c.loop-tail.r) (seen c.plains.new.r)
+    (ok_same c.in_ok-tail.ensures) (some_left _ _ c.in-Some.ensures) (sym c.ends_list.ensures ∙ c.if-ends_list.false) (differs _ _ c.if-b-eq37.false),
+    c.in_ok-tail-2.ensures) at c.loop-tail.invariant
 
 pub percent-returns-then-is_simple : goal.percent-returns-then-is_simple
 percent-returns-then-is_simple t c =
