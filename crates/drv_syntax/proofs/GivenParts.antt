@@ -23,7 +23,7 @@ use Rattle.drv_syntax.specs.declared.token.TokenKind.TheVariants as kinds
 use Rattle.std.proofs.Common.{◌≡◌, ◌⊎◌, ◌∙◌, ◌+◌, ◌++◌, Bool, false, true, if◌then◌else◌, List, [], ◌∷◌, ap, append-nil}
 use Rattle.std.proofs.Common.{append_assoc, arith}
 use Rattle.std.proofs.Common.{drop, inl, inr, refl}
-use Rattle.std.proofs.Common.{◌≤◌, length, suc, sym, take, ℕ}
+use Rattle.std.proofs.Common.{◌≤◌, length, subst, suc, sym, take, ℕ}
 use Rattle.std.proofs.lemmas.List.{length-drop}
 use Rattle.drv_words.specs.Gives.{Gives}
 use Rattle.std.specs.Prelude.{◌==◌, Err, None, Ok, Option, Result, Some}
@@ -71,6 +71,11 @@ pub gives_err : {X Y Z : Type 0} {fault : SyntaxFault} (view : X → Y) (result 
 gives_err view (Ok x) e h on = absurd e
 gives_err view (Err f) e (inl g) on = inl (rw e g)
 gives_err view (Err f) e (inr g) on = inr (rw e (on g))
+
+-- code that returns what a call returned meets its clause, if by the definition what the call gives is what the code gives
+pub gives_same : {X Y : Type 0} (view : X → Y) (result : Result X SyntaxFault) {a b : Result Y SyntaxFault} → a ≡ b
+    → Gives Memory view result b → Gives Memory view result a
+gives_same view result e h = subst (λ x. Gives Memory view result x) (sym e) h
 
 -- parts
 

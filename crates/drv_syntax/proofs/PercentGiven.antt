@@ -34,22 +34,8 @@ module _ (lists : Lists × Lists) (c : ListContext) (outer : Option ℕ) (v : Re
   as_item x l = record { rest = l; parts = item_written at x l.at v.parts }
 
   -- what the code gives of a directive after its byte
-  abbrev pub goes_on : Left → Directive → Result Reading SyntaxFault
+  abbrev goes_on : Left → Directive → Result Reading SyntaxFault
   goes_on r x = given outer r as_item (directive_by lists.0 lists.1 c at (at + 1) x r.bytes)
-
-  -- where the byte after the percent sign is allowed, the directive gives what follows that byte gives
-  pub percent_opens : (b : ℕ) (r1 r2 : Left) (x : Directive) → at ≡ v.rest.at → r1 ≡ after 1 v.rest → Some b ≡ first_of r1.bytes
-      → is_allowed c.in_arguments b ≡ true
-      → r2 ≡ after 1 r1 → x ≡ directive_of b → directive_given outer c lists v ≡ goes_on r2 x
-  percent_opens b r1 r2 x here e f g h k =
-      ap (λ (i : ℕ). given outer (after 1 v.rest) (λ y l. record { rest = l; parts = item_written i y l.at v.parts })
-      (d.directive lists.0 lists.1 c i (drop 1 v.rest.bytes))) (sym here)
-      ∙ ap (λ (r : Left). given outer r as_item (d.directive lists.0 lists.1 c at r.bytes)) (sym e)
-      ∙ ap (λ bs. given outer r1 as_item (d.directive lists.0 lists.1 c at bs)) (some_left r1.bytes b f)
-      ∙ rw g refl
-      ∙ given_past outer r1 as_item 1 (directive_by lists.0 lists.1 c at (at + 1) (directive_of b) (drop 1 r1.bytes))
-      ∙ ap (λ (r : Left). goes_on r (directive_of b)) (sym h)
-      ∙ ap (λ (y : Directive). goes_on r2 y) (sym k)
 
   -- one that holds no parts
 
@@ -89,66 +75,75 @@ module _ (lists : Lists × Lists) (c : ListContext) (outer : Option ℕ) (v : Re
   star_goes r Mixed = refl
   star_goes r Starred = ap (λ (l : Left). Ok (as_item Star l)) (after_none r) ∙ star_is r
 
-  -- what follows the byte of a directive begins two bytes after the percent sign
-  pub places : (r1 r2 : Left) → at ≡ v.rest.at → r1 ≡ after 1 v.rest → r2 ≡ after 1 r1 → r2.at ≡ at + 1 + 1
-  places r1 r2 here e g =
-      ap (λ (r : Left). r.at) g ∙ ap (λ (r : Left). r.at + 1) e ∙ ap (λ (i : ℕ). i + 1 + 1) (sym here)
-
   -- a directive that holds no parts gives what the code's `directive` gives
-  pub simple_goes : (r : Left) (x : Directive) → r.at ≡ at + 1 + 1 → is_simple x ≡ true
+  simple_at : (r : Left) (x : Directive) → r.at ≡ at + 1 + 1 → is_simple x ≡ true
       → goes_on r x ≡ simple_given outer c at x (at_rest r v)
-  simple_goes r directives.Nowhere e s = refl
-  simple_goes r (directives.Whole leaf) e s = took_leaf r (Leaf leaf) (leaf_here (kinds.Leaf leaf) no_label at (at_rest r v))
+  simple_at r directives.Nowhere e s = refl
+  simple_at r (directives.Whole leaf) e s = took_leaf r (Leaf leaf) (leaf_here (kinds.Leaf leaf) no_label at (at_rest r v))
       (ap (λ z. record { rest = r; parts = z }) (leaf_is (kinds.Leaf leaf) no_label at r.at v.parts))
-  simple_goes r (directives.Named letter) e s =
+  simple_at r (directives.Named letter) e s =
       took_leaf r (BuiltinText (text_of letter)) (leaf_here kinds.BuiltinText (word_label (text_of letter)) at (at_rest r v))
       (ap (λ z. record { rest = r; parts = z }) (leaf_is kinds.BuiltinText (word_label (text_of letter)) at r.at v.parts))
-  simple_goes r (directives.WithSuffix kind) e s = ap (λ (n : ℕ). given outer r as_item (d.suffix kind n r.bytes)) (sym e)
-  simple_goes r directives.WithOption e s = ap (λ (n : ℕ). given outer r as_item (d.option at n r.bytes)) (sym e)
-  simple_goes r (directives.WithSaying kind) e s = ap (λ (n : ℕ). given outer r as_item (d.saying c.kind kind n r.bytes)) (sym e)
-  simple_goes r directives.WithName e s = ap (λ (n : ℕ). given outer r as_item (d.name_from at n [] r.bytes)) (sym e)
-  simple_goes r directives.WithPattern e s =
+  simple_at r (directives.WithSuffix kind) e s = ap (λ (n : ℕ). given outer r as_item (d.suffix kind n r.bytes)) (sym e)
+  simple_at r directives.WithOption e s = ap (λ (n : ℕ). given outer r as_item (d.option at n r.bytes)) (sym e)
+  simple_at r (directives.WithSaying kind) e s = ap (λ (n : ℕ). given outer r as_item (d.saying c.kind kind n r.bytes)) (sym e)
+  simple_at r directives.WithName e s = ap (λ (n : ℕ). given outer r as_item (d.name_from at n [] r.bytes)) (sym e)
+  simple_at r directives.WithPattern e s =
       ap (λ (n : ℕ). given outer r as_item (d.then_read (d.pattern_at at n r.bytes) (λ p size. Took (tree.Hide p) size))) (sym e)
-  simple_goes r directives.OfStar e s = star_goes r c.owner
-  simple_goes r directives.WithCall e s = absurd cc
-  simple_goes r directives.WithBraces e s = absurd cc
-  simple_goes r (directives.WithMarkedBraces kind) e s = absurd cc
+  simple_at r directives.OfStar e s = star_goes r c.owner
+  simple_at r directives.WithCall e s = absurd cc
+  simple_at r directives.WithBraces e s = absurd cc
+  simple_at r (directives.WithMarkedBraces kind) e s = absurd cc
 
-  -- one that holds parts
+  -- the code is at r2, after the percent sign (r1) and the byte b, which is allowed and begins the directive x
+  module _ (b : ℕ) (r1 r2 : Left) (x : Directive) (here : at ≡ v.rest.at) (one : r1 ≡ after 1 v.rest) (first : Some b ≡ first_of r1.bytes)
+      (allowed : is_allowed c.in_arguments b ≡ true) (two : r2 ≡ after 1 r1) (is : x ≡ directive_of b) where
+    -- what the directive gives
+    abbrev directed : Result Reading SyntaxFault
+    directed = directive_given outer c lists v
 
-  -- %: gives what the code's `call` gives, if a level is left
-  pub call_goes : (r : Left) (x : Directive) → x ≡ directives.WithCall → r.at ≡ at + 1 + 1 → (c.levels == 0) ≡ false
-      → goes_on r x ≡ item_given outer at (at_rest r v) (d.call lists.0 c at r.at r.bytes)
-  call_goes r x e g h =
-      ap (λ (y : Directive). goes_on r y) e ∙ rw h refl ∙ ap (λ (n : ℕ). given outer r as_item (d.call lists.0 c at n r.bytes)) (sym g)
+    -- the directive gives what follows its byte gives
+    percent_opens : directed ≡ goes_on r2 x
+    percent_opens =
+        ap (λ (i : ℕ). given outer (after 1 v.rest) (λ y l. record { rest = l; parts = item_written i y l.at v.parts })
+        (d.directive lists.0 lists.1 c i (drop 1 v.rest.bytes))) (sym here)
+        ∙ ap (λ (r : Left). given outer r as_item (d.directive lists.0 lists.1 c at r.bytes)) (sym one)
+        ∙ ap (λ bs. given outer r1 as_item (d.directive lists.0 lists.1 c at bs)) (some_left r1.bytes b first)
+        ∙ rw allowed (given_past outer r1 as_item 1 (directive_by lists.0 lists.1 c at (at + 1) (directive_of b) (drop 1 r1.bytes))
+        ∙ rw (two, is) refl)
 
-  -- %{ gives what the code's `braces` gives, if a level is left
-  pub braces_go : (r : Left) (x : Directive) → x ≡ directives.WithBraces → r.at ≡ at + 1 + 1 → (c.levels == 0) ≡ false
-      → goes_on r x ≡ item_given outer at (at_rest r v) (d.braces lists.0 lists.1 c at InPlace r.at r.bytes)
-  braces_go r x e g h =
-      ap (λ (y : Directive). goes_on r y) e ∙ rw h refl
-      ∙ ap (λ (n : ℕ). given outer r as_item (d.braces lists.0 lists.1 c at InPlace n r.bytes)) (sym g)
+    -- what follows the byte of a directive begins two bytes after the percent sign
+    place : r2.at ≡ at + 1 + 1
+    place = rw (two, one, here) refl
 
-  -- %W and %@ give what their braces give, if a level is left
-  pub marked_go : (r : Left) (x : Directive) (kind : BraceKind) → x ≡ directives.WithMarkedBraces kind → r.at ≡ at + 1 + 1
-      → (c.levels == 0) ≡ false
-      → goes_on r x ≡ given outer r as_item (d.marked_braces lists.0 lists.1 c at kind r.at r.bytes)
-  marked_go r x kind e g h =
-      ap (λ (y : Directive). goes_on r y) e ∙ rw h refl
-      ∙ ap (λ (n : ℕ). given outer r as_item (d.marked_braces lists.0 lists.1 c at kind n r.bytes)) (sym g)
+    -- one that holds no parts gives what the code's `directive` gives
+    pub simple_goes : is_simple x ≡ true → directed ≡ simple_given outer c at x (at_rest r2 v)
+    simple_goes s = percent_opens ∙ simple_at r2 x place s
 
-  -- where no brace follows %W or %@, the directive is refused
-  pub marked_bad : (r : Left) (kind : BraceKind) (b : ℕ) → Some b ≡ first_of r.bytes → (b == ascii.opening_brace) ≡ false
-      → given outer r as_item (d.marked_braces lists.0 lists.1 c at kind r.at r.bytes) ≡ Err (BadDirective at)
-  marked_bad r kind b e g =
-      ap (λ bs. given outer r as_item (d.marked_braces lists.0 lists.1 c at kind r.at bs)) (some_left r.bytes b e) ∙ rw g refl
+    -- a level is left for what the directive holds
+    module _ (level : (c.levels == 0) ≡ false) where
+      -- %: gives what the code's `call` gives
+      pub call_goes : x ≡ directives.WithCall → directed ≡ item_given outer at (at_rest r2 v) (d.call lists.0 c at r2.at r2.bytes)
+      call_goes e = percent_opens ∙ rw (e, level, place) refl
 
-  -- where a brace follows %W or %@, the directive gives what the code's `braces` gives after it
-  pub marked_opens : (r r3 : Left) (kind : BraceKind) (b : ℕ) → Some b ≡ first_of r.bytes → b ≡ ascii.opening_brace → r3 ≡ after 1 r
-      → given outer r as_item (d.marked_braces lists.0 lists.1 c at kind r.at r.bytes)
-      ≡ item_given outer at (at_rest r3 v) (d.braces lists.0 lists.1 c at kind r3.at r3.bytes)
-  marked_opens r r3 kind b e g h =
-      ap (λ bs. given outer r as_item (d.marked_braces lists.0 lists.1 c at kind r.at bs))
-      (some_left r.bytes b e ∙ ap (λ x. x ∷ drop 1 r.bytes) g)
-      ∙ given_past outer r as_item 1 (d.braces lists.0 lists.1 c at kind (r.at + 1) (drop 1 r.bytes))
-      ∙ ap (λ (l : Left). given outer l as_item (d.braces lists.0 lists.1 c at kind l.at l.bytes)) (sym h)
+      -- %{ gives what the code's `braces` gives
+      pub braces_go : x ≡ directives.WithBraces
+          → directed ≡ item_given outer at (at_rest r2 v) (d.braces lists.0 lists.1 c at InPlace r2.at r2.bytes)
+      braces_go e = percent_opens ∙ rw (e, level, place) refl
+
+      -- the directive is %W or %@, and the byte y follows it
+      module _ (kind : BraceKind) (marked : x ≡ directives.WithMarkedBraces kind) (y : ℕ) (next : Some y ≡ first_of r2.bytes) where
+        -- %W and %@ give what their braces give, from that byte on
+        marked_go : directed ≡ given outer r2 as_item (d.marked_braces lists.0 lists.1 c at kind r2.at (y ∷ drop 1 r2.bytes))
+        marked_go = percent_opens ∙ rw (marked, level, ← place) refl
+            ∙ ap (λ bs. given outer r2 as_item (d.marked_braces lists.0 lists.1 c at kind r2.at bs)) (some_left r2.bytes y next)
+
+        -- where no brace follows %W or %@, the directive is refused
+        pub marked_bad : (y == ascii.opening_brace) ≡ false → directed ≡ Err (BadDirective at)
+        marked_bad g = marked_go ∙ rw g refl
+
+        -- where a brace follows %W or %@, the directive gives what the code's `braces` gives after it
+        pub marked_opens : y ≡ ascii.opening_brace → (r3 : Left) → r3 ≡ after 1 r2
+            → directed ≡ item_given outer at (at_rest r3 v) (d.braces lists.0 lists.1 c at kind r3.at r3.bytes)
+        marked_opens g r3 h =
+            marked_go ∙ rw g (given_past outer r2 as_item 1 (d.braces lists.0 lists.1 c at kind (r2.at + 1) (drop 1 r2.bytes)) ∙ rw h refl)

@@ -296,7 +296,7 @@ module _ (deep : Lists) (c : ListContext) (at : ℕ) where
           result_by (Stops n fault) h = refl
 
           -- a test of a function's result gives what the code's `result` and then the byte after it give
-          result_here : tries v (one_test deep c at order v.rest.at v.rest.bytes) ≡ result_then result_from
+          pub result_here : tries v (one_test deep c at order v.rest.at v.rest.bytes) ≡ result_then result_from
           result_here =
               begun_here
               ∙ ap (λ bs. tries u (then_read (d.asked deep c at (may_emit order begun.negated) u.rest.at bs)
@@ -304,38 +304,10 @@ module _ (deep : Lists) (c : ListContext) (at : ℕ) where
               ∙ rw deeper refl
               ∙ result_by (result deep c at u.rest.at (drop 1 u.rest.bytes)) (result_asks u.rest.at (drop 1 u.rest.bytes))
 
-          -- the fault of the code's `result` is that of the test
-          pub result_stop : (fault : SyntaxFault) → result_from ≡ Err fault → tries v (one_test deep c at order v.rest.at v.rest.bytes)
-              ≡ Err fault
-          result_stop fault h = result_here ∙ ap (λ x. result_then x) h
-
-          -- the function and its arguments are read, and white space after them
-          module _ (choice : Choice) (w : Reading) (reads : result_from ≡ Ok (choice, w)) (rest : Left)
-              (spaces : rest ≡ spaced w.rest) where
-            -- once the code's `result` is done, the test gives what the byte after it decides
-            on_byte : tries v (one_test deep c at order v.rest.at v.rest.bytes) ≡ result_byte choice w rest rest.bytes
-            on_byte = result_here ∙ ap (λ x. result_then x) reads ∙ ap (λ (x : Left). result_byte choice w x x.bytes) (sym spaces)
-
-            -- where the text ends after a test of a function's result, the braces are not closed
-            pub result_cut : None ≡ first_of rest.bytes → tries v (one_test deep c at order v.rest.at v.rest.bytes)
-                ≡ Err (Unclosed (open_at outer at))
-            result_cut i = on_byte ∙ ap (λ bs. result_byte choice w rest bs) (none_left rest.bytes i)
-
-            -- where a byte is left, the test gives what the code's `result_judged` decides by it
-            at_byte : (b : ℕ) → Some b ≡ first_of rest.bytes
-                → tries v (one_test deep c at order v.rest.at v.rest.bytes)
-                ≡ with_rest (record { rest = after 1 rest; parts = w.parts }) (result_after at choice b)
-            at_byte b i = on_byte ∙ ap (λ bs. result_byte choice w rest bs) (some_left rest.bytes b i)
-
-            -- a colon or a bar after a test of a function's result is taken, and decides what the test gives
-            pub result_done : (b : ℕ) (next : Next) (last : Left) → Some b ≡ first_of rest.bytes → last ≡ after 1 rest
-                → result_after at choice b ≡ Ok next
-                → tries v (one_test deep c at order v.rest.at v.rest.bytes) ≡ Ok (next, record { rest = last; parts = w.parts })
-            result_done b next last i j h =
-                at_byte b i ∙ ap (λ x. with_rest (record { rest = after 1 rest; parts = w.parts }) x) h
-                ∙ ap (λ (x : Left). Ok (next, record { rest = x; parts = w.parts })) (sym j)
-
-            -- any other byte after a test of a function's result is refused
-            pub result_bad : (b : ℕ) (fault : SyntaxFault) → Some b ≡ first_of rest.bytes → result_after at choice b ≡ Err fault
-                → tries v (one_test deep c at order v.rest.at v.rest.bytes) ≡ Err fault
-            result_bad b fault i h = at_byte b i ∙ ap (λ x. with_rest (record { rest = after 1 rest; parts = w.parts }) x) h
+          -- the function and its arguments are read, and white space after them; the byte after that decides what the test gives
+          pub result_byte_by : (choice : Choice) (w : Reading) → result_from ≡ Ok (choice, w) → (rest : Left) → rest ≡ spaced w.rest
+              → (bs : List ℕ) → rest.bytes ≡ bs
+              → tries v (one_test deep c at order v.rest.at v.rest.bytes) ≡ result_byte choice w rest bs
+          result_byte_by choice w reads rest spaces bs is =
+              result_here ∙ rw reads refl ∙ ap (λ (x : Left). result_byte choice w x x.bytes) (sym spaces)
+              ∙ ap (λ xs. result_byte choice w rest xs) is

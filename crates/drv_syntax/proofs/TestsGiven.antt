@@ -30,11 +30,6 @@ use Rattle.std.specs.Prelude.{◌==◌, Err, None, Ok, Option, Result, Some}
 -- that the braces may still hold patterns. `outer` is the place of the outermost directive that is open, if one is, and `at` that of the %
 -- of the directive here.
 
--- a clause that holds with one definition holds with an equal one
-pub gives_same : {X Y : Type 0} (memory : SyntaxFault) (view : X → Y) (result : Result X SyntaxFault) (a b : Result Y SyntaxFault)
-    → a ≡ b → Gives memory view result b → Gives memory view result a
-gives_same memory view result a b e h = subst (λ x. Gives memory view result x) (sym e) h
-
 -- a run without a word takes no byte of the text
 quoted_none : (f : ℕ → Bool) (text : List ℕ) (size : ℕ) → quoted f text ≡ Run [] size → size ≡ 0
 quoted_none f [] size e =

@@ -1,12 +1,11 @@
 use Rattle.drv_syntax.proofs.AskedResults.{asked_done, asked_stop}
 use Rattle.drv_syntax.proofs.ChoicesGiven.{choices_by, default_x, later_less, later_tests, mapped_same}
 use Rattle.drv_syntax.proofs.FormsGiven.{more_by, tests_by, tried_smaller}
-use Rattle.drv_syntax.proofs.GivenParts.{err_gives, gives_err, none_left, ok_same, some_left}
+use Rattle.drv_syntax.proofs.GivenParts.{err_gives, gives_err, gives_same, none_left, ok_same, some_left}
 use Rattle.drv_syntax.proofs.HoldersGiven.{around_is, braces_done, call_done}
 use Rattle.drv_syntax.proofs.ListsGiven.{byte_by, byte_shorter, directed_by, directed_shorter, items_end, items_last, plains_shorter}
-use Rattle.drv_syntax.proofs.PercentGiven.{braces_go, call_goes, marked_bad, marked_go, marked_opens, percent_opens, places, simple_goes}
-use Rattle.drv_syntax.proofs.ResultsGiven.{deep_enough, result_bad, result_cut, result_done, result_stop, test_plain}
-use Rattle.drv_syntax.proofs.TestsGiven.{gives_same}
+use Rattle.drv_syntax.proofs.PercentGiven.{braces_go, call_goes, marked_bad, marked_opens, simple_goes}
+use Rattle.drv_syntax.proofs.ResultsGiven.{deep_enough, result_byte_by, result_here, test_plain}
 use Rattle.drv_syntax.proofs.Writing.{differs}
 use Rattle.drv_syntax.proofs.descent.lists.+list.Goals as goal
 use Rattle.drv_syntax.specs.Code.Lists.{around, brace_given, closed_here, context_seen, listed_given, tail_at}
@@ -94,16 +93,9 @@ items-loop-tail-preserved t c =
 
 pub percent-returns-then-is_simple : goal.percent-returns-then-is_simple
 percent-returns-then-is_simple t c =
-    gives_same _ _ c.directive.result _ _
-    (percent_opens (around c.args.c.levels) (context_seen c.args.c) c.args.outer (seen c.args.r.now) c.at-at.result c.in-Some.b
-    c.take.new.self c.take-2.new.self c.directive_of-d.result
-    c.at-at.ensures.place c.take.ensures.left c.in-Some.ensures (sym c.allows.ensures ∙ c.if-not-allows.false) c.take-2.ensures.left
-    c.directive_of-d.ensures
-    ∙ simple_goes (around c.args.c.levels) (context_seen c.args.c) c.args.outer (seen c.args.r.now) c.at-at.result c.take-2.new.self
-    c.directive_of-d.result (places (around c.args.c.levels) (context_seen c.args.c) c.args.outer (seen c.args.r.now) c.at-at.result
-    c.take.new.self c.take-2.new.self c.at-at.ensures.place c.take.ensures.left c.take-2.ensures.left)
-    (sym c.is_simple.ensures ∙ c.if-is_simple.true))
-    c.directive.ensures
+    gives_same _ _ (simple_goes (around c.args.c.levels) (context_seen c.args.c) c.args.outer (seen c.args.r.now) _ _ _ _ _ c.at-at.ensures.place
+    c.take.ensures.left c.in-Some.ensures (sym c.allows.ensures ∙ c.if-not-allows.false) c.take-2.ensures.left c.directive_of-d.ensures
+    (sym c.is_simple.ensures ∙ c.if-is_simple.true)) c.directive.ensures
 
 pub braces-returns : goal.braces-returns
 braces-returns t c =
@@ -137,58 +129,30 @@ call-returns t c =
 -- another byte than an opening brace (123) follows %W or %@
 pub percent-returns-then-b-ne123 : goal.percent-returns-then-b-ne123
 percent-returns-then-b-ne123 t c =
-    inr (percent_opens (around c.args.c.levels) (context_seen c.args.c) c.args.outer (seen c.args.r.now) c.at-at.result c.in-Some.b
-    c.take.new.self c.take-2.new.self c.directive_of-d.result
-    c.at-at.ensures.place c.take.ensures.left c.in-Some.ensures (sym c.allows.ensures ∙ c.if-not-allows.false) c.take-2.ensures.left
-    c.directive_of-d.ensures
-    ∙ marked_go (around c.args.c.levels) (context_seen c.args.c) c.args.outer (seen c.args.r.now) c.at-at.result c.take-2.new.self
-    c.directive_of-d.result c.in-WithMarkedBraces.kind c.in-WithMarkedBraces.is
-    (places (around c.args.c.levels) (context_seen c.args.c) c.args.outer (seen c.args.r.now) c.at-at.result c.take.new.self
-    c.take-2.new.self c.at-at.ensures.place c.take.ensures.left c.take-2.ensures.left) (differs c.args.c.levels 0 c.if-c-eq0.false)
-    ∙ marked_bad (around c.args.c.levels) (context_seen c.args.c) c.args.outer (seen c.args.r.now) c.at-at.result c.take-2.new.self
-    c.in-WithMarkedBraces.kind c.in-Some-first.b c.in-Some-first.ensures (differs c.in-Some-first.b 123 c.if-b-ne123.true))
+    inr (marked_bad (around c.args.c.levels) (context_seen c.args.c) c.args.outer (seen c.args.r.now) _ _ _ _ _ c.at-at.ensures.place
+    c.take.ensures.left c.in-Some.ensures (sym c.allows.ensures ∙ c.if-not-allows.false) c.take-2.ensures.left c.directive_of-d.ensures
+    (differs _ _ c.if-c-eq0.false) _
+    c.in-WithMarkedBraces.is _ c.in-Some-first.ensures (differs _ _ c.if-b-ne123.true))
 
 pub percent-returns-in-WithCall : goal.percent-returns-in-WithCall
 percent-returns-in-WithCall t c =
-    gives_same _ _ c.call.result _ _
-    (percent_opens (around c.args.c.levels) (context_seen c.args.c) c.args.outer (seen c.args.r.now) c.at-at.result c.in-Some.b
-    c.take.new.self c.take-2.new.self c.directive_of-d.result
-    c.at-at.ensures.place c.take.ensures.left c.in-Some.ensures (sym c.allows.ensures ∙ c.if-not-allows.false) c.take-2.ensures.left
-    c.directive_of-d.ensures
-    ∙ call_goes (around c.args.c.levels) (context_seen c.args.c) c.args.outer (seen c.args.r.now) c.at-at.result c.take-2.new.self
-    c.directive_of-d.result c.in-WithCall.is
-    (places (around c.args.c.levels) (context_seen c.args.c) c.args.outer (seen c.args.r.now) c.at-at.result c.take.new.self
-    c.take-2.new.self c.at-at.ensures.place c.take.ensures.left c.take-2.ensures.left) (differs c.args.c.levels 0 c.if-c-eq0.false))
-    c.call.ensures
+    gives_same _ _ (call_goes (around c.args.c.levels) (context_seen c.args.c) c.args.outer (seen c.args.r.now) _ _ _ _ _ c.at-at.ensures.place
+    c.take.ensures.left c.in-Some.ensures (sym c.allows.ensures ∙ c.if-not-allows.false) c.take-2.ensures.left c.directive_of-d.ensures
+    (differs _ _ c.if-c-eq0.false) c.in-WithCall.is) c.call.ensures
 
 pub percent-returns-in-WithBraces : goal.percent-returns-in-WithBraces
 percent-returns-in-WithBraces t c =
-    gives_same _ _ c.braces.result _ _
-    (percent_opens (around c.args.c.levels) (context_seen c.args.c) c.args.outer (seen c.args.r.now) c.at-at.result c.in-Some.b
-    c.take.new.self c.take-2.new.self c.directive_of-d.result
-    c.at-at.ensures.place c.take.ensures.left c.in-Some.ensures (sym c.allows.ensures ∙ c.if-not-allows.false) c.take-2.ensures.left
-    c.directive_of-d.ensures
-    ∙ braces_go (around c.args.c.levels) (context_seen c.args.c) c.args.outer (seen c.args.r.now) c.at-at.result c.take-2.new.self
-    c.directive_of-d.result c.in-WithBraces.is
-    (places (around c.args.c.levels) (context_seen c.args.c) c.args.outer (seen c.args.r.now) c.at-at.result c.take.new.self
-    c.take-2.new.self c.at-at.ensures.place c.take.ensures.left c.take-2.ensures.left) (differs c.args.c.levels 0 c.if-c-eq0.false))
-    c.braces.ensures
+    gives_same _ _ (braces_go (around c.args.c.levels) (context_seen c.args.c) c.args.outer (seen c.args.r.now) _ _ _ _ _ c.at-at.ensures.place
+    c.take.ensures.left c.in-Some.ensures (sym c.allows.ensures ∙ c.if-not-allows.false) c.take-2.ensures.left c.directive_of-d.ensures
+    (differs _ _ c.if-c-eq0.false) c.in-WithBraces.is) c.braces.ensures
 
 pub percent-returns-else-b-ne123 : goal.percent-returns-else-b-ne123
 percent-returns-else-b-ne123 t c =
-    gives_same _ _ c.braces-in-WithMarkedBraces.result _ _
-    (percent_opens (around c.args.c.levels) (context_seen c.args.c) c.args.outer (seen c.args.r.now) c.at-at.result c.in-Some.b
-    c.take.new.self c.take-2.new.self c.directive_of-d.result
-    c.at-at.ensures.place c.take.ensures.left c.in-Some.ensures (sym c.allows.ensures ∙ c.if-not-allows.false) c.take-2.ensures.left
-    c.directive_of-d.ensures
-    ∙ marked_go (around c.args.c.levels) (context_seen c.args.c) c.args.outer (seen c.args.r.now) c.at-at.result c.take-2.new.self
-    c.directive_of-d.result c.in-WithMarkedBraces.kind c.in-WithMarkedBraces.is
-    (places (around c.args.c.levels) (context_seen c.args.c) c.args.outer (seen c.args.r.now) c.at-at.result c.take.new.self
-    c.take-2.new.self c.at-at.ensures.place c.take.ensures.left c.take-2.ensures.left) (differs c.args.c.levels 0 c.if-c-eq0.false)
-    ∙ marked_opens (around c.args.c.levels) (context_seen c.args.c) c.args.outer (seen c.args.r.now) c.at-at.result c.take-2.new.self
-    c.take-in-WithMarkedBraces.new.self c.in-WithMarkedBraces.kind c.in-Some-first.b c.in-Some-first.ensures
-    c.if-b-ne123.false c.take-in-WithMarkedBraces.ensures.left)
-    c.braces-in-WithMarkedBraces.ensures
+    gives_same _ _ (marked_opens (around c.args.c.levels) (context_seen c.args.c) c.args.outer (seen c.args.r.now) _ _ _ _ _ c.at-at.ensures.place
+    c.take.ensures.left c.in-Some.ensures (sym c.allows.ensures ∙ c.if-not-allows.false) c.take-2.ensures.left c.directive_of-d.ensures
+    (differs _ _ c.if-c-eq0.false) _
+    c.in-WithMarkedBraces.is _ c.in-Some-first.ensures c.if-b-ne123.false _
+    c.take-in-WithMarkedBraces.ensures.left) c.braces-in-WithMarkedBraces.ensures
 
 pub tests-returns-in_err-test : goal.tests-returns-in_err-test
 tests-returns-in_err-test t c =
@@ -328,7 +292,7 @@ later-loop-r-preserved t c =
 -- a test without a function (no % is there, 37)
 pub test-returns-then-begun-ne37 : goal.test-returns-then-begun-ne37
 test-returns-then-begun-ne37 t c =
-    gives_same _ _ c.plain_test.result _ _
+    gives_same _ _
     (test_plain (around c.args.c.levels).1 (context_seen c.args.c) c.args.at c.args.outer (order_seen c.args.order) c.args.so_far
     (seen c.args.r.now)
     (seen c.begin.new.r) c.in_ok-begun.begun c.in_ok-begun.ensures
@@ -337,44 +301,35 @@ test-returns-then-begun-ne37 t c =
 
 pub test-returns-in_err-choice : goal.test-returns-in_err-choice
 test-returns-in_err-choice t c =
-    gives_err _ _ c.from_residual-in_err-choice.ensures.1 c.in_err-choice.ensures
-    (λ h. result_stop (around c.args.c.levels).1 (context_seen c.args.c) c.args.at c.args.outer (order_seen c.args.order) c.args.so_far
-    (seen c.args.r.now)
-    (seen c.begin.new.r) c.in_ok-begun.begun c.in_ok-begun.ensures
-    c.if-begun-ne37.false
-    (deep_enough c.args.c.levels c.requires c.if-c-eq1.false) c.in_err-choice.field-0.0 h)
+    gives_err _ _ c.from_residual-in_err-choice.ensures.1 c.in_err-choice.ensures (λ h.
+    result_here (around c.args.c.levels).1 (context_seen c.args.c) c.args.at c.args.outer (order_seen c.args.order)
+    c.args.so_far (seen c.args.r.now) (seen c.begin.new.r) _ c.in_ok-begun.ensures c.if-begun-ne37.false
+    (deep_enough c.args.c.levels c.requires c.if-c-eq1.false) ∙ rw h refl)
 
 pub test-returns-in_default : goal.test-returns-in_default
 test-returns-in_default t c =
-    inr (result_cut (around c.args.c.levels).1 (context_seen c.args.c) c.args.at c.args.outer (order_seen c.args.order) c.args.so_far
-    (seen c.args.r.now)
-    (seen c.begin.new.r) c.in_ok-begun.begun c.in_ok-begun.ensures
-    c.if-begun-ne37.false
-    (deep_enough c.args.c.levels c.requires c.if-c-eq1.false) c.in_ok-choice.choice
-    (seen c.result.new.r) c.in_ok-choice.ensures c.skip_white.new.self c.skip_white.ensures
-    c.in_default.ensures ∙ ap (λ x. Err x) (sym c.unclosed_fault.ensures))
+    inr (result_byte_by (around c.args.c.levels).1 (context_seen c.args.c) c.args.at c.args.outer (order_seen c.args.order)
+    c.args.so_far (seen c.args.r.now) (seen c.begin.new.r) _ c.in_ok-begun.ensures c.if-begun-ne37.false
+    (deep_enough c.args.c.levels c.requires c.if-c-eq1.false)
+    _ (seen c.result.new.r) c.in_ok-choice.ensures c.skip_white.new.self c.skip_white.ensures _
+    (none_left _ c.in_default.ensures) ∙ rw c.unclosed_fault.ensures refl)
 
 pub test-returns-in_err-judged : goal.test-returns-in_err-judged
 test-returns-in_err-judged t c =
     err_gives _ _ c.from_residual-in_err-judged.ensures.1
-    (result_bad (around c.args.c.levels).1 (context_seen c.args.c) c.args.at c.args.outer (order_seen c.args.order) c.args.so_far
-    (seen c.args.r.now)
-    (seen c.begin.new.r) c.in_ok-begun.begun c.in_ok-begun.ensures
-    c.if-begun-ne37.false
-    (deep_enough c.args.c.levels c.requires c.if-c-eq1.false) c.in_ok-choice.choice
-    (seen c.result.new.r) c.in_ok-choice.ensures c.skip_white.new.self c.skip_white.ensures
-    c.in-Some.b c.in_err-judged.field-0.0 c.in-Some.ensures (sym c.result_judged.ensures ∙ c.in_err-judged.was))
+    (result_byte_by (around c.args.c.levels).1 (context_seen c.args.c) c.args.at c.args.outer (order_seen c.args.order)
+    c.args.so_far (seen c.args.r.now) (seen c.begin.new.r) _ c.in_ok-begun.ensures c.if-begun-ne37.false
+    (deep_enough c.args.c.levels c.requires c.if-c-eq1.false)
+    _ (seen c.result.new.r) c.in_ok-choice.ensures c.skip_white.new.self c.skip_white.ensures _
+    (some_left _ _ c.in-Some.ensures) ∙ rw (sym c.result_judged.ensures ∙ c.in_err-judged.was) refl)
 
 pub test-returns : goal.test-returns
 test-returns t c =
-    result_done (around c.args.c.levels).1 (context_seen c.args.c) c.args.at c.args.outer (order_seen c.args.order) c.args.so_far
-    (seen c.args.r.now)
-    (seen c.begin.new.r) c.in_ok-begun.begun c.in_ok-begun.ensures
-    c.if-begun-ne37.false
-    (deep_enough c.args.c.levels c.requires c.if-c-eq1.false) c.in_ok-choice.choice
-    (seen c.result.new.r) c.in_ok-choice.ensures c.skip_white.new.self c.skip_white.ensures
-    c.in-Some.b c.in_ok-judged.judged c.take.new.self c.in-Some.ensures c.take.ensures.left
-    (sym c.result_judged.ensures ∙ c.in_ok-judged.was)
+    result_byte_by (around c.args.c.levels).1 (context_seen c.args.c) c.args.at c.args.outer (order_seen c.args.order)
+    c.args.so_far (seen c.args.r.now) (seen c.begin.new.r) _ c.in_ok-begun.ensures c.if-begun-ne37.false
+    (deep_enough c.args.c.levels c.requires c.if-c-eq1.false)
+    _ (seen c.result.new.r) c.in_ok-choice.ensures c.skip_white.new.self c.skip_white.ensures _
+    (some_left _ _ c.in-Some.ensures) ∙ rw (sym c.result_judged.ensures ∙ c.in_ok-judged.was, c.take.ensures.left) refl
 
 pub result-returns-in_err-items : goal.result-returns-in_err-items
 result-returns-in_err-items t c =

@@ -1,5 +1,5 @@
-use Rattle.drv_syntax.proofs.GivenParts.{gives_err}
-use Rattle.drv_syntax.proofs.TestsGiven.{asked_mark, gives_same, switch_stops}
+use Rattle.drv_syntax.proofs.GivenParts.{gives_err, gives_same}
+use Rattle.drv_syntax.proofs.TestsGiven.{asked_mark, switch_stops}
 use Rattle.drv_syntax.proofs.descent.tests.plain_operand.Goals as goal
 use Rattle.drv_syntax.specs.Code.Writing.{seen}
 use Rattle.drv_syntax.specs.Contexts.{top}
@@ -13,7 +13,7 @@ use Rattle.std.proofs.Common.{◌∙◌, sym}
 -- a mark and its word are taken
 pub returns-then-is_mark : goal.returns-then-is_mark
 returns-then-is_mark c =
-    gives_same _ _ c.marked.result _ _
+    gives_same _ _
     (asked_mark no_lists top c.args.outer c.args.at (may_emit (order_seen c.args.order) c.args.begun.negated) (seen c.args.r.now)
     c.args.begun.byte c.requires.byte c.take.new.self
     (sym c.is_mark.ensures ∙ c.if-is_mark.true) c.take.ensures.left) c.marked.ensures

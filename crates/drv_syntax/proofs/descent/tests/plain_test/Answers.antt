@@ -1,4 +1,5 @@
-use Rattle.drv_syntax.proofs.TestsGiven.{gives_same, tried_some}
+use Rattle.drv_syntax.proofs.GivenParts.{gives_same}
+use Rattle.drv_syntax.proofs.TestsGiven.{tried_some}
 use Rattle.drv_syntax.proofs.descent.tests.plain_test.Goals as goal
 use Rattle.drv_syntax.specs.Code.Tests.{operand_seen, order_seen}
 use Rattle.drv_syntax.specs.Code.Writing.{seen}
@@ -12,7 +13,7 @@ use Rattle.std.proofs.Common.{refl}
 -- what the test asks and white space are taken; the byte after them decides
 pub returns : goal.returns
 returns c =
-    gives_same _ _ c.judged.result _ _
+    gives_same _ _
     (tried_some no_lists top c.args.outer c.args.at (order_seen c.args.order) c.args.so_far c.args.begun.start c.args.begun.negated
     (seen c.args.r.now) (may_emit (order_seen c.args.order) c.args.begun.negated)
     (operand_seen c.in_ok-o.o c.plain_operand.new.r.word.items) (seen c.plain_operand.new.r)

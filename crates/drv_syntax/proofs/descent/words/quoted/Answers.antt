@@ -1,5 +1,5 @@
+use Rattle.drv_syntax.proofs.GivenParts.{gives_same}
 use Rattle.drv_words.specs.Bytes as ascii
-use Rattle.drv_syntax.proofs.TestsGiven.{gives_same}
 use Rattle.drv_syntax.proofs.Writing.{run_found, run_goes}
 use Rattle.drv_syntax.proofs.descent.words.quoted.Goals as goal
 use Rattle.drv_syntax.specs.Code.Writing.{runs_in, seen}
@@ -21,7 +21,7 @@ returns-then-not-begins c =
 -- after a backslash the run is copied
 pub returns : goal.returns
 returns c =
-    gives_same _ _ c.escaped_run.result _ _ (ap (λ x. Ok x) (run_goes c.args.class (seen c.args.r.now) c.run_length-size.result
+    gives_same _ _ (ap (λ x. Ok x) (run_goes c.args.class (seen c.args.r.now) c.run_length-size.result
     c.take-run.result.now c.take-run.new.self
     (c.run_length-size.ensures.run ∙ ap (λ bs. prefix_len (runs_in c.args.class) bs) c.bytes.ensures) c.take-run.ensures.left
     c.take-run.ensures.taken)) c.escaped_run.ensures
