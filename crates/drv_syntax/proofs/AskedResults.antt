@@ -77,33 +77,22 @@ module _ (outer : Option ℕ) (at : ℕ) (so_far : Option Choice) (start : ℕ) 
 
     -- the rest after the percent sign is a colon and what follows it
     text_is : front.bytes ≡ ascii.colon ∷ drop 1 front.bytes
-    text_is =
-        ap (λ (x : Left). x.bytes) (sym one_is) ∙ some_left one.bytes colon first ∙ ap (λ b. b ∷ drop 1 one.bytes) is
-        ∙ ap (λ (x : Left). ascii.colon ∷ drop 1 x.bytes) one_is
+    text_is = cc (one_is, some_left one.bytes colon first, is)
 
     -- after the colon, the test gives its function's name and then its arguments
     after_colon : reads ≡ given inner two on (then_read (function_from v.rest.at two.at [] two.bytes) (result_in deep c two.at two.bytes))
     after_colon =
         let n : v.rest.at + 2 ≡ v.rest.at + 1 + 1 = omega arith in
-        ap (λ bs. given outer front on (result deep c at v.rest.at bs)) text_is
-        ∙ given_past outer front on 1 (within at (then_read (function_from v.rest.at (v.rest.at + 2) [] (drop 1 front.bytes))
-        (result_in deep c (v.rest.at + 2) (drop 1 front.bytes))))
-        ∙ given_within outer at (after 1 front) on (then_read (function_from v.rest.at (v.rest.at + 2) [] (drop 1 front.bytes))
-        (result_in deep c (v.rest.at + 2) (drop 1 front.bytes)))
-        ∙ ap (λ (i : ℕ). given inner (after 1 front) on (then_read (function_from v.rest.at i [] (drop 1 front.bytes))
-        (result_in deep c i (drop 1 front.bytes)))) n
-        ∙ ap (λ (x : Left). given inner x on (then_read (function_from v.rest.at x.at [] x.bytes) (result_in deep c x.at x.bytes)))
-        (ap (λ (x : Left). after 1 x) (sym one_is) ∙ sym two_is)
+        cc (text_is, given_past outer front on 1 (within at (then_read (function_from v.rest.at (v.rest.at + 2) [] (drop 1 front.bytes))
+        (result_in deep c (v.rest.at + 2) (drop 1 front.bytes)))), given_within outer at (after 1 front) on (then_read (function_from
+        v.rest.at (v.rest.at + 2) [] (drop 1 front.bytes)) (result_in deep c (v.rest.at + 2) (drop 1 front.bytes))), n, one_is, two_is)
 
     -- the name of the function is read, in a test at the place n
     module _ (o : Option ℕ) (o_is : o ≡ inner) (n : ℕ) (n_is : n ≡ v.rest.at) (name : List ℕ) (u : Reading)
         (named : named_given o (at_rest two v) (function_from n two.at [] two.bytes) ≡ Ok (name, u)) where
       -- the code reads this name
       named_is : named_given inner (at_rest two v) (function_from v.rest.at two.at [] two.bytes) ≡ Ok (name, u)
-      named_is =
-          ap (λ x. named_given x (at_rest two v) (function_from v.rest.at two.at [] two.bytes)) (sym o_is)
-          ∙ ap (λ (i : ℕ). named_given o (at_rest two v) (function_from i two.at [] two.bytes)) (sym n_is)
-          ∙ named
+      named_is = cc (o_is, n_is, named)
 
       -- what the arguments of this name give, with the parenthesis that closes them
       abbrev arguments : List ℕ → ℕ → List ℕ → Read Operand
@@ -125,9 +114,8 @@ module _ (outer : Option ℕ) (at : ℕ) (so_far : Option Choice) (start : ℕ) 
       -- once the name is read, the test gives its arguments
       after_name : reads ≡ given inner u.rest on (arguments name u.rest.at u.rest.bytes)
       after_name =
-          after_colon
-          ∙ given_then inner (at_rest two v) u name on (function_from v.rest.at two.at [] two.bytes) (result_in deep c two.at two.bytes)
-          (λ x i text. arguments x i text) (λ x k. arguments_at x k) named_is
+          cc (after_colon, given_then inner (at_rest two v) u name on (function_from v.rest.at two.at [] two.bytes) (result_in deep c
+          two.at two.bytes) (λ x i text. arguments x i text) (λ x k. arguments_at x k) named_is)
 
       -- the alternative is open, and the token of the test opens in it; its arguments have the context ctx
       module _ (choice : Choice) (q w : Reading) (part : Open) (opens : choice_open so_far start u.parts ≡ (choice, q.parts))
@@ -159,25 +147,15 @@ module _ (outer : Option ℕ) (at : ℕ) (so_far : Option Choice) (start : ℕ) 
         -- the code reads this list
         list_is : listed_given o (tail_at w) w ((levels ctx.levels).0 ctx w.rest.at w.rest.bytes)
             ≡ listed_given inner (tail_at begun) begun list
-        list_is =
-            ap (λ x. listed_given x (tail_at w) w ((levels ctx.levels).0 ctx w.rest.at w.rest.bytes)) o_is
-            ∙ ap (λ (x : Reading). listed_given inner (tail_at x) x ((levels ctx.levels).0 ctx x.rest.at x.rest.bytes)) w_is
-            ∙ ap (λ (x : ListContext). listed_given inner (tail_at begun) begun ((levels x.levels).0 x u.rest.at u.rest.bytes)) ctx_is
-            ∙ ap (λ r. listed_given inner (tail_at begun) begun r)
-            (sym (deeper_is c.levels enough (in_arguments (in_braces c)) u.rest.at u.rest.bytes))
+        list_is = cc (o_is, w_is, ctx_is, deeper_is c.levels enough (in_arguments (in_braces c)) u.rest.at u.rest.bytes)
 
         -- the fault of the arguments is that of the test
         pub asked_stop : (fault : SyntaxFault) → listed_given o (tail_at w) w ((levels ctx.levels).0 ctx w.rest.at w.rest.bytes) ≡ Err fault
             → reads ≡ Err fault
         asked_stop fault h =
-            after_name
-            ∙ given_stops inner u.rest
-            (λ (x : Items × ℕ) rest. (
-              with_end (tail_on (tail_at begun) x.0 begun.parts) x.1,
-              record
-                  { rest = rest; parts = list_written x.0 begun.parts },
-            )) on
-            list (λ x size. Took (d.result_operand name x.0) (size + 1)) fault (sym list_is ∙ h)
+            cc (after_name, given_stops inner u.rest (λ (x : Items × ℕ) rest. ( with_end (tail_on (tail_at begun) x.0 begun.parts) x.1,
+            record { rest = rest; parts = list_written x.0 begun.parts }, )) on list (λ x size. Took (d.result_operand name x.0) (size +
+            1)) fault (sym list_is ∙ h))
 
         -- once the arguments are read, the code's open alternative and test, the arguments and the closed test are the test of the tree
         pub asked_done : (tail : Tail) (x : Reading) (end : Left)
@@ -187,13 +165,7 @@ module _ (outer : Option ℕ) (at : ℕ) (so_far : Option Choice) (start : ℕ) 
               record { part = choice.part; label = choice.label; starred = false },
               closed_here kinds.Test part end.at (record { rest = end; parts = x.parts }),
             )
-        asked_done tail x end h e =
-            after_name
-            ∙ by list (sym list_is ∙ h)
-            ∙ ap (λ (k : Open). Ok (
-              record { part = choice.part; label = choice.label; starred = false },
-              closed_here kinds.Test k end.at (record { rest = end; parts = x.parts }),
-            )) (sym part_is)
+        asked_done tail x end h e = cc (after_name, by list (sym list_is ∙ h), part_is)
           where
             by : (r : Read (Items × ℕ)) → listed_given inner (tail_at begun) begun r ≡ Ok (tail, x)
                 → given inner u.rest on (then_read r (λ y size. Took (d.result_operand name y.0) (size + 1)))

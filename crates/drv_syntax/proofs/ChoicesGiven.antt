@@ -4,7 +4,7 @@ use Rattle.std.proofs.Common.{subst}
 use Rattle.drv_words.specs.Bytes as ascii
 use Rattle.drv_syntax.proofs.FormsGiven.{NoPatterns, form_smaller, late_tests}
 use Rattle.drv_syntax.proofs.OwnedGiven.{choice_owned, tests_choice, tests_wrote}
-use Rattle.drv_syntax.proofs.Onward.{more_after, one_after}
+use Rattle.drv_syntax.proofs.Onward.{more_after, skip_on}
 use Rattle.drv_syntax.proofs.Writing.{after_after, differs}
 use Rattle.drv_syntax.specs.Bytes.{is_white}
 use Rattle.drv_syntax.specs.Code.Left.{Left, after, begins_with}
@@ -44,18 +44,6 @@ use Rattle.std.specs.Prelude.{◌==◌, Err, None, Ok, Option, Result}
 
 -- the braces of a directive whose % has the place `at`, in a list with the context c
 module _ (lists deep : Lists) (c : ListContext) (at : ℕ) where
-  -- so many bytes of alternatives that are past are so many bytes less of the text
-  choices_skip : (order : Order) (n k : ℕ) (text : List ℕ)
-      → choices lists deep c at order n k text ≡ choices lists deep c at order (n + k) 0 (drop k text)
-  choices_skip order n zero [] = refl
-  choices_skip order n (suc k) [] = refl
-  choices_skip order n zero (b ∷ text) =
-      let i : n ≡ n + 0 = omega arith in
-      ap (λ (j : ℕ). choices lists deep c at order j 0 (b ∷ text)) i
-  choices_skip order n (suc k) (b ∷ text) =
-      let i : n + 1 + k ≡ n + suc k = omega arith in
-      choices_skip order (n + 1) k text ∙ ap (λ (j : ℕ). choices lists deep c at order j 0 (drop k text)) i
-
   -- after the first there are no patterns
   abbrev NoEmit : Read Brace → Type 0
   NoEmit (Took (tree.Emit ps) size) = ⊥
@@ -202,9 +190,9 @@ module _ (lists deep : Lists) (c : ListContext) (at : ℕ) where
       others_are : (size : ℕ) → choices lists deep c at AtNext (v.rest.at + 1) (k + 1 + size) (drop 1 v.rest.bytes)
           ≡ choices lists deep c at AtNext (last size).at 0 (last size).bytes
       others_are size =
-          choices_skip AtNext (v.rest.at + 1) (k + 1 + size) (drop 1 v.rest.bytes)
-          ∙ ap (λ (x : Left). choices lists deep c at AtNext x.at 0 x.bytes)
-          (one_after (k + 1 + size) v.rest ∙ ap (λ (x : Left). after 1 x) (more_after k size v.rest))
+          skip_on (λ i j text. choices lists deep c at AtNext i j text) (λ n j b text. refl) (λ n m. refl) (λ n m j. refl)
+          (k + 1 + size) v.rest
+          ∙ ap (λ (x : Left). choices lists deep c at AtNext (after 1 x).at 0 (after 1 x).bytes) (more_after k size v.rest)
 
       -- what the alternatives after this one give is given with this one written first
       goes_on : (items : Items) (size : ℕ) (r : Read Brace) → NoEmit r
@@ -214,9 +202,8 @@ module _ (lists deep : Lists) (c : ListContext) (at : ℕ) where
       goes_on items size (Took (tree.Emit ps) more) never = absurd never
       goes_on items size (Took (tree.Choose cs) more) never =
           let e : k + (1 + size + 1 + more) ≡ k + (1 + size + 1) + more = omega arith in
-          ap (λ x. Ok x) (f_is (alternative (v.rest.at + k) ts items cs) (after (k + (1 + size + 1 + more)) v.rest))
-          ∙ ap (λ (x : Left). Ok (g (record { rest = x; parts = choices_written (alternative (v.rest.at + k) ts items cs) v.parts })))
-          (ap (λ (i : ℕ). after i v.rest) e ∙ after_after (k + (1 + size + 1)) more v.rest ∙ ap (λ (x : Left). after more x) (last_is size))
+          cc (f_is (alternative (v.rest.at + k) ts items cs) (after (k + (1 + size + 1 + more)) v.rest), e, after_after (k + (1 + size +
+          1)) more v.rest, last_is size)
       goes_on items size (Ends i) never = refl
       goes_on items size (Stops i fault) never = refl
 
@@ -234,13 +221,10 @@ module _ (lists deep : Lists) (c : ListContext) (at : ℕ) where
               (λ brace more. Took (with_choice (v.rest.at + k) ts x.0 brace) (1 + size + 1 + more))))
               ≡ (if t then Ok (g (record { rest = last size; parts = written x.0 })) else mapped g
               (later_from (record { rest = last size; parts = written x.0 })))
-          by true =
-              ap (λ w. Ok w) (f_is (alternative (v.rest.at + k) ts x.0 no_choice) (after (k + (1 + size + 1)) v.rest))
-              ∙ ap (λ (y : Left). Ok (g (record { rest = y; parts = written x.0 }))) (last_is size)
+          by true = cc (f_is (alternative (v.rest.at + k) ts x.0 no_choice) (after (k + (1 + size + 1)) v.rest), last_is size)
           by false =
-              goes_on x.0 size (choices lists deep c at AtNext (v.rest.at + 1) (k + 1 + size) (drop 1 v.rest.bytes))
-              (late_choices (drop 1 v.rest.bytes) (v.rest.at + 1) (k + 1 + size))
-              ∙ ap (λ r. mapped g (later_given outer (record { rest = last size; parts = written x.0 }) r)) (others_are size)
+              cc (goes_on x.0 size (choices lists deep c at AtNext (v.rest.at + 1) (k + 1 + size) (drop 1 v.rest.bytes)) (late_choices
+              (drop 1 v.rest.bytes) (v.rest.at + 1) (k + 1 + size)), others_are size)
 
       -- once the list that is its X is read, the alternative gives what follows its X
       list_goes : (r : Read (Items × ℕ))
@@ -249,10 +233,7 @@ module _ (lists deep : Lists) (c : ListContext) (at : ℕ) where
           ≡ x_nexts g (x_given outer at own (record { rest = here; parts = asked }) r)
       list_goes (Ends i) = refl
       list_goes (Stops i fault) = refl
-      list_goes (Took x size) =
-          x_goes x size
-          ∙ ap (λ (z : Parts). x_next g x.1 (record { rest = last size; parts = z }))
-          (sym (choice_owned v.parts s.start here.at ts x.0 (all_starred ts)))
+      list_goes (Took x size) = cc (x_goes x size, choice_owned v.parts s.start here.at ts x.0 (all_starred ts))
 
       -- once the tests of an alternative are read, the braces give its X, and then the end of the braces or the next alternative
       pub alternative_by : given outer v.rest f (form_go lists c at v.rest.at v.rest.bytes (d.Alternative s negated a asks) k
@@ -306,15 +287,13 @@ module _ (lists deep : Lists) (c : ListContext) (at : ℕ) where
     -- braces give what their first tests or patterns give: patterns end them, and tests lead to an X and what follows it
     pub choices_by : (v : Reading) → brace_given outer v (choices lists deep c at AtFront v.rest.at 0 v.rest.bytes)
         ≡ forms_choices (form_given outer v (tests deep c at AtFront v.rest.at 0 v.rest.bytes))
-    choices_by v = ap (λ r. brace_given outer v r) (choices_whole v.rest.at v.rest.bytes)
-        ∙ by (tests deep c at AtFront v.rest.at 0 v.rest.bytes)
+    choices_by v = cc (choices_whole v.rest.at v.rest.bytes, by (tests deep c at AtFront v.rest.at 0 v.rest.bytes))
       where
         by : (r : Read Form)
             → brace_given outer v (then_read r (λ form k. form_go lists c at v.rest.at v.rest.bytes form k
             (λ skip. choices lists deep c at AtNext (v.rest.at + 1) skip (drop 1 v.rest.bytes))))
             ≡ forms_choices (form_given outer v r)
-        by (Took (d.Patterns ps) k) =
-            ap (λ (x : Left). Ok (insides.Patterns, record { rest = x; parts = patterns_written ps v.parts })) (after_after k 1 v.rest)
+        by (Took (d.Patterns ps) k) = cc (after_after k 1 v.rest)
         by (Took (d.Alternative s negated a asks) k) =
             alternative_by as_choices (λ brace rest. brace_on v.parts brace rest) v (λ cs rest. refl) s negated a asks k
         by (Ends i) = refl
@@ -342,11 +321,8 @@ module _ (lists deep : Lists) (c : ListContext) (at : ℕ) where
     pub later_tests : (v : Reading) → begins_with ascii.colon (drop (prefix_len is_white v.rest.bytes) v.rest.bytes) ≡ false
         → later_from v ≡ forms_later (form_given outer v (tests deep c at AtNext v.rest.at 0 v.rest.bytes))
     later_tests v e =
-        ap (λ r. later_given outer v r) (later_whole v.rest.at v.rest.bytes)
-        ∙ ap (λ (t : Bool). later_given outer v (if t then default lists c at v.rest.at (prefix_len is_white v.rest.bytes) v.rest.bytes
-        else then_read (tests deep c at AtNext v.rest.at 0 v.rest.bytes) (λ form k. form_go lists c at v.rest.at v.rest.bytes form k
-        (λ skip. choices lists deep c at AtNext (v.rest.at + 1) skip (drop 1 v.rest.bytes))))) e
-        ∙ by (tests deep c at AtNext v.rest.at 0 v.rest.bytes) (late_tests deep c at v.rest.bytes AtNext v.rest.at 0 tt)
+        cc (later_whole v.rest.at v.rest.bytes, e, by (tests deep c at AtNext v.rest.at 0 v.rest.bytes) (late_tests deep c at v.rest.bytes
+        AtNext v.rest.at 0 tt))
       where
         by : (r : Read Form) → NoPatterns r
             → later_given outer v (then_read r (λ form k. form_go lists c at v.rest.at v.rest.bytes form k
@@ -398,8 +374,7 @@ module _ (lists deep : Lists) (c : ListContext) (at : ℕ) where
         last_is : (size : ℕ) → after (white + (1 + size + 1)) v.rest ≡ after 1 (after size u.rest)
         last_is size =
             let i : white + (1 + size + 1) ≡ (white + 1 + size) + 1 = omega arith in
-            ap (λ (j : ℕ). after j v.rest) i ∙ after_after (white + 1 + size) 1 v.rest
-            ∙ ap (λ (x : Left). after 1 x) (more_after white size v.rest)
+            cc (i, after_after (white + 1 + size) 1 v.rest, more_after white size v.rest)
 
         written : Items → Parts
         written items = choice_written (span (v.rest.at + white) (last_place (trimmed items) (v.rest.at + white + 1))) no_test
@@ -410,10 +385,7 @@ module _ (lists deep : Lists) (c : ListContext) (at : ℕ) where
             items (unheld z))
             z.holds (list_written items (unheld z))
             ≡ owned_at own (tail_on (tail_at u) items (unheld u.parts)) u.parts.holds (list_written items (unheld u.parts))
-        owned items z h = ap (λ (y : Parts). owned_at own
-            (tail_on (record { kept = v.rest.at + white + 1; tokens = length y.tokens; labels = length y.labels; end = 0 }) items
-            (unheld y))
-            y.holds (list_written items (unheld y))) h
+        owned items z h = cc (h)
 
         goes : (x : Items × ℕ) (size : ℕ) (t : Bool)
             → later_given outer v
@@ -429,11 +401,9 @@ module _ (lists deep : Lists) (c : ListContext) (at : ℕ) where
         by (Ends i) = refl
         by (Stops i fault) = refl
         by (Took x size) =
-            goes x size (x.1 == ascii.closing_brace)
-            ∙ ap (λ (z : Parts). default_next x.1 (record { rest = after 1 (after size u.rest); parts = z }))
-            (sym (choice_owned v.parts (v.rest.at + white) (v.rest.at + white + 1) no_test x.0 false)
-            ∙ owned x.0 (wrote (test_nodes no_test) (tests_have_star no_test)
-            (opened kinds.Alternative no_label (v.rest.at + white) v.parts)) asked_is)
+            cc (goes x size (x.1 == ascii.closing_brace), choice_owned v.parts (v.rest.at + white) (v.rest.at + white + 1) no_test x.0
+            false, owned x.0 (wrote (test_nodes no_test) (tests_have_star no_test) (opened kinds.Alternative no_label (v.rest.at + white)
+            v.parts)) asked_is)
 
     -- the code's steps
 
@@ -460,7 +430,8 @@ module _ (lists deep : Lists) (c : ListContext) (at : ℕ) where
     pub later_less : (v u w : Reading) (form : code.Form) (choice : Choice) (end : ℕ)
         → form_given outer v (tests deep c at AtNext v.rest.at 0 v.rest.bytes) ≡ Ok (form, u) → x_from choice u ≡ Ok (end, w)
         → length w.rest.bytes < length v.rest.bytes
-    later_less v u w form choice end read ends = omega (arith, form_smaller deep c at outer AtNext v u form read, x_less choice u w end ends)
+    later_less v u w form choice end read ends = omega (arith, form_smaller deep c at outer AtNext v u form read, x_less choice u w end
+        ends)
 
     -- a default gives what its X gives, and what follows it
     pub default_x : (v : Reading) → begins_with ascii.colon (drop (prefix_len is_white v.rest.bytes) v.rest.bytes) ≡ true → (rest : Left)

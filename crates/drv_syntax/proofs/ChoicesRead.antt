@@ -80,10 +80,7 @@ module _ (lists deep : Lists) (c : ListContext) (at : ℕ) where
       ≡ then_read (d.tests deep c at order n 0 t)
       (λ form k. d.form_go lists c at n t form k (λ skip. d.choices lists deep c at AtNext n (suc skip) t))
   opens order n [] e = refl
-  opens order n (b ∷ t) e =
-      ap (λ (z : Bool). if z then d.default lists c at n (prefix_len is_white (b ∷ t)) (b ∷ t) else then_read
-      (d.tests deep c at order n 0 (b ∷ t))
-      (λ form k. d.form_go lists c at n (b ∷ t) form k (λ skip. d.choices lists deep c at AtNext n (suc skip) (b ∷ t)))) e
+  opens order n (b ∷ t) e = rw (e) refl
 
   -- without the colon of a default, alternatives fail as their tests do
   pub inside_fails : (f : Failure) (order : Order) (n : ℕ) (t : List ℕ) → NoDefault order t → d.tests deep c at order n 0 t ≡ failed f
@@ -131,11 +128,7 @@ module _ (lists deep : Lists) (c : ListContext) (at : ℕ) where
         ≡ then_read (d.within at (x_of tests (n + m.size + 1) mid)) (λ x size. after_x n t m.size tests x size)
     x_goes =
         let one : m.size + 1 ≡ suc m.size = omega arith in
-        opens order n t (tests_begin order o)
-        ∙ ap (λ r. then_read r (λ form k. d.form_go lists c at n t form k (λ skip. d.choices lists deep c at AtNext n (suc skip) t))) m.is
-        ∙ form_x m.size n t o
-        ∙ ap (λ (u : List ℕ). then_read (d.within at (x_of tests (n + m.size + 1) u)) (λ x size. after_x n t m.size tests x size))
-        (ap (λ (i : ℕ). drop i t) one ∙ colon.0)
+        cc (opens order n t (tests_begin order o), m.is, form_x m.size n t o, one, colon.0)
 
     -- an alternative whose tests are read fails as its X does
     pub x_fails : (f : Failure) → Fails (x_of tests (n + m.size + 1) mid) f → inside order n t ≡ failed (around at f)
@@ -183,10 +176,8 @@ module _ (lists deep : Lists) (c : ListContext) (at : ℕ) where
       -- where a semicolon ends an X, Descent reads the alternatives after it
       next_goes : inside order n t ≡ past m.size (then_read (inside AtNext (n + suc (m.size + 1 + x.size)) next) with_next)
       next_goes =
-          x_goes ∙ ap (λ r. then_read (d.within at r) (λ y size. after_x n t m.size tests y size)) x.is
-          ∙ ap (λ r. past m.size (then_read r with_next))
-          (skipped (λ (i k : ℕ) (u : List ℕ). d.choices lists deep c at AtNext i k u) (λ i k b u. refl) n (suc (m.size + 1 + x.size)) t next
-          semicolon.0 semicolon.1)
+          cc (x_goes, x.is, skipped (λ (i k : ℕ) (u : List ℕ). d.choices lists deep c at AtNext i k u) (λ i k b u. refl) n (suc (m.size +
+          1 + x.size)) t next semicolon.0 semicolon.1)
 
       -- where a semicolon ends an X, the alternatives fail as those after it do
       pub next_fails : (f : Failure) → inside AtNext (n + suc (m.size + 1 + x.size)) next ≡ failed f → inside order n t ≡ failed f
@@ -211,10 +202,7 @@ module _ (lists deep : Lists) (c : ListContext) (at : ℕ) where
   default_there : (n : ℕ) (t : List ℕ) {mid : List ℕ} → drop (prefix_len is_white t) t ≡ 58 ∷ mid
       → inside AtNext n t ≡ d.default lists c at n (prefix_len is_white t) t
   default_there n [] e = absurd cc
-  default_there n (b ∷ t) e =
-      ap (λ (u : List ℕ). if d.is_default_at AtNext u then d.default lists c at n (prefix_len is_white (b ∷ t)) (b ∷ t) else then_read
-      (d.tests deep c at AtNext n 0 (b ∷ t))
-      (λ form k. d.form_go lists c at n (b ∷ t) form k (λ skip. d.choices lists deep c at AtNext n (suc skip) (b ∷ t)))) e
+  default_there n (b ∷ t) e = cc (e)
 
   -- white space, and the colon (58) of a default
   module _ {t mid : List ℕ} (n : ℕ) (sp : AreSpaces t (58 ∷ mid)) where
@@ -231,9 +219,7 @@ module _ (lists deep : Lists) (c : ListContext) (at : ℕ) where
         (d.within at (x_of no_test (n + prefix_len is_white t + 1) mid)) (λ x size. d.default_go at (n + prefix_len is_white t) x size))
     default_goes =
         let one : prefix_len is_white t + 1 ≡ suc (prefix_len is_white t) = omega arith in
-        default_there n t here.0
-        ∙ ap (λ (u : List ℕ). past (prefix_len is_white t) (then_read (d.within at (x_of no_test (n + prefix_len is_white t + 1) u))
-        (λ x size. d.default_go at (n + prefix_len is_white t) x size))) (ap (λ (i : ℕ). drop i t) one ∙ there.0)
+        cc (default_there n t here.0, one, there.0)
 
     -- a default fails as its X does
     pub default_fails : (f : Failure) → Fails (x_of no_test (n + prefix_len is_white t + 1) mid) f
@@ -265,8 +251,7 @@ module _ (lists deep : Lists) (c : ListContext) (at : ℕ) where
     pub default_on : {items : Items} {next : List ℕ} (x : Reads (x_of no_test (n + prefix_len is_white t + 1) mid) mid (items, 59)
         (59 ∷ next))
         → inside AtNext n t ≡ d.Stops (n + prefix_len is_white t + 1 + x.size) (EmptyTest at)
-    default_on x = default_goes ∙ ap (λ r. past (prefix_len is_white t) (then_read (d.within at r)
-        (λ x size. d.default_go at (n + prefix_len is_white t) x size))) x.is
+    default_on x = cc (default_goes, x.is)
 
   -- the lists in the braces are read: Xs, and the arguments of tests
   module _ (size : ℕ) (xs : (asks : Tests) → ListReads size lists (in_x (in_braces c) asks))

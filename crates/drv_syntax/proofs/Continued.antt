@@ -57,20 +57,15 @@ at_end m = grind (arith, nat_tests)
 ending_last : (ts : List Token) (t : Token) → ending_in t.end (ts ++ t ∷ []) ≡ ending_by t.kind
 ending_last ts t =
     let e : length (ts ++ t ∷ []) - 1 ≡ length ts = omega (arith, length-append ts (t ∷ [])) in
-    ap (λ (i : ℕ). ending_after t.end (slice_get (ts ++ t ∷ []) i)) e ∙ ap (λ (x : Option Token). ending_after t.end x) (seam ts t)
-    ∙ rw (at_end t.end) refl
+    cc (e, seam ts t, at_end t.end)
 
 -- a text whose last item has no parts ends as the kind of this item says
 ends_so : (done : Items) (p : Span) (item : Item) → inner_nodes item ≡ no_node
     → ending_in p.end (tokens_of (join done (more p item none))) ≡ ending_by (kind_of item)
 ends_so done p item e =
-    ap (λ ts. ending_in p.end ts) (items_flat 0 (join done (more p item none))
-    ∙ ap (λ ns. flat 0 ns) (items_join done (more p item none))
-    ∙ flat_both 0 (nodes_of done) (node (kind_of item) (label_of item) p (inner_nodes item) no_node)
-    ∙ ap (λ ns. flat 0 (nodes_of done)
-    ++ flat (0 + length (flat 0 (nodes_of done))) (node (kind_of item) (label_of item) p ns no_node)) e)
-    ∙ ending_last (flat 0 (nodes_of done))
-    (record { kind = kind_of item; start = p.start; end = p.end; next = 0 + length (flat 0 (nodes_of done)) + 1 + 0 })
+    rw (items_flat 0 (join done (more p item none)), items_join done (more p item none), flat_both 0 (nodes_of done) (node (kind_of item)
+    (label_of item) p (inner_nodes item) no_node), e, ending_last (flat 0 (nodes_of done)) (record { kind = kind_of item; start = p.start;
+    end = p.end; next = 0 + length (flat 0 (nodes_of done)) + 1 + 0 })) refl
 
 -- what follows an item that a text ends in: a suffix and a word are closed by a blank, a message by nothing
 abbrev Fits : Item → List ℕ → Type 0
@@ -95,8 +90,7 @@ join_more (more t other before) p item items = ap (λ (x : Items). more t other 
 -- where the code's test lets a text go on, what follows fits its last item
 item_fits : (before : Items) (p : Span) (item : Item) (rest : List ℕ)
     → goes_on (ending_in p.end (tokens_of (join before (more p item none)))) rest ≡ true → Fits item rest
-item_fits before p (TempName kind suffix) rest g = sym (ap (λ (e : Ending). goes_on e rest) (ends_so before p (TempName kind suffix) refl))
-    ∙ g
+item_fits before p (TempName kind suffix) rest g = cc (ends_so before p (TempName kind suffix) refl, g)
 item_fits before p (Hide word) rest g = sym (ap (λ (e : Ending). goes_on e rest) (ends_so before p (Hide word) refl)) ∙ g
 item_fits before p (UserError words) rest g =
     let h : false ≡ true = sym (ap (λ (e : Ending). goes_on e rest) (ends_so before p (UserError words) refl)) ∙ g in
@@ -225,9 +219,7 @@ after_more : (n m k first : ℕ) (x : Item) (items : Items) (used size : ℕ) (r
     → 1 + used + k ≡ size → item_go n x used (after items k r) ≡ after (more (span first m) x items) size r
 after_more n m k first x items used size (Took list extra) f e g =
     let z : 1 + used + (k + extra) ≡ size + extra = omega (arith, g) in
-    ap (λ (i : ℕ). Took (more (span n i) x (join items list.0), list.1) (1 + used + (k + extra))) e
-    ∙ ap (λ (i : ℕ). Took (more (span i m) x (join items list.0), list.1) (1 + used + (k + extra))) f
-    ∙ ap (λ (i : ℕ). Took (more (span first m) x (join items list.0), list.1) i) z
+    cc (e, f, z)
 after_more n m k first x items used size (Ends at) f e g = refl
 after_more n m k first x items used size (Stops i fault) f e g = refl
 
@@ -251,19 +243,14 @@ module _ (level : ℕ) (is : level ≡ 63) (q : List ℕ) where
       let sizes : length t ≡ 1 + o.used + length mid = omega (arith, o.fits, length-append t q, length-append mid q) in
       let ends : n + 1 + o.used ≡ m = omega (arith, place, sizes, b) in
       let there : n + 1 + o.used + length mid ≡ n + length t = omega (arith, sizes) in
-      o.is
-      ∙ ap (λ r. item_go n x o.used r)
-      (items_on items (n + 1 + o.used) l (rest_fits (span first m) x items q h) (omega (arith, place, sizes)))
-      ∙ after_more n m (length mid) first x items o.used (length t) (reads (n + 1 + o.used + length mid) q) begins ends (sym sizes)
-      ∙ ap (λ (k : ℕ). after (more (span first m) x items) (length t) (reads k q)) there
+      cc (o.is, items_on items (n + 1 + o.used) l (rest_fits (span first m) x items q h) (omega (arith, place, sizes)), after_more n m
+      (length mid) first x items o.used (length t) (reads (n + 1 + o.used + length mid) q) begins ends (sym sizes), there)
 
 -- the tokens of two lists, one after the other, are those of both
 tokens_joined : (items list : Items) → tokens_of (join items list) ≡ tokens_of items ++ flat (length (tokens_of items)) (nodes_of list)
 tokens_joined items list =
-    items_flat 0 (join items list) ∙ ap (λ ns. flat 0 ns) (items_join items list)
-    ∙ flat_both 0 (nodes_of items) (nodes_of list)
-    ∙ ap (λ ts. ts ++ flat (0 + length ts) (nodes_of list)) (sym (items_flat 0 items))
-    ∙ ap (λ (i : ℕ). tokens_of items ++ flat i (nodes_of list)) (by (length (tokens_of items)))
+    cc (items_flat 0 (join items list), items_join items list, flat_both 0 (nodes_of items) (nodes_of list), items_flat 0 items, by
+    (length (tokens_of items)))
   where
     by : (k : ℕ) → 0 + k ≡ k
     by k = omega arith
@@ -281,9 +268,7 @@ rest_is text rest tokens names h g = by (descent text) refl h
         → listed (judged (outcome (after items k r))) ≡ given None (record { at = length text; bytes = rest })
         (λ list others. (tokens_of items ++ flat (length (tokens_of items)) (nodes_of list.0), labels_of items ++ labels (nodes_of list.0)))
         r
-    joined items k (Took l size) =
-        ap (λ ts. Ok (ts, labels_of (join items l.0))) (tokens_joined items l.0)
-        ∙ ap (λ ls. Ok (tokens_of items ++ flat (length (tokens_of items)) (nodes_of l.0), ls)) (labels_joined items l.0)
+    joined items k (Took l size) = cc (tokens_joined items l.0, labels_joined items l.0)
     joined items k (Ends at) = refl
     joined items k (Stops n fault) = refl
 

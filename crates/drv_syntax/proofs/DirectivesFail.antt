@@ -1,3 +1,4 @@
+use Rattle.drv_syntax.proofs.PartsRead.{none_quoted}
 use Rattle.drv_words.specs.Bytes as ascii
 use Rattle.drv_syntax.proofs.Leads.{differs}
 use Rattle.drv_syntax.proofs.Names.{bracket_ends, front_front}
@@ -30,15 +31,9 @@ pub stops_at : {X : Type 0} {i j m n : ℕ} (make : ℕ → SyntaxFault) → i �
     → ◌≡◌ {A = Read X} (Stops i (make m)) (Stops j (make n))
 stops_at {j = j} {m} make e f = ap (λ (k : ℕ). Stops k (make m)) e ∙ ap (λ (k : ℕ). Stops j (make k)) f
 
--- a byte that begins no run gives a run of no bytes
-pub none_quoted : (f : ℕ → Bool) {b : ℕ} (q : List ℕ) → (b == ascii.backslash) ≡ false → f b ≡ false → quoted f (b ∷ q) ≡ Run [] 0
-none_quoted f [] e g = rw (e, g) refl
-none_quoted f (c ∷ q) e g = rw (e, g) refl
-
 -- a byte that begins no pattern is refused where a pattern is due
 pub pattern_stops : (x at m : ℕ) (q : List ℕ) → Empty x → d.pattern_at at m (x ∷ q) ≡ Stops (m + 0) (EmptyTest at)
-pattern_stops x at m q e = ap (λ (z : Quoted). d.pattern_text at m z (x ∷ q)) (none_quoted is_word q e.0 e.1)
-    ∙ ap (λ (z : Bool). if z then Took (pattern [] true) (0 + 1) else Stops (m + 0) (EmptyTest at)) e.2
+pattern_stops x at m q e = cc (none_quoted is_word q e.0 e.1, e.2)
 
 -- the name of no function
 

@@ -160,9 +160,7 @@ module _ (lists deep : Lists) (c : ListContext) (at n : ℕ) where
       -- where the text ends in %x{, Descent says that the directive isn't closed
       option_out : (text : List ℕ) → HangsOut is_option text ⊎ EndsOut is_option text → d.option at (n + 1) (123 ∷ text) ≡ Ends at
       option_out text (inl h) = ap (λ (q : Quoted). past 1 (d.option_text at (n + 1 + 1) q text)) h.1
-      option_out text (inr (word, used, e, l, k)) =
-          ap (λ (q : Quoted). past 1 (d.option_text at (n + 1 + 1) q text)) e
-          ∙ ap (λ (x : List ℕ). past 1 (d.option_end at (n + 1 + 1) word used x)) l
+      option_out text (inr (word, used, e, l, k)) = cc (e, l)
 
       -- where by the grammar the text ends in a directive, this isn't closed, or is read up to the end
       pub directive_out : {f : Directive} {text : List ℕ} → CutsDirective size c f text → At size (n + 1) text → DirOut f text

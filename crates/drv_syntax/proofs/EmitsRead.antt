@@ -2,7 +2,7 @@ use Rattle.drv_syntax.proofs.Failing.{Failure, failed, then_fails}
 use Rattle.drv_syntax.proofs.Heads.{no_sign, no_white, pattern_head}
 use Rattle.drv_syntax.proofs.Leads.{differs, other}
 use Rattle.drv_syntax.proofs.MeantRuns.{empty_run}
-use Rattle.drv_syntax.proofs.PartsRead.{Reads, byte_next, reads_as, reads_past, runs_to}
+use Rattle.drv_syntax.proofs.PartsRead.{Reads, beyond, byte_next, reads_as, reads_past, runs_to}
 use Rattle.drv_syntax.proofs.PatternsRead.{patterns_read}
 use Rattle.drv_syntax.proofs.TestsRead.{from_reads, mark_is, mark_reads, switch_reads, test_goes, tests_go}
 use Rattle.drv_syntax.specs.Bytes.{is_mark, is_of, is_white, is_word}
@@ -209,9 +209,7 @@ module _ (deep : Lists) (c : ListContext) (at : ℕ) where
       (λ rest size. Took (Patterns ((span k.first k.last, p) ∷ rest)) (k.reads.size + 1 + size))
   emit_goes {n} {q = q} k =
       let m = k.reads in
-      tests_go deep c at AtFront n m
-      ∙ ap (λ x. d.test_go (d.as_pattern at (span k.first k.last) true x d.Joins) n m.size (d.patterns at (n + suc m.size) 0 q)
-      (d.tests deep c at AtBar (n + suc m.size) 0 q)) k.emits
+      cc (tests_go deep c at AtFront n m, k.emits)
 
   -- patterns at the front of braces by the grammar are read, up to the closing brace
   pub emits_read : {size : ℕ} {t rest : List ℕ} {ps : List (Span × Pattern)} (n : ℕ) → ArePatterns size t ps rest → At size n t
@@ -233,14 +231,9 @@ module _ (deep : Lists) (c : ListContext) (at : ℕ) where
         size = k.reads.size + 1 + others.size;
         is = emit_goes k
             ∙ ap (λ r. then_read r (λ rest size. Took (Patterns ((span k.first k.last, p) ∷ rest)) (k.reads.size + 1 + size))) others.is;
-        left = left k.reads.size others.size e.0 others.left;
+        left = beyond t k.reads.size others.size e.0 others.left;
         fits = omega (arith, e.1, others.fits);
       }))
-    where
-      left : {q : List ℕ} (j k : ℕ) → drop (suc j) t ≡ q → drop k q ≡ 125 ∷ rest → drop (j + 1 + k) t ≡ 125 ∷ rest
-      left j k e f =
-          let one : suc j ≡ j + 1 = omega arith in
-          sym (drop-drop k (j + 1) t) ∙ ap (λ (x : List ℕ). drop k x) (ap (λ (i : ℕ). drop i t) (sym one) ∙ e) ∙ f
 
   -- patterns at the front of braces fail as those after the first & do
   pub emit_fails : (f : Failure) {t u v w : List ℕ} {p : Pattern} (n : ℕ) → AreSpaces t u → IsPattern u p v → AreSpaces v (38 ∷ w)
@@ -248,6 +241,5 @@ module _ (deep : Lists) (c : ListContext) (at : ℕ) where
   emit_fails f {t} {p = p} n sp i z h =
       let k = emitting n sp i z refl refl in
       let e = byte_next t k.reads.size k.reads.left k.reads.fits in
-      emit_goes k
-      ∙ then_fails f (λ rest size. Took (Patterns ((span k.first k.last, p) ∷ rest)) (k.reads.size + 1 + size))
-      (h (n + suc k.reads.size) (omega (arith, e.1)))
+      cc (emit_goes k, then_fails f (λ rest size. Took (Patterns ((span k.first k.last, p) ∷ rest)) (k.reads.size + 1 + size)) (h (n + suc
+      k.reads.size) (omega (arith, e.1))))

@@ -34,8 +34,7 @@ flat_both n no_node ys = rw (by n) refl
 flat_both n (node kind label s inner xs) ys =
     let m : ℕ = n + 1 + length (flat (n + 1) inner) in
     let t : Token = record { kind = kind; start = s.start; end = s.end; next = m } in
-    ap (λ zs. t ∷ flat (n + 1) inner ++ zs) (flat_both m xs ys)
-    ∙ joined t (flat (n + 1) inner) (flat m xs) n m refl (λ k. flat k ys)
+    cc (flat_both m xs ys, joined t (flat (n + 1) inner) (flat m xs) n m refl (λ k. flat k ys))
   where
     joined : (t : Token) (a b : List Token) (n m : ℕ) → m ≡ n + 1 + length a → (f : ℕ → List Token)
         → t ∷ a ++ (b ++ f (m + length b)) ≡ (t ∷ a ++ b) ++ f (n + length (t ∷ a ++ b))

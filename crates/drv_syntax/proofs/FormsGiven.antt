@@ -1,6 +1,6 @@
 use Rattle.drv_words.specs.Bytes as ascii
-use Rattle.drv_syntax.proofs.GivenParts.{ok_same}
-use Rattle.drv_syntax.proofs.Onward.{more_after, one_after, patterns_on}
+use Rattle.drv_syntax.proofs.GivenParts.{given_took, ok_same}
+use Rattle.drv_syntax.proofs.Onward.{more_after, patterns_on, skip_on}
 use Rattle.drv_syntax.specs.Code.Left.{Left, after}
 use Rattle.drv_syntax.specs.Code.Tests.{added, after_given, form_given, form_on, more_given, more_on, patterns_given, patterns_written}
 use Rattle.drv_syntax.specs.Code.Tests.{tried_given}
@@ -106,21 +106,10 @@ module _ (deep : Lists) (c : ListContext) (at : ℕ) where
       by (Ends m) others = tt
       by (Stops m fault) others = tt
 
-  -- so many bytes of tests that are past are so many bytes less of the text
-  tests_skip : (order : Order) (n k : ℕ) (text : List ℕ) → tests deep c at order n k text ≡ tests deep c at order (n + k) 0 (drop k text)
-  tests_skip order n zero [] = refl
-  tests_skip order n (suc k) [] = refl
-  tests_skip order n zero (b ∷ text) =
-      let i : n ≡ n + 0 = omega arith in
-      ap (λ (j : ℕ). tests deep c at order j 0 (b ∷ text)) i
-  tests_skip order n (suc k) (b ∷ text) =
-      let i : n + 1 + k ≡ n + suc k = omega arith in
-      tests_skip order (n + 1) k text ∙ ap (λ (j : ℕ). tests deep c at order j 0 (drop k text)) i
-
   -- tests after a bar, k bytes and one more further on, begin at the rest there
   bars_on : (k : ℕ) (r : Left)
       → tests deep c at AtBar (r.at + 1) k (drop 1 r.bytes) ≡ tests deep c at AtBar (after 1 (after k r)).at 0 (after 1 (after k r)).bytes
-  bars_on k r = tests_skip AtBar (r.at + 1) k (drop 1 r.bytes) ∙ ap (λ (x : Left). tests deep c at AtBar x.at 0 x.bytes) (one_after k r)
+  bars_on k r = skip_on (λ i j text. tests deep c at AtBar i j text) (λ n j b text. refl) (λ n m. refl) (λ n m j. refl) k r
 
   -- tests are a first test and what goes on from it, also where the text ends there
   tests_whole : (order : Order) (n : ℕ) (text : List ℕ) → tests deep c at order n 0 text
@@ -164,28 +153,20 @@ module _ (deep : Lists) (c : ListContext) (at : ℕ) where
       → form_given outer v (tests deep c at order v.rest.at 0 v.rest.bytes) ≡ Ok (form, u) → length u.rest.bytes < length v.rest.bytes
   form_smaller outer order v u form h = by v.rest.bytes refl h
     where
-      less : (k : ℕ) (b : ℕ) (text : List ℕ) → length (drop 1 (drop k (b ∷ text))) < length (b ∷ text)
-      less k b text = omega (arith, length-drop 1 (drop k (b ∷ text)), length-drop k (b ∷ text))
-
-      rest_is : (f : Form) (k : ℕ) → ◌≡◌ {A = Result (code.Form × Reading) SyntaxFault} (Ok (form_on v.parts f (after k v.rest)))
-          (Ok (form, u))
-          → after 1 (after k v.rest) ≡ u.rest
-      rest_is (d.Patterns ps) k e = ap (λ (z : code.Form × Reading). z.1.rest) (ok_same e)
-      rest_is (d.Alternative s negated a others) k e = ap (λ (z : code.Form × Reading). z.1.rest) (ok_same e)
-
-      some : (b : ℕ) (text : List ℕ) → v.rest.bytes ≡ b ∷ text → (r : Read Form) → form_given outer v r ≡ Ok (form, u)
-          → length u.rest.bytes < length (b ∷ text)
-      some b text is (Took f k) e =
-          let q : drop 1 (drop k (b ∷ text)) ≡ u.rest.bytes = ap (λ bs. drop 1 (drop k bs)) (sym is)
-          ∙ ap (λ (x : Left). x.bytes) (rest_is f k e) in
-          subst (λ bs. length bs < length (b ∷ text)) q (less k b text)
-      some b text is (Ends m) e = absurd cc
-      some b text is (Stops m fault) e = absurd cc
+      rest_is : (f : Form) (l : Left) → (form_on v.parts f l).1.rest ≡ after 1 l
+      rest_is (d.Patterns ps) l = refl
+      rest_is (d.Alternative s negated a others) l = refl
 
       by : (bs : List ℕ) → v.rest.bytes ≡ bs → form_given outer v (tests deep c at order v.rest.at 0 bs) ≡ Ok (form, u)
           → length u.rest.bytes < length bs
       by [] is e = absurd cc
-      by (b ∷ text) is e = some b text is (tests deep c at order v.rest.at 0 (b ∷ text)) e
+      by (b ∷ text) is e =
+          let g = given_took outer v.rest (λ f l. form_on v.parts f l) (tests deep c at order v.rest.at 0 (b ∷ text)) (form, u) e in
+          let p : u.rest ≡ after 1 (after g.1 v.rest) = sym (ap (λ (z : code.Form × Reading). z.1.rest) g.3)
+          ∙ rest_is g.0 (after g.1 v.rest) in
+          let q : u.rest.bytes ≡ drop 1 (drop g.1 (b ∷ text)) = ap (λ (l : Left). l.bytes) p ∙ ap (λ bs. drop 1 (drop g.1 bs)) is in
+          let l : length u.rest.bytes ≡ length (drop 1 (drop g.1 (b ∷ text))) = ap length q in
+          omega (arith, l, length-drop 1 (drop g.1 (b ∷ text)), length-drop g.1 (b ∷ text))
 
   -- `outer` is the outermost directive that is open, if one is
   module _ (outer : Option ℕ) where
@@ -234,9 +215,7 @@ module _ (deep : Lists) (c : ListContext) (at : ℕ) where
           → form_given outer v (then_read r (λ ps size. Took (d.Patterns (p ∷ ps)) (k + 1 + size)))
           ≡ as_patterns
           (patterns_given outer (record { rest = left; parts = leafed kinds.Pattern (pattern_label p.1) p.0.start p.0.end v.parts }) r)
-      joins p (Took ps size) =
-          ap (λ (x : Left). Ok (forms.Patterns, record { rest = after 1 x; parts = patterns_written (p ∷ ps) v.parts }))
-          (more_after k size v.rest)
+      joins p (Took ps size) = cc (more_after k size v.rest)
       joins p (Ends m) = refl
       joins p (Stops m fault) = refl
 
@@ -246,8 +225,7 @@ module _ (deep : Lists) (c : ListContext) (at : ℕ) where
           ≡ as_tests (more_given outer (added None v.parts s negated a).0
           (record { rest = left; parts = (added None v.parts s negated a).1 }) r)
       bars s negated a (Took (d.Patterns ps) size) never = absurd never
-      bars s negated a (Took (d.Alternative q sign b others) size) never =
-          ap (λ (x : Left). Ok (form_on v.parts (d.Alternative s negated a (tree.test q sign b others)) x)) (more_after k size v.rest)
+      bars s negated a (Took (d.Alternative q sign b others) size) never = cc (more_after k size v.rest)
       bars s negated a (Ends m) never = refl
       bars s negated a (Stops m fault) never = refl
 
@@ -257,9 +235,7 @@ module _ (deep : Lists) (c : ListContext) (at : ℕ) where
           ≡ more_given outer (added (Some choice) v.parts s negated a).0
           (record { rest = left; parts = (added (Some choice) v.parts s negated a).1 }) r
       more_bars choice s negated a (Took (d.Patterns ps) size) never = absurd never
-      more_bars choice s negated a (Took (d.Alternative q sign b others) size) never =
-          ap (λ (x : Left). Ok (more_on choice v.parts (d.Alternative s negated a (tree.test q sign b others)) x))
-          (more_after k size v.rest)
+      more_bars choice s negated a (Took (d.Alternative q sign b others) size) never = cc (more_after k size v.rest)
       more_bars choice s negated a (Ends m) never = refl
       more_bars choice s negated a (Stops m fault) never = refl
 
@@ -269,18 +245,11 @@ module _ (deep : Lists) (c : ListContext) (at : ℕ) where
           (tests deep c at AtBar (v.rest.at + 1) k (drop 1 v.rest.bytes)))
           ≡ next_forms (after_given None (at_rest (after k v.rest) v) a)
       form_next (d.Emits p) = refl
-      form_next (d.Joins p) =
-          joins p (patterns at (v.rest.at + 1) k (drop 1 v.rest.bytes))
-          ∙ ap (λ r. as_patterns
-          (patterns_given outer (record { rest = left; parts = leafed kinds.Pattern (pattern_label p.1) p.0.start p.0.end v.parts }) r))
-          (patterns_on at k v.rest)
+      form_next (d.Joins p) = cc (joins p (patterns at (v.rest.at + 1) k (drop 1 v.rest.bytes)), patterns_on at k v.rest)
       form_next (d.Asks s negated a) = refl
       form_next (d.Bars s negated a) =
-          bars s negated a (tests deep c at AtBar (v.rest.at + 1) k (drop 1 v.rest.bytes))
-          (late_tests (drop 1 v.rest.bytes) AtBar (v.rest.at + 1) k tt)
-          ∙ ap (λ r. as_tests (more_given outer (added None v.parts s negated a).0
-          (record { rest = left; parts = (added None v.parts s negated a).1 }) r))
-          (bars_on k v.rest)
+          cc (bars s negated a (tests deep c at AtBar (v.rest.at + 1) k (drop 1 v.rest.bytes)) (late_tests (drop 1 v.rest.bytes) AtBar
+          (v.rest.at + 1) k tt), bars_on k v.rest)
       form_next (d.Fails fault) = refl
 
       -- after a bar, what specs/Descent goes on with after a test is what the code's `more_tests` goes on with
@@ -292,18 +261,14 @@ module _ (deep : Lists) (c : ListContext) (at : ℕ) where
       more_next choice (d.Joins p) never = absurd never
       more_next choice (d.Asks s negated a) never = refl
       more_next choice (d.Bars s negated a) never =
-          more_bars choice s negated a (tests deep c at AtBar (v.rest.at + 1) k (drop 1 v.rest.bytes))
-          (late_tests (drop 1 v.rest.bytes) AtBar (v.rest.at + 1) k tt)
-          ∙ ap (λ r. more_given outer (added (Some choice) v.parts s negated a).0
-          (record { rest = left; parts = (added (Some choice) v.parts s negated a).1 }) r)
-          (bars_on k v.rest)
+          cc (more_bars choice s negated a (tests deep c at AtBar (v.rest.at + 1) k (drop 1 v.rest.bytes)) (late_tests (drop 1
+          v.rest.bytes) AtBar (v.rest.at + 1) k tt), bars_on k v.rest)
       more_next choice (d.Fails fault) never = refl
 
     -- the tests of an alternative give what their first test and the byte after it lead to
     pub tests_by : (order : Order) (v : Reading) → form_given outer v (tests deep c at order v.rest.at 0 v.rest.bytes)
         ≡ next_forms (tried_given outer at order None v (one_test deep c at order v.rest.at v.rest.bytes))
-    tests_by order v = ap (λ r. form_given outer v r) (tests_whole order v.rest.at v.rest.bytes)
-        ∙ by (one_test deep c at order v.rest.at v.rest.bytes)
+    tests_by order v = cc (tests_whole order v.rest.at v.rest.bytes, by (one_test deep c at order v.rest.at v.rest.bytes))
       where
         by : (r : Read Tried)
             → form_given outer v (then_read r (λ t k. test_go (d.after at order t) v.rest.at k
@@ -316,9 +281,7 @@ module _ (deep : Lists) (c : ListContext) (at : ℕ) where
     -- tests after a bar give what the first of them and the byte after it lead to
     pub more_by : (v : Reading) (choice : Choice) → more_given outer choice v (tests deep c at AtBar v.rest.at 0 v.rest.bytes)
         ≡ nexts_more (tried_given outer at AtBar (Some choice) v (one_test deep c at AtBar v.rest.at v.rest.bytes))
-    more_by v choice =
-        ap (λ r. more_given outer choice v r) (tests_whole AtBar v.rest.at v.rest.bytes)
-        ∙ by (one_test deep c at AtBar v.rest.at v.rest.bytes)
+    more_by v choice = cc (tests_whole AtBar v.rest.at v.rest.bytes, by (one_test deep c at AtBar v.rest.at v.rest.bytes))
       where
         by : (r : Read Tried)
             → more_given outer choice v (then_read r (λ t k. test_go (d.after at AtBar t) v.rest.at k

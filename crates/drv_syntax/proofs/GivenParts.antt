@@ -1,5 +1,5 @@
 use Rattle.drv_words.specs.Bytes as ascii
-use Rattle.drv_syntax.proofs.Writing.{after_after, after_none, differs, given_past, leaf_is, quoted_took}
+use Rattle.drv_syntax.proofs.Writing.{after_after, after_none, given_past, leaf_is, quoted_took}
 use Rattle.drv_syntax.specs.Bytes.{is_function, is_function_front, is_option, is_word}
 use Rattle.drv_syntax.specs.Code.Left.{Left, after, begins_with, first_of, past_byte}
 use Rattle.drv_syntax.specs.Code.Writing.{Parts, Reading, at_rest, front_size, function_end, given, hidden, is_empty, item_given}
@@ -116,24 +116,27 @@ given_map {X = X} outer v u x g (Took y size) to h =
 given_map {X = X} outer v u x g (Ends at) to h = absurd cc
 given_map {X = X} outer v u x g (Stops n fault) to h = absurd cc
 
+-- where the code's result is no fault, a part was read, and the result is what is made of it
+pub given_took : {X Y : Type 0} (outer : Option ℕ) (rest : Left) (f : X → Left → Y) (r : Read X) (y : Y) → given outer rest f r ≡ Ok y
+    → (x : X) × (size : ℕ) × (r ≡ Took x size) × (f x (after size rest) ≡ y)
+given_took outer rest f (Took x size) y h = (x, size, refl, ok_same h)
+given_took outer rest f (Ends at) y h = absurd cc
+given_took outer rest f (Stops n fault) y h = absurd cc
+
 -- a part that writes nothing leaves the tokens and labels as they are
 pub given_parts : {X : Type 0} (outer : Option ℕ) (v u : Reading) (x : X) (r : Read X)
     → given {Y = X × Reading} outer v.rest (λ y rest. (y, at_rest rest v)) r ≡ Ok (x, u) → v.parts ≡ u.parts
-given_parts {X = X} outer v u x (Took y size) h =
-    let p : ◌≡◌ {A = X × Reading} (y, at_rest (after size v.rest) v) (x, u) = ok_same h in
-    ap (λ z. z.1.parts) p
-given_parts {X = X} outer v u x (Ends at) h = absurd cc
-given_parts {X = X} outer v u x (Stops n fault) h = absurd cc
+given_parts {X = X} outer v u x r h =
+    let g = given_took {Y = X × Reading} outer v.rest (λ y rest. (y, at_rest rest v)) r (x, u) h in
+    ap (λ (z : X × Reading). z.1.parts) g.3
 
 -- after a part that writes nothing, no more of the text is left than before
 pub given_shorter : {X : Type 0} (outer : Option ℕ) (v u : Reading) (x : X) (r : Read X)
     → given {Y = X × Reading} outer v.rest (λ y rest. (y, at_rest rest v)) r ≡ Ok (x, u) → length u.rest.bytes ≤ length v.rest.bytes
-given_shorter {X = X} outer v u x (Took y size) h =
-    let p : ◌≡◌ {A = X × Reading} (y, at_rest (after size v.rest) v) (x, u) = ok_same h in
-    let q : length u.rest.bytes ≡ length (drop size v.rest.bytes) = ap (λ z. length z.1.rest.bytes) (sym p) in
-    omega (arith, q, length-drop size v.rest.bytes)
-given_shorter outer v u x (Ends at) h = absurd cc
-given_shorter outer v u x (Stops n fault) h = absurd cc
+given_shorter {X = X} outer v u x r h =
+    let g = given_took {Y = X × Reading} outer v.rest (λ y rest. (y, at_rest rest v)) r (x, u) h in
+    let p : length (drop g.1 v.rest.bytes) ≡ length u.rest.bytes = ap (λ (z : X × Reading). length z.1.rest.bytes) g.3 in
+    omega (arith, p, length-drop g.1 v.rest.bytes)
 
 -- words with escapes
 
@@ -146,8 +149,7 @@ quoted_hung outer v u g (Run w size) goes place is e =
     absurd cc
 quoted_hung outer v u g (Hangs size) goes place is e =
     let p : after size v.rest ≡ u.rest = ap (λ (z : Option (List ℕ) × Reading). z.1.rest) e in
-    ap (λ x. given outer v.rest g x) (is size)
-    ∙ ap (λ (r : Left). Err (Unclosed (open_at outer (place r.at)))) p
+    cc (is size, p)
 
 -- a part that ends with a run of bytes and escapes
 module _ {Y Z : Type 0} (outer : Option ℕ) (g : Y → Left → Z) where
@@ -180,24 +182,17 @@ module _ (outer : Option ℕ) (at : ℕ) (v : Reading) where
 
   -- %x with a brace gives what it gives after the brace
   past_brace : (bs : List ℕ) → bs ≡ ascii.opening_brace ∷ drop 1 bs → v.rest.bytes ≡ bs → reads bs ≡ inside (after 1 v.rest)
-  past_brace bs e g =
-      ap (λ z. reads z) e
-      ∙ given_past_here (option_text at (v.rest.at + 1) (quoted is_option (drop 1 bs)) (drop 1 bs))
-      ∙ ap (λ z. item_given outer at (at_rest (after 1 v.rest) v) (option_text at (v.rest.at + 1) (quoted is_option (drop 1 z)) (drop 1 z)))
-      (sym g)
+  past_brace bs e g = rw (e, given_past_here (option_text at (v.rest.at + 1) (quoted is_option (drop 1 bs)) (drop 1 bs)), ← g) refl
     where
       given_past_here : (r : Read Item) → item_given outer at v (past 1 r) ≡ item_given outer at (at_rest (after 1 v.rest) v) r
-      given_past_here (Took x size) = ap (λ (l : Left). Ok (record { rest = l; parts = item_written at x l.at v.parts }))
-          (after_after 1 size v.rest)
+      given_past_here (Took x size) = cc (after_after 1 size v.rest)
       given_past_here (Ends n) = refl
       given_past_here (Stops n fault) = refl
 
   -- after an opening brace, %x gives what the text in the braces gives
   pub option_opens : (b : ℕ) (rest : Left) → Some b ≡ first_of v.rest.bytes → b ≡ ascii.opening_brace → rest ≡ after 1 v.rest
       → reads v.rest.bytes ≡ inside rest
-  option_opens b rest e g h =
-      past_brace v.rest.bytes (some_left v.rest.bytes b e ∙ ap (λ x. x ∷ drop 1 v.rest.bytes) g) refl
-      ∙ ap (λ (l : Left). inside l) (sym h)
+  option_opens b rest e g h = cc (past_brace v.rest.bytes (some_left v.rest.bytes b e ∙ ap (λ x. x ∷ drop 1 v.rest.bytes) g) refl, h)
 
   -- where the text ends in a backslash within %x{, the directive is not closed
   pub option_hung : (rest : Left) (u : Reading) → quoted_to [] (at_rest rest v) (quoted is_option rest.bytes) ≡ (None, u)
@@ -247,10 +242,7 @@ module _ (outer : Option ℕ) (at : ℕ) (v : Reading) where
       → v.parts ≡ u.parts → option_left u word u.rest.bytes ≡ Ok (leaf_here kinds.AddOption (word_label word) at (at_rest end u))
   option_done u [] b end e g h k = absurd cc
   option_done u (x ∷ word) b end e g h k =
-      ap (λ bs. option_left u (x ∷ word) bs) (some_left u.rest.bytes b e)
-      ∙ ap (λ (l : Left). Ok (record { rest = l; parts = item_written at (AddOption (x ∷ word)) l.at v.parts })) (sym h)
-      ∙ ap (λ (z : Parts). Ok (record { rest = end; parts = item_written at (AddOption (x ∷ word)) end.at z })) k
-      ∙ ap (λ (z : Parts). Ok (record { rest = end; parts = z })) (leaf_is kinds.AddOption (word_label (x ∷ word)) at end.at u.parts)
+      cc (some_left u.rest.bytes b e, h, k, leaf_is kinds.AddOption (word_label (x ∷ word)) at end.at u.parts)
 
 -- a run of bytes and escapes writes no part, whether it ends or hangs
 pub quoted_parts : {x : Option (List ℕ)} (v u : Reading) (q : Quoted) → quoted_to [] v q ≡ (x, u) → v.parts ≡ u.parts
@@ -303,13 +295,9 @@ module _ (outer : Option ℕ) (list : Kind) (kind : SayKind) (at : ℕ) (v : Rea
       → item_given outer at v (saying list kind v.rest.at v.rest.bytes)
       ≡ Ok (leaf_here (said_kind kind) (word_label word) at (at_rest end u))
   saying_done u word end e g =
-      quoted_took outer v u said_at (quoted (is_said list) v.rest.bytes) word (λ q. saying_text kind v.rest.at q v.rest.bytes)
-      (λ w size bs. saying_end kind w size bs) (λ w size. refl) (λ w size bs. saying_shift outer v.rest said_at kind w size bs) e
-      ∙ saying_ends outer u.rest said_at kind word
-      ∙ ap (λ (l : Left). Ok (said_at (said kind word) l)) (sym g)
-      ∙ ap (λ (z : Parts). Ok (record { rest = end; parts = item_written at (said kind word) end.at z }))
-      (quoted_parts v u (quoted (is_said list) v.rest.bytes) e)
-      ∙ by kind
+      rw (quoted_took outer v u said_at (quoted (is_said list) v.rest.bytes) word (λ q. saying_text kind v.rest.at q v.rest.bytes) (λ w
+      size bs. saying_end kind w size bs) (λ w size. refl) (λ w size bs. saying_shift outer v.rest said_at kind w size bs) e, saying_ends
+      outer u.rest said_at kind word, ← g, quoted_parts v u (quoted (is_said list) v.rest.bytes) e, by kind) refl
     where
       by : (k : SayKind)
           → ◌≡◌ {A = Result Reading SyntaxFault} (Ok (record { rest = end; parts = item_written at (said k word) end.at u.parts }))
@@ -379,39 +367,15 @@ module _ (outer : Option ℕ) (at : ℕ) (v : Reading) where
   pattern_hung u e = quoted_hung outer v u as_pattern (quoted is_word v.rest.bytes) (λ q. pattern_text at v.rest.at q v.rest.bytes)
       (λ i. at) (λ size. refl) e
 
-  -- once its word is read, a pattern gives what the code's `star_after` decides
-  pattern_word : (u : Reading) (word : List ℕ) → quoted_to [] v (quoted is_word v.rest.bytes) ≡ (Some word, u)
+  -- once its word is read, a pattern gives what the code's `star_after` decides; it leaves what follows the word and its star
+  pub pattern_by : (u : Reading) (word : List ℕ) → quoted_to [] v (quoted is_word v.rest.bytes) ≡ (Some word, u)
       → pattern_given outer v (pattern_at at v.rest.at v.rest.bytes)
       ≡ star_then (star_after outer at (is_empty word) (first_of u.rest.bytes))
-      (λ star. as_pattern (pattern word star) (past_byte ascii.asterisk u.rest))
-  pattern_word u word e =
-      quoted_took outer v u as_pattern (quoted is_word v.rest.bytes) word (λ q. pattern_text at v.rest.at q v.rest.bytes)
-      (λ w size bs. pattern_end at v.rest.at w size bs) (λ w size. refl)
-      (λ w size bs. pattern_shift outer v.rest as_pattern at v.rest.at w size bs) e
-      ∙ pattern_ends outer u.rest as_pattern at v.rest.at word
-
-  -- the fault that the code finds by the byte after the word is that of the pattern
-  pub pattern_stops : (u : Reading) (word : List ℕ) (none : Bool) (first : Option ℕ) (e : SyntaxFault)
-      → quoted_to [] v (quoted is_word v.rest.bytes) ≡ (Some word, u)
-      → none ≡ is_empty word → first ≡ first_of u.rest.bytes → star_after outer at none first ≡ Err e
-      → pattern_given outer v (pattern_at at v.rest.at v.rest.bytes) ≡ Err e
-  pattern_stops u word none first e q g h k =
-      pattern_word u word q
-      ∙ ap (λ x. star_then x (λ star. as_pattern (pattern word star) (past_byte ascii.asterisk u.rest)))
-      (ap (λ x. star_after outer at x (first_of u.rest.bytes)) (sym g) ∙ ap (λ x. star_after outer at none x) (sym h) ∙ k)
-
-  -- a pattern is its word and whether a star follows it; it writes nothing
-  pub pattern_done : (u : Reading) (word : List ℕ) (none : Bool) (first : Option ℕ) (star : Bool) (end : Left)
-      → quoted_to [] v (quoted is_word v.rest.bytes) ≡ (Some word, u)
-      → none ≡ is_empty word → first ≡ first_of u.rest.bytes → star_after outer at none first ≡ Ok star
-      → end ≡ past_byte ascii.asterisk u.rest
-      → pattern_given outer v (pattern_at at v.rest.at v.rest.bytes) ≡ Ok (pattern word star, at_rest end u)
-  pattern_done u word none first star end q g h k l =
-      pattern_word u word q
-      ∙ ap (λ x. star_then x (λ s. as_pattern (pattern word s) (past_byte ascii.asterisk u.rest)))
-      (ap (λ x. star_after outer at x (first_of u.rest.bytes)) (sym g) ∙ ap (λ x. star_after outer at none x) (sym h) ∙ k)
-      ∙ ap (λ (r : Left). Ok (as_pattern (pattern word star) r)) (sym l)
-      ∙ ap (λ (z : Parts). Ok (pattern word star, record { rest = end; parts = z })) (quoted_parts v u (quoted is_word v.rest.bytes) q)
+      (λ star. (pattern word star, at_rest (past_byte ascii.asterisk u.rest) u))
+  pattern_by u word e =
+      rw (quoted_took outer v u as_pattern (quoted is_word v.rest.bytes) word (λ q. pattern_text at v.rest.at q v.rest.bytes) (λ w size
+      bs. pattern_end at v.rest.at w size bs) (λ w size. refl) (λ w size bs. pattern_shift outer v.rest as_pattern at v.rest.at w size bs)
+      e, pattern_ends outer u.rest as_pattern at v.rest.at word, quoted_parts v u (quoted is_word v.rest.bytes) e) refl
 
 -- %< and %>
 
@@ -463,21 +427,12 @@ function_goes outer rest g at n p (b ∷ text) =
         (drop (if t then 1 + k else 0) (b ∷ text)))
     by false ih =
         let i : n ≡ n + 0 = omega arith in
-        ap (λ (j : ℕ). given outer rest g (function_end at j p (b ∷ text))) i
-        ∙ ap (λ (q : List ℕ). given outer rest g (function_end at (n + 0) q (b ∷ text))) (sym (append-nil p))
-        ∙ ap (λ (r : Left). given outer r g (function_end at (n + 0) (p ++ []) (b ∷ text))) (sym (after_none rest))
+        cc (i, append-nil p, after_none rest)
     by true ih =
         let i : n + 1 + k ≡ n + (1 + k) = omega arith in
         let one : 1 + k ≡ suc k = omega arith in
-        given_past outer rest g 1 (function_from at (n + 1) (p ++ b ∷ []) text)
-        ∙ ih
-        ∙ ap (λ (r : Left). given outer r g (function_end at (n + 1 + k) ((p ++ b ∷ []) ++ take k text) (drop k text)))
-        (sym (after_after 1 k rest))
-        ∙ ap (λ (j : ℕ). given outer (after (1 + k) rest) g (function_end at j ((p ++ b ∷ []) ++ take k text) (drop k text))) i
-        ∙ ap (λ (q : List ℕ). given outer (after (1 + k) rest) g (function_end at (n + (1 + k)) q (drop k text)))
-        (append_assoc p (b ∷ []) (take k text))
-        ∙ ap (λ (j : ℕ). given outer (after (1 + k) rest) g (function_end at (n + (1 + k)) (p ++ take j (b ∷ text)) (drop j (b ∷ text))))
-        (sym one)
+        cc (given_past outer rest g 1 (function_from at (n + 1) (p ++ b ∷ []) text), ih, after_after 1 k rest, i, append_assoc p (b ∷ [])
+        (take k text), one)
 
 -- a function's name: k bytes of what is left go on with one, and they are taken as `name`
 module _ (outer : Option ℕ) (at : ℕ) (v : Reading) (k : ℕ) (name : List ℕ) (rest : Left) (whole : k ≡ front_size [] v.rest.bytes)
@@ -491,38 +446,11 @@ module _ (outer : Option ℕ) (at : ℕ) (v : Reading) (k : ℕ) (name : List �
   name_ends bs = given outer rest as_name (function_end at rest.at name bs)
 
   -- a function's name gives what follows the front that the code takes
-  function_at : named_given outer v (function_from at v.rest.at [] v.rest.bytes) ≡ name_ends rest.bytes
-  function_at =
+  pub function_by : (bs : List ℕ) → rest.bytes ≡ bs → named_given outer v (function_from at v.rest.at [] v.rest.bytes) ≡ name_ends bs
+  function_by bs e =
       function_goes outer v.rest as_name at v.rest.at [] v.rest.bytes
       ∙ ap (λ (i : ℕ). given outer (after i v.rest) as_name (function_end at (v.rest.at + i) (take i v.rest.bytes) (drop i v.rest.bytes)))
       (sym whole)
       ∙ ap (λ (q : List ℕ). given outer (after k v.rest) as_name (function_end at (v.rest.at + k) q (drop k v.rest.bytes))) (sym taken)
       ∙ ap (λ (r : Left). given outer r as_name (function_end at r.at name r.bytes)) (sym left)
-
-  -- where the text ends after the longest front of a function's name, the directive is not closed
-  pub function_cut : None ≡ first_of rest.bytes
-      → named_given outer v (function_from at v.rest.at [] v.rest.bytes) ≡ Err (Unclosed (open_at outer at))
-  function_cut e = function_at ∙ ap (λ bs. name_ends bs) (none_left rest.bytes e)
-
-  -- where no parenthesis follows the longest front of a function's name, the function is unknown
-  pub function_bad : (b : ℕ) → Some b ≡ first_of rest.bytes → (b ≡ ascii.opening_parenthesis → ⊥)
-      → named_given outer v (function_from at v.rest.at [] v.rest.bytes) ≡ Err (UnknownFunction at)
-  function_bad b e g =
-      let other : (b == ascii.opening_parenthesis) ≡ false = differs b ascii.opening_parenthesis g in
-      function_at ∙ ap (λ bs. name_ends bs) (some_left rest.bytes b e) ∙ rw other refl
-
-  -- where a parenthesis follows that front, it is the function's name or the function is unknown
-  opens : (b : ℕ) → Some b ≡ first_of rest.bytes → b ≡ ascii.opening_parenthesis
-      → named_given outer v (function_from at v.rest.at [] v.rest.bytes)
-      ≡ given outer rest as_name (if is_function name then Took name 1 else Stops rest.at (UnknownFunction at))
-  opens b e g = function_at ∙ ap (λ bs. name_ends bs) (some_left rest.bytes b e ∙ ap (λ x. x ∷ drop 1 rest.bytes) g)
-
-  -- where a parenthesis follows a front that is no function's name, the function is unknown
-  pub function_unknown : (b : ℕ) → Some b ≡ first_of rest.bytes → b ≡ ascii.opening_parenthesis → is_function name ≡ false
-      → named_given outer v (function_from at v.rest.at [] v.rest.bytes) ≡ Err (UnknownFunction at)
-  function_unknown b e g h = opens b e g ∙ rw h refl
-
-  -- where a parenthesis follows a function's name, the code's `function` returns this name and takes the parenthesis
-  pub function_done : (b : ℕ) (end : Left) → Some b ≡ first_of rest.bytes → b ≡ ascii.opening_parenthesis → is_function name ≡ true
-      → end ≡ after 1 rest → named_given outer v (function_from at v.rest.at [] v.rest.bytes) ≡ Ok (name, at_rest end v)
-  function_done b end e g h l = opens b e g ∙ rw h refl ∙ ap (λ (r : Left). Ok (as_name name r)) (sym l)
+      ∙ ap (λ xs. name_ends xs) e

@@ -1,3 +1,4 @@
+use Rattle.drv_syntax.proofs.Depth.{all_levels}
 use Rattle.drv_syntax.proofs.CallsRead.{call_fails}
 use Rattle.drv_syntax.proofs.ChoicesRead.{NoDefault, begins, default_fails, default_on, default_place, inside, inside_fails, next_fails}
 use Rattle.drv_syntax.proofs.ChoicesRead.{next_place}
@@ -6,7 +7,7 @@ use Rattle.drv_syntax.proofs.DirectivesRead.{nest_is}
 use Rattle.drv_syntax.proofs.DirectivesFail.{break_stops, function_stops, nested_stops, pattern_stops, stops_at}
 use Rattle.drv_syntax.proofs.Failing.{AtByte, then_fails}
 use Rattle.drv_syntax.proofs.Heads.{asked_head, no_colon, no_white, sign_white}
-use Rattle.drv_syntax.proofs.ItemsRead.{Both, Inner, inner, levels_both, one}
+use Rattle.drv_syntax.proofs.ItemsRead.{Both, Inner, inner, one, with_both}
 use Rattle.drv_syntax.proofs.Longer.{Filled, asked_filled, asked_longer, item_filled, item_longer, items_longer, place_longer}
 use Rattle.drv_syntax.proofs.Longer.{refuses_filled}
 use Rattle.drv_syntax.proofs.Longer.{sign_longer, spaces_filled, spaces_longer, tests_longer}
@@ -174,24 +175,15 @@ module _ (k : ℕ) (q : List ℕ) where
         → Refuses (k + 1) due last fault → At (k + 1) (m + 1) text → d.directive_by lists deep c at m f (text ++ q) ≡ Stops k fault
     by_fails {last = last} {due} {fault} at m (r.in_call {text = text} name e is o) h place =
         let g = append_assoc name (40 ∷ text) q in
-        ap (λ (y : List ℕ). d.directive_by lists deep c at m kinds.WithCall y) g
-        ∙ nest_is lists deep c at m (d.call lists c at (m + 1) (name ++ 40 ∷ (text ++ q))) e
-        ∙ call_fails Function c lists at at (AtByte k fault) (m + 1) name (text ++ q) is
-        (λ j p. args e due last fault j text o h (omega (
-          arith,
-          place,
-          p,
-          length-append name (40 ∷ text),
-          length-append name (40 ∷ text ++ q),
-          length-append text q,
-        )))
+        cc (g, nest_is lists deep c at m (d.call lists c at (m + 1) (name ++ 40 ∷ (text ++ q))) e, call_fails Function c lists at at
+        (AtByte k fault) (m + 1) name (text ++ q) is (λ j p. args e due last fault j text o h (omega ( arith, place, p, length-append name
+        (40 ∷ text), length-append name (40 ∷ text ++ q), length-append text q, ))))
     by_fails {fault = fault} at m (r.in_place {text = text} e o) h place =
         nest_is lists deep c at m (d.braces lists deep c at InPlace (m + 1) (text ++ q)) e
         ∙ then_fails (AtByte k fault) (λ brace size. Took (braced InPlace brace) size) (brace_fails at e (m + 1) o h place)
     by_fails {fault = fault} at m (r.in_marked {kind = kind} {text = text} e o) h place =
-        nest_is lists deep c at m (past 1 (d.braces lists deep c at kind (m + 1 + 1) (text ++ q))) e
-        ∙ ap (λ r. past 1 r) (then_fails (AtByte k fault) (λ brace size. Took (braced kind brace) size)
-        (brace_fails at e (m + 1 + 1) o h (omega (arith, place))))
+        cc (nest_is lists deep c at m (past 1 (d.braces lists deep c at kind (m + 1 + 1) (text ++ q))) e, then_fails (AtByte k fault) (λ
+        brace size. Took (braced kind brace) size) (brace_fails at e (m + 1 + 1) o h (omega (arith, place))))
 
     -- an item
 
@@ -252,8 +244,7 @@ module _ (k : ℕ) (q : List ℕ) where
     items_fail {t} n (r.after_item {mid = mid} {item = x} i o) h place =
         let f = reaches_filled o (refuses_filled h) in
         let m = one (k + 1 + length q) lists deep c known.args known.xs known.deeper n (item_longer q i f) (place_longer q n t place) in
-        m.is ∙ ap (λ r. d.item_go n x m.used r)
-        (items_fail (n + 1 + m.used) o h (omega (arith, place, m.fits, length-append t q, length-append mid q)))
+        cc (m.is, items_fail (n + 1 + m.used) o h (omega (arith, place, m.fits, length-append t q, length-append mid q)))
     items_fail {last = last} {due} n (r.in_directive {n = j} {b = b} {text = text} a al o) h place =
         let same_place : j ≡ n = omega (arith, a, place) in
         byte_fails n b (text ++ q) al
@@ -277,22 +268,9 @@ module _ (k : ℕ) (q : List ℕ) where
       items_fail lists deep c known (λ z. lower z (in_arguments c) refl) (λ z asks. lower z (in_x (in_braces c) asks) refl)
       (λ z. lowest z (in_arguments (in_braces c)) refl) n reaches h place
 
-  -- in lists with any number of levels, Descent stops at the byte that doesn't fit, by induction over the levels
-  pub levels_fail : (level : ℕ) → AllFail level (d.levels level).0 × AllFail (level - 1) (d.levels level).1
-  levels_fail zero = (
-    with_fails 0 d.no_lists d.no_lists (λ h. absurd cc) (λ h. absurd cc) (λ h. absurd cc) (λ h. absurd cc),
-    with_fails 0 d.no_lists d.no_lists (λ h. absurd cc) (λ h. absurd cc) (λ h. absurd cc) (λ h. absurd cc),
-  )
-  levels_fail (suc level) =
-      let m = levels_fail level in
-      let z = levels_both (k + 1 + length q) level in (
-        with_fails (suc level) (d.levels level).0 (d.levels level).1
-            (λ h. subst (λ (l : ℕ). Both (k + 1 + length q) l (d.levels level).0) one_less z.0)
-            (λ h. subst (λ (l : ℕ). Both (k + 1 + length q) (l - 1) (d.levels level).1) one_less z.1)
-            (λ h. subst (λ (l : ℕ). AllFail l (d.levels level).0) one_less m.0)
-            (λ h. subst (λ (l : ℕ). AllFail (l - 1) (d.levels level).1) one_less m.1),
-        subst (λ (l : ℕ). AllFail l (d.levels level).0) one_less m.0,
-      )
-    where
-      one_less : level ≡ suc level - 1
-      one_less = omega arith
+  -- in lists with any number of levels, Descent stops at the byte that doesn't fit
+  pub levels_fail : (level : ℕ) → AllFail level (d.levels level).0
+  levels_fail level = (all_levels (λ l lists. Both (k + 1 + length q) l lists × AllFail l lists) (λ l lists deep near far. (
+    with_both (k + 1 + length q) l lists deep (λ h. (near h).0) (λ h. (far h).0),
+    with_fails l lists deep (λ h. (near h).0) (λ h. (far h).0) (λ h. (near h).1) (λ h. (far h).1),
+  )) level).0.1

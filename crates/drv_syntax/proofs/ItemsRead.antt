@@ -1,3 +1,4 @@
+use Rattle.drv_syntax.proofs.Depth.{all_levels}
 use Rattle.drv_words.specs.Bytes as ascii
 use Rattle.drv_syntax.proofs.CallsRead.{ListReads, first_of}
 use Rattle.drv_syntax.proofs.DirectivesRead.{cut_place, directive_out, directive_reads}
@@ -155,13 +156,12 @@ module _ (size : ℕ) (lists deep : Lists) (c : ListContext) (args : (c.levels =
       let m = items_read (n + 1 + o.used) l (omega (arith, place, o.fits)) in
       let begins : n ≡ first = omega (arith, place, a) in
       let ends : n + 1 + o.used ≡ second = omega (arith, place, o.fits, b) in
-      subst (λ (k : ℕ). Reads (items n t) t (more (span k second) x list, first_of rest) rest) begins
-      (subst (λ (k : ℕ). Reads (items n t) t (more (span n k) x list, first_of rest) rest) ends (record {
+      rw (← begins, ← ends) (record {
         size = 1 + o.used + m.size;
         is = o.is ∙ ap (λ r. d.item_go n x o.used r) m.is;
         left = sym (drop-drop m.size (1 + o.used) t) ∙ ap (λ (u : List ℕ). drop m.size u) o.left ∙ m.left;
         fits = omega (arith, o.fits, m.fits);
-      }))
+      })
 
   -- where the text ends
 
@@ -211,8 +211,7 @@ module _ (size : ℕ) (lists deep : Lists) (c : ListContext) (args : (c.levels =
         by (directive_out lists deep c n (n + 1) size args xs deeper args_end x_ends deeper_end i (omega (arith, place)))
       where
         goes : (d.directive lists deep c n (b ∷ u) ≡ past 1 (d.directive_by lists deep c n (n + 1) (directive_of b) u))
-        goes = ap (λ (z : Bool). if z then past 1 (d.directive_by lists deep c n (n + 1) (directive_of b) u) else d.Stops (n + 1)
-            (BadDirective n)) al
+        goes = cc (al)
 
         by : (d.directive_by lists deep c n (n + 1) (directive_of b) u ≡ Ends (cut_place size n (directive_of b)))
             ⊎ ((x : Item) × Reads (d.directive_by lists deep c n (n + 1) (directive_of b) u) u x [])
@@ -281,7 +280,7 @@ inner c near far = record {
 }
 
 -- lists are read and end as the grammar says, if the lists with fewer levels in them do
-with_both : (size level : ℕ) (lists deep : Lists) → ((level == 0) ≡ false → Both size (level - 1) lists)
+pub with_both : (size level : ℕ) (lists deep : Lists) → ((level == 0) ≡ false → Both size (level - 1) lists)
     → ((level - 1 == 0) ≡ false → Both size (level - 1 - 1) deep) → Both size level (λ c n text. d.items_with lists deep c n 0 text)
 with_both size level lists deep near far = (reads, ends)
   where
@@ -307,17 +306,4 @@ with_both size level lists deep near far = (reads, ends)
 
 -- lists with any number of levels are read and end as the grammar says, by induction over the levels
 pub levels_both : (size level : ℕ) → Both size level (d.levels level).0 × Both size (level - 1) (d.levels level).1
-levels_both size zero = (
-  with_both size 0 d.no_lists d.no_lists (λ h. absurd cc) (λ h. absurd cc),
-  with_both size 0 d.no_lists d.no_lists (λ h. absurd cc) (λ h. absurd cc),
-)
-levels_both size (suc level) =
-    let m = levels_both size level in (
-      with_both size (suc level) (d.levels level).0 (d.levels level).1
-          (λ h. subst (λ (l : ℕ). Both size l (d.levels level).0) one_less m.0)
-          (λ h. subst (λ (l : ℕ). Both size (l - 1) (d.levels level).1) one_less m.1),
-      subst (λ (l : ℕ). Both size l (d.levels level).0) one_less m.0,
-    )
-  where
-    one_less : level ≡ suc level - 1
-    one_less = omega arith
+levels_both size level = all_levels (λ l lists. Both size l lists) (with_both size) level

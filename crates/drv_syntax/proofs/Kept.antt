@@ -136,9 +136,7 @@ module _ (text self more all : List ℕ) (n : ℕ) (old : TextParts) (is : IsRea
       → (fault ≡ Memory) ⊎ (rest_given n more old.tokens old.labels ≡ Err fault) → Gives Memory tree_of given (parsed (self ++ more))
   refused_more (Ok x) fault d h = absurd d
   refused_more (Err e) fault d (inl m) = inl (d ∙ m)
-  refused_more (Err e) fault d (inr h) =
-      inr (ap (λ (t : List ℕ). parsed (t ++ more)) (sym seen) ∙ fault_more text more old is within goes_here fault (there (Err fault) h)
-      ∙ ap (λ (x : SyntaxFault). failed x) (sym d))
+  refused_more (Err e) fault d (inr h) = inr (cc (seen, fault_more text more old is within goes_here fault (there (Err fault) h), d))
     where
       failed : SyntaxFault → Result Items SyntaxFault
       failed x = Err x
@@ -146,10 +144,7 @@ module _ (text self more all : List ℕ) (n : ℕ) (old : TextParts) (is : IsRea
   -- where `extended` succeeds, both texts together have a tree
   pub tree_there : (p : TextParts) → all ≡ text ++ more → rest_given n more old.tokens old.labels ≡ Ok (p.tokens, p.labels)
       → parsed (self ++ more) ≡ Ok (tree_of all)
-  tree_there p e h =
-      ap (λ (t : List ℕ). parsed (t ++ more)) (sym seen)
-      ∙ tree_more text more old is within goes_here p (there (Ok (p.tokens, p.labels)) h)
-      ∙ ap (λ (t : List ℕ). made t) (sym e)
+  tree_there p e h = cc (seen, tree_more text more old is within goes_here p (there (Ok (p.tokens, p.labels)) h), e)
     where
       made : List ℕ → Result Items SyntaxFault
       made t = Ok (tree_of t)

@@ -1,5 +1,6 @@
+use Rattle.drv_syntax.proofs.Onward.{skip}
 use Rattle.drv_words.specs.Bytes as ascii
-use Rattle.drv_syntax.proofs.GivenParts.{none_left, ok_same}
+use Rattle.drv_syntax.proofs.GivenParts.{given_took, ok_same}
 use Rattle.drv_syntax.proofs.Leads.{same}
 use Rattle.drv_syntax.proofs.NotWhite.{NotWhite, directive_white}
 use Rattle.drv_syntax.proofs.Writing.{after_after, after_none, leaf_is, parts_of}
@@ -98,10 +99,7 @@ plain_byte list_kinds.InArguments b e =
 
 -- a run of no bytes writes nothing and leaves the same
 run_none : (v : Reading) → run_after 0 v ≡ v
-run_none v =
-    ap (λ (r : Left). record { rest = r; parts = parts_of (v.parts.tokens ++ []) (v.parts.labels ++ []) v.parts.holds }) (after_none v.rest)
-    ∙ ap (λ ts. record { rest = v.rest; parts = parts_of ts (v.parts.labels ++ []) v.parts.holds }) (append-nil v.parts.tokens)
-    ∙ ap (λ ls. record { rest = v.rest; parts = parts_of v.parts.tokens ls v.parts.holds }) (append-nil v.parts.labels)
+run_none v = rw (after_none v.rest, append-nil v.parts.tokens, append-nil v.parts.labels) refl
 
 -- a plain byte, and then a run of k bytes, write and leave the same as a run of k + 1 bytes
 run_more : (k : ℕ) (v : Reading) (b : ℕ) (text : List ℕ) → v.rest.bytes ≡ b ∷ text → run_after k (plain_here b v) ≡ run_after (suc k) v
@@ -113,42 +111,13 @@ run_more k v b text e =
     let rest : after k (after 1 v.rest) ≡ after (suc k) v.rest = sym (after_after 1 k v.rest) ∙ ap (λ (i : ℕ). after i v.rest) one in
     let bytes : take k (drop 1 v.rest.bytes) ≡ take k text = ap (λ bs. take k (drop 1 bs)) e in
     let whole : b ∷ take k text ≡ take (suc k) v.rest.bytes = ap (λ bs. take (suc k) bs) (sym e) in
-    ap (λ (r : Left). record { rest = r; parts = (run_after k (plain_here b v)).parts }) rest
-    ∙ ap (λ bs. record {
-      rest = after (suc k) v.rest;
-      parts = parts_of
-          ((v.parts.tokens ++ t ∷ []) ++ plain_tokens (v.rest.at + 1) (length (v.parts.tokens ++ t ∷ []) + 1) bs)
-          ((v.parts.labels ++ word_label (b ∷ []) ∷ []) ++ byte_labels bs) v.parts.holds;
-    }) bytes
-    ∙ ap (λ (i : ℕ). record {
-      rest = after (suc k) v.rest;
-      parts = parts_of
-          ((v.parts.tokens ++ t ∷ []) ++ plain_tokens (v.rest.at + 1) i (take k text))
-          ((v.parts.labels ++ word_label (b ∷ []) ∷ []) ++ byte_labels (take k text)) v.parts.holds;
-    }) next
-    ∙ ap (λ ts. record {
-      rest = after (suc k) v.rest;
-      parts = parts_of ts
-          ((v.parts.labels ++ word_label (b ∷ []) ∷ []) ++ byte_labels (take k text)) v.parts.holds;
-    })
-    (append_assoc v.parts.tokens (t ∷ []) (plain_tokens (v.rest.at + 1) (length v.parts.tokens + 1 + 1) (take k text)))
-    ∙ ap (λ ls. record {
-      rest = after (suc k) v.rest;
-      parts = parts_of
-          (v.parts.tokens ++ plain_tokens v.rest.at (length v.parts.tokens + 1) (b ∷ take k text)) ls v.parts.holds;
-    })
-    (append_assoc v.parts.labels (word_label (b ∷ []) ∷ []) (byte_labels (take k text)))
-    ∙ ap (λ bs. record {
-      rest = after (suc k) v.rest;
-      parts = parts_of
-          (v.parts.tokens ++ plain_tokens v.rest.at (length v.parts.tokens + 1) bs) (v.parts.labels ++ byte_labels bs) v.parts.holds;
-    }) whole
+    cc (rest, bytes, next, append_assoc v.parts.tokens (t ∷ []) (plain_tokens (v.rest.at + 1) (length v.parts.tokens + 1 + 1) (take k
+    text)), append_assoc v.parts.labels (word_label (b ∷ []) ∷ []) (byte_labels (take k text)), whole)
 
 -- a plain byte and then a run of k bytes leave the same tail and reading as a run of k + 1 bytes
 plains_more : (k : ℕ) (tail : Tail) (v : Reading) (b : ℕ) (text : List ℕ) → v.rest.bytes ≡ b ∷ text
     → plains_after k (tail_at (plain_here b v)) (plain_here b v) ≡ plains_after (suc k) tail v
-plains_more zero tail v b text e =
-    ap (λ (w : Reading). (tail_at w, w)) (sym (run_none (plain_here b v)) ∙ run_more 0 v b text e)
+plains_more zero tail v b text e = cc (run_none (plain_here b v), run_more 0 v b text e)
 plains_more (suc k) tail v b text e = ap (λ (w : Reading). (tail_at w, w)) (run_more (suc k) v b text e)
 
 -- a list with the context c, in the directive `outer` if it is no whole text
@@ -173,14 +142,8 @@ module _ (lists deep : Lists) (c : ListContext) (outer : Option ℕ) (inside : O
   -- so many bytes of a list that are past are so many bytes less of the text
   skip_same : {Z : Type 0} (rest : Left) (g : Items × ℕ → Left → Z) (n k : ℕ) (text : List ℕ)
       → given outer rest g (items_with lists deep c n k text) ≡ given outer rest g (items_with lists deep c (n + k) 0 (drop k text))
-  skip_same rest g n zero [] = end_same c.kind inside rest g n (n + 0)
-  skip_same rest g n (suc k) [] = end_same c.kind inside rest g n (n + suc k)
-  skip_same rest g n zero (b ∷ text) =
-      let i : n ≡ n + 0 = omega arith in
-      ap (λ (j : ℕ). given outer rest g (items_with lists deep c j 0 (b ∷ text))) i
-  skip_same rest g n (suc k) (b ∷ text) =
-      let i : n + 1 + k ≡ n + suc k = omega arith in
-      skip_same rest g (n + 1) k text ∙ ap (λ (j : ℕ). given outer rest g (items_with lists deep c j 0 (drop k text))) i
+  skip_same rest g n k text = skip (λ i j t. given outer rest g (items_with lists deep c i j t)) (λ i j b t. refl)
+      (λ i j. end_same c.kind inside rest g i j) (λ i j m. end_same c.kind inside rest g i j) n k text
 
   -- what is written after an item that was read: its parts, with the rest
   abbrev item_after : ℕ → Item → Left → Reading → Reading
@@ -296,18 +259,13 @@ module _ (lists deep : Lists) (c : ListContext) (outer : Option ℕ) (inside : O
           → stepped tail v (item lists deep c n b text) ≡ as_items (byte_given outer c.in_arguments b tail v)
       by true q r s e f g h =
           let i : b ≡ ascii.backslash = same b ascii.backslash e in
-          ap (λ (x : ℕ). stepped tail v (item lists deep c n x text)) i
-          ∙ step_escape tail v text
-          ∙ ap (λ bs. as_items (with_tail (second_given outer v (drop 1 bs)))) (sym is)
-          ∙ ap (λ (x : ℕ). as_items (byte_given outer c.in_arguments x tail v)) (sym i)
+          cc (i, step_escape tail v text, is)
       by false true r s e f g h =
           rw (e, other, f) (step_one tail v Blank kinds.Blank no_label (λ end z. leaf_is kinds.Blank no_label n end z))
       by false false true s e f g h = rw (e, other, f, g) (newlines c.in_arguments)
       by false false false true e f g h =
           let i : b ≡ ascii.bar = same b ascii.bar h in
-          ap (λ (x : ℕ). stepped tail v (item lists deep c n x text)) i
-          ∙ bars c.in_arguments
-          ∙ ap (λ (x : ℕ). as_items (byte_given outer c.in_arguments x tail v)) (sym i)
+          cc (i, bars c.in_arguments)
       by false false false false e f g h = rw (e, other, f, g, h)
           (step_one tail v (Plain b) kinds.Plain (word_label (b ∷ [])) (λ end z. leaf_is kinds.Plain (word_label (b ∷ [])) n end z))
 
@@ -338,10 +296,7 @@ module _ (lists deep : Lists) (c : ListContext) (outer : Option ℕ) (inside : O
       by false g ih = refl
       by true g ih =
           let one : suc k ≡ 1 + k = omega arith in
-          plain_step kind tail v b text same_kind g e
-          ∙ ih
-          ∙ ap (λ (x : Tail × Reading). as_items (Ok x)) (plains_more k tail v b text e)
-          ∙ ap (λ (i : ℕ). as_items (Ok (plains_after i tail v))) one
+          cc (plain_step kind tail v b text same_kind g e, ih, plains_more k tail v b text e, one)
 
   -- what the code gives of a list at the end of the text: its tail, or the fault that it isn't closed
   abbrev at_last : Reading → Result Tail SyntaxFault → Result (Tail × Reading) SyntaxFault
@@ -365,7 +320,8 @@ module _ (lists deep : Lists) (c : ListContext) (outer : Option ℕ) (inside : O
         by InArguments = refl
 
     -- at the byte that ends it, a list writes nothing more, and gives its tail with that byte
-    pub items_end : {b : ℕ} {text : List ℕ} → v.rest.bytes ≡ b ∷ text → ends_list c.kind b ≡ true → items_at before w ≡ Ok (with_end tail b, v)
+    pub items_end : {b : ℕ} {text : List ℕ} → v.rest.bytes ≡ b ∷ text → ends_list c.kind b ≡ true → items_at before w ≡ Ok (with_end tail b,
+        v)
     items_end {b} e g =
         plains_go ∙ ap (λ bs. listed_given outer tail v (items_with lists deep c v.rest.at 0 bs)) e ∙ rw g refl
         ∙ ap (λ (r : Left). Ok (list_on tail v.parts (none, b) r)) (after_none v.rest)
@@ -385,25 +341,22 @@ module _ (lists deep : Lists) (c : ListContext) (outer : Option ℕ) (inside : O
 
   -- what is left gets shorter
 
-  -- after the first byte and so many more, less of the text is left than before
-  shorter_after : (k : ℕ) (r : Left) (b : ℕ) (text : List ℕ) → r.bytes ≡ b ∷ text → length (after k (after 1 r)).bytes < length r.bytes
-  shorter_after k r b text e =
-      let rest : length (drop k (drop 1 r.bytes)) ≤ length (drop 1 r.bytes) = omega (arith, length-drop k (drop 1 r.bytes)) in
-      let one : length (drop 1 r.bytes) ≡ length text = ap (λ bs. length (drop 1 bs)) e in
-      let whole : length r.bytes ≡ suc (length text) = ap (λ bs. length bs) e in
-      omega (arith, rest, one, whole)
+  -- after at least one byte, less of the text is left than before
+  left_shorter : (k : ℕ) (v u : Reading) (b : ℕ) (text : List ℕ) → v.rest.bytes ≡ b ∷ text → 0 < k → u.rest ≡ after k v.rest
+      → length u.rest.bytes < length v.rest.bytes
+  left_shorter k v u b text e some h =
+      let p : length u.rest.bytes ≡ length (drop k v.rest.bytes) = ap (λ (r : Left). length r.bytes) h in
+      let q : length v.rest.bytes ≡ suc (length text) = ap (λ bs. length bs) e in
+      omega (arith, p, q, some, length-drop k v.rest.bytes)
 
   -- a directive takes at least one byte, so the loop of `items` ends
   pub directed_shorter : (v u : Reading) (text : List ℕ) → v.rest.bytes ≡ ascii.percent ∷ text
       → directive_given outer c (lists, deep) v ≡ Ok u → length u.rest.bytes < length v.rest.bytes
-  directed_shorter v u text e h = by (d.directive lists deep c v.rest.at (drop 1 v.rest.bytes)) h
-    where
-      by : (r : Read Item) → directed v r ≡ Ok u → length u.rest.bytes < length v.rest.bytes
-      by (Took one k) g =
-          let p : item_after v.rest.at one (after k (after 1 v.rest)) v ≡ u = ok_same g in
-          subst (λ (x : Reading). length x.rest.bytes < length v.rest.bytes) p (shorter_after k v.rest ascii.percent text e)
-      by (Ends at) g = absurd cc
-      by (Stops n fault) g = absurd cc
+  directed_shorter v u text e h =
+      let g = given_took outer (after 1 v.rest) (λ one rest. item_after v.rest.at one rest v)
+      (d.directive lists deep c v.rest.at (drop 1 v.rest.bytes)) u h in
+      left_shorter (1 + g.1) v u ascii.percent text e (omega arith)
+      (sym (ap (λ (z : Reading). z.rest) g.3) ∙ sym (after_after 1 g.1 v.rest))
 
   -- after a run of plain bytes no more of the text is left than before
   pub plains_shorter : (kind : ListKind) (tail next : Tail) (v u : Reading) → plains_on kind tail v ≡ (next, u)
@@ -417,14 +370,6 @@ module _ (lists deep : Lists) (c : ListContext) (outer : Option ℕ) (inside : O
       by (suc k) g =
           let p : length (drop (suc k) v.rest.bytes) ≡ length u.rest.bytes = ap (λ z. length z.1.rest.bytes) g in
           omega (arith, p, length-drop (suc k) v.rest.bytes)
-
-  -- after at least one byte, less of the text is left than before
-  left_shorter : (k : ℕ) (v u : Reading) (b : ℕ) (text : List ℕ) → v.rest.bytes ≡ b ∷ text → 0 < k → u.rest ≡ after k v.rest
-      → length u.rest.bytes < length v.rest.bytes
-  left_shorter k v u b text e some h =
-      let p : length u.rest.bytes ≡ length (drop k v.rest.bytes) = ap (λ (r : Left). length r.bytes) h in
-      let q : length v.rest.bytes ≡ suc (length text) = ap (λ bs. length bs) e in
-      omega (arith, p, q, some, length-drop k v.rest.bytes)
 
   -- an item that is no directive takes at least one byte, so the loop of `items` ends
   pub byte_shorter : (t : Bool) (tail next : Tail) (v u : Reading) (b : ℕ) (text : List ℕ) → v.rest.bytes ≡ b ∷ text

@@ -57,26 +57,18 @@ within_at words marks now place d e w h =
 pub part_kept : (words more : List ℕ) (a b : ℕ) → a ≤ b → b ≤ length words
     → take (b - a) (drop a (words ++ more)) ≡ take (b - a) (drop a words)
 part_kept words more a b h k =
-    ap (λ xs. take (b - a) xs) (drop-append-le a words more (omega arith))
-    ∙ take-append-le (b - a) (drop a words) more (omega (arith, length-drop a words))
+    cc (drop-append-le a words more (omega arith), take-append-le (b - a) (drop a words) more (omega (arith, length-drop a words)))
 
 -- labels stay what they are when words are added
 pub labels_kept : (words more : List ℕ) (marks : List LabelMark) → Within (length words) marks
     → marked_labels (words ++ more) marks ≡ marked_labels words marks
 labels_kept words more [] w = refl
-labels_kept words more (m ∷ marks) w =
-    ap (λ word. record { word = word; starred = m.starred; negated = m.negated; asks = m.asks; holds_star = m.holds_star }
-    ∷ marked_labels (words ++ more) marks) (part_kept words more m.start m.end w.0.0 w.0.1)
-    ∙ ap (λ ls. marked_label words m ∷ ls) (labels_kept words more marks w.1)
+labels_kept words more (m ∷ marks) w = cc (part_kept words more m.start m.end w.0.0 w.0.1, labels_kept words more marks w.1)
 
 -- what was added to the words is the word between their old end and their new one
 pub last_part : (words more : List ℕ) (a b : ℕ) → a ≡ length words → b ≡ length (words ++ more)
     → take (b - a) (drop a (words ++ more)) ≡ more
-last_part words more a b h k =
-    ap (λ n. take (b - n) (drop n (words ++ more))) h
-    ∙ ap (λ xs. take (b - length words) xs) (drop-append_seam words more)
-    ∙ ap (λ n. take n more) size
-    ∙ take-length more
+last_part words more a b h k = cc (h, drop-append_seam words more, size, take-length more)
   where
     size : b - length words ≡ length more
     size = omega (arith, length-append words more)
@@ -96,18 +88,8 @@ pub labels_push : (words more : List ℕ) (marks : List LabelMark) (start end : 
     } ∷ [])
     ≡ marked_labels words marks ++ part_label more starred negated asks ∷ []
 labels_push words more marks start end starred negated asks w h k =
-    map-append (λ m. marked_label (words ++ more) m) marks (record {
-      start = start;
-      end = end;
-      starred = starred;
-      negated = negated;
-      asks =
-          asks;
-      holds_star = false;
-    } ∷ [])
-    ∙ ap (λ ls. ls ++ part_label (take (end - start) (drop start (words ++ more))) starred negated asks ∷ [])
-    (labels_kept words more marks w)
-    ∙ ap (λ word. marked_labels words marks ++ part_label word starred negated asks ∷ []) (last_part words more start end h k)
+    cc (map-append (λ m. marked_label (words ++ more) m) marks (record { start = start; end = end; starred = starred; negated = negated;
+    asks = asks; holds_star = false; } ∷ []), labels_kept words more marks w, last_part words more start end h k)
 
 -- a word that is added in two parts, with a mark for both, is one label more
 pub labels_pushed : (words first second front word : List ℕ) (marks all : List LabelMark) (now : List Label) (start end : ℕ)
@@ -117,18 +99,7 @@ pub labels_pushed : (words first second front word : List ℕ) (marks all : List
     → all ≡ marks ++ record { start = start; end = end; starred = starred; negated = negated; asks = asks; holds_star = false } ∷ []
     → now ++ part_label (front ++ word) starred negated asks ∷ [] ≡ marked_labels second all
 labels_pushed words first second front word marks all now start end starred negated asks e w f g h k a =
-    ap (λ ls. ls ++ part_label (front ++ word) starred negated asks ∷ []) e
-    ∙ sym (labels_push words (front ++ word) marks start end starred negated asks w h (k ∙ ap (λ ws. length ws) whole))
-    ∙ ap (λ ws. marked_labels ws (marks ++ record {
-      start = start;
-      end = end;
-      starred = starred;
-      negated = negated;
-      asks =
-          asks;
-      holds_star = false;
-    } ∷ [])) (sym whole)
-    ∙ ap (λ ms. marked_labels second ms) (sym a)
+    cc (e, labels_push words (front ++ word) marks start end starred negated asks w h (k ∙ ap (λ ws. length ws) whole), whole, a)
   where
     whole : second ≡ words ++ (front ++ word)
     whole = g ∙ ap (λ ws. ws ++ word) f ∙ append_assoc words front word
@@ -150,28 +121,15 @@ pub labels_added : (words second word : List ℕ) (marks all : List LabelMark) (
     → all ≡ marks ++ record { start = start; end = end; starred = starred; negated = negated; asks = asks; holds_star = false } ∷ []
     → now ++ part_label word starred negated asks ∷ [] ≡ marked_labels second all
 labels_added words second word marks all now start end starred negated asks e w f h k a =
-    ap (λ ls. ls ++ part_label word starred negated asks ∷ []) e
-    ∙ sym (labels_push words word marks start end starred negated asks w h (k ∙ ap (λ ws. length ws) f))
-    ∙ ap (λ ws. marked_labels ws (marks ++ record {
-      start = start;
-      end = end;
-      starred = starred;
-      negated = negated;
-      asks =
-          asks;
-      holds_star = false;
-    } ∷ [])) (sym f)
-    ∙ ap (λ ms. marked_labels second ms) (sym a)
+    cc (e, labels_push words word marks start end starred negated asks w h (k ∙ ap (λ ws. length ws) f), f, a)
 
 -- a mark for no bytes is one label more that names nothing (`push_none`)
 pub labels_none : (words : List ℕ) (marks all : List LabelMark) (now : List Label) → now ≡ marked_labels words marks
     → all ≡ marks ++ record { start = 0; end = 0; starred = false; negated = false; asks = asking.Switch; holds_star = false } ∷ []
     → now ++ no_label ∷ [] ≡ marked_labels words all
 labels_none words marks all now e a =
-    ap (λ ls. ls ++ no_label ∷ []) e
-    ∙ sym (map-append (λ m. marked_label words m) marks
-    (record { start = 0; end = 0; starred = false; negated = false; asks = asking.Switch; holds_star = false } ∷ []))
-    ∙ ap (λ ms. marked_labels words ms) (sym a)
+    cc (e, map-append (λ m. marked_label words m) marks (record { start = 0; end = 0; starred = false; negated = false; asks =
+    asking.Switch; holds_star = false } ∷ []), a)
 
 -- the first n marks are the first n labels (`truncate`)
 pub labels_take : (words : List ℕ) (n : ℕ) (marks : List LabelMark) → marked_labels words (take n marks)
@@ -217,8 +175,7 @@ run_at words (b ∷ run) start h =
     ∙ run_at (words ++ b ∷ []) run (start + 1) (omega (arith, h, length-append words (b ∷ []))))
   where
     first : take (start + 1 - start) (drop start (words ++ b ∷ run)) ≡ b ∷ []
-    first = ap (λ n. take n (drop start (words ++ b ∷ run))) one ∙ ap (λ n. take 1 (drop n (words ++ b ∷ run))) h
-        ∙ ap (λ xs. take 1 xs) (drop-append_seam words (b ∷ run))
+    first = cc (one, h, drop-append_seam words (b ∷ run))
       where
         one : start + 1 - start ≡ 1
         one = omega arith
@@ -228,12 +185,8 @@ pub labels_run : (words second run : List ℕ) (start : ℕ) (marks all : List L
     → Within (length words) marks → second ≡ words ++ run → start ≡ length words
     → all ≡ marks ++ byte_marks start run → now ++ byte_labels run ≡ marked_labels second all
 labels_run words second run start marks all now e w f h a =
-    ap (λ ls. ls ++ byte_labels run) e
-    ∙ ap (λ ls. ls ++ byte_labels run) (sym (labels_kept words run marks w))
-    ∙ ap (λ ls. marked_labels (words ++ run) marks ++ ls) (sym (run_at words run start h))
-    ∙ sym (map-append (λ m. marked_label (words ++ run) m) marks (byte_marks start run))
-    ∙ ap (λ ws. marked_labels ws (marks ++ byte_marks start run)) (sym f)
-    ∙ ap (λ ms. marked_labels second ms) (sym a)
+    cc (e, labels_kept words run marks w, run_at words run start h, map-append (λ m. marked_label (words ++ run) m) marks (byte_marks
+    start run), f, a)
 
 -- a step of the loop of `push_marks` keeps the list of marks that the loop leads to
 pub marks_step : (old new all : List LabelMark) (place i : ℕ) (run : List ℕ) → i < length run
@@ -241,15 +194,5 @@ pub marks_step : (old new all : List LabelMark) (place i : ℕ) (run : List ℕ)
     ∷ []
     → old ++ byte_marks place (drop i run) ≡ all → new ++ byte_marks (place + 1) (drop (i + 1) run) ≡ all
 marks_step old new all place i run h e f =
-    ap (λ ms. ms ++ byte_marks (place + 1) (drop (i + 1) run)) e
-    ∙ append_assoc old (record {
-      start = place;
-      end = place + 1;
-      starred = false;
-      negated = false;
-      asks = asking.Switch;
-      holds_star =
-          false;
-    } ∷ []) (byte_marks (place + 1) (drop (i + 1) run))
-    ∙ ap (λ bs. old ++ byte_marks place bs) (sym (drop_more run i 0 h))
-    ∙ f
+    cc (e, append_assoc old (record { start = place; end = place + 1; starred = false; negated = false; asks = asking.Switch; holds_star =
+    false; } ∷ []) (byte_marks (place + 1) (drop (i + 1) run)), drop_more run i 0 h, f)

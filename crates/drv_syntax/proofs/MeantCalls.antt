@@ -132,8 +132,7 @@ module _ {X : Type 0} (make : List ℕ → Items → X) (g : ListContext) (inner
       goes called k t =
           subst (λ (r : Read X). CallMeant n text r)
           (past_then k (lists (in_arguments g) (n + k) (drop k text)) (λ list size. Took (make called list.0) (size + 1)))
-          (meant_past AtByte n k text t.step CallIs CallCuts (CallBad g at) (arguments_meant called (n + k) (drop k text))
-          (λ total u x q near place i.
+          (meant_past AtByte n k text t.step _ _ _ (arguments_meant called (n + k) (drop k text)) (λ total u x q near place i.
           let name = t.is total u near (moved total u place) in
           (called, i.0, i.1, subst (λ (v : List ℕ). IsCall total g v called i.0 q) (sym name.0) (s.call inner name.1 i.2)))
           (λ total u near place i.

@@ -346,8 +346,7 @@ module _ (at : ℕ) (g : ListContext) where
     joins e p h f =
         subst (λ (z : Read Form). FormMeant order n (b ∷ text) z)
         (past_then (k + 1) ps (λ rest size. Took (Patterns ((tr.place, p) ∷ rest)) size))
-        (meant_byte AtByte n b k text end.0 38 t.step (there 38 e) (λ total u form q. IsForm total g order u form q)
-        (λ total u. TestCuts total g order u) (λ total u fault. TestBad at total g order u fault) joined
+        (meant_byte AtByte n b k text end.0 38 t.step (there 38 e) _ _ _ joined
         (λ total u form q near place z. subst (λ (y : Form). IsForm total g order (t.step.front (38 ∷ u)) y q) (sym z.1)
         (subst (λ (y : List ℕ). IsForm total g order (t.step.front (38 ∷ u)) (Patterns ((tr.place, p) ∷ z.0)) y) (sym z.3)
         (form_patterns front (emitted_next (tried_pattern (t.is total (38 ∷ u) near place) h f) z.4))))
@@ -384,8 +383,7 @@ module _ (at : ℕ) (g : ListContext) where
     bars e a f =
         subst (λ (z : Read Form). FormMeant order n (b ∷ text) z)
         (past_then (k + 1) others (λ form size. Took (d.with_test tr.place tr.negated a form) size))
-        (meant_byte AtByte n b k text end.0 124 t.step (there 124 e) (λ total u form q. IsForm total g order u form q)
-        (λ total u. TestCuts total g order u) (λ total u fault. TestBad at total g order u fault) barred
+        (meant_byte AtByte n b k text end.0 124 t.step (there 124 e) _ _ _ barred
         (λ total u form q near place z. subst (λ (y : Form). IsForm total g order (t.step.front (124 ∷ u)) y q) (sym z.1)
         (with_more (tried_asked (t.is total (124 ∷ u) near place) f) z.2))
         (λ total u near place z. cut_more (tried_asked (t.is total (124 ∷ u) near place) f) z)

@@ -1,5 +1,5 @@
 use Rattle.drv_words.specs.Bytes as ascii
-use Rattle.drv_syntax.proofs.Depth.{depth_is}
+use Rattle.drv_syntax.proofs.Depth.{all_levels, depth_is}
 use Rattle.drv_syntax.proofs.Leads.{differs, not_of, same}
 use Rattle.drv_syntax.proofs.Meant.{AtByte, Meant, PastPercent, Takes, breaks_here, choose, meant_after, meant_as, meant_ends, meant_far}
 use Rattle.drv_syntax.proofs.Meant.{meant_past, meant_stops, meant_then, meant_took}
@@ -123,8 +123,7 @@ module _ (lists deep : Lists) (c : ListContext) (meets : (c.levels == 0) ≡ fal
 
     -- a directive whose text after its byte is meant is meant
     through : {f : Directive} {x : Read Item} → directive_of b ≡ f → DirMeant c n f (n + 1 + 1) text x → ByteMeant x
-    through {f} e i = meant_past PastPercent (n + 1) 1 (b ∷ text) (byte_step b text) (λ total t x q. IsItem total c (37 ∷ t) x q)
-        (λ total t. CutsItem total c (37 ∷ t)) (λ total t fault. ItemBad c total (37 ∷ t) fault) i
+    through {f} e i = meant_past PastPercent (n + 1) 1 (b ∷ text) (byte_step b text) _ _ _ i
         (λ total t x q near place j. s.directive al (subst (λ (g : Directive). IsDirective total c g t x q) (sym e) j))
         (λ total t near place j. cuts.cut_directive al (subst (λ (g : Directive). CutsDirective total c g t) (sym e) j))
         (λ total t fault near place j. burst_item e al (omega (arith, place)) j)
@@ -347,29 +346,9 @@ with_meets level lists deep meets deeper c is n text = from_start (items_read li
     (subst (λ (l : ℕ). (l == 0) ≡ false → Listed (l - 1) lists) (sym is) meets)
     (subst (λ (l : ℕ). (l - 1 == 0) ≡ false → Listed (l - 1 - 1) deep) (sym is) deeper) text n 0)
 
--- the lists with so many levels, and those in them, are what the grammar says
-abbrev AllListed : ℕ → Type 0
-AllListed level = Listed level (levels level).0 × Listed (level - 1) (levels level).1
-
--- lists with any number of levels are what the grammar says, by induction over the levels
-levels_read : (level : ℕ) → AllListed level
-levels_read zero = (
-  with_meets 0 d.no_lists d.no_lists (λ h. absurd cc) (λ h. absurd cc),
-  with_meets 0 d.no_lists d.no_lists (λ h. absurd cc) (λ h. absurd cc),
-)
-levels_read (suc level) =
-    let m : AllListed level = levels_read level in (
-      with_meets (suc level) (levels level).0 (levels level).1 (λ h. subst (λ (l : ℕ). Listed l (levels level).0) one_less m.0)
-          (λ h. subst (λ (l : ℕ). Listed (l - 1) (levels level).1) one_less m.1),
-      subst (λ (l : ℕ). Listed l (levels level).0) one_less m.0,
-    )
-  where
-    one_less : level ≡ suc level - 1
-    one_less = omega arith
-
 -- a whole text, which may have 64 levels
 from_top : (level : ℕ) → level ≡ 64 → (text : List ℕ) → ListMeant top 0 text ((levels level).0 top 0 text)
-from_top level e text = (levels_read level).0 top (sym e) 0 text
+from_top level e text = (all_levels (λ l lists. Listed l lists) with_meets level).0 top (sym e) 0 text
 
 -- a whole text is what the grammar says of a list with 64 levels
 pub text_read : (text : List ℕ) → ListMeant top 0 text ((levels (depth text)).0 top 0 text)

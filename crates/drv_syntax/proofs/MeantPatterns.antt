@@ -213,9 +213,7 @@ module _ (at : ℕ) where
       (λ e. choose (PatternsMeant n (b ∷ text)) (x.1 == ascii.ampersand) _ _
       (λ f. subst (λ (z : Read (List (Span × Pattern))). PatternsMeant n (b ∷ text) z)
       (past_then (k + 1) others (λ ps size. Took (x.0 ∷ ps) size))
-      (meant_byte AtByte n b k text end.0 38 t.step (end.1 ∙ ap (λ (y : ℕ). y ∷ end.0) (same x.1 38 f))
-      (λ total t ps q. (rest : List ℕ) × (q ≡ ascii.closing_brace ∷ rest) × ArePatterns total t ps rest) (λ total t. CutsPatterns t)
-      PatternsBad (grown others i)
+      (meant_byte AtByte n b k text end.0 38 t.step (end.1 ∙ ap (λ (y : ℕ). y ∷ end.0) (same x.1 38 f)) _ _ _ (grown others i)
       (λ total u ps q near place j. subst (λ (v : List (Span × Pattern)). (rest : List ℕ) × (q ≡ ascii.closing_brace ∷ rest)
       × ArePatterns total (t.step.front (38 ∷ u)) v rest) (sym j.1) (j.2, j.3, next_one (t.is total (38 ∷ u) near place) j.4))
       (λ total u near place j. cut_next (t.is total (38 ∷ u) near place) j)

@@ -228,9 +228,8 @@ module _ (deep : Lists) (c : ListContext) (outer : (c.levels == 0) ≡ false)
 
         inside : AskedMeant n (37 ∷ 58 ∷ text) (past 1 (past 1 (d.within at (then_read (d.function_from n (n + 2) [] text)
             (d.result_in deep c (n + 2) text)))))
-        inside = meant_past AtByte n 1 (37 ∷ 58 ∷ text) (byte_step 37 (58 ∷ text)) AskedIs AskedCuts Bad
-            (meant_past AtByte (n + 1) 1 (58 ∷ text) (byte_step 58 text) (λ total t o q. AskedIs total (37 ∷ t) o q)
-            (λ total t. AskedCuts total (37 ∷ t)) (λ total t fault. Bad total (37 ∷ t) fault)
+        inside = meant_past AtByte n 1 (37 ∷ 58 ∷ text) (byte_step 37 (58 ∷ text)) _ _ _
+            (meant_past AtByte (n + 1) 1 (58 ∷ text) (byte_step 58 text) _ _ _
             (subst (λ (i : ℕ). CallMeant d.result_operand (in_braces c) e deep (meets e) n i text
             (d.within at (then_read (d.function_from n (n + 2) [] text) (d.result_in deep c (n + 2) text)))) two
             (call_meant d.result_operand (in_braces c) e deep (meets e) n (n + 2) text at))
@@ -413,10 +412,7 @@ module _ (deep : Lists) (c : ListContext) (outer : (c.levels == 0) ≡ false)
       → FromMeant start negated n text (d.asked_from deep c at order start negated n text)
   from_meant start negated n text w f = meant_then
       (λ operand k. past k (d.ended at (span start (n + k)) negated operand (drop k text)))
-      (asked_meant deep c outer meets at order negated n text w f)
-      (λ o k t. meant_past AtByte n k text t.step (λ total u tr q. TriedFrom total (in_braces c) order start negated u tr q)
-      (λ total u. FromCuts total (in_braces c) (may_emit order negated) u)
-      (λ total u fault. AskedBad at total (in_braces c) order negated u fault)
+      (asked_meant deep c outer meets at order negated n text w f) (λ o k t. meant_past AtByte n k text t.step _ _ _
       (byte_meant {Y = Tried} at (λ b. record { place = span start (n + k); negated = negated; operand = o; byte = b })
       (λ rest. d.end_byte at (span start (n + k)) negated o rest) refl (λ b rest. refl) (n + k) (drop k text))
       (λ total u tr q near place i. from_end (t.is total u near (omega (arith, place, t.step.sized u))) place i)
@@ -442,10 +438,7 @@ module _ (deep : Lists) (c : ListContext) (outer : (c.levels == 0) ≡ false)
   not_meant : (start n : ℕ) (text : List ℕ) → start + 1 ≡ n → NotMeant start n text
       (d.negated_after deep c at order start (prefix_len is_white text) text)
   not_meant start n text e = meant_past AtByte n (prefix_len is_white text) text w.0
-      (λ total t tr q. (v : List ℕ) × AreSpaces t v × TriedFrom total (in_braces c) order start true v tr q)
-      (λ total t. (v : List ℕ) × AreSpaces t v × FromCuts total (in_braces c) (may_emit order true) v)
-      (λ total t fault. (v : List ℕ) × AreSpaces t v × AskedBad at total (in_braces c) order true v fault)
-      (subst (λ (i : ℕ). FromMeant start true (i + prefix_len is_white text) (drop (prefix_len is_white text) text)
+      _ _ _ (subst (λ (i : ℕ). FromMeant start true (i + prefix_len is_white text) (drop (prefix_len is_white text) text)
       (d.asked_from deep c at order start true (start + 1 + prefix_len is_white text) (drop (prefix_len is_white text) text))) e
       (from_meant start true (start + 1 + prefix_len is_white text) (drop (prefix_len is_white text) text) w.2
       (no_default order (drop (prefix_len is_white text) text))))
@@ -461,10 +454,7 @@ module _ (deep : Lists) (c : ListContext) (outer : (c.levels == 0) ≡ false)
   signed_meant n (b ∷ text) w f =
       choose (SignedMeant n n (b ∷ text)) (b == ascii.exclamation_mark) _ _
       (λ e. subst (λ (y : ℕ). SignedMeant n n (y ∷ text) (past 1 (d.negated_after deep c at order n (prefix_len is_white text) text)))
-      (sym (same b 33 e)) (meant_past AtByte n 1 (33 ∷ text) (byte_step 33 text)
-      (λ total t tr q. (negated : Bool) × (v : List ℕ) × IsSign t negated v × TriedFrom total (in_braces c) order n negated v tr q)
-      (λ total t. (negated : Bool) × (v : List ℕ) × IsSign t negated v × FromCuts total (in_braces c) (may_emit order negated) v)
-      (λ total t fault. (negated : Bool) × (v : List ℕ) × IsSign t negated v × AskedBad at total (in_braces c) order negated v fault)
+      (sym (same b 33 e)) (meant_past AtByte n 1 (33 ∷ text) (byte_step 33 text) _ _ _
       (not_meant n (n + 1) text refl) (λ total t tr q near place i. (true, i.0, s.not_sign i.1, i.2))
       (λ total t near place i. (true, i.0, s.not_sign i.1, i.2)) (λ total t fault near place i. (true, i.0, s.not_sign i.1, i.2))))
       (λ e. meant_as (from_meant n false n (b ∷ text) w f)
@@ -481,9 +471,7 @@ module _ (deep : Lists) (c : ListContext) (outer : (c.levels == 0) ≡ false)
   pub one_test_meant : (n : ℕ) (text : List ℕ) → s.Stops (is_default order false) (drop (prefix_len is_white text) text)
       → TestMeant n text (d.one_test deep c at order n text)
   one_test_meant n text f = meant_past AtByte n (prefix_len is_white text) text w.0
-      (λ total t tr q. IsTried total (in_braces c) order t tr q) (λ total t. TestCuts total (in_braces c) order t)
-      (λ total t fault. TestBad at total (in_braces c) order t fault)
-      (signed_meant (n + prefix_len is_white text) (drop (prefix_len is_white text) text) w.2 f)
+      _ _ _ (signed_meant (n + prefix_len is_white text) (drop (prefix_len is_white text) text) w.2 f)
       (λ total t tr q near place i. is_tried (w.1 t) place i.2 i.3) (λ total t near place i. test_cuts (w.1 t) i.2 i.3)
       (λ total t fault near place i. asked_test (w.1 t) i.2 i.3)
     where

@@ -1,3 +1,4 @@
+use Rattle.drv_syntax.proofs.Meant.{choose}
 use Rattle.drv_words.specs.Bytes as ascii
 use Rattle.drv_syntax.specs.Bytes.{is_name_byte, is_option, is_suffix}
 use Rattle.drv_syntax.specs.Code.Lists.{is_white_item}
@@ -49,27 +50,18 @@ then_white (Stops n fault) goes h = tt
 -- %g, %u, %U, %| and %m are no white space
 suffix_white : (kind : TempKind) (n : ℕ) (text : List ℕ) → NotWhite (d.suffix kind n text)
 suffix_white kind n [] = refl
-suffix_white kind n (b ∷ text) = by (is_suffix b)
+suffix_white kind n (b ∷ text) = choose NotWhite (is_suffix b) _ _ (λ e. refl) (λ e. object text)
   where
-    object : (t : Bool) (bs : List ℕ) → (b == ascii.percent) ≡ t → NotWhite (d.suffix_object kind n b bs)
-    object true [] e = rw e tt
-    object false [] e = rw e refl
-    object false (c ∷ bs) e = rw e refl
-    object true (c ∷ bs) e = rw e (by_o (c == ascii.capital_o))
-      where
-        by_o : (u : Bool) → NotWhite (if u then Took (TempName kind (codes ".o")) 2 else Took (TempName kind []) 0)
-        by_o true = refl
-        by_o false = refl
-
-    by : (t : Bool) → NotWhite (if t then Took (TempName kind (b ∷ take (prefix_len is_suffix text) text)) (1 + prefix_len is_suffix text)
-        else d.suffix_object kind n b text)
-    by true = refl
-    by false = object (b == ascii.percent) text refl
+    object : (bs : List ℕ) → NotWhite (d.suffix_object kind n b bs)
+    object [] = choose NotWhite (b == ascii.percent) _ _ (λ e. tt) (λ e. refl)
+    object (c ∷ bs) = choose NotWhite (b == ascii.percent) _ _
+        (λ e. choose NotWhite (c == ascii.capital_o) _ _ (λ f. refl) (λ f. refl)) (λ e. refl)
 
 -- %x{OPTION} is no white space
 option_white : (at n : ℕ) (text : List ℕ) → NotWhite (d.option at n text)
 option_white at n [] = tt
-option_white at n (b ∷ text) = by (b == ascii.opening_brace)
+option_white at n (b ∷ text) = choose NotWhite (b == ascii.opening_brace) _ _
+    (λ e. past_white 1 (d.option_text at (n + 1) (quoted is_option text) text) (inside (quoted is_option text))) (λ e. tt)
   where
     ended : (m : ℕ) (word : List ℕ) (size : ℕ) (bs : List ℕ) → NotWhite (d.option_end at m word size bs)
     ended m word size [] = tt
@@ -79,10 +71,6 @@ option_white at n (b ∷ text) = by (b == ascii.opening_brace)
     inside : (q : Quoted) → NotWhite (d.option_text at (n + 1) q text)
     inside (Hangs size) = tt
     inside (Run word size) = ended (n + 1) word size (drop size text)
-
-    by : (t : Bool) → NotWhite (if t then past 1 (d.option_text at (n + 1) (quoted is_option text) text) else Stops n (BadDirective at))
-    by true = past_white 1 (d.option_text at (n + 1) (quoted is_option text) text) (inside (quoted is_option text))
-    by false = tt
 
 -- %e and %n are no white space
 saying_white : (list : Kind) (kind : SayKind) (n : ℕ) (text : List ℕ) → NotWhite (d.saying list kind n text)
@@ -94,11 +82,8 @@ saying_white list kind n text = by (quoted (is_said list) text)
 
     ended : (word : List ℕ) (size : ℕ) (bs : List ℕ) → NotWhite (d.saying_end kind word size bs)
     ended word size [] = said_white kind word
-    ended word size (b ∷ bs) = newline (b == ascii.newline)
-      where
-        newline : (t : Bool) → NotWhite (if t then Took (said kind word) (size + 1) else Took (said kind word) size)
-        newline true = said_white kind word
-        newline false = said_white kind word
+    ended word size (b ∷ bs) =
+        choose NotWhite (b == ascii.newline) _ _ (λ e. said_white kind word) (λ e. said_white kind word)
 
     by : (q : Quoted) → NotWhite (d.saying_text kind n q text)
     by (Hangs size) = tt
@@ -107,32 +92,20 @@ saying_white list kind n text = by (quoted (is_said list) text)
 -- %(NAME) is no white space
 name_white : (at n : ℕ) (name text : List ℕ) → NotWhite (d.name_from at n name text)
 name_white at n name [] = tt
-name_white at n name (b ∷ text) = by (is_name_byte b) (nat_le (length (name ++ b ∷ [])) 255) (name_white at (n + 1) (name ++ b ∷ []) text)
+name_white at n name (b ∷ text) = choose NotWhite (is_name_byte b) _ _
+    (λ e. choose NotWhite (nat_le (length (name ++ b ∷ [])) 255) _ _
+    (λ f. past_white 1 (d.name_from at (n + 1) (name ++ b ∷ []) text) (name_white at (n + 1) (name ++ b ∷ []) text)) (λ f. tt))
+    (λ e. ended name)
   where
     ended : (q : List ℕ) → NotWhite (d.name_end at n q 0 (b ∷ text))
     ended [] = tt
-    ended (x ∷ q) = close (b == ascii.closing_parenthesis)
-      where
-        close : (t : Bool) → NotWhite (if t then Took (NamedText (x ∷ q)) (0 + 1) else Stops (n + 0) (BadDirective at))
-        close true = refl
-        close false = tt
-
-    by : (t u : Bool) → NotWhite (d.name_from at (n + 1) (name ++ b ∷ []) text)
-        → NotWhite (if t then (if u then past 1 (d.name_from at (n + 1) (name ++ b ∷ []) text) else Stops n (BadDirective at))
-        else d.name_end at n name 0 (b ∷ text))
-    by true true ih = past_white 1 (d.name_from at (n + 1) (name ++ b ∷ []) text) ih
-    by true false ih = tt
-    by false u ih = ended name
+    ended (x ∷ q) = choose NotWhite (b == ascii.closing_parenthesis) _ _ (λ e. refl) (λ e. tt)
 
 -- a directive whose % has the place `at`, in a list with the context c
 module _ (lists deep : Lists) (c : ListContext) (at : ℕ) where
   -- what braces or arguments give is no white space, whether a level is left or not
   nested_white : (n : ℕ) (r : Read Item) → NotWhite r → NotWhite (d.nested c.levels at n r)
-  nested_white n r h = by (c.levels == 0)
-    where
-      by : (t : Bool) → NotWhite (if t then Stops n (TooNested at) else r)
-      by true = tt
-      by false = h
+  nested_white n r h = choose NotWhite (c.levels == 0) _ _ (λ e. tt) (λ e. h)
 
   -- braces are no white space
   braced_white : (kind : BraceKind) (n : ℕ) (text : List ℕ) → NotWhite (d.braces lists deep c at kind n text)
@@ -147,11 +120,8 @@ module _ (lists deep : Lists) (c : ListContext) (at : ℕ) where
   -- %W and %@ are no white space
   marked_white : (kind : BraceKind) (n : ℕ) (text : List ℕ) → NotWhite (d.marked_braces lists deep c at kind n text)
   marked_white kind n [] = tt
-  marked_white kind n (b ∷ text) = by (b == ascii.opening_brace)
-    where
-      by : (t : Bool) → NotWhite (if t then past 1 (d.braces lists deep c at kind (n + 1) text) else Stops n (BadDirective at))
-      by true = past_white 1 (d.braces lists deep c at kind (n + 1) text) (braced_white kind (n + 1) text)
-      by false = tt
+  marked_white kind n (b ∷ text) = choose NotWhite (b == ascii.opening_brace) _ _
+      (λ e. past_white 1 (d.braces lists deep c at kind (n + 1) text) (braced_white kind (n + 1) text)) (λ e. tt)
 
   -- %* is no white space
   star_white : (n : ℕ) (owner : Owner) → NotWhite (d.star at n owner)
@@ -182,10 +152,6 @@ module _ (lists deep : Lists) (c : ListContext) (at : ℕ) where
 -- a directive, from its percent sign on, is no white space
 pub directive_white : (lists deep : Lists) (c : ListContext) (at : ℕ) (text : List ℕ) → NotWhite (d.directive lists deep c at text)
 directive_white lists deep c at [] = tt
-directive_white lists deep c at (b ∷ text) = by (is_allowed c.in_arguments b)
-  where
-    by : (t : Bool) → NotWhite (if t then past 1 (d.directive_by lists deep c at (at + 1) (directive_of b) text)
-        else Stops (at + 1) (BadDirective at))
-    by true = past_white 1 (d.directive_by lists deep c at (at + 1) (directive_of b) text)
-        (by_white lists deep c at (at + 1) (directive_of b) text)
-    by false = tt
+directive_white lists deep c at (b ∷ text) = choose NotWhite (is_allowed c.in_arguments b) _ _
+    (λ e. past_white 1 (d.directive_by lists deep c at (at + 1) (directive_of b) text)
+    (by_white lists deep c at (at + 1) (directive_of b) text)) (λ e. tt)

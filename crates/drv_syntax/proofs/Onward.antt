@@ -15,19 +15,25 @@ one_after k r =
 pub more_after : (k size : ℕ) (r : Left) → after (k + 1 + size) r ≡ after size (after 1 (after k r))
 more_after k size r = after_after (k + 1) size r ∙ ap (λ (x : Left). after size x) (after_after k 1 r)
 
--- so many bytes of patterns that are past are so many bytes less of the text
-patterns_skip : (at n k : ℕ) (text : List ℕ) → patterns at n k text ≡ patterns at (n + k) 0 (drop k text)
-patterns_skip at n zero [] = refl
-patterns_skip at n (suc k) [] = refl
-patterns_skip at n zero (b ∷ text) =
-    let i : n ≡ n + 0 = omega arith in
-    ap (λ (j : ℕ). patterns at j 0 (b ∷ text)) i
-patterns_skip at n (suc k) (b ∷ text) =
-    let i : n + 1 + k ≡ n + suc k = omega arith in
-    patterns_skip at (n + 1) k text ∙ ap (λ (j : ℕ). patterns at j 0 (drop k text)) i
+-- a function that skips the bytes of a text one by one, and gives the same wherever the text ends
+module _ {Y : Type 0} (f : ℕ → ℕ → List ℕ → Y) (goes : (n k b : ℕ) (text : List ℕ) → f n (suc k) (b ∷ text) ≡ f (n + 1) k text)
+    (ends : (n m : ℕ) → f n 0 [] ≡ f m 0 []) (ends_in : (n m k : ℕ) → f n (suc k) [] ≡ f m 0 []) where
+  -- so many bytes that are past are so many bytes less of the text
+  pub skip : (n k : ℕ) (text : List ℕ) → f n k text ≡ f (n + k) 0 (drop k text)
+  skip n zero [] = ends n (n + 0)
+  skip n (suc k) [] = ends_in n (n + suc k) k
+  skip n zero (b ∷ text) =
+      let i : n ≡ n + 0 = omega arith in
+      ap (λ (j : ℕ). f j 0 (b ∷ text)) i
+  skip n (suc k) (b ∷ text) =
+      let i : n + 1 + k ≡ n + suc k = omega arith in
+      goes n k b text ∙ skip (n + 1) k text ∙ ap (λ (j : ℕ). f j 0 (drop k text)) i
+
+  -- where k bytes after the first are past, the rest begins after these and one more
+  pub skip_on : (k : ℕ) (r : Left) → f (r.at + 1) k (drop 1 r.bytes) ≡ f (after 1 (after k r)).at 0 (after 1 (after k r)).bytes
+  skip_on k r = skip (r.at + 1) k (drop 1 r.bytes) ∙ ap (λ (x : Left). f x.at 0 x.bytes) (one_after k r)
 
 -- patterns of which k bytes are past are those that begin after these bytes and one more
 pub patterns_on : (at k : ℕ) (r : Left)
     → patterns at (r.at + 1) k (drop 1 r.bytes) ≡ patterns at (after 1 (after k r)).at 0 (after 1 (after k r)).bytes
-patterns_on at k r =
-    patterns_skip at (r.at + 1) k (drop 1 r.bytes) ∙ ap (λ (x : Left). patterns at x.at 0 x.bytes) (one_after k r)
+patterns_on at k r = skip_on (λ i j text. patterns at i j text) (λ n j b text. refl) (λ n m. refl) (λ n m j. refl) k r

@@ -33,9 +33,8 @@ use Rattle.std.specs.Prelude.{◌&&◌}
 pub tests_wrote : (ts : Tests) (x : Choice × Parts) → (tests_on x ts).1 ≡ wrote (test_nodes ts) (tests_have_star ts) x.1
 tests_wrote no_test x = sym (wrote_none x.1)
 tests_wrote (test s negated a ts) x =
-    tests_wrote ts (test_added x s negated a)
-    ∙ sym (wrote_both (node kinds.Test (test_label negated a) s (asked_nodes a) no_node) (test_nodes ts) (asked_has_star a)
-    (tests_have_star ts) x.1)
+    cc (tests_wrote ts (test_added x s negated a), wrote_both (node kinds.Test (test_label negated a) s (asked_nodes a) no_node)
+    (test_nodes ts) (asked_has_star a) (tests_have_star ts) x.1)
 
 -- b and true is b
 and_true : (b : Bool) → (b && true) ≡ b
@@ -65,9 +64,8 @@ with_starred c starred = record { part = c.part; label = c.label; starred = star
 pub tests_choice : (ts : Tests) (x : Choice × Parts) → (tests_on x ts).0 ≡ with_starred x.0 (x.0.starred && all_starred ts)
 tests_choice no_test x = ap (λ b. with_starred x.0 b) (sym (and_true x.0.starred))
 tests_choice (test s negated a ts) x =
-    tests_choice ts (test_added x s negated a)
-    ∙ ap (λ b. with_starred x.0 b) (and_assoc x.0.starred (is_starred negated a) (all_starred ts)
-    ∙ ap (λ b. x.0.starred && b) (starred_more s negated a ts))
+    cc (tests_choice ts (test_added x s negated a), and_assoc x.0.starred (is_starred negated a) (all_starred ts), starred_more s negated
+    a ts)
 
 -- white space at the end of a list
 
@@ -116,9 +114,7 @@ ended_by tail (more s item items) z = record {
 ended_is : (items : Items) (tail : Tail) (z : Parts) → tail_on tail items z ≡ ended_by tail (trimmed items) z
 ended_is none tail z = refl
 ended_is (more s item items) tail z =
-    ended_is items (tail_after item tail s.end next) next
-    ∙ by (is_white_item item) (trimmed items)
-    ∙ ap (λ (x : Items). ended_by tail x z) (sym (kept_is s item (trimmed items)))
+    cc (ended_is items (tail_after item tail s.end next) next, by (is_white_item item) (trimmed items), kept_is s item (trimmed items))
   where
     next : Parts
     next = item_written s.start item s.end z
@@ -185,16 +181,14 @@ module _ (z : Parts) (start place : ℕ) (ts : Tests) (items : Items) where
   -- the tokens that the code keeps are those without the white space at the end
   kept_tokens : take (tail_on begun items (unheld asked)).tokens whole.tokens ≡ list.tokens
   kept_tokens =
-      ap (λ (t : Tail). take t.tokens whole.tokens) tail_is
-      ∙ ap (λ (n : ℕ). take n whole.tokens) (size_of (trimmed items))
-      ∙ cut list.tokens whole.tokens (trims items (unheld asked)).tokens (trims items (unheld asked)).tokens_are
+      cc (tail_is, size_of (trimmed items), cut list.tokens whole.tokens (trims items (unheld asked)).tokens (trims items (unheld
+      asked)).tokens_are)
 
   -- the labels that the code keeps are those without the white space at the end
   kept_labels : take (tail_on begun items (unheld asked)).labels whole.labels ≡ list.labels
   kept_labels =
-      ap (λ (t : Tail). take t.labels whole.labels) tail_is
-      ∙ ap (λ (n : ℕ). take n whole.labels) (labels_of (trimmed items))
-      ∙ cut list.labels whole.labels (trims items (unheld asked)).labels (trims items (unheld asked)).labels_are
+      cc (tail_is, labels_of (trimmed items), cut list.labels whole.labels (trims items (unheld asked)).labels (trims items (unheld
+      asked)).labels_are)
 
   -- the tests and the list are one list of parts
   list_is : list ≡ wrote (nodes_of (trimmed items)) (has_star (trimmed items)) (unheld asked)
@@ -202,8 +196,7 @@ module _ (z : Parts) (start place : ℕ) (ts : Tests) (items : Items) where
 
   -- the tests and then the X, written one after the other, are both written at once
   one_list : wrote inner (tests_have_star ts) front ≡ wrote (nodes_of (trimmed items)) false asked
-  one_list = ap (λ (h : Bool). wrote inner h front) (sym (none_more (tests_have_star ts)))
-      ∙ wrote_both (test_nodes ts) (nodes_of (trimmed items)) (tests_have_star ts) false front
+  one_list = cc (none_more (tests_have_star ts), wrote_both (test_nodes ts) (nodes_of (trimmed items)) (tests_have_star ts) false front)
     where
       none_more : (h : Bool) → (h || false) ≡ h
       none_more true = refl
@@ -236,10 +229,8 @@ module _ (z : Parts) (start place : ℕ) (ts : Tests) (items : Items) where
   closed_labels : (l : Label) → l ≡ alternative_label (trimmed items) → set list.labels (length z.labels) l
       ≡ (choice_written (span start end) ts (trimmed items) z).labels
   closed_labels l e =
-      ap (λ xs. set xs (length z.labels) l) (labels_is ∙ append_assoc z.labels (no_label ∷ []) (labels inner))
-      ∙ set-append_seam z.labels no_label (labels inner) l
-      ∙ ap (λ (x : Label). z.labels ++ x ∷ labels inner) e
-      ∙ ap (λ xs. z.labels ++ alternative_label (trimmed items) ∷ xs) (sym (append-nil (labels inner)))
+      cc (labels_is, append_assoc z.labels (no_label ∷ []) (labels inner), set-append_seam z.labels no_label (labels inner) l, e,
+      append-nil (labels inner))
 
   -- an alternative that the code opens, fills and cuts at its tail is the alternative of the tree, written at once
   pub choice_owned : (starred : Bool)
@@ -247,15 +238,7 @@ module _ (z : Parts) (start place : ℕ) (ts : Tests) (items : Items) where
       (tail_on begun items (unheld asked)) asked.holds whole
       ≡ choice_written (span start end) ts (trimmed items) z
   choice_owned starred =
-      ap (λ (n : ℕ). parts_of (set (take tail.tokens whole.tokens) (length z.tokens)
-      (whole_token kinds.Alternative start n (length (take tail.tokens whole.tokens))))
-      (set (take tail.labels whole.labels) (length z.labels) (star_label whole.holds)) asked.holds)
-      (ap (λ (t : Tail). t.kept) tail_is ∙ end_of (trimmed items))
-      ∙ ap (λ xs. parts_of (set xs (length z.tokens) (whole_token kinds.Alternative start end (length xs)))
-      (set (take tail.labels whole.labels) (length z.labels) (star_label whole.holds)) asked.holds) kept_tokens
-      ∙ ap (λ xs. parts_of xs (set (take tail.labels whole.labels) (length z.labels) (star_label whole.holds)) asked.holds) closed_tokens
-      ∙ ap (λ xs. parts_of (choice_written (span start end) ts (trimmed items) z).tokens xs asked.holds)
-      (ap (λ xs. set xs (length z.labels) (star_label whole.holds)) kept_labels ∙ closed_labels (star_label whole.holds) label_is)
+      cc (tail_is, end_of (trimmed items), kept_tokens, closed_tokens, kept_labels, closed_labels (star_label whole.holds) label_is)
     where
       tail : Tail
       tail = tail_on begun items (unheld asked)

@@ -80,6 +80,12 @@ byte_next text size e f =
     let one : size + 1 ≡ suc size = omega arith in
     (ap (λ (i : ℕ). drop i text) (sym one) ∙ sym (drop-drop 1 size text) ∙ ap (λ (t : List ℕ). drop 1 t) e, omega (arith, f))
 
+-- the rest after j bytes, one more and then k bytes is that after k bytes of what follows the first j + 1
+pub beyond : (text : List ℕ) {mid rest : List ℕ} (j k : ℕ) → drop (suc j) text ≡ mid → drop k mid ≡ rest → drop (j + 1 + k) text ≡ rest
+beyond text j k e f =
+    let one : suc j ≡ j + 1 = omega arith in
+    sym (drop-drop k (j + 1) text) ∙ ap (λ (x : List ℕ). drop k x) (ap (λ (i : ℕ). drop i text) (sym one) ∙ e) ∙ f
+
 -- a function that skips k bytes of a text one by one gives what it gives for the rest after them
 pub skipped : {Y : Type 0} (f : ℕ → ℕ → List ℕ → Y) → ((n k b : ℕ) (text : List ℕ) → f n (suc k) (b ∷ text) ≡ f (n + 1) k text)
     → (n k : ℕ) (text rest : List ℕ) → drop k text ≡ rest → length text ≡ k + length rest → f n k text ≡ f (n + k) 0 rest
@@ -103,14 +109,15 @@ pub record RunsTo (f : ℕ → Bool) (text word rest : List ℕ) : Type 0 where
 run_word : {v w : List ℕ} {i j : ℕ} → Run v i ≡ Run w j → (v ≡ w) × (i ≡ j)
 run_word e = (cc, cc)
 
+-- a byte that begins no run gives a run of no bytes
+pub none_quoted : (f : ℕ → Bool) {b : ℕ} (q : List ℕ) → (b == ascii.backslash) ≡ false → f b ≡ false → quoted f (b ∷ q) ≡ Run [] 0
+none_quoted f [] e g = rw (e, g) refl
+none_quoted f (c ∷ q) e g = rw (e, g) refl
+
 -- a run of bytes and escapes by the grammar is the one that `quoted` of Descent takes
 pub runs_to : {f : ℕ → Bool} {text word rest : List ℕ} → IsQuoted f text word rest → RunsTo f text word rest
 runs_to s.quoted_end = record { size = 0; is = refl; left = refl; fits = omega arith }
-runs_to {f} (s.quoted_stop {b} {rest} e g) = record { size = 0; is = none rest; left = refl; fits = omega arith }
-  where
-    none : (rest : List ℕ) → quoted f (b ∷ rest) ≡ Run [] 0
-    none [] = rw (e, g) refl
-    none (c ∷ rest) = rw (e, g) refl
+runs_to {f} (s.quoted_stop {b} {rest} e g) = record { size = 0; is = none_quoted f rest e g; left = refl; fits = omega arith }
 runs_to {f} (s.quoted_escape {b} {text} i) =
     let m = runs_to i in
     record {

@@ -1,3 +1,5 @@
+use Rattle.drv_syntax.proofs.Onward as onward
+use Rattle.drv_syntax.proofs.Onward.{more_after}
 use Rattle.drv_words.specs.Bytes as ascii
 use Rattle.drv_syntax.proofs.GivenParts.{given_parts, given_shorter, some_left}
 use Rattle.drv_syntax.proofs.Writing.{after_after, differs}
@@ -35,18 +37,6 @@ module _ (outer : Option ℕ) (at : ℕ) where
   abbrev joined : Reading → Result Reading SyntaxFault
   joined v = patterns_given outer v (patterns at v.rest.at 0 v.rest.bytes)
 
-  -- so many bytes of patterns that are past are so many bytes less of the text
-  skip_patterns : {Z : Type 0} (rest : Left) (g : List (Span × Pattern) → Left → Z) (n k : ℕ) (text : List ℕ)
-      → given outer rest g (patterns at n k text) ≡ given outer rest g (patterns at (n + k) 0 (drop k text))
-  skip_patterns rest g n zero [] = refl
-  skip_patterns rest g n (suc k) [] = refl
-  skip_patterns rest g n zero (b ∷ text) =
-      let i : n ≡ n + 0 = omega arith in
-      ap (λ (j : ℕ). given outer rest g (patterns at j 0 (b ∷ text))) i
-  skip_patterns rest g n (suc k) (b ∷ text) =
-      let i : n + 1 + k ≡ n + suc k = omega arith in
-      skip_patterns rest g (n + 1) k text ∙ ap (λ (j : ℕ). given outer rest g (patterns at j 0 (drop k text))) i
-
   -- the pattern is written, and the byte after it is taken
   abbrev written_on : Span × Pattern → Left → Reading → Reading
   written_on p rest v = record { rest = after 1 rest; parts = leafed kinds.Pattern (pattern_label p.1) p.0.start p.0.end v.parts }
@@ -59,10 +49,10 @@ module _ (outer : Option ℕ) (at : ℕ) where
       else Err (BadDirective at)
 
   -- after a pattern, a closing brace ends the patterns, an & leads to the next one, and any other byte is refused
-  byte_goes : (p : Span × Pattern) (k b x : ℕ) (text : List ℕ) (v : Reading) → v.rest.bytes ≡ b ∷ text
-      → given outer v.rest (patterns_on v.parts) (pattern_go at v.rest.at (p, x) k (patterns at (v.rest.at + 1) k text))
+  byte_goes : (p : Span × Pattern) (k x : ℕ) (v : Reading)
+      → given outer v.rest (patterns_on v.parts) (pattern_go at v.rest.at (p, x) k (patterns at (v.rest.at + 1) k (drop 1 v.rest.bytes)))
       ≡ byte_on p (after k v.rest) v x
-  byte_goes p k b x text v is = by (x == ascii.closing_brace) (x == ascii.ampersand)
+  byte_goes p k x v = by (x == ascii.closing_brace) (x == ascii.ampersand)
     where
       z : Parts
       z = leafed kinds.Pattern (pattern_label p.1) p.0.start p.0.end v.parts
@@ -70,34 +60,19 @@ module _ (outer : Option ℕ) (at : ℕ) where
       shift : (r : Read (List (Span × Pattern)))
           → given outer v.rest (patterns_on v.parts) (then_read r (λ ps size. Took (p ∷ ps) (k + 1 + size)))
           ≡ given outer (after 1 (after k v.rest)) (patterns_on z) r
-      shift (Took ps size) =
-          let l : after (k + 1 + size) v.rest ≡ after size (after 1 (after k v.rest)) = after_after (k + 1) size v.rest ∙ ap
-          (λ (r : Left). after size r) (after_after k 1 v.rest) in
-          ap (λ (r : Left). Ok (patterns_on z ps r)) l
+      shift (Took ps size) = ap (λ (r : Left). Ok (patterns_on z ps r)) (more_after k size v.rest)
       shift (Ends n) = refl
       shift (Stops n fault) = refl
 
-      left : drop k text ≡ drop 1 (drop k v.rest.bytes)
-      left =
-          let i : suc k ≡ k + 1 = omega arith in
-          ap (λ (j : ℕ). drop j (b ∷ text)) i ∙ sym (drop-drop 1 k (b ∷ text)) ∙ ap (λ bs. drop 1 (drop k bs)) (sym is)
-
-      place : v.rest.at + 1 + k ≡ v.rest.at + k + 1
-      place = omega arith
-
       by : (t u : Bool)
           → given outer v.rest (patterns_on v.parts) (if t then Took (p ∷ []) k else if u
-          then then_read (patterns at (v.rest.at + 1) k text)
+          then then_read (patterns at (v.rest.at + 1) k (drop 1 v.rest.bytes))
           (λ ps size. Took (p ∷ ps) (k + 1 + size)) else Stops (v.rest.at + k) (BadDirective at))
           ≡ (if t then Ok (written_on p (after k v.rest) v) else if u then joined (written_on p (after k v.rest) v)
           else Err (BadDirective at))
       by true u = refl
       by false false = refl
-      by false true =
-          shift (patterns at (v.rest.at + 1) k text)
-          ∙ skip_patterns (after 1 (after k v.rest)) (patterns_on z) (v.rest.at + 1) k text
-          ∙ ap (λ (i : ℕ). given outer (after 1 (after k v.rest)) (patterns_on z) (patterns at i 0 (drop k text))) place
-          ∙ ap (λ bs. given outer (after 1 (after k v.rest)) (patterns_on z) (patterns at (v.rest.at + k + 1) 0 bs)) left
+      by false true = cc (shift (patterns at (v.rest.at + 1) k (drop 1 v.rest.bytes)), onward.patterns_on at k v.rest)
 
   -- what the patterns give after a pattern and white space, by what is left there
   abbrev next_on : Span × Pattern → Left → Reading → List ℕ → Result Reading SyntaxFault
@@ -146,9 +121,7 @@ module _ (outer : Option ℕ) (at : ℕ) where
       rest : after size v.rest ≡ after after_white (after k (after white v.rest))
       rest =
           let i : after_white + 0 ≡ after_white = omega arith in
-          ap (λ (j : ℕ). after (white + (k + j)) v.rest) i
-          ∙ after_after white (k + after_white) v.rest
-          ∙ after_after k after_white (after white v.rest)
+          cc (i, after_after white (k + after_white) v.rest, after_after k after_white (after white v.rest))
 
       by : (bs : List ℕ)
           → given outer v.rest (patterns_on z)
@@ -156,9 +129,7 @@ module _ (outer : Option ℕ) (at : ℕ) where
           (λ q i. pattern_go at n q i (patterns at (n + 1) i text)))
           ≡ next_on (place, p) (after after_white (after k (after white v.rest))) v bs
       by [] = refl
-      by (x ∷ bs) =
-          byte_goes (place, p) size b x text v refl
-          ∙ ap (λ (r : Left). byte_on (place, p) r v x) rest
+      by (x ∷ bs) = cc (byte_goes (place, p) size x v, rest)
 
   -- patterns give what their first pattern, from the rest after its white space, leads to
   joined_then : (n : ℕ) (bs : List ℕ) (z : Parts)
@@ -173,10 +144,7 @@ module _ (outer : Option ℕ) (at : ℕ) where
   -- patterns give what their first pattern, as the code has it, leads to
   from : (v : Reading) (r1 : Left) (x : Result (Pattern × Reading) SyntaxFault) → r1 ≡ spaced v.rest
       → pattern_given outer (at_rest r1 v) (pattern_at at r1.at r1.bytes) ≡ x → joined v ≡ pattern_then v x
-  from v r1 x e h =
-      joined_then v.rest.at v.rest.bytes v.parts
-      ∙ ap (λ (y : Result (Pattern × Reading) SyntaxFault). pattern_then v y)
-      (ap (λ (r : Left). pattern_given outer (at_rest r v) (pattern_at at r.at r.bytes)) (sym e) ∙ h)
+  from v r1 x e h = cc (joined_then v.rest.at v.rest.bytes v.parts, e, h)
 
   -- the fault of the first pattern is that of the patterns
   pub joined_stops : (v : Reading) (r1 : Left) (fault : SyntaxFault) → r1 ≡ spaced v.rest
@@ -189,54 +157,12 @@ module _ (outer : Option ℕ) (at : ℕ) where
       (k : end ≡ u.rest.at) where
     -- once their first pattern is read, the patterns give what is left after it and white space
     here : joined v ≡ next_on (span start end, p) r2 v r2.bytes
-    here =
-        from v r1 (Ok (p, u)) e h
-        ∙ ap (λ (r : Left). next_on (span (spaced v.rest).at u.rest.at, p) r v r.bytes) (sym f)
-        ∙ ap (λ (i : ℕ). next_on (span i u.rest.at, p) r2 v r2.bytes) (sym (g ∙ ap (λ (r : Left). r.at) e))
-        ∙ ap (λ (i : ℕ). next_on (span start i, p) r2 v r2.bytes) (sym k)
+    here = cc (from v r1 (Ok (p, u)) e h, f, e, g, k)
 
-    -- where the text ends after a pattern and white space, the braces are not closed
-    pub joined_cut : None ≡ first_of r2.bytes → joined v ≡ Err (Unclosed (open_at outer at))
-    joined_cut n = here ∙ by r2.bytes n
-      where
-        by : (bs : List ℕ) → None ≡ first_of bs → next_on (span start end, p) r2 v bs ≡ Err (Unclosed (open_at outer at))
-        by [] m = refl
-        by (x ∷ bs) m = absurd cc
-
-    -- where a byte is left there, the patterns give what this byte decides
-    byte_at : (b : ℕ) → Some b ≡ first_of r2.bytes → joined v ≡ byte_on (span start end, p) r2 v b
-    byte_at b n = here ∙ ap (λ bs. next_on (span start end, p) r2 v bs) (some_left r2.bytes b n)
-
-    -- after a pattern and white space, a byte that is neither a closing brace nor an & is refused
-    pub joined_bad : (b : ℕ) → Some b ≡ first_of r2.bytes → (b ≡ ascii.closing_brace → ⊥) → (b ≡ ascii.ampersand → ⊥)
-        → joined v ≡ Err (BadDirective at)
-    joined_bad b n i j =
-        let x : (b == ascii.closing_brace) ≡ false = differs b ascii.closing_brace i in
-        let y : (b == ascii.ampersand) ≡ false = differs b ascii.ampersand j in
-        byte_at b n ∙ rw (x, y) refl
-
-    -- the pattern is written, from its start to its end
-    abbrev here_on : Left → Reading
-    here_on rest = leaf_until kinds.Pattern (pattern_label p) start end (at_rest rest u)
-
-    -- the pattern that the code writes is this one
-    written_is : (rest : Left) → rest ≡ after 1 r2 → written_on (span start end, p) r2 v ≡ here_on rest
-    written_is rest l =
-        ap (λ (r : Left). record { rest = r; parts = leafed kinds.Pattern (pattern_label p) start end v.parts }) (sym l)
-        ∙ ap (λ (z : Parts). record { rest = rest; parts = leafed kinds.Pattern (pattern_label p) start end z })
-        (given_parts outer (at_rest r1 v) u p (pattern_at at r1.at r1.bytes) h)
-
-    -- after a pattern and white space, a closing brace ends the patterns, and the pattern is written as one token
-    pub joined_done : (b : ℕ) (rest : Left) → Some b ≡ first_of r2.bytes → b ≡ ascii.closing_brace → rest ≡ after 1 r2
-        → joined v ≡ Ok (here_on rest)
-    joined_done b rest n i l =
-        byte_at b n ∙ ap (λ (x : ℕ). byte_on (span start end, p) r2 v x) i ∙ ap (λ (x : Reading). Ok x) (written_is rest l)
-
-    -- after a pattern, white space and an &, the pattern is written, and the patterns give what those after it give
-    pub joined_goes : (b : ℕ) (rest : Left) → Some b ≡ first_of r2.bytes → b ≡ ascii.ampersand → rest ≡ after 1 r2
-        → joined v ≡ joined (here_on rest)
-    joined_goes b rest n i l =
-        byte_at b n ∙ ap (λ (x : ℕ). byte_on (span start end, p) r2 v x) i ∙ ap (λ (x : Reading). joined x) (written_is rest l)
+    -- after a pattern and white space, the patterns give what the byte there decides; the pattern is written
+    pub joined_by : (bs : List ℕ) → r2.bytes ≡ bs
+        → joined v ≡ next_on (span start end, p) r2 (record { rest = v.rest; parts = u.parts }) bs
+    joined_by bs n = rw (here, n, given_parts outer (at_rest r1 v) u p (pattern_at at r1.at r1.bytes) h) refl
 
     -- a pattern with the byte after it takes at least one byte, so the loop of `patterns` ends
     pub joined_shorter : (b : ℕ) (rest : Left) → Some b ≡ first_of r2.bytes → rest ≡ after 1 r2 → length rest.bytes < length v.rest.bytes

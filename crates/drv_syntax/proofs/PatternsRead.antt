@@ -1,6 +1,6 @@
 use Rattle.drv_syntax.proofs.Failing.{AtEnd, EndsOut, Failure, HangsOut, failed, past_fails, runs_out, then_fails}
 use Rattle.drv_syntax.proofs.Heads.{no_white, out_head, pattern_head}
-use Rattle.drv_syntax.proofs.PartsRead.{Reads, byte_next, pattern_reads, reads_after, reads_as, reads_past, skipped, spaces_to}
+use Rattle.drv_syntax.proofs.PartsRead.{Reads, beyond, byte_next, pattern_reads, reads_after, reads_as, reads_past, skipped, spaces_to}
 use Rattle.drv_syntax.specs.Bytes.{is_white, is_word}
 use Rattle.drv_syntax.specs.Descent as d
 use Rattle.drv_syntax.specs.Descent.{Ends, Read, Took, past, then_read}
@@ -78,9 +78,8 @@ module _ (at : ℕ) where
   one_fails f {t} {u} n sp w h =
       let m = spaces_to sp w in
       let white = prefix_len is_white t in
-      ap (λ (x : List ℕ). past white (there (n + white) x)) m.0
-      ∙ past_failed (then_fails f (λ p k. past k (byte_after (span (n + white) (n + white + k), p) (drop k u)))
-      (h (n + white) (omega (arith, m.1))))
+      rw (m.0, past_failed (then_fails f (λ p k. past k (byte_after (span (n + white) (n + white + k), p) (drop k u))) (h (n + white)
+      (omega (arith, m.1))))) refl
     where
       past_failed : {r : Read ((Span × Pattern) × ℕ)} → r ≡ failed f → past (prefix_len is_white t) r ≡ failed f
       past_failed e = past_fails f (prefix_len is_white t) e
@@ -97,9 +96,7 @@ module _ (at : ℕ) where
       → d.patterns at n 0 t ≡ d.pattern_go at n x m.size (d.patterns at (n + suc m.size) 0 q)
   patterns_go n {t} {q} {x} m =
       let e = byte_next t m.size m.left m.fits in
-      opening n t ∙ ap (λ r. then_read r (λ p k. d.pattern_go at n p k (d.patterns at n (suc k) t))) m.is
-      ∙ ap (λ ps. d.pattern_go at n x m.size ps)
-      (skipped (λ (i k : ℕ) (u : List ℕ). d.patterns at i k u) (λ i k b u. refl) n (suc m.size) t q e.0 e.1)
+      cc (opening n t, m.is, skipped (λ (i k : ℕ) (u : List ℕ). d.patterns at i k u) (λ i k b u. refl) n (suc m.size) t q e.0 e.1)
 
   -- the patterns fail as the first of them does
   pub patterns_fail : (f : Failure) (n : ℕ) (t : List ℕ) → one n t ≡ failed f → d.patterns at n 0 t ≡ failed f
@@ -112,28 +109,20 @@ module _ (at : ℕ) where
       let m = one_reads n sp i z refl in
       let x : m.0 ≡ first = omega (arith, place, a, m.2) in
       let y : m.1 ≡ last = omega (arith, place, b, m.3) in
-      subst (λ (k : ℕ). Reads (d.patterns at n 0 t) t ((span k last, p) ∷ []) (125 ∷ rest)) x
-      (subst (λ (k : ℕ). Reads (d.patterns at n 0 t) t ((span m.0 k, p) ∷ []) (125 ∷ rest)) y
-      (record { size = m.4.size; is = patterns_go n m.4; left = m.4.left; fits = m.4.fits }))
+      rw (← x, ← y) (record { size = m.4.size; is = patterns_go n m.4; left = m.4.left; fits = m.4.fits })
   patterns_read {size} {t} {rest} n (s.next_pattern {n = first} {m = last} {p = p} {ps = ps} sp a i b z o) place =
       let m = one_reads n sp i z refl in
       let x : m.0 ≡ first = omega (arith, place, a, m.2) in
       let y : m.1 ≡ last = omega (arith, place, b, m.3) in
       let e = byte_next t m.4.size m.4.left m.4.fits in
       let others = patterns_read (n + suc m.4.size) o (omega (arith, place, e.1)) in
-      subst (λ (k : ℕ). Reads (d.patterns at n 0 t) t ((span k last, p) ∷ ps) (125 ∷ rest)) x
-      (subst (λ (k : ℕ). Reads (d.patterns at n 0 t) t ((span m.0 k, p) ∷ ps) (125 ∷ rest)) y (record {
+      rw (← x, ← y) (record {
         size = m.4.size + 1 + others.size;
         is = patterns_go n m.4
             ∙ ap (λ r. then_read r (λ ps size. Took ((span m.0 m.1, p) ∷ ps) (m.4.size + 1 + size))) others.is;
-        left = left m.4.size others.size e.0 others.left;
+        left = beyond t m.4.size others.size e.0 others.left;
         fits = omega (arith, e.1, others.fits);
-      }))
-    where
-      left : {q : List ℕ} (j k : ℕ) → drop (suc j) t ≡ q → drop k q ≡ 125 ∷ rest → drop (j + 1 + k) t ≡ 125 ∷ rest
-      left j k e f =
-          let one : suc j ≡ j + 1 = omega arith in
-          sym (drop-drop k (j + 1) t) ∙ ap (λ (x : List ℕ). drop k x) (ap (λ (i : ℕ). drop i t) (sym one) ∙ e) ∙ f
+      })
 
   -- patterns fail as those after the first & do
   pub and_fails : (f : Failure) {t u v w : List ℕ} {p : Pattern} (n : ℕ) → AreSpaces t u → IsPattern u p v → AreSpaces v (38 ∷ w)
@@ -152,13 +141,8 @@ module _ (at : ℕ) where
     where
       by : HangsOut is_word u ⊎ EndsOut is_word u → there n u ≡ Ends at
       by (inl h) = ap (λ q. then_read (d.pattern_text at n q u) (λ p k. past k (byte_after (span n (n + k), p) (drop k u)))) h.1
-      by (inr ([], size, e, l, k)) =
-          ap (λ q. then_read (d.pattern_text at n q u) (λ p k. past k (byte_after (span n (n + k), p) (drop k u)))) e
-          ∙ ap (λ x. then_read (d.pattern_end at n [] size x) (λ p k. past k (byte_after (span n (n + k), p) (drop k u)))) l
-      by (inr (b ∷ word, size, e, l, k)) =
-          ap (λ q. then_read (d.pattern_text at n q u) (λ p k. past k (byte_after (span n (n + k), p) (drop k u)))) e
-          ∙ ap (λ x. then_read (d.pattern_end at n (b ∷ word) size x) (λ p k. past k (byte_after (span n (n + k), p) (drop k u)))) l
-          ∙ ap (λ x. past size (byte_after (span n (n + size), pattern (b ∷ word) false) x)) l
+      by (inr ([], size, e, l, k)) = cc (e, l)
+      by (inr (b ∷ word, size, e, l, k)) = cc (e, l)
 
   -- where the text ends in patterns, the braces are not closed
   pub patterns_end : {t : List ℕ} (n : ℕ) → CutsPatterns t → d.patterns at n 0 t ≡ Ends at
@@ -167,8 +151,7 @@ module _ (at : ℕ) where
       first : one n t ≡ Ends at
       first =
           let m = spaces_to sp (out_head no_white o) in
-          ap (λ (x : List ℕ). past (prefix_len is_white t) (there (n + prefix_len is_white t) x)) m.0
-          ∙ ap (λ r. past (prefix_len is_white t) r) (pattern_ends (n + prefix_len is_white t) o)
+          rw (m.0, pattern_ends (n + prefix_len is_white t) o) refl
   patterns_end {t} n (cuts.after_pattern {u = u} {p = p} sp i z) = patterns_fail (AtEnd at) n t first
     where
       first : one n t ≡ Ends at
@@ -176,8 +159,5 @@ module _ (at : ℕ) where
           let m = spaces_to sp (pattern_head no_white i) in
           let white = prefix_len is_white t in
           let w = pattern_reads at (n + white) i in
-          ap (λ (x : List ℕ). past white (there (n + white) x)) m.0
-          ∙ ap (λ r. past white (then_read r (λ p k. past k (byte_after (span (n + white) (n + white + k), p) (drop k u))))) w.is
-          ∙ ap (λ x. past white (past w.size (byte_after (span (n + white) (n + white + w.size), p) x))) w.left
-          ∙ ap (λ r. past white (past w.size r)) (byte_ends (span (n + white) (n + white + w.size), p) z)
+          rw (m.0, w.is, w.left, byte_ends (span (n + white) (n + white + w.size), p) z) refl
   patterns_end n (cuts.after_and {p = p} sp i z o) = and_fails (AtEnd at) n sp i z (λ m e. patterns_end m o)

@@ -52,22 +52,7 @@ module _ (lists : Lists × Lists) (c : ListContext) (outer : Option ℕ) (v : Re
   star_is : (r : Left) → ◌≡◌ {A = Result Reading SyntaxFault} (Ok (as_item Star r)) (star_given Starred at (at_rest r v))
   star_is r =
       let m : length v.parts.tokens + 1 + 0 ≡ length v.parts.tokens + 1 = omega arith in
-      ap (λ (i : ℕ). Ok (record {
-        rest = r;
-        parts = record {
-          tokens = v.parts.tokens ++ whole_token kinds.Star at r.at i ∷ [];
-          labels = v.parts.labels ++ no_label ∷ [];
-          holds = v.parts.holds || true;
-        };
-      })) m
-      ∙ ap (λ (b : Bool). Ok (record {
-        rest = r;
-        parts = record {
-          tokens = v.parts.tokens ++ whole_token kinds.Star at r.at (length v.parts.tokens + 1) ∷ [];
-          labels = v.parts.labels ++ no_label ∷ [];
-          holds = b;
-        };
-      })) (or_true v.parts.holds)
+      cc (m, or_true v.parts.holds)
 
   -- %* gives what the code's `star` gives, by what it finds around it
   star_goes : (r : Left) (owner : Owner) → given outer r as_item (d.star at (at + 1) owner) ≡ star_given owner at (at_rest r v)
@@ -88,8 +73,7 @@ module _ (lists : Lists × Lists) (c : ListContext) (outer : Option ℕ) (v : Re
   simple_at r directives.WithOption e s = ap (λ (n : ℕ). given outer r as_item (d.option at n r.bytes)) (sym e)
   simple_at r (directives.WithSaying kind) e s = ap (λ (n : ℕ). given outer r as_item (d.saying c.kind kind n r.bytes)) (sym e)
   simple_at r directives.WithName e s = ap (λ (n : ℕ). given outer r as_item (d.name_from at n [] r.bytes)) (sym e)
-  simple_at r directives.WithPattern e s =
-      ap (λ (n : ℕ). given outer r as_item (d.then_read (d.pattern_at at n r.bytes) (λ p size. Took (tree.Hide p) size))) (sym e)
+  simple_at r directives.WithPattern e s = cc (e)
   simple_at r directives.OfStar e s = star_goes r c.owner
   simple_at r directives.WithCall e s = absurd cc
   simple_at r directives.WithBraces e s = absurd cc
@@ -135,8 +119,7 @@ module _ (lists : Lists × Lists) (c : ListContext) (outer : Option ℕ) (v : Re
       module _ (kind : BraceKind) (marked : x ≡ directives.WithMarkedBraces kind) (y : ℕ) (next : Some y ≡ first_of r2.bytes) where
         -- %W and %@ give what their braces give, from that byte on
         marked_go : directed ≡ given outer r2 as_item (d.marked_braces lists.0 lists.1 c at kind r2.at (y ∷ drop 1 r2.bytes))
-        marked_go = percent_opens ∙ rw (marked, level, ← place) refl
-            ∙ ap (λ bs. given outer r2 as_item (d.marked_braces lists.0 lists.1 c at kind r2.at bs)) (some_left r2.bytes y next)
+        marked_go = cc (percent_opens, marked, level, place, some_left r2.bytes y next)
 
         -- where no brace follows %W or %@, the directive is refused
         pub marked_bad : (y == ascii.opening_brace) ≡ false → directed ≡ Err (BadDirective at)

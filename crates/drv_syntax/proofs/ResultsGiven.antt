@@ -178,11 +178,7 @@ module _ (deep : Lists) (c : ListContext) (at : ℕ) where
       -- a test that doesn't begin with a percent sign holds no list, so what reads lists makes no difference to it
       pub test_plain : (begun.byte == ascii.percent) ≡ false → tries v (one_test deep c at order v.rest.at v.rest.bytes)
           ≡ tries u (asked_from no_lists top at order begun.start begun.negated u.rest.at u.rest.bytes)
-      test_plain g =
-          begun_here
-          ∙ ap (λ bs. tries u (asked_from deep c at order begun.start begun.negated u.rest.at bs)) begins_so
-          ∙ rw g refl
-          ∙ ap (λ bs. tries u (asked_from no_lists top at order begun.start begun.negated u.rest.at bs)) (sym begins_so)
+      test_plain g = cc (begun_here, begins_so, g)
 
       -- the test begins with a percent sign, so it is by a function
       module _ (g : begun.byte ≡ ascii.percent) where
@@ -218,9 +214,7 @@ module _ (deep : Lists) (c : ListContext) (at : ℕ) where
               ≡ with_rest (record { rest = after 1 rest; parts = (added so_far u.parts place begun.negated a).1 })
               (result_after at (added so_far u.parts place begun.negated a).0 b)
           byte_by place o a is none rest b =
-              ap (λ p. after_given so_far (at_rest rest u) (made p o.as_test)) none
-              ∙ ap (λ t. after_given so_far (at_rest rest u) (made None t)) is
-              ∙ by (b == ascii.closing_brace) (b == ascii.ampersand) (may_emit order begun.negated) refl refl
+              cc (none, is, by (b == ascii.closing_brace) (b == ascii.ampersand) (may_emit order begun.negated) refl refl)
             where
               choice : Choice
               choice = (added so_far u.parts place begun.negated a).0
@@ -274,11 +268,7 @@ module _ (deep : Lists) (c : ListContext) (at : ℕ) where
                   ≡ result_byte (added so_far u.parts (span begun.start x.at) begun.negated a).0
                   (choice_here (added so_far u.parts (span begun.start x.at) begun.negated a) x).1 (spaced x) bs
               by [] = refl
-              by (b ∷ bs) =
-                  ap (λ (y : Left). after_given so_far (at_rest y u)
-                  (d.after at order (record { place = span begun.start x.at; negated = begun.negated; operand = o; byte = b })))
-                  (after_none (spaced x))
-                  ∙ byte_by (span begun.start x.at) o a is none (spaced x) b
+              by (b ∷ bs) = cc (after_none (spaced x), byte_by (span begun.start x.at) o a is none (spaced x) b)
 
           -- a test of a function's result gives what the code's `result` returns, and then what the byte after it decides
           result_by : (r : Read Operand) → AsksResult r
@@ -286,28 +276,19 @@ module _ (deep : Lists) (c : ListContext) (at : ℕ) where
               (ended at (span begun.start (u.rest.at + k)) begun.negated operand (drop k u.rest.bytes))))
               ≡ result_then (result_given outer so_far begun.start begun.negated u r)
           result_by (Took o size) h =
-              tried_past u (1 + size) (ended at (span begun.start (u.rest.at + (1 + size))) begun.negated o (drop (1 + size) u.rest.bytes))
-              ∙ ap (λ (x : Left). tries (at_rest x u) (ended at (span begun.start x.at) begun.negated o x.bytes))
-              (after_after 1 size u.rest)
-              ∙ ended_by o h.asked h.is h.no_pattern (after size (after 1 u.rest))
-              ∙ ap (λ (t : Option Asked). result_then
-              (Ok (result_on so_far begun.start begun.negated u.parts t (after size (after 1 u.rest))))) (sym h.is)
+              cc (tried_past u (1 + size) (ended at (span begun.start (u.rest.at + (1 + size))) begun.negated o (drop (1 + size)
+              u.rest.bytes)), after_after 1 size u.rest, ended_by o h.asked h.is h.no_pattern (after size (after 1 u.rest)), h.is)
           result_by (Ends n) h = refl
           result_by (Stops n fault) h = refl
 
           -- a test of a function's result gives what the code's `result` and then the byte after it give
           pub result_here : tries v (one_test deep c at order v.rest.at v.rest.bytes) ≡ result_then result_from
           result_here =
-              begun_here
-              ∙ ap (λ bs. tries u (then_read (d.asked deep c at (may_emit order begun.negated) u.rest.at bs)
-              (λ operand k. past k (ended at (span begun.start (u.rest.at + k)) begun.negated operand (drop k u.rest.bytes))))) text_is
-              ∙ rw deeper refl
-              ∙ result_by (result deep c at u.rest.at (drop 1 u.rest.bytes)) (result_asks u.rest.at (drop 1 u.rest.bytes))
+              cc (begun_here, text_is, deeper, result_by (result deep c at u.rest.at (drop 1 u.rest.bytes)) (result_asks u.rest.at (drop 1
+              u.rest.bytes)))
 
           -- the function and its arguments are read, and white space after them; the byte after that decides what the test gives
           pub result_byte_by : (choice : Choice) (w : Reading) → result_from ≡ Ok (choice, w) → (rest : Left) → rest ≡ spaced w.rest
               → (bs : List ℕ) → rest.bytes ≡ bs
               → tries v (one_test deep c at order v.rest.at v.rest.bytes) ≡ result_byte choice w rest bs
-          result_byte_by choice w reads rest spaces bs is =
-              result_here ∙ rw reads refl ∙ ap (λ (x : Left). result_byte choice w x x.bytes) (sym spaces)
-              ∙ ap (λ xs. result_byte choice w rest xs) is
+          result_byte_by choice w reads rest spaces bs is = cc (result_here, reads, spaces, is)

@@ -183,6 +183,4 @@ module _ (deep : Lists) (c : ListContext) (at : ℕ) where
     tests_end order {t} n (cuts.after_bar {negated = negated} {asked = a} sp sign i z o) place =
         let k = asking deep c at order reads n sp sign i z refl refl place in
         let e = byte_next t k.reads.size k.reads.left k.reads.fits in
-        next_goes deep c at order k
-        ∙ ap (λ r. then_read r (λ form size. Took (d.with_test (span k.first k.last) negated a form) (k.reads.size + 1 + size)))
-        (tests_end AtBar (n + suc k.reads.size) o (omega (arith, place, e.1)))
+        cc (next_goes deep c at order k, tests_end AtBar (n + suc k.reads.size) o (omega (arith, place, e.1)))

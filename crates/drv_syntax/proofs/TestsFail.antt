@@ -1,5 +1,5 @@
 use Rattle.drv_syntax.proofs.CallsRead.{ListReads, result_fails, result_reads}
-use Rattle.drv_syntax.proofs.DirectivesFail.{function_stops, none_quoted, pattern_stops, stops_at}
+use Rattle.drv_syntax.proofs.DirectivesFail.{function_stops, pattern_stops, stops_at}
 use Rattle.drv_syntax.proofs.EmitsRead.{bare_mark, emit_fails, starred_mark}
 use Rattle.drv_syntax.proofs.Failing.{AtByte, past_fails, then_fails}
 use Rattle.drv_syntax.proofs.Heads.{no_white, pattern_head}
@@ -8,7 +8,7 @@ use Rattle.drv_syntax.proofs.Longer.{asked_filled, asked_longer, pattern_filled,
 use Rattle.drv_syntax.proofs.Longer.{refuses_filled, spaces_filled, spaces_longer, stops_longer}
 use Rattle.drv_syntax.proofs.MeantRuns.{empty_run}
 use Rattle.drv_syntax.proofs.MeantTests.{mark_word}
-use Rattle.drv_syntax.proofs.PartsRead.{Reads, byte_next, reads_as, reads_past, runs_to}
+use Rattle.drv_syntax.proofs.PartsRead.{Reads, byte_next, none_quoted, reads_as, reads_past, runs_to}
 use Rattle.drv_syntax.proofs.PatternsRead as patterns
 use Rattle.drv_syntax.proofs.TestsRead.{asking, call_level, from_reads, mark_is, mark_reads, next_goes, switch_reads}
 use Rattle.drv_syntax.proofs.TestsRead.{test_goes, tests_fail, tests_go}
@@ -133,9 +133,7 @@ module _ (k : ℕ) (q : List ℕ) where
         → n + length t ≡ k + length (b ∷ x) → d.tests deep c at order n 0 t ≡ Stops k fault
     byte_stops order n {x = x} {fault = fault} m fails place =
         let there : n + m.size ≡ k = omega (arith, place, m.fits) in
-        tests_go deep c at order n m
-        ∙ ap (λ a. d.test_go a n m.size (d.patterns at (n + suc m.size) 0 x) (d.tests deep c at AtBar (n + suc m.size) 0 x)) fails
-        ∙ ap (λ (i : ℕ). Stops i fault) there
+        cc (tests_go deep c at order n m, fails, there)
 
     -- where a test is read and the byte after it doesn't fit, Descent stops at that byte
     tested_stops : (order : Order) {t u v w x : List ℕ} {negated : Bool} {o : Operand} {b : ℕ} {fault : SyntaxFault} (n : ℕ)
@@ -254,8 +252,7 @@ module _ (k : ℕ) (q : List ℕ) where
           ∙ stops_at (λ x. UnknownFunction x) i j
       due_fails {order} {negated} m (r.no_test_there {b = b} h w e f) place =
           let i : m + 0 ≡ k = omega (arith, place) in
-          switched ∙ ap (λ r. then_read r (λ p size. Took (d.switch_operand p) size)) (pattern_stops b at m q h)
-          ∙ ap (λ (j : ℕ). Stops j (EmptyTest at)) i
+          cc (switched, pattern_stops b at m q h, i)
         where
           switched : d.asked deep c at (may_emit order negated) m (b ∷ q)
               ≡ then_read (d.pattern_at at m (b ∷ q)) (λ p size. Took (d.switch_operand p) size)
@@ -287,11 +284,7 @@ module _ (k : ℕ) (q : List ℕ) where
       star_stops {u} {word} {x} emits m mark e is i place =
           let z = runs_to i in
           let there : m + 1 + z.size ≡ k = omega (arith, place, z.fits) in
-          mark_is deep c at emits m mark u is
-          ∙ ap (λ (y : Quoted). past 1 (d.mark_text at emits mark (m + 1) y u)) z.is
-          ∙ ap (λ (y : List ℕ). past 1 (d.mark_end at emits mark (m + 1) (x ∷ word) z.size y)) z.left
-          ∙ ap (λ (y : Bool). past 1 (d.mark_end at y mark (m + 1) (x ∷ word) z.size (42 ∷ q))) e
-          ∙ ap (λ (i : ℕ). Stops i (BadDirective at)) there
+          cc (mark_is deep c at emits m mark u is, z.is, z.left, e, there)
 
       -- white space before a test, and the byte b after it, which ends no test
       module _ (order : Order) {t u : List ℕ} {negated : Bool} {b : ℕ} (n : ℕ) (sp : AreSpaces t u) (white : is_white b ≡ false)
@@ -402,6 +395,5 @@ module _ (k : ℕ) (q : List ℕ) where
           let m = asking deep c at order reads n (spaces_longer q sp) (sign_longer q sign (asked_filled q i f)) (asked_longer q i f)
           (spaces_longer q z) refl refl (omega (arith, place, length-append t q)) in
           let e = byte_next (t ++ q) m.reads.size m.reads.left m.reads.fits in
-          next_goes deep c at order m
-          ∙ ap (λ r. then_read r (λ form size. Took (d.with_test (span m.first m.last) negated a form) (m.reads.size + 1 + size)))
-          (reach_tests (n + suc m.reads.size) o h (omega (arith, place, e.1, length-append t q, length-append x q)))
+          cc (next_goes deep c at order m, reach_tests (n + suc m.reads.size) o h (omega (arith, place, e.1, length-append t q,
+          length-append x q)))

@@ -76,12 +76,10 @@ module _ (outer : Option ℕ) (at : ℕ) (emits : Bool) (mark : ℕ) (v : Readin
       → given outer rest as_operand (mark_end at emits mark n w size bs)
       ≡ given outer (after size rest) as_operand (mark_end at emits mark n w 0 bs)
   mark_shift n rest [] size [] h = refl
-  mark_shift n rest (x ∷ w) size [] h =
-      ap (λ (r : Left). Ok (as_operand (d.marked_operand mark (x ∷ w)) r)) (sym (after_none (after size rest)))
+  mark_shift n rest (x ∷ w) size [] h = cc (after_none (after size rest))
   mark_shift n rest [] size (b ∷ bs) h =
       let zero : size ≡ 0 = h refl in
-      ap (λ (r : Left). given outer r as_operand (mark_end at emits mark n [] 0 (b ∷ bs))) (sym (after_none rest))
-      ∙ ap (λ (i : ℕ). given outer (after i rest) as_operand (mark_end at emits mark n [] 0 (b ∷ bs))) (sym zero)
+      cc (after_none rest, zero)
   mark_shift n rest (x ∷ w) size (b ∷ bs) h = by (b == ascii.asterisk) emits
     where
       by : (t u : Bool)
@@ -104,9 +102,7 @@ module _ (outer : Option ℕ) (at : ℕ) (emits : Bool) (mark : ℕ) (v : Readin
       let p : Some w ≡ Some word = ap (λ (z : Option (List ℕ) × Reading). z.0) e in
       let same : w ≡ word = cc in
       let r : after size v.rest ≡ u.rest = ap (λ (z : Option (List ℕ) × Reading). z.1.rest) e in
-      mark_shift v.rest.at v.rest w size (drop size v.rest.bytes) (full w size refl)
-      ∙ ap (λ (x : List ℕ). given outer (after size v.rest) as_operand (mark_end at emits mark v.rest.at x 0 (drop size v.rest.bytes))) same
-      ∙ ap (λ (l : Left). given outer l as_operand (mark_end at emits mark v.rest.at word 0 l.bytes)) r
+      cc (mark_shift v.rest.at v.rest w size (drop size v.rest.bytes) (full w size refl), same, r)
   mark_took u (Hangs size) word full e =
       let n : None ≡ Some word = ap (λ (z : Option (List ℕ) × Reading). z.0) e in
       absurd cc
@@ -163,38 +159,13 @@ module _ (outer : Option ℕ) (at : ℕ) (emits : Bool) (mark : ℕ) (v : Readin
           let n : Some w ≡ None = ap (λ (z : Option (List ℕ) × Reading). z.0) g in
           absurd cc
 
-  -- a test with a mark gives what the code decides, by whether its word has bytes and by the byte after the word
-  marked_at : (u : Reading) (word : List ℕ) (none : Bool) (first : Option ℕ) → quoted_to [] v (quoted is_word v.rest.bytes) ≡ (Some word, u)
-      → none ≡ is_empty word → first ≡ first_of u.rest.bytes
-      → marked_reads ≡ form_then (mark_form outer at emits none first)
-      (λ form. as_operand (operand_of (marked_as form mark) word) (past_byte ascii.asterisk u.rest))
-  marked_at u word none first q g h =
-      mark_took u (quoted is_word v.rest.bytes) word (λ w size e z. quoted_none is_word v.rest.bytes size (e ∙ ap (λ x. Run x size) z)) q
-      ∙ mark_ends v.rest.at u.rest word
-      ∙ ap (λ x. form_then (mark_form outer at emits x (first_of u.rest.bytes))
-      (λ form. as_operand (operand_of (marked_as form mark) word) (past_byte ascii.asterisk u.rest))) (sym g)
-      ∙ ap (λ x. form_then (mark_form outer at emits none x)
-      (λ form. as_operand (operand_of (marked_as form mark) word) (past_byte ascii.asterisk u.rest))) (sym h)
-
-  -- the fault that the code's `mark_form` finds after a mark and its word is that of the test
-  pub marked_stops : (u : Reading) (word : List ℕ) (none : Bool) (first : Option ℕ) (e : SyntaxFault)
-      → quoted_to [] v (quoted is_word v.rest.bytes) ≡ (Some word, u)
-      → none ≡ is_empty word → first ≡ first_of u.rest.bytes → mark_form outer at emits none first ≡ Err e → marked_reads ≡ Err e
-  marked_stops u word none first e q g h k =
-      marked_at u word none first q g h
-      ∙ ap (λ x. form_then x (λ form. as_operand (operand_of (marked_as form mark) word) (past_byte ascii.asterisk u.rest))) k
-
-  -- a test with a mark is what the code's `mark_form` says, with its word and past its star
-  pub marked_done : (u : Reading) (word : List ℕ) (none : Bool) (first : Option ℕ) (form : MarkForm) (asked : Asked) (end : Left)
-      → quoted_to [] v (quoted is_word v.rest.bytes) ≡ (Some word, u)
-      → none ≡ is_empty word → first ≡ first_of u.rest.bytes → mark_form outer at emits none first ≡ Ok form → asked ≡ marked_as form mark
-      → end ≡ past_byte ascii.asterisk u.rest → marked_reads ≡ Ok (operand_of asked word, at_rest end u)
-  marked_done u word none first form asked end q g h k l m =
-      marked_at u word none first q g h
-      ∙ ap (λ x. form_then x (λ f. as_operand (operand_of (marked_as f mark) word) (past_byte ascii.asterisk u.rest))) k
-      ∙ ap (λ (a : Asked). Ok (as_operand (operand_of a word) (past_byte ascii.asterisk u.rest))) (sym l)
-      ∙ ap (λ (r : Left). Ok (as_operand (operand_of asked word) r)) (sym m)
-      ∙ ap (λ (z : Parts). Ok (operand_of asked word, record { rest = end; parts = z })) (quoted_parts v u (quoted is_word v.rest.bytes) q)
+  -- a test with a mark gives what the code's `mark_form` decides by its word and the byte after it, and leaves what follows its star
+  pub marked_by : (u : Reading) (word : List ℕ) → quoted_to [] v (quoted is_word v.rest.bytes) ≡ (Some word, u)
+      → marked_reads ≡ form_then (mark_form outer at emits (is_empty word) (first_of u.rest.bytes))
+      (λ form. (operand_of (marked_as form mark) word, at_rest (past_byte ascii.asterisk u.rest) u))
+  marked_by u word q =
+      rw (mark_took u (quoted is_word v.rest.bytes) word (λ w size e z. quoted_none is_word v.rest.bytes size (e ∙ ap (λ x. Run x size)
+      z)) q, mark_ends v.rest.at u.rest word, quoted_parts v u (quoted is_word v.rest.bytes) q) refl
 
 -- what a test asks that asks for no function's result
 
@@ -220,11 +191,7 @@ module _ (deep : Lists) (c : ListContext) (outer : Option ℕ) (at : ℕ) (emits
   asked_switch : is_mark b ≡ false → (b == ascii.percent) ≡ false
       → asked_reads v.rest.bytes ≡ operand_given outer v (then_read (pattern_at at v.rest.at v.rest.bytes)
       (λ p size. Took (switch_operand p) size))
-  asked_switch e g =
-      ap (λ bs. asked_reads bs) (some_left v.rest.bytes b (sym is))
-      ∙ rw (e, g) refl
-      ∙ ap (λ bs. operand_given outer v (then_read (pattern_at at v.rest.at bs) (λ p size. Took (switch_operand p) size)))
-      (sym (some_left v.rest.bytes b (sym is)))
+  asked_switch e g = cc (some_left v.rest.bytes b (sym is), e, g)
 
   -- without a mark and a percent sign, the fault of the pattern is that of the test
   pub switch_stops : (fault : SyntaxFault) → is_mark b ≡ false → (b == ascii.percent) ≡ false
@@ -278,8 +245,5 @@ module _ (deep : Lists) (c : ListContext) (outer : Option ℕ) (at : ℕ) (order
       → tried_given outer at order so_far v (d.asked_from deep c at order start negated v.rest.at v.rest.bytes)
       ≡ after_given so_far (at_rest rest u) (d.after at order (tried_seen start end negated o b))
   tried_some emits o u rest end b e h g k f =
-      tried_from o u (d.asked deep c at (may_emit order negated) v.rest.at v.rest.bytes)
-      (ap (λ (t : Bool). operand_given outer v (d.asked deep c at t v.rest.at v.rest.bytes)) (sym e) ∙ h)
-      ∙ ap (λ (bs : List ℕ). tried_at o u bs) (ap (λ (r : Left). r.bytes) (sym g) ∙ some_left rest.bytes b f)
-      ∙ ap (λ (r : Left). after_given so_far (at_rest r u) (d.after at order (tried_seen start u.rest.at negated o b))) (sym g)
-      ∙ ap (λ (i : ℕ). after_given so_far (at_rest rest u) (d.after at order (tried_seen start i negated o b))) (sym k)
+      cc (tried_from o u (d.asked deep c at (may_emit order negated) v.rest.at v.rest.bytes) (ap (λ (t : Bool). operand_given outer v
+      (d.asked deep c at t v.rest.at v.rest.bytes)) (sym e) ∙ h), g, some_left rest.bytes b f, k)

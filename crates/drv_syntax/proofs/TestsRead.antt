@@ -2,7 +2,7 @@ use Rattle.drv_words.specs.Bytes as ascii
 use Rattle.drv_syntax.proofs.CallsRead.{ListReads, result_reads}
 use Rattle.drv_syntax.proofs.Failing.{Failure, failed, then_fails}
 use Rattle.drv_syntax.proofs.Heads.{asked_head, no_white, pattern_head, no_percent, sign_white, unstarred_spaces}
-use Rattle.drv_syntax.proofs.PartsRead.{Reads, byte_next, past_none, past_past, pattern_reads, reads_after, reads_as, reads_past}
+use Rattle.drv_syntax.proofs.PartsRead.{Reads, beyond, byte_next, past_none, past_past, pattern_reads, reads_after, reads_as, reads_past}
 use Rattle.drv_syntax.proofs.PartsRead.{reads_then, runs_to}
 use Rattle.drv_syntax.proofs.PartsRead.{skipped, spaces_to}
 use Rattle.drv_syntax.specs.Bytes.{is_mark, is_white, is_word}
@@ -188,10 +188,7 @@ module _ (deep : Lists) (c : ListContext) (at : ℕ) where
     -- where the text ends after what a test asks, the braces are not closed
     pub from_ends : (start : ℕ) (negated : Bool) (n : ℕ) {v w : List ℕ} {o : Operand}
         → Reads (d.asked deep c at (may_emit order negated) n v) v o w → AreSpaces w [] → from start negated n v ≡ Ends at
-    from_ends start negated n {v} {w} {o} m sp =
-        ap (λ r. then_read r (λ o k. past k (d.ended at (span start (n + k)) negated o (drop k v)))) m.is
-        ∙ ap (λ (t : List ℕ). past m.size (d.ended at (span start (n + m.size)) negated o t)) m.left
-        ∙ ap (λ r. past m.size r) (no_end at (span start (n + m.size)) negated o sp)
+    from_ends start negated n {v} {w} {o} m sp = cc (m.is, m.left, no_end at (span start (n + m.size)) negated o sp)
 
     -- tests begin with one test, and go on by the byte after it, also where the text has no byte
     tests_open : (n : ℕ) (t : List ℕ) → d.tests deep c at order n 0 t
@@ -206,13 +203,8 @@ module _ (deep : Lists) (c : ListContext) (at : ℕ) where
         ≡ d.test_go (d.after at order tr) n m.size (d.patterns at (n + suc m.size) 0 x) (d.tests deep c at AtBar (n + suc m.size) 0 x)
     tests_go n {t} {x} {tr} m =
         let e = byte_next t m.size m.left m.fits in
-        tests_open n t
-        ∙ ap (λ r. then_read r (λ tr k.
-        d.test_go (d.after at order tr) n k (d.patterns at n (suc k) t) (d.tests deep c at AtBar n (suc k) t))) m.is
-        ∙ ap (λ ps. d.test_go (d.after at order tr) n m.size ps (d.tests deep c at AtBar n (suc m.size) t))
-        (skipped (λ (i k : ℕ) (u : List ℕ). d.patterns at i k u) (λ i k b u. refl) n (suc m.size) t x e.0 e.1)
-        ∙ ap (λ fs. d.test_go (d.after at order tr) n m.size (d.patterns at (n + suc m.size) 0 x) fs)
-        (skipped (λ (i k : ℕ) (u : List ℕ). d.tests deep c at AtBar i k u) (λ i k b u. refl) n (suc m.size) t x e.0 e.1)
+        cc (tests_open n t, m.is, skipped (λ (i k : ℕ) (u : List ℕ). d.patterns at i k u) (λ i k b u. refl) n (suc m.size) t x e.0 e.1,
+        skipped (λ (i k : ℕ) (u : List ℕ). d.tests deep c at AtBar i k u) (λ i k b u. refl) n (suc m.size) t x e.0 e.1)
 
     -- the tests fail as the first of them does
     pub tests_fail : (f : Failure) (n : ℕ) (t : List ℕ) → d.one_test deep c at order n t ≡ failed f
@@ -267,9 +259,7 @@ module _ (deep : Lists) (c : ListContext) (at : ℕ) where
         (λ form size. Took (d.with_test (span k.first k.last) negated a form) (k.reads.size + 1 + size))
     next_goes {n} {q = q} {negated} {a} k =
         let m = k.reads in
-        tests_go n m
-        ∙ ap (λ x. d.test_go (d.as_test at (asked_operand a).bare x (d.Bars (span k.first k.last) negated)) n m.size
-        (d.patterns at (n + suc m.size) 0 q) (d.tests deep c at AtBar (n + suc m.size) 0 q)) (asks a)
+        cc (tests_go n m, asks a)
 
     -- a test, a bar and the tests after it are read as the tests of one alternative
     pub next_reads : {n : ℕ} {t u w q rest : List ℕ} {negated : Bool} {a : Asked} {form : Form}
@@ -277,13 +267,11 @@ module _ (deep : Lists) (c : ListContext) (at : ℕ) where
         → Reads (d.tests deep c at order n 0 t) t (d.with_test (span k.first k.last) negated a form) rest
     next_reads {t = t} {negated = negated} {a} k m =
         let e = byte_next t k.reads.size k.reads.left k.reads.fits in
-        let one : suc k.reads.size ≡ k.reads.size + 1 = omega arith in
         record {
           size = k.reads.size + 1 + m.size;
           is = next_goes k
               ∙ ap (λ r. then_read r (λ form size. Took (d.with_test (span k.first k.last) negated a form) (k.reads.size + 1 + size))) m.is;
-          left = sym (drop-drop m.size (k.reads.size + 1) t)
-              ∙ ap (λ (x : List ℕ). drop m.size x) (ap (λ (i : ℕ). drop i t) (sym one) ∙ e.0) ∙ m.left;
+          left = beyond t k.reads.size m.size e.0 m.left;
           fits = omega (arith, e.1, m.fits);
         }
 
@@ -293,27 +281,15 @@ module _ (deep : Lists) (c : ListContext) (at : ℕ) where
       → Reads (d.tests deep c at order n 0 t) t (form_of tests) (58 ∷ mid)
   tests_read {size} ih order {t} {mid} n (s.last_test {n = first} {m = last} {negated = negated} {asked = a} sp x sign i y z) place =
       let k = asking order ih n sp sign i z refl refl place in
-      there (omega (arith, place, x, k.begins)) (omega (arith, place, y, k.ends)) (last_reads order k)
-    where
-      -- A reading with other ends of the span, which are equal, is that of this test.
-      there : {f l : ℕ} → f ≡ first → l ≡ last → Reads (d.tests deep c at order n 0 t) t (Alternative (span f l) negated a no_test)
-          (58 ∷ mid)
-          → Reads (d.tests deep c at order n 0 t) t (Alternative (span first last) negated a no_test) (58 ∷ mid)
-      there {f} {l} g h m =
-          subst (λ (x : Form). Reads (d.tests deep c at order n 0 t) t x (58 ∷ mid))
-          (ap (λ (i : ℕ). Alternative (span i l) negated a no_test) g ∙ ap (λ (i : ℕ). Alternative (span first i) negated a no_test) h) m
+      let f : k.first ≡ first = omega (arith, place, x, k.begins) in
+      let g : k.last ≡ last = omega (arith, place, y, k.ends) in
+      rw (← f, ← g) (last_reads order k)
   tests_read {size} ih order {t} {mid} n (s.next_test {n = first} {m = last} {negated} {asked = a} {tests = others} sp x sign i y z o)
       place =
       let k = asking order ih n sp sign i z refl refl place in
       let e = byte_next t k.reads.size k.reads.left k.reads.fits in
       let more = tests_read ih AtBar (n + suc k.reads.size) o (omega (arith, place, e.1)) in
-      there (omega (arith, place, x, k.begins)) (omega (arith, place, y, k.ends)) (next_reads order k more)
-    where
-      there : {f l : ℕ} → f ≡ first → l ≡ last
-          → Reads (d.tests deep c at order n 0 t) t (d.with_test (span f l) negated a (form_of others)) (58 ∷ mid)
-          → Reads (d.tests deep c at order n 0 t) t (form_of (test (span first last) negated a others)) (58 ∷ mid)
-      there {f} {l} g h m =
-          subst (λ (x : Form). Reads (d.tests deep c at order n 0 t) t x (58 ∷ mid))
-          (ap (λ (i : ℕ). d.with_test (span i l) negated a (form_of others)) g
-          ∙ ap (λ (i : ℕ). d.with_test (span first i) negated a (form_of others)) h
-          ∙ one_more (span first last) negated a o) m
+      let f : k.first ≡ first = omega (arith, place, x, k.begins) in
+      let g : k.last ≡ last = omega (arith, place, y, k.ends) in
+      rw (← f, ← g) (subst (λ (v : Form). Reads (d.tests deep c at order n 0 t) t v (58 ∷ mid)) (one_more (span k.first k.last) negated a o)
+      (next_reads order k more))

@@ -60,8 +60,7 @@ white_star (tree.ArgumentsFile brace) e = absurd cc
 -- white space at the end of a list makes no difference to whether it has a %* of its X
 pub trim_star : (items : Items) → has_star (trimmed items) ≡ has_star items
 trim_star tree.none = refl
-trim_star (tree.more s item items) = ap (λ x. has_star x) (kept_is s item (trimmed items))
-    ∙ by (is_white_item item) refl (trimmed items) (trim_star items)
+trim_star (tree.more s item items) = cc (kept_is s item (trimmed items), by (is_white_item item) refl (trimmed items) (trim_star items))
   where
     by : (t : Bool) → is_white_item item ≡ t → (x : Items) → has_star x ≡ has_star items
         → has_star (if t then kept_white s item x else tree.more s item x) ≡ (item_has_star item || has_star items)

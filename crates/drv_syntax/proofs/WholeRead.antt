@@ -67,7 +67,7 @@ front_is_read text f = subst (λ (out : Out). ((items : Items) × (out ≡ Got i
 refused_there : (level : ℕ) → level ≡ 64 → (text rest : List ℕ) (k : ℕ) (fault : SyntaxFault) → k + 1 ≡ length text → IsRefused text fault
     → (levels level).0 top 0 (text ++ rest) ≡ Stops k fault
 refused_there level e text rest k fault f x =
-    (levels_fail k rest level).0 top (sym e) x.due x.last fault 0 text
+    levels_fail k rest level top (sym e) x.due x.last fault 0 text
     (subst (λ (size : ℕ). Reaches size top text x.due x.last) (sym f) x.reached)
     (subst (λ (size : ℕ). Refuses size x.due x.last fault) (sym f) x.refused) (omega (arith, f))
 
@@ -82,5 +82,4 @@ refused_filled text x = by text (reaches_filled x.reached (refuses_filled x.refu
 -- where a case of the grammar refuses a text, Descent refuses it at its last byte for the same fault, whatever follows
 pub refusal_kinds : (text rest : List ℕ) (fault : SyntaxFault) → IsRefused text fault → read (text ++ rest) ≡ Bad (length text - 1) fault
 refusal_kinds text rest fault x =
-    ap (λ r. outcome r)
-    (refused_there (depth (text ++ rest)) (depth_is (text ++ rest)) text rest (length text - 1) fault (refused_filled text x) x)
+    cc (refused_there (depth (text ++ rest)) (depth_is (text ++ rest)) text rest (length text - 1) fault (refused_filled text x) x)

@@ -1,3 +1,4 @@
+use Rattle.drv_syntax.proofs.PartsRead.{none_quoted}
 use Rattle.drv_words.specs.Bytes as ascii
 use Rattle.drv_syntax.proofs.Leads.{same}
 use Rattle.drv_syntax.specs.Bytes.{is_name_byte}
@@ -35,8 +36,7 @@ use Rattle.std.specs.Prelude.{◌==◌, ◌||◌, Err, None, Ok, Option, Result,
 pub after_after : (k size : ℕ) (r : Left) → after (k + size) r ≡ after size (after k r)
 after_after k size r =
     let e : r.at + (k + size) ≡ r.at + k + size = omega arith in
-    ap (λ (i : ℕ). record { at = i; bytes = drop (k + size) r.bytes }) e
-    ∙ ap (λ (bs : List ℕ). record { at = r.at + k + size; bytes = bs }) (sym (drop-drop size k r.bytes))
+    cc (e, drop-drop size k r.bytes)
 
 -- no bytes on are the same rest
 pub after_none : (r : Left) → after 0 r ≡ r
@@ -59,11 +59,6 @@ quoted_more : (f : ℕ → Bool) (b : ℕ) (text : List ℕ) → (b == ascii.bac
 quoted_more f b [] e g = rw (e, g) refl
 quoted_more f b (c ∷ text) e g = rw (e, g) refl
 
--- a byte that is not of the class, and no backslash, ends a run
-quoted_stop : (f : ℕ → Bool) (b : ℕ) (text : List ℕ) → (b == ascii.backslash) ≡ false → f b ≡ false → quoted f (b ∷ text) ≡ Run [] 0
-quoted_stop f b [] e g = rw (e, g) refl
-quoted_stop f b (c ∷ text) e g = rw (e, g) refl
-
 -- a run of bytes and escapes that ends: its word, and what is left after it
 abbrev found : List ℕ → Left → Reading → Option (List ℕ) × Reading
 found word rest v = (Some word, at_rest rest v)
@@ -75,36 +70,25 @@ hangs rest v = (None, at_rest rest v)
 -- a byte before a run is a byte more of the front of its word
 quoted_byte : (w : List ℕ) (v : Reading) (b k : ℕ) (q : Quoted)
     → quoted_to w v (with_byte b k q) ≡ quoted_to (w ++ b ∷ []) (at_rest (after k v.rest) v) q
-quoted_byte w v b k (Run word size) =
-    ap (λ (x : List ℕ). found x (after (k + size) v.rest) v) (sym (append_assoc w (b ∷ []) word))
-    ∙ ap (λ (r : Left). found ((w ++ b ∷ []) ++ word) r v) (after_after k size v.rest)
+quoted_byte w v b k (Run word size) = cc (append_assoc w (b ∷ []) word, after_after k size v.rest)
 quoted_byte w v b k (Hangs size) = ap (λ (r : Left). hangs r v) (after_after k size v.rest)
 
 -- where a run ends, its word is its front
 quoted_end : (w : List ℕ) (v : Reading) → quoted_to w v (Run [] 0) ≡ found w v.rest v
-quoted_end w v =
-    ap (λ (x : List ℕ). found x (after 0 v.rest) v) (append-nil w)
-    ∙ ap (λ (r : Left). found w r v) (after_none v.rest)
+quoted_end w v = cc (append-nil w, after_none v.rest)
 
 -- a backslash and its byte in a run are one byte of its word
 pub escape_step : (class : Class) (w : List ℕ) (v : Reading) (b : ℕ) (text : List ℕ) → v.rest.bytes ≡ ascii.backslash ∷ b ∷ text
     → quoted_to (w ++ b ∷ []) (at_rest (after 2 v.rest) v) (quoted (in_class class) (drop 2 v.rest.bytes))
     ≡ quoted_to w v (quoted (in_class class) v.rest.bytes)
-escape_step class w v b text e =
-    ap (λ (bs : List ℕ). quoted_to (w ++ b ∷ []) (at_rest (after 2 v.rest) v) (quoted (in_class class) (drop 2 bs))) e
-    ∙ sym (quoted_byte w v b 2 (quoted (in_class class) text))
-    ∙ ap (λ (bs : List ℕ). quoted_to w v (quoted (in_class class) bs)) (sym e)
+escape_step class w v b text e = cc (e, quoted_byte w v b 2 (quoted (in_class class) text))
 
 -- a byte of the class in a run is one byte of its word
 pub plain_step : (class : Class) (w : List ℕ) (v : Reading) (b : ℕ) (text : List ℕ) → v.rest.bytes ≡ b ∷ text
     → (b == ascii.backslash) ≡ false → in_class class b ≡ true
     → quoted_to (w ++ b ∷ []) (at_rest (after 1 v.rest) v) (quoted (in_class class) (drop 1 v.rest.bytes))
     ≡ quoted_to w v (quoted (in_class class) v.rest.bytes)
-plain_step class w v b text e g h =
-    ap (λ (bs : List ℕ). quoted_to (w ++ b ∷ []) (at_rest (after 1 v.rest) v) (quoted (in_class class) (drop 1 bs))) e
-    ∙ sym (quoted_byte w v b 1 (quoted (in_class class) text))
-    ∙ ap (λ (q : Quoted). quoted_to w v q) (sym (quoted_more (in_class class) b text g h))
-    ∙ ap (λ (bs : List ℕ). quoted_to w v (quoted (in_class class) bs)) (sym e)
+plain_step class w v b text e g h = cc (e, quoted_byte w v b 1 (quoted (in_class class) text), quoted_more (in_class class) b text g h)
 
 -- a run without escapes
 
@@ -123,9 +107,7 @@ of_class class b t e g = ap (λ (u : Bool). if u then false else in_class class 
 -- no bytes of a run taken change nothing
 run_none : (class : Class) (w : List ℕ) (v : Reading) (text : List ℕ)
     → quoted_to (w ++ []) (at_rest (after 0 v.rest) v) (quoted (in_class class) text) ≡ quoted_to w v (quoted (in_class class) text)
-run_none class w v text =
-    ap (λ (x : List ℕ). quoted_to x (at_rest (after 0 v.rest) v) (quoted (in_class class) text)) (append-nil w)
-    ∙ ap (λ (r : Left). quoted_to w (at_rest r v) (quoted (in_class class) text)) (after_none v.rest)
+run_none class w v text = rw (append-nil w, after_none v.rest) refl
 
 -- 1 + k is the number after k
 one_more : (k : ℕ) → 1 + k ≡ suc k
@@ -150,24 +132,14 @@ run_from class w v (b ∷ text) = by (runs_in class b) refl (run_from class (w +
         ≡ quoted_to w v (quoted (in_class class) (b ∷ text))
     by false e ih = run_none class w v (b ∷ text)
     by true e ih =
-        ap (λ (i : ℕ). quoted_to (w ++ take i (b ∷ text)) (at_rest (after (1 + k) v.rest) v) (quoted (in_class class) (drop i (b ∷ text))))
-        (one_more k)
-        ∙ ap (λ (x : List ℕ). quoted_to x (at_rest (after (1 + k) v.rest) v) (quoted (in_class class) (drop k text)))
-        (sym (append_assoc w (b ∷ []) (take k text)))
-        ∙ ap (λ (r : Left). quoted_to ((w ++ b ∷ []) ++ take k text) (at_rest r v) (quoted (in_class class) (drop k text)))
-        (after_after 1 k v.rest)
-        ∙ ih
-        ∙ sym (quoted_byte w v b 1 (quoted (in_class class) text))
-        ∙ ap (λ (q : Quoted). quoted_to w v q)
-        (sym (quoted_more (in_class class) b text (no_backslash class b e) (of_class class b true (no_backslash class b e) e)))
+        cc (one_more k, append_assoc w (b ∷ []) (take k text), after_after 1 k v.rest, ih, quoted_byte w v b 1 (quoted (in_class class)
+        text), quoted_more (in_class class) b text (no_backslash class b e) (of_class class b true (no_backslash class b e) e))
 
 -- after as many bytes as the code counts before the first backslash, a run gives the same as from its start
 pub run_takes : (class : Class) (v : Reading) (k : ℕ) → k ≡ prefix_len (runs_in class) v.rest.bytes
     → quoted_to (take k v.rest.bytes) (at_rest (after k v.rest) v) (quoted (in_class class) (drop k v.rest.bytes))
     ≡ quoted_to [] v (quoted (in_class class) v.rest.bytes)
-run_takes class v k e =
-    ap (λ (i : ℕ). quoted_to (take i v.rest.bytes) (at_rest (after i v.rest) v) (quoted (in_class class) (drop i v.rest.bytes))) e
-    ∙ run_from class [] v v.rest.bytes
+run_takes class v k e = cc (e, run_from class [] v v.rest.bytes)
 
 -- where no backslash follows the bytes of a run, the run has ended there
 run_stops : (class : Class) (text : List ℕ) → begins_with ascii.backslash (drop (prefix_len (runs_in class) text) text) ≡ false
@@ -181,43 +153,30 @@ run_stops class (b ∷ text) e = by (runs_in class b) refl e (λ g. run_stops cl
     by : (t : Bool) → runs_in class b ≡ t → begins_with ascii.backslash (drop (if t then 1 + k else 0) (b ∷ text)) ≡ false
         → (begins_with ascii.backslash (drop k text) ≡ false → quoted (in_class class) (drop k text) ≡ Run [] 0)
         → quoted (in_class class) (drop (if t then 1 + k else 0) (b ∷ text)) ≡ Run [] 0
-    by true g h ih =
-        ap (λ (i : ℕ). quoted (in_class class) (drop i (b ∷ text))) (one_more k)
-        ∙ ih (ap (λ (i : ℕ). begins_with ascii.backslash (drop i (b ∷ text))) (sym (one_more k)) ∙ h)
-    by false g h ih = quoted_stop (in_class class) b text h (of_class class b false h g)
+    by true g h ih = cc (one_more k, ih (ap (λ (i : ℕ). begins_with ascii.backslash (drop i (b ∷ text))) (sym (one_more k)) ∙ h))
+    by false g h ih = none_quoted (in_class class) text h (of_class class b false h g)
 
 -- where no backslash follows the bytes of a run, its word is these bytes of the text
 pub run_is : (class : Class) (v : Reading) (k : ℕ) → k ≡ prefix_len (runs_in class) v.rest.bytes
     → begins_with ascii.backslash (drop k v.rest.bytes) ≡ false
     → quoted_to [] v (quoted (in_class class) v.rest.bytes) ≡ found (take k v.rest.bytes) (after k v.rest) v
-run_is class v k e g =
-    sym (run_takes class v k e)
-    ∙ ap (λ (q : Quoted). quoted_to (take k v.rest.bytes) (at_rest (after k v.rest) v) q) (stops k e g)
-    ∙ quoted_end (take k v.rest.bytes) (at_rest (after k v.rest) v)
+run_is class v k e g = cc (run_takes class v k e, stops k e g, quoted_end (take k v.rest.bytes) (at_rest (after k v.rest) v))
   where
     stops : (i : ℕ) → i ≡ prefix_len (runs_in class) v.rest.bytes → begins_with ascii.backslash (drop i v.rest.bytes) ≡ false
         → quoted (in_class class) (drop i v.rest.bytes) ≡ Run [] 0
-    stops i h s =
-        ap (λ (j : ℕ). quoted (in_class class) (drop j v.rest.bytes)) h
-        ∙ run_stops class v.rest.bytes (ap (λ (j : ℕ). begins_with ascii.backslash (drop j v.rest.bytes)) (sym h) ∙ s)
+    stops i h s = cc (h, run_stops class v.rest.bytes (ap (λ (j : ℕ). begins_with ascii.backslash (drop j v.rest.bytes)) (sym h) ∙ s))
 
 -- a word without escapes is the bytes that the code has taken
 pub run_found : (class : Class) (v : Reading) (k : ℕ) (run : List ℕ) (rest : Left) → k ≡ prefix_len (runs_in class) v.rest.bytes
     → rest ≡ after k v.rest → run ≡ take k v.rest.bytes → begins_with ascii.backslash rest.bytes ≡ false
     → quoted_to [] v (quoted (in_class class) v.rest.bytes) ≡ found run rest v
-run_found class v k run rest e f g h =
-    run_is class v k e (ap (λ (r : Left). begins_with ascii.backslash r.bytes) (sym f) ∙ h)
-    ∙ ap (λ (x : List ℕ). found x (after k v.rest) v) (sym g)
-    ∙ ap (λ (r : Left). found run r v) (sym f)
+run_found class v k run rest e f g h = cc (run_is class v k e (ap (λ (r : Left). begins_with ascii.backslash r.bytes) (sym f) ∙ h), g, f)
 
 -- a run goes on after the bytes before its first backslash, with these as the front of its word
 pub run_goes : (class : Class) (v : Reading) (k : ℕ) (run : List ℕ) (rest : Left) → k ≡ prefix_len (runs_in class) v.rest.bytes
     → rest ≡ after k v.rest → run ≡ take k v.rest.bytes
     → quoted_to [] v (quoted (in_class class) v.rest.bytes) ≡ quoted_to run (at_rest rest v) (quoted (in_class class) rest.bytes)
-run_goes class v k run rest e f g =
-    sym (run_takes class v k e)
-    ∙ ap (λ (x : List ℕ). quoted_to x (at_rest (after k v.rest) v) (quoted (in_class class) (drop k v.rest.bytes))) (sym g)
-    ∙ ap (λ (r : Left). quoted_to run (at_rest r v) (quoted (in_class class) r.bytes)) (sym f)
+run_goes class v k run rest e f g = cc (run_takes class v k e, g, f)
 
 -- bytes that are not equal are found different by the test
 pub differs : (b c : ℕ) → (b ≡ c → ⊥) → (b == c) ≡ false
@@ -232,11 +191,7 @@ pub escape_kept : (class : Class) (w more : List ℕ) (v : Reading) (rest : Left
     → first_of v.rest.bytes ≡ Some b → b ≡ ascii.backslash → second_of v.rest.bytes ≡ Some e
     → more ≡ w ++ e ∷ [] → rest ≡ after 2 v.rest → quoted_to w v (quoted (in_class class) v.rest.bytes) ≡ whole
     → quoted_to more (at_rest rest v) (quoted (in_class class) rest.bytes) ≡ whole
-escape_kept class w more v rest b e whole f g h i j k =
-    ap (λ (x : List ℕ). quoted_to x (at_rest rest v) (quoted (in_class class) rest.bytes)) i
-    ∙ ap (λ (r : Left). quoted_to (w ++ e ∷ []) (at_rest r v) (quoted (in_class class) r.bytes)) j
-    ∙ by v.rest.bytes refl f h
-    ∙ k
+escape_kept class w more v rest b e whole f g h i j k = cc (i, j, by v.rest.bytes refl f h, k)
   where
     by : (bs : List ℕ) → v.rest.bytes ≡ bs → first_of bs ≡ Some b → second_of bs ≡ Some e
         → quoted_to (w ++ e ∷ []) (at_rest (after 2 v.rest) v) (quoted (in_class class) (drop 2 v.rest.bytes))
@@ -254,11 +209,7 @@ pub plain_kept : (class : Class) (w more : List ℕ) (v : Reading) (rest : Left)
     → first_of v.rest.bytes ≡ Some b → (b ≡ ascii.backslash → ⊥) → in_class class b ≡ true
     → more ≡ w ++ b ∷ [] → rest ≡ after 1 v.rest → quoted_to w v (quoted (in_class class) v.rest.bytes) ≡ whole
     → quoted_to more (at_rest rest v) (quoted (in_class class) rest.bytes) ≡ whole
-plain_kept class w more v rest b whole f g h i j k =
-    ap (λ (x : List ℕ). quoted_to x (at_rest rest v) (quoted (in_class class) rest.bytes)) i
-    ∙ ap (λ (r : Left). quoted_to (w ++ b ∷ []) (at_rest r v) (quoted (in_class class) r.bytes)) j
-    ∙ by v.rest.bytes refl f
-    ∙ k
+plain_kept class w more v rest b whole f g h i j k = cc (i, j, by v.rest.bytes refl f, k)
   where
     by : (bs : List ℕ) → v.rest.bytes ≡ bs → first_of bs ≡ Some b
         → quoted_to (w ++ b ∷ []) (at_rest (after 1 v.rest) v) (quoted (in_class class) (drop 1 v.rest.bytes))
@@ -292,8 +243,7 @@ name_long_from outer rest f at n p (b ∷ text) h g =
     by true false e d x ih = refl
     by true true e d x ih =
         let l : length (p ++ b ∷ []) ≤ 255 = grind (arith, nat_tests) in
-        given_past outer rest f 1 (name_from at (n + 1) (p ++ b ∷ []) text)
-        ∙ ih l (omega (arith, x, length-append p (b ∷ [])))
+        cc (given_past outer rest f 1 (name_from at (n + 1) (p ++ b ∷ []) text), ih l (omega (arith, x, length-append p (b ∷ []))))
 
 -- a name of at most 255 bytes, read byte by byte, is what the code takes at once
 name_short_from : {Y : Type 0} (outer : Option ℕ) (rest : Left) (f : Item → Left → Y) (at n : ℕ) (p text : List ℕ)
@@ -322,23 +272,14 @@ name_short_from outer rest f at n p (b ∷ text) h =
         (drop (if t then 1 + k else 0) (b ∷ text)))
     by false u e d x ih =
         let i : n ≡ n + 0 = omega arith in
-        ap (λ (j : ℕ). given outer rest f (name_end at j p 0 (b ∷ text))) i
-        ∙ ap (λ (q : List ℕ). given outer rest f (name_end at (n + 0) q 0 (b ∷ text))) (sym (append-nil p))
-        ∙ ap (λ (r : Left). given outer r f (name_end at (n + 0) (p ++ []) 0 (b ∷ text))) (sym (after_none rest))
+        cc (i, append-nil p, after_none rest)
     by true false e d x ih =
         let l : nat_le (length (p ++ b ∷ [])) 255 ≡ true = within (length (p ++ b ∷ [])) 255 (omega (arith, x, length-append p (b ∷ []))) in
         absurd cc
     by true true e d x ih =
         let i : n + 1 + k ≡ n + (1 + k) = omega arith in
-        given_past outer rest f 1 (name_from at (n + 1) (p ++ b ∷ []) text)
-        ∙ ih (omega (arith, x, length-append p (b ∷ [])))
-        ∙ ap (λ (r : Left). given outer r f (name_end at (n + 1 + k) ((p ++ b ∷ []) ++ take k text) 0 (drop k text)))
-        (sym (after_after 1 k rest))
-        ∙ ap (λ (j : ℕ). given outer (after (1 + k) rest) f (name_end at j ((p ++ b ∷ []) ++ take k text) 0 (drop k text))) i
-        ∙ ap (λ (q : List ℕ). given outer (after (1 + k) rest) f (name_end at (n + (1 + k)) q 0 (drop k text)))
-        (append_assoc p (b ∷ []) (take k text))
-        ∙ ap (λ (j : ℕ). given outer (after (1 + k) rest) f (name_end at (n + (1 + k)) (p ++ take j (b ∷ text)) 0 (drop j (b ∷ text))))
-        (sym (one_more k))
+        cc (given_past outer rest f 1 (name_from at (n + 1) (p ++ b ∷ []) text), ih (omega (arith, x, length-append p (b ∷ []))),
+        after_after 1 k rest, i, append_assoc p (b ∷ []) (take k text), one_more k)
 
 -- the item is written up to this rest
 abbrev item_to : ℕ → Item → Left → Reading → Reading
@@ -379,9 +320,7 @@ pub leaf_is : (kind : TokenKind) (label : Label) (start end : ℕ) (z : Parts)
     → wrote (node kind label (span start end) no_node no_node) false z ≡ leafed kind label start end z
 leaf_is kind label start end z =
     let m : length z.tokens + 1 + 0 ≡ length z.tokens + 1 = omega arith in
-    ap (λ (i : ℕ). parts_of (z.tokens ++ whole_token kind start end i ∷ []) (z.labels ++ label ∷ []) (z.holds || false)) m
-    ∙ ap (λ (h : Bool). parts_of (z.tokens ++ whole_token kind start end (length z.tokens + 1) ∷ []) (z.labels ++ label ∷ []) h)
-    (or_none z.holds)
+    cc (m, or_none z.holds)
 
 -- after the name of a text
 
@@ -421,9 +360,7 @@ module _ (outer : Option ℕ) (at start : ℕ) (v : Reading) (k : ℕ) (name : L
   pub name_done : (b : ℕ) (end : Left) → end ≡ after 1 rest → first_of rest.bytes ≡ Some b → b ≡ ascii.closing_parenthesis → 0 < length name
       → item_given outer start v (name_from at v.rest.at [] v.rest.bytes)
       ≡ Ok (leaf_here kinds.NamedText (word_label name) start (at_rest end v))
-  name_done b end i e g l =
-      name_short outer at start v k name rest whole short left taken ∙ by name rest.bytes e l
-      ∙ ap (λ (r : Left). Ok (leaf_here kinds.NamedText (word_label name) start (at_rest r v))) (sym i)
+  name_done b end i e g l = cc (name_short outer at start v k name rest whole short left taken, by name rest.bytes e l, i)
     where
       by : (q bs : List ℕ) → first_of bs ≡ Some b → 0 < length q
           → ended q bs ≡ Ok (leaf_here kinds.NamedText (word_label q) start (at_rest (after 1 rest) v))
@@ -431,9 +368,7 @@ module _ (outer : Option ℕ) (at start : ℕ) (v : Reading) (k : ℕ) (name : L
       by [] (c ∷ text) h j = absurd (omega (arith, j))
       by (x ∷ q) (c ∷ text) h j =
           let p : c ≡ b = cc in
-          ap (λ (m : ℕ). ended (x ∷ q) (m ∷ text)) (p ∙ g)
-          ∙ ap (λ (z : Parts). Ok (record { rest = after 1 rest; parts = z }))
-          (leaf_is kinds.NamedText (word_label (x ∷ q)) start (rest.at + 1) v.parts)
+          cc (p, g, leaf_is kinds.NamedText (word_label (x ∷ q)) start (rest.at + 1) v.parts)
 
 -- a name of which at least one byte was taken isn't empty
 pub taken_some : (k : ℕ) (name bs : List ℕ) → name ≡ take k bs → k ≤ length bs → (k ≡ 0 → ⊥) → 0 < length name
@@ -461,10 +396,7 @@ unfolding word_in
 quoted_took outer v u g (Run w size) word goes end is shift e =
     let p : w ≡ word = ap (λ (z : Option (List ℕ) × Reading). word_in z.0) e in
     let r : after size v.rest ≡ u.rest = ap (λ (z : Option (List ℕ) × Reading). z.1.rest) e in
-    ap (λ x. given outer v.rest g x) (is w size)
-    ∙ shift w size (drop size v.rest.bytes)
-    ∙ ap (λ (x : List ℕ). given outer (after size v.rest) g (end x 0 (drop size v.rest.bytes))) p
-    ∙ ap (λ (l : Left). given outer l g (end word 0 l.bytes)) r
+    cc (is w size, shift w size (drop size v.rest.bytes), p, r)
 quoted_took outer v u g (Hangs size) word goes end is shift e =
     let n : None ≡ Some word = ap (λ (z : Option (List ℕ) × Reading). z.0) e in
     absurd cc

@@ -25,14 +25,12 @@ use Rattle.std.proofs.Math.Seq.{set-append_seam}
 
 -- parts of equal fields are equal
 same_parts : {ts us : List Token} {xs ys : List Label} {a b : Bool} → ts ≡ us → xs ≡ ys → a ≡ b → parts_of ts xs a ≡ parts_of us ys b
-same_parts {ts} {us} {xs} {ys} {a} {b} e f g =
-    ap (λ z. parts_of z xs a) e ∙ ap (λ z. parts_of us z a) f ∙ ap (λ z. parts_of us ys z) g
+same_parts {ts} {us} {xs} {ys} {a} {b} e f g = cc (e, f, g)
 
 -- the labels of parts and of others after them are those of both
 pub labels_both : (xs ys : Nodes) → labels (both xs ys) ≡ labels xs ++ labels ys
 labels_both no_node ys = refl
-labels_both (node kind label s inner xs) ys =
-    ap (λ zs. label ∷ labels inner ++ zs) (labels_both xs ys) ∙ sym (append_assoc (label ∷ labels inner) (labels xs) (labels ys))
+labels_both (node kind label s inner xs) ys = cc (labels_both xs ys, append_assoc (label ∷ labels inner) (labels xs) (labels ys))
 
 -- three conditions joined by or are the same in either grouping
 or_assoc : (a b c : Bool) → (a || (b || c)) ≡ ((a || b) || c)
@@ -58,9 +56,8 @@ wrote_both xs ys a b z = same_parts
 pub list_wrote : (list : Items) (z : Parts) → list_written list z ≡ wrote (nodes_of list) (has_star list) z
 list_wrote none z = sym (wrote_none z)
 list_wrote (more s item items) z =
-    list_wrote items (item_written s.start item s.end z)
-    ∙ sym (wrote_both (node (kind_of item) (label_of item) s (inner_nodes item) no_node) (nodes_of items) (item_has_star item)
-    (has_star items) z)
+    cc (list_wrote items (item_written s.start item s.end z), wrote_both (node (kind_of item) (label_of item) s (inner_nodes item)
+    no_node) (nodes_of items) (item_has_star item) (has_star items) z)
 
 -- parts that are closed
 
@@ -94,6 +91,5 @@ pub owned_of : (c : Choice) (tail : Tail) (around : Bool) (v : Reading) (ts us :
     → ms ≡ set ls c.label (star_label v.parts.holds)
     → record { rest = v.rest; parts = parts_of us ms around } ≡ owned_here c tail around v
 owned_of c tail around v ts us ls ms e f g h =
-    ap (λ (z : Parts). record { rest = v.rest; parts = z })
-    (same_parts (g ∙ ap (λ zs. set zs c.part.token (whole_token kinds.Alternative c.part.start tail.kept (length zs))) e)
-    (h ∙ ap (λ zs. set zs c.label (star_label v.parts.holds)) f) refl)
+    cc (same_parts (g ∙ ap (λ zs. set zs c.part.token (whole_token kinds.Alternative c.part.start tail.kept (length zs))) e) (h ∙ ap (λ
+    zs. set zs c.label (star_label v.parts.holds)) f) refl)

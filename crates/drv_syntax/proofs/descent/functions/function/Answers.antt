@@ -1,7 +1,8 @@
-use Rattle.drv_syntax.proofs.GivenParts.{function_bad, function_cut, function_done, function_unknown}
+use Rattle.drv_syntax.proofs.Writing.{differs}
+use Rattle.drv_syntax.proofs.GivenParts.{function_by, none_left, some_left}
 use Rattle.drv_syntax.proofs.descent.functions.function.Goals as goal
 use Rattle.drv_syntax.specs.Code.Writing.{front_size, seen}
-use Rattle.std.proofs.Common.{[], ◌∙◌, ap, inr, sym}
+use Rattle.std.proofs.Common.{[], ◌∙◌, ap, inr, sym, refl}
 use Rattle.std.specs.Prelude.{Err}
 
 -- function (src/descent/functions.rt). A function's name, and its parenthesis.
@@ -9,31 +10,28 @@ use Rattle.std.specs.Prelude.{Err}
 -- the text ends after the front of a name
 pub returns-in_default : goal.returns-in_default
 returns-in_default c =
-    inr (function_cut c.args.outer c.args.at (seen c.args.r.now) c.front_length-size.result c.take-name.result.now c.take-name.new.self
-    (c.front_length-size.ensures.size ∙ ap (λ bs. front_size [] bs) c.bytes.ensures) c.take-name.ensures.left c.take-name.ensures.taken
-    c.in_default.ensures
-    ∙ ap (λ e. Err e) (sym c.unclosed_fault.ensures))
+    inr (function_by c.args.outer c.args.at (seen c.args.r.now) c.front_length-size.result c.take-name.result.now c.take-name.new.self
+    (c.front_length-size.ensures.size ∙ ap (λ bs. front_size [] bs) c.bytes.ensures) c.take-name.ensures.left c.take-name.ensures.taken _
+    (none_left _ c.in_default.ensures) ∙ rw c.unclosed_fault.ensures refl)
 
 -- no parenthesis (40) follows the front of a name
 pub returns-then-b-ne40 : goal.returns-then-b-ne40
 returns-then-b-ne40 c =
-    inr (function_bad c.args.outer c.args.at (seen c.args.r.now) c.front_length-size.result c.take-name.result.now c.take-name.new.self
-    (c.front_length-size.ensures.size ∙ ap (λ bs. front_size [] bs) c.bytes.ensures) c.take-name.ensures.left c.take-name.ensures.taken
-    c.in-Some.b c.in-Some.ensures
-    c.if-b-ne40.true)
+    inr (function_by c.args.outer c.args.at (seen c.args.r.now) c.front_length-size.result c.take-name.result.now c.take-name.new.self
+    (c.front_length-size.ensures.size ∙ ap (λ bs. front_size [] bs) c.bytes.ensures) c.take-name.ensures.left c.take-name.ensures.taken _
+    (some_left _ _ c.in-Some.ensures) ∙ rw (differs _ _ c.if-b-ne40.true) refl)
 
 -- a parenthesis follows, but the front is no name
 pub returns-then-not-is_function : goal.returns-then-not-is_function
 returns-then-not-is_function c =
-    inr (function_unknown c.args.outer c.args.at (seen c.args.r.now) c.front_length-size.result c.take-name.result.now c.take-name.new.self
-    (c.front_length-size.ensures.size ∙ ap (λ bs. front_size [] bs) c.bytes.ensures) c.take-name.ensures.left c.take-name.ensures.taken
-    c.in-Some.b c.in-Some.ensures
-    c.if-b-ne40.false (sym c.is_function.ensures ∙ c.if-not-is_function.true))
+    inr (function_by c.args.outer c.args.at (seen c.args.r.now) c.front_length-size.result c.take-name.result.now c.take-name.new.self
+    (c.front_length-size.ensures.size ∙ ap (λ bs. front_size [] bs) c.bytes.ensures) c.take-name.ensures.left c.take-name.ensures.taken _
+    (some_left _ _ c.in-Some.ensures) ∙ rw (c.if-b-ne40.false, sym c.is_function.ensures ∙ c.if-not-is_function.true) refl)
 
 -- the name and its parenthesis are taken
 pub returns : goal.returns
 returns c =
-    function_done c.args.outer c.args.at (seen c.args.r.now) c.front_length-size.result c.take-name.result.now c.take-name.new.self
-    (c.front_length-size.ensures.size ∙ ap (λ bs. front_size [] bs) c.bytes.ensures) c.take-name.ensures.left c.take-name.ensures.taken
-    c.in-Some.b c.take.new.self c.in-Some.ensures
-    c.if-b-ne40.false (sym c.is_function.ensures ∙ c.if-not-is_function.false) c.take.ensures.left
+    function_by c.args.outer c.args.at (seen c.args.r.now) c.front_length-size.result c.take-name.result.now c.take-name.new.self
+    (c.front_length-size.ensures.size ∙ ap (λ bs. front_size [] bs) c.bytes.ensures) c.take-name.ensures.left c.take-name.ensures.taken _
+    (some_left _ _ c.in-Some.ensures)
+    ∙ rw (c.if-b-ne40.false, sym c.is_function.ensures ∙ c.if-not-is_function.false, c.take.ensures.left) refl

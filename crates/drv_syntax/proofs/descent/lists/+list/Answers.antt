@@ -39,13 +39,15 @@ pub items-returns-then-ends_list-clause-list : goal.items-returns-then-ends_list
 items-returns-then-ends_list-clause-list t c =
     sym c.loop-tail.invariant
     ∙ rw (items_end _ _ (context_seen c.args.c) _ c.requires c.args.c.kind refl _ _ (seen c.loop-tail.r) (seen c.plains.new.r)
-    (ok_same c.in_ok-tail.ensures) (some_left _ _ c.in-Some.ensures) (sym c.ends_list.ensures ∙ c.if-ends_list.true), c.with_end.ensures) refl
+    (ok_same c.in_ok-tail.ensures) (some_left _ _ c.in-Some.ensures) (sym c.ends_list.ensures ∙ c.if-ends_list.true), c.with_end.ensures)
+    refl
 
 pub items-returns-in_err-percent-clause-list : goal.items-returns-in_err-percent-clause-list
 items-returns-in_err-percent-clause-list t c =
     gives_err _ _ c.from_residual-in_err-percent.ensures.1 c.in_err-percent.ensures (λ h. sym c.loop-tail.invariant
     ∙ rw (directed_by _ _ (context_seen c.args.c) _ c.requires c.args.c.kind refl _ _ (seen c.loop-tail.r) (seen c.plains.new.r)
-    (ok_same c.in_ok-tail.ensures) (some_left _ _ c.in-Some.ensures ∙ ap (λ x. x ∷ drop 1 c.plains.new.r.rest.bytes) c.if-b-eq37.true), h) refl)
+    (ok_same c.in_ok-tail.ensures) (some_left _ _ c.in-Some.ensures ∙ ap (λ x. x ∷ drop 1 c.plains.new.r.rest.bytes) c.if-b-eq37.true), h)
+    refl)
 
 pub items-loop-tail-smaller-then-b-eq37 : goal.items-loop-tail-smaller-then-b-eq37
 items-loop-tail-smaller-then-b-eq37 t c =
@@ -71,7 +73,8 @@ pub items-returns-in_err-tail-2-clause-list : goal.items-returns-in_err-tail-2-c
 items-returns-in_err-tail-2-clause-list t c =
     gives_err _ _ c.from_residual-in_err-tail-2.ensures.1 c.in_err-tail-2.ensures (λ h. sym c.loop-tail.invariant
     ∙ rw (byte_by _ _ (context_seen c.args.c) _ c.requires c.args.c.kind refl _ _ (seen c.loop-tail.r) (seen c.plains.new.r)
-    (ok_same c.in_ok-tail.ensures) (some_left _ _ c.in-Some.ensures) (sym c.ends_list.ensures ∙ c.if-ends_list.false) (differs _ _ c.if-b-eq37.false), h) refl)
+    (ok_same c.in_ok-tail.ensures) (some_left _ _ c.in-Some.ensures) (sym c.ends_list.ensures ∙ c.if-ends_list.false) (differs _ _
+    c.if-b-eq37.false), h) refl)
 
 pub items-loop-tail-smaller : goal.items-loop-tail-smaller
 items-loop-tail-smaller t c =
@@ -88,12 +91,14 @@ items-loop-tail-smaller t c =
 pub items-loop-tail-preserved : goal.items-loop-tail-preserved
 items-loop-tail-preserved t c =
     rw (byte_by _ _ (context_seen c.args.c) _ c.requires c.args.c.kind refl _ _ (seen c.loop-tail.r) (seen c.plains.new.r)
-    (ok_same c.in_ok-tail.ensures) (some_left _ _ c.in-Some.ensures) (sym c.ends_list.ensures ∙ c.if-ends_list.false) (differs _ _ c.if-b-eq37.false),
+    (ok_same c.in_ok-tail.ensures) (some_left _ _ c.in-Some.ensures) (sym c.ends_list.ensures ∙ c.if-ends_list.false) (differs _ _
+    c.if-b-eq37.false),
     c.in_ok-tail-2.ensures) at c.loop-tail.invariant
 
 pub percent-returns-then-is_simple : goal.percent-returns-then-is_simple
 percent-returns-then-is_simple t c =
-    gives_same _ _ (simple_goes (around c.args.c.levels) (context_seen c.args.c) c.args.outer (seen c.args.r.now) _ _ _ _ _ c.at-at.ensures.place
+    gives_same _ _ (simple_goes (around c.args.c.levels) (context_seen c.args.c) c.args.outer (seen c.args.r.now) _ _ _ _ _
+    c.at-at.ensures.place
     c.take.ensures.left c.in-Some.ensures (sym c.allows.ensures ∙ c.if-not-allows.false) c.take-2.ensures.left c.directive_of-d.ensures
     (sym c.is_simple.ensures ∙ c.if-is_simple.true)) c.directive.ensures
 
@@ -136,19 +141,22 @@ percent-returns-then-b-ne123 t c =
 
 pub percent-returns-in-WithCall : goal.percent-returns-in-WithCall
 percent-returns-in-WithCall t c =
-    gives_same _ _ (call_goes (around c.args.c.levels) (context_seen c.args.c) c.args.outer (seen c.args.r.now) _ _ _ _ _ c.at-at.ensures.place
+    gives_same _ _ (call_goes (around c.args.c.levels) (context_seen c.args.c) c.args.outer (seen c.args.r.now) _ _ _ _ _
+    c.at-at.ensures.place
     c.take.ensures.left c.in-Some.ensures (sym c.allows.ensures ∙ c.if-not-allows.false) c.take-2.ensures.left c.directive_of-d.ensures
     (differs _ _ c.if-c-eq0.false) c.in-WithCall.is) c.call.ensures
 
 pub percent-returns-in-WithBraces : goal.percent-returns-in-WithBraces
 percent-returns-in-WithBraces t c =
-    gives_same _ _ (braces_go (around c.args.c.levels) (context_seen c.args.c) c.args.outer (seen c.args.r.now) _ _ _ _ _ c.at-at.ensures.place
+    gives_same _ _ (braces_go (around c.args.c.levels) (context_seen c.args.c) c.args.outer (seen c.args.r.now) _ _ _ _ _
+    c.at-at.ensures.place
     c.take.ensures.left c.in-Some.ensures (sym c.allows.ensures ∙ c.if-not-allows.false) c.take-2.ensures.left c.directive_of-d.ensures
     (differs _ _ c.if-c-eq0.false) c.in-WithBraces.is) c.braces.ensures
 
 pub percent-returns-else-b-ne123 : goal.percent-returns-else-b-ne123
 percent-returns-else-b-ne123 t c =
-    gives_same _ _ (marked_opens (around c.args.c.levels) (context_seen c.args.c) c.args.outer (seen c.args.r.now) _ _ _ _ _ c.at-at.ensures.place
+    gives_same _ _ (marked_opens (around c.args.c.levels) (context_seen c.args.c) c.args.outer (seen c.args.r.now) _ _ _ _ _
+    c.at-at.ensures.place
     c.take.ensures.left c.in-Some.ensures (sym c.allows.ensures ∙ c.if-not-allows.false) c.take-2.ensures.left c.directive_of-d.ensures
     (differs _ _ c.if-c-eq0.false) _
     c.in-WithMarkedBraces.is _ c.in-Some-first.ensures c.if-b-ne123.false _
@@ -186,7 +194,8 @@ more_tests-loop-choice-smaller t c =
 
 pub tests-returns-in_err-patterns-in-Joins : goal.tests-returns-in_err-patterns-in-Joins
 tests-returns-in_err-patterns-in-Joins t c =
-    gives_err _ _ c.from_residual-in_err-patterns-in-Joins.ensures.1 c.in_err-patterns-in-Joins.ensures (λ h. rw (tests_by, c.in_ok-test.ensures, c.in-Joins.is, h) refl)
+    gives_err _ _ c.from_residual-in_err-patterns-in-Joins.ensures.1 c.in_err-patterns-in-Joins.ensures (λ h. rw (tests_by,
+    c.in_ok-test.ensures, c.in-Joins.is, h) refl)
 
 pub tests-returns-in_ok-patterns-in-Joins : goal.tests-returns-in_ok-patterns-in-Joins
 tests-returns-in_ok-patterns-in-Joins t c =
@@ -257,7 +266,8 @@ later-returns-then-begins_after_white t c =
 pub later-returns-in_err-choice-2 : goal.later-returns-in_err-choice-2
 later-returns-in_err-choice-2 t c =
     let e = sym c.begins_after_white.ensures ∙ c.if-begins_after_white.false in
-    gives_err _ _ c.from_residual-in_err-choice-2.ensures.1 c.in_err-choice-2.ensures (λ h. sym c.loop-r.invariant ∙ rw (later_tests, h) refl)
+    gives_err _ _ c.from_residual-in_err-choice-2.ensures.1 c.in_err-choice-2.ensures (λ h. sym c.loop-r.invariant ∙ rw (later_tests, h)
+    refl)
 
 -- patterns are in the place of a later alternative
 pub later-returns-in_default : goal.later-returns-in_default
@@ -286,7 +296,8 @@ later-loop-r-smaller t c =
 pub later-loop-r-preserved : goal.later-loop-r-preserved
 later-loop-r-preserved t c =
     let e = sym c.begins_after_white.ensures ∙ c.if-begins_after_white.false in
-    sym (rw (later_tests, c.in_ok-choice-2.ensures, c.in-Tests.is, c.in_ok-x-2.ensures, differs _ _ c.if-branch-eq125.false, mapped_same) refl)
+    sym (rw (later_tests, c.in_ok-choice-2.ensures, c.in-Tests.is, c.in_ok-x-2.ensures, differs _ _ c.if-branch-eq125.false, mapped_same)
+    refl)
     ∙ c.loop-r.invariant
 
 -- a test without a function (no % is there, 37)

@@ -1,7 +1,7 @@
-use Rattle.drv_syntax.proofs.GivenParts.{err_gives, pattern_done, pattern_hung, pattern_stops, seen_none, seen_some}
+use Rattle.drv_syntax.proofs.GivenParts.{err_gives, pattern_by, pattern_hung, seen_none, seen_some}
 use Rattle.drv_syntax.proofs.descent.patterns.pattern.Goals as goal
 use Rattle.drv_syntax.specs.Code.Writing.{is_empty, seen, spelled}
-use Rattle.std.proofs.Common.{◌∙◌, ap, inr, sym}
+use Rattle.std.proofs.Common.{◌∙◌, ap, inr, sym, refl}
 use Rattle.std.specs.Prelude.{Err}
 
 -- pattern (src/descent/patterns.rt). A pattern.
@@ -17,17 +17,13 @@ returns-in_default c =
 pub returns-in_err-star : goal.returns-in_err-star
 returns-in_err-star c =
     err_gives _ _ c.from_residual-in_err-star.ensures.1
-    (pattern_stops c.args.outer c.args.at (seen c.args.r.now) (seen c.quoted.new.r) (spelled c.in-Some.word c.quoted.new.r.word.items)
-    _ c.first.result c.in_err-star.field-0.0
+    (pattern_by c.args.outer c.args.at (seen c.args.r.now) (seen c.quoted.new.r) (spelled c.in-Some.word c.quoted.new.r.word.items)
     (seen_some _ c.in-Some.word c.quoted.new.r.word.items (seen c.quoted.new.r) _ c.in_ok-word.ensures c.in-Some.is)
-    (ap (λ x. is_empty (spelled c.in-Some.word x)) c.deref.ensures.value) c.first.ensures
-    (sym c.star_after.ensures ∙ c.in_err-star.was))
+    ∙ rw (← c.deref.ensures.value, ← c.first.ensures, sym c.star_after.ensures ∙ c.in_err-star.was) refl)
 
 -- the word and its star are taken
 pub returns : goal.returns
 returns c =
-    pattern_done c.args.outer c.args.at (seen c.args.r.now) (seen c.quoted.new.r) (spelled c.in-Some.word c.quoted.new.r.word.items)
-    _ c.first.result c.in_ok-star.star c.take_if.new.self
+    pattern_by c.args.outer c.args.at (seen c.args.r.now) (seen c.quoted.new.r) (spelled c.in-Some.word c.quoted.new.r.word.items)
     (seen_some _ c.in-Some.word c.quoted.new.r.word.items (seen c.quoted.new.r) _ c.in_ok-word.ensures c.in-Some.is)
-    (ap (λ x. is_empty (spelled c.in-Some.word x)) c.deref.ensures.value) c.first.ensures
-    (sym c.star_after.ensures ∙ c.in_ok-star.was) c.take_if.ensures
+    ∙ rw (← c.deref.ensures.value, ← c.first.ensures, sym c.star_after.ensures ∙ c.in_ok-star.was, c.take_if.ensures) refl

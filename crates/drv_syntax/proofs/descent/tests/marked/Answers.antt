@@ -1,10 +1,10 @@
 use Rattle.drv_syntax.proofs.GivenParts.{err_gives, seen_none, seen_some}
-use Rattle.drv_syntax.proofs.TestsGiven.{marked_done, marked_hung, marked_stops}
+use Rattle.drv_syntax.proofs.TestsGiven.{marked_by, marked_hung}
 use Rattle.drv_syntax.proofs.descent.tests.marked.Goals as goal
 use Rattle.drv_syntax.specs.Code.Writing.{is_empty, seen, spelled}
 use Rattle.drv_syntax.specs.Code.Tests.{order_seen}
 use Rattle.drv_syntax.specs.Refusals.{may_emit}
-use Rattle.std.proofs.Common.{◌∙◌, ap, inr, sym}
+use Rattle.std.proofs.Common.{◌∙◌, ap, inr, sym, refl}
 use Rattle.std.specs.Prelude.{Err}
 
 -- marked (src/descent/tests.rt). What a test asks that begins with a mark, after it.
@@ -21,21 +21,16 @@ returns-in_default c =
 pub returns-in_err-form : goal.returns-in_err-form
 returns-in_err-form c =
     err_gives _ _ c.from_residual-in_err-form.ensures.1
-    (marked_stops c.args.outer c.args.at (may_emit (order_seen c.args.order) c.args.begun.negated) c.args.begun.byte (seen c.args.r.now)
-    (seen c.quoted.new.r)
-    (spelled c.in-Some.word c.quoted.new.r.word.items) _ c.first.result c.in_err-form.field-0.0
+    (marked_by c.args.outer c.args.at (may_emit (order_seen c.args.order) c.args.begun.negated) c.args.begun.byte (seen c.args.r.now)
+    (seen c.quoted.new.r) (spelled c.in-Some.word c.quoted.new.r.word.items)
     (seen_some _ c.in-Some.word c.quoted.new.r.word.items (seen c.quoted.new.r) _ c.in_ok-word.ensures c.in-Some.is)
-    (ap (λ x. is_empty (spelled c.in-Some.word x)) c.deref.ensures.value) c.first.ensures
-    (sym c.mark_form.ensures ∙ c.in_err-form.was))
+    ∙ rw (← c.deref.ensures.value, ← c.first.ensures, sym c.mark_form.ensures ∙ c.in_err-form.was) refl)
 
 -- the word and what follows it are taken
 pub returns : goal.returns
 returns c =
-    marked_done c.args.outer c.args.at (may_emit (order_seen c.args.order) c.args.begun.negated) c.args.begun.byte (seen c.args.r.now)
-    (seen c.quoted.new.r)
-    (spelled c.in-Some.word c.quoted.new.r.word.items) _ c.first.result c.in_ok-form.form c.marked_as.result
-    c.take_if.new.self
+    marked_by c.args.outer c.args.at (may_emit (order_seen c.args.order) c.args.begun.negated) c.args.begun.byte (seen c.args.r.now)
+    (seen c.quoted.new.r) (spelled c.in-Some.word c.quoted.new.r.word.items)
     (seen_some _ c.in-Some.word c.quoted.new.r.word.items (seen c.quoted.new.r) _ c.in_ok-word.ensures c.in-Some.is)
-    (ap (λ x. is_empty (spelled c.in-Some.word x)) c.deref.ensures.value) c.first.ensures
-    (sym c.mark_form.ensures ∙ c.in_ok-form.was)
-    c.marked_as.ensures c.take_if.ensures
+    ∙ rw (← c.deref.ensures.value, ← c.first.ensures, sym c.mark_form.ensures ∙ c.in_ok-form.was, c.marked_as.ensures,
+    c.take_if.ensures) refl
