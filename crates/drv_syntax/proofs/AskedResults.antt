@@ -83,9 +83,15 @@ module _ (outer : Option ℕ) (at : ℕ) (so_far : Option Choice) (start : ℕ) 
     after_colon : reads ≡ given inner two on (then_read (function_from v.rest.at two.at [] two.bytes) (result_in deep c two.at two.bytes))
     after_colon =
         let n : v.rest.at + 2 ≡ v.rest.at + 1 + 1 = omega arith in
-        cc (text_is, given_past outer front on 1 (within at (then_read (function_from v.rest.at (v.rest.at + 2) [] (drop 1 front.bytes))
-        (result_in deep c (v.rest.at + 2) (drop 1 front.bytes)))), given_within outer at (after 1 front) on (then_read (function_from
-        v.rest.at (v.rest.at + 2) [] (drop 1 front.bytes)) (result_in deep c (v.rest.at + 2) (drop 1 front.bytes))), n, one_is, two_is)
+        ap (λ bs. given outer front on (result deep c at v.rest.at bs)) text_is
+        ∙ given_past outer front on 1 (within at (then_read (function_from v.rest.at (v.rest.at + 2) [] (drop 1 front.bytes))
+        (result_in deep c (v.rest.at + 2) (drop 1 front.bytes))))
+        ∙ given_within outer at (after 1 front) on (then_read (function_from v.rest.at (v.rest.at + 2) [] (drop 1 front.bytes))
+        (result_in deep c (v.rest.at + 2) (drop 1 front.bytes)))
+        ∙ ap (λ (i : ℕ). given inner (after 1 front) on (then_read (function_from v.rest.at i [] (drop 1 front.bytes))
+        (result_in deep c i (drop 1 front.bytes)))) n
+        ∙ ap (λ (x : Left). given inner x on (then_read (function_from v.rest.at x.at [] x.bytes) (result_in deep c x.at x.bytes)))
+        (ap (λ (x : Left). after 1 x) (sym one_is) ∙ sym two_is)
 
     -- the name of the function is read, in a test at the place n
     module _ (o : Option ℕ) (o_is : o ≡ inner) (n : ℕ) (n_is : n ≡ v.rest.at) (name : List ℕ) (u : Reading)
@@ -114,8 +120,9 @@ module _ (outer : Option ℕ) (at : ℕ) (so_far : Option Choice) (start : ℕ) 
       -- once the name is read, the test gives its arguments
       after_name : reads ≡ given inner u.rest on (arguments name u.rest.at u.rest.bytes)
       after_name =
-          cc (after_colon, given_then inner (at_rest two v) u name on (function_from v.rest.at two.at [] two.bytes) (result_in deep c
-          two.at two.bytes) (λ x i text. arguments x i text) (λ x k. arguments_at x k) named_is)
+          after_colon
+          ∙ given_then inner (at_rest two v) u name on (function_from v.rest.at two.at [] two.bytes) (result_in deep c two.at two.bytes)
+          (λ x i text. arguments x i text) (λ x k. arguments_at x k) named_is
 
       -- the alternative is open, and the token of the test opens in it; its arguments have the context ctx
       module _ (choice : Choice) (q w : Reading) (part : Open) (opens : choice_open so_far start u.parts ≡ (choice, q.parts))
@@ -153,9 +160,14 @@ module _ (outer : Option ℕ) (at : ℕ) (so_far : Option Choice) (start : ℕ) 
         pub asked_stop : (fault : SyntaxFault) → listed_given o (tail_at w) w ((levels ctx.levels).0 ctx w.rest.at w.rest.bytes) ≡ Err fault
             → reads ≡ Err fault
         asked_stop fault h =
-            cc (after_name, given_stops inner u.rest (λ (x : Items × ℕ) rest. ( with_end (tail_on (tail_at begun) x.0 begun.parts) x.1,
-            record { rest = rest; parts = list_written x.0 begun.parts }, )) on list (λ x size. Took (d.result_operand name x.0) (size +
-            1)) fault (sym list_is ∙ h))
+            after_name
+            ∙ given_stops inner u.rest
+            (λ (x : Items × ℕ) rest. (
+              with_end (tail_on (tail_at begun) x.0 begun.parts) x.1,
+              record
+                  { rest = rest; parts = list_written x.0 begun.parts },
+            )) on
+            list (λ x size. Took (d.result_operand name x.0) (size + 1)) fault (sym list_is ∙ h)
 
         -- once the arguments are read, the code's open alternative and test, the arguments and the closed test are the test of the tree
         pub asked_done : (tail : Tail) (x : Reading) (end : Left)

@@ -103,5 +103,6 @@ module _ (deep : Lists) (c : ListContext) (at : ℕ) (emits : Bool) where
       → ((m : ℕ) → n + length (37 ∷ 58 ∷ name ++ 40 ∷ text) ≡ m + length text → Fails (deep (in_arguments (in_braces c)) m text) f)
       → d.asked deep c at emits n (37 ∷ 58 ∷ name ++ 40 ∷ text) ≡ failed (around at f)
   result_fails f n name text e is h =
-      cc (result_is n (name ++ 40 ∷ text) e, past_fails (around at f) 2 (call_fails d.result_operand (in_braces c) deep n at f (n + 2)
-      name text is (λ m p. h m (omega (arith, p)))))
+      result_is n (name ++ 40 ∷ text) e
+      ∙ past_fails (around at f) 2 (call_fails d.result_operand (in_braces c) deep n at f (n + 2) name text is
+      (λ m p. h m (omega (arith, p))))

@@ -202,8 +202,9 @@ module _ (lists deep : Lists) (c : ListContext) (at : ℕ) where
       goes_on items size (Took (tree.Emit ps) more) never = absurd never
       goes_on items size (Took (tree.Choose cs) more) never =
           let e : k + (1 + size + 1 + more) ≡ k + (1 + size + 1) + more = omega arith in
-          cc (f_is (alternative (v.rest.at + k) ts items cs) (after (k + (1 + size + 1 + more)) v.rest), e, after_after (k + (1 + size +
-          1)) more v.rest, last_is size)
+          ap (λ x. Ok x) (f_is (alternative (v.rest.at + k) ts items cs) (after (k + (1 + size + 1 + more)) v.rest))
+          ∙ ap (λ (x : Left). Ok (g (record { rest = x; parts = choices_written (alternative (v.rest.at + k) ts items cs) v.parts })))
+          (ap (λ (i : ℕ). after i v.rest) e ∙ after_after (k + (1 + size + 1)) more v.rest ∙ ap (λ (x : Left). after more x) (last_is size))
       goes_on items size (Ends i) never = refl
       goes_on items size (Stops i fault) never = refl
 
@@ -223,8 +224,9 @@ module _ (lists deep : Lists) (c : ListContext) (at : ℕ) where
               (later_from (record { rest = last size; parts = written x.0 })))
           by true = cc (f_is (alternative (v.rest.at + k) ts x.0 no_choice) (after (k + (1 + size + 1)) v.rest), last_is size)
           by false =
-              cc (goes_on x.0 size (choices lists deep c at AtNext (v.rest.at + 1) (k + 1 + size) (drop 1 v.rest.bytes)) (late_choices
-              (drop 1 v.rest.bytes) (v.rest.at + 1) (k + 1 + size)), others_are size)
+              goes_on x.0 size (choices lists deep c at AtNext (v.rest.at + 1) (k + 1 + size) (drop 1 v.rest.bytes))
+              (late_choices (drop 1 v.rest.bytes) (v.rest.at + 1) (k + 1 + size))
+              ∙ ap (λ r. mapped g (later_given outer (record { rest = last size; parts = written x.0 }) r)) (others_are size)
 
       -- once the list that is its X is read, the alternative gives what follows its X
       list_goes : (r : Read (Items × ℕ))
@@ -321,8 +323,11 @@ module _ (lists deep : Lists) (c : ListContext) (at : ℕ) where
     pub later_tests : (v : Reading) → begins_with ascii.colon (drop (prefix_len is_white v.rest.bytes) v.rest.bytes) ≡ false
         → later_from v ≡ forms_later (form_given outer v (tests deep c at AtNext v.rest.at 0 v.rest.bytes))
     later_tests v e =
-        cc (later_whole v.rest.at v.rest.bytes, e, by (tests deep c at AtNext v.rest.at 0 v.rest.bytes) (late_tests deep c at v.rest.bytes
-        AtNext v.rest.at 0 tt))
+        ap (λ r. later_given outer v r) (later_whole v.rest.at v.rest.bytes)
+        ∙ ap (λ (t : Bool). later_given outer v (if t then default lists c at v.rest.at (prefix_len is_white v.rest.bytes) v.rest.bytes
+        else then_read (tests deep c at AtNext v.rest.at 0 v.rest.bytes) (λ form k. form_go lists c at v.rest.at v.rest.bytes form k
+        (λ skip. choices lists deep c at AtNext (v.rest.at + 1) skip (drop 1 v.rest.bytes))))) e
+        ∙ by (tests deep c at AtNext v.rest.at 0 v.rest.bytes) (late_tests deep c at v.rest.bytes AtNext v.rest.at 0 tt)
       where
         by : (r : Read Form) → NoPatterns r
             → later_given outer v (then_read r (λ form k. form_go lists c at v.rest.at v.rest.bytes form k
@@ -401,9 +406,11 @@ module _ (lists deep : Lists) (c : ListContext) (at : ℕ) where
         by (Ends i) = refl
         by (Stops i fault) = refl
         by (Took x size) =
-            cc (goes x size (x.1 == ascii.closing_brace), choice_owned v.parts (v.rest.at + white) (v.rest.at + white + 1) no_test x.0
-            false, owned x.0 (wrote (test_nodes no_test) (tests_have_star no_test) (opened kinds.Alternative no_label (v.rest.at + white)
-            v.parts)) asked_is)
+            goes x size (x.1 == ascii.closing_brace)
+            ∙ ap (λ (z : Parts). default_next x.1 (record { rest = after 1 (after size u.rest); parts = z }))
+            (sym (choice_owned v.parts (v.rest.at + white) (v.rest.at + white + 1) no_test x.0 false)
+            ∙ owned x.0 (wrote (test_nodes no_test) (tests_have_star no_test)
+            (opened kinds.Alternative no_label (v.rest.at + white) v.parts)) asked_is)
 
     -- the code's steps
 
@@ -430,8 +437,12 @@ module _ (lists deep : Lists) (c : ListContext) (at : ℕ) where
     pub later_less : (v u w : Reading) (form : code.Form) (choice : Choice) (end : ℕ)
         → form_given outer v (tests deep c at AtNext v.rest.at 0 v.rest.bytes) ≡ Ok (form, u) → x_from choice u ≡ Ok (end, w)
         → length w.rest.bytes < length v.rest.bytes
-    later_less v u w form choice end read ends = omega (arith, form_smaller deep c at outer AtNext v u form read, x_less choice u w end
-        ends)
+    later_less v u w form choice end read ends = omega (
+      arith,
+      form_smaller deep c at outer AtNext v u form read,
+      x_less choice u w end
+          ends,
+    )
 
     -- a default gives what its X gives, and what follows it
     pub default_x : (v : Reading) → begins_with ascii.colon (drop (prefix_len is_white v.rest.bytes) v.rest.bytes) ≡ true → (rest : Left)

@@ -176,8 +176,10 @@ module _ (lists deep : Lists) (c : ListContext) (at : ℕ) where
       -- where a semicolon ends an X, Descent reads the alternatives after it
       next_goes : inside order n t ≡ past m.size (then_read (inside AtNext (n + suc (m.size + 1 + x.size)) next) with_next)
       next_goes =
-          cc (x_goes, x.is, skipped (λ (i k : ℕ) (u : List ℕ). d.choices lists deep c at AtNext i k u) (λ i k b u. refl) n (suc (m.size +
-          1 + x.size)) t next semicolon.0 semicolon.1)
+          x_goes ∙ ap (λ r. then_read (d.within at r) (λ y size. after_x n t m.size tests y size)) x.is
+          ∙ ap (λ r. past m.size (then_read r with_next))
+          (skipped (λ (i k : ℕ) (u : List ℕ). d.choices lists deep c at AtNext i k u) (λ i k b u. refl) n (suc (m.size + 1 + x.size)) t next
+          semicolon.0 semicolon.1)
 
       -- where a semicolon ends an X, the alternatives fail as those after it do
       pub next_fails : (f : Failure) → inside AtNext (n + suc (m.size + 1 + x.size)) next ≡ failed f → inside order n t ≡ failed f

@@ -63,9 +63,13 @@ ending_last ts t =
 ends_so : (done : Items) (p : Span) (item : Item) → inner_nodes item ≡ no_node
     → ending_in p.end (tokens_of (join done (more p item none))) ≡ ending_by (kind_of item)
 ends_so done p item e =
-    rw (items_flat 0 (join done (more p item none)), items_join done (more p item none), flat_both 0 (nodes_of done) (node (kind_of item)
-    (label_of item) p (inner_nodes item) no_node), e, ending_last (flat 0 (nodes_of done)) (record { kind = kind_of item; start = p.start;
-    end = p.end; next = 0 + length (flat 0 (nodes_of done)) + 1 + 0 })) refl
+    ap (λ ts. ending_in p.end ts) (items_flat 0 (join done (more p item none))
+    ∙ ap (λ ns. flat 0 ns) (items_join done (more p item none))
+    ∙ flat_both 0 (nodes_of done) (node (kind_of item) (label_of item) p (inner_nodes item) no_node)
+    ∙ ap (λ ns. flat 0 (nodes_of done)
+    ++ flat (0 + length (flat 0 (nodes_of done))) (node (kind_of item) (label_of item) p ns no_node)) e)
+    ∙ ending_last (flat 0 (nodes_of done))
+    (record { kind = kind_of item; start = p.start; end = p.end; next = 0 + length (flat 0 (nodes_of done)) + 1 + 0 })
 
 -- what follows an item that a text ends in: a suffix and a word are closed by a blank, a message by nothing
 abbrev Fits : Item → List ℕ → Type 0
@@ -243,14 +247,19 @@ module _ (level : ℕ) (is : level ≡ 63) (q : List ℕ) where
       let sizes : length t ≡ 1 + o.used + length mid = omega (arith, o.fits, length-append t q, length-append mid q) in
       let ends : n + 1 + o.used ≡ m = omega (arith, place, sizes, b) in
       let there : n + 1 + o.used + length mid ≡ n + length t = omega (arith, sizes) in
-      cc (o.is, items_on items (n + 1 + o.used) l (rest_fits (span first m) x items q h) (omega (arith, place, sizes)), after_more n m
-      (length mid) first x items o.used (length t) (reads (n + 1 + o.used + length mid) q) begins ends (sym sizes), there)
+      o.is
+      ∙ ap (λ r. item_go n x o.used r)
+      (items_on items (n + 1 + o.used) l (rest_fits (span first m) x items q h) (omega (arith, place, sizes)))
+      ∙ after_more n m (length mid) first x items o.used (length t) (reads (n + 1 + o.used + length mid) q) begins ends (sym sizes)
+      ∙ ap (λ (k : ℕ). after (more (span first m) x items) (length t) (reads k q)) there
 
 -- the tokens of two lists, one after the other, are those of both
 tokens_joined : (items list : Items) → tokens_of (join items list) ≡ tokens_of items ++ flat (length (tokens_of items)) (nodes_of list)
 tokens_joined items list =
-    cc (items_flat 0 (join items list), items_join items list, flat_both 0 (nodes_of items) (nodes_of list), items_flat 0 items, by
-    (length (tokens_of items)))
+    items_flat 0 (join items list) ∙ ap (λ ns. flat 0 ns) (items_join items list)
+    ∙ flat_both 0 (nodes_of items) (nodes_of list)
+    ∙ ap (λ ts. ts ++ flat (0 + length ts) (nodes_of list)) (sym (items_flat 0 items))
+    ∙ ap (λ (i : ℕ). tokens_of items ++ flat i (nodes_of list)) (by (length (tokens_of items)))
   where
     by : (k : ℕ) → 0 + k ≡ k
     by k = omega arith

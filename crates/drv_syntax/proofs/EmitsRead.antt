@@ -241,5 +241,6 @@ module _ (deep : Lists) (c : ListContext) (at : ℕ) where
   emit_fails f {t} {p = p} n sp i z h =
       let k = emitting n sp i z refl refl in
       let e = byte_next t k.reads.size k.reads.left k.reads.fits in
-      cc (emit_goes k, then_fails f (λ rest size. Took (Patterns ((span k.first k.last, p) ∷ rest)) (k.reads.size + 1 + size)) (h (n + suc
-      k.reads.size) (omega (arith, e.1))))
+      emit_goes k
+      ∙ then_fails f (λ rest size. Took (Patterns ((span k.first k.last, p) ∷ rest)) (k.reads.size + 1 + size))
+      (h (n + suc k.reads.size) (omega (arith, e.1)))

@@ -248,8 +248,11 @@ module _ (deep : Lists) (c : ListContext) (at : ℕ) where
       form_next (d.Joins p) = cc (joins p (patterns at (v.rest.at + 1) k (drop 1 v.rest.bytes)), patterns_on at k v.rest)
       form_next (d.Asks s negated a) = refl
       form_next (d.Bars s negated a) =
-          cc (bars s negated a (tests deep c at AtBar (v.rest.at + 1) k (drop 1 v.rest.bytes)) (late_tests (drop 1 v.rest.bytes) AtBar
-          (v.rest.at + 1) k tt), bars_on k v.rest)
+          bars s negated a (tests deep c at AtBar (v.rest.at + 1) k (drop 1 v.rest.bytes))
+          (late_tests (drop 1 v.rest.bytes) AtBar (v.rest.at + 1) k tt)
+          ∙ ap (λ r. as_tests (more_given outer (added None v.parts s negated a).0
+          (record { rest = left; parts = (added None v.parts s negated a).1 }) r))
+          (bars_on k v.rest)
       form_next (d.Fails fault) = refl
 
       -- after a bar, what specs/Descent goes on with after a test is what the code's `more_tests` goes on with
@@ -261,8 +264,11 @@ module _ (deep : Lists) (c : ListContext) (at : ℕ) where
       more_next choice (d.Joins p) never = absurd never
       more_next choice (d.Asks s negated a) never = refl
       more_next choice (d.Bars s negated a) never =
-          cc (more_bars choice s negated a (tests deep c at AtBar (v.rest.at + 1) k (drop 1 v.rest.bytes)) (late_tests (drop 1
-          v.rest.bytes) AtBar (v.rest.at + 1) k tt), bars_on k v.rest)
+          more_bars choice s negated a (tests deep c at AtBar (v.rest.at + 1) k (drop 1 v.rest.bytes))
+          (late_tests (drop 1 v.rest.bytes) AtBar (v.rest.at + 1) k tt)
+          ∙ ap (λ r. more_given outer (added (Some choice) v.parts s negated a).0
+          (record { rest = left; parts = (added (Some choice) v.parts s negated a).1 }) r)
+          (bars_on k v.rest)
       more_next choice (d.Fails fault) never = refl
 
     -- the tests of an alternative give what their first test and the byte after it lead to

@@ -295,9 +295,13 @@ module _ (outer : Option ℕ) (list : Kind) (kind : SayKind) (at : ℕ) (v : Rea
       → item_given outer at v (saying list kind v.rest.at v.rest.bytes)
       ≡ Ok (leaf_here (said_kind kind) (word_label word) at (at_rest end u))
   saying_done u word end e g =
-      rw (quoted_took outer v u said_at (quoted (is_said list) v.rest.bytes) word (λ q. saying_text kind v.rest.at q v.rest.bytes) (λ w
-      size bs. saying_end kind w size bs) (λ w size. refl) (λ w size bs. saying_shift outer v.rest said_at kind w size bs) e, saying_ends
-      outer u.rest said_at kind word, ← g, quoted_parts v u (quoted (is_said list) v.rest.bytes) e, by kind) refl
+      quoted_took outer v u said_at (quoted (is_said list) v.rest.bytes) word (λ q. saying_text kind v.rest.at q v.rest.bytes)
+      (λ w size bs. saying_end kind w size bs) (λ w size. refl) (λ w size bs. saying_shift outer v.rest said_at kind w size bs) e
+      ∙ saying_ends outer u.rest said_at kind word
+      ∙ ap (λ (l : Left). Ok (said_at (said kind word) l)) (sym g)
+      ∙ ap (λ (z : Parts). Ok (record { rest = end; parts = item_written at (said kind word) end.at z }))
+      (quoted_parts v u (quoted (is_said list) v.rest.bytes) e)
+      ∙ by kind
     where
       by : (k : SayKind)
           → ◌≡◌ {A = Result Reading SyntaxFault} (Ok (record { rest = end; parts = item_written at (said k word) end.at u.parts }))
@@ -373,9 +377,13 @@ module _ (outer : Option ℕ) (at : ℕ) (v : Reading) where
       ≡ star_then (star_after outer at (is_empty word) (first_of u.rest.bytes))
       (λ star. (pattern word star, at_rest (past_byte ascii.asterisk u.rest) u))
   pattern_by u word e =
-      rw (quoted_took outer v u as_pattern (quoted is_word v.rest.bytes) word (λ q. pattern_text at v.rest.at q v.rest.bytes) (λ w size
-      bs. pattern_end at v.rest.at w size bs) (λ w size. refl) (λ w size bs. pattern_shift outer v.rest as_pattern at v.rest.at w size bs)
-      e, pattern_ends outer u.rest as_pattern at v.rest.at word, quoted_parts v u (quoted is_word v.rest.bytes) e) refl
+      quoted_took outer v u as_pattern (quoted is_word v.rest.bytes) word (λ q. pattern_text at v.rest.at q v.rest.bytes)
+      (λ w size bs. pattern_end at v.rest.at w size bs) (λ w size. refl)
+      (λ w size bs. pattern_shift outer v.rest as_pattern at v.rest.at w size bs) e
+      ∙ pattern_ends outer u.rest as_pattern at v.rest.at word
+      ∙ ap (λ (z : Parts). star_then (star_after outer at (is_empty word) (first_of u.rest.bytes))
+      (λ star. (pattern word star, record { rest = past_byte ascii.asterisk u.rest; parts = z })))
+      (quoted_parts v u (quoted is_word v.rest.bytes) e)
 
 -- %< and %>
 
@@ -431,8 +439,15 @@ function_goes outer rest g at n p (b ∷ text) =
     by true ih =
         let i : n + 1 + k ≡ n + (1 + k) = omega arith in
         let one : 1 + k ≡ suc k = omega arith in
-        cc (given_past outer rest g 1 (function_from at (n + 1) (p ++ b ∷ []) text), ih, after_after 1 k rest, i, append_assoc p (b ∷ [])
-        (take k text), one)
+        given_past outer rest g 1 (function_from at (n + 1) (p ++ b ∷ []) text)
+        ∙ ih
+        ∙ ap (λ (r : Left). given outer r g (function_end at (n + 1 + k) ((p ++ b ∷ []) ++ take k text) (drop k text)))
+        (sym (after_after 1 k rest))
+        ∙ ap (λ (j : ℕ). given outer (after (1 + k) rest) g (function_end at j ((p ++ b ∷ []) ++ take k text) (drop k text))) i
+        ∙ ap (λ (q : List ℕ). given outer (after (1 + k) rest) g (function_end at (n + (1 + k)) q (drop k text)))
+        (append_assoc p (b ∷ []) (take k text))
+        ∙ ap (λ (j : ℕ). given outer (after (1 + k) rest) g (function_end at (n + (1 + k)) (p ++ take j (b ∷ text)) (drop j (b ∷ text))))
+        (sym one)
 
 -- a function's name: k bytes of what is left go on with one, and they are taken as `name`
 module _ (outer : Option ℕ) (at : ℕ) (v : Reading) (k : ℕ) (name : List ℕ) (rest : Left) (whole : k ≡ front_size [] v.rest.bytes)

@@ -132,8 +132,9 @@ module _ (outer : Option ℕ) (at : ℕ) (lists : Lists) (c : ListContext) (v : 
 patterns_wrote : (ps : List (Span × Pattern)) (z : Parts) → patterns_written ps z ≡ wrote (pattern_nodes ps) false z
 patterns_wrote [] z = sym (wrote_none z)
 patterns_wrote (p ∷ ps) z =
-    cc (patterns_wrote ps (leafed kinds.Pattern (pattern_label p.1) p.0.start p.0.end z), leaf_is kinds.Pattern (pattern_label p.1)
-    p.0.start p.0.end z, wrote_both (node kinds.Pattern (pattern_label p.1) p.0 no_node no_node) (pattern_nodes ps) false false z)
+    patterns_wrote ps (leafed kinds.Pattern (pattern_label p.1) p.0.start p.0.end z)
+    ∙ ap (λ (y : Parts). wrote (pattern_nodes ps) false y) (sym (leaf_is kinds.Pattern (pattern_label p.1) p.0.start p.0.end z))
+    ∙ sym (wrote_both (node kinds.Pattern (pattern_label p.1) p.0 no_node no_node) (pattern_nodes ps) false false z)
 
 -- alternatives written one after another are the alternatives written at once
 choices_wrote : (cs : Choices) (z : Parts) → choices_written cs z ≡ wrote (choice_nodes cs) (choices_have_star cs) z

@@ -175,15 +175,24 @@ module _ (k : ℕ) (q : List ℕ) where
         → Refuses (k + 1) due last fault → At (k + 1) (m + 1) text → d.directive_by lists deep c at m f (text ++ q) ≡ Stops k fault
     by_fails {last = last} {due} {fault} at m (r.in_call {text = text} name e is o) h place =
         let g = append_assoc name (40 ∷ text) q in
-        cc (g, nest_is lists deep c at m (d.call lists c at (m + 1) (name ++ 40 ∷ (text ++ q))) e, call_fails Function c lists at at
-        (AtByte k fault) (m + 1) name (text ++ q) is (λ j p. args e due last fault j text o h (omega ( arith, place, p, length-append name
-        (40 ∷ text), length-append name (40 ∷ text ++ q), length-append text q, ))))
+        ap (λ (y : List ℕ). d.directive_by lists deep c at m kinds.WithCall y) g
+        ∙ nest_is lists deep c at m (d.call lists c at (m + 1) (name ++ 40 ∷ (text ++ q))) e
+        ∙ call_fails Function c lists at at (AtByte k fault) (m + 1) name (text ++ q) is
+        (λ j p. args e due last fault j text o h (omega (
+          arith,
+          place,
+          p,
+          length-append name (40 ∷ text),
+          length-append name (40 ∷ text ++ q),
+          length-append text q,
+        )))
     by_fails {fault = fault} at m (r.in_place {text = text} e o) h place =
         nest_is lists deep c at m (d.braces lists deep c at InPlace (m + 1) (text ++ q)) e
         ∙ then_fails (AtByte k fault) (λ brace size. Took (braced InPlace brace) size) (brace_fails at e (m + 1) o h place)
     by_fails {fault = fault} at m (r.in_marked {kind = kind} {text = text} e o) h place =
-        cc (nest_is lists deep c at m (past 1 (d.braces lists deep c at kind (m + 1 + 1) (text ++ q))) e, then_fails (AtByte k fault) (λ
-        brace size. Took (braced kind brace) size) (brace_fails at e (m + 1 + 1) o h (omega (arith, place))))
+        nest_is lists deep c at m (past 1 (d.braces lists deep c at kind (m + 1 + 1) (text ++ q))) e
+        ∙ ap (λ r. past 1 r) (then_fails (AtByte k fault) (λ brace size. Took (braced kind brace) size)
+        (brace_fails at e (m + 1 + 1) o h (omega (arith, place))))
 
     -- an item
 

@@ -111,8 +111,15 @@ run_more k v b text e =
     let rest : after k (after 1 v.rest) ≡ after (suc k) v.rest = sym (after_after 1 k v.rest) ∙ ap (λ (i : ℕ). after i v.rest) one in
     let bytes : take k (drop 1 v.rest.bytes) ≡ take k text = ap (λ bs. take k (drop 1 bs)) e in
     let whole : b ∷ take k text ≡ take (suc k) v.rest.bytes = ap (λ bs. take (suc k) bs) (sym e) in
-    cc (rest, bytes, next, append_assoc v.parts.tokens (t ∷ []) (plain_tokens (v.rest.at + 1) (length v.parts.tokens + 1 + 1) (take k
-    text)), append_assoc v.parts.labels (word_label (b ∷ []) ∷ []) (byte_labels (take k text)), whole)
+    cc (
+      rest,
+      bytes,
+      next,
+      append_assoc v.parts.tokens (t ∷ []) (plain_tokens (v.rest.at + 1) (length v.parts.tokens + 1 + 1) (take k
+          text)),
+      append_assoc v.parts.labels (word_label (b ∷ []) ∷ []) (byte_labels (take k text)),
+      whole,
+    )
 
 -- a plain byte and then a run of k bytes leave the same tail and reading as a run of k + 1 bytes
 plains_more : (k : ℕ) (tail : Tail) (v : Reading) (b : ℕ) (text : List ℕ) → v.rest.bytes ≡ b ∷ text
@@ -320,8 +327,10 @@ module _ (lists deep : Lists) (c : ListContext) (outer : Option ℕ) (inside : O
         by InArguments = refl
 
     -- at the byte that ends it, a list writes nothing more, and gives its tail with that byte
-    pub items_end : {b : ℕ} {text : List ℕ} → v.rest.bytes ≡ b ∷ text → ends_list c.kind b ≡ true → items_at before w ≡ Ok (with_end tail b,
-        v)
+    pub items_end : {b : ℕ} {text : List ℕ} → v.rest.bytes ≡ b ∷ text → ends_list c.kind b ≡ true → items_at before w ≡ Ok (
+      with_end tail b,
+      v,
+    )
     items_end {b} e g =
         plains_go ∙ ap (λ bs. listed_given outer tail v (items_with lists deep c v.rest.at 0 bs)) e ∙ rw g refl
         ∙ ap (λ (r : Left). Ok (list_on tail v.parts (none, b) r)) (after_none v.rest)

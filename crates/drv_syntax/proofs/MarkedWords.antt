@@ -88,8 +88,18 @@ pub labels_push : (words more : List ℕ) (marks : List LabelMark) (start end : 
     } ∷ [])
     ≡ marked_labels words marks ++ part_label more starred negated asks ∷ []
 labels_push words more marks start end starred negated asks w h k =
-    cc (map-append (λ m. marked_label (words ++ more) m) marks (record { start = start; end = end; starred = starred; negated = negated;
-    asks = asks; holds_star = false; } ∷ []), labels_kept words more marks w, last_part words more start end h k)
+    map-append (λ m. marked_label (words ++ more) m) marks (record {
+      start = start;
+      end = end;
+      starred = starred;
+      negated = negated;
+      asks =
+          asks;
+      holds_star = false;
+    } ∷ [])
+    ∙ ap (λ ls. ls ++ part_label (take (end - start) (drop start (words ++ more))) starred negated asks ∷ [])
+    (labels_kept words more marks w)
+    ∙ ap (λ word. marked_labels words marks ++ part_label word starred negated asks ∷ []) (last_part words more start end h k)
 
 -- a word that is added in two parts, with a mark for both, is one label more
 pub labels_pushed : (words first second front word : List ℕ) (marks all : List LabelMark) (now : List Label) (start end : ℕ)
@@ -128,8 +138,10 @@ pub labels_none : (words : List ℕ) (marks all : List LabelMark) (now : List La
     → all ≡ marks ++ record { start = 0; end = 0; starred = false; negated = false; asks = asking.Switch; holds_star = false } ∷ []
     → now ++ no_label ∷ [] ≡ marked_labels words all
 labels_none words marks all now e a =
-    cc (e, map-append (λ m. marked_label words m) marks (record { start = 0; end = 0; starred = false; negated = false; asks =
-    asking.Switch; holds_star = false } ∷ []), a)
+    ap (λ ls. ls ++ no_label ∷ []) e
+    ∙ sym (map-append (λ m. marked_label words m) marks
+    (record { start = 0; end = 0; starred = false; negated = false; asks = asking.Switch; holds_star = false } ∷ []))
+    ∙ ap (λ ms. marked_labels words ms) (sym a)
 
 -- the first n marks are the first n labels (`truncate`)
 pub labels_take : (words : List ℕ) (n : ℕ) (marks : List LabelMark) → marked_labels words (take n marks)
@@ -185,8 +197,12 @@ pub labels_run : (words second run : List ℕ) (start : ℕ) (marks all : List L
     → Within (length words) marks → second ≡ words ++ run → start ≡ length words
     → all ≡ marks ++ byte_marks start run → now ++ byte_labels run ≡ marked_labels second all
 labels_run words second run start marks all now e w f h a =
-    cc (e, labels_kept words run marks w, run_at words run start h, map-append (λ m. marked_label (words ++ run) m) marks (byte_marks
-    start run), f, a)
+    ap (λ ls. ls ++ byte_labels run) e
+    ∙ ap (λ ls. ls ++ byte_labels run) (sym (labels_kept words run marks w))
+    ∙ ap (λ ls. marked_labels (words ++ run) marks ++ ls) (sym (run_at words run start h))
+    ∙ sym (map-append (λ m. marked_label (words ++ run) m) marks (byte_marks start run))
+    ∙ ap (λ ws. marked_labels ws (marks ++ byte_marks start run)) (sym f)
+    ∙ ap (λ ms. marked_labels second ms) (sym a)
 
 -- a step of the loop of `push_marks` keeps the list of marks that the loop leads to
 pub marks_step : (old new all : List LabelMark) (place i : ℕ) (run : List ℕ) → i < length run
@@ -194,5 +210,15 @@ pub marks_step : (old new all : List LabelMark) (place i : ℕ) (run : List ℕ)
     ∷ []
     → old ++ byte_marks place (drop i run) ≡ all → new ++ byte_marks (place + 1) (drop (i + 1) run) ≡ all
 marks_step old new all place i run h e f =
-    cc (e, append_assoc old (record { start = place; end = place + 1; starred = false; negated = false; asks = asking.Switch; holds_star =
-    false; } ∷ []) (byte_marks (place + 1) (drop (i + 1) run)), drop_more run i 0 h, f)
+    ap (λ ms. ms ++ byte_marks (place + 1) (drop (i + 1) run)) e
+    ∙ append_assoc old (record {
+      start = place;
+      end = place + 1;
+      starred = false;
+      negated = false;
+      asks = asking.Switch;
+      holds_star =
+          false;
+    } ∷ []) (byte_marks (place + 1) (drop (i + 1) run))
+    ∙ ap (λ bs. old ++ byte_marks place bs) (sym (drop_more run i 0 h))
+    ∙ f

@@ -33,8 +33,9 @@ use Rattle.std.specs.Prelude.{◌&&◌}
 pub tests_wrote : (ts : Tests) (x : Choice × Parts) → (tests_on x ts).1 ≡ wrote (test_nodes ts) (tests_have_star ts) x.1
 tests_wrote no_test x = sym (wrote_none x.1)
 tests_wrote (test s negated a ts) x =
-    cc (tests_wrote ts (test_added x s negated a), wrote_both (node kinds.Test (test_label negated a) s (asked_nodes a) no_node)
-    (test_nodes ts) (asked_has_star a) (tests_have_star ts) x.1)
+    tests_wrote ts (test_added x s negated a)
+    ∙ sym (wrote_both (node kinds.Test (test_label negated a) s (asked_nodes a) no_node) (test_nodes ts) (asked_has_star a)
+    (tests_have_star ts) x.1)
 
 -- b and true is b
 and_true : (b : Bool) → (b && true) ≡ b
@@ -64,8 +65,9 @@ with_starred c starred = record { part = c.part; label = c.label; starred = star
 pub tests_choice : (ts : Tests) (x : Choice × Parts) → (tests_on x ts).0 ≡ with_starred x.0 (x.0.starred && all_starred ts)
 tests_choice no_test x = ap (λ b. with_starred x.0 b) (sym (and_true x.0.starred))
 tests_choice (test s negated a ts) x =
-    cc (tests_choice ts (test_added x s negated a), and_assoc x.0.starred (is_starred negated a) (all_starred ts), starred_more s negated
-    a ts)
+    tests_choice ts (test_added x s negated a)
+    ∙ ap (λ b. with_starred x.0 b) (and_assoc x.0.starred (is_starred negated a) (all_starred ts)
+    ∙ ap (λ b. x.0.starred && b) (starred_more s negated a ts))
 
 -- white space at the end of a list
 
@@ -181,14 +183,16 @@ module _ (z : Parts) (start place : ℕ) (ts : Tests) (items : Items) where
   -- the tokens that the code keeps are those without the white space at the end
   kept_tokens : take (tail_on begun items (unheld asked)).tokens whole.tokens ≡ list.tokens
   kept_tokens =
-      cc (tail_is, size_of (trimmed items), cut list.tokens whole.tokens (trims items (unheld asked)).tokens (trims items (unheld
-      asked)).tokens_are)
+      ap (λ (t : Tail). take t.tokens whole.tokens) tail_is
+      ∙ ap (λ (n : ℕ). take n whole.tokens) (size_of (trimmed items))
+      ∙ cut list.tokens whole.tokens (trims items (unheld asked)).tokens (trims items (unheld asked)).tokens_are
 
   -- the labels that the code keeps are those without the white space at the end
   kept_labels : take (tail_on begun items (unheld asked)).labels whole.labels ≡ list.labels
   kept_labels =
-      cc (tail_is, labels_of (trimmed items), cut list.labels whole.labels (trims items (unheld asked)).labels (trims items (unheld
-      asked)).labels_are)
+      ap (λ (t : Tail). take t.labels whole.labels) tail_is
+      ∙ ap (λ (n : ℕ). take n whole.labels) (labels_of (trimmed items))
+      ∙ cut list.labels whole.labels (trims items (unheld asked)).labels (trims items (unheld asked)).labels_are
 
   -- the tests and the list are one list of parts
   list_is : list ≡ wrote (nodes_of (trimmed items)) (has_star (trimmed items)) (unheld asked)
@@ -229,8 +233,10 @@ module _ (z : Parts) (start place : ℕ) (ts : Tests) (items : Items) where
   closed_labels : (l : Label) → l ≡ alternative_label (trimmed items) → set list.labels (length z.labels) l
       ≡ (choice_written (span start end) ts (trimmed items) z).labels
   closed_labels l e =
-      cc (labels_is, append_assoc z.labels (no_label ∷ []) (labels inner), set-append_seam z.labels no_label (labels inner) l, e,
-      append-nil (labels inner))
+      ap (λ xs. set xs (length z.labels) l) (labels_is ∙ append_assoc z.labels (no_label ∷ []) (labels inner))
+      ∙ set-append_seam z.labels no_label (labels inner) l
+      ∙ ap (λ (x : Label). z.labels ++ x ∷ labels inner) e
+      ∙ ap (λ xs. z.labels ++ alternative_label (trimmed items) ∷ xs) (sym (append-nil (labels inner)))
 
   -- an alternative that the code opens, fills and cuts at its tail is the alternative of the tree, written at once
   pub choice_owned : (starred : Bool)

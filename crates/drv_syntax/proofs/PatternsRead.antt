@@ -78,8 +78,9 @@ module _ (at : ℕ) where
   one_fails f {t} {u} n sp w h =
       let m = spaces_to sp w in
       let white = prefix_len is_white t in
-      rw (m.0, past_failed (then_fails f (λ p k. past k (byte_after (span (n + white) (n + white + k), p) (drop k u))) (h (n + white)
-      (omega (arith, m.1))))) refl
+      ap (λ (x : List ℕ). past white (there (n + white) x)) m.0
+      ∙ past_failed (then_fails f (λ p k. past k (byte_after (span (n + white) (n + white + k), p) (drop k u)))
+      (h (n + white) (omega (arith, m.1))))
     where
       past_failed : {r : Read ((Span × Pattern) × ℕ)} → r ≡ failed f → past (prefix_len is_white t) r ≡ failed f
       past_failed e = past_fails f (prefix_len is_white t) e

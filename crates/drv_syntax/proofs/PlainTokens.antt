@@ -11,5 +11,8 @@ pub tokens_step : (old new all : List Token) (n next i : ℕ) (run : List ℕ) �
     → new ≡ old ++ record { kind = kinds.Plain; start = n; end = n + 1; next = next + 1 } ∷ []
     → old ++ plain_tokens n (next + 1) (drop i run) ≡ all → new ++ plain_tokens (n + 1) (next + 1 + 1) (drop (i + 1) run) ≡ all
 tokens_step old new all n next i run h e f =
-    cc (e, append_assoc old (record { kind = kinds.Plain; start = n; end = n + 1; next = next + 1 } ∷ []) (plain_tokens (n + 1) (next + 1
-    + 1) (drop (i + 1) run)), drop_more run i 0 h, f)
+    ap (λ (ts : List Token). ts ++ plain_tokens (n + 1) (next + 1 + 1) (drop (i + 1) run)) e
+    ∙ append_assoc old (record { kind = kinds.Plain; start = n; end = n + 1; next = next + 1 } ∷ [])
+    (plain_tokens (n + 1) (next + 1 + 1) (drop (i + 1) run))
+    ∙ ap (λ (bs : List ℕ). old ++ plain_tokens n (next + 1) bs) (sym (drop_more run i 0 h))
+    ∙ f

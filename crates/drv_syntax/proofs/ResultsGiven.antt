@@ -276,16 +276,23 @@ module _ (deep : Lists) (c : ListContext) (at : ℕ) where
               (ended at (span begun.start (u.rest.at + k)) begun.negated operand (drop k u.rest.bytes))))
               ≡ result_then (result_given outer so_far begun.start begun.negated u r)
           result_by (Took o size) h =
-              cc (tried_past u (1 + size) (ended at (span begun.start (u.rest.at + (1 + size))) begun.negated o (drop (1 + size)
-              u.rest.bytes)), after_after 1 size u.rest, ended_by o h.asked h.is h.no_pattern (after size (after 1 u.rest)), h.is)
+              tried_past u (1 + size) (ended at (span begun.start (u.rest.at + (1 + size))) begun.negated o (drop (1 + size) u.rest.bytes))
+              ∙ ap (λ (x : Left). tries (at_rest x u) (ended at (span begun.start x.at) begun.negated o x.bytes))
+              (after_after 1 size u.rest)
+              ∙ ended_by o h.asked h.is h.no_pattern (after size (after 1 u.rest))
+              ∙ ap (λ (t : Option Asked). result_then
+              (Ok (result_on so_far begun.start begun.negated u.parts t (after size (after 1 u.rest))))) (sym h.is)
           result_by (Ends n) h = refl
           result_by (Stops n fault) h = refl
 
           -- a test of a function's result gives what the code's `result` and then the byte after it give
           pub result_here : tries v (one_test deep c at order v.rest.at v.rest.bytes) ≡ result_then result_from
           result_here =
-              cc (begun_here, text_is, deeper, result_by (result deep c at u.rest.at (drop 1 u.rest.bytes)) (result_asks u.rest.at (drop 1
-              u.rest.bytes)))
+              begun_here
+              ∙ ap (λ bs. tries u (then_read (d.asked deep c at (may_emit order begun.negated) u.rest.at bs)
+              (λ operand k. past k (ended at (span begun.start (u.rest.at + k)) begun.negated operand (drop k u.rest.bytes))))) text_is
+              ∙ rw deeper refl
+              ∙ result_by (result deep c at u.rest.at (drop 1 u.rest.bytes)) (result_asks u.rest.at (drop 1 u.rest.bytes))
 
           -- the function and its arguments are read, and white space after them; the byte after that decides what the test gives
           pub result_byte_by : (choice : Choice) (w : Reading) → result_from ≡ Ok (choice, w) → (rest : Left) → rest ≡ spaced w.rest

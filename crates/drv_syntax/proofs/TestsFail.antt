@@ -395,5 +395,6 @@ module _ (k : ℕ) (q : List ℕ) where
           let m = asking deep c at order reads n (spaces_longer q sp) (sign_longer q sign (asked_filled q i f)) (asked_longer q i f)
           (spaces_longer q z) refl refl (omega (arith, place, length-append t q)) in
           let e = byte_next (t ++ q) m.reads.size m.reads.left m.reads.fits in
-          cc (next_goes deep c at order m, reach_tests (n + suc m.reads.size) o h (omega (arith, place, e.1, length-append t q,
-          length-append x q)))
+          next_goes deep c at order m
+          ∙ ap (λ r. then_read r (λ form size. Took (d.with_test (span m.first m.last) negated a form) (m.reads.size + 1 + size)))
+          (reach_tests (n + suc m.reads.size) o h (omega (arith, place, e.1, length-append t q, length-append x q)))

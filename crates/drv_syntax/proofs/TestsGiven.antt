@@ -164,8 +164,11 @@ module _ (outer : Option ℕ) (at : ℕ) (emits : Bool) (mark : ℕ) (v : Readin
       → marked_reads ≡ form_then (mark_form outer at emits (is_empty word) (first_of u.rest.bytes))
       (λ form. (operand_of (marked_as form mark) word, at_rest (past_byte ascii.asterisk u.rest) u))
   marked_by u word q =
-      rw (mark_took u (quoted is_word v.rest.bytes) word (λ w size e z. quoted_none is_word v.rest.bytes size (e ∙ ap (λ x. Run x size)
-      z)) q, mark_ends v.rest.at u.rest word, quoted_parts v u (quoted is_word v.rest.bytes) q) refl
+      mark_took u (quoted is_word v.rest.bytes) word (λ w size e z. quoted_none is_word v.rest.bytes size (e ∙ ap (λ x. Run x size) z)) q
+      ∙ mark_ends v.rest.at u.rest word
+      ∙ ap (λ (z : Parts). form_then (mark_form outer at emits (is_empty word) (first_of u.rest.bytes))
+      (λ form. (operand_of (marked_as form mark) word, record { rest = past_byte ascii.asterisk u.rest; parts = z })))
+      (quoted_parts v u (quoted is_word v.rest.bytes) q)
 
 -- what a test asks that asks for no function's result
 
@@ -245,5 +248,8 @@ module _ (deep : Lists) (c : ListContext) (outer : Option ℕ) (at : ℕ) (order
       → tried_given outer at order so_far v (d.asked_from deep c at order start negated v.rest.at v.rest.bytes)
       ≡ after_given so_far (at_rest rest u) (d.after at order (tried_seen start end negated o b))
   tried_some emits o u rest end b e h g k f =
-      cc (tried_from o u (d.asked deep c at (may_emit order negated) v.rest.at v.rest.bytes) (ap (λ (t : Bool). operand_given outer v
-      (d.asked deep c at t v.rest.at v.rest.bytes)) (sym e) ∙ h), g, some_left rest.bytes b f, k)
+      tried_from o u (d.asked deep c at (may_emit order negated) v.rest.at v.rest.bytes)
+      (ap (λ (t : Bool). operand_given outer v (d.asked deep c at t v.rest.at v.rest.bytes)) (sym e) ∙ h)
+      ∙ ap (λ (bs : List ℕ). tried_at o u bs) (ap (λ (r : Left). r.bytes) (sym g) ∙ some_left rest.bytes b f)
+      ∙ ap (λ (r : Left). after_given so_far (at_rest r u) (d.after at order (tried_seen start u.rest.at negated o b))) (sym g)
+      ∙ ap (λ (i : ℕ). after_given so_far (at_rest rest u) (d.after at order (tried_seen start i negated o b))) (sym k)

@@ -203,8 +203,12 @@ module _ (deep : Lists) (c : ListContext) (at : ℕ) where
         ≡ d.test_go (d.after at order tr) n m.size (d.patterns at (n + suc m.size) 0 x) (d.tests deep c at AtBar (n + suc m.size) 0 x)
     tests_go n {t} {x} {tr} m =
         let e = byte_next t m.size m.left m.fits in
-        cc (tests_open n t, m.is, skipped (λ (i k : ℕ) (u : List ℕ). d.patterns at i k u) (λ i k b u. refl) n (suc m.size) t x e.0 e.1,
-        skipped (λ (i k : ℕ) (u : List ℕ). d.tests deep c at AtBar i k u) (λ i k b u. refl) n (suc m.size) t x e.0 e.1)
+        cc (
+          tests_open n t,
+          m.is,
+          skipped (λ (i k : ℕ) (u : List ℕ). d.patterns at i k u) (λ i k b u. refl) n (suc m.size) t x e.0 e.1,
+          skipped (λ (i k : ℕ) (u : List ℕ). d.tests deep c at AtBar i k u) (λ i k b u. refl) n (suc m.size) t x e.0 e.1,
+        )
 
     -- the tests fail as the first of them does
     pub tests_fail : (f : Failure) (n : ℕ) (t : List ℕ) → d.one_test deep c at order n t ≡ failed f

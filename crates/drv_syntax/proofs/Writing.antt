@@ -132,8 +132,15 @@ run_from class w v (b ∷ text) = by (runs_in class b) refl (run_from class (w +
         ≡ quoted_to w v (quoted (in_class class) (b ∷ text))
     by false e ih = run_none class w v (b ∷ text)
     by true e ih =
-        cc (one_more k, append_assoc w (b ∷ []) (take k text), after_after 1 k v.rest, ih, quoted_byte w v b 1 (quoted (in_class class)
-        text), quoted_more (in_class class) b text (no_backslash class b e) (of_class class b true (no_backslash class b e) e))
+        cc (
+          one_more k,
+          append_assoc w (b ∷ []) (take k text),
+          after_after 1 k v.rest,
+          ih,
+          quoted_byte w v b 1 (quoted (in_class class)
+              text),
+          quoted_more (in_class class) b text (no_backslash class b e) (of_class class b true (no_backslash class b e) e),
+        )
 
 -- after as many bytes as the code counts before the first backslash, a run gives the same as from its start
 pub run_takes : (class : Class) (v : Reading) (k : ℕ) → k ≡ prefix_len (runs_in class) v.rest.bytes
@@ -278,8 +285,14 @@ name_short_from outer rest f at n p (b ∷ text) h =
         absurd cc
     by true true e d x ih =
         let i : n + 1 + k ≡ n + (1 + k) = omega arith in
-        cc (given_past outer rest f 1 (name_from at (n + 1) (p ++ b ∷ []) text), ih (omega (arith, x, length-append p (b ∷ []))),
-        after_after 1 k rest, i, append_assoc p (b ∷ []) (take k text), one_more k)
+        cc (
+          given_past outer rest f 1 (name_from at (n + 1) (p ++ b ∷ []) text),
+          ih (omega (arith, x, length-append p (b ∷ []))),
+          after_after 1 k rest,
+          i,
+          append_assoc p (b ∷ []) (take k text),
+          one_more k,
+        )
 
 -- the item is written up to this rest
 abbrev item_to : ℕ → Item → Left → Reading → Reading

@@ -56,8 +56,9 @@ wrote_both xs ys a b z = same_parts
 pub list_wrote : (list : Items) (z : Parts) → list_written list z ≡ wrote (nodes_of list) (has_star list) z
 list_wrote none z = sym (wrote_none z)
 list_wrote (more s item items) z =
-    cc (list_wrote items (item_written s.start item s.end z), wrote_both (node (kind_of item) (label_of item) s (inner_nodes item)
-    no_node) (nodes_of items) (item_has_star item) (has_star items) z)
+    list_wrote items (item_written s.start item s.end z)
+    ∙ sym (wrote_both (node (kind_of item) (label_of item) s (inner_nodes item) no_node) (nodes_of items) (item_has_star item)
+    (has_star items) z)
 
 -- parts that are closed
 

@@ -25,29 +25,31 @@ pub items-returns-in_default-clause-list : goal.items-returns-in_default-clause-
 items-returns-in_default-clause-list t c =
     sym c.loop-tail.invariant
     ∙ rw (items_last _ _ (context_seen c.args.c) _ c.requires c.args.c.kind refl _ _ (seen c.loop-tail.r) (seen c.plains.new.r)
-    (ok_same c.in_ok-tail.ensures) (none_left _ c.in_default.ensures), ← c.at.ensures.place, ← c.at_end.ensures, c.in_ok-last.was) refl
+    (ok_same c.in_ok-tail.ensures) (none_left _ c.in_default.ensures))
+    (rw (← c.at.ensures.place, ← c.at_end.ensures, c.in_ok-last.was) refl)
 
 -- the text ends in a list that is no whole text
 pub items-returns-in_err-last-clause-list : goal.items-returns-in_err-last-clause-list
 items-returns-in_err-last-clause-list t c =
     err_gives _ _ c.from_residual-in_err-last.ensures.1 (sym c.loop-tail.invariant
     ∙ rw (items_last _ _ (context_seen c.args.c) _ c.requires c.args.c.kind refl _ _ (seen c.loop-tail.r) (seen c.plains.new.r)
-    (ok_same c.in_ok-tail.ensures) (none_left _ c.in_default.ensures), ← c.at.ensures.place, ← c.at_end.ensures, c.in_err-last.was) refl)
+    (ok_same c.in_ok-tail.ensures) (none_left _ c.in_default.ensures))
+    (rw (← c.at.ensures.place, ← c.at_end.ensures, c.in_err-last.was) refl))
 
 -- the byte that ends the list comes next
 pub items-returns-then-ends_list-clause-list : goal.items-returns-then-ends_list-clause-list
 items-returns-then-ends_list-clause-list t c =
     sym c.loop-tail.invariant
     ∙ rw (items_end _ _ (context_seen c.args.c) _ c.requires c.args.c.kind refl _ _ (seen c.loop-tail.r) (seen c.plains.new.r)
-    (ok_same c.in_ok-tail.ensures) (some_left _ _ c.in-Some.ensures) (sym c.ends_list.ensures ∙ c.if-ends_list.true), c.with_end.ensures)
-    refl
+    (ok_same c.in_ok-tail.ensures) (some_left _ _ c.in-Some.ensures) (sym c.ends_list.ensures ∙ c.if-ends_list.true))
+    (rw c.with_end.ensures refl)
 
 pub items-returns-in_err-percent-clause-list : goal.items-returns-in_err-percent-clause-list
 items-returns-in_err-percent-clause-list t c =
     gives_err _ _ c.from_residual-in_err-percent.ensures.1 c.in_err-percent.ensures (λ h. sym c.loop-tail.invariant
     ∙ rw (directed_by _ _ (context_seen c.args.c) _ c.requires c.args.c.kind refl _ _ (seen c.loop-tail.r) (seen c.plains.new.r)
-    (ok_same c.in_ok-tail.ensures) (some_left _ _ c.in-Some.ensures ∙ ap (λ x. x ∷ drop 1 c.plains.new.r.rest.bytes) c.if-b-eq37.true), h)
-    refl)
+    (ok_same c.in_ok-tail.ensures) (some_left _ _ c.in-Some.ensures ∙ ap (λ x. x ∷ drop 1 c.plains.new.r.rest.bytes) c.if-b-eq37.true))
+    (rw h refl))
 
 pub items-loop-tail-smaller-then-b-eq37 : goal.items-loop-tail-smaller-then-b-eq37
 items-loop-tail-smaller-then-b-eq37 t c =
@@ -65,16 +67,18 @@ items-loop-tail-smaller-then-b-eq37 t c =
 pub items-loop-tail-preserved-then-b-eq37 : goal.items-loop-tail-preserved-then-b-eq37
 items-loop-tail-preserved-then-b-eq37 t c =
     rw c.ended-tail-then-b-eq37.ensures (
-    rw (directed_by _ _ (context_seen c.args.c) _ c.requires c.args.c.kind refl _ _ (seen c.loop-tail.r) (seen c.plains.new.r)
-    (ok_same c.in_ok-tail.ensures) (some_left _ _ c.in-Some.ensures ∙ ap (λ x. x ∷ drop 1 c.plains.new.r.rest.bytes) c.if-b-eq37.true),
-    c.in_ok-percent.ensures) at c.loop-tail.invariant)
+    rw (
+      directed_by _ _ (context_seen c.args.c) _ c.requires c.args.c.kind refl _ _ (seen c.loop-tail.r) (seen c.plains.new.r)
+          (ok_same c.in_ok-tail.ensures) (some_left _ _ c.in-Some.ensures ∙ ap (λ x. x ∷ drop 1 c.plains.new.r.rest.bytes) c.if-b-eq37.true),
+      c.in_ok-percent.ensures,
+    ) at c.loop-tail.invariant)
 
 pub items-returns-in_err-tail-2-clause-list : goal.items-returns-in_err-tail-2-clause-list
 items-returns-in_err-tail-2-clause-list t c =
     gives_err _ _ c.from_residual-in_err-tail-2.ensures.1 c.in_err-tail-2.ensures (λ h. sym c.loop-tail.invariant
     ∙ rw (byte_by _ _ (context_seen c.args.c) _ c.requires c.args.c.kind refl _ _ (seen c.loop-tail.r) (seen c.plains.new.r)
     (ok_same c.in_ok-tail.ensures) (some_left _ _ c.in-Some.ensures) (sym c.ends_list.ensures ∙ c.if-ends_list.false) (differs _ _
-    c.if-b-eq37.false), h) refl)
+    c.if-b-eq37.false)) (rw h refl))
 
 pub items-loop-tail-smaller : goal.items-loop-tail-smaller
 items-loop-tail-smaller t c =
@@ -90,10 +94,12 @@ items-loop-tail-smaller t c =
 -- after an item that is no directive it is written, and the items after it follow
 pub items-loop-tail-preserved : goal.items-loop-tail-preserved
 items-loop-tail-preserved t c =
-    rw (byte_by _ _ (context_seen c.args.c) _ c.requires c.args.c.kind refl _ _ (seen c.loop-tail.r) (seen c.plains.new.r)
-    (ok_same c.in_ok-tail.ensures) (some_left _ _ c.in-Some.ensures) (sym c.ends_list.ensures ∙ c.if-ends_list.false) (differs _ _
-    c.if-b-eq37.false),
-    c.in_ok-tail-2.ensures) at c.loop-tail.invariant
+    rw (
+      byte_by _ _ (context_seen c.args.c) _ c.requires c.args.c.kind refl _ _ (seen c.loop-tail.r) (seen c.plains.new.r)
+          (ok_same c.in_ok-tail.ensures) (some_left _ _ c.in-Some.ensures) (sym c.ends_list.ensures ∙ c.if-ends_list.false) (differs _ _
+          c.if-b-eq37.false),
+      c.in_ok-tail-2.ensures,
+    ) at c.loop-tail.invariant
 
 pub percent-returns-then-is_simple : goal.percent-returns-then-is_simple
 percent-returns-then-is_simple t c =
@@ -194,8 +200,8 @@ more_tests-loop-choice-smaller t c =
 
 pub tests-returns-in_err-patterns-in-Joins : goal.tests-returns-in_err-patterns-in-Joins
 tests-returns-in_err-patterns-in-Joins t c =
-    gives_err _ _ c.from_residual-in_err-patterns-in-Joins.ensures.1 c.in_err-patterns-in-Joins.ensures (λ h. rw (tests_by,
-    c.in_ok-test.ensures, c.in-Joins.is, h) refl)
+    gives_err _ _ c.from_residual-in_err-patterns-in-Joins.ensures.1 c.in_err-patterns-in-Joins.ensures (λ h. rw (tests_by)
+    (rw (c.in_ok-test.ensures, c.in-Joins.is, h) refl))
 
 pub tests-returns-in_ok-patterns-in-Joins : goal.tests-returns-in_ok-patterns-in-Joins
 tests-returns-in_ok-patterns-in-Joins t c =
@@ -247,21 +253,21 @@ pub later-returns-in_err-x : goal.later-returns-in_err-x
 later-returns-in_err-x t c =
     gives_err _ _ c.from_residual-in_err-x.ensures.1 c.in_err-x.ensures (λ h. sym c.loop-r.invariant
     ∙ rw (default_x _ _ _ _ _ (seen c.loop-r.r) (sym c.begins_after_white.ensures ∙ c.if-begins_after_white.true) _
-    c.skip_white.ensures _ _ (ok_same c.in_ok-choice.ensures), h) refl)
+    c.skip_white.ensures _ _ (ok_same c.in_ok-choice.ensures)) (rw h refl))
 
 -- another alternative follows the default
 pub later-returns-then-branch-ne125 : goal.later-returns-then-branch-ne125
 later-returns-then-branch-ne125 t c =
     inr (sym c.loop-r.invariant
     ∙ rw (default_x _ _ _ _ _ (seen c.loop-r.r) (sym c.begins_after_white.ensures ∙ c.if-begins_after_white.true) _
-    c.skip_white.ensures _ _ (ok_same c.in_ok-choice.ensures), c.in_ok-x.ensures, differs _ _ c.if-branch-ne125.true) refl)
+    c.skip_white.ensures _ _ (ok_same c.in_ok-choice.ensures)) (rw (c.in_ok-x.ensures, differs _ _ c.if-branch-ne125.true) refl))
 
 -- the default is the last alternative
 pub later-returns-then-begins_after_white : goal.later-returns-then-begins_after_white
 later-returns-then-begins_after_white t c =
     sym c.loop-r.invariant
     ∙ rw (default_x _ _ _ _ _ (seen c.loop-r.r) (sym c.begins_after_white.ensures ∙ c.if-begins_after_white.true) _
-    c.skip_white.ensures _ _ (ok_same c.in_ok-choice.ensures), c.in_ok-x.ensures, c.if-branch-ne125.false) refl
+    c.skip_white.ensures _ _ (ok_same c.in_ok-choice.ensures)) (rw (c.in_ok-x.ensures, c.if-branch-ne125.false) refl)
 
 pub later-returns-in_err-choice-2 : goal.later-returns-in_err-choice-2
 later-returns-in_err-choice-2 t c =

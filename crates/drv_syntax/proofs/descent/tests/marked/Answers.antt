@@ -32,5 +32,5 @@ returns c =
     marked_by c.args.outer c.args.at (may_emit (order_seen c.args.order) c.args.begun.negated) c.args.begun.byte (seen c.args.r.now)
     (seen c.quoted.new.r) (spelled c.in-Some.word c.quoted.new.r.word.items)
     (seen_some _ c.in-Some.word c.quoted.new.r.word.items (seen c.quoted.new.r) _ c.in_ok-word.ensures c.in-Some.is)
-    ∙ rw (← c.deref.ensures.value, ← c.first.ensures, sym c.mark_form.ensures ∙ c.in_ok-form.was, c.marked_as.ensures,
-    c.take_if.ensures) refl
+    ∙ rw (← c.deref.ensures.value)
+    (rw (← c.first.ensures, sym c.mark_form.ensures ∙ c.in_ok-form.was, c.marked_as.ensures, c.take_if.ensures) refl)
