@@ -7,8 +7,7 @@ use Rattle.drv_syntax.specs.Descent.{Lists, Read, Took, past, then_read, within}
 use Rattle.drv_syntax.specs.Spelling as s
 use Rattle.drv_syntax.specs.Spelling.{AreItems, At, IsCall}
 use Rattle.drv_syntax.specs.Tree.{Items}
-use Rattle.std.proofs.Common.{◌≡◌, ◌∙◌, ◌+◌, ◌++◌, Bool, false, true, List, [], ◌∷◌, ap, arith, drop, drop-drop, length, refl}
-use Rattle.std.proofs.Common.{suc, sym, ℕ}
+use Rattle.std.proofs.Common.{◌≡◌, ◌∙◌, ◌+◌, ◌++◌, Bool, false, true, List, [], ◌∷◌, ap, arith, drop, drop-drop, length, refl, suc, sym, ℕ}
 use Rattle.std.specs.Prelude.{◌-◌, ◌==◌}
 
 -- What the grammar says of a function's call, in a list or in a test, Descent makes of it. It serves the laws `spelled_is_read`,

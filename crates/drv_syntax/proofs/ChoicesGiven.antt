@@ -1,28 +1,27 @@
 use Rattle.drv_syntax.proofs.GivenParts.{ok_same}
-use Rattle.std.proofs.Common.{length-drop}
-use Rattle.std.proofs.Common.{subst}
+use Rattle.std.proofs.Common.{length-drop, subst, ◌≡◌, ◌∙◌, ◌+◌, ◌<◌, ◌≤◌, Bool, false, true, if◌then◌else◌, List, [], ◌∷◌, ap, arith, drop}
+use Rattle.std.proofs.Common.{length, refl, suc, sym, zero, ℕ}
 use Rattle.drv_words.specs.Bytes as ascii
 use Rattle.drv_syntax.proofs.FormsGiven.{NoPatterns, form_smaller, late_tests}
 use Rattle.drv_syntax.proofs.OwnedGiven.{choice_owned, tests_choice, tests_wrote}
 use Rattle.drv_syntax.proofs.Onward.{more_after, skip_on}
-use Rattle.drv_syntax.proofs.Writing.{after_after, differs}
+use Rattle.drv_syntax.proofs.Writing.{after_after}
 use Rattle.drv_syntax.specs.Bytes.{is_white}
 use Rattle.drv_syntax.specs.Code.Left.{Left, after, begins_with}
 use Rattle.drv_syntax.specs.Code.Lists.{brace_given, brace_on, choice_written, choices_written, default_here, later_given, later_on}
 use Rattle.drv_syntax.specs.Code.Lists.{list_written, owned_at, owner_when, tail_at, tail_on, unheld, x_given}
-use Rattle.drv_syntax.specs.Code.Tests.{added, choice_open, form_given, opened, patterns_written, tests_on}
+use Rattle.drv_syntax.specs.Code.Tests.{added, choice_open, form_given, opened, tests_on}
 use Rattle.drv_syntax.specs.Code.Writing.{Parts, Reading, at_rest, given, wrote}
 use Rattle.drv_syntax.specs.Contexts.{ListContext, all_starred, in_braces, in_x}
 use Rattle.drv_syntax.specs.Descent as d
 use Rattle.drv_syntax.specs.Descent.{Ends, Form, Lists, Read, Stops, Took, choices, default, default_go, form_go, is_default_at, past}
 use Rattle.drv_syntax.specs.Descent.{tests, then_read, with_choice, within, x_go}
 use Rattle.drv_syntax.specs.Labels.{no_label, test_nodes}
-use Rattle.drv_syntax.specs.Refusals.{AtFront, AtNext, Order}
+use Rattle.drv_syntax.specs.Refusals.{AtFront, AtNext}
 use Rattle.drv_syntax.specs.Spelling.{span}
 use Rattle.drv_syntax.specs.Stars.{tests_have_star}
 use Rattle.drv_syntax.specs.Tree as tree
-use Rattle.drv_syntax.specs.Tree.{Asked, Brace, Choices, Items, Span, Tests, alternative, last_place, no_choice, no_test, test}
-use Rattle.drv_syntax.specs.Tree.{trimmed}
+use Rattle.drv_syntax.specs.Tree.{Asked, Brace, Choices, Items, Span, Tests, alternative, last_place, no_choice, no_test, test, trimmed}
 use Rattle.drv_syntax.specs.declared.descent.lists.Form as code
 use Rattle.drv_syntax.specs.declared.descent.lists.Form.TheVariants as forms
 use Rattle.drv_syntax.specs.declared.descent.lists.Inside.TheVariants as insides
@@ -31,8 +30,6 @@ use Rattle.drv_syntax.specs.declared.descent.parts.Choice.{Choice}
 use Rattle.drv_syntax.specs.declared.fault.SyntaxFault.TheVariants.{BadDirective, EmptyTest}
 use Rattle.drv_syntax.specs.declared.fault.SyntaxFault.{SyntaxFault}
 use Rattle.drv_syntax.specs.declared.token.TokenKind.TheVariants as kinds
-use Rattle.std.proofs.Common.{◌≡◌, ◌∙◌, ◌+◌, ◌<◌, ◌≤◌, Bool, false, true, if◌then◌else◌, List, [], ◌∷◌, ap, arith, drop, length}
-use Rattle.std.proofs.Common.{refl, suc, sym, zero, ℕ}
 use Rattle.std.specs.List.{prefix_len}
 use Rattle.std.specs.Prelude.{◌==◌, Err, None, Ok, Option, Result}
 

@@ -17,9 +17,7 @@ use Rattle.drv_syntax.specs.Spelling as s
 use Rattle.drv_syntax.specs.Spelling.{AreChoices, AreLater, AreSpaces, AreTests, At, IsBrace, IsSign}
 use Rattle.drv_syntax.specs.Tree.{Brace, Choices, Choose, Emit, Items, Pattern, Span, Tests, alternative, no_choice, no_test}
 use Rattle.drv_syntax.specs.declared.fault.SyntaxFault.TheVariants.{EmptyTest}
-use Rattle.std.proofs.Common.{◌≡◌, ◌∙◌, ◌+◌, Bool, false, if◌then◌else◌, List, [], ◌∷◌, ap, arith, drop, drop-drop, length, refl}
-use Rattle.std.proofs.Common.{subst}
-use Rattle.std.proofs.Common.{suc, sym, ℕ}
+use Rattle.std.proofs.Common.{◌≡◌, ◌∙◌, ◌+◌, Bool, false, List, [], ◌∷◌, ap, arith, drop, drop-drop, length, refl, subst, suc, sym, ℕ}
 use Rattle.std.specs.List.{prefix_len}
 use Rattle.std.specs.Prelude.{◌-◌, ◌==◌}
 

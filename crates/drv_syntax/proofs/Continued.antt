@@ -9,7 +9,7 @@ use Rattle.drv_syntax.proofs.MeantWhole.{read_is_spelled}
 use Rattle.drv_syntax.proofs.WholeRead.{top_inner}
 use Rattle.drv_syntax.proofs.Wrote.{labels_both, list_wrote}
 use Rattle.drv_syntax.specs.Bytes.{is_blank, is_suffix, is_word}
-use Rattle.drv_syntax.specs.Code.Ending.{begins_blank, ending_after, ending_by, ending_in, goes_on}
+use Rattle.drv_syntax.specs.Code.Ending.{begins_blank, ending_by, ending_in, goes_on}
 use Rattle.drv_syntax.specs.Code.Left.{Left}
 use Rattle.drv_syntax.specs.Code.Lists.{listed_given, tail_at}
 use Rattle.drv_syntax.specs.Code.Whole.{rest_given, whole_given}
@@ -36,7 +36,7 @@ use Rattle.drv_syntax.specs.declared.token.Token.{Token}
 use Rattle.std.proofs.Common.{◌≡◌, ◌∙◌, ◌+◌, ◌-◌, ◌++◌, Bool, false, true, List, [], ◌∷◌, ap, arith, length, length-append}
 use Rattle.std.proofs.Common.{refl, subst, suc, sym, ℕ}
 use Rattle.std.proofs.lemmas.Bool.Decides.{nat_tests}
-use Rattle.std.specs.Prelude.{◌==◌, Err, None, Ok, Option, Result, Some, slice_get}
+use Rattle.std.specs.Prelude.{◌==◌, Err, None, Ok, Result, Some, slice_get}
 
 -- A text that has a tree goes on after its end: read with more bytes after it, it gives its own items and then those of the rest, if its
 -- last item can't be longer there. It serves `SpecTree::extended`, which keeps the tokens and labels of the text and reads only what

@@ -15,8 +15,7 @@ use Rattle.drv_syntax.specs.Fronts.{AreFrontItems, CutsItem}
 use Rattle.drv_syntax.specs.Outcome.{Cut, Got, outcome, read}
 use Rattle.drv_syntax.specs.Spelling.{At, IsItem, Spells}
 use Rattle.drv_syntax.specs.Tree.{Item, Items, none}
-use Rattle.std.proofs.Common.{◌≡◌, ◌∙◌, ◌+◌, ◌-◌, ◌⊎◌, Bool, false, true, if◌then◌else◌, List, [], ◌∷◌, ap, arith, inl, inr, length}
-use Rattle.std.proofs.Common.{refl}
+use Rattle.std.proofs.Common.{◌≡◌, ◌∙◌, ◌+◌, ◌-◌, ◌⊎◌, Bool, false, true, if◌then◌else◌, List, [], ◌∷◌, ap, arith, inl, inr, length, refl}
 use Rattle.std.proofs.Common.{suc, sym, ℕ}
 
 -- A text that is cut short is cut at the place of what is open at its end, and at no other: the law `cut_at_open`. Descent is the grammar

@@ -5,7 +5,8 @@ use Rattle.std.proofs.Common.{◌≡◌, ◌-◌, false, List, [], ◌∷◌, ap
 use Rattle.std.specs.Prelude.{◌==◌}
 
 -- Each text may have 64 levels of braces and arguments within one another: the definition computes that number from the text, and it is
--- always 64. It serves the proofs over `descent`. Descent is the grammar as functions (specs/Descent).
+-- always 64. What holds of lists by induction over their levels is below (`all_levels`). It serves the proofs over `descent`. Descent is
+-- the grammar as functions (specs/Descent).
 
 -- the number of levels of a text is 64
 pub depth_is : (text : List ℕ) → depth text ≡ 64

@@ -21,9 +21,8 @@ use Rattle.drv_syntax.specs.declared.directives.Directive.TheVariants.{WithPatte
 use Rattle.drv_syntax.specs.declared.directives.Directive.{Directive}
 use Rattle.drv_syntax.specs.declared.directives.SayKind.{SayKind}
 use Rattle.drv_syntax.specs.declared.fault.SyntaxFault.TheVariants.{TooNested}
-use Rattle.std.proofs.Common.{◌≡◌, ◌≤◌, ◌∙◌, ◌+◌, ◌-◌, ◌++◌, ◌⊎◌, Bool, false, true, if◌then◌else◌, List, [], ◌∷◌, ap, append_assoc}
-use Rattle.std.proofs.Common.{arith, inl}
-use Rattle.std.proofs.Common.{inr, length, length-append, refl, subst, sym, ℕ}
+use Rattle.std.proofs.Common.{◌≡◌, ◌≤◌, ◌∙◌, ◌+◌, ◌-◌, ◌++◌, ◌⊎◌, Bool, false, true, if◌then◌else◌, List, [], ◌∷◌, ap, append_assoc, arith}
+use Rattle.std.proofs.Common.{inl, inr, length, length-append, refl, subst, sym, ℕ}
 use Rattle.std.proofs.lemmas.Bool.Decides.{nat_tests}
 use Rattle.std.specs.Prelude.{◌==◌, nat_le}
 

@@ -13,9 +13,8 @@ use Rattle.drv_syntax.specs.Refusals.{AtBar, AtFront, ends_pattern}
 use Rattle.drv_syntax.specs.Spelling as s
 use Rattle.drv_syntax.specs.Spelling.{ArePatterns, AreSpaces, At, IsPattern, IsQuoted, span}
 use Rattle.drv_syntax.specs.Tree.{Pattern, Span, pattern}
-use Rattle.std.proofs.Common.{◌≡◌, ◌∙◌, ◌+◌, ◌⊎◌, Bool, false, true, if◌then◌else◌, List, [], ◌∷◌, ap, arith, drop, drop-drop, inl, inr}
-use Rattle.std.proofs.Common.{length}
-use Rattle.std.proofs.Common.{refl, subst, suc, sym, ℕ}
+use Rattle.std.proofs.Common.{◌≡◌, ◌∙◌, ◌+◌, ◌⊎◌, Bool, false, true, if◌then◌else◌, List, [], ◌∷◌, ap, arith, drop, inl, inr, length, refl}
+use Rattle.std.proofs.Common.{subst, suc, sym, ℕ}
 use Rattle.std.specs.Prelude.{◌==◌, Some}
 
 -- What the grammar says of patterns at the front of braces, where tests could be as well, Descent makes of it. It serves the laws

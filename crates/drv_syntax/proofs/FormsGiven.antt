@@ -2,8 +2,7 @@ use Rattle.drv_words.specs.Bytes as ascii
 use Rattle.drv_syntax.proofs.GivenParts.{given_took, ok_same}
 use Rattle.drv_syntax.proofs.Onward.{more_after, patterns_on, skip_on}
 use Rattle.drv_syntax.specs.Code.Left.{Left, after}
-use Rattle.drv_syntax.specs.Code.Tests.{added, after_given, form_given, form_on, more_given, more_on, patterns_given, patterns_written}
-use Rattle.drv_syntax.specs.Code.Tests.{tried_given}
+use Rattle.drv_syntax.specs.Code.Tests.{added, after_given, form_given, form_on, more_given, patterns_given, tried_given}
 use Rattle.drv_syntax.specs.Code.Writing.{Reading, at_rest, leafed}
 use Rattle.drv_syntax.specs.Contexts.{ListContext}
 use Rattle.drv_syntax.specs.Descent as d
@@ -11,8 +10,7 @@ use Rattle.drv_syntax.specs.Descent.{After, Ends, Form, Lists, Read, Stops, Took
 use Rattle.drv_syntax.specs.Descent.{with_test}
 use Rattle.drv_syntax.specs.Labels.{pattern_label}
 use Rattle.drv_syntax.specs.Refusals.{AtBar, AtFront, AtNext, Order}
-use Rattle.drv_syntax.specs.Tree as tree
-use Rattle.drv_syntax.specs.Tree.{Asked, Pattern, Span, Tests}
+use Rattle.drv_syntax.specs.Tree.{Asked, Pattern, Span}
 use Rattle.drv_syntax.specs.declared.descent.lists.Form as code
 use Rattle.drv_syntax.specs.declared.descent.lists.Form.TheVariants as forms
 use Rattle.drv_syntax.specs.declared.descent.parts.Choice.{Choice}
@@ -21,8 +19,8 @@ use Rattle.drv_syntax.specs.declared.descent.tests.Next.TheVariants as nexts
 use Rattle.drv_syntax.specs.declared.fault.SyntaxFault.TheVariants.{BadDirective}
 use Rattle.drv_syntax.specs.declared.fault.SyntaxFault.{SyntaxFault}
 use Rattle.drv_syntax.specs.declared.token.TokenKind.TheVariants as kinds
-use Rattle.std.proofs.Common.{◌≡◌, ◌⊎◌, ◌∙◌, ◌+◌, ◌<◌, Bool, false, true, if◌then◌else◌, List, [], ◌∷◌, ap, arith, drop, inl, inr, length}
-use Rattle.std.proofs.Common.{refl, subst, suc, sym, zero, ℕ}
+use Rattle.std.proofs.Common.{◌≡◌, ◌∙◌, ◌+◌, ◌<◌, Bool, false, true, if◌then◌else◌, List, [], ◌∷◌, ap, arith, drop, length, refl, subst}
+use Rattle.std.proofs.Common.{suc, sym, zero, ℕ}
 use Rattle.std.proofs.lemmas.List.{length-drop}
 use Rattle.std.specs.Prelude.{◌==◌, Err, None, Ok, Option, Result, Some}
 

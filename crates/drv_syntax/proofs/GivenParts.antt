@@ -1,29 +1,26 @@
 use Rattle.drv_words.specs.Bytes as ascii
 use Rattle.drv_syntax.proofs.Writing.{after_after, after_none, given_past, leaf_is, quoted_took}
-use Rattle.drv_syntax.specs.Bytes.{is_function, is_function_front, is_option, is_word}
+use Rattle.drv_syntax.specs.Bytes.{is_function_front, is_option, is_word}
 use Rattle.drv_syntax.specs.Code.Left.{Left, after, begins_with, first_of, past_byte}
 use Rattle.drv_syntax.specs.Code.Writing.{Parts, Reading, at_rest, front_size, function_end, given, hidden, is_empty, item_given}
-use Rattle.drv_syntax.specs.Code.Writing.{item_written, leaf_here}
-use Rattle.drv_syntax.specs.Code.Writing.{named_given, open_at, quoted_to, said_kind, spelled, star_after, words_seen}
+use Rattle.drv_syntax.specs.Code.Writing.{item_written, leaf_here, named_given, open_at, quoted_to, said_kind, spelled, star_after}
+use Rattle.drv_syntax.specs.Code.Writing.{words_seen}
 use Rattle.drv_syntax.specs.declared.descent.reader.Spelled.{Spelled}
 use Rattle.drv_syntax.specs.Code.Tests.{pattern_given}
 use Rattle.drv_syntax.specs.Contexts.{Kind, is_said}
 use Rattle.drv_syntax.specs.Descent.{Ends, Hangs, Quoted, Read, Run, Stops, Took, function_from, option, option_end, option_text, past}
-use Rattle.drv_syntax.specs.Descent.{pattern_at, pattern_end}
-use Rattle.drv_syntax.specs.Descent.{pattern_text, quoted, saying, saying_end, saying_text, then_read}
+use Rattle.drv_syntax.specs.Descent.{pattern_at, pattern_end, pattern_text, quoted, saying, saying_end, saying_text, then_read}
 use Rattle.drv_syntax.specs.Directives.{said}
 use Rattle.drv_syntax.specs.Labels.{part_label, word_label}
 use Rattle.drv_syntax.specs.Tree.{AddOption, Hide, Item, Pattern, pattern}
 use Rattle.drv_syntax.specs.declared.directives.SayKind.TheVariants.{AsError, AsNotice}
 use Rattle.drv_syntax.specs.declared.directives.SayKind.{SayKind}
-use Rattle.drv_syntax.specs.declared.fault.SyntaxFault.TheVariants.{BadDirective, EmptyTest, Memory, Unclosed, UnknownFunction}
+use Rattle.drv_syntax.specs.declared.fault.SyntaxFault.TheVariants.{BadDirective, EmptyTest, Memory, Unclosed}
 use Rattle.drv_syntax.specs.declared.fault.SyntaxFault.{SyntaxFault}
 use Rattle.drv_syntax.specs.declared.token.TestKind.TheVariants as asking
 use Rattle.drv_syntax.specs.declared.token.TokenKind.TheVariants as kinds
-use Rattle.std.proofs.Common.{◌≡◌, ◌⊎◌, ◌∙◌, ◌+◌, ◌++◌, Bool, false, true, if◌then◌else◌, List, [], ◌∷◌, ap, append-nil}
-use Rattle.std.proofs.Common.{append_assoc, arith}
-use Rattle.std.proofs.Common.{drop, inl, inr, refl}
-use Rattle.std.proofs.Common.{◌≤◌, length, subst, suc, sym, take, ℕ}
+use Rattle.std.proofs.Common.{◌≡◌, ◌⊎◌, ◌∙◌, ◌+◌, ◌++◌, Bool, false, true, if◌then◌else◌, List, [], ◌∷◌, ap, append-nil, append_assoc}
+use Rattle.std.proofs.Common.{arith, drop, inl, inr, refl, ◌≤◌, length, subst, suc, sym, take, ℕ}
 use Rattle.std.proofs.lemmas.List.{length-drop}
 use Rattle.drv_words.specs.Gives.{Gives}
 use Rattle.std.specs.Prelude.{◌==◌, Err, None, Ok, Option, Result, Some}

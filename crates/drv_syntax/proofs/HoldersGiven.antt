@@ -3,8 +3,7 @@ use Rattle.drv_syntax.proofs.Writing.{after_after, leaf_is}
 use Rattle.drv_syntax.proofs.Wrote.{closed_is, list_wrote, wrote_both, wrote_none}
 use Rattle.drv_syntax.specs.Code.Left.{Left, after}
 use Rattle.drv_syntax.specs.Code.Lists.{around, brace_given, brace_kind, choice_written, choices_written, closed_at, closed_here}
-use Rattle.drv_syntax.specs.Code.Lists.{list_written, listed_given}
-use Rattle.drv_syntax.specs.Code.Lists.{tail_at}
+use Rattle.drv_syntax.specs.Code.Lists.{list_written, listed_given, tail_at}
 use Rattle.drv_syntax.specs.Code.Tests.{opened, patterns_written}
 use Rattle.drv_syntax.specs.Code.Writing.{Parts, Reading, given, item_given, item_written, leafed, named_given, open_at, wrote}
 use Rattle.drv_syntax.specs.Contexts.{ListContext, in_arguments}

@@ -1,16 +1,14 @@
 use Rattle.drv_syntax.proofs.Depth.{all_levels}
 use Rattle.drv_syntax.proofs.CallsRead.{call_fails}
 use Rattle.drv_syntax.proofs.ChoicesRead.{NoDefault, begins, default_fails, default_on, default_place, inside, inside_fails, next_fails}
-use Rattle.drv_syntax.proofs.ChoicesRead.{next_place}
-use Rattle.drv_syntax.proofs.ChoicesRead.{tests_there, x_fails, x_place}
+use Rattle.drv_syntax.proofs.ChoicesRead.{next_place, tests_there, x_fails, x_place}
 use Rattle.drv_syntax.proofs.DirectivesRead.{nest_is}
 use Rattle.drv_syntax.proofs.DirectivesFail.{break_stops, function_stops, nested_stops, pattern_stops, stops_at}
 use Rattle.drv_syntax.proofs.Failing.{AtByte, then_fails}
 use Rattle.drv_syntax.proofs.Heads.{asked_head, no_colon, no_white, sign_white}
 use Rattle.drv_syntax.proofs.ItemsRead.{Both, Inner, inner, one, with_both}
 use Rattle.drv_syntax.proofs.Longer.{Filled, asked_filled, asked_longer, item_filled, item_longer, items_longer, place_longer}
-use Rattle.drv_syntax.proofs.Longer.{refuses_filled}
-use Rattle.drv_syntax.proofs.Longer.{sign_longer, spaces_filled, spaces_longer, tests_longer}
+use Rattle.drv_syntax.proofs.Longer.{refuses_filled, sign_longer, spaces_filled, spaces_longer, tests_longer}
 use Rattle.drv_syntax.proofs.MeantTests.{mark_word}
 use Rattle.drv_syntax.proofs.PartsRead.{spaces_to}
 use Rattle.drv_syntax.proofs.TestsFail.{ListFails, emits_fail, reach_tests}
@@ -31,9 +29,8 @@ use Rattle.drv_syntax.specs.declared.directives.Directive.{Directive}
 use Rattle.drv_syntax.specs.declared.fault.SyntaxFault.TheVariants.{BadDirective, EmptyTest, MixedStar, StarOutside, TooNested}
 use Rattle.drv_syntax.specs.declared.fault.SyntaxFault.TheVariants.{UnknownFunction}
 use Rattle.drv_syntax.specs.declared.fault.SyntaxFault.{SyntaxFault}
-use Rattle.std.proofs.Common.{◌≡◌, ◌∙◌, ◌+◌, ◌-◌, ◌++◌, Bool, false, true, if◌then◌else◌, List, ◌∷◌, ap, append_assoc, arith}
-use Rattle.std.proofs.Common.{length}
-use Rattle.std.proofs.Common.{length-append, refl, subst, suc, sym, zero, ℕ}
+use Rattle.std.proofs.Common.{◌≡◌, ◌∙◌, ◌+◌, ◌-◌, ◌++◌, Bool, false, true, if◌then◌else◌, List, ◌∷◌, ap, append_assoc, arith, length}
+use Rattle.std.proofs.Common.{length-append, refl, subst, suc, sym, ℕ}
 use Rattle.std.specs.List.{prefix_len}
 use Rattle.std.specs.Prelude.{◌==◌}
 

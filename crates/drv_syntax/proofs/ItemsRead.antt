@@ -6,8 +6,7 @@ use Rattle.drv_syntax.proofs.Leads.{AllOf, differs, each, not_of, other}
 use Rattle.drv_syntax.proofs.PartsRead.{Reads, reads_as, reads_past, skipped}
 use Rattle.drv_syntax.proofs.TestsEnd.{ListEnds}
 use Rattle.drv_syntax.specs.Bytes.{is_of, is_plain}
-use Rattle.drv_syntax.specs.Contexts.{InArguments, InX, Kind, ListContext, Top, bar_in, in_arguments, in_braces, in_x, is_end}
-use Rattle.drv_syntax.specs.Contexts.{newline_in}
+use Rattle.drv_syntax.specs.Contexts.{InArguments, InX, Kind, ListContext, Top, bar_in, in_arguments, in_braces, in_x, is_end, newline_in}
 use Rattle.drv_syntax.specs.Descent as d
 use Rattle.drv_syntax.specs.Descent.{Ends, Lists, Read, Took, past, then_read}
 use Rattle.drv_syntax.specs.Directives.{directive_of, is_allowed}
@@ -16,10 +15,8 @@ use Rattle.drv_syntax.specs.Fronts.{AreFrontItems, CutsItem}
 use Rattle.drv_syntax.specs.Spelling as s
 use Rattle.drv_syntax.specs.Spelling.{AreItems, At, IsItem, span}
 use Rattle.drv_syntax.specs.Tree.{Blank, Item, Items, Plain, Tests, more, none}
-use Rattle.drv_syntax.specs.declared.fault.SyntaxFault.TheVariants.{BadDirective}
 use Rattle.std.proofs.Common.{◌≡◌, ◌∙◌, ◌+◌, ◌-◌, ◌⊎◌, Bool, false, true, if◌then◌else◌, List, [], ◌∷◌, ap, arith, drop, drop-drop, inl}
-use Rattle.std.proofs.Common.{inr}
-use Rattle.std.proofs.Common.{length, refl, subst, suc, sym, zero, ℕ}
+use Rattle.std.proofs.Common.{inr, length, refl, subst, sym, ℕ}
 use Rattle.std.specs.Prelude.{◌==◌}
 
 -- What the grammar says of an item and of a list of them, Descent makes of it, by induction over the levels of lists. It serves the laws

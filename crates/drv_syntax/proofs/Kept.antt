@@ -18,9 +18,8 @@ use Rattle.drv_syntax.specs.declared.token.Token.{Token}
 use Rattle.drv_syntax.specs.declared.tree.Parts.TheVariants as kept
 use Rattle.drv_syntax.specs.declared.tree.Parts.{Parts}
 use Rattle.drv_words.specs.Gives.{Gives}
-use Rattle.std.proofs.Common.{◌≡◌, ◌∙◌, ◌⊎◌, ◌+◌, ◌-◌, ◌<◌, ◌≤◌, ◌++◌, Bool, false, true, if◌then◌else◌, List, [], ap, arith, inl}
-use Rattle.std.proofs.Common.{inr, length}
-use Rattle.std.proofs.Common.{length-append, refl, subst, sym, ℕ}
+use Rattle.std.proofs.Common.{◌≡◌, ◌∙◌, ◌⊎◌, ◌+◌, ◌-◌, ◌<◌, ◌≤◌, ◌++◌, Bool, false, true, if◌then◌else◌, List, [], ap, arith, inl, inr}
+use Rattle.std.proofs.Common.{length, length-append, refl, subst, sym, ℕ}
 use Rattle.std.proofs.lemmas.Bool.Decides.{nat_tests}
 use Rattle.std.specs.Prelude.{Err, IfErr, IsErrAnd, Ok, Result, nat_le}
 

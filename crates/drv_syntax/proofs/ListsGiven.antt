@@ -3,12 +3,12 @@ use Rattle.drv_words.specs.Bytes as ascii
 use Rattle.drv_syntax.proofs.GivenParts.{given_took, ok_same}
 use Rattle.drv_syntax.proofs.Leads.{same}
 use Rattle.drv_syntax.proofs.NotWhite.{NotWhite, directive_white}
-use Rattle.drv_syntax.proofs.Writing.{after_after, after_none, leaf_is, parts_of}
+use Rattle.drv_syntax.proofs.Writing.{after_after, after_none, leaf_is}
 use Rattle.drv_syntax.specs.Bytes.{is_blank, is_of}
-use Rattle.drv_syntax.specs.Code.Left.{Left, after, first_of}
-use Rattle.drv_syntax.specs.Code.Lists.{Opened, byte_given, byte_here, directive_given, end_given}
-use Rattle.drv_syntax.specs.Code.Lists.{is_white_item, list_written, listed_given, plains_after, plains_on, run_after, second_given}
-use Rattle.drv_syntax.specs.Code.Lists.{tail_after, tail_at, tail_on, with_end, with_tail}
+use Rattle.drv_syntax.specs.Code.Left.{Left, after}
+use Rattle.drv_syntax.specs.Code.Lists.{Opened, byte_given, byte_here, directive_given, end_given, is_white_item, list_written}
+use Rattle.drv_syntax.specs.Code.Lists.{listed_given, plains_after, plains_on, run_after, second_given, tail_after, tail_at, tail_on}
+use Rattle.drv_syntax.specs.Code.Lists.{with_end, with_tail}
 use Rattle.drv_syntax.specs.Code.Writing.{Parts, Reading, given, item_written, kind_seen, leafed, open_at}
 use Rattle.drv_syntax.specs.Code.Marks.{byte_labels}
 use Rattle.drv_syntax.specs.Code.Runs.{runs, stops}
@@ -29,9 +29,7 @@ use Rattle.drv_syntax.specs.declared.fault.SyntaxFault.TheVariants.{Unclosed}
 use Rattle.drv_syntax.specs.declared.fault.SyntaxFault.{SyntaxFault}
 use Rattle.drv_syntax.specs.declared.token.TokenKind.TheVariants as kinds
 use Rattle.std.proofs.Common.{◌≡◌, ◌∙◌, ◌+◌, ◌≤◌, ◌<◌, ◌++◌, Bool, false, true, if◌then◌else◌, List, [], ◌∷◌, ap, append-nil, append_assoc}
-use Rattle.std.proofs.Common.{arith}
-use Rattle.std.proofs.Common.{drop, length, length-append, refl, take}
-use Rattle.std.proofs.Common.{subst, suc, sym, zero, ℕ}
+use Rattle.std.proofs.Common.{arith, drop, length, length-append, refl, take, subst, suc, sym, zero, ℕ}
 use Rattle.std.proofs.lemmas.List.{length-drop}
 use Rattle.std.specs.List.{prefix_len}
 use Rattle.std.specs.Prelude.{◌==◌, not, Err, None, Ok, Option, Result, Some}

@@ -4,9 +4,8 @@ use Rattle.drv_syntax.specs.Marks.{Within, marked_label, marked_labels}
 use Rattle.drv_syntax.specs.declared.labels.LabelMark.{LabelMark}
 use Rattle.drv_syntax.specs.declared.token.TestKind.TheVariants as asking
 use Rattle.drv_syntax.specs.declared.token.TestKind.{TestKind}
-use Rattle.std.proofs.Common.{◌≡◌, ℕ, ◌+◌, ◌-◌, ◌<◌, ◌≤◌, Bool, false, List, [], ◌∷◌, ◌++◌, length, take, drop, get_or, set, refl}
-use Rattle.std.proofs.Common.{subst, suc}
-use Rattle.std.proofs.Common.{sym, zero, ap, ◌∙◌, arith, append_assoc, length-append}
+use Rattle.std.proofs.Common.{◌≡◌, ℕ, ◌+◌, ◌-◌, ◌<◌, ◌≤◌, Bool, false, List, [], ◌∷◌, ◌++◌, length, take, drop, get_or, set, refl, subst}
+use Rattle.std.proofs.Common.{suc, sym, zero, ap, ◌∙◌, arith, append_assoc, length-append}
 use Rattle.std.proofs.Math.Seq.{drop-append_seam, take-length}
 use Rattle.std.proofs.lemmas.List.{drop-append-le, drop_more, length-drop, length-map, map-append, map-set, take-append-le, take-map}
 

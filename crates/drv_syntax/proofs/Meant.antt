@@ -3,8 +3,7 @@ use Rattle.drv_syntax.specs.Descent.{Ends, Read, Stops, Took, past, then_read, w
 use Rattle.drv_syntax.specs.Spelling.{At}
 use Rattle.drv_syntax.specs.declared.fault.SyntaxFault.{SyntaxFault}
 use Rattle.std.proofs.Common.{◌≡◌, ◌∙◌, ◌+◌, Bool, false, true, if◌then◌else◌, List, [], ◌∷◌, ap, arith, drop, drop-drop, length, refl}
-use Rattle.std.proofs.Common.{subst}
-use Rattle.std.proofs.Common.{sym, take, ℕ}
+use Rattle.std.proofs.Common.{subst, sym, take, ℕ}
 
 -- What Descent makes of a part of a text is what the grammar says of that part. Three relations say it: what the part is, with a rest after
 -- it; that the text ends in it; and that the text ends in the byte that doesn't fit it. `Is`, `Cuts` and `Bad` take the size of a text and

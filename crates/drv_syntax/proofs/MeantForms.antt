@@ -10,8 +10,7 @@ use Rattle.drv_syntax.proofs.Steps.{Near, near_self, same_byte}
 use Rattle.drv_syntax.specs.Bytes.{is_mark, is_of, is_white}
 use Rattle.drv_syntax.specs.Contexts.{ListContext, in_arguments, in_braces}
 use Rattle.drv_syntax.specs.Descent as d
-use Rattle.drv_syntax.specs.Descent.{After, Alternative, Asks, Bars, Emits, Form, Joins, Lists, Operand, Patterns, Read, Stops}
-use Rattle.drv_syntax.specs.Descent.{Took, Tried}
+use Rattle.drv_syntax.specs.Descent.{After, Alternative, Asks, Bars, Emits, Form, Joins, Lists, Operand, Patterns, Read, Stops, Took, Tried}
 use Rattle.drv_syntax.specs.Descent.{then_read}
 use Rattle.drv_syntax.specs.Fronts as cuts
 use Rattle.drv_syntax.specs.Fronts.{CutsPatterns, CutsTests}

@@ -6,15 +6,12 @@ use Rattle.drv_syntax.proofs.Meant.{meant_past, meant_stops, meant_then, meant_t
 use Rattle.drv_syntax.proofs.MeantCalls.{CallBad, Ended, ListIs, ListMeant, Listed, call_meant, in_list, no_function}
 use Rattle.drv_syntax.proofs.MeantChoices.{brace_meant}
 use Rattle.drv_syntax.proofs.MeantLeaves.{Bursts, DirBad, DirCuts, DirIs, DirMeant, breaks, hide_meant, hides, inside, name_meant}
-use Rattle.drv_syntax.proofs.MeantLeaves.{option_meant}
-use Rattle.drv_syntax.proofs.MeantLeaves.{saying_meant, suffix_meant, unknown}
+use Rattle.drv_syntax.proofs.MeantLeaves.{option_meant, saying_meant, suffix_meant, unknown}
 use Rattle.drv_syntax.proofs.MeantPatterns.{at_rest, at_start, from_start}
-use Rattle.drv_syntax.proofs.Steps.{Far, Near, Step, both_end, byte_step, far_end, far_more, far_other, near_far, no_step}
-use Rattle.drv_syntax.proofs.Steps.{same_byte, steps}
+use Rattle.drv_syntax.proofs.Steps.{Far, Near, Step, both_end, byte_step, far_end, far_more, far_other, near_far, no_step, same_byte, steps}
 use Rattle.drv_syntax.specs.Bytes.{is_blank, is_plain}
 use Rattle.drv_syntax.specs.Contexts.{InArguments, InX, Kind, ListContext, Mixed, Nobody, Owner, Starred, Top, bar_in, in_arguments}
-use Rattle.drv_syntax.specs.Contexts.{in_braces}
-use Rattle.drv_syntax.specs.Contexts.{in_x, is_end, newline_in, top}
+use Rattle.drv_syntax.specs.Contexts.{in_braces, in_x, is_end, newline_in, top}
 use Rattle.drv_syntax.specs.Descent as d
 use Rattle.drv_syntax.specs.Descent.{Lists, Read, Stops, Took, levels, past, then_read}
 use Rattle.drv_syntax.specs.Directives.{braced, directive_of, is_allowed, text_of}
@@ -34,9 +31,8 @@ use Rattle.drv_syntax.specs.declared.directives.Directive.TheVariants.{WithSuffi
 use Rattle.drv_syntax.specs.declared.directives.Directive.{Directive}
 use Rattle.drv_syntax.specs.declared.fault.SyntaxFault.TheVariants.{BadDirective, MixedStar, StarOutside, TooNested}
 use Rattle.drv_syntax.specs.declared.fault.SyntaxFault.{SyntaxFault}
-use Rattle.std.proofs.Common.{◌≡◌, ◌∙◌, ◌+◌, Bool, false, true, if◌then◌else◌, List, [], ◌∷◌, ap, arith, drop, drop-drop, refl}
-use Rattle.std.proofs.Common.{subst}
-use Rattle.std.proofs.Common.{suc, sym, zero, ℕ}
+use Rattle.std.proofs.Common.{◌≡◌, ◌∙◌, ◌+◌, Bool, false, true, if◌then◌else◌, List, [], ◌∷◌, ap, arith, drop, drop-drop, refl, subst, suc}
+use Rattle.std.proofs.Common.{sym, zero, ℕ}
 use Rattle.std.specs.Prelude.{◌-◌, ◌==◌}
 
 -- Items and lists of items: what Descent makes of them is what the grammar says. It serves MeantWhole, and so the laws `read_is_spelled`,

@@ -4,8 +4,7 @@ use Rattle.drv_syntax.proofs.Meant as meant
 use Rattle.drv_syntax.proofs.Meant.{Meant, PastPercent, breaks_after, breaks_here, choose, meant_ends, meant_past, meant_stops, meant_then}
 use Rattle.drv_syntax.proofs.Meant.{meant_as, meant_took}
 use Rattle.drv_syntax.proofs.MeantRuns.{QuotedRun, Quotes, empty_run, pattern_meant, quotes, runs}
-use Rattle.drv_syntax.proofs.Steps.{Far, Near, byte_step, far_end, far_more, far_other, near_far, near_stops, no_step, same_byte}
-use Rattle.drv_syntax.proofs.Steps.{steps}
+use Rattle.drv_syntax.proofs.Steps.{Far, Near, byte_step, far_end, far_more, far_other, near_far, near_stops, no_step, same_byte, steps}
 use Rattle.drv_syntax.proofs.Steps.{then_byte}
 use Rattle.drv_syntax.specs.Bytes.{is_name_byte, is_option, is_suffix}
 use Rattle.drv_syntax.specs.Contexts.{ListContext, is_said}

@@ -1,7 +1,7 @@
 use Rattle.drv_words.specs.Bytes as ascii
 use Rattle.drv_syntax.proofs.Leads.{same}
-use Rattle.drv_syntax.proofs.Meant.{AtByte, Looks, Meant, Takes, breaks_after, choose, meant_ends, meant_past, meant_stops}
-use Rattle.drv_syntax.proofs.Meant.{meant_then, meant_took}
+use Rattle.drv_syntax.proofs.Meant.{AtByte, Looks, Meant, Takes, breaks_after, choose, meant_ends, meant_past, meant_stops, meant_then}
+use Rattle.drv_syntax.proofs.Meant.{meant_took}
 use Rattle.drv_syntax.proofs.MeantCalls.{past_then}
 use Rattle.drv_syntax.proofs.MeantRuns.{Spaced, pattern_meant, spaces}
 use Rattle.drv_syntax.proofs.MeantTests.{ByteIs, byte_is, byte_meant, first, near_head}
@@ -18,9 +18,7 @@ use Rattle.drv_syntax.specs.Spelling.{ArePatterns, AreSpaces, At, IsPattern, spa
 use Rattle.drv_syntax.specs.Tree.{Pattern, Span}
 use Rattle.drv_syntax.specs.declared.fault.SyntaxFault.TheVariants.{BadDirective}
 use Rattle.drv_syntax.specs.declared.fault.SyntaxFault.{SyntaxFault}
-use Rattle.std.proofs.Common.{◌≡◌, ◌∙◌, ◌+◌, false, List, [], ◌∷◌, ap, arith, drop, length, refl, subst, suc}
-use Rattle.std.proofs.Common.{sym, zero}
-use Rattle.std.proofs.Common.{ℕ}
+use Rattle.std.proofs.Common.{◌≡◌, ◌∙◌, ◌+◌, false, List, [], ◌∷◌, ap, arith, drop, length, refl, subst, suc, sym, zero, ℕ}
 use Rattle.std.specs.List.{prefix_len}
 use Rattle.std.specs.Prelude.{◌==◌}
 

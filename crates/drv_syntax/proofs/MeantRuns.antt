@@ -13,9 +13,8 @@ use Rattle.drv_syntax.specs.Spelling.{AreSpaces, IsPattern, IsQuoted, IsRun}
 use Rattle.drv_syntax.specs.Tree.{Pattern, pattern}
 use Rattle.drv_syntax.specs.declared.fault.SyntaxFault.TheVariants.{EmptyTest, UnknownFunction}
 use Rattle.drv_syntax.specs.declared.fault.SyntaxFault.{SyntaxFault}
-use Rattle.std.proofs.Common.{◌≡◌, ◌∙◌, ◌+◌, ◌++◌, Bool, false, true, List, [], ◌∷◌, ap, append-nil, append_assoc, arith}
-use Rattle.std.proofs.Common.{drop}
-use Rattle.std.proofs.Common.{drop-drop, refl, subst, suc, sym, take, ℕ}
+use Rattle.std.proofs.Common.{◌≡◌, ◌∙◌, ◌+◌, ◌++◌, Bool, false, true, List, [], ◌∷◌, ap, append-nil, append_assoc, arith, drop, drop-drop}
+use Rattle.std.proofs.Common.{refl, subst, suc, sym, take, ℕ}
 use Rattle.std.specs.List.{prefix_len}
 use Rattle.std.specs.Prelude.{◌==◌}
 

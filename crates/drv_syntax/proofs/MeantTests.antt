@@ -3,8 +3,7 @@ use Rattle.drv_syntax.proofs.Leads.{differs, each, other, same}
 use Rattle.drv_syntax.proofs.Meant.{AtByte, Meant, breaks_after, breaks_here, choose, meant_as, meant_ends, meant_past, meant_stops}
 use Rattle.drv_syntax.proofs.Meant.{meant_then, meant_took}
 use Rattle.drv_syntax.proofs.MeantCalls.{CallBad, CallMeant, ListMeant, call_meant, in_list, no_function}
-use Rattle.drv_syntax.proofs.MeantRuns.{QuotedRun, Quotes, Spaced, empty_run, pattern_meant, quotes}
-use Rattle.drv_syntax.proofs.MeantRuns.{spaces}
+use Rattle.drv_syntax.proofs.MeantRuns.{QuotedRun, Quotes, Spaced, empty_run, pattern_meant, quotes, spaces}
 use Rattle.drv_syntax.proofs.Steps.{Near, byte_step, near_self, near_stops, no_step, resized, same_byte, then_byte}
 use Rattle.drv_syntax.specs.Bytes.{is_mark, is_of, is_white, is_word}
 use Rattle.drv_syntax.specs.Contexts.{ListContext, in_arguments, in_braces}
@@ -20,8 +19,8 @@ use Rattle.drv_syntax.specs.Spelling.{AreSpaces, At, IsAsked, IsCall, IsPattern,
 use Rattle.drv_syntax.specs.Tree.{Asked, HasLanguage, HasResult, HasSuffix, HasSwitch, Items, Pattern, pattern}
 use Rattle.drv_syntax.specs.declared.fault.SyntaxFault.TheVariants.{BadDirective, EmptyTest, TooNested}
 use Rattle.drv_syntax.specs.declared.fault.SyntaxFault.{SyntaxFault}
-use Rattle.std.proofs.Common.{◌≡◌, ◌∙◌, ◌+◌, ◌⊎◌, Bool, false, true, if◌then◌else◌, List, [], ◌∷◌, ap, arith, drop, inl, inr}
-use Rattle.std.proofs.Common.{refl, subst, sym, ℕ}
+use Rattle.std.proofs.Common.{◌≡◌, ◌∙◌, ◌+◌, ◌⊎◌, Bool, false, true, if◌then◌else◌, List, [], ◌∷◌, ap, arith, drop, inl, inr, refl, subst}
+use Rattle.std.proofs.Common.{sym, ℕ}
 use Rattle.std.specs.List.{prefix_len}
 use Rattle.std.specs.Prelude.{◌-◌, ◌==◌}
 

@@ -7,18 +7,16 @@ use Rattle.drv_syntax.specs.Descent as d
 use Rattle.drv_syntax.specs.Descent.{Ends, Hangs, Lists, Quoted, Read, Run, Stops, Took, past, quoted, then_read, within}
 use Rattle.drv_syntax.specs.Refusals.{AtFront}
 use Rattle.drv_syntax.specs.Directives.{braced, directive_of, is_allowed, said}
-use Rattle.drv_syntax.specs.Tree.{Brace, Function, Hide, Item, NamedText, TempName}
+use Rattle.drv_syntax.specs.Tree.{Brace, Function, Hide, Item}
 use Rattle.drv_syntax.specs.declared.directives.BraceKind.TheVariants.{InPlace, IntoArgumentsFile, IntoFailureFile}
 use Rattle.drv_syntax.specs.declared.directives.BraceKind.{BraceKind}
 use Rattle.drv_syntax.specs.declared.directives.Directive.TheVariants as directives
 use Rattle.drv_syntax.specs.declared.directives.Directive.{Directive}
 use Rattle.drv_syntax.specs.declared.directives.SayKind.TheVariants.{AsError, AsNotice}
 use Rattle.drv_syntax.specs.declared.directives.SayKind.{SayKind}
-use Rattle.drv_syntax.specs.declared.fault.SyntaxFault.TheVariants.{BadDirective, TooNested}
 use Rattle.drv_syntax.specs.declared.token.TempKind.{TempKind}
-use Rattle.std.proofs.Common.{◌≡◌, ◌+◌, ◌++◌, Bool, false, true, if◌then◌else◌, List, [], ◌∷◌, drop, length, refl, take, ℕ}
-use Rattle.std.specs.List.{prefix_len}
-use Rattle.std.specs.Prelude.{◌==◌, codes, nat_le}
+use Rattle.std.proofs.Common.{◌≡◌, ◌+◌, ◌++◌, false, List, [], ◌∷◌, drop, length, refl, ℕ}
+use Rattle.std.specs.Prelude.{◌==◌, nat_le}
 
 -- A directive is no white space. It serves the reader's `items`, which leaves white space out at the end of an X, and so moves the tail of
 -- the list after each directive. `NotWhite r` says of the result r that it is no item of white space.

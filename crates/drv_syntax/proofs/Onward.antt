@@ -3,7 +3,7 @@ use Rattle.drv_syntax.specs.Code.Left.{Left, after}
 use Rattle.drv_syntax.specs.Descent.{patterns}
 use Rattle.std.proofs.Common.{◌≡◌, ◌∙◌, ◌+◌, List, [], ◌∷◌, ap, arith, drop, refl, suc, sym, zero, ℕ}
 
--- A byte more, and so many. It serves what is given of lists, tests and alternatives.
+-- A byte more, and so many, and functions that skip bytes one by one. It serves what is given of lists, patterns, tests and alternatives.
 
 -- a byte more and then k bytes are k bytes and then a byte more
 pub one_after : (k : ℕ) (r : Left) → after k (after 1 r) ≡ after 1 (after k r)

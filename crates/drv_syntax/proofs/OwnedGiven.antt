@@ -1,6 +1,5 @@
 use Rattle.drv_syntax.proofs.TrimmedItems.{kept_is, kept_white, trim_star}
 use Rattle.drv_syntax.proofs.Wrote.{closed_is, list_wrote, wrote_both, wrote_none}
-use Rattle.drv_syntax.proofs.Writing.{parts_of}
 use Rattle.drv_syntax.specs.Code.Lists.{choice_written, is_white_item, list_written, owned_at, tail_after, tail_on, unheld}
 use Rattle.drv_syntax.specs.Code.Tests.{is_starred, opened, test_added, tests_on}
 use Rattle.drv_syntax.specs.Code.Tokens.{whole_token}

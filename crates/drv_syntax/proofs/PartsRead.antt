@@ -11,8 +11,7 @@ use Rattle.drv_syntax.specs.Spelling as s
 use Rattle.drv_syntax.specs.Spelling.{AreSpaces, IsPattern, IsQuoted, IsRun, IsSuffix}
 use Rattle.drv_syntax.specs.Tree.{AddOption, NamedText, Pattern, TempName, pattern}
 use Rattle.std.proofs.Common.{◌≡◌, ◌≤◌, ◌∙◌, ◌+◌, ◌++◌, Bool, false, true, List, [], ◌∷◌, ap, append-nil, append_assoc, arith, drop}
-use Rattle.std.proofs.Common.{drop-drop}
-use Rattle.std.proofs.Common.{length, length-append, refl, subst, suc, sym, take, zero, ℕ}
+use Rattle.std.proofs.Common.{drop-drop, length, length-append, refl, subst, suc, sym, take, zero, ℕ}
 use Rattle.std.proofs.lemmas.Bool.Decides.{nat_tests}
 use Rattle.std.specs.List.{prefix_len}
 use Rattle.std.specs.Prelude.{◌==◌, nat_le}

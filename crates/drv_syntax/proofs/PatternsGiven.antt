@@ -2,11 +2,11 @@ use Rattle.drv_syntax.proofs.Onward as onward
 use Rattle.drv_syntax.proofs.Onward.{more_after}
 use Rattle.drv_words.specs.Bytes as ascii
 use Rattle.drv_syntax.proofs.GivenParts.{given_parts, given_shorter, some_left}
-use Rattle.drv_syntax.proofs.Writing.{after_after, differs}
+use Rattle.drv_syntax.proofs.Writing.{after_after}
 use Rattle.drv_syntax.specs.Bytes.{is_white}
 use Rattle.drv_syntax.specs.Code.Left.{Left, after, first_of}
 use Rattle.drv_syntax.specs.Code.Tests.{pattern_given, patterns_given, patterns_written, spaced}
-use Rattle.drv_syntax.specs.Code.Writing.{Parts, Reading, at_rest, given, leaf_until, leafed, open_at}
+use Rattle.drv_syntax.specs.Code.Writing.{Parts, Reading, at_rest, given, leafed, open_at}
 use Rattle.drv_syntax.specs.Descent as d
 use Rattle.drv_syntax.specs.Descent.{Ends, Read, Stops, Took, past, pattern_at, pattern_byte, pattern_go, patterns, then_read}
 use Rattle.drv_syntax.specs.Labels.{pattern_label}
@@ -15,12 +15,10 @@ use Rattle.drv_syntax.specs.Tree.{Pattern, Span}
 use Rattle.drv_syntax.specs.declared.fault.SyntaxFault.TheVariants.{BadDirective, Unclosed}
 use Rattle.drv_syntax.specs.declared.fault.SyntaxFault.{SyntaxFault}
 use Rattle.drv_syntax.specs.declared.token.TokenKind.TheVariants as kinds
-use Rattle.std.proofs.Common.{◌≡◌, ◌∙◌, ◌+◌, ◌≤◌, ◌<◌, Bool, false, true, if◌then◌else◌, List, [], ◌∷◌, ap, arith, drop, drop-drop, length}
-use Rattle.std.proofs.Common.{refl}
-use Rattle.std.proofs.Common.{suc, sym, zero, ℕ}
+use Rattle.std.proofs.Common.{◌≡◌, ◌+◌, ◌≤◌, ◌<◌, Bool, false, true, if◌then◌else◌, List, [], ◌∷◌, ap, arith, drop, length, refl, suc, ℕ}
 use Rattle.std.proofs.lemmas.List.{length-drop}
 use Rattle.std.specs.List.{prefix_len}
-use Rattle.std.specs.Prelude.{◌==◌, Err, None, Ok, Option, Result, Some}
+use Rattle.std.specs.Prelude.{◌==◌, Err, Ok, Option, Result, Some}
 
 -- What the reader's `patterns` returns for the patterns after an &, from one of them on: each lemma is one turn of its loop. It serves the
 -- clause of `patterns`. `patterns_given` and `pattern_given` turn what specs/Descent makes of a part (`Took`, `Ends`, `Stops`) into the

@@ -8,10 +8,8 @@ use Rattle.drv_syntax.specs.Fronts as cuts
 use Rattle.drv_syntax.specs.Fronts.{CutsPatterns, RunsOut}
 use Rattle.drv_syntax.specs.Spelling as s
 use Rattle.drv_syntax.specs.Spelling.{ArePatterns, AreSpaces, At, IsPattern, span}
-use Rattle.drv_syntax.specs.Tree.{Pattern, Span, pattern}
-use Rattle.std.proofs.Common.{◌≡◌, ◌∙◌, ◌+◌, ◌⊎◌, false, List, [], ◌∷◌, ap, arith, drop, drop-drop, inl, inr, length, refl}
-use Rattle.std.proofs.Common.{subst, suc}
-use Rattle.std.proofs.Common.{sym, ℕ}
+use Rattle.drv_syntax.specs.Tree.{Pattern, Span}
+use Rattle.std.proofs.Common.{◌≡◌, ◌∙◌, ◌+◌, ◌⊎◌, false, List, [], ◌∷◌, ap, arith, drop, inl, inr, length, refl, suc, ℕ}
 use Rattle.std.specs.List.{prefix_len}
 
 -- What the grammar says of patterns after an ampersand, Descent makes of it. It serves the laws `spelled_is_read`, `front_is_unrefused` and

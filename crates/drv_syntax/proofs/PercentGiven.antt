@@ -3,14 +3,12 @@ use Rattle.drv_syntax.proofs.GivenParts.{some_left}
 use Rattle.drv_syntax.proofs.Writing.{after_none, given_past, leaf_is}
 use Rattle.drv_syntax.specs.Code.Left.{Left, after, first_of}
 use Rattle.drv_syntax.specs.Code.Lists.{directive_given, is_simple, simple_given, star_given}
-use Rattle.drv_syntax.specs.Code.Tokens.{whole_token}
 use Rattle.drv_syntax.specs.Code.Writing.{Reading, at_rest, given, item_given, item_written, leaf_here}
 use Rattle.drv_syntax.specs.Contexts.{ListContext, Mixed, Nobody, Owner, Starred}
 use Rattle.drv_syntax.specs.Descent as d
 use Rattle.drv_syntax.specs.Descent.{Lists, Took, directive_by}
 use Rattle.drv_syntax.specs.Directives.{directive_of, is_allowed, text_of}
 use Rattle.drv_syntax.specs.Labels.{no_label, word_label}
-use Rattle.drv_syntax.specs.Tree as tree
 use Rattle.drv_syntax.specs.Tree.{BuiltinText, Item, Leaf, Star}
 use Rattle.drv_syntax.specs.declared.directives.BraceKind.TheVariants.{InPlace}
 use Rattle.drv_syntax.specs.declared.directives.BraceKind.{BraceKind}
@@ -19,7 +17,7 @@ use Rattle.drv_syntax.specs.declared.directives.Directive.{Directive}
 use Rattle.drv_syntax.specs.declared.fault.SyntaxFault.TheVariants.{BadDirective}
 use Rattle.drv_syntax.specs.declared.fault.SyntaxFault.{SyntaxFault}
 use Rattle.drv_syntax.specs.declared.token.TokenKind.TheVariants as kinds
-use Rattle.std.proofs.Common.{◌≡◌, ◌∙◌, ◌+◌, ◌++◌, ◌||◌, Bool, false, true, [], ◌∷◌, ap, arith, drop, length, refl, sym, ℕ}
+use Rattle.std.proofs.Common.{◌≡◌, ◌∙◌, ◌+◌, ◌||◌, Bool, false, true, [], ◌∷◌, ap, arith, drop, length, refl, sym, ℕ}
 use Rattle.std.specs.Prelude.{◌==◌, Err, Ok, Option, Result, Some}
 
 -- What the reader's `percent` returns for a directive, from its percent sign on. It serves the clause of `percent`. `directive_given` and

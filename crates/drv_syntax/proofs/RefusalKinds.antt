@@ -10,8 +10,7 @@ use Rattle.drv_syntax.specs.Spelling.{Spells}
 use Rattle.drv_syntax.specs.Tree.{Items}
 use Rattle.drv_syntax.specs.declared.fault.SyntaxFault.{SyntaxFault}
 use Rattle.drv_syntax.specs.declared.fault.SyntaxFault.TheVariants.{TextTooLong, Unclosed}
-use Rattle.std.proofs.Common.{◌≡◌, ◌<◌, ◌≤◌, ◌+◌, ◌++◌, List, false, ap, arith, drop, length, subst, sym, take}
-use Rattle.std.proofs.Common.{take-append-drop, ℕ}
+use Rattle.std.proofs.Common.{◌≡◌, ◌<◌, ◌≤◌, ◌+◌, ◌++◌, List, false, ap, arith, drop, length, subst, sym, take, take-append-drop, ℕ}
 use Rattle.std.proofs.lemmas.Bool.Decides.{nat_tests}
 use Rattle.std.specs.Prelude.{Bool, Err, Ok, if◌then◌else◌, nat_le}
 

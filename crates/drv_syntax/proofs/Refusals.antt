@@ -6,9 +6,7 @@ use Rattle.drv_syntax.specs.Spelling.{Spells}
 use Rattle.drv_syntax.specs.Tree.{Items}
 use Rattle.drv_syntax.specs.declared.fault.SyntaxFault.{SyntaxFault}
 use Rattle.std.proofs.Common.{◌≡◌, ◌∙◌, ◌+◌, ◌++◌, ◌-◌, ◌<◌, ◌≤◌, ◌⊎◌, List, [], ◌∷◌, ap, append_assoc, arith, drop, inl, inr, length}
-use Rattle.std.proofs.Common.{length-append}
-use Rattle.std.proofs.Common.{refl, subst}
-use Rattle.std.proofs.Common.{suc, sym, take, zero, ℕ}
+use Rattle.std.proofs.Common.{length-append, refl, subst, suc, sym, take, zero, ℕ}
 use Rattle.std.proofs.lemmas.List.{length-take-le, take-append-drop}
 
 -- A refusal, its place and a cut text by the fronts alone. It serves the laws `shortest_prefix`, `refused_after_front`, `front_prefix` and

@@ -1,5 +1,5 @@
 use Rattle.drv_words.specs.Bytes as ascii
-use Rattle.drv_syntax.proofs.GivenParts.{none_left, ok_same, some_left}
+use Rattle.drv_syntax.proofs.GivenParts.{ok_same, some_left}
 use Rattle.drv_syntax.proofs.Leads.{same}
 use Rattle.drv_syntax.proofs.Writing.{after_after, after_none, differs}
 use Rattle.drv_syntax.specs.Bytes.{is_white}

@@ -1,8 +1,6 @@
 use Rattle.drv_words.specs.Bytes as ascii
 use Rattle.drv_syntax.specs.Spelling as s
-use Rattle.std.proofs.Common.{◌≡◌, ◌∙◌, ◌+◌, Bool, false, List, [], ◌∷◌, ap, arith, drop, drop-drop, length, refl, subst}
-use Rattle.std.proofs.Common.{suc, sym}
-use Rattle.std.proofs.Common.{take, ℕ}
+use Rattle.std.proofs.Common.{◌≡◌, ◌∙◌, ◌+◌, Bool, false, List, [], ◌∷◌, ap, arith, drop, drop-drop, length, refl, subst, suc, sym, take, ℕ}
 use Rattle.std.specs.Prelude.{◌==◌}
 
 -- A text of which the front is taken, with another rest after that front. Nothing here knows the grammar. It serves what Descent makes of a

@@ -19,8 +19,7 @@ use Rattle.drv_syntax.specs.Refusals.{AtBar, AtFront, Order, may_emit}
 use Rattle.drv_syntax.specs.Spelling as s
 use Rattle.drv_syntax.specs.Spelling.{AreSpaces, At, IsPattern, IsQuoted, IsSign, span}
 use Rattle.drv_syntax.specs.Tree.{Pattern, pattern}
-use Rattle.std.proofs.Common.{◌≡◌, ◌∙◌, ◌+◌, ◌++◌, ◌⊎◌, Bool, false, true, List, [], ◌∷◌, ap, append_assoc, arith, drop}
-use Rattle.std.proofs.Common.{inl, inr, length}
+use Rattle.std.proofs.Common.{◌≡◌, ◌∙◌, ◌+◌, ◌++◌, ◌⊎◌, Bool, false, true, List, [], ◌∷◌, ap, append_assoc, arith, drop, inl, inr, length}
 use Rattle.std.proofs.Common.{refl, subst, suc, sym, ℕ}
 use Rattle.std.specs.Prelude.{◌-◌, ◌==◌}
 

@@ -4,30 +4,28 @@ use Rattle.drv_syntax.proofs.EmitsRead.{bare_mark, emit_fails, starred_mark}
 use Rattle.drv_syntax.proofs.Failing.{AtByte, past_fails, then_fails}
 use Rattle.drv_syntax.proofs.Heads.{no_white, pattern_head}
 use Rattle.drv_syntax.proofs.Leads.{differs, each, not_of, other, same}
-use Rattle.drv_syntax.proofs.Longer.{asked_filled, asked_longer, pattern_filled, pattern_longer, quoted_longer, sign_longer}
-use Rattle.drv_syntax.proofs.Longer.{refuses_filled, spaces_filled, spaces_longer, stops_longer}
+use Rattle.drv_syntax.proofs.Longer.{asked_filled, asked_longer, pattern_filled, pattern_longer, quoted_longer, sign_longer, refuses_filled}
+use Rattle.drv_syntax.proofs.Longer.{spaces_filled, spaces_longer, stops_longer}
 use Rattle.drv_syntax.proofs.MeantRuns.{empty_run}
 use Rattle.drv_syntax.proofs.MeantTests.{mark_word}
 use Rattle.drv_syntax.proofs.PartsRead.{Reads, byte_next, none_quoted, reads_as, reads_past, runs_to}
 use Rattle.drv_syntax.proofs.PatternsRead as patterns
-use Rattle.drv_syntax.proofs.TestsRead.{asking, call_level, from_reads, mark_is, mark_reads, next_goes, switch_reads}
-use Rattle.drv_syntax.proofs.TestsRead.{test_goes, tests_fail, tests_go}
+use Rattle.drv_syntax.proofs.TestsRead.{asking, call_level, from_reads, mark_is, mark_reads, next_goes, switch_reads, test_goes, tests_fail}
+use Rattle.drv_syntax.proofs.TestsRead.{tests_go}
 use Rattle.drv_syntax.specs.Bytes.{is_mark, is_of, is_white, is_word}
 use Rattle.drv_syntax.specs.Contexts.{ListContext, in_arguments, in_braces}
 use Rattle.drv_syntax.specs.Descent as d
 use Rattle.drv_syntax.specs.Descent.{Lists, Operand, Quoted, Stops, Took, Tried, past, then_read}
 use Rattle.drv_syntax.specs.Refusals as r
 use Rattle.drv_syntax.specs.Refusals.{AnEnd, AtBar, AtFront, Due, Empty, Order, Reaches, ReachesAsked, ReachesEmits, ReachesPatterns}
-use Rattle.drv_syntax.specs.Refusals.{ReachesTests}
-use Rattle.drv_syntax.specs.Refusals.{Refuses, ends_either, ends_pattern, ends_test, may_emit}
+use Rattle.drv_syntax.specs.Refusals.{ReachesTests, Refuses, ends_either, ends_pattern, ends_test, may_emit}
 use Rattle.drv_syntax.specs.Spelling as s
 use Rattle.drv_syntax.specs.Spelling.{AreSpaces, At, IsAsked, IsPattern, IsQuoted, IsSign, span}
 use Rattle.drv_syntax.specs.Tree.{Asked, HasResult, Items, Pattern, Span, pattern}
 use Rattle.drv_syntax.specs.declared.fault.SyntaxFault.TheVariants.{BadDirective, EmptyTest, TooNested, UnknownFunction}
 use Rattle.drv_syntax.specs.declared.fault.SyntaxFault.{SyntaxFault}
-use Rattle.std.proofs.Common.{◌≡◌, ◌∙◌, ◌+◌, ◌++◌, ◌⊎◌, Bool, false, true, if◌then◌else◌, List, [], ◌∷◌, ap, append_assoc, arith, drop}
-use Rattle.std.proofs.Common.{inl, inr, length}
-use Rattle.std.proofs.Common.{length-append, refl, subst, suc, sym, ℕ}
+use Rattle.std.proofs.Common.{◌≡◌, ◌∙◌, ◌+◌, ◌++◌, ◌⊎◌, Bool, false, true, if◌then◌else◌, List, [], ◌∷◌, ap, append_assoc, arith, drop, inl}
+use Rattle.std.proofs.Common.{inr, length, length-append, refl, subst, suc, sym, ℕ}
 use Rattle.std.specs.Prelude.{◌-◌, ◌==◌, None, Option}
 
 -- Where a byte in braces doesn't fit, Descent stops at it: tests and patterns. It serves the law `refusal_kinds`. `Reaches.. t due last`

@@ -1,5 +1,4 @@
 use Rattle.drv_words.specs.Bytes as ascii
-use Rattle.drv_words.specs.Gives.{Gives}
 use Rattle.drv_syntax.proofs.GivenParts.{given_stops, ok_same, quoted_parts, some_left}
 use Rattle.drv_syntax.proofs.Writing.{after_after, after_none, given_past}
 use Rattle.drv_syntax.specs.Bytes.{is_mark, is_white, is_word}
@@ -14,13 +13,12 @@ use Rattle.drv_syntax.specs.Descent.{pattern_at, quoted, switch_operand, then_re
 use Rattle.drv_syntax.specs.Refusals.{Order, may_emit}
 use Rattle.drv_syntax.specs.Spelling.{span}
 use Rattle.drv_syntax.specs.declared.descent.parts.Choice.{Choice}
-use Rattle.drv_syntax.specs.declared.descent.tests.Asked.{Asked}
 use Rattle.drv_syntax.specs.declared.descent.tests.MarkForm.TheVariants as marks
 use Rattle.drv_syntax.specs.declared.descent.tests.MarkForm.{MarkForm}
 use Rattle.drv_syntax.specs.declared.descent.tests.Next.{Next}
 use Rattle.drv_syntax.specs.declared.fault.SyntaxFault.TheVariants.{BadDirective, EmptyTest, Unclosed}
 use Rattle.drv_syntax.specs.declared.fault.SyntaxFault.{SyntaxFault}
-use Rattle.std.proofs.Common.{◌≡◌, ◌∙◌, ◌+◌, Bool, false, true, if◌then◌else◌, List, [], ◌∷◌, ap, arith, drop, refl, subst, sym, ℕ}
+use Rattle.std.proofs.Common.{◌≡◌, ◌∙◌, ◌+◌, Bool, false, true, if◌then◌else◌, List, [], ◌∷◌, ap, arith, drop, refl, sym, ℕ}
 use Rattle.std.specs.List.{prefix_len}
 use Rattle.std.specs.Prelude.{◌==◌, Err, None, Ok, Option, Result, Some}
 

@@ -3,20 +3,16 @@ use Rattle.drv_syntax.proofs.CallsRead.{ListReads, result_reads}
 use Rattle.drv_syntax.proofs.Failing.{Failure, failed, then_fails}
 use Rattle.drv_syntax.proofs.Heads.{asked_head, no_white, pattern_head, no_percent, sign_white, unstarred_spaces}
 use Rattle.drv_syntax.proofs.PartsRead.{Reads, beyond, byte_next, past_none, past_past, pattern_reads, reads_after, reads_as, reads_past}
-use Rattle.drv_syntax.proofs.PartsRead.{reads_then, runs_to}
-use Rattle.drv_syntax.proofs.PartsRead.{skipped, spaces_to}
+use Rattle.drv_syntax.proofs.PartsRead.{reads_then, runs_to, skipped, spaces_to}
 use Rattle.drv_syntax.specs.Bytes.{is_mark, is_white, is_word}
 use Rattle.drv_syntax.specs.Contexts.{ListContext, in_arguments, in_braces}
 use Rattle.drv_syntax.specs.Descent as d
-use Rattle.drv_syntax.specs.Descent.{Alternative, Ends, Form, Lists, Operand, Patterns, Quoted, Read, Took, Tried, past, quoted}
-use Rattle.drv_syntax.specs.Descent.{then_read}
+use Rattle.drv_syntax.specs.Descent.{Alternative, Ends, Form, Lists, Operand, Patterns, Quoted, Read, Took, Tried, past, quoted, then_read}
 use Rattle.drv_syntax.specs.Refusals.{AtBar, Order, may_emit}
 use Rattle.drv_syntax.specs.Spelling as s
 use Rattle.drv_syntax.specs.Spelling.{AreSpaces, AreTests, At, IsAsked, IsCall, IsPattern, IsQuoted, IsSign, span}
 use Rattle.drv_syntax.specs.Tree.{Asked, HasLanguage, HasResult, HasSuffix, HasSwitch, Items, Pattern, Span, Tests, no_test, test}
-use Rattle.std.proofs.Common.{◌≡◌, ◌∙◌, ◌+◌, Bool, false, true, List, [], ◌∷◌, ap, arith, drop, drop-drop, length, refl, subst}
-use Rattle.std.proofs.Common.{suc, sym}
-use Rattle.std.proofs.Common.{ℕ}
+use Rattle.std.proofs.Common.{◌≡◌, ◌∙◌, ◌+◌, Bool, false, true, List, [], ◌∷◌, ap, arith, drop, drop-drop, length, refl, subst, suc, sym, ℕ}
 use Rattle.std.specs.List.{prefix_len}
 use Rattle.std.specs.Prelude.{◌-◌, ◌==◌, Some}
 

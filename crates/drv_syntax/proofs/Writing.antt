@@ -2,13 +2,9 @@ use Rattle.drv_syntax.proofs.PartsRead.{none_quoted}
 use Rattle.drv_words.specs.Bytes as ascii
 use Rattle.drv_syntax.proofs.Leads.{same}
 use Rattle.drv_syntax.specs.Bytes.{is_name_byte}
-use Rattle.drv_syntax.specs.Code.Left.{Left, after}
-use Rattle.drv_syntax.specs.Code.Tokens.{whole_token}
-use Rattle.drv_syntax.specs.Code.Writing.{Parts, Reading, at_rest, given, in_class, item_given, item_written}
-use Rattle.drv_syntax.specs.Code.Left.{begins_with}
-use Rattle.drv_syntax.specs.Code.Left.{first_of}
-use Rattle.drv_syntax.specs.Code.Writing.{leaf_here, leafed, open_at, quoted_to, runs_in, wrote}
-use Rattle.drv_syntax.specs.Code.Left.{second_of}
+use Rattle.drv_syntax.specs.Code.Left.{Left, after, begins_with, first_of, second_of}
+use Rattle.drv_syntax.specs.Code.Writing.{Parts, Reading, at_rest, given, in_class, item_given, item_written, leaf_here, leafed, open_at}
+use Rattle.drv_syntax.specs.Code.Writing.{quoted_to, runs_in, wrote}
 use Rattle.drv_syntax.specs.Descent.{Ends, Hangs, Quoted, Read, Run, Stops, Took, name_end, name_from, past, quoted, with_byte}
 use Rattle.drv_syntax.specs.Labels.{Label, no_node, node, word_label}
 use Rattle.drv_syntax.specs.Spelling.{span}
@@ -20,8 +16,7 @@ use Rattle.drv_syntax.specs.declared.token.Token.{Token}
 use Rattle.drv_syntax.specs.declared.token.TokenKind.TheVariants as kinds
 use Rattle.drv_syntax.specs.declared.token.TokenKind.{TokenKind}
 use Rattle.std.proofs.Common.{◌≡◌, ◌∙◌, ◌+◌, ◌++◌, ◌<◌, ◌≤◌, Bool, false, true, if◌then◌else◌, List, [], ◌∷◌, ap, append-nil, append_assoc}
-use Rattle.std.proofs.Common.{arith}
-use Rattle.std.proofs.Common.{drop, drop-drop, length, length-append, refl, subst, suc, sym, take, zero, ℕ}
+use Rattle.std.proofs.Common.{arith, drop, drop-drop, length, length-append, refl, subst, suc, sym, take, zero, ℕ}
 use Rattle.std.proofs.lemmas.Bool.Decides.{nat_tests}
 use Rattle.std.specs.List.{prefix_len}
 use Rattle.std.specs.Prelude.{◌==◌, ◌||◌, Err, None, Ok, Option, Result, Some, nat_le}

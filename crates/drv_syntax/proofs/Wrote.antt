@@ -4,8 +4,7 @@ use Rattle.drv_syntax.specs.Code.Lists.{closed_at, list_written, owned_here}
 use Rattle.drv_syntax.specs.Code.Tests.{opened}
 use Rattle.drv_syntax.specs.Code.Tokens.{open_token, whole_token}
 use Rattle.drv_syntax.specs.Code.Writing.{Parts, Reading, flat, item_written, wrote}
-use Rattle.drv_syntax.specs.Labels.{Label, Nodes, both, inner_nodes, label_of, labels, no_node, node, nodes_of}
-use Rattle.drv_syntax.specs.Labels.{star_label}
+use Rattle.drv_syntax.specs.Labels.{Label, Nodes, both, inner_nodes, label_of, labels, no_node, node, nodes_of, star_label}
 use Rattle.drv_syntax.specs.Spelling.{span}
 use Rattle.drv_syntax.specs.Stars.{has_star, item_has_star}
 use Rattle.drv_syntax.specs.Tokens.{kind_of, token}
@@ -15,8 +14,8 @@ use Rattle.drv_syntax.specs.declared.descent.simple.Tail.{Tail}
 use Rattle.drv_syntax.specs.declared.token.Token.{Token}
 use Rattle.drv_syntax.specs.declared.token.TokenKind.TheVariants as kinds
 use Rattle.drv_syntax.specs.declared.token.TokenKind.{TokenKind}
-use Rattle.std.proofs.Common.{◌≡◌, ◌∙◌, ◌+◌, ◌++◌, ◌||◌, Bool, false, true, List, [], ◌∷◌, ap, append-nil, append_assoc, arith}
-use Rattle.std.proofs.Common.{length, length-append, refl, set, sym, take, ℕ}
+use Rattle.std.proofs.Common.{◌≡◌, ◌∙◌, ◌+◌, ◌++◌, ◌||◌, Bool, false, true, List, [], ◌∷◌, ap, append-nil, append_assoc, arith, length}
+use Rattle.std.proofs.Common.{length-append, refl, set, sym, take, ℕ}
 use Rattle.std.proofs.Math.Seq.{set-append_seam}
 
 -- What is written of parts that follow one another, and of those that hold others. It serves the reader's `call`, `braces`, `result` and

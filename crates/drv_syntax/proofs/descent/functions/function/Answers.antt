@@ -3,7 +3,6 @@ use Rattle.drv_syntax.proofs.GivenParts.{function_by, none_left, some_left}
 use Rattle.drv_syntax.proofs.descent.functions.function.Goals as goal
 use Rattle.drv_syntax.specs.Code.Writing.{front_size, seen}
 use Rattle.std.proofs.Common.{[], ◌∙◌, ap, inr, sym, refl}
-use Rattle.std.specs.Prelude.{Err}
 
 -- function (src/descent/functions.rt). A function's name, and its parenthesis.
 

@@ -14,9 +14,8 @@ use Rattle.drv_syntax.specs.Code.Writing.{named_given, open_at, seen}
 use Rattle.drv_syntax.specs.Contexts.{in_arguments}
 use Rattle.drv_syntax.specs.Refusals.{AtBar, AtFront}
 use Rattle.drv_syntax.specs.Descent as descent
-use Rattle.drv_syntax.specs.declared.descent.tests.Next.TheVariants as nexts
 use Rattle.std.proofs.Common.{◌∙◌, [], ◌∷◌, false, ap, arith, drop, inl, inr, refl, sym}
-use Rattle.std.specs.Prelude.{Err, Ok, Some}
+use Rattle.std.specs.Prelude.{Ok, Some}
 
 -- The functions of the reader that call one another (src/descent/): each gives what the descent gives for its list, choice, test or call.
 

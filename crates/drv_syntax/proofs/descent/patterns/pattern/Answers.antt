@@ -1,6 +1,6 @@
 use Rattle.drv_syntax.proofs.GivenParts.{err_gives, pattern_by, pattern_hung, seen_none, seen_some}
 use Rattle.drv_syntax.proofs.descent.patterns.pattern.Goals as goal
-use Rattle.drv_syntax.specs.Code.Writing.{is_empty, seen, spelled}
+use Rattle.drv_syntax.specs.Code.Writing.{seen, spelled}
 use Rattle.std.proofs.Common.{◌∙◌, ap, inr, sym, refl}
 use Rattle.std.specs.Prelude.{Err}
 

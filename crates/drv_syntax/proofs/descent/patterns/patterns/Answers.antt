@@ -7,7 +7,6 @@ use Rattle.drv_syntax.specs.Code.Writing.{Reading, seen, spelled}
 use Rattle.drv_syntax.specs.Descent as descent
 use Rattle.drv_syntax.specs.Tree.{pattern}
 use Rattle.std.proofs.Common.{[], ◌∙◌, ◌<◌, ap, inr, length, subst, sym, refl}
-use Rattle.std.specs.Prelude.{Err}
 
 -- patterns (src/descent/patterns.rt). Patterns after an ampersand, with the brace that closes them.
 

@@ -1,7 +1,7 @@
 use Rattle.drv_syntax.proofs.GivenParts.{err_gives, seen_none, seen_some}
 use Rattle.drv_syntax.proofs.TestsGiven.{marked_by, marked_hung}
 use Rattle.drv_syntax.proofs.descent.tests.marked.Goals as goal
-use Rattle.drv_syntax.specs.Code.Writing.{is_empty, seen, spelled}
+use Rattle.drv_syntax.specs.Code.Writing.{seen, spelled}
 use Rattle.drv_syntax.specs.Code.Tests.{order_seen}
 use Rattle.drv_syntax.specs.Refusals.{may_emit}
 use Rattle.std.proofs.Common.{◌∙◌, ap, inr, sym, refl}
