@@ -68,7 +68,8 @@ items-loop-tail-preserved-then-b-eq37 t c =
     rw c.ended-tail-then-b-eq37.ensures (
     rw (
       directed_by _ _ (context_seen c.args.c) _ c.requires c.args.c.kind refl _ _ (seen c.loop-tail.r) (seen c.plains.new.r)
-          (ok_same c.in_ok-tail.ensures) (some_left _ _ c.in-Some.ensures ∙ ap (λ x. x ∷ drop 1 c.plains.new.r.rest.bytes) c.if-b-eq37.true),
+          (ok_same c.in_ok-tail.ensures)
+          (some_left _ _ c.in-Some.ensures ∙ ap (λ x. x ∷ drop 1 c.plains.new.r.rest.bytes) c.if-b-eq37.true),
       c.in_ok-percent.ensures,
     ) at c.loop-tail.invariant)
 
