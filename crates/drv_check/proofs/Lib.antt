@@ -25,6 +25,7 @@ mod SpotLaws
 mod SwitchNames
 mod TextOrigins
 mod TokenMarks
+mod TextsReached
 mod TreeBranches
 mod Unreached
 mod UntilFault

@@ -1,8 +1,8 @@
 use Rattle.drv_check.specs.Code.OwnTrees.{tree_or_none}
-use Rattle.drv_check.specs.MarkedParts.{first_in, goes_on, joint_of, part_end, part_if, parts_from, parts_of, read_by, role_of}
-use Rattle.drv_check.specs.Markings.{headed_parts, marked_part, tree_parts}
+use Rattle.drv_check.specs.MarkedParts.{goes_on, joint_of, part_end, part_if, parts_from, read_by, role_of}
+use Rattle.drv_check.specs.Markings.{headed_parts, tree_parts}
 use Rattle.drv_check.specs.Origins.{text_spots}
-use Rattle.drv_check.specs.OwnTexts.{own_text, own_tree}
+use Rattle.drv_check.specs.OwnTexts.{own_text, own_tree, tree_after}
 use Rattle.drv_check.specs.declared.findings.Source.{Source}
 use Rattle.drv_check.specs.declared.findings.Spot.{Spot}
 use Rattle.drv_check.specs.declared.marking.Extent.{Extent}
@@ -11,14 +11,15 @@ use Rattle.drv_check.specs.declared.marking.MarkedPart.{MarkedPart}
 use Rattle.drv_check.specs.declared.marking.Reading.{Reading}
 use Rattle.drv_check.specs.declared.marking.Role.{Role}
 use Rattle.drv_check.specs.declared.opening.OpenFile.{OpenFile}
+use Rattle.drv_specs.specs.Directives.{is_colon}
 use Rattle.drv_syntax.specs.Parsed.{tree_of}
-use Rattle.drv_syntax.specs.Tokens.{tokens_of}
 use Rattle.drv_syntax.specs.declared.token.Token.{Token}
 use Rattle.std.proofs.Common.{◌≡◌, ◌∙◌, ◌<◌, ◌≤◌, ◌++◌, ◌∷◌, Err, List, None, Ok, OnOk, Option, Result, Some, ap, append_assoc, arith}
 use Rattle.std.proofs.Common.{false, refl, sym, true, ℕ}
 use Rattle.std.proofs.lemmas.Bool.Decides.{nat_tests}
 use Rattle.std.proofs.lemmas.List.{append-nil}
-use Rattle.std.specs.Prelude.{map, nat_lt}
+use Rattle.std.specs.List.{position}
+use Rattle.std.specs.Prelude.{nat_lt}
 
 -- For marked_parts (src/marking.rt): the parts of a text that have a mark, one after another.
 
@@ -59,24 +60,38 @@ end_here last at token left rest cut beyond stops =
 
 -- of the text of a piece
 
--- For the exit of the code where the text of a piece has a tree.
-pub of_tree : {X E : Type 0} (sources : List Source) (files : List OpenFile) (head text tree : List ℕ) (start at : ℕ)
-    (own : Option (List ℕ)) (spots : List Spot) (before after : List MarkedPart) (result : Result X E)
-    → own ≡ Some tree → tree_or_none own ≡ own_tree text → tree ≡ own_text text → spots ≡ text_spots sources files head tree → at ≡ start
-    → OnOk result (after ≡ before ++ map (marked_part head tree spots at) (parts_of (first_in head) tree (tokens_of (tree_of tree))))
-    → OnOk result (after ≡ before ++ headed_parts sources files (Some head) (own_text text) start (own_tree text))
-of_tree sources files head text tree start at own spots before after (Err e) has is same found begins grows = grows
-of_tree sources files head text tree start at own spots before after (Ok x) has is same found begins grows =
-    grows
-    ∙ ap (λ ss. before ++ tree_parts head tree ss at (tree_of tree)) found
-    ∙ ap (λ t. before ++ tree_parts head tree (text_spots sources files head tree) at t) (sym (ap tree_or_none has) ∙ is)
-    ∙ ap (λ t. before ++ tree_parts head t (text_spots sources files head t) at (own_tree text)) same
-    ∙ ap (λ n. before ++ headed_parts sources files (Some head) (own_text text) n (own_tree text)) begins
+-- A text that has no tree has no part.
+pub none_marked : (head text : List ℕ) (spots : List Spot) (at : ℕ) (own : Option (List ℕ)) (before : List MarkedPart) → own ≡ None
+    → tree_or_none own ≡ tree_of text → before ≡ before ++ tree_parts head text spots at (tree_of text)
+none_marked head text spots at own before has is =
+    sym (append-nil before) ∙ ap (λ t. before ++ tree_parts head text spots at t) (sym (ap tree_or_none has) ∙ is)
 
--- For its exit where it has none, which has no marks.
-pub of_none : (sources : List Source) (files : List OpenFile) (head text : List ℕ) (start : ℕ) (own : Option (List ℕ))
-    (before : List MarkedPart) → own ≡ None → tree_or_none own ≡ own_tree text
+-- For the exit of the code that reads the text of a piece.
+pub of_text : {X E : Type 0} (sources : List Source) (files : List OpenFile) (head own text : List ℕ) (start at : ℕ) (spots : List Spot)
+    (before after : List MarkedPart) (result : Result X E) → own ≡ text → spots ≡ text_spots sources files head own → at ≡ start
+    → OnOk result (after ≡ before ++ tree_parts head own spots at (tree_of own))
+    → OnOk result (after ≡ before ++ headed_parts sources files (Some head) text start (tree_of text))
+of_text sources files head own text start at spots before after (Err e) same found begins grows = grows
+of_text sources files head own text start at spots before after (Ok x) same found begins grows =
+    grows
+    ∙ ap (λ ss. before ++ tree_parts head own ss at (tree_of own)) found
+    ∙ ap (λ t. before ++ tree_parts head t (text_spots sources files head t) at (tree_of t)) same
+    ∙ ap (λ n. before ++ headed_parts sources files (Some head) text n (tree_of text)) begins
+
+-- For the exit where the piece has a colon.
+pub of_colon : {X E : Type 0} (sources : List Source) (files : List OpenFile) (head text : List ℕ) (start at : ℕ) (colon : Option ℕ)
+    (before after : List MarkedPart) (result : Result X E) → colon ≡ Some at → colon ≡ position is_colon text
+    → OnOk result (after ≡ before ++ headed_parts sources files (Some head) (own_text text) start (tree_of (own_text text)))
+    → OnOk result (after ≡ before ++ headed_parts sources files (Some head) (own_text text) start (own_tree text))
+of_colon sources files head text start at colon before after (Err e) is found grows = grows
+of_colon sources files head text start at colon before after (Ok x) is found grows =
+    grows
+    ∙ ap (λ c. before ++ headed_parts sources files (Some head) (own_text text) start (tree_after c text)) (sym is ∙ found)
+
+-- For the exit where it has none, and so no text.
+pub of_none : (sources : List Source) (files : List OpenFile) (head text : List ℕ) (start : ℕ) (colon : Option ℕ)
+    (before : List MarkedPart) → colon ≡ None → colon ≡ position is_colon text
     → before ≡ before ++ headed_parts sources files (Some head) (own_text text) start (own_tree text)
-of_none sources files head text start own before has is =
+of_none sources files head text start colon before is found =
     sym (append-nil before)
-    ∙ ap (λ t. before ++ headed_parts sources files (Some head) (own_text text) start t) (sym (ap tree_or_none has) ∙ is)
+    ∙ ap (λ c. before ++ headed_parts sources files (Some head) (own_text text) start (tree_after c text)) (sym is ∙ found)

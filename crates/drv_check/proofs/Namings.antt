@@ -1,11 +1,12 @@
 use Rattle.drv_check.specs.Code.OwnTrees.{tree_or_none}
 use Rattle.drv_check.specs.Namings.{headed_namings, token_namings, tokens_namings, tree_namings}
 use Rattle.drv_check.specs.Origins.{text_spots}
-use Rattle.drv_check.specs.OwnTexts.{own_text, own_tree}
+use Rattle.drv_check.specs.OwnTexts.{own_text, own_tree, tree_after}
 use Rattle.drv_check.specs.declared.findings.Source.{Source}
 use Rattle.drv_check.specs.declared.findings.Spot.{Spot}
 use Rattle.drv_check.specs.declared.naming.Naming.{Naming}
 use Rattle.drv_check.specs.declared.opening.OpenFile.{OpenFile}
+use Rattle.drv_specs.specs.Directives.{is_colon}
 use Rattle.drv_syntax.specs.Labels.{label_at}
 use Rattle.drv_syntax.specs.Parsed.{tree_of}
 use Rattle.drv_syntax.specs.Tree.{Items}
@@ -13,6 +14,7 @@ use Rattle.drv_syntax.specs.declared.token.Token.{Token}
 use Rattle.std.proofs.Common.{◌≡◌, ◌∙◌, ◌<◌, ◌+◌, ◌++◌, ◌∷◌, Err, List, None, Ok, OnOk, Option, Result, Some, ap, append_assoc, drop}
 use Rattle.std.proofs.Common.{length, sym, ℕ}
 use Rattle.std.proofs.lemmas.List.{append-nil, drop_more}
+use Rattle.std.specs.List.{position}
 use Rattle.std.specs.Prelude.{get_or}
 
 -- For namings_of (src/naming.rt): the parts of a text that name switches, one after another.
@@ -30,24 +32,36 @@ tokens_next head text spots items n tokens token before after whole below here g
     ∙ ap (λ t. before ++ tokens_namings head text spots items n (t ∷ drop (n + 1) tokens)) here
     ∙ ap (λ ts. before ++ tokens_namings head text spots items n ts) (sym (drop_more tokens n token below)) ∙ is
 
--- For the exit of the code where the text of a piece has a tree.
-pub of_tree : {X E : Type 0} (sources : List Source) (files : List OpenFile) (head text tree : List ℕ) (own : Option (List ℕ))
-    (spots : List Spot)
-    (before after : List Naming) (result : Result X E) → own ≡ Some tree → tree_or_none own ≡ own_tree text → tree ≡ own_text text
-    → spots ≡ text_spots sources files head tree → OnOk result (after ≡ before ++ tree_namings head tree spots (tree_of tree))
-    → OnOk result (after ≡ before ++ headed_namings sources files (Some head) (own_text text) (own_tree text))
-of_tree sources files head text tree own spots before after (Err e) has is same at grows = grows
-of_tree sources files head text tree own spots before after (Ok x) has is same at grows =
-    grows
-    ∙ ap (λ ss. before ++ tree_namings head tree ss (tree_of tree)) at
-    ∙ ap (λ t. before ++ tree_namings head tree (text_spots sources files head tree) t) (sym (ap tree_or_none has) ∙ is)
-    ∙ ap (λ t. before ++ tree_namings head t (text_spots sources files head t) (own_tree text)) same
+-- A text that has no tree names nothing.
+pub none_named : (head text : List ℕ) (spots : List Spot) (own : Option (List ℕ)) (before : List Naming) → own ≡ None
+    → tree_or_none own ≡ tree_of text → before ≡ before ++ tree_namings head text spots (tree_of text)
+none_named head text spots own before has is =
+    sym (append-nil before) ∙ ap (λ t. before ++ tree_namings head text spots t) (sym (ap tree_or_none has) ∙ is)
 
--- For its exit where it has none, which names nothing.
-pub of_none : (sources : List Source) (files : List OpenFile) (head text : List ℕ) (own : Option (List ℕ)) (before : List Naming)
-    → own ≡ None
-    → tree_or_none own ≡ own_tree text
+-- For the exit of the code that reads the text of a piece.
+pub of_text : {X E : Type 0} (sources : List Source) (files : List OpenFile) (head own text : List ℕ) (spots : List Spot)
+    (before after : List Naming) (result : Result X E) → own ≡ text → spots ≡ text_spots sources files head own
+    → OnOk result (after ≡ before ++ tree_namings head own spots (tree_of own))
+    → OnOk result (after ≡ before ++ headed_namings sources files (Some head) text (tree_of text))
+of_text sources files head own text spots before after (Err e) same found grows = grows
+of_text sources files head own text spots before after (Ok x) same found grows =
+    grows
+    ∙ ap (λ ss. before ++ tree_namings head own ss (tree_of own)) found
+    ∙ ap (λ t. before ++ tree_namings head t (text_spots sources files head t) (tree_of t)) same
+
+-- For the exit where the piece has a colon.
+pub of_colon : {X E : Type 0} (sources : List Source) (files : List OpenFile) (head text : List ℕ) (at : ℕ) (colon : Option ℕ)
+    (before after : List Naming) (result : Result X E) → colon ≡ Some at → colon ≡ position is_colon text
+    → OnOk result (after ≡ before ++ headed_namings sources files (Some head) (own_text text) (tree_of (own_text text)))
+    → OnOk result (after ≡ before ++ headed_namings sources files (Some head) (own_text text) (own_tree text))
+of_colon sources files head text at colon before after (Err e) is found grows = grows
+of_colon sources files head text at colon before after (Ok x) is found grows =
+    grows ∙ ap (λ c. before ++ headed_namings sources files (Some head) (own_text text) (tree_after c text)) (sym is ∙ found)
+
+-- For the exit where it has none, and so no text.
+pub of_none : (sources : List Source) (files : List OpenFile) (head text : List ℕ) (colon : Option ℕ) (before : List Naming)
+    → colon ≡ None → colon ≡ position is_colon text
     → before ≡ before ++ headed_namings sources files (Some head) (own_text text) (own_tree text)
-of_none sources files head text own before has is =
+of_none sources files head text colon before is found =
     sym (append-nil before)
-    ∙ ap (λ t. before ++ headed_namings sources files (Some head) (own_text text) t) (sym (ap tree_or_none has) ∙ is)
+    ∙ ap (λ c. before ++ headed_namings sources files (Some head) (own_text text) (tree_after c text)) (sym is ∙ found)

@@ -1,17 +1,29 @@
 use Rattle.drv_check.specs.Checks.{open_file}
-use Rattle.drv_check.specs.Origins.{agree, byte_at, files_from, files_spots, is_byte, pieces_spots, sources_found, sources_of, spots_by}
+use Rattle.drv_check.specs.Code.Heads.{has_colon_at, is_colon_there}
+use Rattle.drv_check.specs.Origins.{agree, byte_at, files_from, files_spots, head_before, is_byte, pieces_spots, puts_head, sources_found}
+use Rattle.drv_check.specs.Origins.{sources_of, spots_by}
+use Rattle.drv_check.specs.Points.{front_length}
+use Rattle.drv_check.specs.Whole.{is_key}
 use Rattle.drv_check.specs.declared.findings.Source.{Source}
 use Rattle.drv_check.specs.declared.findings.Spot.{Spot}
 use Rattle.drv_check.specs.declared.opening.OpenFile.{OpenFile}
 use Rattle.drv_check.specs.declared.pieces.Piece.{Piece}
 use Rattle.drv_search.specs.Search.{prefixes_of}
 use Rattle.drv_search.specs.declared.prefixes.Prefixes.{Prefixes}
+use Rattle.drv_specs.specs.Blanks.{is_blank}
+use Rattle.drv_specs.specs.Directives.{is_colon}
 use Rattle.drv_system.specs.Facts.{Facts}
 use Rattle.drv_system.specs.Known.{◌>>=◌, Is}
-use Rattle.std.proofs.Common.{◌≡◌, ◌∙◌, ◌<◌, ◌+◌, ◌++◌, ◌∷◌, Err, IfOk, List, Ok, Result, [], ap, append_assoc, drop, length, refl, sym}
-use Rattle.std.proofs.Common.{true, ℕ}
-use Rattle.std.proofs.lemmas.List.{drop_more}
-use Rattle.std.specs.Prelude.{get_or}
+use Rattle.std.proofs.Common.{◌≡◌, ◌∙◌, ◌<◌, ◌+◌, ◌++◌, ◌∷◌, Bool, Err, IfOk, List, None, Ok, Option, Result, Some, [], ap, append_assoc}
+use Rattle.std.proofs.Common.{arith, drop, false, length, refl, sym, true, ℕ}
+use Rattle.std.proofs.lemmas.Bool.Decides.{Decides-eqb}
+use Rattle.std.proofs.lemmas.List.Quantifiers.{position-Some}
+use Rattle.std.proofs.lemmas.List.{drop_more, length-take-le}
+use Rattle.std.proofs.lemmas.Option.{slice_get-get_or}
+use Rattle.std.proofs.lemmas.Slice.Eq.{slice_eq-Decides}
+use Rattle.std.specs.Cmp.Lexicographic.{pointwise}
+use Rattle.std.specs.List.{position}
+use Rattle.std.specs.Prelude.{get_or, nat_eq, slice_get, take}
 
 -- For sources_of (src/seeking.rt): the prefixes are found first.
 
@@ -61,3 +73,23 @@ pub agree_next : (sources : List Source) (spot : Spot) (spots spots' : List Spot
     → agree sources spots bytes ≡ agree sources spots' bytes'
 agree_next sources spot spots spots' byte bytes bytes' cut cut' is =
     ap (λ ss. agree sources ss bytes) cut ∙ ap (λ bs. agree sources (spot ∷ spots') bs) cut' ∙ rw is refl
+
+-- A line begins with no head that has another size than its own.
+pub other_head : (head : List ℕ) (piece : Piece) (line : List ℕ) → line ≡ drop (front_length is_blank piece.text) piece.text
+    → has_colon_at line (length head) ≡ false → false ≡ puts_head head piece
+other_head head piece line is lacks =
+    by (position is_colon line) refl ∙ ap (λ l. is_key head (head_before (position is_colon l) l)) is
+  where
+    same : (at : ℕ) (test : Bool) → pointwise nat_eq head (take at line) ≡ test → position is_colon line ≡ Some at → false ≡ test
+    same at false test found = refl
+    same at true test found =
+        let place : (at < length line) × (is_colon (get_or line at 0) ≡ true) × _ = position-Some is_colon line at 0 found in
+        let alike : head ≡ take at line = (slice_eq-Decides Decides-eqb head (take at line) (pointwise nat_eq head (take at line)) refl).0 test in
+        let size : length head ≡ at = ap length alike ∙ length-take-le at line (omega (arith, place.0)) in
+        let there : slice_get line at ≡ Some (get_or line at 0) = slice_get-get_or line at 0 place.0 in
+        sym lacks ∙ ap (has_colon_at line) size ∙ ap is_colon_there there ∙ place.1
+
+    by : (found : Option ℕ) → position is_colon line ≡ found → false ≡ is_key head (head_before (position is_colon line) line)
+    by None found = sym (ap (λ at. is_key head (head_before at line)) found)
+    by (Some at) found =
+        same at (pointwise nat_eq head (take at line)) refl found ∙ sym (ap (λ at. is_key head (head_before at line)) found)

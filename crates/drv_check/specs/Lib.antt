@@ -17,6 +17,7 @@ pub mod Origins
 pub mod OwnTexts
 pub mod Pieces
 pub mod Points
+pub mod Reached
 pub mod Shown
 pub mod Spots
 pub mod SwitchNames

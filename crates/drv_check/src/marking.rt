@@ -12,10 +12,12 @@ ghost use Rattle.std.specs.List.{flat_map};
 ghost use Rattle.std.specs.Prelude.{◌≡◌, ◌∷◌, ◌++◌, ◌+◌, ◌-◌, ◌<◌, ◌^◌, [], IfOk, OnOk, Some, drop, map, take};
 
 use crate::findings::{Source, Spot};
-use crate::opening::OpenFile;
-use crate::origins::{head_in, open_all, spot_at, text_spots};
-use crate::own_text::{own_start, own_tree};
+use crate::known_trees::known_tree;
+use crate::origins::{Files, head_in, open_all, spot_at, text_spots};
+use crate::own_text::{own_bytes, own_start, tree_of};
 use crate::pieces::{Piece, pieces_of};
+use crate::pointing::colon_in;
+use drv_specs::SpecSet;
 use drv_syntax::{Token, TokenKind};
 use drv_words::{Listing, Word};
 use std::alloc::{AllocError, Global};
@@ -421,65 +423,114 @@ fn text_start(piece: &Piece) -> Result<usize, AllocError>
     }
 }
 
-/// Adds the marked parts of the text of a piece, where it has this head.
-#[tactic(auto, using(crate::proofs::MarkSteps::of_tree, crate::proofs::MarkSteps::of_none))]
-fn push_headed(
+/// Adds the marked parts of a text. The set may have its tree.
+#[tactic(auto, using(crate::proofs::MarkSteps::none_marked))]
+fn push_text(
     alloc: Global,
     parts: &mut Listing<MarkedPart>,
-    sources: &[Source],
-    files: &[OpenFile],
+    set: &SpecSet,
+    text: &MarkedText<'_>,
+) -> Result<(), AllocError>
+    requires { text.now.at < 2 ^ 63 }
+    ensures { OnOk result
+        (parts.new ≡ parts.old
+        ++ tree_parts text.now.head.now text.now.text.now text.now.spots.now text.now.at
+        (tree_of text.now.text.now)) }
+{
+    if let Some(tree) = known_tree(set, text.head, text.text) {
+        return push_parts(alloc, parts, text, tree.tokens());
+    }
+    match tree_of(alloc, text.text)? {
+        Some(tree) => push_parts(alloc, parts, text, tree.tokens()),
+        None => Ok(()),
+    }
+}
+
+/// Adds the marked parts of the text of a piece, where it has this head.
+#[tactic(auto, using(crate::proofs::MarkSteps::of_text))]
+fn push_own(
+    alloc: Global,
+    parts: &mut Listing<MarkedPart>,
+    files: &Files<'_>,
     head: &[u8],
     piece: &Piece,
 ) -> Result<(), AllocError>
     ensures { OnOk result
         (parts.new ≡ parts.old
-        ++ headed_parts sources.now files.now (Some head.now) (own_text piece.now.text)
-        (piece.now.start + own_start piece.now.text) (own_tree piece.now.text)) }
+        ++ headed_parts files.now.sources.now files.now.opened.now (Some head.now)
+        (own_text piece.now.text) (piece.now.start + own_start piece.now.text)
+        (tree_of (own_text piece.now.text))) }
 {
-    let Some(tree) = own_tree(alloc, piece.text.as_bytes())? else {
-        return Ok(());
-    };
-    let spots = text_spots(alloc, sources, files, head, tree.text())?;
+    let text = own_bytes(piece.text.as_bytes());
+    let spots = text_spots(alloc, files.sources, files.opened, head, text)?;
     let text = MarkedText {
         head,
-        text: tree.text(),
+        text,
         at: text_start(piece)?,
         spots: spots.as_slice(),
     };
-    push_parts(alloc, parts, &text, tree.tokens())
+    push_text(alloc, parts, files.set, &text)
+}
+
+/// Adds the marked parts of the text of a piece, where it has this head.
+#[tactic(auto, using(crate::proofs::MarkSteps::of_colon, crate::proofs::MarkSteps::of_none))]
+fn push_headed(
+    alloc: Global,
+    parts: &mut Listing<MarkedPart>,
+    files: &Files<'_>,
+    head: &[u8],
+    piece: &Piece,
+) -> Result<(), AllocError>
+    ensures { OnOk result
+        (parts.new ≡ parts.old
+        ++ headed_parts files.now.sources.now files.now.opened.now (Some head.now)
+        (own_text piece.now.text) (piece.now.start + own_start piece.now.text)
+        (own_tree piece.now.text)) }
+{
+    match colon_in(piece.text.as_bytes()) {
+        Some(_) => push_own(alloc, parts, files, head, piece),
+        None => Ok(()),
+    }
 }
 
 /// Adds the marked parts of the text of a piece.
 fn push_piece(
     alloc: Global,
     parts: &mut Listing<MarkedPart>,
-    sources: &[Source],
-    files: &[OpenFile],
+    files: &Files<'_>,
     piece: &Piece,
 ) -> Result<(), AllocError>
     ensures { OnOk result
-        (parts.new ≡ parts.old ++ piece_parts sources.now files.now piece.now) }
+        (parts.new ≡ parts.old
+        ++ piece_parts files.now.sources.now files.now.opened.now piece.now) }
 {
     match head_in(piece.text.as_bytes()) {
-        Some(head) => push_headed(alloc, parts, sources, files, head, piece),
+        Some(head) => push_headed(alloc, parts, files, head, piece),
         None => Ok(()),
     }
 }
 
 /// The parts of the texts of a set that have a mark, by its dump, in their order. The files that
-/// were loaded into the set say where a part is.
+/// were loaded into the set say where a part is. Where the set has a text of the dump, its tree is
+/// read from there.
 pub fn marked_parts(
     alloc: Global,
+    set: &SpecSet,
     sources: &[Source],
     dump: &[u8],
 ) -> Result<Listing<MarkedPart>, AllocError>
     ensures { IfOk result (λ parts. parts ≡ marked_parts sources.now dump.now) }
 {
-    let files = open_all(alloc, sources)?;
+    let opened = open_all(alloc, sources)?;
+    let files = Files {
+        sources,
+        opened: opened.as_slice(),
+        set,
+    };
     let pieces = pieces_of(alloc, dump)?;
     let mut parts = Listing::new(alloc);
     for piece in pieces.as_slice() {
-        push_piece(alloc, &mut parts, sources, files.as_slice(), piece)?;
+        push_piece(alloc, &mut parts, &files, piece)?;
     }
     Ok(parts)
 }

@@ -10,10 +10,12 @@ ghost use Rattle.std.specs.List.{flat_map};
 ghost use Rattle.std.specs.Prelude.{◌≡◌, ◌<◌, ◌++◌, IfOk, OnOk, Some, length};
 
 use crate::findings::{Source, Spot};
-use crate::opening::OpenFile;
-use crate::origins::{head_in, open_all, spot_at, text_spots};
-use crate::own_text::own_tree;
+use crate::known_trees::known_tree;
+use crate::origins::{Files, head_in, open_all, spot_at, text_spots};
+use crate::own_text::{own_bytes, tree_of as read_tree};
 use crate::pieces::{Piece, pieces_of};
+use crate::pointing::colon_in;
+use drv_specs::SpecSet;
 use drv_syntax::{SpecTree, TestKind, Token, TokenKind};
 use drv_words::{Listing, Word};
 use std::alloc::{AllocError, Global};
@@ -86,29 +88,36 @@ struct Headed<'a> {
     spots: &'a [Spot],
 }
 
-/// Adds the part at this place of a text, which does this.
+/// A part of a text that does something with switches.
+#[derive(Clone, Copy, Debug)]
+struct Doing {
+    /// Its place among the tokens.
+    place: usize,
+    token: Token,
+    deed: Deed,
+}
+
+/// Adds a part of a text that does something with switches.
 fn push_naming(
     alloc: Global,
     namings: &mut Listing<Naming>,
     text: &Headed<'_>,
-    place: usize,
-    token: Token,
-    deed: Deed,
+    part: Doing,
 ) -> Result<(), AllocError>
-    requires { place < length (tokens_of (tree_of text.now.tree.now)) }
+    requires { part.place < length (tokens_of (tree_of text.now.tree.now)) }
     ensures { OnOk result
         (namings.new ≡ namings.old
-        ++ naming_if text.now.head.now text.now.tree.now text.now.spots.now token
-        (label_at (tree_of text.now.tree.now) place) (Some deed)) }
+        ++ naming_if text.now.head.now text.now.tree.now text.now.spots.now part.token
+        (label_at (tree_of text.now.tree.now) part.place) (Some part.deed)) }
 {
     let bytes = text.tree.text();
     namings.push(Naming {
         head: Word::from_bytes(alloc, text.head)?,
-        deed,
-        word: Word::from_bytes(alloc, text.tree.word(place))?,
-        starred: text.tree.is_starred(place),
-        written: Word::from_bytes(alloc, written_part(bytes, token))?,
-        spot: spot_at(text.spots, bytes.len(), token.start as usize),
+        deed: part.deed,
+        word: Word::from_bytes(alloc, text.tree.word(part.place))?,
+        starred: text.tree.is_starred(part.place),
+        written: Word::from_bytes(alloc, written_part(bytes, part.token))?,
+        spot: spot_at(text.spots, bytes.len(), part.token.start as usize),
     })?;
     Ok(())
 }
@@ -128,7 +137,10 @@ fn push_token(
         (label_at (tree_of text.now.tree.now) place)) }
 {
     match deed_of(token.kind, text.tree.asks(place)) {
-        Some(deed) => push_naming(alloc, namings, text, place, token, deed),
+        Some(deed) => {
+            let part = Doing { place, token, deed };
+            push_naming(alloc, namings, text, part)
+        }
         None => Ok(()),
     }
 }
@@ -154,64 +166,137 @@ fn push_tree(
     Ok(())
 }
 
-/// Adds the parts of the text of a piece that name switches, where it has this head.
-#[tactic(auto, using(crate::proofs::Namings::of_tree, crate::proofs::Namings::of_none))]
-fn push_headed(
+/// A text that a set may have the tree of, with the spots of its last bytes.
+#[derive(Drop)]
+struct Spotted<'a> {
+    head: &'a [u8],
+    text: &'a [u8],
+    spots: &'a [Spot],
+}
+
+/// Adds the parts of a text with this tree that name switches.
+fn push_read(
     alloc: Global,
     namings: &mut Listing<Naming>,
-    sources: &[Source],
-    files: &[OpenFile],
+    text: &Spotted<'_>,
+    tree: &SpecTree,
+) -> Result<(), AllocError>
+    ensures { OnOk result
+        (namings.new ≡ namings.old
+        ++ tree_namings text.now.head.now tree.now text.now.spots.now (tree_of tree.now)) }
+{
+    let headed = Headed {
+        head: text.head,
+        tree,
+        spots: text.spots,
+    };
+    push_tree(alloc, namings, &headed)
+}
+
+/// Adds the parts of a text that name switches. The set may have its tree.
+#[tactic(auto, using(crate::proofs::Namings::none_named))]
+fn push_text(
+    alloc: Global,
+    namings: &mut Listing<Naming>,
+    set: &SpecSet,
+    text: &Spotted<'_>,
+) -> Result<(), AllocError>
+    ensures { OnOk result
+        (namings.new ≡ namings.old
+        ++ tree_namings text.now.head.now text.now.text.now text.now.spots.now
+        (tree_of text.now.text.now)) }
+{
+    if let Some(tree) = known_tree(set, text.head, text.text) {
+        return push_read(alloc, namings, text, tree);
+    }
+    match read_tree(alloc, text.text)? {
+        Some(tree) => push_read(alloc, namings, text, &tree),
+        None => Ok(()),
+    }
+}
+
+/// Adds the parts of the text of a piece that name switches, where it has this head.
+#[tactic(auto, using(crate::proofs::Namings::of_text))]
+fn push_own(
+    alloc: Global,
+    namings: &mut Listing<Naming>,
+    files: &Files<'_>,
     head: &[u8],
     piece: &Piece,
 ) -> Result<(), AllocError>
     ensures { OnOk result
         (namings.new ≡ namings.old
-        ++ headed_namings sources.now files.now (Some head.now) (own_text piece.now.text)
-        (own_tree piece.now.text)) }
+        ++ headed_namings files.now.sources.now files.now.opened.now (Some head.now)
+        (own_text piece.now.text) (tree_of (own_text piece.now.text))) }
 {
-    let Some(tree) = own_tree(alloc, piece.text.as_bytes())? else {
-        return Ok(());
-    };
-    let spots = text_spots(alloc, sources, files, head, tree.text())?;
-    let text = Headed {
+    let text = own_bytes(piece.text.as_bytes());
+    let spots = text_spots(alloc, files.sources, files.opened, head, text)?;
+    let text = Spotted {
         head,
-        tree: &tree,
+        text,
         spots: spots.as_slice(),
     };
-    push_tree(alloc, namings, &text)
+    push_text(alloc, namings, files.set, &text)
+}
+
+/// Adds the parts of the text of a piece that name switches, where it has this head.
+#[tactic(auto, using(crate::proofs::Namings::of_colon, crate::proofs::Namings::of_none))]
+fn push_headed(
+    alloc: Global,
+    namings: &mut Listing<Naming>,
+    files: &Files<'_>,
+    head: &[u8],
+    piece: &Piece,
+) -> Result<(), AllocError>
+    ensures { OnOk result
+        (namings.new ≡ namings.old
+        ++ headed_namings files.now.sources.now files.now.opened.now (Some head.now)
+        (own_text piece.now.text) (own_tree piece.now.text)) }
+{
+    match colon_in(piece.text.as_bytes()) {
+        Some(_) => push_own(alloc, namings, files, head, piece),
+        None => Ok(()),
+    }
 }
 
 /// Adds the parts of the text of a piece that name switches.
 fn push_piece(
     alloc: Global,
     namings: &mut Listing<Naming>,
-    sources: &[Source],
-    files: &[OpenFile],
+    files: &Files<'_>,
     piece: &Piece,
 ) -> Result<(), AllocError>
     ensures { OnOk result
-        (namings.new ≡ namings.old ++ piece_namings sources.now files.now piece.now) }
+        (namings.new ≡ namings.old
+        ++ piece_namings files.now.sources.now files.now.opened.now piece.now) }
 {
     match head_in(piece.text.as_bytes()) {
-        Some(head) => push_headed(alloc, namings, sources, files, head, piece),
+        Some(head) => push_headed(alloc, namings, files, head, piece),
         None => Ok(()),
     }
 }
 
 /// The parts of the texts of a set that name switches, by its dump, in their order. The files that
-/// were loaded into the set say where a part is.
+/// were loaded into the set say where a part is. Where the set has a text of the dump, its tree is
+/// read from there.
 pub fn namings_of(
     alloc: Global,
+    set: &SpecSet,
     sources: &[Source],
     dump: &[u8],
 ) -> Result<Listing<Naming>, AllocError>
     ensures { IfOk result (λ namings. namings ≡ namings_of sources.now dump.now) }
 {
-    let files = open_all(alloc, sources)?;
+    let opened = open_all(alloc, sources)?;
+    let files = Files {
+        sources,
+        opened: opened.as_slice(),
+        set,
+    };
     let pieces = pieces_of(alloc, dump)?;
     let mut namings = Listing::new(alloc);
     for piece in pieces.as_slice() {
-        push_piece(alloc, &mut namings, sources, files.as_slice(), piece)?;
+        push_piece(alloc, &mut namings, &files, piece)?;
     }
     Ok(namings)
 }

@@ -2,9 +2,10 @@
 
 ghost use Rattle.drv_check.specs.Origins.{agree, byte_at, files_from, files_spots, head_in, if_agreed};
 ghost use Rattle.drv_check.specs.Origins.{is_byte, last_spots, own_places, own_spots, pieces_spots, puts_head};
+ghost use Rattle.drv_check.specs.Code.Heads.{has_colon_at};
 ghost use Rattle.drv_check.specs.Origins.{spot_at, spots_after, spots_by, text_spots};
 ghost use Rattle.std.specs.Option.{option_map};
-ghost use Rattle.std.specs.Prelude.{◌≡◌, ◌++◌, IfOk, OnOk, [], take};
+ghost use Rattle.std.specs.Prelude.{◌≡◌, ◌++◌, IfOk, OnOk, [], length, take};
 
 use crate::bytes::{blanks_before, following};
 use crate::findings::{Source, Spot};
@@ -12,7 +13,19 @@ use crate::opening::{OpenFile, open_file};
 use crate::own_text::own_start;
 use crate::pieces::Piece;
 use crate::pointing::{body_start, colon_in, is_addition};
+use drv_specs::SpecSet;
 use std::alloc::{AllocError, Global};
+
+/// Files and the set that they make, with others or without.
+#[derive(Drop)]
+pub(crate) struct Files<'a> {
+    /// The files.
+    pub(crate) sources: &'a [Source],
+    /// The same, each with its directives.
+    pub(crate) opened: &'a [OpenFile],
+    /// The set.
+    pub(crate) set: &'a SpecSet,
+}
 
 /// The files of sources.
 #[tactic(auto, using(crate::proofs::TextOrigins::files_next))]
@@ -37,11 +50,26 @@ pub(crate) fn head_in(text: &[u8]) -> Option<&[u8]>
     Some(&line[..at])
 }
 
+/// Whether a line may begin with this head: a colon follows as many bytes.
+fn may_begin(line: &[u8], head: &[u8]) -> bool
+    ensures { result ≡ has_colon_at line.now (length head.now) }
+{
+    match line.get(head.len()) {
+        Some(byte) => *byte == b':',
+        None => false,
+    }
+}
+
 /// Whether a piece puts the text of this head, or adds to it.
+#[tactic(auto, using(crate::proofs::TextOrigins::other_head))]
 fn puts_head(head: &[u8], piece: &Piece) -> bool
     ensures { result ≡ puts_head head.now piece.now }
 {
-    match head_in(piece.text.as_bytes()) {
+    let text = piece.text.as_bytes();
+    if !may_begin(following(text, blanks_before(text)), head) {
+        return false;
+    }
+    match head_in(text) {
         Some(other) => head == other,
         None => false,
     }

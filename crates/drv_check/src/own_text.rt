@@ -27,9 +27,16 @@ pub(crate) fn own_start(text: &[u8]) -> usize
     start + plus_length(is_addition(following(text, start)))
 }
 
+/// The text that a piece gives.
+pub(crate) fn own_bytes(text: &[u8]) -> &[u8]
+    ensures { result.now ≡ own_text text.now }
+{
+    following(text, own_start(text))
+}
+
 /// The tree of a text, if it has one.
 #[tactic(auto, using(crate::proofs::OwnTrees::refused))]
-fn tree_of(alloc: Global, text: &[u8]) -> Result<Option<SpecTree>, AllocError>
+pub(crate) fn tree_of(alloc: Global, text: &[u8]) -> Result<Option<SpecTree>, AllocError>
     ensures is { IfOk result (λ tree. tree_or_none tree ≡ tree_of text.now) }
     ensures text { IfOk result (λ tree. IfSome tree (λ own. own ≡ text.now)) }
 {
@@ -46,7 +53,7 @@ pub(crate) fn own_tree(alloc: Global, text: &[u8]) -> Result<Option<SpecTree>, A
     ensures text { IfOk result (λ tree. IfSome tree (λ own. own ≡ own_text text.now)) }
 {
     match colon_in(text) {
-        Some(_) => tree_of(alloc, following(text, own_start(text))),
+        Some(_) => tree_of(alloc, own_bytes(text)),
         None => Ok(None),
     }
 }

@@ -67,43 +67,52 @@ fn longer(piece: Piece, line: &[u8]) -> Result<Piece, AllocError>
     })
 }
 
-/// Takes a line with this number, which begins at this place and is in no body.
+/// Where a line begins.
+#[derive(Clone, Copy, Debug)]
+struct LineStart {
+    /// Its number, from 1.
+    number: usize,
+    /// The place of its first byte.
+    at: usize,
+}
+
+/// Takes a line that begins here and is in no body.
 fn take_first(
     alloc: Global,
     pieces: &mut Vec<Piece>,
-    number: usize,
-    at: usize,
+    start: LineStart,
     line: &[u8],
 ) -> Result<Option<Piece>, AllocError>
-    ensures begun { IfOk result (λ next. next ≡ begun_after None number at line.now) }
+    ensures begun { IfOk result
+        (λ next. next ≡ begun_after None start.number start.at line.now) }
     ensures ended { OnOk result
-        (pieces.new.items ≡ pieces.old.items ++ ended_by None number at line.now) }
+        (pieces.new.items ≡ pieces.old.items ++ ended_by None start.number start.at line.now) }
 {
     match line_kind(line) {
         LineKind::Passed => Ok(None),
         LineKind::Alone => {
-            pieces.push(piece_of(alloc, number, at, line)?)?;
+            pieces.push(piece_of(alloc, start.number, start.at, line)?)?;
             Ok(None)
         }
-        LineKind::Opens => Ok(Some(piece_of(alloc, number, at, line)?)),
+        LineKind::Opens => Ok(Some(piece_of(alloc, start.number, start.at, line)?)),
     }
 }
 
-/// Takes a line with this number, which begins at this place, after a piece that may go on.
+/// Takes a line that begins here, after a piece that may go on.
 fn take_line(
     alloc: Global,
     pieces: &mut Vec<Piece>,
     begun: Option<Piece>,
-    number: usize,
-    at: usize,
+    start: LineStart,
     line: &[u8],
 ) -> Result<Option<Piece>, AllocError>
-    ensures begun { IfOk result (λ next. next ≡ begun_after begun number at line.now) }
+    ensures begun { IfOk result
+        (λ next. next ≡ begun_after begun start.number start.at line.now) }
     ensures ended { OnOk result
-        (pieces.new.items ≡ pieces.old.items ++ ended_by begun number at line.now) }
+        (pieces.new.items ≡ pieces.old.items ++ ended_by begun start.number start.at line.now) }
 {
     let Some(piece) = begun else {
-        return take_first(alloc, pieces, number, at, line);
+        return take_first(alloc, pieces, start, line);
     };
     if is_empty_line(line) {
         pieces.push(piece)?;
@@ -124,7 +133,7 @@ pub fn pieces_of(alloc: Global, text: &[u8]) -> Result<Listing<Piece>, AllocErro
     let mut left = Some(text);
     while let Some(bytes) = left {
         let (line, rest) = cut_line(bytes);
-        begun = take_line(alloc, &mut pieces, begun, number, at, line)?;
+        begun = take_line(alloc, &mut pieces, begun, LineStart { number, at }, line)?;
         number += 1;
         at += line.len() + 1;
         left = rest;

@@ -48,7 +48,7 @@ fn is_known(name: &[u8]) -> bool
 }
 
 /// Whether a name is one of these.
-fn is_among(names: &[Word], name: &[u8]) -> bool
+pub(crate) fn is_among(names: &[Word], name: &[u8]) -> bool
     ensures { result ≡ is_among names.now name.now }
 {
     names.iter().any(|other| name == other.as_bytes())
@@ -78,7 +78,11 @@ fn push_name(
 
 /// Adds the names that a tree works.
 #[tactic(auto, using(crate::proofs::Unused::names_next))]
-fn push_tree(alloc: Global, names: &mut Vec<Word>, tree: &SpecTree) -> Result<(), AllocError>
+pub(crate) fn push_tree(
+    alloc: Global,
+    names: &mut Vec<Word>,
+    tree: &SpecTree,
+) -> Result<(), AllocError>
     ensures { OnOk result (names.new.items ≡ names.old.items ++ names_in (tree_of tree.now)) }
 {
     let tokens = tree.tokens();

@@ -2,8 +2,10 @@ use Rattle.drv_args.specs.declared.line.Line.{Line}
 use Rattle.drv_check.specs.MarkWords.{marked_text}
 use Rattle.drv_check.specs.Markings.{marked_parts}
 use Rattle.drv_check.specs.Origins.{sources_of}
+use Rattle.drv_check.specs.Reached.{reached_dump}
 use Rattle.drv_check.specs.declared.findings.Source.{Source}
 use Rattle.drv_check.specs.declared.marking.MarkedPart.{MarkedPart}
+use Rattle.drv_check.specs.declared.reached.Roots.{Roots}
 use Rattle.drv_plan.specs.declared.fault.PlanFault.{PlanFault}
 use Rattle.drv_run.specs.Code.Deciding.{ComesOfSpecs}
 use Rattle.drv_run.specs.Drives.{Comes, stopped_by_specs, work_of}
@@ -13,7 +15,6 @@ use Rattle.drv_run.specs.declared.ending.Refusal.TheVariants.{Args, C99 as NoFro
 use Rattle.drv_run.specs.declared.work.Work.{Work}
 use Rattle.drv_search.specs.Search.{prefixes_of}
 use Rattle.drv_search.specs.declared.prefixes.Prefixes.{Prefixes}
-use Rattle.drv_specs.specs.Dumping.{dumped}
 use Rattle.drv_specs.specs.Loading.{loaded}
 use Rattle.drv_specs.specs.Sets.{Set, no_specs}
 use Rattle.drv_specs.specs.declared.fault.SpecsFault.TheVariants as specs_fault
@@ -32,7 +33,7 @@ use Rattle.gdrv_specs.proofs.Told.{known}
 use Rattle.gdrv_specs.specs.Code.Tracing.{IsMarked}
 use Rattle.gdrv_specs.specs.Told.{Stops}
 use Rattle.gdrv_specs.specs.WordOrigins.{GivesOrigins, TellsSaid, TellsWords, lines_in, marked_specs, marked_work, marking_of, origins_of}
-use Rattle.gdrv_specs.specs.WordOrigins.{origins_with, said_of, value_of, work_after}
+use Rattle.gdrv_specs.specs.WordOrigins.{origins_by, origins_with, roots_of, said_of, value_of, work_after}
 use Rattle.gdrv_specs.specs.declared.outcome.Outcome.TheVariants.{Ended, NoPlan}
 use Rattle.gdrv_specs.specs.declared.outcome.Outcome.{Outcome}
 use Rattle.std.proofs.Common.{◌≡◌, ◌∙◌, ◌++◌, Err, IfOk, List, None, Ok, Option, Result, Some, [], ap, inl, inr, refl, subst, sym, ℕ}
@@ -92,15 +93,16 @@ found_work F line text seed found (Ok work) marked short is = marked short ∙ a
 
 -- it is made of the dump, its parts and the plan with marks
 pub origins_are : {E : Type 0} (F : Facts) (report : Report) (line : Line) (set : Set) (seed : ℕ) (plan : Plan) (sources : List Source)
-    (dump : List ℕ) (parts : List MarkedPart) (text : List ℕ) (marked : Option Work) (lines : List PlanLine) (result : Result (List ℕ) E)
-    → dump ≡ dumped set → parts ≡ marked_parts sources dump
+    (roots : Roots) (dump : List ℕ) (parts : List MarkedPart) (text : List ℕ) (marked : Option Work) (lines : List PlanLine)
+    (result : Result (List ℕ) E) → roots ≡ roots_of plan → dump ≡ reached_dump roots set → parts ≡ marked_parts sources dump
     → text ≡ marked_text dump parts → marked_work F line text seed ≡ Is marked → lines ≡ lines_in marked
     → IfOk result (λ told. told
     ≡ origins_report report (record { line = line; plan = plan; sources = sources; parts = parts; marked = lines }))
-    → IfOk result (λ told. origins_with F report line seed plan sources (dumped set) (marked_parts sources (dumped set)) ≡ Is told)
-origins_are F report line set seed plan sources dump parts text marked lines (Err e) dumps names puts works has says = says
-origins_are F report line set seed plan sources dump parts text marked lines (Ok told) dumps names puts works has says =
-    ap (λ d. origins_with F report line seed plan sources d (marked_parts sources d)) (sym dumps)
+    → IfOk result (λ told. origins_by F report line seed plan sources (reached_dump (roots_of plan) set) ≡ Is told)
+origins_are F report line set seed plan sources roots dump parts text marked lines (Err e) begins dumps names puts works has says = says
+origins_are F report line set seed plan sources roots dump parts text marked lines (Ok told) begins dumps names puts works has says =
+    ap (λ r. origins_by F report line seed plan sources (reached_dump r set)) (sym begins)
+    ∙ ap (origins_by F report line seed plan sources) (sym dumps)
     ∙ ap (origins_with F report line seed plan sources dump) (sym names)
     ∙ ap (λ t. marked_work F line t seed >>= λ m. Is (origins_report report (marking_of line plan sources parts m))) (sym puts)
     ∙ ap (λ known. known >>= λ m. Is (origins_report report (marking_of line plan sources parts m))) works
@@ -110,11 +112,11 @@ origins_are F report line set seed plan sources dump parts text marked lines (Ok
 -- with the files that were found
 pub origins_found : {E : Type 0} (F : Facts) (report : Report) (line : Line) (set : Set) (seed : ℕ) (plan : Plan) (sources : List Source)
     (result : Result (List ℕ) E) → sources_of F line.settings.prefixes line.settings.specs ≡ Is sources
-    → IfOk result (λ told. origins_with F report line seed plan sources (dumped set) (marked_parts sources (dumped set)) ≡ Is told)
+    → IfOk result (λ told. origins_by F report line seed plan sources (reached_dump (roots_of plan) set) ≡ Is told)
     → IfOk result (λ told. origins_of F report line set seed plan ≡ Is told)
 origins_found F report line set seed plan sources (Err e) opens tells = tells
 origins_found F report line set seed plan sources (Ok told) opens tells =
-    ap (λ known. known >>= λ s. origins_with F report line seed plan s (dumped set) (marked_parts s (dumped set))) opens ∙ tells
+    ap (λ known. known >>= λ s. origins_by F report line seed plan s (reached_dump (roots_of plan) set)) opens ∙ tells
 
 -- a work without a plan has no text
 pub no_text : (F : Facts) (report : Report) (line : Line) (set : Set) (seed : ℕ) (plan : Option Plan) → None ≡ plan

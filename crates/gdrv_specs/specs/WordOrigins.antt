@@ -2,14 +2,16 @@ use Rattle.drv_args.specs.declared.line.Line.{Line}
 use Rattle.drv_check.specs.MarkWords.{marked_text}
 use Rattle.drv_check.specs.Markings.{marked_parts}
 use Rattle.drv_check.specs.Origins.{sources_of}
+use Rattle.drv_check.specs.Reached.{reached_dump}
 use Rattle.drv_check.specs.declared.findings.Source.{Source}
 use Rattle.drv_check.specs.declared.marking.MarkedPart.{MarkedPart}
+use Rattle.drv_check.specs.declared.reached.Roots.TheVariants.{Sources, SourcesAndLink}
+use Rattle.drv_check.specs.declared.reached.Roots.{Roots}
 use Rattle.drv_run.specs.Drives.{Comes, specs_of, work_of}
 use Rattle.drv_run.specs.LineReads.{ReadsLine}
 use Rattle.drv_run.specs.declared.ending.Ending.{Ending}
 use Rattle.drv_run.specs.declared.work.Work.{Work}
 use Rattle.drv_search.specs.Search.{prefixes_of}
-use Rattle.drv_specs.specs.Dumping.{dumped}
 use Rattle.drv_specs.specs.Loading.{loaded}
 use Rattle.drv_specs.specs.Sets.{Set, no_specs}
 use Rattle.drv_specs.specs.declared.fault.SpecsFault.{SpecsFault}
@@ -20,6 +22,7 @@ use Rattle.drv_system.specs.declared.event.Event.{Event}
 use Rattle.drv_why.specs.Origins.{Marking, origins_report}
 use Rattle.drv_why.specs.declared.report.Report.{Report}
 use Rattle.drv_words.specs.Lines.{lines_of}
+use Rattle.drv_words.specs.declared.plan.Job.{Job}
 use Rattle.drv_words.specs.declared.plan.Plan.{Plan}
 use Rattle.drv_words.specs.declared.plan.PlanLine.{PlanLine}
 use Rattle.gdrv_specs.specs.Plans.{plan_in}
@@ -29,9 +32,9 @@ use Rattle.gdrv_specs.specs.declared.outcome.Outcome.TheVariants.{NoPlan}
 use Rattle.gdrv_specs.specs.declared.outcome.Outcome.{Outcome}
 use Rattle.std.specs.Prelude.{◌≡◌, ◌⊎◌, Err, List, [], ◌++◌, None, Ok, Option, Result, Some, ℕ}
 
--- What printing where the words of a line's plan are from is (this project's profile). The dump of the line's specs gets a mark before each
--- of its parts and is loaded as a set of its own. The plan of the same line with that set says by its marks which parts the words of the
--- plan are of, with the same answers of the system.
+-- What printing where the words of a line's plan are from is (this project's profile). The dump of the texts that the plan can use gets a
+-- mark before each of its parts and is loaded as a set of its own. The plan of the same line with that set says by its marks which parts the
+-- words of the plan are of, with the same answers of the system.
 -- For clauses of src/word_origins.rt.
 
 -- the plan with marks
@@ -71,17 +74,30 @@ abbrev pub marking_of : Line → Plan → List Source → List MarkedPart → Op
 marking_of line plan sources parts marked =
     record { line = line; plan = plan; sources = sources; parts = parts; marked = lines_in marked }
 
--- by the files of the line, the dump of its specs, and the parts of that which have marks
+-- by the files of the line, the dump of the texts that its plan can use, and the parts of that which have marks
 abbrev pub origins_with : Facts → Report → Line → ℕ → Plan → List Source → List ℕ → List MarkedPart → Known (List ℕ)
 origins_with F report line seed plan sources dump parts =
     marked_work F line (marked_text dump parts) seed
     >>= λ marked. Is (origins_report report (marking_of line plan sources parts marked))
 
+-- by these files and that dump alone
+abbrev pub origins_by : Facts → Report → Line → ℕ → Plan → List Source → List ℕ → Known (List ℕ)
+origins_by F report line seed plan sources dump = origins_with F report line seed plan sources dump (marked_parts sources dump)
+
+-- the texts from which a plan begins, by its link
+abbrev pub roots_by : Option Job → Roots
+roots_by None = Sources
+roots_by (Some link) = SourcesAndLink
+
+-- the texts from which a plan begins: where nothing is linked no word is of the link's
+abbrev pub roots_of : Plan → Roots
+roots_of plan = roots_by plan.link
+
 -- by the line and its specs
 abbrev pub origins_of : Facts → Report → Line → Set → ℕ → Plan → Known (List ℕ)
 origins_of F report line set seed plan =
     sources_of F line.settings.prefixes line.settings.specs
-    >>= λ sources. origins_with F report line seed plan sources (dumped set) (marked_parts sources (dumped set))
+    >>= λ sources. origins_by F report line seed plan sources (reached_dump (roots_of plan) set)
 
 -- the text about what a line asks for: none where that has no plan
 abbrev pub said_of : Facts → Report → Line → Set → ℕ → Option Plan → Known (Option (List ℕ))

@@ -39,7 +39,7 @@ fn fates_of<S: System>(
     let names = line.settings.specs.as_slice();
     let sources = sources_of(alloc, prefixes, names, sys, facts)?;
     let dump = set.dump()?;
-    let namings = namings_of(alloc, sources.as_slice(), dump.as_bytes())?;
+    let namings = namings_of(alloc, set, sources.as_slice(), dump.as_bytes())?;
     fates_report(
         alloc,
         report,

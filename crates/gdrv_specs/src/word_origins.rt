@@ -1,11 +1,10 @@
 //! Prints where the words of a line's plan are from.
 
-ghost use Rattle.drv_check.specs.Markings.{marked_parts};
 ghost use Rattle.drv_check.specs.Origins.{sources_of};
+ghost use Rattle.drv_check.specs.Reached.{reached_dump};
 ghost use Rattle.drv_run.specs.Calls.{IsWindow};
 ghost use Rattle.drv_run.specs.LineReads.{ReadsLine};
 ghost use Rattle.drv_run.specs.declared.ending.Ending.TheVariants.{OutOfMemory};
-ghost use Rattle.drv_specs.specs.Dumping.{dumped};
 ghost use Rattle.drv_specs.specs.Loading.{loaded};
 ghost use Rattle.drv_specs.specs.Sets.{no_specs};
 ghost use Rattle.drv_specs.specs.declared.fault.SpecsFault.TheVariants as specs_fault;
@@ -17,7 +16,7 @@ ghost use Rattle.gdrv_specs.specs.Code.Explaining.{HasSpecs};
 ghost use Rattle.gdrv_specs.specs.Code.Tracing.{IsMarked};
 ghost use Rattle.gdrv_specs.specs.Plans.{plan_in};
 ghost use Rattle.gdrv_specs.specs.WordOrigins.{GivesOrigins, TellsSaid, TellsWords, lines_in, marked_specs};
-ghost use Rattle.gdrv_specs.specs.WordOrigins.{marked_work, origins_of, origins_with, said_of, value_of};
+ghost use Rattle.gdrv_specs.specs.WordOrigins.{marked_work, origins_by, origins_of, roots_of, said_of, value_of};
 ghost use Rattle.std.specs.Prelude.{◌≡◌, ◌≢◌, Err, IfErr, IfOk, List, ℕ};
 
 use crate::differing::plan_of;
@@ -25,7 +24,7 @@ use crate::explaining::{tell_reasons, work_with};
 use crate::outcome::Outcome;
 use crate::switches::set_of;
 use drv_args::Line;
-use drv_check::{Source, marked_parts, marked_text, sources_of};
+use drv_check::{Roots, Source, marked_parts, marked_text, reached_dump, sources_of};
 use drv_run::{Ending, Work, line_of_call};
 use drv_search::Prefixes;
 use drv_specs::{SpecSet, SpecsFault};
@@ -142,6 +141,16 @@ fn lines_in(alloc: Global, work: &Option<Work>) -> Result<Listing<PlanLine>, All
     }
 }
 
+/// The texts from which a plan begins.
+fn roots_of(plan: &Plan) -> Roots
+    ensures { result ≡ roots_of plan.now }
+{
+    match &plan.link {
+        Some(_) => Roots::SourcesAndLink,
+        None => Roots::Sources,
+    }
+}
+
 /// The text about the plan of a line whose files are these.
 #[tactic(auto, using(crate::proofs::WordsTold::origins_are))]
 fn origins_with<S: System>(
@@ -155,12 +164,11 @@ fn origins_with<S: System>(
     requires { IsWindow traced.now.line.now.settings.jobs }
     ensures asks { Asks (S.events sys.old) (S.events sys.new) facts.old facts.new }
     ensures tells { (F : Facts) → Extends facts.new F → IfOk result
-        (λ text. origins_with F traced.now.report traced.now.line.now traced.now.seed plan.now
-        sources.now (dumped traced.now.set.now)
-        (marked_parts sources.now (dumped traced.now.set.now)) ≡ Is text) }
+        (λ text. origins_by F traced.now.report traced.now.line.now traced.now.seed plan.now
+        sources.now (reached_dump (roots_of plan.now) traced.now.set.now) ≡ Is text) }
 {
-    let dump = traced.set.dump()?;
-    let parts = marked_parts(alloc, sources.as_slice(), dump.as_bytes())?;
+    let dump = reached_dump(alloc, traced.set, roots_of(plan))?;
+    let parts = marked_parts(alloc, traced.set, sources.as_slice(), dump.as_bytes())?;
     let text = marked_text(alloc, dump.as_bytes(), parts.as_slice())?;
     let marked = marked_work(alloc, traced, text.as_bytes(), sys, facts)?;
     let lines = lines_in(alloc, &marked)?;

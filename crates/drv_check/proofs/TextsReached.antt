@@ -1,0 +1,70 @@
+use Rattle.drv_check.specs.Reached.{most_texts, reached_from, text_names, with_name, with_names, with_pairs}
+use Rattle.drv_specs.specs.Sets.{Set, text_of, worked_text}
+use Rattle.std.proofs.Common.{◌≡◌, ◌∙◌, ◌<◌, ◌≤◌, ◌+◌, ◌-◌, ◌++◌, ◌∷◌, List, Option, [], ap, arith, drop, false, length, refl, suc, sym}
+use Rattle.std.proofs.Common.{true, zero, ℕ}
+use Rattle.std.proofs.lemmas.Bool.Decides.{nat_tests}
+use Rattle.std.proofs.lemmas.List.{drop_more}
+use Rattle.std.proofs.lemmas.Option.{slice_get-get_or}
+use Rattle.std.specs.Option.{unwrap_or}
+use Rattle.std.specs.Prelude.{get_or, nat_lt, option_and_then, slice_get}
+
+-- For reached_dump (src/reached.rt): the names of the texts that a plan can use, one after another.
+
+-- one name more is added behind several
+with_one : (names others : List (List ℕ)) (name : List ℕ)
+    → with_names names (others ++ name ∷ []) ≡ with_name (with_names names others) name
+with_one names [] name = refl
+with_one names (other ∷ others) name = with_one (with_name names other) others name
+
+-- The loop has added one name more.
+pub name_next : (start before after yielded : List (List ℕ)) (name : List ℕ) → after ≡ with_name before name
+    → before ≡ with_names start yielded → after ≡ with_names start (yielded ++ name ∷ [])
+name_next start before after yielded name grows so_far =
+    grows ∙ ap (λ ns. with_name ns name) so_far ∙ sym (with_one start yielded name)
+
+-- It has added the names that one pair more names.
+pub pair_next : (pairs : List (List ℕ × List ℕ)) (n : ℕ) (tree : Option (List ℕ)) (before after whole : List (List ℕ)) → n < length pairs
+    → tree ≡ option_and_then worked_text (slice_get pairs n) → after ≡ with_names before (text_names tree)
+    → with_pairs before (drop n pairs) ≡ whole → with_pairs after (drop (n + 1) pairs) ≡ whole
+pair_next pairs n tree before after whole below has grows is =
+    let here : slice_get pairs n ≡ _ = slice_get-get_or pairs n ([], []) below in
+    ap (λ ns. with_pairs ns (drop (n + 1) pairs))
+    (grows ∙ ap (λ t. with_names before (text_names t)) (has ∙ ap (option_and_then worked_text) here))
+    ∙ sym (ap (with_pairs before) (drop_more pairs n ([], []) below)) ∙ is
+
+-- the number of the code
+is_most : most_texts ≡ 65536
+unfolding most_texts
+is_most = refl
+
+-- It has added the names that the text of one name more names.
+pub text_next : (set : Set) (names : List (List ℕ)) (n : ℕ) (name d : List ℕ) (tree : Option (List ℕ)) (after whole : List (List ℕ))
+    → n < 65536 → n < length names → name ≡ get_or names n d → tree ≡ text_of set name → after ≡ with_names names (text_names tree)
+    → reached_from set (most_texts - n) n names ≡ whole → reached_from set (most_texts - (n + 1)) (n + 1) after ≡ whole
+text_next set names n name d tree after whole few below here has grows is =
+    let left : most_texts - n ≡ suc (most_texts - (n + 1)) = omega (arith, few, is_most) in
+    let test : nat_lt n (length names) ≡ true = grind (arith, nat_tests, below) in
+    let same : get_or names n d ≡ get_or names n [] =
+    ap (λ o. unwrap_or o []) (sym (slice_get-get_or names n d below) ∙ slice_get-get_or names n [] below) in
+    ap (reached_from set (most_texts - (n + 1)) (n + 1))
+    (grows ∙ ap (λ t. with_names names (text_names t)) (has ∙ ap (text_of set) (here ∙ same)))
+    ∙ sym (ap (λ m. reached_from set m n names) left ∙ rw test refl) ∙ is
+
+-- No more texts are looked into.
+pub most_reached : (set : Set) (names : List (List ℕ)) (n : ℕ) (whole : List (List ℕ)) → 65536 ≤ n
+    → reached_from set (most_texts - n) n names ≡ whole → names ≡ whole
+most_reached set names n whole many is =
+    let left : most_texts - n ≡ 0 = omega (arith, many, is_most) in
+    sym (ap (λ m. reached_from set m n names) left) ∙ is
+
+-- There is no other name.
+none_left : (set : Set) (left n : ℕ) (names : List (List ℕ)) → nat_lt n (length names) ≡ false → reached_from set left n names ≡ names
+none_left set zero n names past = refl
+none_left set (suc left) n names past = rw past refl
+
+-- All texts were looked into.
+pub all_reached : (set : Set) (names : List (List ℕ)) (n : ℕ) (whole : List (List ℕ)) → length names ≤ n
+    → reached_from set (most_texts - n) n names ≡ whole → names ≡ whole
+all_reached set names n whole past is =
+    let test : nat_lt n (length names) ≡ false = grind (arith, nat_tests, past) in
+    sym (none_left set (most_texts - n) n names test) ∙ is
