@@ -3,7 +3,7 @@ use Rattle.drv_cc.specs.declared.answer.Stages.{Stages}
 use Rattle.drv_cc.specs.declared.answer.Surroundings.{Surroundings}
 use Rattle.drv_compile.specs.Beside.{given_by, file_of_variable, spec_file, written_beside}
 use Rattle.drv_compile.specs.Compilers.{values}
-use Rattle.drv_compile.specs.Decides.{decide, decided_around, decided_by, decided_over, decided_with, of_reading, surroundings}
+use Rattle.drv_compile.specs.Decides.{decide, decided_around, decided_by, decided_over, decided_with, first_of, of_reading, surroundings}
 use Rattle.drv_compile.specs.Parts.{texts_at, texts_of}
 use Rattle.drv_compile.specs.Places.{texts_for, texts_or}
 use Rattle.drv_compile.specs.Reading.{line_read}
@@ -46,15 +46,16 @@ around_read F specs slice words around reading (Ok decision) same read is =
     ap (λ k. k >>= λ r. Is (of_reading specs around r)) (ap (λ s. line_read F s around words) (sym same) ∙ read) ∙ ap Is (sym is)
 
 -- `decided_by` asks for two variables, and hands on where the compiler looks
-pub compiler_given : {E : Type 0} (F : Facts) (specs : List ℕ) (words : List (List ℕ)) (text : List ℕ) (given : Option (List ℕ))
+pub compiler_given : {E : Type 0} (F : Facts) (specs : List ℕ) (words : List (List ℕ)) (text : List ℕ)
     (compiler : List ℕ) (folders : List (List ℕ))
     (programs libraries : Option (List ℕ)) (result : Result Decision E)
-    → given ≡ Some compiler → folders ≡ values (codes "folder ") text → asked (variable_of F (codes "COMPILER_PATH")) ≡ Is programs
+    → first_of (values (codes "compiler ") text) ≡ Some compiler → folders ≡ values (codes "folder ") text
+    → asked (variable_of F (codes "COMPILER_PATH")) ≡ Is programs
     → asked (variable_of F (codes "LIBRARY_PATH")) ≡ Is libraries
     → IfOk result (λ decision. decided_around F specs words (surroundings compiler folders programs libraries) ≡ Is decision)
-    → IfOk result (λ decision. decided_by F specs words text given ≡ Is decision)
-compiler_given F specs words text given compiler folders programs libraries (Err e) some folders_are first second is = tt
-compiler_given F specs words text given compiler folders programs libraries (Ok decision) some folders_are first second is =
+    → IfOk result (λ decision. decided_over F specs words (Some text) ≡ Is decision)
+compiler_given F specs words text compiler folders programs libraries (Err e) some folders_are first second is = tt
+compiler_given F specs words text compiler folders programs libraries (Ok decision) some folders_are first second is =
     ap (decided_by F specs words text) some
     ∙ ap (λ k. k >>= λ p. asked (variable_of F (codes "LIBRARY_PATH"))
     >>= λ l. decided_around F specs words (surroundings compiler (values (codes "folder ") text) p l)) first

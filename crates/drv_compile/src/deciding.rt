@@ -1,13 +1,13 @@
 //! What the words of a line ask for, over the spec file and the files beside it.
 
 ghost use Rattle.drv_compile.specs.Compilers.{values};
-ghost use Rattle.drv_compile.specs.Decides.{decide, decided_around, decided_by, decided_over};
-ghost use Rattle.drv_compile.specs.Decides.{decided_with, of_reading};
+ghost use Rattle.drv_compile.specs.Decides.{decide, decided_around, decided_over, decided_with};
+ghost use Rattle.drv_compile.specs.Decides.{of_reading};
 ghost use Rattle.drv_search.specs.Code.Telling.{Tells};
 ghost use Rattle.drv_system.specs.Code.Asked.{Asked};
 ghost use Rattle.drv_system.specs.Facts.{variable_of};
 ghost use Rattle.drv_system.specs.Known.{asked};
-ghost use Rattle.std.specs.Prelude.{◌≡◌, IfOk};
+ghost use Rattle.std.specs.Prelude.{◌≡◌, IfOk, Some};
 
 use crate::compilers::{first_value, values};
 use crate::finding::{file_of_variable, or_own, spec_file, written_beside};
@@ -104,13 +104,13 @@ fn decided_by<S: System>(
     specs: Word,
     words: &[Word],
     text: &[u8],
-    compiler: Option<Word>,
     outside: &mut Outside<'_, S>,
 ) -> Result<Decision, AllocError>
     ensures asks { Asked S.events outside.old outside.new }
     ensures decision { Tells outside.new result
-        (λ F. decided_by F specs words.now text.now compiler) }
+        (λ F. decided_over F specs words.now (Some text.now)) }
 {
+    let compiler = first_value(alloc, b"compiler ", text)?;
     let Some(compiler) = compiler else {
         return Ok(Decision::NoCompiler(specs));
     };
@@ -141,8 +141,7 @@ fn decided_over<S: System>(
         let path = companion(alloc, specs.as_bytes(), b".gcc")?;
         return Ok(Decision::Damaged { specs, path });
     };
-    let compiler = first_value(alloc, b"compiler ", text.as_bytes())?;
-    decided_by(alloc, specs, words, text.as_bytes(), compiler, outside)
+    decided_by(alloc, specs, words, text.as_bytes(), outside)
 }
 
 /// The decision with a spec file, if there is one.
