@@ -13,6 +13,7 @@ use Rattle.drv_compile.specs.Runs.{specs_of}
 use Rattle.drv_compile.specs.SelfSpecs.{Ended, answer_after, answer_by, of_job, of_outcome, self_worked, worked_along, worked_by}
 use Rattle.drv_compile.specs.SelfSpecs.{worked_for, worked_of}
 use Rattle.drv_compile.specs.SelfSpecs.{worked_over}
+use Rattle.drv_compile.specs.declared.request.GccLine.{GccLine}
 use Rattle.drv_compile.specs.declared.running.DriverLine.{DriverLine}
 use Rattle.drv_compile.specs.declared.self_specs.Worked.TheVariants.{Gives, Nothing}
 use Rattle.drv_compile.specs.declared.self_specs.Worked.{Worked}
@@ -57,7 +58,7 @@ pub text_worked : (found : Known (Result Outcome PlanFault)) (done : Outcome) (w
     → found ≡ Is (Ok done) → worked ≡ of_job done.job → of_outcome found ≡ Is (Ok worked)
 text_worked found done worked is job = ap of_outcome is ∙ ap (λ w. Is (Ok w)) (sym job)
 
--- `worked_in` makes the context before it works the text in it
+-- `worked_line` makes the context before it works the text in it
 pub context_made : (F : Facts) (set : Set) (text : List ℕ) (line : Line) (prefixes : Prefixes) (context : Context)
     → context ≡ context_of line set prefixes 0
     → worked_along F set text line prefixes ≡ of_outcome (of_text (outcome F context (tree_of text)))
@@ -138,50 +139,61 @@ abbrev with_names : Surroundings → List ℕ → List (List ℕ) → Given → 
 with_names around known args given options named = Is (Ok (Some (front_with (unwrap_or options known) named around args given)))
 
 -- `answer_with` takes the names in the line's own spec files with those of the compiler's options
-pub options_given : {E : Type 0} (F : Facts) (specs : List ℕ) (around : Surroundings) (known : List ℕ) (args : List (List ℕ))
-    (first : DriverLine) (given : Given)
-    (options : Option (List ℕ)) (all : List Item) (named : List (List ℕ)) (names : List ℕ) (slice : List (List ℕ))
-    (result : Result Answer E)
+pub options_given : {E : Type 0} (F : Facts) (line : GccLine) (first : DriverLine) (given : Given) (specs known names : List ℕ)
+    (words slice : List (List ℕ)) (options : Option (List ℕ)) (all : List Item) (named : List (List ℕ)) (result : Result Answer E)
+    → specs ≡ line.chain.specs → known ≡ line.chain.known → words ≡ line.given.words
     → known_names F specs ≡ Is options → all ≡ first.items → items_names F all ≡ Is named → names ≡ unwrap_or options known → slice ≡ named
-    → IfOk result (λ answer. answer ≡ front_with names slice around args given)
-    → IfOk result (λ answer. answer_by F specs around known args first (Gives given) ≡ Is (Ok (Some answer)))
-options_given F specs around known args first given options all named names slice (Err e) asked same found names_are slice_is is = tt
-options_given F specs around known args first given options all named names slice (Ok answer) asked same found names_are slice_is is =
-    ap (λ k. k >>= λ o. items_names F first.items >>= λ n. with_names around known args given o n) asked
-    ∙ ap (λ w. items_names F w >>= λ n. with_names around known args given options n) (sym same)
-    ∙ ap (λ k. k >>= λ n. with_names around known args given options n) found
-    ∙ ap (λ o. Is (Ok (Some (front_with o named around args given)))) (sym names_are)
-    ∙ ap (λ n. Is (Ok (Some (front_with names n around args given)))) (sym slice_is)
+    → IfOk result (λ answer. answer ≡ front_with names slice line.chain.around words given)
+    → IfOk result (λ answer. answer_by F line.chain.specs line.chain.around line.chain.known line.given.words first (Gives given)
+    ≡ Is (Ok (Some answer)))
+options_given F line first given specs known names words slice options all named (Err e) at knows are asked same found names_are lent is = tt
+options_given F line first given specs known names words slice options all named (Ok answer) at knows are asked same found names_are lent is =
+    ap (λ k. k >>= λ o. items_names F first.items >>= λ n. with_names line.chain.around line.chain.known line.given.words given o n)
+    (ap (known_names F) (sym at) ∙ asked)
+    ∙ ap (λ w. items_names F w >>= λ n. with_names line.chain.around line.chain.known line.given.words given options n) (sym same)
+    ∙ ap (λ k. k >>= λ n. with_names line.chain.around line.chain.known line.given.words given options n) found
+    ∙ ap (λ k. with_names line.chain.around k line.given.words given options named) (sym knows)
+    ∙ ap (λ w. with_names line.chain.around known w given options named) (sym are)
+    ∙ ap (λ o. Is (Ok (Some (front_with o named line.chain.around words given)))) (sym names_are)
+    ∙ ap (λ n. Is (Ok (Some (front_with names n line.chain.around words given)))) (sym lent)
     ∙ ap (λ a. Is (Ok (Some a))) (sym is)
 
+-- the items that `answer_of_specs` sees, by the words that it lends
+pub seen_by : (line : GccLine) (known : List ℕ) (words : List (List ℕ)) (items : List Item)
+    → known ≡ line.chain.known → words ≡ line.given.words → items ≡ seen_items known words
+    → items ≡ seen_items line.chain.known line.given.words
+seen_by line known words items same_known same_words are =
+    are ∙ ap (λ k. seen_items k words) same_known ∙ ap (seen_items line.chain.known) same_words
+
 -- the answer, once the text was run
-abbrev after_work : Facts → List ℕ → Surroundings → List ℕ → List (List ℕ) → DriverLine → List Item → Ended (Option Answer)
-after_work F specs around known args first items = answer_after F specs around known args first (self_worked F first items)
+abbrev after_work : Facts → GccLine → DriverLine → List Item → Ended (Option Answer)
+after_work F line first items =
+    answer_after F line.chain.specs line.chain.around line.chain.known line.given.words first (self_worked F first items)
 
 -- the end of the work is that of the answer
-by_work : (F : Facts) (specs : List ℕ) (around : Surroundings) (known : List ℕ) (args : List (List ℕ)) (first : DriverLine)
-    (items : List Item) (ending : Ending)
-    → items ≡ seen_items known args → (ending ≡ OutOfMemory) ⊎ (self_worked F first items ≡ Is (Err ending))
-    → (ending ≡ OutOfMemory) ⊎ (after_work F specs around known args first (seen_items known args) ≡ Is (Err ending))
-by_work F specs around known args first items ending are (inl memory) = inl memory
-by_work F specs around known args first items ending are (inr ends) =
-    inr (ap (after_work F specs around known args first) (sym are) ∙ ap (answer_after F specs around known args first) ends)
+by_work : (F : Facts) (line : GccLine) (first : DriverLine) (items : List Item) (ending : Ending)
+    → items ≡ seen_items line.chain.known line.given.words → (ending ≡ OutOfMemory) ⊎ (self_worked F first items ≡ Is (Err ending))
+    → (ending ≡ OutOfMemory) ⊎ (after_work F line first (seen_items line.chain.known line.given.words) ≡ Is (Err ending))
+by_work F line first items ending are (inl memory) = inl memory
+by_work F line first items ending are (inr ends) =
+    inr (ap (after_work F line first) (sym are)
+    ∙ ap (answer_after F line.chain.specs line.chain.around line.chain.known line.given.words first) ends)
 
 -- `answer_of_specs` hands on the end of the work
-pub work_ends : (F : Facts) (specs : List ℕ) (around : Surroundings) (known : List ℕ) (args : List (List ℕ)) (first : DriverLine)
-    (items : List Item) (ending : Ending) (result : Result (Option Answer) Ending)
-    → items ≡ seen_items known args → IsErrAnd result (λ e. e ≡ ending)
+pub work_ends : (F : Facts) (line : GccLine) (first : DriverLine) (items : List Item) (ending : Ending)
+    (result : Result (Option Answer) Ending)
+    → items ≡ seen_items line.chain.known line.given.words → IsErrAnd result (λ e. e ≡ ending)
     → (ending ≡ OutOfMemory) ⊎ (self_worked F first items ≡ Is (Err ending))
-    → GivesKnown OutOfMemory (λ answer. answer) result (after_work F specs around known args first (seen_items known args))
-work_ends F specs around known args first items ending result are is given =
-    ends_as ending result (λ answer. answer) (after_work F specs around known args first (seen_items known args)) is
-    (by_work F specs around known args first items ending are given)
+    → GivesKnown OutOfMemory (λ answer. answer) result (after_work F line first (seen_items line.chain.known line.given.words))
+work_ends F line first items ending result are is given =
+    ends_as ending result (λ answer. answer) (after_work F line first (seen_items line.chain.known line.given.words)) is
+    (by_work F line first items ending are given)
 
 -- `answer_of_specs` answers by what the work gave
-pub work_answers : (F : Facts) (specs : List ℕ) (around : Surroundings) (known : List ℕ) (args : List (List ℕ)) (first : DriverLine)
-    (items : List Item) (worked : Worked) (answer : Option Answer)
-    → items ≡ seen_items known args → self_worked F first items ≡ Is (Ok worked)
-    → answer_by F specs around known args first worked ≡ Is (Ok answer)
-    → after_work F specs around known args first (seen_items known args) ≡ Is (Ok answer)
-work_answers F specs around known args first items worked answer are done is =
-    ap (after_work F specs around known args first) (sym are) ∙ ap (answer_after F specs around known args first) done ∙ is
+pub work_answers : (F : Facts) (line : GccLine) (first : DriverLine) (items : List Item) (worked : Worked) (answer : Option Answer)
+    → items ≡ seen_items line.chain.known line.given.words → self_worked F first items ≡ Is (Ok worked)
+    → answer_by F line.chain.specs line.chain.around line.chain.known line.given.words first worked ≡ Is (Ok answer)
+    → after_work F line first (seen_items line.chain.known line.given.words) ≡ Is (Ok answer)
+work_answers F line first items worked answer are done is =
+    ap (after_work F line first) (sym are)
+    ∙ ap (answer_after F line.chain.specs line.chain.around line.chain.known line.given.words first) done ∙ is

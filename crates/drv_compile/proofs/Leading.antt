@@ -43,16 +43,15 @@ answer_refused calling specs around reading refusals slice name known text is na
 -- the text where there is no spec file
 
 -- `without_specs` names the file that should be there
-pub specs_declined : {E : Type 0} (calling : Calling) (given : Option (List ℕ)) (path name place machine : List ℕ)
+pub specs_declined : {E : Type 0} (calling : Calling) (given : Option (List ℕ)) (path place : List ℕ)
     (result : Result (List ℕ) E) → given ≡ Some path
-    → name ≡ calling.name → place ≡ path → machine ≡ calling.machine → IfOk result (λ text. text ≡ no_specs_text name place machine)
+    → place ≡ path → IfOk result (λ text. text ≡ no_specs_text calling.name place calling.machine)
     → IfOk result (λ text. Declines calling (NoSpecs given) text)
-specs_declined calling given path name place machine (Err e) some named placed built is = tt
-specs_declined calling given path name place machine (Ok text) some named placed built is =
+specs_declined calling given path place (Err e) some placed is = tt
+specs_declined calling given path place (Ok text) some placed is =
     subst (λ g. Declines calling (NoSpecs g) text) (sym some)
     (subst (λ t. Declines calling (NoSpecs (Some path)) t)
-    (sym (is ∙ ap (λ n. no_specs_text n place machine) named ∙ ap (λ p. no_specs_text calling.name p machine) placed
-    ∙ ap (no_specs_text calling.name path) built)) no_specs)
+    (sym (is ∙ ap (λ p. no_specs_text calling.name p calling.machine) placed)) no_specs)
 
 -- `without_specs` says that the place of the spec file isn't known
 pub place_declined : {E : Type 0} (calling : Calling) (given : Option (List ℕ)) (name : List ℕ) (result : Result (List ℕ) E) → given ≡ None
@@ -66,22 +65,19 @@ place_declined calling given name (Ok text) none named is =
 -- Refusals for lack of a compiler or of a whole file.
 
 -- `task_of` lends the parts of the call to the text about the compiler
-pub compiler_declined : (calling : Calling) (decision : Decision) (specs name slice machine text : List ℕ) → decision ≡ NoCompiler specs
-    → name ≡ calling.name → slice ≡ specs
-    → machine ≡ calling.machine → text ≡ no_compiler_text name slice machine → Declines calling decision text
-compiler_declined calling decision specs name slice machine text decided named same built is =
+pub compiler_declined : (calling : Calling) (decision : Decision) (specs slice text : List ℕ) → decision ≡ NoCompiler specs
+    → slice ≡ specs → text ≡ no_compiler_text calling.name slice calling.machine → Declines calling decision text
+compiler_declined calling decision specs slice text decided same is =
     subst (λ d. Declines calling d text) (sym decided)
     (subst (λ t. Declines calling (NoCompiler specs) t)
-    (sym (is ∙ ap (λ n. no_compiler_text n slice machine) named ∙ ap (λ s. no_compiler_text calling.name s machine) same
-    ∙ ap (no_compiler_text calling.name specs) built)) no_compiler)
+    (sym (is ∙ ap (λ s. no_compiler_text calling.name s calling.machine) same)) no_compiler)
 
 -- `task_of` lends the parts of the call to the text about a file that isn't whole
-pub damaged_declined : (calling : Calling) (decision : Decision) (specs path name slice place machine text : List ℕ)
-    → decision ≡ Damaged specs path → name ≡ calling.name
-    → slice ≡ specs → place ≡ path → machine ≡ calling.machine → text ≡ damaged_text name place slice machine
-    → Declines calling decision text
-damaged_declined calling decision specs path name slice place machine text decided named same placed built is =
+pub damaged_declined : (calling : Calling) (decision : Decision) (specs path slice place text : List ℕ)
+    → decision ≡ Damaged specs path → slice ≡ specs
+    → place ≡ path → text ≡ damaged_text calling.name place slice calling.machine → Declines calling decision text
+damaged_declined calling decision specs path slice place text decided same placed is =
     subst (λ d. Declines calling d text) (sym decided)
     (subst (λ t. Declines calling (Damaged specs path) t)
-    (sym (is ∙ ap (λ n. damaged_text n place slice machine) named ∙ ap (λ p. damaged_text calling.name p slice machine) placed
-    ∙ ap (λ s. damaged_text calling.name path s machine) same ∙ ap (damaged_text calling.name path specs) built)) damaged)
+    (sym (is ∙ ap (λ p. damaged_text calling.name p slice calling.machine) placed
+    ∙ ap (λ s. damaged_text calling.name path s calling.machine) same)) damaged)

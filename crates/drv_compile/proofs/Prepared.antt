@@ -3,8 +3,8 @@ use Rattle.drv_args.specs.declared.line.Expanded.{Expanded}
 use Rattle.drv_cc.specs.declared.answer.Call.{Call}
 use Rattle.drv_cc.specs.declared.answer.Variable.{Variable}
 use Rattle.drv_compile.proofs.Worded.{memory_stops, stop_stays, told_as}
-use Rattle.drv_compile.specs.Code.Preparing.{IsFailure, IsOverwriting, IsPrepared, IsQuestion, IsTaskDone, IsTaskRefused, IsUnplanned}
-use Rattle.drv_compile.specs.Compiles.{Comes, Fails, IsPlanned, Performs, Refuses, asks, declines, drives, fails, handed_on, hands_on}
+use Rattle.drv_compile.specs.Code.Preparing.{IsDone, IsFailure, IsOverwriting, IsPrepared, IsQuestion, IsUndone, IsUnplanned}
+use Rattle.drv_compile.specs.Compiles.{Comes, IsPlanned, Refuses, asks, declines, drives, fails, handed_on, hands_on}
 use Rattle.drv_compile.specs.Compiles.{no_words, objected, overwriting, performs, stopped, undriven}
 use Rattle.drv_compile.specs.Decides.{decide}
 use Rattle.drv_compile.specs.Driven.{IsWorker, Undriven}
@@ -22,11 +22,11 @@ use Rattle.drv_compile.specs.declared.driving.Worker.TheVariants.{Compiler, Driv
 use Rattle.drv_compile.specs.declared.driving.Worker.{Worker}
 use Rattle.drv_compile.specs.declared.host.HostEvent.{HostEvent}
 use Rattle.drv_compile.specs.declared.preparing.Prepared.{Prepared}
+use Rattle.drv_compile.specs.declared.request.GccLine.{GccLine}
 use Rattle.drv_compile.specs.declared.stop.Stop.TheVariants.{Memory}
 use Rattle.drv_compile.specs.declared.stop.Stop.{Stop}
 use Rattle.drv_compile.specs.declared.tasks.Task.TheVariants.{Compilation, Question}
 use Rattle.drv_compile.specs.declared.tasks.Task.{Task}
-use Rattle.drv_compile.specs.declared.tasks.Toolchain.{Toolchain}
 use Rattle.drv_run.specs.declared.work.Work.{Work}
 use Rattle.drv_system.specs.Facts.{Facts}
 use Rattle.drv_system.specs.Known.{Is}
@@ -109,85 +109,73 @@ overwriting_told name text output slice call inputs found before after some same
 -- the steps of a line
 
 -- `compilation` carries out a line that nothing speaks against, or refuses it as its plan is refused
-pub fails_planned : (F : Facts) (calling : Calling) (chain : Toolchain) (call : Call) (args : List (List ℕ)) (given : Expanded) (seed : ℕ)
-    (events : List HostEvent) (result : Result Prepared Stop)
-    → objection F calling.name call.inputs ≡ Is [] → Overwrites call.inputs call.output events false
-    → MatchResult result (λ prepared. IsPrepared F calling chain call args given seed prepared)
-    (λ stop. IfTold stop (IsUnplanned F calling chain call given seed))
-    → MatchResult result (λ prepared. Performs F calling chain call args given seed events prepared)
-    (λ stop. IfTold stop (Fails F calling chain call given seed events))
-fails_planned F calling chain call args given seed events (Ok prepared) free apart (inl (driven, works, planned)) =
-    drives free apart works planned
-fails_planned F calling chain call args given seed events (Ok prepared) free apart (inr (options, works, is)) =
-    hands_on free apart works is
-fails_planned F calling chain call args given seed events (Err stop) free apart unplanned =
-    told_as stop (IsUnplanned F calling chain call given seed) (Fails F calling chain call given seed events) by unplanned
+pub fails_planned : (F : Facts) (line : GccLine) (call : Call) (events : List HostEvent) (result : Result Prepared Stop)
+    → objection F line.request.now.calling.now.name call.inputs ≡ Is [] → Overwrites call.inputs call.output events false
+    → MatchResult result (λ prepared. IsPrepared F line call prepared) (λ stop. IfTold stop (IsUnplanned F line call))
+    → MatchResult result (λ prepared. IsDone F line call events prepared) (λ stop. IfTold stop (IsUndone F line call events))
+fails_planned F line call events (Ok prepared) free apart (inl (driven, works, planned)) = drives free apart works planned
+fails_planned F line call events (Ok prepared) free apart (inr (options, works, is)) = hands_on free apart works is
+fails_planned F line call events (Err stop) free apart unplanned =
+    told_as stop (IsUnplanned F line call) (IsUndone F line call events) by unplanned
   where
-    by : (text : List ℕ) → IsUnplanned F calling chain call given seed text → Fails F calling chain call given seed events text
+    by : (text : List ℕ) → IsUnplanned F line call text → IsUndone F line call events text
     by text (inl un) = undriven free apart un
     by text (inr (driven, works, (refusal, stops, said))) = stopped free apart works stops said
 
 -- `compilation` refuses a line that something speaks against, by that text
-pub objected_as : (F : Facts) (calling : Calling) (chain : Toolchain) (call : Call) (given : Expanded) (seed : ℕ) (name text : List ℕ)
-    (inputs : List (List ℕ)) (found : Bool)
-    → name ≡ calling.name → inputs ≡ call.inputs → objection F name inputs ≡ Is text → IsTrue found ↔ (text ≡ []) → found ≡ false
-    → Fails F calling chain call given seed [] text
-objected_as F calling chain call given seed name [] inputs found named are is empty not = absurd (false≢true (sym not ∙ empty.1 refl))
-objected_as F calling chain call given seed name (b ∷ text) inputs found named are is empty not =
-    objected (ap (objection F calling.name) (sym are) ∙ ap (λ n. objection F n inputs) (sym named) ∙ is)
+pub objected_as : (F : Facts) (line : GccLine) (call : Call) (name text : List ℕ) (inputs : List (List ℕ)) (found : Bool)
+    → name ≡ line.request.now.calling.now.name → inputs ≡ call.inputs → objection F name inputs ≡ Is text → IsTrue found ↔ (text ≡ []) → found ≡ false
+    → IsUndone F line call [] text
+objected_as F line call name [] inputs found named are is empty not = absurd (false≢true (sym not ∙ empty.1 refl))
+objected_as F line call name (b ∷ text) inputs found named are is empty not =
+    objected (ap (objection F line.request.now.calling.now.name) (sym are) ∙ ap (λ n. objection F n inputs) (sym named) ∙ is)
 
 -- `compilation` goes on where nothing speaks against a line
-pub free_as : (F : Facts) (calling : Calling) (call : Call) (name text : List ℕ) (inputs : List (List ℕ)) (found : Bool)
-    → name ≡ calling.name → inputs ≡ call.inputs → objection F name inputs ≡ Is text → IsTrue found ↔ (text ≡ []) → found ≡ true
-    → objection F calling.name call.inputs ≡ Is []
-free_as F calling call name text inputs found named are is empty so =
-    ap (objection F calling.name) (sym are) ∙ ap (λ n. objection F n inputs) (sym named) ∙ is ∙ ap Is (empty.0 so)
+pub free_as : (F : Facts) (line : GccLine) (call : Call) (name text : List ℕ) (inputs : List (List ℕ)) (found : Bool)
+    → name ≡ line.request.now.calling.now.name → inputs ≡ call.inputs → objection F name inputs ≡ Is text → IsTrue found ↔ (text ≡ []) → found ≡ true
+    → objection F line.request.now.calling.now.name call.inputs ≡ Is []
+free_as F line call name text inputs found named are is empty so =
+    ap (objection F line.request.now.calling.now.name) (sym are) ∙ ap (λ n. objection F n inputs) (sym named) ∙ is ∙ ap Is (empty.0 so)
 
 -- `compilation` refuses a line whose output is an input: nothing else spoke against that
-pub overwriting_fails : (calling : Calling) (chain : Toolchain) (name : List ℕ) (call : Call) (args : List (List ℕ)) (given : Expanded)
-    (seed : ℕ) (stop : Stop) (before after : List HostEvent) (result : Result Prepared Stop)
-    (knows : Facts → Type 0) → name ≡ calling.name → IsErrAnd result (λ s. s ≡ stop)
-    → ((F : Facts) → knows F → objection F calling.name call.inputs ≡ Is [])
+pub overwriting_fails : (line : GccLine) (name : List ℕ) (call : Call) (stop : Stop) (before after : List HostEvent)
+    (result : Result Prepared Stop) (knows : Facts → Type 0) → name ≡ line.request.now.calling.now.name → IsErrAnd result (λ s. s ≡ stop)
+    → ((F : Facts) → knows F → objection F line.request.now.calling.now.name call.inputs ≡ Is [])
     → Noted before after (λ events. IfTold stop (IsOverwriting name call events))
     → Noted before after (λ events. (F : Facts) → knows F
-    → MatchResult result (λ prepared. Performs F calling chain call args given seed events prepared)
-    (λ s. IfTold s (Fails F calling chain call given seed events)))
-overwriting_fails calling chain name call args given seed stop before after result knows named is free (events, grown, tells) = (
+    → MatchResult result (λ prepared. IsDone F line call events prepared) (λ s. IfTold s (IsUndone F line call events)))
+overwriting_fails line name call stop before after result knows named is free (events, grown, tells) = (
   events,
   grown,
   λ F k.
-      stop_stays result stop (λ prepared. Performs F calling chain call args given seed events prepared)
-      (Fails F calling chain call given seed events) is
-      (told_as stop (IsOverwriting name call events) (Fails F calling chain call given seed events) (by F k) tells),
+      stop_stays result stop (λ prepared. IsDone F line call events prepared) (IsUndone F line call events) is
+      (told_as stop (IsOverwriting name call events) (IsUndone F line call events) (by F k) tells),
 )
   where
-    by : (F : Facts) → knows F → (text : List ℕ) → IsOverwriting name call events text → Fails F calling chain call given seed events text
+    by : (F : Facts) → knows F → (text : List ℕ) → IsOverwriting name call events text → IsUndone F line call events text
     by F k text (output, some, overwrites, same_text) =
-        subst (λ t. Fails F calling chain call given seed events t) (sym (same_text ∙ ap (λ n. overwritten_text n output) named))
+        subst (λ t. IsUndone F line call events t) (sym (same_text ∙ ap (λ n. overwritten_text n output) named))
         (overwriting (free F k) some overwrites)
 
 -- `compilation` notes what it asked the host, and carries the line out
-pub performs_noted : (calling : Calling) (chain : Toolchain) (call : Call) (args : List (List ℕ)) (given : Expanded) (seed : ℕ)
-    (before after : List HostEvent) (result : Result Prepared Stop) (knows : Facts → Type 0)
-    → ((F : Facts) → knows F → objection F calling.name call.inputs ≡ Is [])
+pub performs_noted : (line : GccLine) (call : Call) (before after : List HostEvent) (result : Result Prepared Stop) (knows : Facts → Type 0)
+    → ((F : Facts) → knows F → objection F line.request.now.calling.now.name call.inputs ≡ Is [])
     → Noted before after (λ events. Overwrites call.inputs call.output events false)
-    → ((F : Facts) → knows F → MatchResult result (λ prepared. IsPrepared F calling chain call args given seed prepared)
-    (λ stop. IfTold stop (IsUnplanned F calling chain call given seed)))
+    → ((F : Facts) → knows F → MatchResult result (λ prepared. IsPrepared F line call prepared)
+    (λ stop. IfTold stop (IsUnplanned F line call)))
     → Noted before after (λ events. (F : Facts) → knows F
-    → MatchResult result (λ prepared. Performs F calling chain call args given seed events prepared)
-    (λ s. IfTold s (Fails F calling chain call given seed events)))
-performs_noted calling chain call args given seed before after result knows free (events, grown, apart) plans =
-    (events, grown, λ F k. fails_planned F calling chain call args given seed events result (free F k) apart (plans F k))
+    → MatchResult result (λ prepared. IsDone F line call events prepared) (λ s. IfTold s (IsUndone F line call events)))
+performs_noted line call before after result knows free (events, grown, apart) plans =
+    (events, grown, λ F k. fails_planned F line call events result (free F k) apart (plans F k))
 
 -- the work of a line
 
--- `planned` makes what is done of the parts of what the driver is called with
-pub planned_so : (F : Facts) (calling : Calling) (chain : Toolchain) (seed : ℕ) (driven : Driven)
-    (specs wrapper said hint remark : List ℕ) (items : List Item)
-    (children : List Variable) (work : Work) → specs ≡ chain.specs → items ≡ driven.line.items → children ≡ driven.children
-    → wrapper ≡ wrapper_of items → opening F specs items children ≡ Is said → Works F driven.line seed work
-    → hint ≡ gone_text calling.name chain.specs calling.machine → remark ≡ []
-    → IsPlanned F calling chain driven seed (record {
+-- `prepare_plan` makes what is done of the parts of what the driver is called with
+pub planned_so : (F : Facts) (line : GccLine) (driven : Driven) (specs wrapper said hint remark : List ℕ) (items : List Item)
+    (children : List Variable) (work : Work) → specs ≡ line.chain.specs → items ≡ driven.line.items → children ≡ driven.children
+    → wrapper ≡ wrapper_of items → opening F specs items children ≡ Is said → Works F driven.line line.request.now.seed work
+    → hint ≡ gone_text line.request.now.calling.now.name specs line.request.now.calling.now.machine → remark ≡ []
+    → IsPlanned F line.request.now.calling.now line.chain driven line.request.now.seed (record {
       work = work;
       children = driven.children;
       wrapper = wrapper;
@@ -196,113 +184,100 @@ pub planned_so : (F : Facts) (calling : Calling) (chain : Toolchain) (seed : ℕ
           hint;
       remark = remark;
     })
-planned_so F calling chain seed driven specs wrapper said hint remark items children work same are set wraps opens works hints none =
+planned_so F line driven specs wrapper said hint remark items children work same are set wraps opens works hints none =
     record {
       opens =
-          sym (ap (λ s. opening F s items children) same ∙ ap (λ w. opening F chain.specs w children) are
-          ∙ ap (opening F chain.specs driven.line.items) set) ∙ opens;
+          sym (ap (λ s. opening F s items children) same ∙ ap (λ w. opening F line.chain.specs w children) are
+          ∙ ap (opening F line.chain.specs driven.line.items) set) ∙ opens;
       works = works;
       children = refl;
       wrapper = wraps ∙ ap wrapper_of are;
-      hint = hints;
+      hint = hints ∙ ap (λ s. gone_text line.request.now.calling.now.name s line.request.now.calling.now.machine) same;
       remark = none;
     }
 
--- `planned` refuses a line by the name that it lends
-pub failed_so : (F : Facts) (calling : Calling) (chain : Toolchain) (seed : ℕ) (driven : Driven) (name : List ℕ) (stop : Stop)
-    (result : Result Prepared Stop)
-    → name ≡ calling.name → IsErrAnd result (λ s. s ≡ stop) → IfTold stop (IsFailure F name driven.line seed)
-    → MatchResult result (λ prepared. IsPlanned F calling chain driven seed prepared)
-    (λ s. IfTold s (IsFailure F calling.name driven.line seed))
-failed_so F calling chain seed driven name stop result named is tells =
-    stop_stays result stop (λ prepared. IsPlanned F calling chain driven seed prepared) (IsFailure F calling.name driven.line seed) is
-    (subst (λ n. IfTold stop (IsFailure F n driven.line seed)) named tells)
+-- `prepare_plan` refuses a line by the name that it lends
+pub failed_so : (F : Facts) (line : GccLine) (driven : Driven) (name : List ℕ) (stop : Stop) (result : Result Prepared Stop)
+    → name ≡ line.request.now.calling.now.name → IsErrAnd result (λ s. s ≡ stop) → IfTold stop (IsFailure F name driven.line line.request.now.seed)
+    → MatchResult result (λ prepared. IsPlanned F line.request.now.calling.now line.chain driven line.request.now.seed prepared)
+    (λ s. IfTold s (IsFailure F line.request.now.calling.now.name driven.line line.request.now.seed))
+failed_so F line driven name stop result named is tells =
+    stop_stays result stop (λ prepared. IsPlanned F line.request.now.calling.now line.chain driven line.request.now.seed prepared)
+    (IsFailure F line.request.now.calling.now.name driven.line line.request.now.seed) is
+    (subst (λ n. IfTold stop (IsFailure F n driven.line line.request.now.seed)) named tells)
 
 -- `prepared_plan` hands on why nobody carries a line out
-pub undriven_plan : (F : Facts) (calling : Calling) (chain : Toolchain) (call : Call) (args : List (List ℕ)) (given : Expanded) (seed : ℕ)
-    (stop : Stop) (result : Result Prepared Stop)
-    → IsErrAnd result (λ s. s ≡ stop) → IfTold stop (Undriven F calling chain call given)
-    → MatchResult result (λ prepared. IsPrepared F calling chain call args given seed prepared)
-    (λ s. IfTold s (IsUnplanned F calling chain call given seed))
-undriven_plan F calling chain call args given seed stop result is tells =
-    stop_stays result stop (λ prepared. IsPrepared F calling chain call args given seed prepared) (IsUnplanned F calling chain call given seed)
-    is
-    (told_as stop (Undriven F calling chain call given) (IsUnplanned F calling chain call given seed) (λ text un. inl un) tells)
+pub undriven_plan : (F : Facts) (line : GccLine) (call : Call) (stop : Stop) (result : Result Prepared Stop)
+    → IsErrAnd result (λ s. s ≡ stop) → IfTold stop (Undriven F line.request.now.calling.now line.chain call line.given)
+    → MatchResult result (λ prepared. IsPrepared F line call prepared) (λ s. IfTold s (IsUnplanned F line call))
+undriven_plan F line call stop result is tells =
+    stop_stays result stop (λ prepared. IsPrepared F line call prepared) (IsUnplanned F line call) is
+    (told_as stop (Undriven F line.request.now.calling.now line.chain call line.given) (IsUnplanned F line call) (λ text un. inl un) tells)
 
 -- `prepared_plan` lets the driver carry the line out
-pub prepared_by_driver : (F : Facts) (calling : Calling) (chain : Toolchain) (call : Call) (args : List (List ℕ)) (given : Expanded)
-    (seed : ℕ) (worker : Worker) (driven : Driven) (result : Result Prepared Stop)
-    → IsWorker F chain call given worker → worker ≡ Driver driven
-    → MatchResult result (λ prepared. IsPlanned F calling chain driven seed prepared)
-    (λ s. IfTold s (IsFailure F calling.name driven.line seed))
-    → MatchResult result (λ prepared. IsPrepared F calling chain call args given seed prepared)
-    (λ s. IfTold s (IsUnplanned F calling chain call given seed))
-prepared_by_driver F calling chain call args given seed worker driven (Ok prepared) works is planned =
-    inl (driven, subst (IsWorker F chain call given) is works, planned)
-prepared_by_driver F calling chain call args given seed worker driven (Err stop) works is tells =
-    told_as stop (IsFailure F calling.name driven.line seed) (IsUnplanned F calling chain call given seed)
-    (λ text un. inr (driven, subst (IsWorker F chain call given) is works, un)) tells
+pub prepared_by_driver : (F : Facts) (line : GccLine) (call : Call) (worker : Worker) (driven : Driven) (result : Result Prepared Stop)
+    → IsWorker F line.chain call line.given worker → worker ≡ Driver driven
+    → MatchResult result (λ prepared. IsPlanned F line.request.now.calling.now line.chain driven line.request.now.seed prepared)
+    (λ s. IfTold s (IsFailure F line.request.now.calling.now.name driven.line line.request.now.seed))
+    → MatchResult result (λ prepared. IsPrepared F line call prepared) (λ s. IfTold s (IsUnplanned F line call))
+prepared_by_driver F line call worker driven (Ok prepared) works is planned =
+    inl (driven, subst (IsWorker F line.chain call line.given) is works, planned)
+prepared_by_driver F line call worker driven (Err stop) works is tells =
+    told_as stop (IsFailure F line.request.now.calling.now.name driven.line line.request.now.seed) (IsUnplanned F line call)
+    (λ text un. inr (driven, subst (IsWorker F line.chain call line.given) is works, un)) tells
 
 -- `prepared_plan` lets the compiler carry the line out
-pub prepared_by_compiler : (F : Facts) (calling : Calling) (chain : Toolchain) (call : Call) (args : List (List ℕ)) (given : Expanded)
-    (seed : ℕ) (worker : Worker) (options slice : List ℕ) (prepared : Prepared)
-    → IsWorker F chain call given worker → worker ≡ Compiler options → slice ≡ options
-    → prepared ≡ handed_on calling chain slice args given
-    → IsPrepared F calling chain call args given seed prepared
-prepared_by_compiler F calling chain call args given seed worker options slice prepared works is same hands =
-    inr (options, subst (IsWorker F chain call given) is works, hands ∙ ap (λ o. handed_on calling chain o args given) same)
-
--- a task
-
--- `task_prepared` asks the compiler by the bytes of the spec file's path
-pub question_done : (F : Facts) (calling : Calling) (args : List (List ℕ)) (given : Expanded) (seed : ℕ) (task : Task)
-    (specs slice compiler : List ℕ) (prepared : Prepared)
-    → task ≡ Question specs compiler → slice ≡ specs → IsQuestion calling slice compiler args prepared
-    → IsTaskDone F calling args given seed task [] prepared
-question_done F calling args given seed task specs slice compiler prepared is same asked =
-    subst (λ t. IsTaskDone F calling args given seed t [] prepared) (sym is)
-    (refl, subst (λ s. IsQuestion calling s compiler args prepared) same asked)
-
--- `task_prepared` carries the line out
-pub compilation_done : (calling : Calling) (args : List (List ℕ)) (given : Expanded) (seed : ℕ) (task : Task) (chain : Toolchain)
-    (call : Call) (before after : List HostEvent)
-    (result : Result Prepared Stop) (knows : Facts → Type 0) → task ≡ Compilation chain call
-    → Noted before after (λ events. (F : Facts) → knows F
-    → MatchResult result (λ prepared. Performs F calling chain call args given seed events prepared)
-    (λ s. IfTold s (Fails F calling chain call given seed events)))
-    → Noted before after (λ events. (F : Facts) → knows F
-    → MatchResult result (λ prepared. IsTaskDone F calling args given seed task events prepared)
-    (λ s. IfTold s (IsTaskRefused F calling given seed task events)))
-compilation_done calling args given seed task chain call before after result knows is (events, grown, does) = (
-  events,
-  grown,
-  λ F k.
-      subst (λ t. MatchResult result (λ prepared. IsTaskDone F calling args given seed t events prepared)
-      (λ s. IfTold s (IsTaskRefused F calling given seed t events))) (sym is)
-      (does F k),
-)
+pub prepared_by_compiler : (F : Facts) (line : GccLine) (call : Call) (worker : Worker) (options slice : List ℕ) (prepared : Prepared)
+    → IsWorker F line.chain call line.given worker → worker ≡ Compiler options → slice ≡ options
+    → prepared ≡ handed_on line.request.now.calling.now line.chain slice line.request.now.args.now line.given
+    → IsPrepared F line call prepared
+prepared_by_compiler F line call worker options slice prepared works is same hands =
+    inr (
+      options,
+      subst (IsWorker F line.chain call line.given) is works,
+      hands ∙ ap (λ o. handed_on line.request.now.calling.now line.chain o line.request.now.args.now line.given) same,
+    )
 
 -- the whole
 
--- what a task makes of a call is what its words ask for
-pub task_comes : (F : Facts) (calling : Calling) (own : Option (List ℕ)) (args : List (List ℕ)) (seed : ℕ) (words : Expanded)
-    (decision : Decision) (task : Task)
-    (events : List HostEvent) (result : Result Prepared Stop) → Words F calling args words → decide F own words.words ≡ Is decision
-    → Leads decision task
-    → MatchResult result (λ prepared. IsTaskDone F calling args words seed task events prepared)
-    (λ stop. IfTold stop (IsTaskRefused F calling words seed task events))
-    → MatchResult result (λ prepared. Comes F calling own args seed events prepared)
-    (λ stop. IfTold stop (Refuses F calling own args seed events))
-task_comes F calling own args seed words decision (Question specs compiler) events (Ok prepared) gives decides leads (none, is) =
-    subst (λ e. Comes F calling own args seed e prepared) (sym none)
-    (subst (λ p. Comes F calling own args seed [] p) (sym is) (asks gives decides leads))
-task_comes F calling own args seed words decision (Compilation chain call) events (Ok prepared) gives decides leads done =
-    performs gives decides leads done
-task_comes F calling own args seed words decision (Question specs compiler) events (Err stop) gives decides leads tells =
-    told_as stop (λ text. ⊥) (Refuses F calling own args seed events) (λ text no. absurd no) tells
-task_comes F calling own args seed words decision (Compilation chain call) events (Err stop) gives decides leads tells =
-    told_as stop (Fails F calling chain call words seed events) (Refuses F calling own args seed events)
+-- `prepare` asks the compiler, by the bytes of the spec file's path
+pub question_comes : (F : Facts) (calling : Calling) (own : Option (List ℕ)) (args : List (List ℕ)) (seed : ℕ) (words : Expanded)
+    (slice : List (List ℕ)) (decision : Decision) (task : Task) (specs lent compiler : List ℕ) (prepared : Prepared)
+    → slice ≡ words.words → Words F calling args words → decide F own slice ≡ Is decision → Leads decision task
+    → task ≡ Question specs compiler → lent ≡ specs → IsQuestion calling lent compiler args prepared
+    → Comes F calling own args seed [] prepared
+question_comes F calling own args seed words slice decision task specs lent compiler prepared same gives decides leads is at asked =
+    subst (λ p. Comes F calling own args seed [] p) (sym (subst (λ s. IsQuestion calling s compiler args prepared) at asked))
+    (asks gives (ap (decide F own) (sym same) ∙ decides) (subst (Leads decision) is leads))
+
+-- what comes of a line comes of a call whose words lead to it
+line_comes : (F : Facts) (line : GccLine) (call : Call) (own : Option (List ℕ)) (decision : Decision) (events : List HostEvent)
+    (result : Result Prepared Stop) → Words F line.request.now.calling.now line.request.now.args.now line.given → decide F own line.given.words ≡ Is decision
+    → Leads decision (Compilation line.chain call)
+    → MatchResult result (λ prepared. IsDone F line call events prepared) (λ stop. IfTold stop (IsUndone F line call events))
+    → MatchResult result (λ prepared. Comes F line.request.now.calling.now own line.request.now.args.now line.request.now.seed events prepared)
+    (λ stop. IfTold stop (Refuses F line.request.now.calling.now own line.request.now.args.now line.request.now.seed events))
+line_comes F line call own decision events (Ok prepared) gives decides leads done = performs gives decides leads done
+line_comes F line call own decision events (Err stop) gives decides leads tells =
+    told_as stop (IsUndone F line call events) (Refuses F line.request.now.calling.now own line.request.now.args.now line.request.now.seed events)
     (λ text is. fails gives decides leads is) tells
+
+-- `prepare` carries the line out that the decision leads to
+pub compilation_comes : (line : GccLine) (call : Call) (own : Option (List ℕ)) (slice : List (List ℕ)) (decision : Decision) (task : Task)
+    (before after : List HostEvent) (result : Result Prepared Stop) (knows : Facts → Type 0) → slice ≡ line.given.words
+    → ((F : Facts) → knows F → Words F line.request.now.calling.now line.request.now.args.now line.given)
+    → ((F : Facts) → knows F → decide F own slice ≡ Is decision) → Leads decision task → task ≡ Compilation line.chain call
+    → Noted before after (λ events. (F : Facts) → knows F
+    → MatchResult result (λ prepared. IsDone F line call events prepared) (λ s. IfTold s (IsUndone F line call events)))
+    → Noted before after (λ events. (F : Facts) → knows F
+    → MatchResult result (λ prepared. Comes F line.request.now.calling.now own line.request.now.args.now line.request.now.seed events prepared)
+    (λ s. IfTold s (Refuses F line.request.now.calling.now own line.request.now.args.now line.request.now.seed events)))
+compilation_comes line call own slice decision task before after result knows same gives decides leads is (events, grown, done) = (
+  events,
+  grown,
+  λ F k. line_comes F line call own decision events result (gives F k) (ap (decide F own) (sym same) ∙ decides F k)
+      (subst (Leads decision) is leads) (done F k),
+)
 
 -- `prepare` hands on why the words are refused
 pub words_refused : (F : Facts) (calling : Calling) (own : Option (List ℕ)) (args : List (List ℕ)) (seed : ℕ) (stop : Stop)
@@ -317,24 +292,6 @@ pub decision_declined : (F : Facts) (calling : Calling) (own : Option (List ℕ)
     → IfTold stop (Refuses F calling own args seed [])
 decision_declined F calling own args seed words decision stop gives decides tells =
     told_as stop (Declines calling decision) (Refuses F calling own args seed []) (λ text is. declines gives decides is) tells
-
--- `prepare` does the task that the decision leads to
-pub prepares : (calling : Calling) (own : Option (List ℕ)) (args : List (List ℕ)) (seed : ℕ) (words : Expanded) (slice : List (List ℕ))
-    (decision : Decision) (task : Task)
-    (before after : List HostEvent) (result : Result Prepared Stop) (knows : Facts → Type 0) → slice ≡ words.words
-    → ((F : Facts) → knows F → Words F calling args words)
-    → ((F : Facts) → knows F → decide F own slice ≡ Is decision) → Leads decision task
-    → Noted before after (λ events. (F : Facts) → knows F
-    → MatchResult result (λ prepared. IsTaskDone F calling args words seed task events prepared)
-    (λ s. IfTold s (IsTaskRefused F calling words seed task events)))
-    → Noted before after (λ events. (F : Facts) → knows F → MatchResult result (λ prepared. Comes F calling own args seed events prepared)
-    (λ s. IfTold s (Refuses F calling own args seed events)))
-prepares calling own args seed words slice decision task before after result knows same gives decides leads (events, grown, done) = (
-  events,
-  grown,
-  λ F k. task_comes F calling own args seed words decision task events result (gives F k)
-      (ap (decide F own) (sym same) ∙ decides F k) leads (done F k),
-)
 
 -- words that are refused end it: the host was asked nothing
 pub words_stop : (F : Facts) (calling : Calling) (own : Option (List ℕ)) (args : List (List ℕ)) (seed : ℕ) (stop : Stop)

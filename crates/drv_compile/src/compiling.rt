@@ -16,6 +16,7 @@ ghost use Rattle.std.specs.Prelude.{◌≡◌, ◌≤◌, List, OnErr, OnOk, fal
 use crate::calling::Calling;
 use crate::host::Host;
 use crate::preparing::{Prepared, prepare};
+use crate::request::Request;
 use crate::stop::Stop;
 use crate::temp_folder::settle;
 use drv_cc::Variable;
@@ -240,10 +241,7 @@ fn say_stop<S: System>(sys: &mut S, stop: &Stop) -> Outcome
 #[tactic(auto, using(drv_run::proofs::Endings::no_pipe_after_questions))]
 fn compile_settled<S: System, H: Host<S>>(
     alloc: Global,
-    calling: &Calling,
-    own: &Option<Word>,
-    args: &Listing<Word>,
-    seed: u32,
+    request: &Request<'_>,
     sys: &mut S,
     facts: &mut FactTable,
     host: &mut H,
@@ -251,20 +249,15 @@ fn compile_settled<S: System, H: Host<S>>(
     requires pipe { pipe_pending (run_of (S.events sys.old)) ≡ false }
     ensures compiled { (journal : List Event) (notes : List HostEvent)
         → Going journal (S.events sys.old) notes (H.notes host.old) facts.old
-        → Compiled journal (S.events sys.new) notes (H.notes host.new)
-        calling.now own.now args.now seed result }
+        → Compiled journal (S.events sys.new) notes (H.notes host.new) request.now.calling.now
+        request.now.own.now request.now.args.now request.now.seed result }
     ensures pipe { pipe_pending (run_of (S.events sys.new)) ≡ false }
 {
-    match prepare(
-        alloc,
-        calling,
-        own,
-        args,
-        seed,
-        &mut Outside { sys, facts },
-        host,
-    ) {
-        Ok(prepared) => carried_out(alloc, calling.name.as_bytes(), &prepared, sys, host),
+    match prepare(alloc, request, &mut Outside { sys, facts }, host) {
+        Ok(prepared) => {
+            let name = request.calling.name.as_bytes();
+            carried_out(alloc, name, &prepared, sys, host)
+        }
         Err(stop) => say_stop(sys, &stop),
     }
 }
@@ -301,9 +294,15 @@ pub fn compile<S: System, H: Host<S>>(
         (H.notes host.old) (H.notes host.new) calling.now own.now args.now seed result }
     ensures pipe { pipe_pending (run_of (S.events sys.new)) ≡ false }
 {
+    let request = Request {
+        calling,
+        own,
+        args,
+        seed,
+    };
     let facts = &mut FactTable::new(alloc);
     match settle(alloc, sys, facts, host) {
-        Ok(()) => compile_settled(alloc, calling, own, args, seed, sys, facts, host),
+        Ok(()) => compile_settled(alloc, &request, sys, facts, host),
         Err(_) => Outcome::OutOfMemory,
     }
 }

@@ -11,16 +11,15 @@ ghost use Rattle.drv_system.specs.Known.{Is};
 ghost use Rattle.std.specs.Option.{option_copied};
 ghost use Rattle.std.specs.Prelude.{◌≡◌, IfOk, MatchResult, Ok};
 
-use crate::calling::Calling;
 use crate::finding::written_beside;
 use crate::machines::{MachineItems, for_machines, machined_by};
 use crate::parts::{Texts, texts_asked};
 use crate::refusing::stop_after;
+use crate::request::GccLine;
 use crate::running::DriverLine;
 use crate::self_specs::answer_given;
 use crate::stop::Stop;
 use crate::suffixing::suffixed_by;
-use crate::tasks::Toolchain;
 use crate::telling::refusals_text;
 use crate::wording::damaged_text;
 use drv_args::{Effect, Expanded, Item};
@@ -113,28 +112,25 @@ fn machined_call(
 /// The text about a file that is missing or not whole.
 fn driver_of_call<S: System>(
     alloc: Global,
-    calling: &Calling,
-    specs: &[u8],
+    line: &GccLine<'_>,
     call: Call,
-    given: &Expanded,
     outside: &mut Outside<'_, S>,
 ) -> Result<Worker, Stop>
     ensures asks { Asked S.events outside.old outside.new }
     ensures calls { (F : Facts) → Extends outside.new.facts.now F
-        → MatchResult result (λ worker. IsCalled F specs.now call given.now worker)
-        (λ stop. IfTold stop (IsUncalled F calling.now specs.now call)) }
+        → MatchResult result (λ worker. IsCalled F line.now.chain.specs call line.now.given worker)
+        (λ stop. IfTold stop (IsUncalled F line.now.request.now.calling.now line.now.chain.specs call)) }
 {
+    let specs = line.chain.specs.as_bytes();
     let rows = written_beside(alloc, specs, b".gcc", outside)?;
     let texts = texts_asked(alloc, specs, call.items.as_slice(), call.stages, outside)?;
     match texts {
         Texts::Whole(path) => {
-            let worker = machined_call(alloc, path, slice_of(&rows), call, given)?;
+            let worker = machined_call(alloc, path, slice_of(&rows), call, &line.given)?;
             Ok(worker)
         }
         Texts::Damaged(path) => {
-            let name = calling.name.as_bytes();
-            let machine = calling.machine.as_bytes();
-            let text = damaged_text(alloc, name, path.as_bytes(), specs, machine)?;
+            let text = damaged_text(alloc, line.request.calling, path.as_bytes(), specs)?;
             Err(Stop::Told(text))
         }
     }
@@ -147,27 +143,19 @@ fn driver_of_call<S: System>(
 #[tactic(auto, using(drv_system::proofs::AskedCalls::asked_further))]
 fn answer<S: System>(
     alloc: Global,
-    name: &[u8],
-    chain: &Toolchain,
-    given: &Expanded,
+    line: &GccLine<'_>,
     first: &Driven,
     outside: &mut Outside<'_, S>,
 ) -> Result<Option<Answer>, Stop>
     ensures asks { Asked S.events outside.old outside.new }
     ensures answers { (F : Facts) → Extends outside.new.facts.now F
         → MatchResult result
-        (λ answer. answer_of F chain.now given.now first.now ≡ Is (Ok answer))
-        (λ stop. IfTold stop (IsUnanswered F name.now chain.now given.now first.now)) }
+        (λ answer. answer_of F line.now.chain line.now.given first.now ≡ Is (Ok answer))
+        (λ stop. IfTold stop
+        (IsUnanswered F line.now.request.now.calling.now.name line.now.chain line.now.given first.now)) }
 {
-    match answer_given(
-        alloc,
-        chain.specs.as_bytes(),
-        &chain.around,
-        chain.known.as_bytes(),
-        given.words.as_slice(),
-        &first.line,
-        outside,
-    ) {
+    let name = line.request.calling.name.as_bytes();
+    match answer_given(alloc, line, &first.line, outside) {
         Ok(answer) => Ok(answer),
         Err(ending) => Err(stop_after(alloc, name, &first.line, &ending, outside)),
     }
@@ -179,26 +167,22 @@ fn answer<S: System>(
 /// The text of the refusal of what they gave.
 fn driver_of_answers<S: System>(
     alloc: Global,
-    calling: &Calling,
-    chain: &Toolchain,
+    line: &GccLine<'_>,
     answer: Option<Answer>,
-    given: &Expanded,
     first: Driven,
     outside: &mut Outside<'_, S>,
 ) -> Result<Worker, Stop>
     ensures asks { Asked S.events outside.old outside.new }
     ensures drives { (F : Facts) → Extends outside.new.facts.now F
         → MatchResult result
-        (λ worker. IsAnswered F chain.now.specs given.now first answer worker)
-        (λ stop. IfTold stop (IsDenied F calling.now chain.now answer)) }
+        (λ worker. IsAnswered F line.now.chain.specs line.now.given first answer worker)
+        (λ stop. IfTold stop (IsDenied F line.now.request.now.calling.now line.now.chain answer)) }
 {
     match answer {
-        Some(Answer::Run(call)) => {
-            driver_of_call(alloc, calling, chain.specs.as_bytes(), call, given, outside)
-        }
+        Some(Answer::Run(call)) => driver_of_call(alloc, line, call, outside),
         Some(Answer::Refuse(refusals)) => {
-            let name = calling.name.as_bytes();
-            let known = chain.known.as_bytes();
+            let name = line.request.calling.name.as_bytes();
+            let known = line.chain.known.as_bytes();
             let text = refusals_text(alloc, name, known, refusals.as_slice())?;
             Err(Stop::Told(text))
         }
@@ -215,21 +199,19 @@ fn driver_of_answers<S: System>(
 #[tactic(auto, using(drv_system::proofs::AskedCalls::asked_further))]
 fn worker_after<S: System>(
     alloc: Global,
-    calling: &Calling,
-    chain: &Toolchain,
-    given: &Expanded,
+    line: &GccLine<'_>,
     first: Driven,
     outside: &mut Outside<'_, S>,
 ) -> Result<Worker, Stop>
     ensures asks { Asked S.events outside.old outside.new }
     ensures drives { (F : Facts) → Extends outside.new.facts.now F
         → MatchResult result
-        (λ worker. IsWorkerAfter F chain.now given.now first worker)
-        (λ stop. IfTold stop (IsUndrivenAfter F calling.now chain.now given.now first)) }
+        (λ worker. IsWorkerAfter F line.now.chain line.now.given first worker)
+        (λ stop. IfTold stop
+        (IsUndrivenAfter F line.now.request.now.calling.now line.now.chain line.now.given first)) }
 {
-    let name = calling.name.as_bytes();
-    let answer = answer(alloc, name, chain, given, &first, outside)?;
-    driver_of_answers(alloc, calling, chain, answer, given, first, outside)
+    let answer = answer(alloc, line, &first, outside)?;
+    driver_of_answers(alloc, line, answer, first, outside)
 }
 
 /// Who carries out a line, with the options that its spec files give it. It asks the system only
@@ -240,19 +222,17 @@ fn worker_after<S: System>(
 #[tactic(auto, using(drv_system::proofs::AskedCalls::asked_further))]
 pub(crate) fn worker_of<S: System>(
     alloc: Global,
-    calling: &Calling,
-    chain: &Toolchain,
+    line: &GccLine<'_>,
     call: Call,
-    given: &Expanded,
     outside: &mut Outside<'_, S>,
 ) -> Result<Worker, Stop>
     ensures asks { Asked S.events outside.old outside.new }
     ensures drives { (F : Facts) → Extends outside.new.facts.now F
-        → MatchResult result (λ worker. IsWorker F chain.now call given.now worker)
-        (λ stop. IfTold stop (Undriven F calling.now chain.now call given.now)) }
+        → MatchResult result (λ worker. IsWorker F line.now.chain call line.now.given worker)
+        (λ stop. IfTold stop (Undriven F line.now.request.now.calling.now line.now.chain call line.now.given)) }
 {
-    match driver_of_call(alloc, calling, chain.specs.as_bytes(), call, given, outside)? {
-        Worker::Driver(first) => worker_after(alloc, calling, chain, given, first, outside),
+    match driver_of_call(alloc, line, call, outside)? {
+        Worker::Driver(first) => worker_after(alloc, line, first, outside),
         Worker::Compiler(options) => Ok(Worker::Compiler(options)),
     }
 }

@@ -20,6 +20,7 @@ mod places;
 mod preparing;
 mod reading;
 mod refusing;
+mod request;
 mod running;
 mod saying;
 mod self_specs;

@@ -1,11 +1,10 @@
 //! What a call does, before it is done.
 
-ghost use Rattle.drv_compile.specs.Compiles.{Comes, Fails, IsPlanned, Performs, Refuses};
+ghost use Rattle.drv_compile.specs.Compiles.{Comes, IsPlanned, Refuses};
 ghost use Rattle.drv_compile.specs.Compiles.{handed_on, one_command, question, words_for};
 ghost use Rattle.drv_compile.specs.Inputs.{Noted, Overwrites};
-ghost use Rattle.drv_compile.specs.Code.Preparing.{IsFailure, IsOverwriting, IsPrepared};
-ghost use Rattle.drv_compile.specs.Code.Preparing.{IsQuestion, IsTaskDone, IsTaskRefused};
-ghost use Rattle.drv_compile.specs.Code.Preparing.{IsUnplanned};
+ghost use Rattle.drv_compile.specs.Code.Preparing.{IsDone, IsFailure, IsOverwriting, IsPrepared};
+ghost use Rattle.drv_compile.specs.Code.Preparing.{IsQuestion, IsUndone, IsUnplanned};
 ghost use Rattle.drv_compile.specs.Runs.{Works};
 ghost use Rattle.drv_compile.specs.Tasks.{IfTold};
 ghost use Rattle.drv_system.specs.Asking.{Extends};
@@ -13,17 +12,18 @@ ghost use Rattle.drv_system.specs.Code.Asked.{Asked};
 ghost use Rattle.drv_system.specs.Facts.{Facts};
 ghost use Rattle.std.specs.Prelude.{◌≡◌, IfOk, MatchResult, false};
 
-use crate::calling::{Calling, Front};
+use crate::calling::Front;
 use crate::deciding::decide;
 use crate::driving::{Driven, Worker, worker_of};
 use crate::expanding::line_words;
 use crate::host::Host;
 use crate::inputs::{objection, overwrites};
 use crate::refusing::stop_after;
+use crate::request::{GccLine, Request};
 use crate::running::{DriverLine, work_of_items};
 use crate::speaking::opening;
 use crate::stop::Stop;
-use crate::tasks::{Task, Toolchain, task_of};
+use crate::tasks::{Task, task_of};
 use crate::wording::{gone_text, handed_text, help_text, overwrite_text, version_text};
 use crate::wrapping::wrapper_of;
 use drv_args::Expanded;
@@ -151,25 +151,24 @@ fn refuse_overwriting<S: System, H: Host<S>>(
 #[tactic(auto, using(drv_system::proofs::AskedCalls::asked_further))]
 fn prepare_plan<S: System>(
     alloc: Global,
-    calling: &Calling,
-    chain: &Toolchain,
+    line: &GccLine<'_>,
     driven: Driven,
-    seed: u32,
     outside: &mut Outside<'_, S>,
 ) -> Result<Prepared, Stop>
     ensures asks { Asked S.events outside.old outside.new }
     ensures plans { (F : Facts) → Extends outside.new.facts.now F
         → MatchResult result
-        (λ prepared. IsPlanned F calling.now chain.now driven seed prepared)
-        (λ stop. IfTold stop (IsFailure F calling.now.name driven.line seed)) }
+        (λ prepared. IsPlanned F line.now.request.now.calling.now line.now.chain driven line.now.request.now.seed prepared)
+        (λ stop. IfTold stop (IsFailure F line.now.request.now.calling.now.name driven.line line.now.request.now.seed)) }
 {
+    let calling = line.request.calling;
     let name = calling.name.as_bytes();
-    let specs = chain.specs.as_bytes();
-    let hint = gone_text(alloc, name, specs, calling.machine.as_bytes())?;
+    let specs = line.chain.specs.as_bytes();
+    let hint = gone_text(alloc, calling, specs)?;
     let items = driven.line.items.as_slice();
     let wrapper = Word::from_bytes(alloc, wrapper_of(items))?;
     let said = opening(alloc, specs, items, driven.children.as_slice(), outside)?;
-    let work = work_or_stop(alloc, name, &driven.line, seed, outside)?;
+    let work = work_or_stop(alloc, name, &driven.line, line.request.seed, outside)?;
     Ok(Prepared {
         work,
         children: driven.children,
@@ -192,23 +191,18 @@ fn words_for<'w>(front: Front, args: &'w Listing<Word>, given: &'w Expanded) -> 
 
 /// What a call does for a line that the compiler carries out, since no row has the words for these
 /// options.
-fn handed_on(
-    alloc: Global,
-    calling: &Calling,
-    chain: &Toolchain,
-    options: &[u8],
-    args: &Listing<Word>,
-    given: &Expanded,
-) -> Result<Prepared, AllocError>
+fn handed_on(alloc: Global, line: &GccLine<'_>, options: &[u8]) -> Result<Prepared, AllocError>
     ensures hands { IfOk result (λ prepared. prepared
-        ≡ handed_on calling.now chain.now options.now args.now given.now) }
+        ≡ handed_on line.now.request.now.calling.now line.now.chain options.now line.now.request.now.args.now line.now.given) }
 {
+    let calling = line.request.calling;
     let name = calling.name.as_bytes();
-    let specs = chain.specs.as_bytes();
-    let hint = gone_text(alloc, name, specs, calling.machine.as_bytes())?;
+    let specs = line.chain.specs.as_bytes();
+    let hint = gone_text(alloc, calling, specs)?;
     let said = handed_text(alloc, name, specs, options)?;
-    let compiler = chain.around.compiler.clone()?;
-    let work = question(alloc, compiler, words_for(calling.front, args, given))?;
+    let compiler = line.chain.around.compiler.clone()?;
+    let words = words_for(calling.front, line.request.args, &line.given);
+    let work = question(alloc, compiler, words)?;
     Ok(Prepared {
         work,
         children: Listing::new(alloc),
@@ -226,24 +220,20 @@ fn handed_on(
 #[tactic(auto, using(drv_system::proofs::AskedCalls::asked_further))]
 fn prepared_plan<S: System>(
     alloc: Global,
-    calling: &Calling,
-    chain: &Toolchain,
+    line: &GccLine<'_>,
     call: Call,
-    args: &Listing<Word>,
-    given: &Expanded,
-    seed: u32,
     outside: &mut Outside<'_, S>,
 ) -> Result<Prepared, Stop>
     ensures asks { Asked S.events outside.old outside.new }
     ensures plans { (F : Facts) → Extends outside.new.facts.now F
         → MatchResult result
-        (λ prepared. IsPrepared F calling.now chain.now call args.now given.now seed prepared)
-        (λ stop. IfTold stop (IsUnplanned F calling.now chain.now call given.now seed)) }
+        (λ prepared. IsPrepared F line.now call prepared)
+        (λ stop. IfTold stop (IsUnplanned F line.now call)) }
 {
-    match worker_of(alloc, calling, chain, call, given, outside)? {
-        Worker::Driver(driven) => prepare_plan(alloc, calling, chain, driven, seed, outside),
+    match worker_of(alloc, line, call, outside)? {
+        Worker::Driver(driven) => prepare_plan(alloc, line, driven, outside),
         Worker::Compiler(options) => {
-            let prepared = handed_on(alloc, calling, chain, options.as_bytes(), args, given)?;
+            let prepared = handed_on(alloc, line, options.as_bytes())?;
             Ok(prepared)
         }
     }
@@ -256,12 +246,8 @@ fn prepared_plan<S: System>(
 #[tactic(auto, using(drv_system::proofs::AskedCalls::asked_further))]
 fn compilation<S: System, H: Host<S>>(
     alloc: Global,
-    calling: &Calling,
-    chain: &Toolchain,
+    line: &GccLine<'_>,
     call: Call,
-    args: &Listing<Word>,
-    given: &Expanded,
-    seed: u32,
     outside: &mut Outside<'_, S>,
     host: &mut H,
 ) -> Result<Prepared, Stop>
@@ -269,31 +255,31 @@ fn compilation<S: System, H: Host<S>>(
     ensures performs { Noted (H.notes host.old) (H.notes host.new)
         (λ events. (F : Facts) → Extends outside.new.facts.now F
         → MatchResult result
-        (λ prepared. Performs F calling.now chain.now call args.now given.now seed events prepared)
-        (λ stop. IfTold stop (Fails F calling.now chain.now call given.now seed events))) }
+        (λ prepared. IsDone F line.now call events prepared)
+        (λ stop. IfTold stop (IsUndone F line.now call events))) }
 {
-    let name = calling.name.as_bytes();
+    let name = line.request.calling.name.as_bytes();
     let text = objection(alloc, name, call.inputs.as_slice(), outside)?;
     if !text.is_empty() {
         return Err(Stop::Told(text));
     }
     refuse_overwriting(alloc, name, &call, host)?;
-    prepared_plan(alloc, calling, chain, call, args, given, seed, outside)
+    prepared_plan(alloc, line, call, outside)
 }
 
 /// What a call does whose line is a question to a compiler.
 fn prepare_question(
     alloc: Global,
-    calling: &Calling,
+    request: &Request<'_>,
     specs: &[u8],
     compiler: Word,
-    args: &Listing<Word>,
 ) -> Result<Prepared, AllocError>
-    ensures asks { IfOk result (λ prepared. IsQuestion calling.now specs.now compiler args.now
-        prepared) }
+    ensures asks { IfOk result (λ prepared. IsQuestion request.now.calling.now specs.now compiler
+        request.now.args.now prepared) }
 {
-    let name = calling.name.as_bytes();
-    let hint = gone_text(alloc, name, specs, calling.machine.as_bytes())?;
+    let name = request.calling.name.as_bytes();
+    let args = request.args;
+    let hint = gone_text(alloc, request.calling, specs)?;
     let said = help_text(alloc, name, compiler.as_bytes(), args.as_slice())?;
     let remark = version_text(alloc, name, compiler.as_bytes(), args.as_slice())?;
     let work = question(alloc, compiler, args)?;
@@ -307,51 +293,14 @@ fn prepare_question(
     })
 }
 
-/// What a call does for a task.
-///
-/// # Errors
-/// The text of its refusal.
-fn task_prepared<S: System, H: Host<S>>(
-    alloc: Global,
-    calling: &Calling,
-    task: Task,
-    args: &Listing<Word>,
-    given: &Expanded,
-    seed: u32,
-    outside: &mut Outside<'_, S>,
-    host: &mut H,
-) -> Result<Prepared, Stop>
-    ensures asks { Asked S.events outside.old outside.new }
-    ensures comes { Noted (H.notes host.old) (H.notes host.new)
-        (λ events. (F : Facts) → Extends outside.new.facts.now F
-        → MatchResult result
-        (λ prepared. IsTaskDone F calling.now args.now given.now seed task events prepared)
-        (λ stop. IfTold stop (IsTaskRefused F calling.now given.now seed task events))) }
-{
-    match task {
-        Task::Question(specs, compiler) => {
-            let prepared = prepare_question(alloc, calling, specs.as_bytes(), compiler, args)?;
-            Ok(prepared)
-        }
-        Task::Compilation(chain, call) => {
-            compilation(
-                alloc, calling, &chain, call, args, given, seed, outside, host,
-            )
-        }
-    }
-}
-
-/// What a call with these arguments does. It asks the system only where the table has no answer.
+/// What a call does, by what it is given. It asks the system only where the table has no answer.
 ///
 /// # Errors
 /// The text of its refusal.
 #[tactic(auto, using(drv_system::proofs::AskedCalls::asked_further))]
 pub(crate) fn prepare<S: System, H: Host<S>>(
     alloc: Global,
-    calling: &Calling,
-    own: &Option<Word>,
-    args: &Listing<Word>,
-    seed: u32,
+    request: &Request<'_>,
     outside: &mut Outside<'_, S>,
     host: &mut H,
 ) -> Result<Prepared, Stop>
@@ -359,11 +308,27 @@ pub(crate) fn prepare<S: System, H: Host<S>>(
     ensures comes { Noted (H.notes host.old) (H.notes host.new)
         (λ events. (F : Facts) → Extends outside.new.facts.now F
         → MatchResult result
-        (λ prepared. Comes F calling.now own.now args.now seed events prepared)
-        (λ stop. IfTold stop (Refuses F calling.now own.now args.now seed events))) }
+        (λ prepared. Comes F request.now.calling.now request.now.own.now request.now.args.now
+        request.now.seed events prepared)
+        (λ stop. IfTold stop (Refuses F request.now.calling.now request.now.own.now
+        request.now.args.now request.now.seed events))) }
 {
-    let words = line_words(alloc, calling, args, outside)?;
-    let decision = decide(alloc, own, words.words.as_slice(), outside)?;
+    let calling = request.calling;
+    let words = line_words(alloc, calling, request.args, outside)?;
+    let decision = decide(alloc, request.own, words.words.as_slice(), outside)?;
     let task = task_of(alloc, calling, decision)?;
-    task_prepared(alloc, calling, task, args, &words, seed, outside, host)
+    match task {
+        Task::Question(specs, compiler) => {
+            let prepared = prepare_question(alloc, request, specs.as_bytes(), compiler)?;
+            Ok(prepared)
+        }
+        Task::Compilation(chain, call) => {
+            let line = GccLine {
+                request,
+                given: words,
+                chain,
+            };
+            compilation(alloc, &line, call, outside, host)
+        }
+    }
 }

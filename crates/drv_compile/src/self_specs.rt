@@ -1,13 +1,13 @@
 //! What the spec files of a line give it.
 
-ghost use Rattle.drv_args.specs.Lines.{line_judged};
 ghost use Rattle.drv_cc.specs.SelfSpecs.{seen_items};
 ghost use Rattle.drv_cc.specs.declared.answer.Answer.TheVariants as answer;
 ghost use Rattle.drv_cc.specs.declared.refusal.Refusal.TheVariants as refusal;
 ghost use Rattle.drv_compile.specs.Reading.{specs_given};
+ghost use Rattle.drv_compile.specs.Runs.{line_given};
 ghost use Rattle.drv_compile.specs.SelfSpecs.{answer_after, answer_by, answer_given, of_groups};
 ghost use Rattle.drv_compile.specs.SelfSpecs.{of_job, of_outcome, self_worked};
-ghost use Rattle.drv_compile.specs.SelfSpecs.{worked_along, worked_by, worked_for};
+ghost use Rattle.drv_compile.specs.SelfSpecs.{worked_by, worked_for, worked_of};
 ghost use Rattle.drv_compile.specs.declared.self_specs.Worked.TheVariants as worked;
 ghost use Rattle.drv_machine.specs.Outcome.{outcome};
 ghost use Rattle.drv_plan.specs.Denoted.{of_text};
@@ -25,9 +25,10 @@ ghost use Rattle.std.specs.Prelude.{◌≡◌, ◌∷◌, [], IfOk, Ok, Some, co
 
 use crate::finding::known_names;
 use crate::reading::{items_names, specs_given};
+use crate::request::GccLine;
 use crate::running::{DriverLine, line_given, specs_of};
-use drv_args::{Item, Line, Settings, line_of};
-use drv_cc::{Answer, Given, Refusal, Surroundings, front_with, seen_items};
+use drv_args::{Item, Line, Settings};
+use drv_cc::{Answer, Given, Refusal, front_with, seen_items};
 use drv_machine::{Context, Outcome, run};
 use drv_plan::PlanFault;
 use drv_run::Ending;
@@ -47,6 +48,15 @@ pub(crate) enum Worked {
     More,
     /// Words, and which switches are left.
     Gives(Given),
+}
+
+/// The specs of a line of the driver.
+#[derive(Drop)]
+struct OwnSpecs<'a> {
+    /// Its settings.
+    settings: &'a Settings,
+    /// What its spec files make.
+    set: &'a SpecSet,
 }
 
 /// What two groups give, if each is one command.
@@ -115,30 +125,11 @@ fn worked_in<S: System>(
     Ok(of_job(alloc, &done.job)?)
 }
 
-/// What the text gives a line whose `-B` folders are these prefixes.
-fn worked_along<S: System>(
-    alloc: Global,
-    set: &SpecSet,
-    text: &SpecTree,
-    line: &Line,
-    prefixes: &Prefixes,
-    outside: &mut Outside<'_, S>,
-) -> Result<Worked, Ending>
-    ensures asks { Asked S.events outside.old outside.new }
-    ensures works { (F : Facts) → Extends outside.new.facts.now F
-        → GivesKnown ending.OutOfMemory (λ made. made) result
-        (worked_along F set.now text.now line.now prefixes.now) }
-{
-    let context = Context::new(alloc, line, set, prefixes, 0)?;
-    worked_in(alloc, text, &context, outside)
-}
-
 /// What the text gives a line.
 #[tactic(auto, using(drv_system::proofs::AskedCalls::asked_further))]
 fn worked_line<S: System>(
     alloc: Global,
-    settings: &Settings,
-    set: &SpecSet,
+    own: &OwnSpecs<'_>,
     text: &SpecTree,
     line: &Line,
     outside: &mut Outside<'_, S>,
@@ -146,69 +137,71 @@ fn worked_line<S: System>(
     ensures asks { Asked S.events outside.old outside.new }
     ensures works { (F : Facts) → Extends outside.new.facts.now F
         → GivesKnown ending.OutOfMemory (λ made. made) result
-        (worked_for F settings.now set.now text.now (Ok line.now)) }
+        (worked_for F own.now.settings.now own.now.set.now text.now (Ok line.now)) }
 {
-    let folders = settings.prefixes.as_slice();
+    let folders = own.settings.prefixes.as_slice();
     let prefixes = Prefixes::new(alloc, folders, outside.sys, outside.facts)?;
-    worked_along(alloc, set, text, line, &prefixes, outside)
+    let context = Context::new(alloc, line, own.set, &prefixes, 0)?;
+    worked_in(alloc, text, &context, outside)
 }
 
-/// What the text gives a line of these items.
+/// What the text gives a line whose switches these are.
 fn worked_for<S: System>(
     alloc: Global,
-    settings: &Settings,
-    set: &SpecSet,
+    own: &OwnSpecs<'_>,
     text: &SpecTree,
-    from_file: bool,
-    items: &[Item],
+    seen: &DriverLine,
     outside: &mut Outside<'_, S>,
 ) -> Result<Worked, Ending>
     ensures asks { Asked S.events outside.old outside.new }
     ensures works { (F : Facts) → Extends outside.new.facts.now F
         → GivesKnown ending.OutOfMemory (λ made. made) result
-        (worked_for F settings.now set.now text.now (line_judged from_file items.now)) }
+        (worked_for F own.now.settings.now own.now.set.now text.now (line_given seen.now)) }
 {
-    let line = line_of(alloc, from_file, items)?;
-    worked_line(alloc, settings, set, text, &line, outside)
+    let line = line_given(alloc, seen)?;
+    worked_line(alloc, own, text, &line, outside)
 }
 
-/// What specs give a line of these items.
+/// What specs give a line whose switches these are.
 fn worked_by<S: System>(
     alloc: Global,
-    settings: &Settings,
-    set: &SpecSet,
-    from_file: bool,
-    items: &[Item],
+    own: &OwnSpecs<'_>,
+    seen: &DriverLine,
     outside: &mut Outside<'_, S>,
 ) -> Result<Worked, Ending>
     ensures asks { Asked S.events outside.old outside.new }
     ensures works { (F : Facts) → Extends outside.new.facts.now F
         → GivesKnown ending.OutOfMemory (λ made. made) result
-        (worked_by F settings.now set.now (line_judged from_file items.now)
-        (text_of set.now (codes "gdrv_self"))) }
+        (worked_by F own.now.settings.now own.now.set.now (line_given seen.now)
+        (text_of own.now.set.now (codes "gdrv_self"))) }
 {
-    match set.tree(b"gdrv_self") {
-        Some(text) => worked_for(alloc, settings, set, text, from_file, items, outside),
+    match own.set.tree(b"gdrv_self") {
+        Some(text) => worked_for(alloc, own, text, seen, outside),
         None => Ok(Worked::Nothing),
     }
 }
 
-/// What the spec files of a line of the driver give a line of these items.
+/// What the spec files of a line of the driver give a line whose switches these are.
 #[tactic(auto, using(drv_system::proofs::AskedCalls::asked_further))]
 fn self_worked<S: System>(
     alloc: Global,
     first: &DriverLine,
-    items: &[Item],
+    seen: &DriverLine,
     outside: &mut Outside<'_, S>,
 ) -> Result<Worked, Ending>
     ensures asks { Asked S.events outside.old outside.new }
     ensures works { (F : Facts) → Extends outside.new.facts.now F
         → GivesKnown ending.OutOfMemory (λ made. made) result
-        (self_worked F first.now items.now) }
+        (worked_of F (line_given seen.now) (line_given first.now)) }
 {
-    let own = line_given(alloc, first)?;
-    let set = specs_of(alloc, &own.settings, outside)?;
-    worked_by(alloc, &own.settings, &set, first.from_file, items, outside)
+    let line = line_given(alloc, first)?;
+    let settings = &line.settings;
+    let set = specs_of(alloc, settings, outside)?;
+    let own = OwnSpecs {
+        settings,
+        set: &set,
+    };
+    worked_by(alloc, &own, seen, outside)
 }
 
 /// The refusal of a text that gives more than options.
@@ -234,45 +227,42 @@ fn options_or<'a>(options: &'a Option<Word>, known: &'a [u8]) -> &'a [u8]
 #[tactic(auto, using(drv_system::proofs::AskedCalls::asked_further))]
 fn answer_with<S: System>(
     alloc: Global,
-    specs: &[u8],
-    around: &Surroundings,
-    known: &[u8],
-    args: &[Word],
+    line: &GccLine<'_>,
     first: &DriverLine,
     given: &Given,
     outside: &mut Outside<'_, S>,
 ) -> Result<Answer, AllocError>
     ensures asks { Asked S.events outside.old outside.new }
     ensures answer { (F : Facts) → Extends outside.new.facts.now F → IfOk result (λ made.
-        answer_by F specs.now around.now known.now args.now first.now (worked.Gives given.now)
-        ≡ Is (Ok (Some made))) }
+        answer_by F line.now.chain.specs line.now.chain.around line.now.chain.known
+        line.now.given.words first.now (worked.Gives given.now) ≡ Is (Ok (Some made))) }
 {
-    let options = known_names(alloc, specs, outside)?;
+    let chain = &line.chain;
+    let options = known_names(alloc, chain.specs.as_bytes(), outside)?;
     let named = items_names(alloc, first.items.as_slice(), outside)?;
-    let names = options_or(&options, known);
-    front_with(alloc, names, named.as_slice(), around, args, given)
+    let names = options_or(&options, chain.known.as_bytes());
+    let args = line.given.words.as_slice();
+    front_with(alloc, names, named.as_slice(), &chain.around, args, given)
 }
 
 /// The answer to a line by what its spec files gave; none where it stays as it is.
 fn answer_by<S: System>(
     alloc: Global,
-    specs: &[u8],
-    around: &Surroundings,
-    known: &[u8],
-    args: &[Word],
+    line: &GccLine<'_>,
     first: &DriverLine,
     worked: Worked,
     outside: &mut Outside<'_, S>,
 ) -> Result<Option<Answer>, AllocError>
     ensures asks { Asked S.events outside.old outside.new }
     ensures answer { (F : Facts) → Extends outside.new.facts.now F → IfOk result (λ made.
-        answer_by F specs.now around.now known.now args.now first.now worked ≡ Is (Ok made)) }
+        answer_by F line.now.chain.specs line.now.chain.around line.now.chain.known
+        line.now.given.words first.now worked ≡ Is (Ok made)) }
 {
     match worked {
         Worked::Nothing => Ok(None),
         Worked::More => Ok(Some(refused_more(alloc)?)),
         Worked::Gives(given) => {
-            let answer = answer_with(alloc, specs, around, known, args, first, &given, outside)?;
+            let answer = answer_with(alloc, line, first, &given, outside)?;
             Ok(Some(answer))
         }
     }
@@ -282,22 +272,25 @@ fn answer_by<S: System>(
 #[tactic(auto, using(drv_system::proofs::AskedCalls::asked_further))]
 fn answer_of_specs<S: System>(
     alloc: Global,
-    specs: &[u8],
-    around: &Surroundings,
-    known: &[u8],
-    args: &[Word],
+    line: &GccLine<'_>,
     first: &DriverLine,
     outside: &mut Outside<'_, S>,
 ) -> Result<Option<Answer>, Ending>
     ensures asks { Asked S.events outside.old outside.new }
     ensures answer { (F : Facts) → Extends outside.new.facts.now F
         → GivesKnown ending.OutOfMemory (λ made. made) result
-        (answer_after F specs.now around.now known.now args.now first.now
-        (self_worked F first.now (seen_items known.now args.now))) }
+        (answer_after F line.now.chain.specs line.now.chain.around line.now.chain.known
+        line.now.given.words first.now
+        (self_worked F first.now (seen_items line.now.chain.known line.now.given.words))) }
 {
-    let items = seen_items(alloc, known, args)?;
-    let worked = self_worked(alloc, first, items.as_slice(), outside)?;
-    let answer = answer_by(alloc, specs, around, known, args, first, worked, outside)?;
+    let known = line.chain.known.as_bytes();
+    let items = seen_items(alloc, known, line.given.words.as_slice())?;
+    let seen = DriverLine {
+        items,
+        from_file: first.from_file,
+    };
+    let worked = self_worked(alloc, first, &seen, outside)?;
+    let answer = answer_by(alloc, line, first, worked, outside)?;
     Ok(answer)
 }
 
@@ -312,9 +305,8 @@ fn count_specs(alloc: Global, items: &[Item]) -> Result<usize, AllocError>
 /// is (GCC, "gcc.cc", set_up_specs, do_self_spec). The text `self_spec` is run once, after the last
 /// spec file is loaded, with the switches of the line and no input.
 ///
-/// `first` is the driver's line for it, after the spec file of the call; `args` are the words of
-/// the line, and `known` the names of options that were taken to read it. It asks the system
-/// only where the table has no answer.
+/// `first` is the driver's line for it, after the spec file of the call. It asks the system only
+/// where the table has no answer.
 ///
 /// # Errors
 /// How the call ends: for lack of memory, or as by the first refusal of the line, of a spec file
@@ -322,20 +314,18 @@ fn count_specs(alloc: Global, items: &[Item]) -> Result<usize, AllocError>
 #[tactic(auto, using(drv_system::proofs::AskedCalls::asked_none))]
 pub(crate) fn answer_given<S: System>(
     alloc: Global,
-    specs: &[u8],
-    around: &Surroundings,
-    known: &[u8],
-    args: &[Word],
+    line: &GccLine<'_>,
     first: &DriverLine,
     outside: &mut Outside<'_, S>,
 ) -> Result<Option<Answer>, Ending>
     ensures asks { Asked S.events outside.old outside.new }
     ensures answer { (F : Facts) → Extends outside.new.facts.now F
         → GivesKnown ending.OutOfMemory (λ made. made) result
-        (answer_given F specs.now around.now known.now args.now first.now) }
+        (answer_given F line.now.chain.specs line.now.chain.around line.now.chain.known
+        line.now.given.words first.now) }
 {
     if count_specs(alloc, first.items.as_slice())? <= 1 {
         return Ok(None);
     }
-    answer_of_specs(alloc, specs, around, known, args, first, outside)
+    answer_of_specs(alloc, line, first, outside)
 }

@@ -38,10 +38,9 @@ pub(crate) enum Task {
 fn without_specs(alloc: Global, calling: &Calling, path: &Option<Word>) -> Result<Word, AllocError>
     ensures { IfOk result (λ text. Declines calling.now (NoSpecs path.now) text) }
 {
-    let name = calling.name.as_bytes();
     match path {
-        Some(path) => no_specs_text(alloc, name, path.as_bytes(), calling.machine.as_bytes()),
-        None => no_place_text(alloc, name),
+        Some(path) => no_specs_text(alloc, calling, path.as_bytes()),
+        None => no_place_text(alloc, calling.name.as_bytes()),
     }
 }
 
@@ -83,19 +82,17 @@ pub(crate) fn task_of(alloc: Global, calling: &Calling, decision: Decision) -> R
     ensures { MatchResult result (λ task. Leads decision task)
         (λ stop. IfTold stop (Declines calling.now decision)) }
 {
-    let name = calling.name.as_bytes();
-    let machine = calling.machine.as_bytes();
     match decision {
         Decision::NoSpecs(path) => {
             let text = without_specs(alloc, calling, &path)?;
             Err(Stop::Told(text))
         }
         Decision::NoCompiler(specs) => {
-            let text = no_compiler_text(alloc, name, specs.as_bytes(), machine)?;
+            let text = no_compiler_text(alloc, calling, specs.as_bytes())?;
             Err(Stop::Told(text))
         }
         Decision::Damaged { specs, path } => {
-            let text = damaged_text(alloc, name, path.as_bytes(), specs.as_bytes(), machine)?;
+            let text = damaged_text(alloc, calling, path.as_bytes(), specs.as_bytes())?;
             Err(Stop::Told(text))
         }
         Decision::Read {

@@ -12,7 +12,7 @@ ghost use Rattle.drv_compile.specs.Words.{told_refusal};
 ghost use Rattle.std.specs.Option.{option_copied};
 ghost use Rattle.std.specs.Prelude.{◌≡◌, ◌++◌, [], IfOk, List, OnOk, if◌then◌else◌, ℕ};
 
-use crate::calling::before_ending;
+use crate::calling::{Calling, before_ending};
 use crate::places::companion;
 use drv_cc::Refusal;
 use drv_plan::PlanFault;
@@ -302,21 +302,20 @@ fn add_writing(text: &mut Word, specs: &[u8], machine: &[u8]) -> Result<(), Allo
 
 /// The text about a file that `gdrv-write-specs` writes, and that is not there or is not what it
 /// writes.
-pub(crate) fn unwritten_text(
+fn unwritten_text(
     alloc: Global,
-    name: &[u8],
+    calling: &Calling,
     before: &[u8],
     path: &[u8],
     specs: &[u8],
-    machine: &[u8],
 ) -> Result<Word, AllocError>
-    ensures { IfOk result (λ line. line ≡ unwritten_text name.now before.now path.now specs.now
-        machine.now) }
+    ensures { IfOk result (λ line. line ≡ unwritten_text calling.now.name before.now path.now
+        specs.now calling.now.machine) }
 {
-    let mut line = Word::from_bytes(alloc, name)?;
+    let mut line = Word::from_bytes(alloc, calling.name.as_bytes())?;
     line.extend_from_slice(b": error: ")?;
     add(&mut line, before, path, b"'; ")?;
-    add_writing(&mut line, specs, machine)?;
+    add_writing(&mut line, specs, calling.machine.as_bytes())?;
     line.push(b'\n')?;
     Ok(line)
 }
@@ -332,16 +331,13 @@ fn add_gone(text: &mut Word, name: &[u8], specs: &[u8], machine: &[u8]) -> Resul
 }
 
 /// The text after a run that did not find a program.
-pub(crate) fn gone_text(
-    alloc: Global,
-    name: &[u8],
-    specs: &[u8],
-    machine: &[u8],
-) -> Result<Word, AllocError>
-    ensures { IfOk result (λ text. text ≡ gone_text name.now specs.now machine.now) }
+pub(crate) fn gone_text(alloc: Global, calling: &Calling, specs: &[u8]) -> Result<Word, AllocError>
+    ensures { IfOk result (λ text. text
+        ≡ gone_text calling.now.name specs.now calling.now.machine) }
 {
     let mut text = Word::empty(alloc);
-    add_gone(&mut text, name, specs, machine)?;
+    let name = calling.name.as_bytes();
+    add_gone(&mut text, name, specs, calling.machine.as_bytes())?;
     Ok(text)
 }
 
@@ -430,53 +426,45 @@ pub(crate) fn no_place_text(alloc: Global, name: &[u8]) -> Result<Word, AllocErr
 /// The text about a spec file that isn't where it should be.
 pub(crate) fn no_specs_text(
     alloc: Global,
-    name: &[u8],
+    calling: &Calling,
     path: &[u8],
-    machine: &[u8],
 ) -> Result<Word, AllocError>
-    ensures { IfOk result (λ text. text ≡ no_specs_text name.now path.now machine.now) }
+    ensures { IfOk result (λ text. text
+        ≡ no_specs_text calling.now.name path.now calling.now.machine) }
 {
-    unwritten_text(alloc, name, b"there is no spec file '", path, path, machine)
+    unwritten_text(alloc, calling, b"there is no spec file '", path, path)
 }
 
 /// The text about a spec file beside which no compiler is named.
 pub(crate) fn no_compiler_text(
     alloc: Global,
-    name: &[u8],
+    calling: &Calling,
     specs: &[u8],
-    machine: &[u8],
 ) -> Result<Word, AllocError>
-    ensures { IfOk result (λ text. text ≡ no_compiler_text name.now specs.now machine.now) }
+    ensures { IfOk result (λ text. text
+        ≡ no_compiler_text calling.now.name specs.now calling.now.machine) }
 {
     let path = companion(alloc, specs, b".gcc")?;
     unwritten_text(
         alloc,
-        name,
+        calling,
         b"no compiler is named by '",
         path.as_bytes(),
         specs,
-        machine,
     )
 }
 
 /// The text about a file beside a spec file that is missing or not whole.
 pub(crate) fn damaged_text(
     alloc: Global,
-    name: &[u8],
+    calling: &Calling,
     path: &[u8],
     specs: &[u8],
-    machine: &[u8],
 ) -> Result<Word, AllocError>
-    ensures { IfOk result (λ text. text ≡ damaged_text name.now path.now specs.now machine.now) }
+    ensures { IfOk result (λ text. text
+        ≡ damaged_text calling.now.name path.now specs.now calling.now.machine) }
 {
-    unwritten_text(
-        alloc,
-        name,
-        b"missing or damaged file '",
-        path,
-        specs,
-        machine,
-    )
+    unwritten_text(alloc, calling, b"missing or damaged file '", path, specs)
 }
 
 /// Adds the command that asks the compiler for the words of options.

@@ -1,4 +1,3 @@
-use Rattle.drv_args.specs.declared.line.Expanded.{Expanded}
 use Rattle.drv_cc.specs.declared.answer.Call.{Call}
 use Rattle.drv_compile.specs.Compiles.{Fails, IsPlanned, Performs, handed_on, question}
 use Rattle.drv_compile.specs.Driven.{IsWorker, Undriven}
@@ -11,10 +10,8 @@ use Rattle.drv_compile.specs.declared.driving.Driven.{Driven}
 use Rattle.drv_compile.specs.declared.driving.Worker.TheVariants.{Compiler, Driver}
 use Rattle.drv_compile.specs.declared.host.HostEvent.{HostEvent}
 use Rattle.drv_compile.specs.declared.preparing.Prepared.{Prepared}
+use Rattle.drv_compile.specs.declared.request.GccLine.{GccLine}
 use Rattle.drv_compile.specs.declared.running.DriverLine.{DriverLine}
-use Rattle.drv_compile.specs.declared.tasks.Task.TheVariants.{Compilation, Question}
-use Rattle.drv_compile.specs.declared.tasks.Task.{Task}
-use Rattle.drv_compile.specs.declared.tasks.Toolchain.{Toolchain}
 use Rattle.drv_run.specs.declared.ending.Ending.TheVariants.{Refused}
 use Rattle.drv_run.specs.declared.ending.Refusal.{Refusal}
 use Rattle.drv_system.specs.Facts.{Facts}
@@ -32,16 +29,26 @@ IsOverwriting name call events text =
     (output : List ℕ) × (call.output ≡ Some output) × Overwrites call.inputs call.output events true × (text ≡ overwritten_text name output)
 
 -- what is done for a line, by who carries it out
-abbrev pub IsPrepared : Facts → Calling → Toolchain → Call → List (List ℕ) → Expanded → ℕ → Prepared → Type 0
-IsPrepared F calling chain call args given seed prepared =
-    ((driven : Driven) × IsWorker F chain call given (Driver driven) × IsPlanned F calling chain driven seed prepared)
-    ⊎ ((options : List ℕ) × IsWorker F chain call given (Compiler options) × (prepared ≡ handed_on calling chain options args given))
+abbrev pub IsPrepared : Facts → GccLine → Call → Prepared → Type 0
+IsPrepared F line call prepared =
+    ((driven : Driven) × IsWorker F line.chain call line.given (Driver driven)
+    × IsPlanned F line.request.now.calling.now line.chain driven line.request.now.seed prepared)
+    ⊎ ((options : List ℕ) × IsWorker F line.chain call line.given (Compiler options)
+    × (prepared ≡ handed_on line.request.now.calling.now line.chain options line.request.now.args.now line.given))
 
 -- why nothing is done for a line: no driver takes it, or the driver refuses its items
-abbrev pub IsUnplanned : Facts → Calling → Toolchain → Call → Expanded → ℕ → List ℕ → Type 0
-IsUnplanned F calling chain call given seed text =
-    Undriven F calling chain call given text
-    ⊎ ((driven : Driven) × IsWorker F chain call given (Driver driven) × IsFailure F calling.name driven.line seed text)
+abbrev pub IsUnplanned : Facts → GccLine → Call → List ℕ → Type 0
+IsUnplanned F line call text =
+    Undriven F line.request.now.calling.now line.chain call line.given text
+    ⊎ ((driven : Driven) × IsWorker F line.chain call line.given (Driver driven) × IsFailure F line.request.now.calling.now.name driven.line line.request.now.seed text)
+
+-- a line that is carried out, as `Performs` says
+abbrev pub IsDone : Facts → GccLine → Call → List HostEvent → Prepared → Type 0
+IsDone F line call events prepared = Performs F line.request.now.calling.now line.chain call line.request.now.args.now line.given line.request.now.seed events prepared
+
+-- why it is refused, as `Fails` says
+abbrev pub IsUndone : Facts → GccLine → Call → List HostEvent → List ℕ → Type 0
+IsUndone F line call events text = Fails F line.request.now.calling.now line.chain call line.given line.request.now.seed events text
 
 -- what is done for a question
 abbrev pub IsQuestion : Calling → List ℕ → List ℕ → List (List ℕ) → Prepared → Type 0
@@ -54,15 +61,3 @@ IsQuestion calling specs compiler args prepared =
       hint = gone_text calling.name specs calling.machine;
       remark = version_text calling.name compiler args;
     }
-
--- what is done for a task
-abbrev pub IsTaskDone : Facts → Calling → List (List ℕ) → Expanded → ℕ → Task → List HostEvent → Prepared → Type 0
-IsTaskDone F calling args given seed (Question specs compiler) events prepared =
-    (events ≡ []) × IsQuestion calling specs compiler args prepared
-IsTaskDone F calling args given seed (Compilation chain call) events prepared =
-    Performs F calling chain call args given seed events prepared
-
--- why a task is refused: a question never is, and a line as `Fails` says
-abbrev pub IsTaskRefused : Facts → Calling → Expanded → ℕ → Task → List HostEvent → List ℕ → Type 0
-IsTaskRefused F calling given seed (Question specs compiler) events text = ⊥
-IsTaskRefused F calling given seed (Compilation chain call) events text = Fails F calling chain call given seed events text

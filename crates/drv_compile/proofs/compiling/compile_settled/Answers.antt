@@ -8,11 +8,13 @@ use Rattle.std.proofs.Common.{rules}
 pub returns-in-Ok-clause-compiled : goal.returns-in-Ok-clause-compiled
 returns-in-Ok-clause-compiled g c journal notes before =
     let asks = c.prepare.ensures.asks.asks in
-    compiled_done c.args.calling.now c.args.own.now c.args.args.now c.args.seed c.in-Ok.prepared _ c.carried_out.result c.as_bytes.ensures
+    compiled_done c.args.request.now.calling.now c.args.request.now.own.now c.args.request.now.args.now c.args.request.now.seed
+    c.in-Ok.prepared _ c.carried_out.result c.as_bytes-name.ensures
     (going_further before (search rules)) c.in-Ok.ensures.comes c.carried_out.ensures.carries
 
 pub returns-in-Err-clause-compiled : goal.returns-in-Err-clause-compiled
 returns-in-Err-clause-compiled g c journal notes before =
     let asks = c.prepare.ensures.asks.asks in
-    compiled_stopped c.args.calling.now c.args.own.now c.args.args.now c.args.seed c.in-Err.stop c.say_stop.result
+    compiled_stopped c.args.request.now.calling.now c.args.request.now.own.now c.args.request.now.args.now c.args.request.now.seed
+    c.in-Err.stop c.say_stop.result
     (going_further before (search rules)) c.in-Err.ensures.comes c.say_stop.ensures.tells

@@ -21,8 +21,8 @@ returns-in_ok-worker-in-Whole-clause-asks g c = asked_further c.written_beside.e
 
 pub returns-in_ok-worker-in-Whole-clause-calls : goal.returns-in_ok-worker-in-Whole-clause-calls
 returns-in_ok-worker-in-Whole-clause-calls g c F e =
-    called_whole F c.args.specs.now c.args.call c.args.given.now _ c.in-Whole.path c.in_ok-rows.rows (option_copied c.slice_of.result)
-    c.in_ok-worker-in-Whole.worker c.as_slice.ensures
+    called_whole F c.args.line.now c.args.call _ _ c.in-Whole.path c.in_ok-rows.rows (option_copied c.slice_of.result)
+    c.in_ok-worker-in-Whole.worker c.as_bytes-specs.ensures c.as_slice.ensures
     (c.in_ok-texts.ensures.texts F e ∙ ap Is c.in-Whole.is)
     (c.in_ok-rows.ensures.lines F (extends_before c.texts_asked.ensures.asks e)) c.slice_of.ensures c.in_ok-worker-in-Whole.ensures
 
@@ -31,7 +31,6 @@ returns-in_ok-text-in-Damaged-clause-asks g c = asked_further c.written_beside.e
 
 pub returns-in_ok-text-in-Damaged-clause-calls : goal.returns-in_ok-text-in-Damaged-clause-calls
 returns-in_ok-text-in-Damaged-clause-calls g c F e =
-    called_damaged F c.args.calling.now c.args.specs.now c.args.call _ c.in-Damaged.path _ _ _ c.in_ok-text-in-Damaged.text
-    c.as_slice.ensures
-    (c.in_ok-texts.ensures.texts F e ∙ ap Is c.in-Damaged.is) c.as_bytes-name.ensures c.as_bytes.ensures c.as_bytes-machine.ensures
-    c.in_ok-text-in-Damaged.ensures
+    called_damaged F c.args.line.now c.args.call _ _ c.in-Damaged.path _ c.in_ok-text-in-Damaged.text
+    c.as_bytes-specs.ensures c.as_slice.ensures
+    (c.in_ok-texts.ensures.texts F e ∙ ap Is c.in-Damaged.is) c.as_bytes.ensures c.in_ok-text-in-Damaged.ensures

@@ -7,7 +7,7 @@ use Rattle.drv_system.proofs.AskedCalls.{asked_further, extends_before}
 
 pub returns-in_err-answer-clause-drives : goal.returns-in_err-answer-clause-drives
 returns-in_err-answer-clause-drives g c F e =
-    undriven_answer F c.args.calling.now c.args.chain.now c.args.given.now _ c.args.first _ c.from_residual.result c.as_bytes-name.ensures
+    undriven_answer F c.args.line.now c.args.first _ c.from_residual.result
     c.from_residual.ensures.1 (c.in_err-answer.ensures.answers F e)
 
 pub returns-clause-asks : goal.returns-clause-asks
@@ -15,5 +15,5 @@ returns-clause-asks g c = asked_further c.answer.ensures.asks c.driver_of_answer
 
 pub returns-clause-drives : goal.returns-clause-drives
 returns-clause-drives g c F e =
-    worker_answered F c.args.calling.now c.args.chain.now c.args.given.now c.args.first c.in_ok-answer.answer c.driver_of_answers.result
+    worker_answered F c.args.line.now c.args.first c.in_ok-answer.answer c.driver_of_answers.result
     (c.in_ok-answer.ensures.answers F (extends_before c.driver_of_answers.ensures.asks e)) (c.driver_of_answers.ensures.drives F e)

@@ -6,7 +6,7 @@ use Rattle.drv_system.proofs.AskedCalls.{asked_further, extends_before}
 
 pub returns-in_err-first-clause-drives : goal.returns-in_err-first-clause-drives
 returns-in_err-first-clause-drives g c F e =
-    undriven_texts F c.args.calling.now c.args.chain.now c.args.call c.args.given.now _ _ c.from_residual.result c.as_bytes.ensures
+    undriven_texts F c.args.line.now c.args.call _ c.from_residual.result
     c.from_residual.ensures.1 (c.in_err-first.ensures.calls F e)
 
 pub returns-in-Driver-clause-asks : goal.returns-in-Driver-clause-asks
@@ -14,11 +14,11 @@ returns-in-Driver-clause-asks g c = asked_further c.driver_of_call.ensures.asks 
 
 pub returns-in-Driver-clause-drives : goal.returns-in-Driver-clause-drives
 returns-in-Driver-clause-drives g c F e =
-    worker_later F c.args.calling.now c.args.chain.now c.args.call c.args.given.now _ _ c.in-Driver.first c.worker_after.result
-    c.as_bytes.ensures (c.in_ok-first.ensures.calls F (extends_before c.worker_after.ensures.asks e)) c.in-Driver.is
+    worker_later F c.args.line.now c.args.call _ c.in-Driver.first c.worker_after.result
+    (c.in_ok-first.ensures.calls F (extends_before c.worker_after.ensures.asks e)) c.in-Driver.is
     (c.worker_after.ensures.drives F e)
 
 pub returns-in-Compiler-clause-drives : goal.returns-in-Compiler-clause-drives
 returns-in-Compiler-clause-drives g c F e =
-    worker_at_once F c.args.chain.now c.args.call c.args.given.now _ _ c.in-Compiler.options c.as_bytes.ensures
+    worker_at_once F c.args.line.now c.args.call _ c.in-Compiler.options
     (c.in_ok-first.ensures.calls F e) c.in-Compiler.is

@@ -11,23 +11,23 @@ returns-in_err-text-clause-performs g c = none_noted _ _ (λ F e. memory_stops c
 pub returns-then-not-is_empty-clause-performs : goal.returns-then-not-is_empty-clause-performs
 returns-then-not-is_empty-clause-performs g c =
     none_noted _ _ (λ F e.
-    objected_as F c.args.calling.now c.args.chain.now c.args.call c.args.given.now c.args.seed _ c.in_ok-text.text _ c.is_empty.result
+    objected_as F c.args.line.now c.args.call _ c.in_ok-text.text _ c.is_empty.result
     c.as_bytes-name.ensures c.as_slice.ensures
     (c.in_ok-text.ensures.text F e) c.is_empty.ensures c.if-not-is_empty.true)
 
 pub returns-in_err-refuse_overwriting-clause-performs : goal.returns-in_err-refuse_overwriting-clause-performs
 returns-in_err-refuse_overwriting-clause-performs g c =
-    overwriting_fails c.args.calling.now c.args.chain.now _ c.args.call c.args.args.now c.args.given.now c.args.seed _ _ _
+    overwriting_fails c.args.line.now _ c.args.call _ _ _
     c.from_residual-in_err-refuse_overwriting.result _ c.as_bytes-name.ensures
     c.from_residual-in_err-refuse_overwriting.ensures.1
-    (λ F e. free_as F c.args.calling.now c.args.call _ c.in_ok-text.text _ c.is_empty.result c.as_bytes-name.ensures c.as_slice.ensures
+    (λ F e. free_as F c.args.line.now c.args.call _ c.in_ok-text.text _ c.is_empty.result c.as_bytes-name.ensures c.as_slice.ensures
     (c.in_ok-text.ensures.text F e) c.is_empty.ensures
     c.if-not-is_empty.false)
     c.in_err-refuse_overwriting.ensures
 
 pub returns-clause-performs : goal.returns-clause-performs
 returns-clause-performs g c =
-    performs_noted c.args.calling.now c.args.chain.now c.args.call c.args.args.now c.args.given.now c.args.seed _ _ c.prepared_plan.result _
-    (λ F e. free_as F c.args.calling.now c.args.call _ c.in_ok-text.text _ c.is_empty.result c.as_bytes-name.ensures c.as_slice.ensures
+    performs_noted c.args.line.now c.args.call _ _ c.prepared_plan.result _
+    (λ F e. free_as F c.args.line.now c.args.call _ c.in_ok-text.text _ c.is_empty.result c.as_bytes-name.ensures c.as_slice.ensures
     (c.in_ok-text.ensures.text F (extends_before c.prepared_plan.ensures.asks e)) c.is_empty.ensures c.if-not-is_empty.false)
     c.in_ok-refuse_overwriting.ensures c.prepared_plan.ensures.plans

@@ -6,7 +6,7 @@ use Rattle.drv_system.proofs.AskedCalls.{asked_further, extends_before}
 
 pub returns-in_err-driven-clause-plans : goal.returns-in_err-driven-clause-plans
 returns-in_err-driven-clause-plans g c F e =
-    undriven_plan F c.args.calling.now c.args.chain.now c.args.call c.args.args.now c.args.given.now c.args.seed _ c.from_residual.result
+    undriven_plan F c.args.line.now c.args.call _ c.from_residual.result
     c.from_residual.ensures.1 (c.in_err-driven.ensures.drives F e)
 
 pub returns-in-Driver-clause-asks : goal.returns-in-Driver-clause-asks
@@ -14,12 +14,12 @@ returns-in-Driver-clause-asks g c = asked_further c.worker_of.ensures.asks c.pre
 
 pub returns-in-Driver-clause-plans : goal.returns-in-Driver-clause-plans
 returns-in-Driver-clause-plans g c F e =
-    prepared_by_driver F c.args.calling.now c.args.chain.now c.args.call c.args.args.now c.args.given.now c.args.seed _ c.in-Driver.driven
+    prepared_by_driver F c.args.line.now c.args.call _ c.in-Driver.driven
     c.prepare_plan.result (c.in_ok-driven.ensures.drives F (extends_before c.prepare_plan.ensures.asks e)) c.in-Driver.is
     (c.prepare_plan.ensures.plans F e)
 
 pub returns-in_ok-prepared-in-Compiler-clause-plans : goal.returns-in_ok-prepared-in-Compiler-clause-plans
 returns-in_ok-prepared-in-Compiler-clause-plans g c F e =
-    prepared_by_compiler F c.args.calling.now c.args.chain.now c.args.call c.args.args.now c.args.given.now c.args.seed _
+    prepared_by_compiler F c.args.line.now c.args.call _
     c.in-Compiler.options _ c.in_ok-prepared-in-Compiler.prepared (c.in_ok-driven.ensures.drives F e) c.in-Compiler.is c.as_bytes.ensures
     c.in_ok-prepared-in-Compiler.ensures.hands

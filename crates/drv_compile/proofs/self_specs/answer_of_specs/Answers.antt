@@ -1,19 +1,17 @@
-use Rattle.drv_compile.proofs.Given.{work_answers, work_ends}
+use Rattle.drv_compile.proofs.Given.{seen_by, work_answers, work_ends}
 use Rattle.drv_compile.proofs.self_specs.answer_of_specs.Goals as goal
 use Rattle.drv_system.proofs.AskedCalls.{extends_before}
-use Rattle.std.proofs.Common.{◌∙◌}
 
 -- answer_of_specs (src/self_specs.rt). The answer to a line that names spec files.
 
 pub returns-in_err-worked-clause-answer : goal.returns-in_err-worked-clause-answer
 returns-in_err-worked-clause-answer g c F e =
-    work_ends F c.args.specs.now c.args.around.now c.args.known.now c.args.args.now c.args.first.now c.as_slice.result.now
-    c.in_err-worked.field-0.0 c.from_residual-in_err-worked.result
-    (c.as_slice.ensures ∙ c.in_ok-items.ensures) c.from_residual-in_err-worked.ensures.1 (c.in_err-worked.ensures.works F e)
+    work_ends F c.args.line.now c.args.first.now c.in_ok-items.items c.in_err-worked.field-0.0 c.from_residual-in_err-worked.result
+    (seen_by c.args.line.now _ _ _ c.as_bytes-known.ensures c.as_slice.ensures c.in_ok-items.ensures)
+    c.from_residual-in_err-worked.ensures.1 (c.in_err-worked.ensures.works F e)
 
 pub returns-clause-answer : goal.returns-clause-answer
 returns-clause-answer g c F e =
-    work_answers F c.args.specs.now c.args.around.now c.args.known.now c.args.args.now c.args.first.now c.as_slice.result.now
-    c.in_ok-worked.worked c.in_ok-answer.answer
-    (c.as_slice.ensures ∙ c.in_ok-items.ensures) (c.in_ok-worked.ensures.works F (extends_before c.answer_by.ensures.asks e))
-    (c.in_ok-answer.ensures.answer F e)
+    work_answers F c.args.line.now c.args.first.now c.in_ok-items.items c.in_ok-worked.worked c.in_ok-answer.answer
+    (seen_by c.args.line.now _ _ _ c.as_bytes-known.ensures c.as_slice.ensures c.in_ok-items.ensures)
+    (c.in_ok-worked.ensures.works F (extends_before c.answer_by.ensures.asks e)) (c.in_ok-answer.ensures.answer F e)

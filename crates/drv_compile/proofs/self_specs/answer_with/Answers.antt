@@ -6,8 +6,7 @@ use Rattle.drv_system.proofs.AskedCalls.{extends_before}
 
 pub returns-clause-answer : goal.returns-clause-answer
 returns-clause-answer g c F e =
-    options_given F c.args.specs.now c.args.around.now c.args.known.now c.args.args.now c.args.first.now c.args.given.now
-    c.in_ok-options.options c.as_slice.result.now c.in_ok-named.named
-    c.options_or-names.result.now c.as_slice-2.result.now c.front_with.result
+    options_given F c.args.line.now c.args.first.now c.args.given.now _ _ c.options_or-names.result.now _ c.as_slice-2.result.now
+    c.in_ok-options.options _ c.in_ok-named.named c.front_with.result c.as_bytes.ensures c.as_bytes-2.ensures c.as_slice-args.ensures
     (c.in_ok-options.ensures.names F (extends_before c.items_names.ensures.asks e)) c.as_slice.ensures
     (c.in_ok-named.ensures.names F e) c.options_or-names.ensures c.as_slice-2.ensures c.front_with.ensures

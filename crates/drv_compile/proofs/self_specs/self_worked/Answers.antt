@@ -1,4 +1,3 @@
-use Rattle.drv_args.specs.Lines.{line_judged}
 use Rattle.drv_compile.proofs.Given.{alike, line_refused, specs_go, specs_refused}
 use Rattle.drv_compile.proofs.self_specs.self_worked.Goals as goal
 use Rattle.drv_compile.specs.Runs.{line_given}
@@ -7,27 +6,27 @@ use Rattle.drv_specs.specs.Sets.{text_of}
 use Rattle.drv_system.proofs.AskedCalls.{extends_before}
 use Rattle.std.proofs.Common.{codes, refl}
 
--- self_worked (src/self_specs.rt). What the spec files of a line of the driver give a line of these items.
+-- self_worked (src/self_specs.rt). What the spec files of a line of the driver give a line whose switches these are.
 
-pub returns-in_err-own-clause-works : goal.returns-in_err-own-clause-works
-returns-in_err-own-clause-works g c F e =
-    line_refused c.in_err-own.field-0.0 (line_given c.args.first.now)
-    (worked_of F (line_judged c.args.first.now.from_file c.args.items.now)) c.from_residual.result refl
-    c.from_residual.ensures.1 c.in_err-own.ensures.line
+pub returns-in_err-line-clause-works : goal.returns-in_err-line-clause-works
+returns-in_err-line-clause-works g c F e =
+    line_refused c.in_err-line.field-0.0 (line_given c.args.first.now)
+    (worked_of F (line_given c.args.seen.now)) c.from_residual.result refl
+    c.from_residual.ensures.1 c.in_err-line.ensures.line
 
 pub returns-in_err-set-clause-works : goal.returns-in_err-set-clause-works
 returns-in_err-set-clause-works g c F e =
-    specs_refused c.in_err-set.field-0.0 F c.in_ok-own.own (line_judged c.args.first.now.from_file c.args.items.now)
+    specs_refused c.in_err-set.field-0.0 F c.in_ok-line.line (line_given c.args.seen.now)
     (line_given c.args.first.now) c.from_residual-in_err-set.result
-    c.in_ok-own.ensures.line c.from_residual-in_err-set.ensures.1 (c.in_err-set.ensures.loads F e)
+    c.in_ok-line.ensures.line c.from_residual-in_err-set.ensures.1 (c.in_err-set.ensures.loads F e)
 
 pub returns-clause-works : goal.returns-clause-works
 returns-clause-works g c F e =
     alike _ c.worked_by.result
-    (worked_by F c.in_ok-own.own.settings c.in_ok-set.set (line_judged c.args.first.now.from_file c.args.items.now)
+    (worked_by F c.in_ok-line.line.settings c.in_ok-set.set (line_given c.args.seen.now)
     (text_of c.in_ok-set.set (codes "gdrv_self")))
-    (worked_of F (line_judged c.args.first.now.from_file c.args.items.now) (line_given c.args.first.now))
-    (specs_go F c.in_ok-own.own c.in_ok-set.set (line_judged c.args.first.now.from_file c.args.items.now)
-    (line_given c.args.first.now) c.in_ok-own.ensures.line
+    (worked_of F (line_given c.args.seen.now) (line_given c.args.first.now))
+    (specs_go F c.in_ok-line.line c.in_ok-set.set (line_given c.args.seen.now)
+    (line_given c.args.first.now) c.in_ok-line.ensures.line
     (c.in_ok-set.ensures.loads F (extends_before c.worked_by.ensures.asks e)))
     (c.worked_by.ensures.works F e)

@@ -6,8 +6,7 @@ use Rattle.std.proofs.Common.{rules}
 
 pub returns-in-Some : goal.returns-in-Some
 returns-in-Some c =
-    specs_declined c.args.calling.now c.args.path.now _ _ _ _ c.no_specs_text.result c.in-Some.is (search rules) (search rules)
-    (search rules) c.no_specs_text.ensures
+    specs_declined c.args.calling.now c.args.path.now _ _ c.no_specs_text.result c.in-Some.is (search rules) c.no_specs_text.ensures
 
 pub returns-in-None : goal.returns-in-None
 returns-in-None c = place_declined c.args.calling.now c.args.path.now _ c.no_place_text.result (search rules)

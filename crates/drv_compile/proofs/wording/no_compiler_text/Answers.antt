@@ -7,6 +7,6 @@ use Rattle.std.proofs.Common.{◌≡◌, ◌∙◌, IfOk, codes, subst}
 pub returns : goal.returns
 returns c =
     subst
-    (λ path. IfOk c.unwritten_text.result (λ text. text ≡ unwritten_text c.args.name.now
-    (codes "no compiler is named by '") path c.args.specs.now c.args.machine.now))
+    (λ path. IfOk c.unwritten_text.result (λ text. text ≡ unwritten_text c.args.calling.now.name
+    (codes "no compiler is named by '") path c.args.specs.now c.args.calling.now.machine))
     (c.as_bytes.ensures ∙ c.in_ok-path.ensures) c.unwritten_text.ensures
