@@ -43,11 +43,13 @@ pub answer_told : (F : Facts) (line : GccLine) (name : List ℕ) (first : Driven
     → IfTold stop (IsEndSaid F name first.line ending)
     → IfTold stop (IsUnanswered F line.request.now.calling.now.name line.chain line.given first)
 answer_told F line name first ending stop named stops tells =
-    told_as stop (IsEndSaid F line.request.now.calling.now.name first.line ending) (IsUnanswered F line.request.now.calling.now.name line.chain line.given first)
+    told_as stop (IsEndSaid F line.request.now.calling.now.name first.line ending)
+    (IsUnanswered F line.request.now.calling.now.name line.chain line.given first)
     (by ending stops) (subst (λ n. IfTold stop (IsEndSaid F n first.line ending)) named tells)
   where
     by : (ending : Ending) → (ending ≡ OutOfMemory) ⊎ (answer_of F line.chain line.given first ≡ Is (Err ending)) → (text : List ℕ)
-        → IsEndSaid F line.request.now.calling.now.name first.line ending text → IsUnanswered F line.request.now.calling.now.name line.chain line.given first text
+        → IsEndSaid F line.request.now.calling.now.name first.line ending text
+        → IsUnanswered F line.request.now.calling.now.name line.chain line.given first text
     by ending (inl memory) text said = absurd (subst (λ e. IsEndSaid F line.request.now.calling.now.name first.line e text) memory said)
     by (Refused refusal) (inr gives) text said = (refusal, gives, said)
     by (Done status) (inr gives) text said = absurd said
@@ -63,13 +65,14 @@ pub machined_driver : (path : List ℕ) (rows text : Option (List ℕ)) (call : 
     → suffixed_by text items ≡ suffixed_by rows items → suffixed ≡ suffixed_by text items → all ≡ driver_items path suffixed
     → driven ≡ record { line = record { items = all; from_file = given.from_file }; children = children }
     → IsMachined path rows call given (Driver driven)
-machined_driver path rows text call given made items suffixed all children driven same made_is is same_suffix suffixed_is all_is driven_is = (
-  items,
-  children,
-  sym same ∙ sym made_is ∙ is,
-  driven_is ∙ ap (λ its. record { line = record { items = its; from_file = given.from_file }; children = children })
-      (all_is ∙ ap (driver_items path) (suffixed_is ∙ same_suffix)),
-)
+machined_driver path rows text call given made items suffixed all children driven same made_is is same_suffix suffixed_is all_is driven_is
+    = (
+      items,
+      children,
+      sym same ∙ sym made_is ∙ is,
+      driven_is ∙ ap (λ its. record { line = record { items = its; from_file = given.from_file }; children = children })
+          (all_is ∙ ap (driver_items path) (suffixed_is ∙ same_suffix)),
+    )
 
 -- `machined_call` gives the line to the compiler where no row has its words
 pub machined_compiler : (path : List ℕ) (rows text : Option (List ℕ)) (call : Call) (given : Expanded) (made : MachineItems)
@@ -97,7 +100,8 @@ called_whole F line call specs slice path rows lent worker at same texts asked l
 -- `driver_of_call` refuses a line whose texts are damaged, by the parts of its call
 pub called_damaged : (F : Facts) (line : GccLine) (call : Call) (specs : List ℕ) (slice : List Item) (path place text : List ℕ)
     → specs ≡ line.chain.specs → slice ≡ call.items → texts_of F specs slice call.stages ≡ Is (Damaged path) → place ≡ path
-    → text ≡ damaged_text line.request.now.calling.now.name place specs line.request.now.calling.now.machine → IsUncalled F line.request.now.calling.now line.chain.specs call text
+    → text ≡ damaged_text line.request.now.calling.now.name place specs line.request.now.calling.now.machine
+    → IsUncalled F line.request.now.calling.now line.chain.specs call text
 called_damaged F line call specs slice path place text at same texts placed is =
     subst (λ s. IsUncalled F line.request.now.calling.now s call text) at (
       path,
@@ -118,7 +122,8 @@ answered_run F line answer first call (Ok worker) is calls =
     subst (λ a. IsAnswered F line.chain.specs line.given first a worker) (sym is) (runs calls)
 answered_run F line answer first call (Err stop) is tells =
     subst (λ a. IfTold stop (IsDenied F line.request.now.calling.now line.chain a)) (sym is)
-    (told_as stop (IsUncalled F line.request.now.calling.now line.chain.specs call) (IsDenied F line.request.now.calling.now line.chain (Some (Run call)))
+    (told_as stop (IsUncalled F line.request.now.calling.now line.chain.specs call)
+    (IsDenied F line.request.now.calling.now line.chain (Some (Run call)))
     (λ text un. uncalled_after un) tells)
 
 -- `driver_of_answers` says why the line that the spec files made is refused
@@ -163,7 +168,8 @@ pub worker_answered : (F : Facts) (line : GccLine) (first : Driven) (answer : Op
     (λ s. IfTold s (IsUndrivenAfter F line.request.now.calling.now line.chain line.given first))
 worker_answered F line first answer (Ok worker) gives answered = (answer, gives, answered)
 worker_answered F line first answer (Err stop) gives tells =
-    told_as stop (IsDenied F line.request.now.calling.now line.chain answer) (IsUndrivenAfter F line.request.now.calling.now line.chain line.given first)
+    told_as stop (IsDenied F line.request.now.calling.now line.chain answer)
+    (IsUndrivenAfter F line.request.now.calling.now line.chain line.given first)
     (λ text un. denied gives un) tells
 
 -- `worker_of` refuses a line whose texts are damaged
@@ -172,8 +178,10 @@ pub undriven_texts : (F : Facts) (line : GccLine) (call : Call) (stop : Stop) (r
     → MatchResult result (λ worker. IsWorker F line.chain call line.given worker)
     (λ s. IfTold s (Undriven F line.request.now.calling.now line.chain call line.given))
 undriven_texts F line call stop result is tells =
-    stop_stays result stop (λ worker. IsWorker F line.chain call line.given worker) (Undriven F line.request.now.calling.now line.chain call line.given) is
-    (told_as stop (IsUncalled F line.request.now.calling.now line.chain.specs call) (Undriven F line.request.now.calling.now line.chain call line.given)
+    stop_stays result stop (λ worker. IsWorker F line.chain call line.given worker)
+    (Undriven F line.request.now.calling.now line.chain call line.given) is
+    (told_as stop (IsUncalled F line.request.now.calling.now line.chain.specs call)
+    (Undriven F line.request.now.calling.now line.chain call line.given)
     (λ text un. uncalled un) tells)
 
 -- `worker_of` asks the spec files of a line that the driver carries out
@@ -186,7 +194,8 @@ pub worker_later : (F : Facts) (line : GccLine) (call : Call) (worker : Worker) 
 worker_later F line call worker first (Ok after) called is gives =
     later (subst (λ w. IsCalled F line.chain.specs call line.given w) is called) gives
 worker_later F line call worker first (Err stop) called is tells =
-    told_as stop (IsUndrivenAfter F line.request.now.calling.now line.chain line.given first) (Undriven F line.request.now.calling.now line.chain call line.given)
+    told_as stop (IsUndrivenAfter F line.request.now.calling.now line.chain line.given first)
+    (Undriven F line.request.now.calling.now line.chain call line.given)
     (λ text un. undriven_after (subst (λ w. IsCalled F line.chain.specs call line.given w) is called) un) tells
 
 -- `worker_of` gives a line to the compiler that the driver doesn't carry out

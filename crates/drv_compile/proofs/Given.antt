@@ -146,8 +146,10 @@ pub options_given : {E : Type 0} (F : Facts) (line : GccLine) (first : DriverLin
     → IfOk result (λ answer. answer ≡ front_with names slice line.chain.around words given)
     → IfOk result (λ answer. answer_by F line.chain.specs line.chain.around line.chain.known line.given.words first (Gives given)
     ≡ Is (Ok (Some answer)))
-options_given F line first given specs known names words slice options all named (Err e) at knows are asked same found names_are lent is = tt
-options_given F line first given specs known names words slice options all named (Ok answer) at knows are asked same found names_are lent is =
+options_given F line first given specs known names words slice options all named (Err e) at knows are asked same found names_are lent is =
+    tt
+options_given F line first given specs known names words slice options all named (Ok answer) at knows are asked same found names_are lent
+    is =
     ap (λ k. k >>= λ o. items_names F first.items >>= λ n. with_names line.chain.around line.chain.known line.given.words given o n)
     (ap (known_names F) (sym at) ∙ asked)
     ∙ ap (λ w. items_names F w >>= λ n. with_names line.chain.around line.chain.known line.given.words given options n) (sym same)

@@ -124,7 +124,8 @@ fails_planned F line call events (Err stop) free apart unplanned =
 
 -- `compilation` refuses a line that something speaks against, by that text
 pub objected_as : (F : Facts) (line : GccLine) (call : Call) (name text : List ℕ) (inputs : List (List ℕ)) (found : Bool)
-    → name ≡ line.request.now.calling.now.name → inputs ≡ call.inputs → objection F name inputs ≡ Is text → IsTrue found ↔ (text ≡ []) → found ≡ false
+    → name ≡ line.request.now.calling.now.name → inputs ≡ call.inputs
+    → objection F name inputs ≡ Is text → IsTrue found ↔ (text ≡ []) → found ≡ false
     → IsUndone F line call [] text
 objected_as F line call name [] inputs found named are is empty not = absurd (false≢true (sym not ∙ empty.1 refl))
 objected_as F line call name (b ∷ text) inputs found named are is empty not =
@@ -132,7 +133,8 @@ objected_as F line call name (b ∷ text) inputs found named are is empty not =
 
 -- `compilation` goes on where nothing speaks against a line
 pub free_as : (F : Facts) (line : GccLine) (call : Call) (name text : List ℕ) (inputs : List (List ℕ)) (found : Bool)
-    → name ≡ line.request.now.calling.now.name → inputs ≡ call.inputs → objection F name inputs ≡ Is text → IsTrue found ↔ (text ≡ []) → found ≡ true
+    → name ≡ line.request.now.calling.now.name → inputs ≡ call.inputs
+    → objection F name inputs ≡ Is text → IsTrue found ↔ (text ≡ []) → found ≡ true
     → objection F line.request.now.calling.now.name call.inputs ≡ Is []
 free_as F line call name text inputs found named are is empty so =
     ap (objection F line.request.now.calling.now.name) (sym are) ∙ ap (λ n. objection F n inputs) (sym named) ∙ is ∙ ap Is (empty.0 so)
@@ -198,7 +200,8 @@ planned_so F line driven specs wrapper said hint remark items children work same
 
 -- `prepare_plan` refuses a line by the name that it lends
 pub failed_so : (F : Facts) (line : GccLine) (driven : Driven) (name : List ℕ) (stop : Stop) (result : Result Prepared Stop)
-    → name ≡ line.request.now.calling.now.name → IsErrAnd result (λ s. s ≡ stop) → IfTold stop (IsFailure F name driven.line line.request.now.seed)
+    → name ≡ line.request.now.calling.now.name
+    → IsErrAnd result (λ s. s ≡ stop) → IfTold stop (IsFailure F name driven.line line.request.now.seed)
     → MatchResult result (λ prepared. IsPlanned F line.request.now.calling.now line.chain driven line.request.now.seed prepared)
     (λ s. IfTold s (IsFailure F line.request.now.calling.now.name driven.line line.request.now.seed))
 failed_so F line driven name stop result named is tells =
@@ -250,16 +253,19 @@ question_comes F calling own args seed words slice decision task specs lent comp
     subst (λ p. Comes F calling own args seed [] p) (sym (subst (λ s. IsQuestion calling s compiler args prepared) at asked))
     (asks gives (ap (decide F own) (sym same) ∙ decides) (subst (Leads decision) is leads))
 
--- what comes of a line comes of a call whose words lead to it
+-- what a line's words lead to is what its call leads to
 line_comes : (F : Facts) (line : GccLine) (call : Call) (own : Option (List ℕ)) (decision : Decision) (events : List HostEvent)
-    (result : Result Prepared Stop) → Words F line.request.now.calling.now line.request.now.args.now line.given → decide F own line.given.words ≡ Is decision
+    (result : Result Prepared Stop) → Words F line.request.now.calling.now line.request.now.args.now line.given
+    → decide F own line.given.words ≡ Is decision
     → Leads decision (Compilation line.chain call)
     → MatchResult result (λ prepared. IsDone F line call events prepared) (λ stop. IfTold stop (IsUndone F line call events))
-    → MatchResult result (λ prepared. Comes F line.request.now.calling.now own line.request.now.args.now line.request.now.seed events prepared)
+    → MatchResult result
+    (λ prepared. Comes F line.request.now.calling.now own line.request.now.args.now line.request.now.seed events prepared)
     (λ stop. IfTold stop (Refuses F line.request.now.calling.now own line.request.now.args.now line.request.now.seed events))
 line_comes F line call own decision events (Ok prepared) gives decides leads done = performs gives decides leads done
 line_comes F line call own decision events (Err stop) gives decides leads tells =
-    told_as stop (IsUndone F line call events) (Refuses F line.request.now.calling.now own line.request.now.args.now line.request.now.seed events)
+    told_as stop (IsUndone F line call events)
+    (Refuses F line.request.now.calling.now own line.request.now.args.now line.request.now.seed events)
     (λ text is. fails gives decides leads is) tells
 
 -- `prepare` carries the line out that the decision leads to
@@ -270,7 +276,8 @@ pub compilation_comes : (line : GccLine) (call : Call) (own : Option (List ℕ))
     → Noted before after (λ events. (F : Facts) → knows F
     → MatchResult result (λ prepared. IsDone F line call events prepared) (λ s. IfTold s (IsUndone F line call events)))
     → Noted before after (λ events. (F : Facts) → knows F
-    → MatchResult result (λ prepared. Comes F line.request.now.calling.now own line.request.now.args.now line.request.now.seed events prepared)
+    → MatchResult result
+    (λ prepared. Comes F line.request.now.calling.now own line.request.now.args.now line.request.now.seed events prepared)
     (λ s. IfTold s (Refuses F line.request.now.calling.now own line.request.now.args.now line.request.now.seed events)))
 compilation_comes line call own slice decision task before after result knows same gives decides leads is (events, grown, done) = (
   events,

@@ -40,11 +40,13 @@ IsPrepared F line call prepared =
 abbrev pub IsUnplanned : Facts → GccLine → Call → List ℕ → Type 0
 IsUnplanned F line call text =
     Undriven F line.request.now.calling.now line.chain call line.given text
-    ⊎ ((driven : Driven) × IsWorker F line.chain call line.given (Driver driven) × IsFailure F line.request.now.calling.now.name driven.line line.request.now.seed text)
+    ⊎ ((driven : Driven) × IsWorker F line.chain call line.given (Driver driven)
+    × IsFailure F line.request.now.calling.now.name driven.line line.request.now.seed text)
 
 -- a line that is carried out, as `Performs` says
 abbrev pub IsDone : Facts → GccLine → Call → List HostEvent → Prepared → Type 0
-IsDone F line call events prepared = Performs F line.request.now.calling.now line.chain call line.request.now.args.now line.given line.request.now.seed events prepared
+IsDone F line call events prepared =
+    Performs F line.request.now.calling.now line.chain call line.request.now.args.now line.given line.request.now.seed events prepared
 
 -- why it is refused, as `Fails` says
 abbrev pub IsUndone : Facts → GccLine → Call → List HostEvent → List ℕ → Type 0
